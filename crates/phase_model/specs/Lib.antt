@@ -1,0 +1,10 @@
+pub mod Amounts
+pub mod Explaining
+pub mod Ordering
+pub mod Phases
+pub mod Places
+pub mod Replies
+pub mod Rules
+pub mod Singles
+pub mod Tasks
+pub mod Values
