@@ -6,7 +6,7 @@ use Rattle.std.proofs.lemmas.Bool.{cases_Bool, eqb-true, ltb-true, and_parts, an
 use Rattle.phase_modes.specs.declared.limits.Limits.{Limits}
 use Rattle.phase_modes.specs.Lists.{is_empty}
 use Rattle.phase_modes.specs.Mode.{can_signal, can_wait}
-use Rattle.phase_model.proofs.Live.{empty_is}
+use Rattle.phase_model.proofs.LiveTasks.{empty_is}
 use Rattle.phase_model.specs.declared.event.Event.{Event}
 use Rattle.phase_model.specs.declared.event.Event.TheVariants.{Make, Reg, Sig, Claim, Did, Pass, Send, Look as Looked, Drop}
 use Rattle.phase_model.specs.declared.op.Op.{Op}

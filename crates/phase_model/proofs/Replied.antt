@@ -17,6 +17,7 @@ use Rattle.phase_model.specs.Singles.{has_claimed, is_done, is_settled, owes_not
 use Rattle.phase_model.specs.Rules.{Story, is_permitted, is_allowed, is_legal, has_room, is_within_task, is_other_proposed, same_look, look_of}
 use Rattle.phase_modes.specs.Lists.{is_empty}
 use Rattle.phase_modes.specs.Refusal.{first_refusal}
+use Rattle.phase_model.specs.Laws.{IsLegal, after_calls}
 use Rattle.phase_model.specs.Replies.{Call, make, register, signal, pass, single_done, send, look, drop_task, Reply, refused, not_yet, done, causes, event_for, must_wait, settled, reply, after}
 
 -- a reply by its parts
@@ -147,3 +148,8 @@ legal_after s c k = go (reply s c) refl
     go (refused r) e = k
     go not_yet e = k
     go (done f) e = and_from (is_allowed s.limits s.ops s.past f) (is_legal s.limits s.ops s.past) (done_is_allowed s c f e) k
+
+-- and so over every list of calls
+pub all_legal : (s : Story) (cs : List Call) → IsLegal s → IsLegal (after_calls s cs)
+all_legal s [] k = k
+all_legal s (c ∷ cs) k = all_legal (after s (reply s c)) cs (legal_after s c k)

@@ -1,5 +1,7 @@
 pub mod Amounts
+pub mod Examples
 pub mod Explaining
+pub mod Laws
 pub mod Ordering
 pub mod Phases
 pub mod Places

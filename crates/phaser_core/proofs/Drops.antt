@@ -12,7 +12,7 @@ use Rattle.phase_model.specs.Singles.{reserve, owes_nothing}
 use Rattle.phase_model.specs.Rules.{Story, with_event, is_allowed, is_legal, has_room}
 use Rattle.phase_modes.specs.Refusal.{first_refusal}
 use Rattle.phase_model.specs.Replies.{reply, refused, done, settled, causes, drop_task}
-use Rattle.phase_model.proofs.Live.{has, Apart, live_apart, has-live_tasks, has_room_now, live_tasks-drop}
+use Rattle.phase_model.proofs.LiveTasks.{has, Apart, live_apart, has-live_tasks, has_room_now, live_tasks-drop}
 use Rattle.phase_model.proofs.Replied.{reply_by, done_is_allowed}
 use Rattle.phaser_core.specs.declared.table.Entry.{Entry}
 use Rattle.phaser_core.specs.Table.{reg_of, entry_of, Stands, Remembers}

@@ -1,0 +1,11 @@
+use Rattle.std.proofs.Common.{◌≡◌, ◌≤◌, ◌∷◌, reverse, length}
+use Rattle.phase_model.specs.Singles.{has_undone, proposals}
+use Rattle.phase_model.proofs.next.has_old_undone.Given as goal
+
+abbrev pub invariant-loop-rest : goal.invariant-loop-rest
+invariant-loop-rest l =
+    (has_undone (l.next ∷ reverse l.events) (proposals (reverse l.events)) ≡ has_undone (l.next ∷ reverse l.events) (proposals (reverse l.rest)))
+    × (length l.rest ≤ 65536)
+
+abbrev pub decreases-loop-rest : goal.decreases-loop-rest
+decreases-loop-rest l = length l.rest

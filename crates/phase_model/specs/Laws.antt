@@ -1,0 +1,18 @@
+-- What holds over every list of calls.
+use Rattle.std.specs.Prelude.{◌≡◌, true, List, [], ◌∷◌}
+use Rattle.phase_model.specs.Ordering.{IsOrdered}
+use Rattle.phase_model.specs.Replies.{Call, reply, after}
+use Rattle.phase_model.specs.Rules.{Story, is_legal}
+
+-- the story after a list of calls
+abbrev pub after_calls : Story → List Call → Story
+after_calls s [] = s
+after_calls s (c ∷ cs) = after_calls (after s (reply s c)) cs
+
+-- the story's history is legal
+abbrev pub IsLegal : Story → Type 0
+IsLegal s = is_legal s.limits s.ops s.past ≡ true
+
+-- from a legal history every list of calls leads to a legal one, in which phases are ordered
+abbrev pub CallsKeepLegal : Type 0
+CallsKeepLegal = (s : Story) (cs : List Call) → IsLegal s → IsLegal (after_calls s cs) × IsOrdered (after_calls s cs).past

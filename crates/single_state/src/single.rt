@@ -1,0 +1,127 @@
+//! The last proposed single.
+ghost use Rattle.std.specs.Prelude.{◌≡◌, None, Ok, Err, if◌then◌else◌};
+ghost use Rattle.single_state.specs.Single.{MayPropose, is_mismatch, is_claimable, is_claimed_by, may_pass, number_for, reserve_of, proposed, claimed, done};
+
+use crate::statement::{Stage, Statement};
+use phase_modes::Refusal;
+use std::marker::Model;
+
+/// The last proposed single of a phaser.
+#[derive(Clone, Copy, Debug, PartialEq, Eq)]
+pub struct Single {
+    last: Option<Statement>,
+}
+
+impl Model for Single {
+    ghost use Rattle.std.specs.Prelude.{Option};
+    ghost use Rattle.single_state.specs.declared.statement.Statement.{Statement};
+
+    ghost Value = { Option Statement };
+
+    ghost view = { λ s. s.last };
+
+    ghost inverse = { λ o. record { last = o } };
+}
+
+impl Single {
+    pub fn new() -> Single
+        ensures { result ≡ None }
+    {
+        Single { last: None }
+    }
+
+    pub fn propose(&mut self, phase: u32, number: u32) -> Result<(), Refusal>
+        requires { MayPropose self.old phase }
+        ensures result { result ≡ (if is_mismatch self.old phase number then Err Refusal.SingleMismatch else Ok tt) }
+        ensures state { self.new ≡ (if is_mismatch self.old phase number then self.old else proposed self.old phase number) }
+    {
+        match self.last {
+            Some(last) if last.phase == phase => {
+                if last.number != number {
+                    return Err(Refusal::SingleMismatch);
+                }
+            }
+            _ => {
+                self.last = Some(Statement {
+                    phase,
+                    number,
+                    stage: Stage::Proposed,
+                });
+            }
+        }
+        Ok(())
+    }
+
+    pub fn claim(&mut self, phase: u32, task: u32) -> Result<(), Refusal>
+        ensures result { result ≡ (if is_claimable self.old phase then Ok tt else Err Refusal.NotNow) }
+        ensures state { self.new ≡ (if is_claimable self.old phase then claimed self.old task else self.old) }
+    {
+        match self.last {
+            Some(Statement {
+                phase: at,
+                number,
+                stage: Stage::Proposed,
+            }) if at == phase => {
+                self.last = Some(Statement {
+                    phase,
+                    number,
+                    stage: Stage::Claimed(task),
+                });
+                Ok(())
+            }
+            _ => Err(Refusal::NotNow),
+        }
+    }
+
+    pub fn done(&mut self, task: u32) -> Result<(), Refusal>
+        ensures result { result ≡ (if is_claimed_by self.old task then Ok tt else Err Refusal.NotNow) }
+        ensures state { self.new ≡ (if is_claimed_by self.old task then done self.old task else self.old) }
+    {
+        match self.last {
+            Some(Statement {
+                phase,
+                number,
+                stage: Stage::Claimed(by),
+            }) if by == task => {
+                self.last = Some(Statement {
+                    phase,
+                    number,
+                    stage: Stage::Done(task),
+                });
+                Ok(())
+            }
+            _ => Err(Refusal::NotNow),
+        }
+    }
+
+    pub fn may_pass(&self, phase: u32) -> bool
+        ensures { result ≡ may_pass self.now phase }
+    {
+        match self.last {
+            Some(last) if last.phase == phase => matches!(&last.stage, Stage::Done(_)),
+            _ => true,
+        }
+    }
+
+    pub fn number(&self, phase: u32) -> Option<u32>
+        ensures { result ≡ number_for self.now phase }
+    {
+        match self.last {
+            Some(last) if last.phase == phase => Some(last.number),
+            _ => None,
+        }
+    }
+
+    pub fn reserve(&self) -> u32
+        ensures { result ≡ reserve_of self.now }
+    {
+        match self.last {
+            None => 0,
+            Some(last) => match last.stage {
+                Stage::Proposed => 2,
+                Stage::Claimed(_) => 1,
+                Stage::Done(_) => 0,
+            },
+        }
+    }
+}
