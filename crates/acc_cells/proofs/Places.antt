@@ -1,6 +1,6 @@
 -- What one cell more or less tells of all cells.
-use Rattle.std.proofs.Common.{◌≡◌, ℕ, ◌+◌, ◌*◌, ◌<◌, ◌≤◌, ◌==◌, ◌&&◌, Bool, true, false, List, [], ◌∷◌, replicate, length, get_or, set, Some, ℤ, inl, inr, refl, ap, sym, ◌∙◌, subst, arith}
-use Rattle.std.specs.List.{slice_get, All}
+use Rattle.std.proofs.Common.{mul_comm, ◌≡◌, ℕ, ◌+◌, ◌*◌, ◌<◌, ◌≤◌, ◌==◌, ◌&&◌, false, List, [], ◌∷◌, replicate, length, get_or, set, Some, ℤ, inl, inr, refl, ap, sym, ◌∙◌, subst, arith}
+use Rattle.std.specs.List.{slice_get}
 use Rattle.std.specs.Option.{option_map}
 use Rattle.std.proofs.lemmas.Bool.{cases_Bool, eqb-true, and_parts, and_from, eq-eqb, false≢true}
 use Rattle.std.proofs.lemmas.Nat.{same_from_place, mul-add-lt}
@@ -12,7 +12,7 @@ use Rattle.acc_cells.specs.declared.cell.Cell.{Cell}
 use Rattle.acc_cells.specs.declared.sums.Sums.{Sums}
 use Rattle.phase_model.specs.Values.{fold}
 use Rattle.acc_cells.proofs.Tallies.{fold_of_cell-tally}
-use Rattle.acc_cells.specs.Cells.{Kept, fold_of_cell, StandsFor, IsKept, IsAmong, IsInRange, AreSumsInRange, place_of, empty_cell, tally, cell_with, sums_with, with_sent}
+use Rattle.acc_cells.specs.Cells.{Kept, fold_of_cell, StandsFor, IsKept, IsAmong, IsInRange, AreSumsInRange, place_of, empty_cell, tally, cell_with, with_sent}
 
 -- a place that was written has the new item
 slice_get-set_same : {X : Type 0} (xs : List X) (i : ℕ) (x : X) → i < length xs → slice_get (set xs i x) i ≡ Some x
@@ -30,7 +30,7 @@ slice_get-set_other xs i j x y other was =
 pub stands_empty : (k : Kept) (size : ℕ) → k.cells ≡ replicate size empty_cell → size ≡ length k.ops * k.phases → StandsFor k (λ a p. [])
 stands_empty k size empty full a p in_ops in_phases =
     let within : place_of k a p < size =
-      omega (arith, full, mul-add-lt a k.phases p (length k.ops) in_ops in_phases, mul_comm k.phases (length k.ops))
+    omega (arith, full, mul-add-lt a k.phases p (length k.ops) in_ops in_phases, mul_comm k.phases (length k.ops))
     in
     let still : place_of k a p < length (replicate size empty_cell) = omega (arith, within, length-replicate size empty_cell) in
     rw empty (slice_get-get_or (replicate size empty_cell) (place_of k a p) empty_cell still

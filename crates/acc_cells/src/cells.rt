@@ -41,11 +41,7 @@ impl Cells {
         ensures cells { IfOk result (λ c. StandsFor c (λ a p. [])) }
         ensures memory { IfErr result (λ r. r ≡ Refusal.Memory) }
     {
-        // More cells than can be counted are more than any memory holds.
-        let Some(size) = ops.len().checked_mul(phases as usize) else {
-            return Err(Refusal::Memory);
-        };
-        let Ok(cells) = vec![in alloc; Cell::empty(); size] else {
+        let Ok(cells) = vec![in alloc; Cell::empty(); ops.len() * phases as usize] else {
             return Err(Refusal::Memory);
         };
         Ok(Cells {

@@ -1,5 +1,5 @@
 -- How far the signallers of a legal history are: a phase that is closed, or closed and settled, stays so.
-use Rattle.std.proofs.Common.{◌≡◌, ◌⊎◌, ℕ, ◌+◌, ◌≤◌, ◌<◌, ◌==◌, nat_lt, Bool, true, false, ◌||◌, ◌&&◌, not, List, [], ◌∷◌, None, Some, refl, sym, ap, ◌∙◌, arith, inl, inr}
+use Rattle.std.proofs.Common.{◌≡◌, ℕ, ◌+◌, ◌≤◌, ◌<◌, ◌==◌, nat_lt, Bool, true, false, ◌||◌, ◌&&◌, not, List, [], ◌∷◌, None, Some, refl, sym, ◌∙◌, arith, inl, inr}
 use Rattle.std.specs.List.{list_all}
 use Rattle.std.specs.Option.{option_map_or}
 use Rattle.std.proofs.lemmas.Bool.{cases_Bool, cases_lt, eqb-true, eq-eqb, ne_eqb, ltb-true, lt-ltb, and_parts, and_from, or_left, or_right, or_cases, false≢true}
@@ -8,7 +8,7 @@ use Rattle.phase_modes.specs.declared.limits.Limits.{Limits}
 use Rattle.phase_modes.specs.Lists.{is_empty}
 use Rattle.phase_modes.specs.Mode.{can_signal, can_wait, can_single, is_within}
 use Rattle.phase_model.specs.declared.event.Event.{Event}
-use Rattle.phase_model.specs.declared.event.Event.TheVariants.{Make, Reg, Sig, Claim, Did, Pass, Send, Look as Looked, Drop}
+use Rattle.phase_model.specs.declared.event.Event.TheVariants.{Make, Reg, Sig, Did, Pass, Drop}
 use Rattle.phase_model.specs.declared.op.Op.{Op}
 use Rattle.phase_model.specs.Tasks.{is_registered, is_dropped, is_live, has_mode, mode_of, live_tasks}
 use Rattle.phase_model.specs.Phases.{waits, signals, is_past, is_closed}
@@ -17,6 +17,7 @@ use Rattle.phase_model.specs.Rules.{is_legal, is_within_task}
 use Rattle.phase_model.proofs.Legal.{last_follows, reg_follows, sig_follows, pass_follows, parent_signals, implied}
 use Rattle.phase_model.proofs.LiveTasks.{has, has-live_tasks}
 
+-- what passes of each passes of one that stands in the list
 all_at : (f : ℕ → Bool) (ts : List ℕ) → list_all f ts ≡ true → (t : ℕ) → has t ts ≡ true → f t ≡ true
 all_at f [] a t k = absurd cc
 all_at f (u ∷ ts) a t k =
@@ -28,6 +29,7 @@ all_from f [] each = refl
 all_from f (u ∷ ts) each =
     and_from (f u) (list_all f ts) (each u (or_left (u == u) (has u ts) (eq-eqb u u refl))) (all_from f ts (λ t k. each t (or_right (u == t) (has t ts) k)))
 
+-- a test of an implication passes where its end does on its condition
 pub implies : (a b : Bool) → (a ≡ true → b ≡ true) → (not a || b) ≡ true
 implies true b k = k refl
 implies false b k = refl
@@ -42,6 +44,7 @@ signalled_from_closed p h c t live signaller =
     let past = all_at (is_past p h) (live_tasks h) c t (has-live_tasks t h ∙ live) in
     omega (arith, ltb-true p (signals t h) (implied (has_mode can_signal t h) (nat_lt p (signals t h)) past signaller))
 
+-- and the other way round
 pub closed_from_signalled : (p : ℕ) (h : List Event) → HaveSignalled (p + 1) h → is_closed p h ≡ true
 closed_from_signalled p h s =
     all_from (is_past p h) (live_tasks h) (λ t k. implies (has_mode can_signal t h) (nat_lt p (signals t h)) (λ signaller. lt-ltb p (signals t h) (omega (arith, s t (sym (has-live_tasks t h) ∙ k) signaller))))
@@ -107,10 +110,15 @@ parent_waits q m h =
           implied (can_wait m) (can_wait n) (and_parts a b (and_parts (a && b) c k).0).1 w
     ]
 
--- who has a mode stands in some event
+-- where somebody has a mode, the history has begun
 pub some_event : (test : Mode → Bool) (t : ℕ) (h : List Event) → has_mode test t h ≡ true → is_empty h ≡ false
 some_event test t [] k = absurd cc
 some_event test t (e ∷ h) k = refl
+
+-- and where somebody is live
+pub some_live : (t : ℕ) (h : List Event) → is_live t h ≡ true → is_empty h ≡ false
+some_live t [] k = absurd cc
+some_live t (e ∷ h) k = refl
 
 -- a phase that a waiter has passed is over
 pub over_behind : (l : Limits) (ops : List Op) (h : List Event) → is_legal l ops h ≡ true → (t p : ℕ) → has_mode can_wait t h ≡ true → p < waits t h → IsOver p h
@@ -159,8 +167,3 @@ closed_behind l ops h k t p live w less = closed_from_signalled p h (over_behind
 pub settled_behind : (l : Limits) (ops : List Op) (h : List Event) → is_legal l ops h ≡ true → (t p : ℕ)
     → is_live t h ≡ true → has_mode can_wait t h ≡ true → p < waits t h → is_settled p h ≡ true
 settled_behind l ops h k t p live w less = (over_behind l ops h k t p w less).settled
-
--- so has who is live
-pub some_live : (t : ℕ) (h : List Event) → is_live t h ≡ true → is_empty h ≡ false
-some_live t [] k = absurd cc
-some_live t (e ∷ h) k = refl

@@ -1,12 +1,12 @@
 -- A proposer of a legal history has come to the phase that it proposed for; what it owes is that phase's single alone.
-use Rattle.std.proofs.Common.{◌≡◌, ◌⊎◌, ℕ, ◌+◌, ◌<◌, ◌≤◌, nat_lt, Bool, true, false, ◌||◌, ◌&&◌, ◌==◌, not, List, [], ◌∷◌, Option, Some, None, refl, sym, ap, ◌∙◌, inl, inr, subst, arith}
-use Rattle.std.specs.List.{list_any, list_all}
+use Rattle.std.proofs.Common.{◌≡◌, ℕ, ◌<◌, ◌≤◌, nat_lt, Bool, true, false, ◌||◌, ◌&&◌, ◌==◌, not, List, [], ◌∷◌, Some, refl, sym, ◌∙◌, inl, inr, subst, arith}
+use Rattle.std.specs.List.{list_any}
 use Rattle.std.proofs.lemmas.Bool.{cases_Bool, cases_lt, eqb-true, eq-eqb, and_parts, and_from, or_cases, or_left, or_right, false_from_ne_true, false≢true}
 use Rattle.phase_modes.specs.declared.limits.Limits.{Limits}
 use Rattle.phase_modes.specs.Lists.{is_empty}
 use Rattle.phase_modes.specs.Mode.{can_single}
 use Rattle.phase_model.specs.declared.event.Event.{Event}
-use Rattle.phase_model.specs.declared.event.Event.TheVariants.{Make, Reg, Sig, Claim, Did, Pass, Send, Look as Looked, Drop}
+use Rattle.phase_model.specs.declared.event.Event.TheVariants.{Make, Reg, Sig, Pass}
 use Rattle.phase_model.specs.declared.op.Op.{Op}
 use Rattle.phase_model.specs.Tasks.{is_registered, is_live, has_mode}
 use Rattle.phase_model.specs.Phases.{waits, signals}
@@ -18,11 +18,12 @@ use Rattle.phase_model.proofs.SingleRules.{proposal_follows}
 use Rattle.phase_model.proofs.Proposers.{proposer_proposes, single_waits, owes_nothing_settled}
 use Rattle.phase_model.proofs.Proposals.{some_proposal, unknown_proposed_nothing}
 
--- a proposer is a single's, and has come to the phase
+-- t is a single's, and has come to phase p
 pub record HasCome (t p : ℕ) (h : List Event) : Type 0 where
   pub single : has_mode can_single t h ≡ true
   pub come : p ≤ waits t h
 
+-- each proposer has come to the phase that it proposed for
 pub proposer_has_come : (l : Limits) (ops : List Op) (h : List Event) → is_legal l ops h ≡ true → (t p : ℕ) → has_proposed t p h ≡ true → HasCome t p h
 proposer_has_come l ops [] k t p s = absurd cc
 proposer_has_come l ops (Make u m ∷ h) k t p s =
@@ -58,6 +59,7 @@ own_phase l ops h k t p live s =
     let g = proposer_has_come l ops h k t p s in
     (g.come, λ less. settled_behind l ops h k t p live (single_waits t h g.single) less)
 
+-- who proposed for settled phases only owes nothing
 owes_none_from : (t : ℕ) (h : List Event) (xs : List Proposal) → ((p : ℕ) → list_any (λ x. x.task == t && x.phase == p) xs ≡ true → is_settled p h ≡ true) → owes_none_of t h xs ≡ true
 owes_none_from t h [] each = refl
 owes_none_from t h (x ∷ xs) each =

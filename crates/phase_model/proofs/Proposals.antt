@@ -1,23 +1,24 @@
 -- The proposals of a legal history: they agree on each phase's number, and no phase is proposed for while an earlier single is open.
-use Rattle.std.proofs.Common.{◌≡◌, ◌⊎◌, ℕ, zero, suc, ◌+◌, ◌-◌, ◌≤◌, ◌<◌, Bool, true, false, ◌||◌, ◌&&◌, ◌==◌, not, cond, List, [], ◌∷◌, Option, Some, None, refl, sym, ap, ◌∙◌, arith, inl, inr, subst}
+use Rattle.std.proofs.Common.{◌≡◌, ℕ, ◌-◌, ◌≤◌, ◌<◌, Bool, true, false, ◌||◌, ◌&&◌, ◌==◌, not, List, [], ◌∷◌, Option, Some, None, refl, sym, ap, ◌∙◌, arith, inl, inr, subst}
 use Rattle.std.specs.List.{list_any, find}
 use Rattle.std.specs.Option.{option_map}
-use Rattle.std.proofs.lemmas.Bool.{cases_Bool, cases_lt, eqb-true, and_parts, or_cases, or_parts, or_from, ne_eqb, false≢true, true≢false, not-true, not-false, false_from_ne_true}
+use Rattle.std.proofs.lemmas.Bool.{cases_Bool, cases_lt, eqb-true, or_cases, or_parts, ne_eqb, false≢true, not-false, false_from_ne_true}
 use Rattle.phase_modes.specs.declared.limits.Limits.{Limits}
 use Rattle.phase_modes.specs.Lists.{is_empty}
-use Rattle.phase_modes.specs.Mode.{can_signal, can_wait, can_single}
+use Rattle.phase_modes.specs.Mode.{can_signal, can_wait}
 use Rattle.phase_model.specs.declared.event.Event.{Event}
-use Rattle.phase_model.specs.declared.event.Event.TheVariants.{Make, Reg, Sig, Claim, Did, Pass, Send, Look as Looked, Drop}
+use Rattle.phase_model.specs.declared.event.Event.TheVariants.{Make, Reg, Sig}
 use Rattle.phase_model.specs.declared.op.Op.{Op}
-use Rattle.phase_model.specs.Tasks.{is_registered, is_dropped, is_live, has_mode}
+use Rattle.phase_model.specs.Tasks.{is_registered, is_live, has_mode}
 use Rattle.phase_model.specs.Phases.{waits, signals}
-use Rattle.phase_model.specs.Singles.{Proposal, proposals, is_proposed, number_of, has_proposed, is_mismatch, has_claimed, is_done, is_settled}
+use Rattle.phase_model.specs.Singles.{Proposal, proposals, is_proposed, number_of, has_proposed, is_mismatch, has_claimed, is_done}
 use Rattle.phase_model.specs.Rules.{is_legal}
 use Rattle.phase_model.proofs.Legal.{last_follows, sig_follows, implied}
 use Rattle.phase_model.proofs.Closing.{HaveSignalled, signalled_stays, IsOver, over_stays, over_behind, some_event}
 use Rattle.phase_model.proofs.SingleRules.{proposal_follows}
-use Rattle.phase_model.proofs.Proposers.{single_waits, claimed_proposed}
+use Rattle.phase_model.proofs.Proposers.{registered_live, single_waits, claimed_proposed}
 
+-- where something is proposed, the history has begun
 pub some_proposal : (p : ℕ) (h : List Event) → is_proposed p h ≡ true → is_empty h ≡ false
 some_proposal p [] k = absurd cc
 some_proposal p (e ∷ h) k = refl
@@ -54,9 +55,11 @@ one_number n m p h each agrees = go (number_of p h) refl
     once : (a b : Bool) → b ≡ false → (a || b) ≡ a
     once true b q = refl
     once false b q = q
+
     twice : (a b : Bool) → b ≡ a → (a || b) ≡ a
     twice true b q = refl
     twice false b q = q
+
     go : (o : Option ℕ) → number_of p h ≡ o → (not (n == m) || is_mismatch m p h) ≡ not (n == m)
     go None q = once (not (n == m)) (is_mismatch m p h) (no_number h m p q).1
     go (Some i) q =
@@ -78,9 +81,6 @@ numbers_agree l ops (Sig u (Some j) ∷ h) k n m p e =
     ]
 numbers_agree l ops (x ∷ h) k n m p e = numbers_agree l ops h (last_follows l ops h x k).before n m p e
 
-live_known : (t : ℕ) (h : List Event) → is_live t h ≡ true → is_registered t h ≡ true
-live_known t h k = (and_parts (is_registered t h) (not (is_dropped t h)) k).0
-
 -- who was never registered proposed nothing
 pub unknown_proposed_nothing : (l : Limits) (ops : List Op) (h : List Event) → is_legal l ops h ≡ true → (t p : ℕ) → is_registered t h ≡ false → has_proposed t p h ≡ false
 unknown_proposed_nothing l ops [] k t p r = refl
@@ -88,7 +88,7 @@ unknown_proposed_nothing l ops (Make u m ∷ h) k t p r = unknown_proposed_nothi
 unknown_proposed_nothing l ops (Reg q u m ∷ h) k t p r = unknown_proposed_nothing l ops h (last_follows l ops h (Reg q u m) k).before t p (or_parts (u == t) (is_registered t h) r).1
 unknown_proposed_nothing l ops (Sig u (Some n) ∷ h) k t p r =
     let f = last_follows l ops h (Sig u (Some n)) k in
-    let known = live_known u h (sig_follows l ops h u (Some n) f.permitted).live in
+    let known = registered_live u h (sig_follows l ops h u (Some n) f.permitted).live in
     let other : (u == t) ≡ false = ne_eqb u t (λ e. false≢true (sym r ∙ subst (λ v. is_registered v h ≡ true) e known)) in
     rw other (unknown_proposed_nothing l ops h f.before t p r)
 unknown_proposed_nothing l ops (e ∷ h) k t p r = unknown_proposed_nothing l ops h (last_follows l ops h e k).before t p r
@@ -125,6 +125,7 @@ proposed_signalled l ops (Sig u (Some n) ∷ h) k p s =
     ])
 proposed_signalled l ops (e ∷ h) k p s = signalled_stays l ops p e h k (some_proposal p h s) (proposed_signalled l ops h (last_follows l ops h e k).before p s)
 
+-- so no live signaller is behind a proposal
 pub signals_past_proposals : (l : Limits) (ops : List Op) (h : List Event) → is_legal l ops h ≡ true → (t p : ℕ)
     → is_proposed p h ≡ true → is_live t h ≡ true → has_mode can_signal t h ≡ true → p ≤ signals t h
 signals_past_proposals l ops h k t p s live signaller = proposed_signalled l ops h k p s t live signaller
@@ -148,7 +149,7 @@ pub open_is_last : (l : Limits) (ops : List Op) (h : List Event) → is_legal l 
 open_is_last l ops h k p q s d less =
     false_from_ne_true (is_proposed q h) (λ e. false≢true (sym d ∙ implied (is_proposed p h) (is_done p h) (over_before l ops h k p q e less).settled s))
 
--- the singles of the phases before are done
+-- where two phases are proposed for, the earlier one's single is done
 pub earlier_are_done : (l : Limits) (ops : List Op) (h : List Event) → is_legal l ops h ≡ true → (p q : ℕ)
     → is_proposed p h ≡ true → is_proposed q h ≡ true → q < p → is_done q h ≡ true
 earlier_are_done l ops h k p q s e less = implied (is_proposed q h) (is_done q h) (over_before l ops h k q p s less).settled e

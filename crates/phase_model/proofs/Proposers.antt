@@ -7,15 +7,16 @@ use Rattle.phase_modes.specs.declared.mode.Mode.{Mode}
 use Rattle.phase_modes.specs.declared.mode.Mode.TheVariants.{Sig as OnlySig, Wait as OnlyWait, SigWait, Single}
 use Rattle.phase_modes.specs.declared.limits.Limits.{Limits}
 use Rattle.phase_modes.specs.Lists.{is_empty}
-use Rattle.phase_modes.specs.Mode.{can_signal, can_wait, can_single}
+use Rattle.phase_modes.specs.Mode.{can_wait, can_single}
 use Rattle.phase_model.specs.declared.event.Event.{Event}
-use Rattle.phase_model.specs.declared.event.Event.TheVariants.{Make, Reg, Sig, Claim, Did, Pass, Send, Look as Looked, Drop}
+use Rattle.phase_model.specs.declared.event.Event.TheVariants.{Make, Reg, Sig, Claim, Did, Pass, Drop}
 use Rattle.phase_model.specs.declared.op.Op.{Op}
 use Rattle.phase_model.specs.Tasks.{is_registered, is_dropped, is_live, has_mode, mode_of}
 use Rattle.phase_model.specs.Phases.{waits, signals, is_closed}
-use Rattle.phase_model.specs.Singles.{Proposal, proposals, is_proposed, has_proposed, is_mismatch, has_claimed, is_claimed, is_done, is_settled, owes_none_of, owes_nothing}
-use Rattle.phase_model.specs.Rules.{is_permitted, is_legal, is_other_proposed}
+use Rattle.phase_model.specs.Singles.{Proposal, proposals, is_proposed, has_proposed, has_claimed, is_claimed, is_done, is_settled, owes_none_of, owes_nothing}
+use Rattle.phase_model.specs.Rules.{is_permitted, is_legal}
 use Rattle.phase_model.proofs.Legal.{last_follows, reg_follows, sig_follows, pass_follows, implied}
+use Rattle.phase_model.proofs.Closing.{some_live}
 use Rattle.phase_model.proofs.SingleRules.{proposal_follows, claim_follows}
 
 -- t is live, is a single's, and has signalled phase p and not passed it
@@ -41,6 +42,7 @@ waits_single SigWait k = absurd cc
 pub single_waits : (t : ℕ) (h : List Event) → has_mode can_single t h ≡ true → has_mode can_wait t h ≡ true
 single_waits t h = elim (mode_of t h) as (λ o. option_map_or can_single o false ≡ true → option_map_or can_wait o false ≡ true) [ None ↦ λ k. absurd cc | Some m ↦ λ k. waits_single m k ]
 
+-- a proposal by t is one by somebody
 somebody : (t p : ℕ) (xs : List Proposal) → list_any (λ x. x.task == t && x.phase == p) xs ≡ true → list_any (λ x. x.phase == p) xs ≡ true
 somebody t p [] k = absurd cc
 somebody t p (x ∷ xs) k =
@@ -71,12 +73,9 @@ owing t p h (x ∷ xs) k a =
 pub owes_nothing_settled : (t p : ℕ) (h : List Event) → owes_nothing t h ≡ true → has_proposed t p h ≡ true → is_settled p h ≡ true
 owes_nothing_settled t p h a k = owing t p h (proposals h) k a
 
-registered_live : (t : ℕ) (h : List Event) → is_live t h ≡ true → is_registered t h ≡ true
+-- who is live is registered
+pub registered_live : (t : ℕ) (h : List Event) → is_live t h ≡ true → is_registered t h ≡ true
 registered_live t h k = (and_parts (is_registered t h) (not (is_dropped t h)) k).0
-
-nobody : (t : ℕ) (h : List Event) → is_empty h ≡ true → is_live t h ≡ true → ⊥
-nobody t [] e v = absurd cc
-nobody t (x ∷ h) e v = absurd cc
 
 -- another's signal, and a signal of its own, which can't be
 later_sig : (l : Limits) (ops : List Op) (h : List Event) (u t p : ℕ) (x : Option ℕ) → is_permitted l ops h (Sig u x) ≡ true → IsBefore t p h → IsBefore t p (Sig u x ∷ h)
@@ -91,7 +90,7 @@ pub owes : (l : Limits) (ops : List Op) (h : List Event) → is_legal l ops h �
 owes l ops [] k t p = λ a b. absurd cc
 owes l ops (Make u m ∷ h) k t p = λ a b.
     let f = last_follows l ops h (Make u m) k in
-    absurd (nobody t h (and_parts (is_empty h) (nat_lt u l.tasks) f.permitted).0 (owes l ops h f.before t p a b).live)
+    absurd (true≢false (sym (and_parts (is_empty h) (nat_lt u l.tasks) f.permitted).0 ∙ some_live t h (owes l ops h f.before t p a b).live))
 owes l ops (Reg q u m ∷ h) k t p = λ a b.
     let f = last_follows l ops h (Reg q u m) k in
     let g = owes l ops h f.before t p a b in
@@ -137,7 +136,7 @@ owes l ops (e ∷ h) k t p = λ a b.
     let g = owes l ops h (last_follows l ops h e k).before t p a b in
     record { live = g.live; single = g.single; at = g.at; ahead = g.ahead }
 
--- some claimer, and some proposer
+-- some claimer
 pub claimer : (p : ℕ) (h : List Event) → is_claimed p h ≡ true → (u : ℕ) × (has_claimed u p h ≡ true)
 claimer p [] k = absurd cc
 claimer p (Claim u ∷ h) k =
@@ -155,6 +154,7 @@ proposer_of p (x ∷ xs) k =
       | inr e ↦ let c = proposer_of p xs e in (c.0, or_right (x.task == c.0 && x.phase == p) (list_any (λ y. y.task == c.0 && y.phase == p) xs) c.1)
     ]
 
+-- some proposer
 pub proposer : (p : ℕ) (h : List Event) → is_proposed p h ≡ true → (u : ℕ) × (has_proposed u p h ≡ true)
 proposer p h k = proposer_of p (proposals h) k
 

@@ -1,7 +1,7 @@
 -- The room that an open single's claim and report take, and the room of a drop: there is always enough.
-use Rattle.std.proofs.Common.{◌≡◌, ◌⊎◌, ℕ, suc, ◌+◌, ◌<◌, ◌≤◌, Bool, true, false, ◌||◌, ◌&&◌, ◌==◌, not, cond, List, [], ◌∷◌, length, refl, sym, ap, ◌∙◌, inl, inr, subst, arith}
+use Rattle.std.proofs.Common.{◌≡◌, ◌⊎◌, ℕ, suc, ◌+◌, ◌<◌, ◌≤◌, Bool, true, false, ◌==◌, not, cond, if◌then◌else◌, List, [], ◌∷◌, length, refl, sym, ap, ◌∙◌, inl, inr, subst, arith}
 use Rattle.std.specs.List.{list_any, filter}
-use Rattle.std.proofs.lemmas.Bool.{cases_Bool, cases_order, eqb-true, eq-eqb, leb-true, le-leb, or_cases, or_from, or_left, or_right, and_parts, false≢true, false_from_ne_true, true_from_ne_false, true≢false}
+use Rattle.std.proofs.lemmas.Bool.{cases_Bool, cases_order, eqb-true, eq-eqb, leb-true, le-leb, or_cases, or_from, or_left, or_right, and_parts, false≢true, false_from_ne_true}
 use Rattle.phase_modes.specs.declared.limits.Limits.{Limits}
 use Rattle.phase_model.specs.declared.event.Event.{Event}
 use Rattle.phase_model.specs.declared.event.Event.TheVariants.{Claim, Did, Drop}
@@ -25,6 +25,7 @@ none_passes f (x ∷ xs) each =
     (each x.phase (or_left (x.phase == x.phase) (list_any (λ y. y.phase == x.phase) xs) (eq-eqb x.phase x.phase refl)))
     (none_passes f xs (λ q k. each q (or_right (x.phase == q) (list_any (λ y. y.phase == q) xs) k)))
 
+-- where one phase that is proposed for passes the test, a proposal's phase does
 some_passes : (f : ℕ → Bool) (p : ℕ) (xs : List Proposal) → list_any (λ x. x.phase == p) xs ≡ true → f p ≡ true → list_any (λ x. f x.phase) xs ≡ true
 some_passes f p [] s e = absurd cc
 some_passes f p (x ∷ xs) s e =
@@ -63,12 +64,13 @@ none_unclaimed l ops h g k p s d c later =
       | inr done ↦ ap (λ b. not b) (later q (done_is_claimed l ops h k q done))
     ])
 
+-- an open single is not done
 is_undone : (h : List Event) (p : ℕ) → is_proposed p h ≡ true → is_done p h ≡ false → has_undone h (proposals h) ≡ true
 is_undone h p s d = some_passes (λ q. not (is_done q h)) p (proposals h) s (ap (λ b. not b) d)
 
 -- an open single keeps back room for its claim and its report, and for the report alone once it is claimed
 pub reserve_open : (l : Limits) (ops : List Op) (h : List Event) → is_legal l ops h ≡ true → (p : ℕ) → is_proposed p h ≡ true → is_done p h ≡ false
-    → reserve h ≡ cond (is_claimed p h) 1 2
+    → reserve h ≡ (if is_claimed p h then 1 else 2)
 reserve_open l ops h k p s d =
     elim (cases_Bool (is_claimed p h)) [
       | inl c ↦
@@ -78,3 +80,64 @@ reserve_open l ops h k p s d =
           let unclaimed : has_unclaimed h (proposals h) ≡ true = some_passes (λ q. not (is_claimed q h)) p (proposals h) s (ap (λ b. not b) c) in
           rw (c, unclaimed) refl
     ]
+
+-- a claim takes one event and one from what is kept back
+pub claim_has_room : (l : Limits) (ops : List Op) (h : List Event) → is_legal l ops h ≡ true → (t : ℕ) → is_permitted l ops h (Claim t) ≡ true → has_room l (Claim t ∷ h) ≡ true
+claim_has_room l ops h k t g =
+    let f = claim_follows l ops h t g in
+    let p = waits t h in
+    let s : is_proposed p h ≡ true = proposer_proposes t p h f.proposed in
+    let d : is_done p h ≡ false = false_from_ne_true (is_done p h) (λ e. false≢true (sym f.unclaimed ∙ done_is_claimed l ops h k p e)) in
+    let two : reserve h ≡ 2 = reserve_open l ops h k p s d ∙ ap (λ b. if b then 1 else 2) f.unclaimed in
+    let claimed : has_unclaimed (Claim t ∷ h) (proposals h) ≡ false =
+    none_unclaimed l ops h (Claim t ∷ h) k p s d (or_left (p == p) (is_claimed p h) (eq-eqb p p refl)) (λ q e. or_right (p == q) (is_claimed q h) e)
+    in
+    let one : reserve (Claim t ∷ h) ≡ 1 = rw (claimed, is_undone h p s d) refl in
+    let now = leb-true (length h + live_count h + reserve h) l.history (has_room_now l ops h k) in
+    le-leb (suc (length h) + live_count h + reserve (Claim t ∷ h)) l.history (omega (arith, now, one, two))
+
+-- so does a report
+pub did_has_room : (l : Limits) (ops : List Op) (h : List Event) → is_legal l ops h ≡ true → (t : ℕ) → is_permitted l ops h (Did t) ≡ true → has_room l (Did t ∷ h) ≡ true
+did_has_room l ops h k t g =
+    let f = did_follows l ops h t g in
+    let p = waits t h in
+    let c : is_claimed p h ≡ true = claimer_claims t p h f.claimed in
+    let s : is_proposed p h ≡ true = claimed_is_proposed l ops h k p c in
+    let one : reserve h ≡ 1 = reserve_open l ops h k p s f.undone ∙ ap (λ b. if b then 1 else 2) c in
+    let claimed : has_unclaimed (Did t ∷ h) (proposals h) ≡ false = none_unclaimed l ops h h k p s f.undone c (λ q e. e) in
+    let done : has_undone (Did t ∷ h) (proposals h) ≡ false =
+    none_passes (λ q. not (is_done q (Did t ∷ h))) (proposals h) (λ q e.
+    elim (only_open l ops h k p q s f.undone e) [
+      | inl same ↦ ap (λ b. not b) (or_left (p == q) (is_done q h) (eq-eqb p q same))
+      | inr early ↦ ap (λ b. not b) (or_right (p == q) (is_done q h) early)
+    ])
+    in
+    let none : reserve (Did t ∷ h) ≡ 0 = rw (claimed, done) refl in
+    let now = leb-true (length h + live_count h + reserve h) l.history (has_room_now l ops h k) in
+    le-leb (suc (length h) + live_count h + reserve (Did t ∷ h)) l.history (omega (arith, now, none, one))
+
+-- a filter leaves no more than there was
+filter_within : (f : ℕ → Bool) (ts : List ℕ) → length (filter f ts) ≤ length ts
+filter_within f [] = omega arith
+filter_within f (u ∷ ts) = elim (f u) as (λ b. length (cond b (u ∷ filter f ts) (filter f ts)) ≤ suc (length ts)) [ true ↦ omega (arith, filter_within f ts) | false ↦ omega (arith, filter_within f ts) ]
+
+-- who is taken from a list leaves it shorter
+taken : (t : ℕ) (ts : List ℕ) → has t ts ≡ true → length (filter (λ u. not (t == u)) ts) < length ts
+taken t [] k = absurd cc
+taken t (u ∷ ts) k =
+    let f : ℕ → Bool = λ v. not (t == v) in
+    elim (or_cases (u == t) (has t ts) k) [
+      | inl e ↦
+          let gone : f u ≡ false = ap (λ b. not b) (eq-eqb t u (sym (eqb-true u t e))) in
+          rw gone (omega (arith, filter_within f ts))
+      | inr e ↦
+          elim (f u) as (λ b. length (cond b (u ∷ filter f ts) (filter f ts)) < suc (length ts)) [ true ↦ omega (arith, taken t ts e) | false ↦ omega (arith, taken t ts e) ]
+    ]
+
+-- a drop takes one event and one live task
+pub drop_has_room : (l : Limits) (ops : List Op) (h : List Event) → is_legal l ops h ≡ true → (t : ℕ) → is_permitted l ops h (Drop t) ≡ true → has_room l (Drop t ∷ h) ≡ true
+drop_has_room l ops h k t g =
+    let live = (and_parts (is_live t h) (owes_nothing t h) g).0 in
+    let fewer : live_count (Drop t ∷ h) < live_count h = rw live_tasks-drop (taken t (live_tasks h) (has-live_tasks t h ∙ live)) in
+    let now = leb-true (length h + live_count h + reserve h) l.history (has_room_now l ops h k) in
+    le-leb (suc (length h) + live_count (Drop t ∷ h) + reserve h) l.history (omega (arith, now, fewer))

@@ -1,5 +1,5 @@
 -- What the rules ask of a proposal, a claim and a report, part by part.
-use Rattle.std.proofs.Common.{◌≡◌, ℕ, Bool, true, false, ◌&&◌, ◌==◌, not, List, [], ◌∷◌, Option, Some, None, refl}
+use Rattle.std.proofs.Common.{◌≡◌, ℕ, Bool, true, false, ◌&&◌, ◌==◌, not, List, Some, refl}
 use Rattle.std.proofs.lemmas.Bool.{and_parts, not-true}
 use Rattle.phase_modes.specs.declared.limits.Limits.{Limits}
 use Rattle.phase_modes.specs.Mode.{can_signal, can_single}
@@ -31,6 +31,7 @@ proposal_follows l ops h t n k =
     twice true h = refl
     twice false h = absurd cc
 
+-- of a claim
 pub record ClaimFollows (h : List Event) (t : ℕ) : Type 0 where
   pub live : is_live t h ≡ true
   pub proposed : has_proposed t (waits t h) h ≡ true
@@ -48,6 +49,7 @@ claim_follows l ops h t k =
     let k1 = and_parts a b k2.0 in
     record { live = k1.0; proposed = k1.1; closed = k2.1; unclaimed = not-true (is_claimed (waits t h) h) k3.1 }
 
+-- of a report
 pub record DidFollows (h : List Event) (t : ℕ) : Type 0 where
   pub live : is_live t h ≡ true
   pub claimed : has_claimed t (waits t h) h ≡ true

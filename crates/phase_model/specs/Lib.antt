@@ -7,6 +7,7 @@ pub mod Phases
 pub mod Places
 pub mod Replies
 pub mod Rules
+pub mod SingleLaws
 pub mod Singles
 pub mod Tasks
 pub mod Values

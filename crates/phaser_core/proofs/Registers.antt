@@ -1,5 +1,5 @@
 -- What a `register` is answered, by what the table tells.
-use Rattle.std.proofs.Common.{◌≡◌, ℕ, ◌==◌, nat_lt, Bool, true, false, ◌&&◌, not, cond, List, ◌∷◌, None, Result, Ok, Err, refl, ap, ◌∙◌}
+use Rattle.std.proofs.Common.{◌≡◌, ℕ, ◌==◌, nat_lt, Bool, true, false, ◌&&◌, not, cond, List, ◌∷◌, None, Result, Ok, Err, refl, ap, sym, ◌∙◌}
 use Rattle.std.proofs.lemmas.Bool.{eq-eqb, false≢true}
 use Rattle.phase_modes.specs.declared.mode.Mode.{Mode}
 use Rattle.phase_modes.specs.declared.reg.Reg.{Reg}
@@ -10,14 +10,18 @@ use Rattle.phase_modes.specs.Reg.{child_reg}
 use Rattle.phase_model.specs.declared.event.Event.{Event}
 use Rattle.phase_model.specs.declared.event.Event.TheVariants.{Reg as Joined}
 use Rattle.phase_model.specs.Tasks.{is_live, is_registered, has_mode, live_count}
-use Rattle.phase_model.specs.Rules.{Story, has_room, is_within_task}
+use Rattle.phase_model.specs.Rules.{Story, has_room, is_legal, is_within_task}
 use Rattle.phase_modes.specs.Refusal.{first_refusal}
 use Rattle.phase_model.specs.Replies.{reply, refused, settled, causes, register}
 use Rattle.phase_model.specs.Phases.{waits, signals}
 use Rattle.phase_model.proofs.Replied.{reply_by}
 use Rattle.phase_model.proofs.Legal.{parent_signals}
-use Rattle.phaser_core.specs.Table.{reg_of}
-use Rattle.phaser_core.proofs.Reading.{Found}
+use Rattle.phase_modes.specs.declared.limits.Limits.{Limits}
+use Rattle.phase_model.specs.declared.op.Op.{Op}
+use Rattle.phase_model.proofs.Proposals.{unknown_proposed_nothing}
+use Rattle.phaser_core.specs.declared.table.Entry.{Entry}
+use Rattle.phaser_core.specs.Table.{reg_of, entry_of}
+use Rattle.phaser_core.proofs.Reading.{Found, found_phase}
 
 -- what a child's registration says
 pub record ChildOk (p : Reg) (m : Mode) (r : Reg) : Type 0 where
@@ -50,17 +54,22 @@ ahead_same true false false k = refl
 ahead_same false true x k = absurd (false≢true (k refl))
 ahead_same false false x k = refl
 
--- a child's registration is that of its task after the event
-pub child_is : (h : List Event) (q t : ℕ) (m : Mode) (p r : Reg) → Found h q p → ChildOk p m r → r ≡ reg_of t (Joined q t m ∷ h)
-child_is h q t m p r f k =
-    let phase : p.phase ≡ waits q h = ap (λ x. x.phase) f.is_reg in
-    let ahead : p.ahead ≡ (has_mode can_signal q h && not (signals q h == waits q h)) = ap (λ x. x.ahead) f.is_reg in
+-- a child's line is that of its task after the event
+pub child_is : (l : Limits) (ops : List Op) (h : List Event) → is_legal l ops h ≡ true → (q t : ℕ) (m : Mode) (p : Entry) (r : Reg) → is_registered t h ≡ false → Found h q p → ChildOk p.reg m r
+    → ◌≡◌ {A = Entry} (record { task = t; reg = r; proposed = false }) (entry_of (Joined q t m ∷ h) t)
+child_is l ops h legal q t m p r fresh f k =
+    let phase : p.reg.phase ≡ waits q h = found_phase h q p f in
+    let ahead : p.reg.ahead ≡ (has_mode can_signal q h && not (signals q h == waits q h)) = ap (λ x. x.reg.ahead) f.is_entry in
     let parent : can_signal m ≡ true → has_mode can_signal q h ≡ true = parent_signals q m h (f.mode (λ n. is_within m n) ∙ k.within) in
+    let reg : r ≡ reg_of t (Joined q t m ∷ h) =
     k.is_reg
-    ∙ (ap (λ n. record { mode = m; phase = n; ahead = p.ahead && can_signal m }) phase
+    ∙ (ap (λ n. record { mode = m; phase = n; ahead = p.reg.ahead && can_signal m }) phase
     ∙ (ap (λ b. record { mode = m; phase = waits q h; ahead = b })
     (ap (λ b. b && can_signal m) ahead ∙ ahead_same (has_mode can_signal q h) (can_signal m) (not (signals q h == waits q h)) parent)
     ∙ rw (eq-eqb t t refl) refl))
+    in
+    ap (λ x. record { task = t; reg = x; proposed = false }) reg
+    ∙ ap (λ b. record { task = t; reg = reg_of t (Joined q t m ∷ h); proposed = b }) (sym (unknown_proposed_nothing l ops h legal t (waits t (Joined q t m ∷ h)) fresh))
 
 module _ (s : Story) (q t : ℕ) (m : Mode) where
   pub unknown : is_live q s.past ≡ false → reply s (register q t m) ≡ refused NotRegistered

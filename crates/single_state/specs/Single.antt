@@ -4,16 +4,19 @@ use Rattle.single_state.specs.declared.statement.Stage.{Stage}
 use Rattle.single_state.specs.declared.statement.Stage.TheVariants.{Proposed, Claimed, Done}
 use Rattle.single_state.specs.declared.statement.Statement.{Statement}
 
+-- the statement isn't done
 abbrev pub is_open_stage : Stage → Bool
 is_open_stage Proposed = true
 is_open_stage (Claimed t) = true
 is_open_stage (Done t) = false
 
+-- no task has claimed it
 abbrev pub is_unclaimed : Stage → Bool
 is_unclaimed Proposed = true
 is_unclaimed (Claimed t) = false
 is_unclaimed (Done t) = false
 
+-- t has claimed it and not yet reported it
 abbrev pub is_claim_of : ℕ → Stage → Bool
 is_claim_of t Proposed = false
 is_claim_of t (Claimed u) = u == t
@@ -34,17 +37,18 @@ abbrev pub is_claimable : Option Statement → ℕ → Bool
 is_claimable None p = false
 is_claimable (Some x) p = x.phase == p && is_unclaimed x.stage
 
--- t claimed the single, and it isn't done
+-- t claimed the last single, and it isn't done
 abbrev pub is_claimed_by : Option Statement → ℕ → Bool
 is_claimed_by None t = false
 is_claimed_by (Some x) t = is_claim_of t x.stage
 
+-- a claim and a report, the report alone, or nothing
 abbrev pub stage_reserve : Stage → ℕ
 stage_reserve Proposed = 2
 stage_reserve (Claimed t) = 1
 stage_reserve (Done t) = 0
 
--- how many events the open single still needs: its claim and its report
+-- how many events the open single still needs
 abbrev pub reserve_of : Option Statement → ℕ
 reserve_of None = 0
 reserve_of (Some x) = stage_reserve x.stage

@@ -1,4 +1,4 @@
-//! The last proposed single.
+//! The last proposed single of a phaser, and the calls that move it on.
 ghost use Rattle.std.specs.Prelude.{◌≡◌, None, Ok, Err, if◌then◌else◌};
 ghost use Rattle.single_state.specs.Single.{MayPropose, is_mismatch, is_claimable, is_claimed_by, may_pass, number_for, reserve_of, proposed, claimed, done};
 
@@ -6,7 +6,9 @@ use crate::statement::{Stage, Statement};
 use phase_modes::Refusal;
 use std::marker::Model;
 
-/// The last proposed single of a phaser.
+/// The last proposed single of a phaser, none where nothing was proposed yet. A single is proposed
+/// only once the one before it is done, so that the older ones need not be remembered. Contracts see
+/// the statement.
 #[derive(Clone, Copy, Debug, PartialEq, Eq)]
 pub struct Single {
     last: Option<Statement>,
@@ -24,12 +26,15 @@ impl Model for Single {
 }
 
 impl Single {
+    /// Nothing is proposed.
     pub fn new() -> Single
         ensures { result ≡ None }
     {
         Single { last: None }
     }
 
+    /// Proposes a number for a phase. To propose the same once more changes nothing.
+    /// `SingleMismatch` where another number stands for the phase.
     pub fn propose(&mut self, phase: u32, number: u32) -> Result<(), Refusal>
         requires { MayPropose self.old phase }
         ensures result { result ≡ (if is_mismatch self.old phase number then Err Refusal.SingleMismatch else Ok tt) }
@@ -52,16 +57,20 @@ impl Single {
         Ok(())
     }
 
+    /// Lets the task run the single of the phase, which no other task does then. `NotNow` where the
+    /// phase has no number, or a task has claimed it.
     pub fn claim(&mut self, phase: u32, task: u32) -> Result<(), Refusal>
         ensures result { result ≡ (if is_claimable self.old phase then Ok tt else Err Refusal.NotNow) }
         ensures state { self.new ≡ (if is_claimable self.old phase then claimed self.old task else self.old) }
     {
         match self.last {
-            Some(Statement {
-                phase: at,
-                number,
-                stage: Stage::Proposed,
-            }) if at == phase => {
+            Some(
+                Statement {
+                    phase: at,
+                    number,
+                    stage: Stage::Proposed,
+                },
+            ) if at == phase => {
                 self.last = Some(Statement {
                     phase,
                     number,
@@ -73,16 +82,20 @@ impl Single {
         }
     }
 
+    /// The task reports that it has run the single. `NotNow` where it claimed none, or has reported
+    /// it already.
     pub fn done(&mut self, task: u32) -> Result<(), Refusal>
         ensures result { result ≡ (if is_claimed_by self.old task then Ok tt else Err Refusal.NotNow) }
         ensures state { self.new ≡ (if is_claimed_by self.old task then done self.old task else self.old) }
     {
         match self.last {
-            Some(Statement {
-                phase,
-                number,
-                stage: Stage::Claimed(by),
-            }) if by == task => {
+            Some(
+                Statement {
+                    phase,
+                    number,
+                    stage: Stage::Claimed(by),
+                },
+            ) if by == task => {
                 self.last = Some(Statement {
                     phase,
                     number,
@@ -94,6 +107,7 @@ impl Single {
         }
     }
 
+    /// Whether no single keeps anybody in the phase: it has no number, or its single is done.
     pub fn may_pass(&self, phase: u32) -> bool
         ensures { result ≡ may_pass self.now phase }
     {
@@ -103,6 +117,8 @@ impl Single {
         }
     }
 
+    /// The number that stands for the phase; none where there is none, or where a later phase has
+    /// one.
     pub fn number(&self, phase: u32) -> Option<u32>
         ensures { result ≡ number_for self.now phase }
     {
@@ -112,6 +128,7 @@ impl Single {
         }
     }
 
+    /// How many events the open single still needs, 0 to 2: its claim and its report.
     pub fn reserve(&self) -> u32
         ensures { result ≡ reserve_of self.now }
     {

@@ -1,4 +1,4 @@
-use Rattle.std.proofs.Common.{◌≡◌, ◌<◌, length, Some, get_or, ap, sym, ◌∙◌, subst}
+use Rattle.std.proofs.Common.{◌≡◌, Some, get_or, ap, sym, ◌∙◌}
 use Rattle.std.specs.List.{slice_get}
 use Rattle.acc_cells.specs.Cells.{Kept}
 use Rattle.acc_cells.proofs.Places.{cell_read, folds_at}

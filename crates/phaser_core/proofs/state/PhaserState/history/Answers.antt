@@ -7,4 +7,4 @@ use Rattle.phaser_core.proofs.state.PhaserState.history.Goals as goal
 pub returns-clause-ordered : goal.returns-clause-ordered
 returns-clause-ordered c =
     let s = c.self.inside.history in
-    subst (λ (v : Story). IsOrdered v.past) c.self.view_is (legal_is_ordered s.limits s.ops s.past c.self.invariant.0.legal)
+    subst (λ (v : Story). IsOrdered v.past) c.self.view_is (legal_is_ordered s.limits s.ops s.past c.self.invariant.stands.legal)

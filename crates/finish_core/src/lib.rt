@@ -1,0 +1,19 @@
+//! The exact finish for one thread: a scope that its owner opens, that tasks are spawned in, and
+//! that is shut only when every task spawned in it has ended.
+#![tactic(auto)]
+
+mod event;
+mod laws;
+mod plain;
+mod stage;
+mod state;
+
+pub use event::FinishEvent;
+pub use laws::{
+    answers_keep_legal, done_where_allowed, legal_is_orderly, shut_awaits_all, shut_where_it_may,
+};
+pub use plain::allowed;
+pub use state::FinishState;
+
+#[cfg(test)]
+mod tests;
