@@ -6,8 +6,11 @@ use Rattle.phase_model.specs.declared.op.Op.{Op}
 use Rattle.phase_model.specs.declared.op.Op.TheVariants.{Sum, Least, Greatest}
 use Rattle.phase_model.specs.declared.op.Look.TheVariants.{Value}
 use Rattle.phase_model.specs.Amounts.{up_of, down_of}
-use Rattle.phase_model.specs.Values.{fold, sum_of, chosen_with}
-use Rattle.acc_cells.specs.Cells.{tally, fold_of_cell, look_of, least_with, greatest_with}
+use Rattle.phase_model.specs.declared.event.Event.{Event}
+use Rattle.phase_model.specs.declared.event.Event.TheVariants.{Send}
+use Rattle.phase_model.specs.Phases.{signals}
+use Rattle.phase_model.specs.Values.{fold, sent, sum_of, chosen_with}
+use Rattle.acc_cells.specs.Cells.{tally, with_sent, fold_of_cell, look_of, least_with, greatest_with}
 
 -- one value more, upwards or downwards, is one value more in the sum
 difference_more : (up down : ℕ) (v : ℤ) → pos (up + up_of v) -ℤ pos (down + down_of v) ≡ (pos up -ℤ pos down) +ℤ v
@@ -36,3 +39,7 @@ fold_of_cell-tally Least (v ∷ vs) =
 fold_of_cell-tally Greatest [] = refl
 fold_of_cell-tally Greatest (v ∷ vs) =
     greatest_more v (tally vs).greatest ∙ ap (λ l. chosen_with int_max v l) (fold_of_cell-tally Greatest vs)
+
+-- an event that sends a value adds it to those of its accumulator and of the phase that its sender had not yet signalled
+pub sent_is_with_sent : (a p t b : ℕ) (v : ℤ) (h : List Event) → sent a p (Send t b v ∷ h) ≡ with_sent b (signals t h) v (λ c q. sent c q h) a p
+sent_is_with_sent a p t b v h = refl

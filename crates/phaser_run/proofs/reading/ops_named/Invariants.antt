@@ -1,0 +1,11 @@
+use Rattle.std.proofs.Common.{◌≡◌, ◌≤◌, drop, length}
+use Rattle.serde_json.specs.View.{items_view}
+use Rattle.phaser_run.specs.Form.{ops_from}
+use Rattle.phaser_run.proofs.OpsLoop.{front_with}
+use Rattle.phaser_run.proofs.reading.ops_named.Given as goal
+
+abbrev pub invariant-loop-item : goal.invariant-loop-item
+invariant-loop-item l = record {
+  so_far : front_with l.ops (ops_from (items_view (drop l.item-index l.items))) ≡ ops_from (items_view l.items);
+  few : length l.ops ≤ 4;
+}

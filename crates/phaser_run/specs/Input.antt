@@ -1,0 +1,25 @@
+-- What a clause says of each answer of reading.
+use Rattle.std.specs.Prelude.{ℕ, List, ⊤}
+use Rattle.phaser_run.specs.declared.input.ReadAll.{ReadAll}
+use Rattle.phaser_run.specs.declared.input.ReadAll.TheVariants.{Bytes, TooLong, Fault, Memory}
+
+-- P of the bytes, where there are bytes
+abbrev pub IfBytes : ReadAll → (List ℕ → Type 0) → Type 0
+IfBytes (Bytes v) P = P v.items
+IfBytes TooLong P = ⊤
+IfBytes Fault P = ⊤
+IfBytes Memory P = ⊤
+
+-- P, where there were too many
+abbrev pub IfTooLong : ReadAll → Type 0 → Type 0
+IfTooLong (Bytes v) P = ⊤
+IfTooLong TooLong P = P
+IfTooLong Fault P = ⊤
+IfTooLong Memory P = ⊤
+
+-- P, where reading failed
+abbrev pub IfFault : ReadAll → Type 0 → Type 0
+IfFault (Bytes v) P = ⊤
+IfFault TooLong P = ⊤
+IfFault Fault P = P
+IfFault Memory P = ⊤

@@ -1,0 +1,100 @@
+//! All bytes of a reader, up to a limit of bytes and of reads.
+ghost use Rattle.std.specs.Prelude.{◌≡◌, ◌≤◌, ◌<◌, ◌+◌, ◌⊎◌, true, length, IfSome, OnErr};
+ghost use Rattle.std.specs.Io.KnownBytes.{ReadConsumes, IsAtEnd};
+ghost use Rattle.std.specs.Io.{ReadsAtMost};
+ghost use Rattle.phaser_run.specs.Input.{IfBytes, IfTooLong, IfFault};
+
+use std::alloc::Global;
+use std::io;
+use std::io::Read;
+
+/// How many bytes one read asks for.
+const CHUNK: usize = 8192;
+
+/// How many reads reading to the end makes at most.
+const MOST_READS: u32 = 100_000_000;
+
+/// What reading to the end gave.
+#[derive(Debug, Drop)]
+pub enum ReadAll {
+    /// All the bytes.
+    Bytes(Vec<u8>),
+    /// There are more bytes than the limit.
+    TooLong,
+    /// A read failed, or the last read allowed had not reached the end.
+    Fault,
+    /// Memory ran out.
+    Memory,
+}
+
+/// The reads that were made of one reader.
+#[derive(Drop)]
+pub struct Reads {
+    /// How many.
+    pub made: u32,
+    /// Whether one of them failed.
+    pub failed: bool,
+}
+
+fn read_once<R: Read>(reader: &mut R, reads: &mut Reads, chunk: &mut [u8]) -> io::Result<usize>
+    requires { reads.old.made < MOST_READS }
+    ensures count { reads.new.made ≡ reads.old.made + 1 }
+    ensures bytes { ReadConsumes (R.remaining reader.old) (R.remaining reader.new) result chunk.new }
+    ensures bound { ReadsAtMost result chunk.new }
+    ensures failed { OnErr result (reads.new.failed ≡ true) }
+{
+    reads.made += 1;
+    let result = reader.read(chunk);
+    if result.is_err() {
+        reads.failed = true;
+    }
+    result
+}
+
+/// Reads to the end of the reader, at most `most` bytes, by at most 100,000,000 reads, and counts them.
+pub fn read_counted<R: Read>(
+    alloc: Global,
+    reader: &mut R,
+    reads: &mut Reads,
+    most: usize,
+) -> ReadAll
+    requires { reads.old.made ≡ 0 }
+    ensures reads { reads.new.made ≤ MOST_READS }
+    ensures bytes { IfBytes result (λ bytes. (length bytes ≤ most)
+        × IfSome (R.remaining reader.old) (λ all. bytes ≡ all)
+        × IsAtEnd (R.remaining reader.new)) }
+    ensures too_long { IfTooLong result (IfSome (R.remaining reader.old) (λ all. most < length all)) }
+    ensures fault { IfFault result ((reads.new.failed ≡ true) ⊎ (reads.new.made ≡ MOST_READS)) }
+{
+    let mut bytes = Vec::new(alloc);
+    let mut chunk = [0u8; CHUNK];
+    for _ in 0..MOST_READS {
+        match read_once(reader, reads, &mut chunk) {
+            Err(_) => return ReadAll::Fault,
+            Ok(0) => return ReadAll::Bytes(bytes),
+            Ok(count) => {
+                if count > most - bytes.len() {
+                    return ReadAll::TooLong;
+                }
+                if bytes.extend_from_slice(&chunk[..count]).is_err() {
+                    return ReadAll::Memory;
+                }
+            }
+        }
+    }
+    ReadAll::Fault
+}
+
+/// Reads to the end of the reader, at most `most` bytes, by at most 100,000,000 reads.
+pub fn read_all<R: Read>(alloc: Global, reader: &mut R, most: usize) -> ReadAll
+    ensures bytes { IfBytes result (λ bytes. (length bytes ≤ most)
+        × IfSome (R.remaining reader.old) (λ all. bytes ≡ all)
+        × IsAtEnd (R.remaining reader.new)) }
+    ensures too_long { IfTooLong result (IfSome (R.remaining reader.old) (λ all. most < length all)) }
+{
+    let mut reads = Reads {
+        made: 0,
+        failed: false,
+    };
+    read_counted(alloc, reader, &mut reads, most)
+}

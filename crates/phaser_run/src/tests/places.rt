@@ -1,0 +1,192 @@
+//! The places at which texts are refused, and what is read where they are not.
+use crate::events_file::Call;
+use crate::reading::read_events;
+use crate::text_fault::TextFault;
+use phase_model::Op;
+use phase_modes::{Limits, Mode};
+use std::test::Fail;
+
+/// The place of the text's first fault; none where it is of the form.
+fn place_of(rt: &HostRuntime, text: &str) -> Result<Option<u64>, Fail> {
+    match read_events(rt.alloc(), text.as_bytes()) {
+        Ok(_) => Ok(None),
+        Err(TextFault::At(place)) => Ok(Some(place)),
+        Err(TextFault::Memory) => Err(Fail::from("memory")),
+    }
+}
+
+#[test]
+fn outer_object(rt: HostRuntime) -> Result<(), Fail> {
+    let good = [
+        r#"{"calls":[]}"#,
+        " \n\t{ \"calls\" : [ ] }\r\n",
+        r#"{"calls":[],"limits":{}}"#,
+        r#"{"accs":[],"calls":[]}"#,
+        r#"{"accs":["sum","least","greatest","sum"],"calls":[]}"#,
+        r#"{"limits":{"acts":1,"finishes":1,"history":4,"phasers":1,"regs":1,"tasks":1},"calls":[]}"#,
+        r#"{"limits":{"acts":65536,"finishes":1024,"history":65536,"phasers":64,"regs":256,"tasks":4096},"calls":[]}"#,
+    ];
+    for text in good {
+        assert_eq!(rt; place_of(&rt, text)?, None, "{text}");
+    }
+    let bad = [
+        "",
+        " ",
+        "{",
+        "[]",
+        "7",
+        "null",
+        "{}",
+        r#"{"calls":[]} x"#,
+        r#"{"calls":{}}"#,
+        r#"{"accs":null,"calls":[]}"#,
+        r#"{"accs":{},"calls":[]}"#,
+        r#"{"accs":"sum","calls":[]}"#,
+        r#"{"accs":["product"],"calls":[]}"#,
+        r#"{"accs":["sum","sum","sum","sum","sum"],"calls":[7]}"#,
+        r#"{"calls":null}"#,
+        r#"{"calls":[],}"#,
+        r#"{"Calls":[]}"#,
+        r#"{"limits":{}}"#,
+        r#"{"other":1,"calls":[]}"#,
+        r#"{"other":1,"calls":[7]}"#,
+        r#"{"limits":null,"calls":[]}"#,
+        r#"{"limits":[],"calls":[]}"#,
+        r#"{"limits":{"other":1},"calls":[]}"#,
+        r#"{"limits":{"regs":null},"calls":[]}"#,
+        r#"{"limits":{"regs":"1"},"calls":[]}"#,
+        r#"{"limits":{"regs":1.0},"calls":[]}"#,
+        r#"{"limits":{"regs":0},"calls":[7]}"#,
+        r#"{"limits":{"regs":257},"calls":[]}"#,
+        r#"{"limits":{"regs":4294967297},"calls":[]}"#,
+        r#"{"limits":{"acts":0},"calls":[]}"#,
+        r#"{"limits":{"acts":65537},"calls":[]}"#,
+        r#"{"limits":{"finishes":0},"calls":[]}"#,
+        r#"{"limits":{"finishes":1025},"calls":[]}"#,
+        r#"{"limits":{"history":3},"calls":[]}"#,
+        r#"{"limits":{"history":65537},"calls":[]}"#,
+        r#"{"limits":{"phasers":0},"calls":[]}"#,
+        r#"{"limits":{"phasers":65},"calls":[]}"#,
+        r#"{"limits":{"tasks":0},"calls":[]}"#,
+        r#"{"limits":{"tasks":4097},"calls":[]}"#,
+        r#"{"limits":{"tasks":-1},"calls":[]}"#,
+        r#"{"calls":[["sig",1e400]]}"#,
+        r#"{"calls":[["sig",01]]}"#,
+        r#"{"calls":[["sig",+1]]}"#,
+    ];
+    for text in bad {
+        assert_eq!(rt; place_of(&rt, text)?, Some(0), "{text}");
+    }
+    Ok(())
+}
+
+#[test]
+fn calls(rt: HostRuntime) -> Result<(), Fail> {
+    let good = [
+        r#"["make",0,"SIG"]"#,
+        r#"["make",4294967295,"WAIT"]"#,
+        r#"["reg",0,4294967295,"SIG_WAIT"]"#,
+        r#"["reg",4294967295,0,"SINGLE"]"#,
+        r#"["sig",0]"#,
+        r#"["sig",0,4294967295]"#,
+        r#"["pass",0]"#,
+        r#"["did",0]"#,
+        r#"["send",0,255,-2147483648]"#,
+        r#"["send",0,0,2147483647]"#,
+        r#"["look",0,255]"#,
+        r#"["drop",0]"#,
+    ];
+    for call in good {
+        let text = format!(in rt.alloc(); "{{\"calls\":[{call}]}}")?;
+        assert_eq!(rt; place_of(&rt, text.as_str())?, None, "{call}");
+    }
+    let bad = [
+        "null",
+        "7",
+        "\"sig\"",
+        "{}",
+        "[]",
+        "[7]",
+        "[null,0]",
+        r#"["sig"]"#,
+        r#"["sig",null]"#,
+        r#"["sig","0"]"#,
+        r#"["sig",[0]]"#,
+        r#"["sig",-1]"#,
+        r#"["sig",-0]"#,
+        r#"["sig",1.0]"#,
+        r#"["sig",1e0]"#,
+        r#"["sig",4294967296]"#,
+        r#"["sig",18446744073709551616]"#,
+        r#"["sig",0,null]"#,
+        r#"["sig",0,4294967296]"#,
+        r#"["sig",0,1,2]"#,
+        r#"["did"]"#,
+        r#"["did",0,0]"#,
+        r#"["send",0,0]"#,
+        r#"["send",0,256,0]"#,
+        r#"["send",0,0,2147483648]"#,
+        r#"["send",0,0,-2147483649]"#,
+        r#"["send",0,0,1.0]"#,
+        r#"["send",0,0,1,1]"#,
+        r#"["look",0]"#,
+        r#"["look",0,-1]"#,
+        r#"["look",0,0,0]"#,
+        r#"["SIG",0]"#,
+        r#"["signal",0]"#,
+        r#"["make"]"#,
+        r#"["make",0]"#,
+        r#"["make","SIG",0]"#,
+        r#"["make",0,"sig"]"#,
+        r#"["make",0,"SIG_WAI"]"#,
+        r#"["make",0,"SIG","SIG"]"#,
+        r#"["make",0,null]"#,
+        r#"["reg",0,"SIG"]"#,
+        r#"["reg",0,1]"#,
+        r#"["reg",0,1,7]"#,
+        r#"["reg",0,4294967296,"SIG"]"#,
+        r#"["reg",0,1,"SIG",0]"#,
+        r#"["pass"]"#,
+        r#"["pass",0,1]"#,
+        r#"["drop"]"#,
+        r#"["drop",0,0]"#,
+        r#"["jump",0]"#,
+    ];
+    for call in bad {
+        let text = format!(in rt.alloc(); "{{\"calls\":[[\"sig\",0],[\"sig\",0],{call},7]}}")?;
+        assert_eq!(rt; place_of(&rt, text.as_str())?, Some(3), "{call}");
+    }
+    Ok(())
+}
+
+#[test]
+fn contents(rt: HostRuntime) -> Result<(), Fail> {
+    let text =
+        r#"{"limits":{"regs":3,"tasks":9},"calls":[["make",1,"SIG"],["reg",2,3,"WAIT"],["sig",4],["sig",5,6],["pass",7],["did",8],["send",9,1,-2],["look",3,2],["drop",6]],"accs":["greatest","sum"]}"#;
+    let file = read_events(rt.alloc(), text.as_bytes())
+        .ok()
+        .ok_or("a file")?;
+    let limits = Limits {
+        acts: 4096,
+        finishes: 64,
+        history: 4096,
+        phasers: 64,
+        regs: 3,
+        tasks: 9,
+    };
+    assert_eq!(rt; file.limits, limits);
+    assert!(rt; file.ops.as_slice() == [Op::Greatest, Op::Sum].as_slice());
+    let calls = [
+        Call::Make(1, Mode::Sig),
+        Call::Register(2, 3, Mode::Wait),
+        Call::Signal(4, None),
+        Call::Signal(5, Some(6)),
+        Call::Pass(7),
+        Call::SingleDone(8),
+        Call::Send(9, 1, -2),
+        Call::Look(3, 2),
+        Call::Drop(6),
+    ];
+    assert_eq!(rt; file.calls.as_slice(), calls.as_slice());
+    Ok(())
+}

@@ -1,0 +1,94 @@
+//! Words that name a job, and words that name none.
+use crate::failure::Status;
+use crate::words::{Job, job_of};
+use std::alloc::Global;
+use std::process::Abort;
+use std::test::Fail;
+
+#[test]
+fn good_words(rt: HostRuntime) -> Result<(), Fail> {
+    let good: [(&[&str], &str); 6] = [
+        (&["phaser_run", "events", "-"], "-"),
+        (&["phaser_run", "events", "x.json"], "x.json"),
+        (&["phaser_run", "events", "--", "--help"], "--help"),
+        (&["phaser_run", "events", "events"], "events"),
+        (&["phaser_run", "events", "help"], "help"),
+        (&["", "events", ""], ""),
+    ];
+    for (words, file) in good {
+        let job = job_of(rt.alloc(), words).ok().ok_or("a job")?;
+        assert_eq!(rt; job, Job::Events { file }, "{words:?}");
+    }
+    Ok(())
+}
+
+/// The words name no job; the message has this part.
+fn is_bad<'a>(
+    rt: &impl Abort,
+    alloc: Global,
+    words: &'a [&'a str],
+    part: &str,
+) -> Result<(), Fail> {
+    match job_of(alloc, words) {
+        Ok(_) => panic!(rt; "a job: {words:?}"),
+        Err(no_job) => {
+            assert_eq!(rt; no_job.status(), Status::BadWords, "{words:?}");
+            let text = no_job.to_string(alloc)?;
+            assert!(rt; text.as_str().contains(part), "{words:?}: {text}");
+            assert!(rt; text.as_str().ends_with("\n"), "{words:?}: {text}");
+        }
+    }
+    Ok(())
+}
+
+#[test]
+fn bad_words(rt: HostRuntime) -> Result<(), Fail> {
+    let alloc = rt.alloc();
+    is_bad(&rt, alloc, &[], "Usage: phaser_run <COMMAND>")?;
+    is_bad(&rt, alloc, &["phaser_run"], "Usage: phaser_run <COMMAND>")?;
+    is_bad(&rt, alloc, &["phaser_run", "events"], "<FILE>")?;
+    is_bad(
+        &rt,
+        alloc,
+        &["phaser_run", "events", "a", "b"],
+        "unexpected argument 'b'",
+    )?;
+    is_bad(
+        &rt,
+        alloc,
+        &["phaser_run", "events", "--jump", "a"],
+        "unexpected argument '--jump'",
+    )?;
+    is_bad(
+        &rt,
+        alloc,
+        &["phaser_run", "event", "a"],
+        "unrecognized subcommand 'event'",
+    )?;
+    is_bad(
+        &rt,
+        alloc,
+        &["phaser_run", "Events", "a"],
+        "unrecognized subcommand 'Events'",
+    )?;
+    is_bad(
+        &rt,
+        alloc,
+        &["phaser_run", "help"],
+        "unrecognized subcommand 'help'",
+    )?;
+    is_bad(&rt, alloc, &["phaser_run", "--help"], "Exit status: 0 done")?;
+    is_bad(
+        &rt,
+        alloc,
+        &["phaser_run", "-h"],
+        "Applies the calls of an events file",
+    )?;
+    is_bad(
+        &rt,
+        alloc,
+        &["phaser_run", "events", "--help"],
+        "- reads standard input",
+    )?;
+    Ok(())
+}
