@@ -1,6 +1,9 @@
 //! The program: the words of the command line to a job, the job's file to lines.
 #![tactic(auto)]
 
+ghost use Rattle.std.specs.Prelude.{◌≡◌, ◌≢◌};
+ghost use Rattle.phaser_run.specs.Ends.{status_of};
+
 mod events;
 mod events_file;
 mod failure;
@@ -20,11 +23,11 @@ use std::process::ExitCode;
 use words::{Job, job_of};
 
 fn main(rt: HostRuntime) -> ExitCode {
-    ExitCode::from(status_of(&rt).code())
+    ExitCode::from(run(&rt).code())
 }
 
 /// Reads the words, and does the job that they name.
-fn status_of(rt: &HostRuntime) -> Status {
+fn run(rt: &HostRuntime) -> Status {
     let words: Vec<String> = match env::args(rt) {
         Ok(args) => match args.collect(rt.alloc()) {
             Ok(words) => words,
@@ -49,23 +52,31 @@ fn status_of(rt: &HostRuntime) -> Status {
 }
 
 /// Prints the text to standard error. A text that can't be written changes no status.
-fn bad_words(rt: &HostRuntime, text: &str) -> Status {
+fn bad_words(rt: &HostRuntime, text: &str) -> Status
+    ensures { result ≡ Status.BadWords }
+{
     let _ = rt.eprint(text);
     Status::BadWords
 }
 
 /// Tells the failure on standard error.
-fn failed(rt: &HostRuntime, failure: Failure) -> Status {
+fn failed(rt: &HostRuntime, failure: Failure) -> Status
+    ensures { result ≡ status_of failure }
+{
     let _ = failure.tell(&mut rt.stderr());
     failure.status()
 }
 
-fn out_of_memory(rt: &HostRuntime) -> Status {
+fn out_of_memory(rt: &HostRuntime) -> Status
+    ensures { result ≡ Status.Refused }
+{
     failed(rt, Failure::Refused(Refusal::Memory))
 }
 
 /// Answers the events file of that name, or standard input for `-`.
-fn answer_file(rt: &HostRuntime, file: &str) -> Status {
+fn answer_file(rt: &HostRuntime, file: &str) -> Status
+    ensures { result ≢ Status.BadWords }
+{
     if file == "-" {
         return answer_from(rt, &mut rt.stdin());
     }
@@ -76,7 +87,9 @@ fn answer_file(rt: &HostRuntime, file: &str) -> Status {
 }
 
 /// Answers the events file that the reader gives, on standard output.
-fn answer_from<R: Read>(rt: &HostRuntime, reader: &mut R) -> Status {
+fn answer_from<R: Read>(rt: &HostRuntime, reader: &mut R) -> Status
+    ensures { result ≢ Status.BadWords }
+{
     let Ok(mut out) = BufWriter::new(rt.alloc(), rt.stdout()) else {
         return out_of_memory(rt);
     };
