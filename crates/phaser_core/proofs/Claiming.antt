@@ -1,9 +1,6 @@
 -- What the table tells of a claim.
-use Rattle.std.proofs.Common.{◌≡◌, ℕ, Bool, true, false, ◌&&◌, not, cond, List, Option, Some, None, refl, ap, sym, ◌∙◌}
-use Rattle.std.specs.List.{list_all}
-use Rattle.std.proofs.lemmas.Bool.{cases_Bool}
+use Rattle.std.proofs.Common.{◌≡◌, ℕ, Bool, true, false, ◌&&◌, not, cond, List, Option, Some, None, refl, ap}
 use Rattle.phase_model.specs.declared.event.Event.TheVariants.{Claim}
-use Rattle.phase_model.specs.Tasks.{is_live}
 use Rattle.phase_model.specs.Phases.{waits, is_closed}
 use Rattle.phase_model.specs.Singles.{has_proposed, is_claimed}
 use Rattle.phase_model.specs.Rules.{Story, is_permitted}

@@ -1,6 +1,5 @@
 -- What a `pass` is answered, cause by cause.
-use Rattle.std.proofs.Common.{◌≡◌, ℕ, ◌+◌, ◌==◌, Bool, true, false, ◌||◌, ◌&&◌, not, [], ◌∷◌, None, refl, ap, ◌∙◌}
-use Rattle.std.proofs.lemmas.Bool.{and_parts, not-true}
+use Rattle.std.proofs.Common.{◌≡◌, ℕ, ◌+◌, ◌==◌, Bool, true, false, ◌||◌, ◌&&◌, not, ◌∷◌, None, refl, ap, ◌∙◌}
 use Rattle.phase_modes.specs.declared.refusal.Refusal.TheVariants.{NotRegistered, NotSignalled}
 use Rattle.phase_modes.specs.Refusal.{first_refusal}
 use Rattle.phase_modes.specs.Mode.{can_signal, can_wait}
@@ -9,7 +8,7 @@ use Rattle.phase_model.specs.Tasks.{is_live, has_mode}
 use Rattle.phase_model.specs.Phases.{waits, signals, is_closed}
 use Rattle.phase_model.specs.Singles.{is_settled}
 use Rattle.phase_model.specs.Rules.{Story, has_room, is_permitted}
-use Rattle.phase_model.specs.Replies.{reply, refused, not_yet, done, settled, causes, must_wait, event_for, pass}
+use Rattle.phase_model.specs.Replies.{reply, refused, not_yet, settled, causes, must_wait, event_for, pass}
 use Rattle.phase_model.proofs.Replied.{reply_by}
 
 -- a && not b, the other way round

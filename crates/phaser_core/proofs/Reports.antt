@@ -1,5 +1,5 @@
 -- What a `single_done` and a `drop_task` are answered, cause by cause.
-use Rattle.std.proofs.Common.{◌≡◌, ℕ, Bool, true, false, ◌&&◌, not, [], ◌∷◌, None, refl, ap, ◌∙◌}
+use Rattle.std.proofs.Common.{◌≡◌, ℕ, true, false, ◌&&◌, not, ◌∷◌, None, refl, ap, ◌∙◌}
 use Rattle.phase_modes.specs.declared.refusal.Refusal.TheVariants.{NotRegistered, NotNow}
 use Rattle.phase_modes.specs.Refusal.{first_refusal}
 use Rattle.phase_model.specs.declared.event.Event.TheVariants.{Did, Drop}

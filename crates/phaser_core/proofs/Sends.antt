@@ -1,5 +1,5 @@
 -- What a `send` and a `look` are answered, cause by cause.
-use Rattle.std.proofs.Common.{◌≡◌, ℕ, nat_lt, Bool, true, false, ◌&&◌, not, [], ◌∷◌, None, length, ℤ, refl}
+use Rattle.std.proofs.Common.{◌≡◌, ℕ, nat_lt, true, false, ◌∷◌, None, length, ℤ, refl}
 use Rattle.phase_modes.specs.declared.refusal.Refusal.TheVariants.{NotRegistered, NoSignal, NoWait, NoAccumulator, NoPhaseYet}
 use Rattle.phase_modes.specs.Mode.{can_signal, can_wait}
 use Rattle.phase_model.specs.declared.event.Event.TheVariants.{Send, Look as Looked}

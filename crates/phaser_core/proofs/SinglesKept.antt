@@ -1,8 +1,8 @@
 -- What the kept single tells of the history.
-use Rattle.std.proofs.Common.{◌≡◌, ◌⊎◌, ℕ, ◌+◌, ◌≤◌, ◌<◌, ◌==◌, Bool, true, false, ◌||◌, ◌&&◌, not, cond, List, [], ◌∷◌, Option, Some, None, refl, sym, ap, ◌∙◌, arith, inl, inr, subst}
+use Rattle.std.proofs.Common.{◌≡◌, ◌⊎◌, ℕ, ◌≤◌, ◌<◌, ◌==◌, Bool, true, false, ◌||◌, ◌&&◌, not, cond, List, [], ◌∷◌, Option, Some, None, refl, sym, ap, ◌∙◌, arith, inl, inr, subst}
 use Rattle.std.specs.List.{list_any, find}
 use Rattle.std.specs.Option.{option_map}
-use Rattle.std.proofs.lemmas.Bool.{cases_Bool, cases_lt, eqb-true, eq-eqb, ne_eqb, and_from, and_parts, or_parts, or_from, false_from_ne_true, false≢true, true≢false}
+use Rattle.std.proofs.lemmas.Bool.{cases_Bool, cases_lt, eqb-true, eq-eqb, ne_eqb, and_from, and_parts, or_parts, false_from_ne_true, false≢true}
 use Rattle.phase_modes.specs.declared.limits.Limits.{Limits}
 use Rattle.phase_modes.specs.Mode.{can_signal, can_single}
 use Rattle.phase_model.specs.declared.event.Event.{Event}
@@ -12,7 +12,7 @@ use Rattle.phase_model.specs.Phases.{waits, signals}
 use Rattle.phase_model.specs.Singles.{Proposal, proposals, is_proposed, number_of, is_mismatch, has_claimed, is_claimed, is_done, is_settled, reserve}
 use Rattle.phase_model.specs.Rules.{is_legal}
 use Rattle.phase_model.proofs.Legal.{implied}
-use Rattle.phase_model.proofs.Proposers.{single_waits, owes, claimed_proposed, proposer_proposes}
+use Rattle.phase_model.proofs.Proposers.{single_waits, owes, claimed_proposed}
 use Rattle.phase_model.proofs.Proposals.{numbers_agree, signals_past_proposals, over_before, earlier_are_done}
 use Rattle.phase_model.proofs.Closing.{settled_behind}
 use Rattle.phase_model.proofs.Claims.{claimer_claims, done_is_claimed, earlier_are_claimed, one_claimer, claimed_is_proposed}

@@ -1,5 +1,5 @@
 -- What the kept single is after each event.
-use Rattle.std.proofs.Common.{◌≡◌, ℕ, ◌+◌, ◌≤◌, ◌<◌, ◌==◌, Bool, true, false, ◌||◌, ◌&&◌, not, cond, List, [], ◌∷◌, Option, Some, None, Result, Ok, Err, refl, sym, ap, ◌∙◌, arith, inl, inr, subst}
+use Rattle.std.proofs.Common.{◌≡◌, ℕ, ◌+◌, ◌≤◌, ◌<◌, ◌==◌, Bool, true, false, ◌&&◌, not, cond, List, ◌∷◌, Option, Some, None, Result, Ok, Err, refl, sym, ap, ◌∙◌, arith, inl, inr, subst}
 use Rattle.std.specs.List.{list_any, find}
 use Rattle.std.specs.Option.{option_map}
 use Rattle.std.specs.Result.{is_err}
@@ -13,10 +13,9 @@ use Rattle.phase_model.specs.declared.event.Event.TheVariants.{Sig, Claim, Did}
 use Rattle.phase_model.specs.declared.op.Op.{Op}
 use Rattle.phase_model.specs.Tasks.{is_live, has_mode}
 use Rattle.phase_model.specs.Phases.{waits, signals}
-use Rattle.phase_model.specs.Singles.{proposals, is_proposed, is_mismatch, has_claimed, is_claimed, is_done, reserve}
+use Rattle.phase_model.specs.Singles.{proposals, is_proposed, has_claimed, is_claimed, is_done, reserve}
 use Rattle.phase_model.specs.Rules.{is_legal, is_other_proposed}
-use Rattle.phase_model.proofs.Claims.{claimed_signalled, claimed_is_proposed}
-use Rattle.phase_model.proofs.Proposals.{numbers_agree}
+use Rattle.phase_model.proofs.Claims.{claimed_signalled}
 use Rattle.single_state.specs.declared.statement.Stage.{Stage}
 use Rattle.single_state.specs.declared.statement.Stage.TheVariants.{Proposed, Claimed, Done}
 use Rattle.single_state.specs.declared.statement.Statement.{Statement}
@@ -24,7 +23,7 @@ use Rattle.single_state.specs.Single.{is_unclaimed, is_claimable, is_claimed_by,
 use Rattle.single_state.specs.Single as single
 use Rattle.phaser_core.specs.Table.{IsAtStage, IsLast, TellsSingle}
 use Rattle.phaser_core.specs.Turns.{proposing}
-use Rattle.phaser_core.proofs.SinglesKept.{stage_claimed, stage_done, mismatch_is, last_within, reserve_is, claimer_phase, claim_stands}
+use Rattle.phaser_core.proofs.SinglesKept.{stage_claimed, stage_done, mismatch_is, last_within, reserve_is, claimer_phase}
 
 -- a history that says the same of singles
 pub record SaysSame (g h : List Event) : Type 0 where

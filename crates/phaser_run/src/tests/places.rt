@@ -80,9 +80,15 @@ fn outer_object(rt: HostRuntime) -> Result<(), Fail> {
     Ok(())
 }
 
+/// The place of the first fault of a list with `call` as its third item, and a fourth that is no call.
+fn place_of_third(rt: &HostRuntime, call: &str) -> Result<Option<u64>, Fail> {
+    let text = format!(in rt.alloc(); "{{\"calls\":[[\"sig\",0],[\"sig\",0],{call},7]}}")?;
+    place_of(rt, text.as_str())
+}
+
 #[test]
-fn calls(rt: HostRuntime) -> Result<(), Fail> {
-    let good = [
+fn calls_of_the_form(rt: HostRuntime) -> Result<(), Fail> {
+    let calls = [
         r#"["make",0,"SIG"]"#,
         r#"["make",4294967295,"WAIT"]"#,
         r#"["reg",0,4294967295,"SIG_WAIT"]"#,
@@ -96,11 +102,15 @@ fn calls(rt: HostRuntime) -> Result<(), Fail> {
         r#"["look",0,255]"#,
         r#"["drop",0]"#,
     ];
-    for call in good {
-        let text = format!(in rt.alloc(); "{{\"calls\":[{call}]}}")?;
-        assert_eq!(rt; place_of(&rt, text.as_str())?, None, "{call}");
+    for call in calls {
+        assert_eq!(rt; place_of_third(&rt, call)?, Some(4), "{call}");
     }
-    let bad = [
+    Ok(())
+}
+
+#[test]
+fn items_that_are_no_calls(rt: HostRuntime) -> Result<(), Fail> {
+    let calls = [
         "null",
         "7",
         "\"sig\"",
@@ -108,6 +118,45 @@ fn calls(rt: HostRuntime) -> Result<(), Fail> {
         "[]",
         "[7]",
         "[null,0]",
+        r#"["SIG",0]"#,
+        r#"["signal",0]"#,
+        r#"["jump",0]"#,
+    ];
+    for call in calls {
+        assert_eq!(rt; place_of_third(&rt, call)?, Some(3), "{call}");
+    }
+    Ok(())
+}
+
+#[test]
+fn registrations_not_of_the_form(rt: HostRuntime) -> Result<(), Fail> {
+    let calls = [
+        r#"["make"]"#,
+        r#"["make",0]"#,
+        r#"["make","SIG",0]"#,
+        r#"["make",0,"sig"]"#,
+        r#"["make",0,"SIG_WAI"]"#,
+        r#"["make",0,"SIG","SIG"]"#,
+        r#"["make",0,null]"#,
+        r#"["reg",0,"SIG"]"#,
+        r#"["reg",0,1]"#,
+        r#"["reg",0,1,7]"#,
+        r#"["reg",0,4294967296,"SIG"]"#,
+        r#"["reg",0,1,"SIG",0]"#,
+        r#"["pass"]"#,
+        r#"["pass",0,1]"#,
+        r#"["drop"]"#,
+        r#"["drop",0,0]"#,
+    ];
+    for call in calls {
+        assert_eq!(rt; place_of_third(&rt, call)?, Some(3), "{call}");
+    }
+    Ok(())
+}
+
+#[test]
+fn numbers_not_of_the_form(rt: HostRuntime) -> Result<(), Fail> {
+    let calls = [
         r#"["sig"]"#,
         r#"["sig",null]"#,
         r#"["sig","0"]"#,
@@ -132,29 +181,9 @@ fn calls(rt: HostRuntime) -> Result<(), Fail> {
         r#"["look",0]"#,
         r#"["look",0,-1]"#,
         r#"["look",0,0,0]"#,
-        r#"["SIG",0]"#,
-        r#"["signal",0]"#,
-        r#"["make"]"#,
-        r#"["make",0]"#,
-        r#"["make","SIG",0]"#,
-        r#"["make",0,"sig"]"#,
-        r#"["make",0,"SIG_WAI"]"#,
-        r#"["make",0,"SIG","SIG"]"#,
-        r#"["make",0,null]"#,
-        r#"["reg",0,"SIG"]"#,
-        r#"["reg",0,1]"#,
-        r#"["reg",0,1,7]"#,
-        r#"["reg",0,4294967296,"SIG"]"#,
-        r#"["reg",0,1,"SIG",0]"#,
-        r#"["pass"]"#,
-        r#"["pass",0,1]"#,
-        r#"["drop"]"#,
-        r#"["drop",0,0]"#,
-        r#"["jump",0]"#,
     ];
-    for call in bad {
-        let text = format!(in rt.alloc(); "{{\"calls\":[[\"sig\",0],[\"sig\",0],{call},7]}}")?;
-        assert_eq!(rt; place_of(&rt, text.as_str())?, Some(3), "{call}");
+    for call in calls {
+        assert_eq!(rt; place_of_third(&rt, call)?, Some(3), "{call}");
     }
     Ok(())
 }

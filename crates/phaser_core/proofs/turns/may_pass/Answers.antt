@@ -1,20 +1,15 @@
-use Rattle.std.proofs.Common.{◌≡◌, ◌∷◌, ◌+◌, ◌≤◌, Bool, true, false, ◌&&◌, not, cond, None, Some, Option, length, unwrap_or, refl, arith, ap, sym, ◌∙◌, subst}
+use Rattle.std.proofs.Common.{◌≡◌, ◌∷◌, ◌+◌, true, false, ◌&&◌, None, length, unwrap_or, refl, arith, ap, sym, ◌∙◌, subst}
 use Rattle.std.specs.List.{list_all}
-use Rattle.std.proofs.lemmas.Bool.{leb-true, and_parts, and_from}
+use Rattle.std.proofs.lemmas.Bool.{leb-true, and_parts}
 use Rattle.phase_model.specs.declared.event.Event.TheVariants.{Pass, Claim}
-use Rattle.phase_model.specs.Tasks.{is_live}
-use Rattle.phase_model.specs.Phases.{waits, is_closed}
-use Rattle.phase_model.specs.Singles.{has_proposed, is_claimed, number_of}
+use Rattle.phase_model.specs.Phases.{waits}
 use Rattle.phase_model.specs.Rules.{is_permitted}
 use Rattle.phase_model.specs.Replies.{settled}
 use Rattle.phase_model.proofs.LiveTasks.{waits_within}
 use Rattle.phase_model.proofs.Reserves.{claim_has_room}
-use Rattle.single_state.specs.declared.statement.Statement.{Statement}
 use Rattle.single_state.specs.Single.{is_claimable, number_for, claimed}
-use Rattle.phaser_core.specs.declared.turns.Turn.TheVariants.{Passes}
 use Rattle.phaser_core.specs.Table.{has_signalled, TellsSingle}
-use Rattle.phaser_core.specs.Turns.{claims}
-use Rattle.phaser_core.proofs.Reading.{Found, not_live, found_in, place_in, found_phase, found_reg, found_proposed, room_now, closed_is, owes_is, held_is, history_fits}
+use Rattle.phaser_core.proofs.Reading.{Found, not_live, found_in, place_in, found_phase, found_reg, room_now, owes_is, held_is, history_fits}
 use Rattle.phaser_core.proofs.Passes as passes
 use Rattle.phaser_core.proofs.Claiming.{claims_is, claimed_ok, claimed_none}
 use Rattle.phaser_core.proofs.SinglesMoved.{claim_tells}
@@ -50,13 +45,12 @@ returns-in-Some-with_claim-clause-turn c =
     (and_parts (e.proposed && list_all (λ x. has_signalled e.reg.phase x.reg) c.args.table.now) (is_claimable o e.reg.phase) claim.0).1
     in
     let claimable : is_claimable o (waits t s.past) ≡ true = subst (λ p. is_claimable o p ≡ true) (found_phase s.past t e f) own in
-    let after : c.in-Some-with_claim.after ≡ claimed o t = claim.1 ∙ ap (λ u. claimed o u) c.in-Some.ensures.task in
-    (
+    let after : c.in-Some-with_claim.after ≡ claimed o t = claim.1 ∙ ap (λ u. claimed o u) c.in-Some.ensures.task in (
       passes.claims s t f.live (sym (owes_is s c.args.table.now o c.requires t e f) ∙ (sym c.owes_signal.ensures ∙ c.if-owes_signal.false)) permitted
-      ∙ ap (λ b. settled None false b (Claim t)) (claim_has_room s.limits s.ops s.past c.requires.legal t permitted),
+          ∙ ap (λ b. settled None false b (Claim t)) (claim_has_room s.limits s.ops s.past c.requires.legal t permitted),
       subst (λ a. TellsSingle a (Claim t ∷ s.past)) (sym after) (claim_tells s.limits s.ops s.past c.requires.legal t o c.requires.last claimable),
       c.unwrap_or-number.ensures
-      ∙ ap (λ n. unwrap_or n 0) (c.number.ensures ∙ (ap (λ p. number_for o p) (found_phase s.past t e f) ∙ sym (number_is s.limits s.ops s.past c.requires.legal o (waits t s.past) c.requires.last claimable))),
+          ∙ ap (λ n. unwrap_or n 0) (c.number.ensures ∙ (ap (λ p. number_for o p) (found_phase s.past t e f) ∙ sym (number_is s.limits s.ops s.past c.requires.legal o (waits t s.past) c.requires.last claimable))),
     )
 
 pub returns-then-has_to_wait-clause-turn : goal.returns-then-has_to_wait-clause-turn
@@ -89,12 +83,11 @@ returns-clause-turn c =
     let o = c.args.single in
     let e = c.in-Some.entry in
     let f = the_found (goal.at.returns-clause-turn c).In-Some in
-    let asked = (rw c.reserve.ensures at (sym c.has_room.ensures)) ∙ c.if-not-has_room.false in
-    (
+    let asked = (rw c.reserve.ensures at (sym c.has_room.ensures)) ∙ c.if-not-has_room.false in (
       passes.free s t f.live (sym (owes_is s c.args.table.now o c.requires t e f) ∙ (sym c.owes_signal.ensures ∙ c.if-owes_signal.false))
-      (claims_is s c.args.table.now o c.requires t e f ∙ claimed_none c.args.table.now o e (sym c.with_claim.ensures ∙ c.in_default-with_claim.is))
-      (sym (held_is s c.args.table.now o c.requires t e f) ∙ (sym c.has_to_wait.ensures ∙ c.if-has_to_wait.false))
-      ∙ ap (λ b. settled None false b (Pass t)) (room_now s c.args.table.now o c.requires (Pass t) refl refl ∙ asked),
+          (claims_is s c.args.table.now o c.requires t e f ∙ claimed_none c.args.table.now o e (sym c.with_claim.ensures ∙ c.in_default-with_claim.is))
+          (sym (held_is s c.args.table.now o c.requires t e f) ∙ (sym c.has_to_wait.ensures ∙ c.if-has_to_wait.false))
+          ∙ ap (λ b. settled None false b (Pass t)) (room_now s c.args.table.now o c.requires (Pass t) refl refl ∙ asked),
       place_in s c.args.table.now o c.requires t c.in-Some.i e c.in-Some.ensures.some c.in-Some.ensures.task,
       found_reg s.past t e f,
       omega (arith, history_fits s.limits c.requires.fit, found_phase s.past t e f, waits_within t s.past, leb-true (length s.past + 1 + length c.args.table.now + c.reserve.result) s.limits.history (sym c.has_room.ensures ∙ c.if-not-has_room.false)),

@@ -1,4 +1,4 @@
-use Rattle.std.proofs.Common.{◌≡◌, ℕ, ◌==◌, Bool, true, false, ◌&&◌, not, Option, Some, None, is_some, Result, Ok, Err, IfSome, refl, ap, sym, ◌∙◌, subst}
+use Rattle.std.proofs.Common.{◌≡◌, ℕ, ◌==◌, Bool, true, false, ◌&&◌, not, Option, Some, None, is_some, Ok, Err, IfSome, refl, ap, sym, ◌∙◌, subst}
 use Rattle.std.specs.Result.{is_err}
 use Rattle.std.proofs.lemmas.Bool.{eqb-true}
 use Rattle.phase_modes.specs.Mode.{can_signal, can_single}

@@ -1,4 +1,4 @@
-use Rattle.std.proofs.Common.{◌≡◌, ◌<◌, ◌+◌, nat_lt, nat_le, true, false, None, length, refl, arith, ap, sym, ◌∙◌}
+use Rattle.std.proofs.Common.{◌≡◌, ◌<◌, ◌+◌, false, None, length, refl, arith, ap, sym, ◌∙◌}
 use Rattle.std.proofs.lemmas.Bool.{lt-ltb, le-ltb, leb-true}
 use Rattle.phase_modes.specs.Mode.{can_signal}
 use Rattle.phase_model.specs.declared.event.Event.TheVariants.{Send}

@@ -1,4 +1,4 @@
-use Rattle.std.proofs.Common.{◌≡◌, refl, arith}
+use Rattle.std.proofs.Common.{refl, arith}
 use Rattle.phase_model.specs.declared.event.Event.TheVariants.{Make}
 use Rattle.phaser_core.proofs.Folding.{folds_same}
 use Rattle.phaser_core.proofs.Remembering.{remembers_more}

@@ -1,4 +1,4 @@
-use Rattle.std.proofs.Common.{◌≡◌, ℕ, w32, refl, subst}
+use Rattle.std.proofs.Common.{ℕ, w32, refl, subst}
 use Rattle.std.proofs.lemmas.Int.{to_z-of_z}
 use Rattle.phase_model.specs.declared.event.Event.TheVariants.{Send}
 use Rattle.phase_model.specs.Values.{sent}
