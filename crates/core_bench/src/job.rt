@@ -1,0 +1,39 @@
+//! The words of the command line, as a job.
+ghost use Rattle.std.specs.Prelude.{◌≤◌, IfSome};
+
+use crate::kind::Kind;
+
+/// What is to be measured.
+#[derive(Clone, Copy, Debug, PartialEq, Eq)]
+pub struct Job {
+    /// The calls.
+    pub kind: Kind,
+    /// How many tasks are registered on each phaser.
+    pub tasks: u32,
+    /// How many phasers are filled, one after the other.
+    pub phasers: u32,
+    ghost tasks_fit: { (1 ≤ tasks) × (tasks ≤ 256) },
+    ghost phasers_fit: { (1 ≤ phasers) × (phasers ≤ 1000) },
+}
+
+/// The number that the word tells, where it is 1 or more, and at most so many.
+fn number_of(word: &str, most: u32) -> Option<u32>
+    ensures { IfSome result (λ n. (1 ≤ n) × (n ≤ most)) }
+{
+    match word.parse::<u32>() {
+        Ok(number) if 1 <= number && number <= most => Some(number),
+        _ => None,
+    }
+}
+
+/// The job that the words `KIND TASKS PHASERS` name; the first word is the program's own name.
+pub fn job_of(words: &[&str]) -> Option<Job> {
+    let [_program, kind, tasks, phasers] = words else {
+        return None;
+    };
+    Some(Job {
+        kind: Kind::of_name(kind)?,
+        tasks: number_of(tasks, 256)?,
+        phasers: number_of(phasers, 1_000)?,
+    })
+}

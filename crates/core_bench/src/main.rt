@@ -1,0 +1,60 @@
+//! Calls of the core alone, many in one process, for the benchmark.
+#![tactic(auto)]
+
+mod calls;
+mod job;
+mod kind;
+
+use calls::calls_on_all;
+use job::job_of;
+use std::env;
+use std::process::ExitCode;
+
+/// What is told where the words are bad.
+const USAGE: &str =
+    "usage: core_bench none|turn|send|look TASKS PHASERS (1 to 256 tasks, 1 to 1000 phasers)\n";
+
+fn main(rt: HostRuntime) -> ExitCode {
+    ExitCode::from(run(&rt))
+}
+
+/// Reads the words, and does the job that they name. Returns the exit status: 0 done, 1 out of
+/// memory, 2 bad words, 3 a write failed.
+fn run(rt: &HostRuntime) -> u8 {
+    let Ok(args) = env::args(rt) else {
+        return bad_words(rt);
+    };
+    let words: Vec<String> = match args.collect(rt.alloc()) {
+        Ok(words) => words,
+        Err(_) => return 1,
+    };
+    let mut borrowed: Vec<&str> = Vec::new(rt.alloc());
+    for word in &words {
+        if borrowed.push(word.as_str()).is_err() {
+            return 1;
+        }
+    }
+    match job_of(borrowed.as_slice()) {
+        Some(job) => tell(rt, calls_on_all(rt.alloc(), job).ok()),
+        None => bad_words(rt),
+    }
+}
+
+/// Prints the number of calls, where there was memory for them.
+fn tell(rt: &HostRuntime, calls: Option<u64>) -> u8 {
+    let Some(calls) = calls else {
+        return 1;
+    };
+    match println!(rt; "{calls}") {
+        Ok(()) => 0,
+        Err(_) => 3,
+    }
+}
+
+fn bad_words(rt: &HostRuntime) -> u8 {
+    let _ = rt.eprint(USAGE);
+    2
+}
+
+#[cfg(test)]
+mod tests;

@@ -1,0 +1,431 @@
+//! The worked examples: the calls of each, and what each call is answered.
+use super::*;
+use std::test::Fail;
+
+const NO_MEMORY: &str = "no memory for a phaser";
+
+#[test]
+fn new_is_not_always_out_of_memory(rt: HostRuntime) -> Result<(), Fail> {
+    let state = fresh(rt.alloc(), limits_with(4_096, 256), first_ops(4))
+        .ok()
+        .ok_or(NO_MEMORY)?;
+    assert_eq!(rt; state.history().len(), 0);
+    assert_eq!(rt; state.history().ops(), first_ops(4));
+    assert_eq!(rt; state.history().limits(), Limits::default());
+    assert!(rt; !state.is_full());
+    assert!(rt; state.closed(0), "nobody is registered");
+    agrees_with_plain(&rt, &state);
+    Ok(())
+}
+
+/// One task alone: it signals, and passes.
+#[test]
+fn one_task_turn(rt: HostRuntime) -> Result<(), Fail> {
+    let rows = [
+        (Call::Make(0, Mode::SigWait), Answer::Done),
+        (Call::Signal(0, None), Answer::Done),
+        (Call::Pass(0), Answer::Passed(0)),
+    ];
+    let state = play(
+        &rt,
+        rt.alloc(),
+        limits_with(4_096, 256),
+        Ops::none(),
+        rows.as_slice(),
+    )?;
+    let events = [
+        Event::Make(0, Mode::SigWait),
+        Event::Sig(0, None),
+        Event::Pass(0),
+    ];
+    assert!(rt; state.history().events() == events.as_slice());
+    Ok(())
+}
+
+/// Two tasks: the first waits until the second has signalled too.
+#[test]
+fn two_tasks_turn(rt: HostRuntime) -> Result<(), Fail> {
+    let rows = [
+        (Call::Make(0, Mode::SigWait), Answer::Done),
+        (Call::Register(0, 1, Mode::SigWait), Answer::Done),
+        (Call::Signal(0, None), Answer::Done),
+        (Call::Pass(0), Answer::NotYet),
+        (Call::Signal(1, None), Answer::Done),
+        (Call::Pass(0), Answer::Passed(0)),
+        (Call::Pass(1), Answer::Passed(0)),
+    ];
+    let state = play(
+        &rt,
+        rt.alloc(),
+        limits_with(4_096, 256),
+        Ops::none(),
+        rows.as_slice(),
+    )?;
+    assert!(rt; state.closed(0));
+    assert!(rt; !state.closed(1));
+    assert!(rt; !state.is_full());
+    Ok(())
+}
+
+/// A waiter can register no signaller, and without a signaller every phase is closed.
+#[test]
+fn waiter_alone(rt: HostRuntime) -> Result<(), Fail> {
+    let rows = [
+        (Call::Make(0, Mode::Wait), Answer::Done),
+        (
+            Call::Register(0, 1, Mode::Sig),
+            Answer::Refused(Refusal::MoreThanParent),
+        ),
+        (Call::Pass(0), Answer::Passed(0)),
+        (Call::Pass(0), Answer::Passed(1)),
+    ];
+    let _state = play(
+        &rt,
+        rt.alloc(),
+        limits_with(4_096, 256),
+        Ops::none(),
+        rows.as_slice(),
+    )?;
+    Ok(())
+}
+
+/// A child that is registered between its parent's signal and pass has signalled what its parent has.
+#[test]
+fn split_phase_child(rt: HostRuntime) -> Result<(), Fail> {
+    let rows = [
+        (Call::Make(0, Mode::SigWait), Answer::Done),
+        (Call::Signal(0, None), Answer::Done),
+        (Call::Register(0, 1, Mode::Sig), Answer::Done),
+        (Call::Pass(0), Answer::Passed(0)),
+        (
+            Call::Signal(1, None),
+            Answer::Refused(Refusal::AlreadySignalled),
+        ),
+        (Call::Pass(1), Answer::Passed(0)),
+        (Call::Signal(0, None), Answer::Done),
+        (Call::Pass(0), Answer::NotYet),
+        (Call::Signal(1, None), Answer::Done),
+        (Call::Pass(0), Answer::Passed(1)),
+    ];
+    let _state = play(
+        &rt,
+        rt.alloc(),
+        limits_with(4_096, 256),
+        Ops::none(),
+        rows.as_slice(),
+    )?;
+    Ok(())
+}
+
+/// A task that only signals runs ahead; a task that only waits follows it, phase by phase.
+#[test]
+fn signaller_runs_ahead(rt: HostRuntime) -> Result<(), Fail> {
+    let rows = [
+        (Call::Make(0, Mode::SigWait), Answer::Done),
+        (Call::Register(0, 1, Mode::Sig), Answer::Done),
+        (Call::Register(0, 2, Mode::Wait), Answer::Done),
+        (Call::DropTask(0), Answer::Done),
+        (Call::Signal(1, None), Answer::Done),
+        (Call::Pass(1), Answer::Passed(0)),
+        (Call::Signal(1, None), Answer::Done),
+        (Call::Pass(1), Answer::Passed(1)),
+        (Call::Signal(1, None), Answer::Done),
+        (Call::Pass(1), Answer::Passed(2)),
+        (Call::Pass(2), Answer::Passed(0)),
+        (Call::Pass(2), Answer::Passed(1)),
+        (Call::Pass(2), Answer::Passed(2)),
+        (Call::Pass(2), Answer::NotYet),
+    ];
+    let _state = play(
+        &rt,
+        rt.alloc(),
+        limits_with(4_096, 256),
+        Ops::none(),
+        rows.as_slice(),
+    )?;
+    Ok(())
+}
+
+/// A value counts even if its sender is dropped before it signals.
+#[test]
+fn value_of_dropped_sender(rt: HostRuntime) -> Result<(), Fail> {
+    let rows = [
+        (Call::Make(0, Mode::SigWait), Answer::Done),
+        (Call::Register(0, 1, Mode::Sig), Answer::Done),
+        (Call::Register(0, 2, Mode::Wait), Answer::Done),
+        (Call::DropTask(0), Answer::Done),
+        (Call::Send(1, 0, 5), Answer::Done),
+        (Call::Pass(2), Answer::NotYet),
+        (Call::DropTask(1), Answer::Done),
+        (Call::Pass(2), Answer::Passed(0)),
+        (Call::Look(2, 0), Answer::Saw(Look::Value(5))),
+    ];
+    let _state = play(
+        &rt,
+        rt.alloc(),
+        limits_with(4_096, 256),
+        first_ops(1),
+        rows.as_slice(),
+    )?;
+    Ok(())
+}
+
+/// The sum of no value is 0, and there is no least and no greatest of none.
+#[test]
+fn empty_folds(rt: HostRuntime) -> Result<(), Fail> {
+    let rows = [
+        (Call::Make(0, Mode::SigWait), Answer::Done),
+        (Call::Look(0, 0), Answer::Refused(Refusal::NoPhaseYet)),
+        (Call::Signal(0, None), Answer::Done),
+        (Call::Pass(0), Answer::Passed(0)),
+        (Call::Look(0, 0), Answer::Saw(Look::Value(0))),
+        (Call::Look(0, 1), Answer::Saw(Look::Nothing)),
+        (Call::Look(0, 2), Answer::Saw(Look::Nothing)),
+        (Call::Look(0, 3), Answer::Refused(Refusal::NoAccumulator)),
+        (Call::Send(0, 3, 1), Answer::Refused(Refusal::NoAccumulator)),
+    ];
+    let _state = play(
+        &rt,
+        rt.alloc(),
+        limits_with(4_096, 256),
+        first_ops(3),
+        rows.as_slice(),
+    )?;
+    Ok(())
+}
+
+/// A sum is wider than its values.
+#[test]
+fn extreme_values(rt: HostRuntime) -> Result<(), Fail> {
+    let rows = [
+        (Call::Make(0, Mode::SigWait), Answer::Done),
+        (Call::Send(0, 0, -2147483648), Answer::Done),
+        (Call::Send(0, 0, -2147483648), Answer::Done),
+        (Call::Send(0, 1, -2147483648), Answer::Done),
+        (Call::Signal(0, None), Answer::Done),
+        (Call::Pass(0), Answer::Passed(0)),
+        (Call::Look(0, 0), Answer::Saw(Look::Value(-4294967296))),
+        (Call::Look(0, 1), Answer::Saw(Look::Value(-2147483648))),
+        (Call::Look(0, 2), Answer::Saw(Look::Nothing)),
+    ];
+    let _state = play(
+        &rt,
+        rt.alloc(),
+        limits_with(4_096, 256),
+        first_ops(3),
+        rows.as_slice(),
+    )?;
+    Ok(())
+}
+
+/// A value that is sent after the signal counts for the next phase, and equal values count each.
+#[test]
+fn value_after_signal(rt: HostRuntime) -> Result<(), Fail> {
+    let rows = [
+        (Call::Make(0, Mode::SigWait), Answer::Done),
+        (Call::Register(0, 1, Mode::Sig), Answer::Done),
+        (Call::Send(0, 0, 3), Answer::Done),
+        (Call::Send(0, 0, 3), Answer::Done),
+        (Call::Signal(1, None), Answer::Done),
+        (Call::Send(1, 0, 3), Answer::Done),
+        (Call::Signal(0, None), Answer::Done),
+        (Call::Pass(0), Answer::Passed(0)),
+        (Call::Look(0, 0), Answer::Saw(Look::Value(6))),
+        (Call::Pass(1), Answer::Passed(0)),
+        (Call::Signal(1, None), Answer::Done),
+        (Call::Signal(0, None), Answer::Done),
+        (Call::Pass(0), Answer::Passed(1)),
+        (Call::Look(0, 0), Answer::Saw(Look::Value(3))),
+    ];
+    let state = play(
+        &rt,
+        rt.alloc(),
+        limits_with(4_096, 256),
+        first_ops(1),
+        rows.as_slice(),
+    )?;
+    assert_eq!(rt; state.fold_at(0, 0), Some(Look::Value(6)));
+    assert_eq!(rt; state.fold_at(0, 1), Some(Look::Value(3)));
+    assert_eq!(rt; state.fold_at(0, 2), Some(Look::Value(0)));
+    assert_eq!(rt; state.fold_at(0, 4_096), None);
+    assert_eq!(rt; state.fold_at(1, 0), None);
+    Ok(())
+}
+
+/// One proposer claims the single; all others wait until it is reported done.
+#[test]
+fn single_statement(rt: HostRuntime) -> Result<(), Fail> {
+    let rows = [
+        (Call::Make(0, Mode::Single), Answer::Done),
+        (Call::Register(0, 1, Mode::Single), Answer::Done),
+        (Call::Register(0, 2, Mode::Single), Answer::Done),
+        (Call::Signal(0, Some(7)), Answer::Done),
+        (Call::Signal(1, Some(7)), Answer::Done),
+        (
+            Call::Signal(2, Some(8)),
+            Answer::Refused(Refusal::SingleMismatch),
+        ),
+        (Call::Pass(0), Answer::NotYet),
+        (Call::Signal(2, Some(7)), Answer::Done),
+        (Call::DropTask(0), Answer::Refused(Refusal::NotNow)),
+        (Call::Pass(0), Answer::Claimed(7)),
+        (Call::Pass(1), Answer::NotYet),
+        (Call::SingleDone(1), Answer::Refused(Refusal::NotNow)),
+        (Call::SingleDone(0), Answer::Done),
+        (Call::Pass(1), Answer::Passed(0)),
+        (Call::Pass(0), Answer::Passed(0)),
+        (Call::Pass(2), Answer::Passed(0)),
+    ];
+    let _state = play(
+        &rt,
+        rt.alloc(),
+        limits_with(4_096, 256),
+        Ops::none(),
+        rows.as_slice(),
+    )?;
+    Ok(())
+}
+
+/// Where an event has no room, a drop still has.
+#[test]
+fn history_full(rt: HostRuntime) -> Result<(), Fail> {
+    let rows = [
+        (Call::Make(0, Mode::SigWait), Answer::Done),
+        (Call::Signal(0, None), Answer::Done),
+        (Call::Pass(0), Answer::Passed(0)),
+        (Call::Signal(0, None), Answer::Refused(Refusal::HistoryFull)),
+        (Call::DropTask(0), Answer::Done),
+    ];
+    let state = play(
+        &rt,
+        rt.alloc(),
+        limits_with(4, 256),
+        Ops::none(),
+        rows.as_slice(),
+    )?;
+    assert!(rt; state.is_full());
+    Ok(())
+}
+
+/// Each call tells the first refusal whose cause stands.
+#[test]
+fn refusals_in_order(rt: HostRuntime) -> Result<(), Fail> {
+    let rows = [
+        (Call::Make(0, Mode::SigWait), Answer::Done),
+        (Call::Register(0, 1, Mode::Wait), Answer::Done),
+        (Call::Signal(1, None), Answer::Refused(Refusal::NoSignal)),
+        (
+            Call::Register(0, 1, Mode::Sig),
+            Answer::Refused(Refusal::RegisteredTwice),
+        ),
+        (
+            Call::Signal(9, None),
+            Answer::Refused(Refusal::NotRegistered),
+        ),
+        (Call::Signal(0, Some(5)), Answer::Refused(Refusal::NoSingle)),
+        (Call::Pass(0), Answer::Refused(Refusal::NotSignalled)),
+        (Call::Register(0, 2, Mode::Sig), Answer::Done),
+        (Call::Look(2, 0), Answer::Refused(Refusal::NoWait)),
+        (Call::DropTask(1), Answer::Done),
+        (
+            Call::Register(0, 1, Mode::Wait),
+            Answer::Refused(Refusal::RegisteredTwice),
+        ),
+        (Call::Make(3, Mode::Sig), Answer::Refused(Refusal::NotNow)),
+    ];
+    let _state = play(
+        &rt,
+        rt.alloc(),
+        limits_with(4_096, 256),
+        first_ops(1),
+        rows.as_slice(),
+    )?;
+    Ok(())
+}
+
+/// The task number is looked at before the number of registrations.
+#[test]
+fn registrations_full(rt: HostRuntime) -> Result<(), Fail> {
+    let rows = [
+        (Call::Make(0, Mode::SigWait), Answer::Done),
+        (
+            Call::Register(0, 256, Mode::Sig),
+            Answer::Refused(Refusal::TasksFull),
+        ),
+        (
+            Call::Register(0, 1, Mode::Sig),
+            Answer::Refused(Refusal::RegsFull),
+        ),
+    ];
+    let _state = play(
+        &rt,
+        rt.alloc(),
+        limits_with(4_096, 1),
+        Ops::none(),
+        rows.as_slice(),
+    )?;
+    Ok(())
+}
+
+/// A proposal needs room for its claim and its report, which then never fail for room.
+#[test]
+fn room_for_a_single(rt: HostRuntime) -> Result<(), Fail> {
+    let refused = [
+        (Call::Make(0, Mode::Single), Answer::Done),
+        (
+            Call::Signal(0, Some(7)),
+            Answer::Refused(Refusal::HistoryFull),
+        ),
+        (Call::Signal(0, None), Answer::Done),
+    ];
+    let state = play(
+        &rt,
+        rt.alloc(),
+        limits_with(4, 256),
+        Ops::none(),
+        refused.as_slice(),
+    )?;
+    assert!(rt; !state.is_full());
+    let done = [
+        (Call::Make(0, Mode::Single), Answer::Done),
+        (Call::Signal(0, Some(7)), Answer::Done),
+        (Call::Pass(0), Answer::Claimed(7)),
+        (Call::SingleDone(0), Answer::Done),
+        (Call::Pass(0), Answer::Refused(Refusal::HistoryFull)),
+        (Call::DropTask(0), Answer::Done),
+    ];
+    let state = play(
+        &rt,
+        rt.alloc(),
+        limits_with(5, 256),
+        Ops::none(),
+        done.as_slice(),
+    )?;
+    assert_eq!(rt; state.history().len(), 5);
+    Ok(())
+}
+
+/// A plain waiter holds still while the single of its phase is open.
+#[test]
+fn plain_waiter_holds_still(rt: HostRuntime) -> Result<(), Fail> {
+    let rows = [
+        (Call::Make(0, Mode::Single), Answer::Done),
+        (Call::Register(0, 1, Mode::SigWait), Answer::Done),
+        (Call::Signal(0, Some(7)), Answer::Done),
+        (Call::Signal(1, None), Answer::Done),
+        (Call::Pass(1), Answer::NotYet),
+        (Call::Pass(0), Answer::Claimed(7)),
+        (Call::Pass(1), Answer::NotYet),
+        (Call::SingleDone(0), Answer::Done),
+        (Call::Pass(1), Answer::Passed(0)),
+        (Call::Pass(0), Answer::Passed(0)),
+    ];
+    let _state = play(
+        &rt,
+        rt.alloc(),
+        limits_with(4_096, 256),
+        Ops::none(),
+        rows.as_slice(),
+    )?;
+    Ok(())
+}

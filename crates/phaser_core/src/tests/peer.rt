@@ -1,0 +1,184 @@
+//! A slow phaser: nothing but a history, and what the plain functions say of it.
+use super::*;
+
+/// The first refusal whose cause stands.
+fn first_of(causes: &[(bool, Refusal)]) -> Option<Refusal> {
+    for (stands, refusal) in causes {
+        if *stands {
+            return Some(*refusal);
+        }
+    }
+    None
+}
+
+fn is_waiter(history: &History, task: u32) -> bool {
+    mode_in(history, task).is_some_and(|mode| mode.can_wait())
+}
+
+fn may_propose(history: &History, task: u32) -> bool {
+    mode_in(history, task).is_some_and(|mode| mode.can_single())
+}
+
+fn has_no(history: &History, accumulator: u8) -> bool {
+    history.ops().get(accumulator).is_none()
+}
+
+/// Whether the parent's mode allows its child this one.
+fn is_within(history: &History, parent: u32, mode: Mode) -> bool {
+    mode_in(history, parent).is_some_and(|of_parent| Mode::within(mode, of_parent))
+}
+
+fn is_mismatch(history: &History, phase: u32, number: Option<u32>) -> bool {
+    number.is_some() && proposed(history, phase).is_some_and(|other| Some(other) != number)
+}
+
+fn register_causes(history: &History, parent: u32, child: u32, mode: Mode) -> Option<Refusal> {
+    let limits = history.limits();
+    let causes = [
+        (!live(history, parent), Refusal::NotRegistered),
+        (!is_within(history, parent, mode), Refusal::MoreThanParent),
+        (child >= limits.tasks, Refusal::TasksFull),
+        (mode_in(history, child).is_some(), Refusal::RegisteredTwice),
+        (live_count(history) >= limits.regs, Refusal::RegsFull),
+    ];
+    first_of(causes.as_slice())
+}
+
+fn signal_causes(history: &History, task: u32, number: Option<u32>) -> Option<Refusal> {
+    let no_single = number.is_some() && !may_propose(history, task);
+    let signalled = signals(history, task);
+    let causes = [
+        (!live(history, task), Refusal::NotRegistered),
+        (!is_signaller(history, task), Refusal::NoSignal),
+        (no_single, Refusal::NoSingle),
+        (signalled != waits(history, task), Refusal::AlreadySignalled),
+        (
+            is_mismatch(history, signalled, number),
+            Refusal::SingleMismatch,
+        ),
+    ];
+    first_of(causes.as_slice())
+}
+
+fn pass_causes(history: &History, task: u32) -> Option<Refusal> {
+    let is_ahead = u64::from(signals(history, task)) == u64::from(waits(history, task)) + 1;
+    let causes = [
+        (!live(history, task), Refusal::NotRegistered),
+        (
+            is_signaller(history, task) && !is_ahead,
+            Refusal::NotSignalled,
+        ),
+    ];
+    first_of(causes.as_slice())
+}
+
+fn send_causes(history: &History, task: u32, accumulator: u8) -> Option<Refusal> {
+    let causes = [
+        (!live(history, task), Refusal::NotRegistered),
+        (!is_signaller(history, task), Refusal::NoSignal),
+        (has_no(history, accumulator), Refusal::NoAccumulator),
+    ];
+    first_of(causes.as_slice())
+}
+
+fn look_causes(history: &History, task: u32, accumulator: u8) -> Option<Refusal> {
+    let causes = [
+        (!live(history, task), Refusal::NotRegistered),
+        (!is_waiter(history, task), Refusal::NoWait),
+        (has_no(history, accumulator), Refusal::NoAccumulator),
+        (waits(history, task) == 0, Refusal::NoPhaseYet),
+    ];
+    first_of(causes.as_slice())
+}
+
+/// The first refusal of the call whose cause stands, room aside.
+fn cause(history: &History, call: Call) -> Option<Refusal> {
+    match call {
+        Call::Make(task, _) => {
+            let causes = [
+                (history.len() > 0, Refusal::NotNow),
+                (task >= history.limits().tasks, Refusal::TasksFull),
+            ];
+            first_of(causes.as_slice())
+        }
+        Call::Register(parent, child, mode) => register_causes(history, parent, child, mode),
+        Call::Signal(task, number) => signal_causes(history, task, number),
+        Call::Pass(task) => pass_causes(history, task),
+        Call::SingleDone(task) | Call::DropTask(task) => {
+            let causes = [
+                (!live(history, task), Refusal::NotRegistered),
+                (!allowed(history, event_for(history, call)), Refusal::NotNow),
+            ];
+            first_of(causes.as_slice())
+        }
+        Call::Send(task, accumulator, _) => send_causes(history, task, accumulator),
+        Call::Look(task, accumulator) => look_causes(history, task, accumulator),
+    }
+}
+
+/// Whether a task that waits has to come again, where it may claim nothing.
+fn must_wait(history: &History, call: Call) -> bool {
+    let Call::Pass(task) = call else {
+        return false;
+    };
+    let phase = waits(history, task);
+    let is_settled = proposed(history, phase).is_none() || did(history, phase);
+    is_waiter(history, task) && !(closed(history, phase) && is_settled)
+}
+
+/// What the task sees of the accumulator: the phase before its own.
+fn seen_by(history: &History, task: u32, accumulator: u8) -> Look {
+    let phase = waits(history, task).saturating_sub(1);
+    fold(history, accumulator, phase).unwrap_or(Look::Nothing)
+}
+
+/// The event that the call adds if it is done.
+fn event_for(history: &History, call: Call) -> Event {
+    match call {
+        Call::Make(task, mode) => Event::Make(task, mode),
+        Call::Register(parent, child, mode) => Event::Reg(parent, child, mode),
+        Call::Signal(task, number) => Event::Sig(task, number),
+        Call::Pass(task) => {
+            if allowed(history, Event::Claim(task)) {
+                Event::Claim(task)
+            } else {
+                Event::Pass(task)
+            }
+        }
+        Call::SingleDone(task) => Event::Did(task),
+        Call::Send(task, accumulator, value) => Event::Send(task, accumulator, value),
+        Call::Look(task, accumulator) => Event::Look(
+            task,
+            accumulator,
+            seen_by(history, task, accumulator),
+        ),
+        Call::DropTask(task) => Event::Drop(task),
+    }
+}
+
+/// The answer to a call that adds this event.
+fn answer_of(history: &History, event: Event) -> Answer {
+    match event {
+        Event::Pass(task) => Answer::Passed(waits(history, task)),
+        Event::Claim(task) => {
+            Answer::Claimed(proposed(history, waits(history, task)).unwrap_or(0))
+        }
+        Event::Look(_, _, seen) => Answer::Saw(seen),
+        _ => Answer::Done,
+    }
+}
+
+/// What the call is answered, and the event that it adds if it is done.
+pub(super) fn expected(history: &History, call: Call) -> (Answer, Option<Event>) {
+    let event = event_for(history, call);
+    if allowed(history, event) {
+        return (answer_of(history, event), Some(event));
+    }
+    if let Some(refusal) = cause(history, call) {
+        return (Answer::Refused(refusal), None);
+    }
+    if must_wait(history, call) {
+        return (Answer::NotYet, None);
+    }
+    (Answer::Refused(Refusal::HistoryFull), None)
+}
