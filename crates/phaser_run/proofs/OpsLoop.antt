@@ -1,5 +1,5 @@
 -- Reading operators one after the other, as a loop does.
-use Rattle.std.proofs.Common.{◌≡◌, ℕ, ◌+◌, ◌≤◌, ◌<◌, nat_le, List, [], ◌∷◌, ◌++◌, Option, Some, None, true, false, refl, sym, ap, ◌∙◌, append_assoc, arith, length, drop, get_or, add-one, drop-cons, append-nil, length-append}
+use Rattle.std.proofs.Common.{◌≡◌, ℕ, ◌+◌, ◌≤◌, ◌<◌, nat_le, List, [], ◌∷◌, ◌++◌, Option, Some, None, false, refl, sym, ap, ◌∙◌, append_assoc, arith, length, drop, get_or, add-one, drop-cons, append-nil, length-append}
 use Rattle.std.proofs.lemmas.Bool.{leb-true, le-leb, false_from_ne_true}
 use Rattle.std.proofs.lemmas.List.{drop_all}
 use Rattle.serde_json.specs.declared.value.Value.{Value}

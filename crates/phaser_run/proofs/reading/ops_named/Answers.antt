@@ -1,4 +1,4 @@
-use Rattle.std.proofs.Common.{◌≡◌, ◌+◌, ◌∷◌, [], None, Some, length, sym, ap, ◌∙◌, arith, length-append}
+use Rattle.std.proofs.Common.{◌∷◌, [], sym, ap, ◌∙◌, arith, length-append}
 use Rattle.serde_json.specs.View.{view}
 use Rattle.phaser_run.specs.Form.{op_in, at_most_four}
 use Rattle.phaser_run.proofs.OpsLoop.{goes_on, stops, overflows, is_done}
