@@ -1,3 +1,5 @@
+//! What holds of singles in every legal history. Each function does nothing: its contract is the
+//! law, and the check proves it.
 ghost use Rattle.phase_model.specs.SingleLaws.{OneClaimAndOneReport, SinglesAreAnswered, SinglesHaveRoom, SinglesStandBetween};
 
 /// A phase of a legal history is claimed at most once and reported at most once, and not claimed after the report.
