@@ -6,7 +6,7 @@ use Rattle.phase_model.specs.declared.event.Event.TheVariants.{Claim, Pass, Look
 use Rattle.phase_model.specs.declared.op.Look.{Look}
 use Rattle.phase_model.specs.Replies.{ok, settled, done_result, line, line_for}
 use Rattle.phaser_core.specs.Answers.{pass_result, look_result}
-use Rattle.phaser_run.specs.Lines.{done_line, passing_line, look_line}
+use Rattle.phaser_run.specs.Outcomes.{done_line, passing_line, look_line}
 
 -- a call that never waits, and whose event has no answer of its own
 pub done_told : (h : List Event) (o : Option Refusal) (room : Bool) (e : Event) → line_for h e ≡ ok → done_line (done_result (settled o false room e)) ≡ line h (settled o false room e)

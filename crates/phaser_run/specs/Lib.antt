@@ -1,6 +1,4 @@
 pub mod Ends
-pub mod Form
 pub mod Input
-pub mod Lines
-pub mod Reading
+pub mod Outcomes
 pub mod Words

@@ -2,17 +2,15 @@
 ghost use Rattle.std.specs.Prelude.{◌≡◌, ◌≢◌, Ok, Err, ℕ, List, map, ◌≤◌, length, OnOk, IfOk, IfErr, IfSome};
 ghost use Rattle.std.specs.Io.KnownBytes.{Appends, Keeps};
 ghost use Rattle.phase_model.specs.Replies.{reply, after, line, lines};
-ghost use Rattle.phaser_run.specs.Form.{Form, form_of, reading};
-ghost use Rattle.phaser_run.specs.Reading.{call_view};
-ghost use Rattle.phaser_run.specs.Lines.{line_of, done_line, passing_line, look_line, text_of, text_for};
+ghost use Rattle.events_text.specs.Form.{Form, form_of, reading};
+ghost use Rattle.events_text.specs.Lines.{line_of, text_of, text_for};
+ghost use Rattle.events_text.specs.Reading.{call_view};
 ghost use Rattle.phaser_run.specs.Ends.{status_of, IsOfAnswer, IsOfReading};
+ghost use Rattle.phaser_run.specs.Outcomes.{done_line, passing_line, look_line};
 
-use crate::events_file::Call;
 use crate::failure::{Failure, Status};
 use crate::input::{ReadAll, read_all};
-use crate::lines::Reply;
-use crate::reading::read_events;
-use crate::text_fault::TextFault;
+use events_text::{Call, Reply, TextFault, read_events};
 use phase_model::Look;
 use phase_modes::Refusal;
 use phaser_core::{Passing, PhaserState};

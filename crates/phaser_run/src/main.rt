@@ -5,12 +5,8 @@ ghost use Rattle.std.specs.Prelude.{◌≡◌, ◌≢◌};
 ghost use Rattle.phaser_run.specs.Ends.{status_of};
 
 mod events;
-mod events_file;
 mod failure;
 mod input;
-mod lines;
-mod reading;
-mod text_fault;
 mod words;
 
 use events::events_from;

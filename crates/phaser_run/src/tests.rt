@@ -1,6 +1,5 @@
 //! The worked examples, each with the lines that it is to print.
 mod edges;
-mod places;
 mod word_cases;
 
 use crate::events::events_on;

@@ -1,5 +1,5 @@
 use Rattle.std.proofs.Common.{refl, ap, ◌∙◌}
-use Rattle.phaser_run.specs.Lines.{done_line, passing_line, look_line}
+use Rattle.phaser_run.specs.Outcomes.{done_line, passing_line, look_line}
 use Rattle.phaser_run.proofs.Applied.{done_told, passing_told, look_told}
 use Rattle.phaser_run.proofs.events.apply.Goals as goal
 

@@ -1,8 +1,8 @@
 use Rattle.std.proofs.Common.{Option, List, ℕ, drop, map}
 use Rattle.std.specs.Io.KnownBytes.{Appends}
 use Rattle.phase_model.specs.Replies.{lines}
-use Rattle.phaser_run.specs.Reading.{call_view}
-use Rattle.phaser_run.specs.Lines.{text_of}
+use Rattle.events_text.specs.Reading.{call_view}
+use Rattle.events_text.specs.Lines.{text_of}
 use Rattle.phaser_run.proofs.events.write_replies.Given as goal
 
 abbrev pub invariant-loop-call : goal.invariant-loop-call

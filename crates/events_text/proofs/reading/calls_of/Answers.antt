@@ -1,9 +1,9 @@
 use Rattle.std.proofs.Common.{sym, ◌∙◌, ap, option_map}
 use Rattle.serde_json.specs.View.{view}
-use Rattle.phaser_run.specs.Form.{call_in}
-use Rattle.phaser_run.specs.Reading.{call_view}
-use Rattle.phaser_run.proofs.Loop.{goes_on, stops, is_done}
-use Rattle.phaser_run.proofs.reading.calls_of.Goals as goal
+use Rattle.events_text.specs.Form.{call_in}
+use Rattle.events_text.specs.Reading.{call_view}
+use Rattle.events_text.proofs.Loop.{goes_on, stops, is_done}
+use Rattle.events_text.proofs.reading.calls_of.Goals as goal
 
 pub returns-in-None : goal.returns-in-None
 returns-in-None c =

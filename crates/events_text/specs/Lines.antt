@@ -1,5 +1,5 @@
 -- The lines that are printed, byte for byte.
-use Rattle.std.specs.Prelude.{ℕ, List, [], ◌++◌, codes, decimal, flat_map, Result, Ok, Err}
+use Rattle.std.specs.Prelude.{ℕ, List, [], ◌++◌, codes, decimal, flat_map}
 use Rattle.std.specs.Fmt.{signed_decimal}
 use Rattle.phase_modes.specs.declared.refusal.Refusal.{Refusal}
 use Rattle.phase_modes.specs.Refusal.{refusal_text}
@@ -7,12 +7,9 @@ use Rattle.phase_model.specs.declared.op.Look.{Look}
 use Rattle.phase_model.specs.declared.op.Look.TheVariants.{Value, Nothing}
 use Rattle.phase_model.specs.Rules.{Story}
 use Rattle.phase_model.specs.Replies.{Line, ok, ok_phase, claim, saw, not_yet_line, refusal, lines}
-use Rattle.phaser_core.specs.declared.state.Passing.{Passing}
-use Rattle.phaser_core.specs.declared.state.Passing.TheVariants.{Passed, Claimed}
-use Rattle.phaser_core.specs.declared.state.Passing.TheVariants as passings
-use Rattle.phaser_run.specs.declared.lines.Reply.{Reply}
-use Rattle.phaser_run.specs.declared.lines.Reply.TheVariants.{Done, Phase, Claim, Saw, NotYet, Refused}
-use Rattle.phaser_run.specs.Form.{Form}
+use Rattle.events_text.specs.declared.lines.Reply.{Reply}
+use Rattle.events_text.specs.declared.lines.Reply.TheVariants.{Done, Phase, Claim, Saw, NotYet, Refused}
+use Rattle.events_text.specs.Form.{Form}
 
 -- what was seen of an accumulator
 abbrev pub look_text : Look → List ℕ
@@ -40,23 +37,6 @@ line_of (Claim n) = claim n
 line_of (Saw x) = saw x
 line_of NotYet = not_yet_line
 line_of (Refused r) = refusal r
-
--- what a call without an answer of its own prints
-abbrev pub done_line : Result (Unit {0}) Refusal → Line
-done_line (Ok u) = ok
-done_line (Err r) = refusal r
-
--- what a `pass` prints
-abbrev pub passing_line : Result Passing Refusal → Line
-passing_line (Ok (Passed p)) = ok_phase p
-passing_line (Ok (Claimed n)) = claim n
-passing_line (Ok passings.NotYet) = not_yet_line
-passing_line (Err r) = refusal r
-
--- what a `look` prints
-abbrev pub look_line : Result Look Refusal → Line
-look_line (Ok x) = saw x
-look_line (Err r) = refusal r
 
 -- the phaser of a file, before its first call
 abbrev pub story_of : Form → Story

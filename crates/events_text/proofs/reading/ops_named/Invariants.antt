@@ -1,8 +1,8 @@
 use Rattle.std.proofs.Common.{◌≡◌, ◌≤◌, drop, length}
 use Rattle.serde_json.specs.View.{items_view}
-use Rattle.phaser_run.specs.Form.{ops_from}
-use Rattle.phaser_run.proofs.OpsLoop.{front_with}
-use Rattle.phaser_run.proofs.reading.ops_named.Given as goal
+use Rattle.events_text.specs.Form.{ops_from}
+use Rattle.events_text.proofs.OpsLoop.{front_with}
+use Rattle.events_text.proofs.reading.ops_named.Given as goal
 
 abbrev pub invariant-loop-item : goal.invariant-loop-item
 invariant-loop-item l = record {

@@ -4,9 +4,9 @@ use Rattle.std.proofs.lemmas.List.{drop_all, map-append}
 use Rattle.serde_json.specs.declared.value.Value.{Value}
 use Rattle.serde_json.specs.View.{view, items_view}
 use Rattle.phase_model.specs.Replies as model
-use Rattle.phaser_run.specs.declared.events_file.Call.{Call}
-use Rattle.phaser_run.specs.Form.{call_in, call_then, calls_from}
-use Rattle.phaser_run.specs.Reading.{call_view}
+use Rattle.events_text.specs.declared.events_file.Call.{Call}
+use Rattle.events_text.specs.Form.{call_in, call_then, calls_from}
+use Rattle.events_text.specs.Reading.{call_view}
 
 -- what was read before, and what is still read
 abbrev pub with_front : List Call → Result (List model.Call) ℕ → Result (List model.Call) ℕ

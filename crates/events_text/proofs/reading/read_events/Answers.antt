@@ -1,10 +1,10 @@
 use Rattle.std.proofs.Common.{rules, sym, ap, subst, Option}
 use Rattle.serde_json.specs.Data.{Data}
 use Rattle.serde_json.specs.Errors.{IsMemory}
-use Rattle.phaser_run.specs.Form.{form_of}
-use Rattle.phaser_run.specs.Reading.{Gives, form_view}
-use Rattle.phaser_run.proofs.Utf8.{is_read, is_not_read}
-use Rattle.phaser_run.proofs.reading.read_events.Goals as goal
+use Rattle.events_text.specs.Form.{form_of}
+use Rattle.events_text.specs.Reading.{Gives, form_view}
+use Rattle.events_text.proofs.Utf8.{is_read, is_not_read}
+use Rattle.events_text.proofs.reading.read_events.Goals as goal
 
 pub returns-in-Ok : goal.returns-in-Ok
 returns-in-Ok c =

@@ -12,7 +12,7 @@ pub enum TextFault {
 }
 
 impl From<AllocError> for TextFault {
-    ghost use Rattle.phaser_run.specs.declared.text_fault.TextFault.TheVariants.{Memory};
+    ghost use Rattle.events_text.specs.declared.text_fault.TextFault.TheVariants.{Memory};
     ghost use Rattle.std.specs.Prelude.{◌≡◌};
 
     ghost from_gives = { λ _ e. e ≡ Memory };
@@ -23,7 +23,7 @@ impl From<AllocError> for TextFault {
 }
 
 impl<T: Drop> From<AllocFailed<T>> for TextFault {
-    ghost use Rattle.phaser_run.specs.declared.text_fault.TextFault.TheVariants.{Memory};
+    ghost use Rattle.events_text.specs.declared.text_fault.TextFault.TheVariants.{Memory};
     ghost use Rattle.std.specs.Prelude.{◌≡◌};
 
     ghost from_gives = { λ _ e. e ≡ Memory };

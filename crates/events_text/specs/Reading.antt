@@ -2,12 +2,12 @@
 use Rattle.std.specs.Prelude.{◌≡◌, ℕ, map, Result, Ok, Err}
 use Rattle.phase_model.specs.Replies.{make, register, signal, pass, single_done, send, look, drop_task}
 use Rattle.phase_model.specs.Replies as model
-use Rattle.phaser_run.specs.declared.text_fault.TextFault.{TextFault}
-use Rattle.phaser_run.specs.declared.text_fault.TextFault.TheVariants as faults
-use Rattle.phaser_run.specs.declared.events_file.Call.{Call}
-use Rattle.phaser_run.specs.declared.events_file.Call.TheVariants.{Make, Register, Signal, Pass, SingleDone, Send, Look, Drop}
-use Rattle.phaser_run.specs.declared.events_file.EventsFile.{EventsFile}
-use Rattle.phaser_run.specs.Form.{Form}
+use Rattle.events_text.specs.declared.text_fault.TextFault.{TextFault}
+use Rattle.events_text.specs.declared.text_fault.TextFault.TheVariants as faults
+use Rattle.events_text.specs.declared.events_file.Call.{Call}
+use Rattle.events_text.specs.declared.events_file.Call.TheVariants.{Make, Register, Signal, Pass, SingleDone, Send, Look, Drop}
+use Rattle.events_text.specs.declared.events_file.EventsFile.{EventsFile}
+use Rattle.events_text.specs.Form.{Form}
 
 -- the call of the phaser
 abbrev pub call_view : Call → model.Call

@@ -6,8 +6,8 @@ ghost use Rattle.std.specs.BTreeMap.{keys};
 ghost use Rattle.serde_json.specs.Errors.{IsMemory};
 ghost use Rattle.serde_json.specs.View.{view, items_view};
 ghost use Rattle.phase_modes.specs.Limits.{limits_fit};
-ghost use Rattle.phaser_run.specs.Form.{number_in, task_at, mode_in, mode_at, accumulator_at, signed_in, value_at, make_in, register_in, signal_in, pass_in, did_in, send_in, look_in, drop_in, call_in, calls_from, has_only, limit_at, named_limits_in, limits_in, limits_or, op_in, ops_from, at_most_four, ops_in, ops_or, outer_in, form, form_of, reading};
-ghost use Rattle.phaser_run.specs.Reading.{call_view, form_view, Gives};
+ghost use Rattle.events_text.specs.Form.{number_in, task_at, mode_in, mode_at, accumulator_at, signed_in, value_at, make_in, register_in, signal_in, pass_in, did_in, send_in, look_in, drop_in, call_in, calls_from, has_only, limit_at, named_limits_in, limits_in, limits_or, op_in, ops_from, at_most_four, ops_in, ops_or, outer_in, form, form_of, reading};
+ghost use Rattle.events_text.specs.Reading.{call_view, form_view, Gives};
 
 use crate::events_file::{Call, EventsFile};
 use crate::text_fault::TextFault;

@@ -1,7 +1,5 @@
 //! The places at which texts are refused, and what is read where they are not.
-use crate::events_file::Call;
-use crate::reading::read_events;
-use crate::text_fault::TextFault;
+use super::*;
 use phase_model::Op;
 use phase_modes::{Limits, Mode};
 use std::test::Fail;

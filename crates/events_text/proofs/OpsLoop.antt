@@ -5,7 +5,7 @@ use Rattle.std.proofs.lemmas.List.{drop_all}
 use Rattle.serde_json.specs.declared.value.Value.{Value}
 use Rattle.serde_json.specs.View.{view, items_view}
 use Rattle.phase_model.specs.declared.op.Op.{Op}
-use Rattle.phaser_run.specs.Form.{op_in, op_then, ops_from, at_most_four}
+use Rattle.events_text.specs.Form.{op_in, op_then, ops_from, at_most_four}
 
 -- what was read before, and what is still read
 abbrev pub front_with : List Op → Option (List Op) → Option (List Op)

@@ -5,7 +5,7 @@ use Rattle.std.specs.Str.{bytes_eq}
 use Rattle.std.specs.Map.{keys_of}
 use Rattle.serde_json.specs.declared.value.Value.{Value}
 use Rattle.serde_json.specs.View.{members_view}
-use Rattle.phaser_run.specs.Form.{only_keys}
+use Rattle.events_text.specs.Form.{only_keys}
 
 -- a key is one of the names, wherever they lie in memory
 any_of_shown : (k : List ℕ) (names : List (Bor (List ℕ))) → list_any (λ name. bytes_eq k name.now) names ≡ list_any (bytes_eq k) (map (λ name. name.now) names)

@@ -22,7 +22,7 @@ pub enum Reply {
 
 impl fmt::Display for Reply {
     ghost use Rattle.std.specs.Prelude.{Some};
-    ghost use Rattle.phaser_run.specs.Lines.{line_of, line_text};
+    ghost use Rattle.events_text.specs.Lines.{line_of, line_text};
 
     ghost output = { λ r. Some (line_text (line_of r)) };
 

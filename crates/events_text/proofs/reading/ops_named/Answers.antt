@@ -1,8 +1,8 @@
 use Rattle.std.proofs.Common.{◌∷◌, [], sym, ap, ◌∙◌, arith, length-append}
 use Rattle.serde_json.specs.View.{view}
-use Rattle.phaser_run.specs.Form.{op_in, at_most_four}
-use Rattle.phaser_run.proofs.OpsLoop.{goes_on, stops, overflows, is_done}
-use Rattle.phaser_run.proofs.reading.ops_named.Goals as goal
+use Rattle.events_text.specs.Form.{op_in, at_most_four}
+use Rattle.events_text.proofs.OpsLoop.{goes_on, stops, overflows, is_done}
+use Rattle.events_text.proofs.reading.ops_named.Goals as goal
 
 pub returns-in-None : goal.returns-in-None
 returns-in-None c =
