@@ -1,7 +1,8 @@
 //! The program: the words of the command line to a job, the job's file to lines.
 #![tactic(auto)]
 
-ghost use Rattle.std.specs.Prelude.{◌≡◌, ◌≢◌};
+ghost use Rattle.std.specs.Prelude.{◌≡◌, ◌≢◌, ◌≤◌, length, IfSome, Ok};
+ghost use Rattle.events_text.specs.Form.{Form, form_of, reading};
 ghost use Rattle.phaser_run.specs.Ends.{status_of};
 
 mod events;
@@ -9,7 +10,7 @@ mod failure;
 mod input;
 mod words;
 
-use events::events_from;
+use events::{MOST_BYTES, events_from};
 use failure::{Failure, Status};
 use phase_modes::Refusal;
 use std::env;
@@ -84,7 +85,9 @@ fn answer_file(rt: &HostRuntime, file: &str) -> Status
 
 /// Answers the events file that the reader gives, on standard output.
 fn answer_from<R: Read>(rt: &HostRuntime, reader: &mut R) -> Status
-    ensures { result ≢ Status.BadWords }
+    ensures done { result ≡ Status.Done → IfSome (R.remaining reader.old) (λ all. (length all ≤ MOST_BYTES)
+        × ((file : Form) × (form_of (reading all) ≡ Ok file))) }
+    ensures words { result ≢ Status.BadWords }
 {
     let Ok(mut out) = BufWriter::new(rt.alloc(), rt.stdout()) else {
         return out_of_memory(rt);
