@@ -2,7 +2,7 @@
 use Rattle.std.proofs.Common.{◌≡◌, ℕ, ◌+◌, ◌≤◌, ◌<◌, ◌==◌, nat_lt, Bool, true, false, ◌||◌, ◌&&◌, not, List, [], ◌∷◌, None, Some, refl, sym, ◌∙◌, arith, inl, inr}
 use Rattle.std.specs.List.{list_all}
 use Rattle.std.specs.Option.{option_map_or}
-use Rattle.std.proofs.lemmas.Bool.{cases_Bool, cases_lt, eqb-true, eq-eqb, ne_eqb, ltb-true, lt-ltb, and_parts, and_from, or_left, or_right, or_cases, false≢true}
+use Rattle.std.proofs.lemmas.Bool.{cases_Bool, cases_lt, eqb-true, ne_eqb, ltb-true, and_parts, and_from, or_right, or_cases, false≢true}
 use Rattle.phase_modes.specs.declared.mode.Mode.{Mode}
 use Rattle.phase_modes.specs.declared.limits.Limits.{Limits}
 use Rattle.phase_modes.specs.Lists.{is_empty}
@@ -24,11 +24,6 @@ all_at f (u ∷ ts) a t k =
     let b = and_parts (f u) (list_all f ts) a in
     elim (or_cases (u == t) (has t ts) k) [ inl e ↦ rw (eqb-true u t e) at b.0 | inr e ↦ all_at f ts b.1 t e ]
 
-all_from : (f : ℕ → Bool) (ts : List ℕ) → ((t : ℕ) → has t ts ≡ true → f t ≡ true) → list_all f ts ≡ true
-all_from f [] each = refl
-all_from f (u ∷ ts) each =
-    and_from (f u) (list_all f ts) (each u (or_left (u == u) (has u ts) (eq-eqb u u refl))) (all_from f ts (λ t k. each t (or_right (u == t) (has t ts) k)))
-
 -- a test of an implication passes where its end does on its condition
 pub implies : (a b : Bool) → (a ≡ true → b ≡ true) → (not a || b) ≡ true
 implies true b k = k refl
@@ -43,11 +38,6 @@ pub signalled_from_closed : (p : ℕ) (h : List Event) → is_closed p h ≡ tru
 signalled_from_closed p h c t live signaller =
     let past = all_at (is_past p h) (live_tasks h) c t (has-live_tasks t h ∙ live) in
     omega (arith, ltb-true p (signals t h) (implied (has_mode can_signal t h) (nat_lt p (signals t h)) past signaller))
-
--- and the other way round
-pub closed_from_signalled : (p : ℕ) (h : List Event) → HaveSignalled (p + 1) h → is_closed p h ≡ true
-closed_from_signalled p h s =
-    all_from (is_past p h) (live_tasks h) (λ t k. implies (has_mode can_signal t h) (nat_lt p (signals t h)) (λ signaller. lt-ltb p (signals t h) (omega (arith, s t (sym (has-live_tasks t h) ∙ k) signaller))))
 
 -- who is live after a drop was live before it
 live_before_drop : (u t : ℕ) (h : List Event) → is_live t (Drop u ∷ h) ≡ true → is_live t h ≡ true
@@ -158,12 +148,6 @@ over_behind l ops (Pass u ∷ h) k t p w less =
     ])
 over_behind l ops (e ∷ h) k t p w less = over_stays l ops p e h k (some_event can_wait t h w) (over_behind l ops h (last_follows l ops h e k).before t p w less)
 
--- a phase behind a live waiter is closed
-pub closed_behind : (l : Limits) (ops : List Op) (h : List Event) → is_legal l ops h ≡ true → (t p : ℕ)
-    → is_live t h ≡ true → has_mode can_wait t h ≡ true → p < waits t h → is_closed p h ≡ true
-closed_behind l ops h k t p live w less = closed_from_signalled p h (over_behind l ops h k t p w less).closed
-
--- and settled
-pub settled_behind : (l : Limits) (ops : List Op) (h : List Event) → is_legal l ops h ≡ true → (t p : ℕ)
-    → is_live t h ≡ true → has_mode can_wait t h ≡ true → p < waits t h → is_settled p h ≡ true
-settled_behind l ops h k t p live w less = (over_behind l ops h k t p w less).settled
+-- a phase that a waiter has passed is settled
+pub settled_behind : (l : Limits) (ops : List Op) (h : List Event) → is_legal l ops h ≡ true → (t p : ℕ) → has_mode can_wait t h ≡ true → p < waits t h → is_settled p h ≡ true
+settled_behind l ops h k t p w less = (over_behind l ops h k t p w less).settled

@@ -7,7 +7,7 @@ use Rattle.phase_modes.specs.declared.mode.Mode.{Mode}
 use Rattle.phase_modes.specs.Lists.{is_empty}
 use Rattle.phase_modes.specs.declared.limits.Limits.{Limits}
 use Rattle.phase_model.specs.declared.event.Event.{Event}
-use Rattle.phase_model.specs.declared.event.Event.TheVariants.{Make, Reg, Sig, Claim, Did, Pass, Send, Look as Looked, Drop}
+use Rattle.phase_model.specs.declared.event.Event.TheVariants.{Make, Reg, Pass, Drop}
 use Rattle.phase_model.specs.declared.op.Op.{Op}
 use Rattle.phase_model.specs.Tasks.{is_registered, is_dropped, is_live, mode_of, registered_tasks, live_tasks}
 use Rattle.phase_model.specs.Phases.{waits}
@@ -29,25 +29,13 @@ pub mode_known : (t : ℕ) (h : List Event) → is_some (mode_of t h) ≡ is_reg
 mode_known t [] = refl
 mode_known t (Make u m ∷ h) = elim (u == t) as (λ b. is_some (cond b (Some m) (mode_of t h)) ≡ (b || is_registered t h)) [ true ↦ refl | false ↦ mode_known t h ]
 mode_known t (Reg q u m ∷ h) = elim (u == t) as (λ b. is_some (cond b (Some m) (mode_of t h)) ≡ (b || is_registered t h)) [ true ↦ refl | false ↦ mode_known t h ]
-mode_known t (Sig u x ∷ h) = mode_known t h
-mode_known t (Claim u ∷ h) = mode_known t h
-mode_known t (Did u ∷ h) = mode_known t h
-mode_known t (Pass u ∷ h) = mode_known t h
-mode_known t (Send u a v ∷ h) = mode_known t h
-mode_known t (Looked u a x ∷ h) = mode_known t h
-mode_known t (Drop u ∷ h) = mode_known t h
+mode_known t (e ∷ h) = mode_known t h
 
 pub has-registered_tasks : (t : ℕ) (h : List Event) → has t (registered_tasks h) ≡ is_registered t h
 has-registered_tasks t [] = refl
 has-registered_tasks t (Make u m ∷ h) = ap (λ b. (u == t) || b) (has-registered_tasks t h)
 has-registered_tasks t (Reg q u m ∷ h) = ap (λ b. (u == t) || b) (has-registered_tasks t h)
-has-registered_tasks t (Sig u x ∷ h) = has-registered_tasks t h
-has-registered_tasks t (Claim u ∷ h) = has-registered_tasks t h
-has-registered_tasks t (Did u ∷ h) = has-registered_tasks t h
-has-registered_tasks t (Pass u ∷ h) = has-registered_tasks t h
-has-registered_tasks t (Send u a v ∷ h) = has-registered_tasks t h
-has-registered_tasks t (Looked u a x ∷ h) = has-registered_tasks t h
-has-registered_tasks t (Drop u ∷ h) = has-registered_tasks t h
+has-registered_tasks t (e ∷ h) = has-registered_tasks t h
 
 pub has-filter : (p : ℕ → Bool) (t : ℕ) (ts : List ℕ) → has t (filter p ts) ≡ (p t && has t ts)
 has-filter p t ts = any-filter_same (λ u. u == t) p (p t) (λ u e. ap p (eqb-true u t e)) ts
@@ -82,13 +70,7 @@ registered_apart l ops (Make u m ∷ h) k =
 registered_apart l ops (Reg q u m ∷ h) k =
     let f = last_follows l ops h (Reg q u m) k in
     (has-registered_tasks u h ∙ (reg_follows l ops h q u m f.permitted).unknown, registered_apart l ops h f.before)
-registered_apart l ops (Sig u x ∷ h) k = registered_apart l ops h (last_follows l ops h (Sig u x) k).before
-registered_apart l ops (Claim u ∷ h) k = registered_apart l ops h (last_follows l ops h (Claim u) k).before
-registered_apart l ops (Did u ∷ h) k = registered_apart l ops h (last_follows l ops h (Did u) k).before
-registered_apart l ops (Pass u ∷ h) k = registered_apart l ops h (last_follows l ops h (Pass u) k).before
-registered_apart l ops (Send u a v ∷ h) k = registered_apart l ops h (last_follows l ops h (Send u a v) k).before
-registered_apart l ops (Looked u a x ∷ h) k = registered_apart l ops h (last_follows l ops h (Looked u a x) k).before
-registered_apart l ops (Drop u ∷ h) k = registered_apart l ops h (last_follows l ops h (Drop u) k).before
+registered_apart l ops (e ∷ h) k = registered_apart l ops h (last_follows l ops h e k).before
 
 pub live_apart : (l : Limits) (ops : List Op) (h : List Event) → is_legal l ops h ≡ true → Apart (live_tasks h)
 live_apart l ops h k = Apart-filter (λ t. is_live t h) (registered_tasks h) (registered_apart l ops h k)
@@ -99,12 +81,7 @@ waits_within t [] = omega arith
 waits_within t (Make u m ∷ h) = elim (u == t) as (λ b. cond b 0 (waits t h) ≤ suc (length h)) [ true ↦ omega arith | false ↦ omega (arith, waits_within t h) ]
 waits_within t (Reg q u m ∷ h) = omega (arith, waits_within (cond (u == t) q t) h)
 waits_within t (Pass u ∷ h) = elim (u == t) as (λ b. cond b (waits t h + 1) (waits t h) ≤ suc (length h)) [ true ↦ omega (arith, waits_within t h) | false ↦ omega (arith, waits_within t h) ]
-waits_within t (Sig u x ∷ h) = omega (arith, waits_within t h)
-waits_within t (Claim u ∷ h) = omega (arith, waits_within t h)
-waits_within t (Did u ∷ h) = omega (arith, waits_within t h)
-waits_within t (Send u a v ∷ h) = omega (arith, waits_within t h)
-waits_within t (Looked u a x ∷ h) = omega (arith, waits_within t h)
-waits_within t (Drop u ∷ h) = omega (arith, waits_within t h)
+waits_within t (e ∷ h) = omega (arith, waits_within t h)
 
 -- a legal history has its room
 pub has_room_now : (l : Limits) (ops : List Op) (h : List Event) → is_legal l ops h ≡ true → has_room l h ≡ true
@@ -116,18 +93,13 @@ pub fresh_not_dropped : (l : Limits) (ops : List Op) (h : List Event) (t : ℕ) 
 fresh_not_dropped l ops [] t k r = refl
 fresh_not_dropped l ops (Make u m ∷ h) t k r = fresh_not_dropped l ops h t (last_follows l ops h (Make u m) k).before (or_parts (u == t) (is_registered t h) r).1
 fresh_not_dropped l ops (Reg q u m ∷ h) t k r = fresh_not_dropped l ops h t (last_follows l ops h (Reg q u m) k).before (or_parts (u == t) (is_registered t h) r).1
-fresh_not_dropped l ops (Sig u x ∷ h) t k r = fresh_not_dropped l ops h t (last_follows l ops h (Sig u x) k).before r
-fresh_not_dropped l ops (Claim u ∷ h) t k r = fresh_not_dropped l ops h t (last_follows l ops h (Claim u) k).before r
-fresh_not_dropped l ops (Did u ∷ h) t k r = fresh_not_dropped l ops h t (last_follows l ops h (Did u) k).before r
-fresh_not_dropped l ops (Pass u ∷ h) t k r = fresh_not_dropped l ops h t (last_follows l ops h (Pass u) k).before r
-fresh_not_dropped l ops (Send u a v ∷ h) t k r = fresh_not_dropped l ops h t (last_follows l ops h (Send u a v) k).before r
-fresh_not_dropped l ops (Looked u a x ∷ h) t k r = fresh_not_dropped l ops h t (last_follows l ops h (Looked u a x) k).before r
 fresh_not_dropped l ops (Drop u ∷ h) t k r =
     let f = last_follows l ops h (Drop u) k in
     let live : is_live u h ≡ true = (and_parts (is_live u h) (owes_nothing u h) f.permitted).0 in
     let known : is_registered u h ≡ true = (and_parts (is_registered u h) (not (is_dropped u h)) live).0 in
     let other : (u == t) ≡ false = ne_eqb u t (λ e. false≢true (sym r ∙ (ap (λ v. is_registered v h) (sym e) ∙ known))) in
     or_from (u == t) (is_dropped t h) other (fresh_not_dropped l ops h t f.before r)
+fresh_not_dropped l ops (e ∷ h) t k r = fresh_not_dropped l ops h t (last_follows l ops h e k).before r
 
 pub filter_same : (p q : ℕ → Bool) (ts : List ℕ) → ((u : ℕ) → has u ts ≡ true → p u ≡ q u) → filter p ts ≡ filter q ts
 filter_same p q [] e = refl

@@ -8,7 +8,7 @@ use Rattle.phase_modes.specs.Mode.{can_single}
 use Rattle.phase_model.specs.declared.event.Event.{Event}
 use Rattle.phase_model.specs.declared.event.Event.TheVariants.{Make, Reg, Sig, Pass}
 use Rattle.phase_model.specs.declared.op.Op.{Op}
-use Rattle.phase_model.specs.Tasks.{is_registered, is_live, has_mode}
+use Rattle.phase_model.specs.Tasks.{is_registered, has_mode}
 use Rattle.phase_model.specs.Phases.{waits, signals}
 use Rattle.phase_model.specs.Singles.{Proposal, proposals, has_proposed, is_settled, owes_none_of, owes_nothing}
 use Rattle.phase_model.specs.Rules.{is_legal}
@@ -52,12 +52,12 @@ proposer_has_come l ops (Pass u ∷ h) k t p s =
     ]
 proposer_has_come l ops (e ∷ h) k t p s = let g = proposer_has_come l ops h (last_follows l ops h e k).before t p s in record { single = g.single; come = g.come }
 
--- a live proposer has come to the phase, and where it has passed it, the single is done
-pub own_phase : (l : Limits) (ops : List Op) (h : List Event) → is_legal l ops h ≡ true → (t p : ℕ) → is_live t h ≡ true → has_proposed t p h ≡ true
+-- a proposer has come to the phase, and where it has passed it, the single is done
+pub own_phase : (l : Limits) (ops : List Op) (h : List Event) → is_legal l ops h ≡ true → (t p : ℕ) → has_proposed t p h ≡ true
     → (p ≤ waits t h) × (p < waits t h → is_settled p h ≡ true)
-own_phase l ops h k t p live s =
+own_phase l ops h k t p s =
     let g = proposer_has_come l ops h k t p s in
-    (g.come, λ less. settled_behind l ops h k t p live (single_waits t h g.single) less)
+    (g.come, λ less. settled_behind l ops h k t p (single_waits t h g.single) less)
 
 -- who proposed for settled phases only owes nothing
 owes_none_from : (t : ℕ) (h : List Event) (xs : List Proposal) → ((p : ℕ) → list_any (λ x. x.task == t && x.phase == p) xs ≡ true → is_settled p h ≡ true) → owes_none_of t h xs ≡ true
@@ -73,15 +73,15 @@ same_tests true b f g = sym (f refl)
 same_tests false true f g = g refl
 same_tests false false f g = refl
 
--- a live task owes nothing where it did not propose for the phase it stands at, or that phase is settled
-pub owes_nothing_is : (l : Limits) (ops : List Op) (h : List Event) → is_legal l ops h ≡ true → (t : ℕ) → is_live t h ≡ true
+-- a task owes nothing where it did not propose for the phase it stands at, or that phase is settled
+pub owes_nothing_is : (l : Limits) (ops : List Op) (h : List Event) → is_legal l ops h ≡ true → (t : ℕ)
     → owes_nothing t h ≡ (not (has_proposed t (waits t h) h) || is_settled (waits t h) h)
-owes_nothing_is l ops h k t live =
+owes_nothing_is l ops h k t =
     let w = waits t h in
     same_tests (owes_nothing t h) (not (has_proposed t w h) || is_settled w h)
     (λ e. implies (has_proposed t w h) (is_settled w h) (λ s. owes_nothing_settled t w h e s))
     (λ e. owes_none_from t h (proposals h) (λ p s.
-    let g = own_phase l ops h k t p live s in
+    let g = own_phase l ops h k t p s in
     elim (cases_lt p (waits t h)) [
       | inl less ↦ g.1 less
       | inr most ↦

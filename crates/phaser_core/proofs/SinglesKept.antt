@@ -198,7 +198,7 @@ module _ (l : Limits) (ops : List Op) (h : List Event) (legal : is_legal l ops h
   may_propose (Some x) t k live signaller may behind =
       elim (cases_lt x.phase (signals t h)) [
         | inl less ↦
-            let settled : is_settled x.phase h ≡ true = settled_behind l ops h legal t x.phase live (single_waits t h may) (subst (λ n. x.phase < n) behind less) in
+            let settled : is_settled x.phase h ≡ true = settled_behind l ops h legal t x.phase (single_waits t h may) (subst (λ n. x.phase < n) behind less) in
             let done : is_done x.phase h ≡ true = implied (is_proposed x.phase h) (is_done x.phase h) settled (last_is_proposed x k) in
             inr (shut (is_open_stage x.stage) (sym (stage_done x.stage x.phase k.stage) ∙ done), less)
         | inr least ↦ inl (omega (arith, least, last_within x t k live signaller))

@@ -27,7 +27,7 @@ the_debt c =
     let t = c.args.task in
     let f = the_found c in
     let w = waits t s.past in
-    owes_nothing_is s.limits s.ops s.past c.requires.legal t f.live
+    owes_nothing_is s.limits s.ops s.past c.requires.legal t
     ∙ (unless (has_proposed t w s.past) (is_settled w s.past)
     ∙ rw (settled_is s.limits s.ops s.past c.requires.legal c.args.single w c.requires.last, found_phase s.past t c.in-Some.entry f, found_proposed s.past t c.in-Some.entry f) refl)
 
