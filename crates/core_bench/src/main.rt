@@ -4,11 +4,12 @@
 mod calls;
 mod job;
 mod kind;
+mod words;
 
 use calls::calls_on_all;
-use job::job_of;
 use std::env;
 use std::process::ExitCode;
+use words::job_of;
 
 /// What is told where the words are bad.
 const USAGE: &str =

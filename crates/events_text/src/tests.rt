@@ -1,7 +1,7 @@
-//! The places at which texts are refused, and what is read where they are not.
+//! The places at which texts are refused, what is read where they are not, and the lines of replies.
 use super::*;
-use phase_model::Op;
-use phase_modes::{Limits, Mode};
+use phase_model::{Look, Op};
+use phase_modes::{Limits, Mode, Refusal};
 use std::test::Fail;
 
 /// The place of the text's first fault; none where it is of the form.
@@ -215,5 +215,26 @@ fn contents(rt: HostRuntime) -> Result<(), Fail> {
         Call::Drop(6),
     ];
     assert_eq!(rt; file.calls.as_slice(), calls.as_slice());
+    Ok(())
+}
+
+#[test]
+fn lines_of_replies(rt: HostRuntime) -> Result<(), Fail> {
+    let lines = [
+        (Reply::Done, "ok"),
+        (Reply::Phase(3), "ok phase 3"),
+        (Reply::Claim(7), "claim 7"),
+        (Reply::Saw(Look::Value(-5)), "value -5"),
+        (Reply::Saw(Look::Nothing), "none"),
+        (Reply::NotYet, "not yet"),
+        (
+            Reply::Refused(Refusal::HistoryFull),
+            "refused 15 HistoryFull",
+        ),
+    ];
+    for (reply, line) in lines {
+        let text = reply.to_string(rt.alloc())?;
+        assert_eq!(rt; text.as_str(), line);
+    }
     Ok(())
 }
