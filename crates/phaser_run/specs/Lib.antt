@@ -1,4 +1,5 @@
 pub mod Ends
+pub mod File
 pub mod Input
 pub mod Outcomes
 pub mod Words
