@@ -1,4 +1,4 @@
--- What the notes that a finish keeps beside its history stand for.
+-- What the fields that a finish keeps beside its history stand for.
 use Rattle.std.specs.Prelude.{ℕ, ◌≡◌, ◌≤◌, ◌+◌, Bool, true, false, if◌then◌else◌, List, [], ◌∷◌, length, slice_index_or, count_by}
 use Rattle.std.specs.List.{list_any}
 use Rattle.finish_core.specs.declared.event.FinishEvent.{FinishEvent}
@@ -21,8 +21,9 @@ frame_events Shut = 2
 abbrev pub ones : List Bool → ℕ
 ones bits = count_by (λ b. b) bits
 
--- the notes tell of each task number whether it was spawned and whether it has ended, and how many tasks have not ended; and the history is no longer than they say
-pub record Stands (tasks : ℕ) (stage : Stage) (spawned ended : List Bool) (running : ℕ) (past : List FinishEvent) : Type 0 where
+-- the bits of each task number say whether it was spawned and whether it has ended, the count says how many tasks have
+-- not ended, and the history is as long as they say
+pub record IsFinishState (tasks : ℕ) (stage : Stage) (spawned ended : List Bool) (running : ℕ) (past : List FinishEvent) : Type 0 where
   pub least : 1 ≤ tasks
   pub most : tasks ≤ 4096
   pub legal : is_legal_finish tasks past ≡ true

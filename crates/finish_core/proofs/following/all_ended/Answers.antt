@@ -6,7 +6,7 @@ use Rattle.std.proofs.lemmas.Iterator.Search.{all_from_yields_List}
 use Rattle.finish_core.specs.declared.event.FinishEvent.{FinishEvent}
 use Rattle.finish_core.specs.Finish.{spawned_by, has_ended}
 use Rattle.finish_core.proofs.Past.{list_all-reverse, list_all-filter_map}
-use Rattle.finish_core.proofs.plain.all_ended.Goals as goal
+use Rattle.finish_core.proofs.following.all_ended.Goals as goal
 
 pub returns : goal.returns
 returns c =

@@ -4,7 +4,7 @@ use Rattle.std.proofs.lemmas.Iterator.{YieldsList-from_slice}
 use Rattle.std.proofs.lemmas.Iterator.Search.{any_from_yields_List}
 use Rattle.finish_core.specs.Finish.{ends}
 use Rattle.finish_core.proofs.Past.{list_any-reverse}
-use Rattle.finish_core.proofs.plain.has_ended.Goals as goal
+use Rattle.finish_core.proofs.following.has_ended.Goals as goal
 
 pub returns : goal.returns
 returns c =

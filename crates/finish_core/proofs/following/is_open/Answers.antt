@@ -8,7 +8,7 @@ use Rattle.std.proofs.lemmas.Iterator.Search.{any_from_yields_List}
 use Rattle.finish_core.specs.declared.event.FinishEvent.{FinishEvent}
 use Rattle.finish_core.specs.Finish.{shuts, is_open}
 use Rattle.finish_core.proofs.Past.{list_any-reverse}
-use Rattle.finish_core.proofs.plain.is_open.Goals as goal
+use Rattle.finish_core.proofs.following.is_open.Goals as goal
 
 -- a history with events is open where none of them shuts it
 open_with_events : (h : List FinishEvent) → (length h ≡ 0 → ⊥) → is_open h ≡ not (list_any shuts h)

@@ -6,7 +6,7 @@ use Rattle.std.proofs.lemmas.Iterator.Search.{any_from_yields_List}
 use Rattle.finish_core.specs.declared.event.FinishEvent.{FinishEvent}
 use Rattle.finish_core.specs.Finish.{spawned_by}
 use Rattle.finish_core.proofs.Past.{list_any-reverse, list_any-filter_map}
-use Rattle.finish_core.proofs.plain.is_spawned.Goals as goal
+use Rattle.finish_core.proofs.following.is_spawned.Goals as goal
 
 pub returns : goal.returns
 returns c =
