@@ -8,7 +8,8 @@ use Rattle.std.proofs.lemmas.List.Elements.{filter-append}
 use Rattle.phase_model.specs.declared.event.Event.TheVariants.{Drop}
 use Rattle.phase_model.specs.Tasks.{live_tasks}
 use Rattle.phase_model.specs.Rules.{Story, with_event}
-use Rattle.phase_model.specs.Replies.{reply, done, drop_task}
+use Rattle.phase_model.specs.declared.call.Call.TheVariants.{Drop as drop_task}
+use Rattle.phase_model.specs.Replies.{reply, done}
 use Rattle.phase_model.proofs.LiveTasks.{has, Apart, live_apart, live_tasks-drop}
 use Rattle.single_state.specs.declared.statement.Statement.{Statement}
 use Rattle.phaser_core.specs.declared.table.Entry.{Entry}

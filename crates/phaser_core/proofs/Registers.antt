@@ -10,9 +10,12 @@ use Rattle.phase_modes.specs.Reg.{child_reg}
 use Rattle.phase_model.specs.declared.event.Event.{Event}
 use Rattle.phase_model.specs.declared.event.Event.TheVariants.{Reg as Joined}
 use Rattle.phase_model.specs.Tasks.{is_live, is_registered, has_mode, live_count}
-use Rattle.phase_model.specs.Rules.{Story, has_room, is_legal, is_within_task}
+use Rattle.phase_model.specs.Conditions.{is_within_task}
+use Rattle.phase_model.specs.Rules.{Story, has_room, is_legal}
 use Rattle.phase_modes.specs.Refusal.{first_refusal}
-use Rattle.phase_model.specs.Replies.{reply, refused, settled, causes, register}
+use Rattle.phase_model.specs.declared.call.Call.TheVariants.{Register as register}
+use Rattle.phase_model.specs.Conditions.{conditions}
+use Rattle.phase_model.specs.Replies.{reply, refused, settled}
 use Rattle.phase_model.specs.Phases.{waits, signals}
 use Rattle.phase_model.proofs.Replied.{reply_by}
 use Rattle.phase_model.proofs.Legal.{parent_signals}
@@ -93,5 +96,5 @@ module _ (s : Story) (q t : ℕ) (m : Mode) where
 
           pub free : nat_lt (live_count s.past) s.limits.regs ≡ true → reply s (register q t m) ≡ settled None false (has_room s.limits (Joined q t m ∷ s.past)) (Joined q t m)
           free a =
-              let none : first_refusal (causes s.limits s.ops s.past (register q t m)) ≡ None = rw (live, within, fits, fresh, a) refl in
+              let none : first_refusal (conditions s.limits s.ops s.past (register q t m)) ≡ None = rw (live, within, fits, fresh, a) refl in
               reply_by s (register q t m) None false (Joined q t m) none refl refl

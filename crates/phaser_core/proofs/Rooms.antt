@@ -9,7 +9,8 @@ use Rattle.phase_model.specs.Tasks.{is_live, has_mode, is_registered, live_count
 use Rattle.phase_model.specs.Phases.{signals}
 use Rattle.phase_model.specs.Singles.{reserve}
 use Rattle.phase_model.specs.Rules.{Story, is_permitted, has_room}
-use Rattle.phase_model.specs.Replies.{Call, reply, done}
+use Rattle.phase_model.specs.declared.call.Call.{Call}
+use Rattle.phase_model.specs.Replies.{reply, done}
 use Rattle.phase_model.proofs.Replied.{done_is_allowed}
 use Rattle.phase_model.proofs.LiveTasks.{live_tasks-reg}
 use Rattle.single_state.specs.declared.statement.Statement.{Statement}

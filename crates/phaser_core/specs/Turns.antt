@@ -7,7 +7,8 @@ use Rattle.phase_model.specs.declared.event.Event.TheVariants.{Claim, Pass}
 use Rattle.phase_model.specs.Phases.{waits}
 use Rattle.phase_model.specs.Singles.{number_of}
 use Rattle.phase_model.specs.Rules.{Story}
-use Rattle.phase_model.specs.Replies.{reply, not_yet, done, pass}
+use Rattle.phase_model.specs.declared.call.Call.TheVariants.{Pass as pass}
+use Rattle.phase_model.specs.Replies.{reply, not_yet, done}
 use Rattle.single_state.specs.declared.statement.Statement.{Statement}
 use Rattle.single_state.specs.Single.{is_mismatch, proposed, is_claimable, claimed}
 use Rattle.phaser_core.specs.declared.table.Entry.{Entry}

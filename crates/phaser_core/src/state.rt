@@ -6,14 +6,14 @@ ghost use Rattle.phase_model.specs.Ordering.{IsOrdered};
 ghost use Rattle.phase_model.specs.Phases.{is_closed};
 ghost use Rattle.phase_model.specs.Rules.{is_full, is_legal};
 ghost use Rattle.phase_model.specs.Values.{fold, sent};
-ghost use Rattle.phase_model.specs.Replies.{reply, after, done_result, make, register, signal, pass, single_done, send, look, drop_task};
+ghost use Rattle.phase_model.specs.declared.call.Call.TheVariants.{Make as make, Register as register, Signal as signal, Pass as pass, SingleDone as single_done, Send as send, Look as look, Drop as drop_task};
+ghost use Rattle.phase_model.specs.Replies.{reply, after, done_result};
 ghost use Rattle.phaser_core.specs.Answers.{pass_result, look_result};
 
-use crate::members::{may_drop, may_make, may_register};
 use crate::room::has_room;
 use crate::table::{Entry, is_closed};
-use crate::turns::{Turn, may_pass, may_report, may_signal, passed, signalled};
-use crate::values::{may_look, may_send};
+use crate::turns::{Turn, passed, signalled};
+use crate::view::View;
 use acc_cells::Cells;
 use phase_model::{Event, History, Look, Ops};
 use phase_modes::{Limits, Mode, Refusal, Reg};
@@ -37,10 +37,15 @@ pub enum Passing {
 /// that was done. Contracts see the history.
 #[derive(Drop)]
 pub struct PhaserState {
+    /// A row for each task that is registered now.
     table: Vec<Entry>,
+    /// Of each task number, whether it was ever registered.
     known: Vec<bool>,
+    /// The last proposed single.
     single: Single,
+    /// What was sent to each accumulator, by phase.
     cells: Cells,
+    /// All that was done.
     history: History,
 }
 
@@ -64,18 +69,10 @@ impl PhaserState {
         ensures empty { IfOk result (λ p. p ≡ record { limits = limits; ops = ops; past = [] }) }
         ensures memory { IfErr result (λ r. r ≡ Refusal.Memory) }
     {
-        let Ok(table) = Vec::with_capacity(alloc, limits.regs as usize) else {
-            return Err(Refusal::Memory);
-        };
-        let Ok(known) = vec![in alloc; false; limits.tasks as usize] else {
-            return Err(Refusal::Memory);
-        };
-        let Ok(cells) = Cells::new(alloc, ops, limits.history) else {
-            return Err(Refusal::Memory);
-        };
-        let Ok(history) = History::new(alloc, limits, ops) else {
-            return Err(Refusal::Memory);
-        };
+        let table = Vec::with_capacity(alloc, limits.regs as usize)?;
+        let known = vec![in alloc; false; limits.tasks as usize]?;
+        let cells = Cells::new(alloc, ops, limits.history)?;
+        let history = History::new(alloc, limits, ops)?;
         Ok(PhaserState {
             table,
             known,
@@ -92,16 +89,17 @@ impl PhaserState {
         ensures reply { result ≡ done_result (reply self.old (make task mode)) }
         ensures history { self.new ≡ after self.old (reply self.old (make task mode)) }
     {
-        may_make(&self.table, self.single, &self.history, task, mode)?;
+        let view = View {
+            table: &self.table,
+            single: self.single,
+            history: &self.history,
+        };
+        view.may_make(task, mode)?;
         self.history.add(Event::Make(task, mode));
         self.known[task as usize] = true;
         self.table.push_reserved(Entry {
             task,
-            reg: Reg {
-                mode,
-                phase: 0,
-                ahead: false,
-            },
+            reg: Reg::maker(mode),
             proposed: false,
         });
         Ok(())
@@ -116,15 +114,12 @@ impl PhaserState {
         ensures reply { result ≡ done_result (reply self.old (register parent child mode)) }
         ensures history { self.new ≡ after self.old (reply self.old (register parent child mode)) }
     {
-        let reg = may_register(
-            &self.table,
-            self.single,
-            &self.known,
-            &self.history,
-            parent,
-            child,
-            mode,
-        )?;
+        let view = View {
+            table: &self.table,
+            single: self.single,
+            history: &self.history,
+        };
+        let reg = view.may_register(&self.known, parent, child, mode)?;
         self.history.add(Event::Reg(parent, child, mode));
         self.known[child as usize] = true;
         self.table.push_reserved(Entry {
@@ -143,7 +138,12 @@ impl PhaserState {
         ensures reply { result ≡ done_result (reply self.old (signal task number)) }
         ensures history { self.new ≡ after self.old (reply self.old (signal task number)) }
     {
-        let (i, single) = may_signal(&self.table, self.single, &self.history, task, number)?;
+        let view = View {
+            table: &self.table,
+            single: self.single,
+            history: &self.history,
+        };
+        let (i, single) = view.may_signal(task, number)?;
         self.history.add(Event::Sig(task, number));
         self.single = single;
         self.table[i] = signalled(self.table[i], number);
@@ -160,7 +160,12 @@ impl PhaserState {
         ensures reply { result ≡ pass_result self.old.past (reply self.old (pass task)) }
         ensures history { self.new ≡ after self.old (reply self.old (pass task)) }
     {
-        match may_pass(&self.table, self.single, &self.history, task)? {
+        let view = View {
+            table: &self.table,
+            single: self.single,
+            history: &self.history,
+        };
+        match view.may_pass(task)? {
             Turn::Waits => Ok(Passing::NotYet),
             Turn::Claims(single, number) => {
                 self.history.add(Event::Claim(task));
@@ -182,7 +187,12 @@ impl PhaserState {
         ensures reply { result ≡ done_result (reply self.old (single_done task)) }
         ensures history { self.new ≡ after self.old (reply self.old (single_done task)) }
     {
-        let single = may_report(&self.table, self.single, &self.history, task)?;
+        let view = View {
+            table: &self.table,
+            single: self.single,
+            history: &self.history,
+        };
+        let single = view.may_report(task)?;
         self.history.add(Event::Did(task));
         self.single = single;
         Ok(())
@@ -195,14 +205,12 @@ impl PhaserState {
         ensures reply { result ≡ done_result (reply self.old (send task accumulator value)) }
         ensures history { self.new ≡ after self.old (reply self.old (send task accumulator value)) }
     {
-        let phase = may_send(
-            &self.table,
-            self.single,
-            &self.history,
-            task,
-            accumulator,
-            value,
-        )?;
+        let view = View {
+            table: &self.table,
+            single: self.single,
+            history: &self.history,
+        };
+        let phase = view.may_send(task, accumulator, value)?;
         self.history.add(Event::Send(task, accumulator, value));
         self.cells.send(accumulator, phase, value);
         Ok(())
@@ -216,14 +224,12 @@ impl PhaserState {
         ensures reply { result ≡ look_result (reply self.old (look task accumulator)) }
         ensures history { self.new ≡ after self.old (reply self.old (look task accumulator)) }
     {
-        let seen = may_look(
-            &self.table,
-            self.single,
-            &self.cells,
-            &self.history,
-            task,
-            accumulator,
-        )?;
+        let view = View {
+            table: &self.table,
+            single: self.single,
+            history: &self.history,
+        };
+        let seen = view.may_look(&self.cells, task, accumulator)?;
         self.history.add(Event::Look(task, accumulator, seen));
         Ok(seen)
     }
@@ -236,7 +242,12 @@ impl PhaserState {
         ensures reply { result ≡ done_result (reply self.old (drop_task task)) }
         ensures history { self.new ≡ after self.old (reply self.old (drop_task task)) }
     {
-        let i = may_drop(&self.table, self.single, &self.history, task)?;
+        let view = View {
+            table: &self.table,
+            single: self.single,
+            history: &self.history,
+        };
+        let i = view.may_drop(task)?;
         self.history.add(Event::Drop(task));
         let _gone = self.table.remove(i);
         Ok(())

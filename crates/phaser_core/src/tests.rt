@@ -1,9 +1,9 @@
-//! A phaser called from outside: each call is a row of a table beside its answer, and the state that
-//! the calls leave is compared with the plain functions over its history.
+//! A phaser called from outside: each call is a row of a table beside its reply, and the state that the
+//! calls leave is compared with the plain functions over its history.
 use super::*;
 use phase_model::{
-    Event, History, Look, Op, Ops, allowed, claimed, closed, did, explain, fold, live, proposed,
-    signals, waits,
+    Call, Event, History, Look, Op, Ops, Reply, allowed, claimed, closed, did, explain, fold, live,
+    proposed, signals, waits,
 };
 use phase_modes::{Limits, Mode, Refusal};
 use std::alloc::Global;
@@ -13,67 +13,6 @@ mod examples;
 mod generator;
 mod peer;
 mod side_by_side;
-
-/// A call on a phaser, with what it is given.
-#[derive(Clone, Copy, Debug, PartialEq, Eq)]
-enum Call {
-    Make(u32, Mode),
-    Register(u32, u32, Mode),
-    Signal(u32, Option<u32>),
-    Pass(u32),
-    SingleDone(u32),
-    Send(u32, u8, i32),
-    Look(u32, u8),
-    DropTask(u32),
-}
-
-/// What a call is answered.
-#[derive(Clone, Copy, Debug, PartialEq, Eq)]
-enum Answer {
-    Done,
-    Passed(u32),
-    Claimed(u32),
-    NotYet,
-    Saw(Look),
-    Refused(Refusal),
-}
-
-fn plainly(told: Result<(), Refusal>) -> Answer {
-    match told {
-        Ok(()) => Answer::Done,
-        Err(refusal) => Answer::Refused(refusal),
-    }
-}
-
-fn turned(told: Result<Passing, Refusal>) -> Answer {
-    match told {
-        Ok(Passing::Passed(phase)) => Answer::Passed(phase),
-        Ok(Passing::Claimed(number)) => Answer::Claimed(number),
-        Ok(Passing::NotYet) => Answer::NotYet,
-        Err(refusal) => Answer::Refused(refusal),
-    }
-}
-
-fn looked(told: Result<Look, Refusal>) -> Answer {
-    match told {
-        Ok(seen) => Answer::Saw(seen),
-        Err(refusal) => Answer::Refused(refusal),
-    }
-}
-
-/// Makes the call on the phaser.
-fn answer_to(state: &mut PhaserState, call: Call) -> Answer {
-    match call {
-        Call::Make(task, mode) => plainly(state.make(task, mode)),
-        Call::Register(parent, child, mode) => plainly(state.register(parent, child, mode)),
-        Call::Signal(task, number) => plainly(state.signal(task, number)),
-        Call::Pass(task) => turned(state.pass(task)),
-        Call::SingleDone(task) => plainly(state.single_done(task)),
-        Call::Send(task, accumulator, value) => plainly(state.send(task, accumulator, value)),
-        Call::Look(task, accumulator) => looked(state.look(task, accumulator)),
-        Call::DropTask(task) => plainly(state.drop_task(task)),
-    }
-}
 
 /// The default limits, but for the events of a history and the registrations at once.
 fn limits_with(history: u32, regs: u32) -> Limits {
@@ -103,17 +42,17 @@ fn fresh(alloc: Global, limits: Limits, ops: Ops) -> Result<PhaserState, Refusal
     PhaserState::new(alloc, limits, ops)
 }
 
-/// The phaser that these calls leave, each answered as its row says.
+/// The phaser that these calls leave, each with the reply of its row.
 fn play(
     rt: &impl Abort,
     alloc: Global,
     limits: Limits,
     ops: Ops,
-    rows: &[(Call, Answer)],
+    rows: &[(Call, Reply)],
 ) -> Result<PhaserState, Refusal> {
     let mut state = fresh(alloc, limits, ops)?;
     for (call, expected) in rows {
-        assert_eq!(rt; answer_to(&mut state, *call), *expected, "{call:?}");
+        assert_eq!(rt; state.apply(*call), *expected, "{call:?}");
     }
     agrees_with_plain(rt, &state);
     Ok(state)

@@ -2,14 +2,17 @@
 //! Nothing is changed here.
 ghost use Rattle.std.specs.Prelude.{◌≡◌, ◌<◌, ◌+◌, ◌&&◌, ◌||◌, not, is_some, Some, slice_get, IfOk, IfErr, IfSome, MatchOption, ◌∷◌, false, true};
 ghost use Rattle.phase_modes.specs.Mode.{can_single};
-ghost use Rattle.phase_model.specs.Replies.{reply, refused, done, signal, pass, single_done};
+ghost use Rattle.phase_modes.specs.Reg.{signalled_reg, passed_reg};
+ghost use Rattle.phase_model.specs.declared.call.Call.TheVariants.{Signal as signal, Pass as pass, SingleDone as single_done};
+ghost use Rattle.phase_model.specs.Replies.{reply, refused, done};
 ghost use Rattle.single_state.specs.Single.{MayPropose};
-ghost use Rattle.phaser_core.specs.Table.{Stands, TellsSingle, entry_of};
+ghost use Rattle.phaser_core.specs.Table.{TellsSingle, entry_of};
 ghost use Rattle.phaser_core.specs.Turns.{proposing, claiming, IsTurn};
 
 use crate::room::has_room;
 use crate::table::{Entry, find, has_to_wait, is_closed, owes_signal};
-use phase_model::{Event, History};
+use crate::view::View;
+use phase_model::Event;
 use phase_modes::{Mode, Refusal, Reg};
 use single_state::Single;
 
@@ -32,39 +35,34 @@ fn with_proposal(single: Single, phase: u32, number: Option<u32>) -> Result<Sing
     Ok(after)
 }
 
-/// Where the line of a task stands that may signal, and the last single after that.
-pub fn may_signal(
-    table: &[Entry],
-    single: Single,
-    history: &History,
-    task: u32,
-    number: Option<u32>,
-) -> Result<(usize, Single), Refusal>
-    requires { Stands history.now table.now single }
-    ensures refused { IfErr result (λ r. reply history.now (signal task number) ≡ refused r) }
-    ensures done { IfOk result (λ x. reply history.now (signal task number) ≡ done (Event.Sig task number)) }
-    ensures place { IfOk result (λ x. slice_get table.now x.0 ≡ Some (entry_of history.now.past task)) }
-    ensures single { IfOk result (λ x. TellsSingle x.1 (Event.Sig task number ∷ history.now.past)) }
-{
-    let Some((i, entry)) = find(table, task) else {
-        return Err(Refusal::NotRegistered);
-    };
-    if !entry.reg.mode.can_signal() {
-        return Err(Refusal::NoSignal);
+impl View<'_> {
+    /// Where the line of a task stands that may signal, and the last single after that.
+    pub fn may_signal(&self, task: u32, number: Option<u32>) -> Result<(usize, Single), Refusal>
+        ensures refused { IfErr result (λ r. reply self.now.history.now (signal task number) ≡ refused r) }
+        ensures done { IfOk result (λ x. reply self.now.history.now (signal task number) ≡ done (Event.Sig task number)) }
+        ensures place { IfOk result (λ x. slice_get self.now.table.now x.0 ≡ Some (entry_of self.now.history.now.past task)) }
+        ensures single { IfOk result (λ x. TellsSingle x.1 (Event.Sig task number ∷ self.now.history.now.past)) }
+    {
+        let Some((i, entry)) = find(self.table, task) else {
+            return Err(Refusal::NotRegistered);
+        };
+        if !entry.reg.mode.can_signal() {
+            return Err(Refusal::NoSignal);
+        }
+        if is_no_single(entry.reg.mode, number) {
+            return Err(Refusal::NoSingle);
+        }
+        if entry.reg.ahead {
+            return Err(Refusal::AlreadySignalled);
+        }
+        let Ok(after) = with_proposal(self.single, entry.reg.phase, number) else {
+            return Err(Refusal::SingleMismatch);
+        };
+        if !has_room(self.history, self.table.len(), after.reserve()) {
+            return Err(Refusal::HistoryFull);
+        }
+        Ok((i, after))
     }
-    if is_no_single(entry.reg.mode, number) {
-        return Err(Refusal::NoSingle);
-    }
-    if entry.reg.ahead {
-        return Err(Refusal::AlreadySignalled);
-    }
-    let Ok(after) = with_proposal(single, entry.reg.phase, number) else {
-        return Err(Refusal::SingleMismatch);
-    };
-    if !has_room(history, table.len(), after.reserve()) {
-        return Err(Refusal::HistoryFull);
-    }
-    Ok((i, after))
 }
 
 /// How a task's turn goes on.
@@ -95,73 +93,55 @@ fn with_claim(table: &[Entry], single: Single, entry: Entry) -> Option<Single>
     }
 }
 
-/// How the task's turn goes on.
-pub fn may_pass(
-    table: &[Entry],
-    single: Single,
-    history: &History,
-    task: u32,
-) -> Result<Turn, Refusal>
-    requires { Stands history.now table.now single }
-    ensures refused { IfErr result (λ r. reply history.now (pass task) ≡ refused r) }
-    ensures turn { IfOk result (IsTurn history.now table.now task) }
-{
-    let Some((i, entry)) = find(table, task) else {
-        return Err(Refusal::NotRegistered);
-    };
-    if owes_signal(entry.reg) {
-        return Err(Refusal::NotSignalled);
+impl View<'_> {
+    /// How the task's turn goes on.
+    pub fn may_pass(&self, task: u32) -> Result<Turn, Refusal>
+        ensures refused { IfErr result (λ r. reply self.now.history.now (pass task) ≡ refused r) }
+        ensures turn { IfOk result (IsTurn self.now.history.now self.now.table.now task) }
+    {
+        let Some((i, entry)) = find(self.table, task) else {
+            return Err(Refusal::NotRegistered);
+        };
+        if owes_signal(entry.reg) {
+            return Err(Refusal::NotSignalled);
+        }
+        if let Some(after) = with_claim(self.table, self.single, entry) {
+            let number = self.single.number(entry.reg.phase).unwrap_or(0);
+            return Ok(Turn::Claims(after, number));
+        }
+        if has_to_wait(self.table, self.single, entry.reg) {
+            return Ok(Turn::Waits);
+        }
+        if !has_room(self.history, self.table.len(), self.single.reserve()) {
+            return Err(Refusal::HistoryFull);
+        }
+        Ok(Turn::Passes(i, entry.reg))
     }
-    if let Some(after) = with_claim(table, single, entry) {
-        let number = single.number(entry.reg.phase).unwrap_or(0);
-        return Ok(Turn::Claims(after, number));
-    }
-    if has_to_wait(table, single, entry.reg) {
-        return Ok(Turn::Waits);
-    }
-    if !has_room(history, table.len(), single.reserve()) {
-        return Err(Refusal::HistoryFull);
-    }
-    Ok(Turn::Passes(i, entry.reg))
-}
 
-/// The last single after a task's report that may report.
-pub fn may_report(
-    table: &[Entry],
-    single: Single,
-    history: &History,
-    task: u32,
-) -> Result<Single, Refusal>
-    requires { Stands history.now table.now single }
-    ensures refused { IfErr result (λ r. reply history.now (single_done task) ≡ refused r) }
-    ensures done { IfOk result (λ x. reply history.now (single_done task) ≡ done (Event.Did task)) }
-    ensures single { IfOk result (λ x. TellsSingle x (Event.Did task ∷ history.now.past)) }
-{
-    let Some((_, entry)) = find(table, task) else {
-        return Err(Refusal::NotRegistered);
-    };
-    let mut after = single;
-    match after.done(entry.task) {
-        Ok(()) => Ok(after),
-        Err(_) => Err(Refusal::NotNow),
+    /// The last single after a task's report that may report.
+    pub fn may_report(&self, task: u32) -> Result<Single, Refusal>
+        ensures refused { IfErr result (λ r. reply self.now.history.now (single_done task) ≡ refused r) }
+        ensures done { IfOk result (λ x. reply self.now.history.now (single_done task) ≡ done (Event.Did task)) }
+        ensures single { IfOk result (λ x. TellsSingle x (Event.Did task ∷ self.now.history.now.past)) }
+    {
+        let Some((_, entry)) = find(self.table, task) else {
+            return Err(Refusal::NotRegistered);
+        };
+        let mut after = self.single;
+        match after.done(entry.task) {
+            Ok(()) => Ok(after),
+            Err(_) => Err(Refusal::NotNow),
+        }
     }
 }
 
 /// A task's line after its signal.
 pub fn signalled(entry: Entry, number: Option<u32>) -> Entry
-    ensures { result ≡ record {
-      task = entry.task;
-      reg = record { mode = entry.reg.mode; phase = entry.reg.phase; ahead = true };
-      proposed = entry.proposed || is_some number;
-    } }
+    ensures { result ≡ record { task = entry.task; reg = signalled_reg entry.reg; proposed = entry.proposed || is_some number } }
 {
     Entry {
         task: entry.task,
-        reg: Reg {
-            mode: entry.reg.mode,
-            phase: entry.reg.phase,
-            ahead: true,
-        },
+        reg: entry.reg.signalled(),
         proposed: entry.proposed || number.is_some(),
     }
 }
@@ -169,15 +149,11 @@ pub fn signalled(entry: Entry, number: Option<u32>) -> Entry
 /// A task's line after its turn.
 pub fn passed(task: u32, reg: Reg) -> Entry
     requires { reg.phase < 65536 }
-    ensures { result ≡ record { task = task; reg = record { mode = reg.mode; phase = reg.phase + 1; ahead = false }; proposed = false } }
+    ensures { result ≡ record { task = task; reg = passed_reg reg; proposed = false } }
 {
     Entry {
         task,
-        reg: Reg {
-            mode: reg.mode,
-            phase: reg.phase + 1,
-            ahead: false,
-        },
+        reg: reg.passed(),
         proposed: false,
     }
 }
