@@ -1,4 +1,6 @@
-pub mod Applied
 pub mod Known
+pub mod Fronts
 pub mod Named
 pub mod Plain
+pub mod Spelled
+pub mod Told

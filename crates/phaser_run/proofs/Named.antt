@@ -1,12 +1,15 @@
 -- The file that the matches of the subcommand have is the one that the words name.
-use Rattle.std.proofs.Common.{◌≡◌, Bool, true, false, List, Option, None, Some, Box, if◌then◌else◌, option_map, codes, refl, sym, ap, ◌∙◌}
+use Rattle.std.proofs.Common.{◌≡◌, Bool, true, false, List, [], ◌∷◌, Option, None, Some, Box, if◌then◌else◌, option_map, codes, refl, sym, ap, ◌∙◌, inl, inr}
 use Rattle.std.specs.Str.{bytes_eq}
 use Rattle.std.specs.Prelude.{option_and_then}
-use Rattle.clap.specs.Words.{Row, Text, App, HasMatchesOf, app_of, first_value, found_of, is_simple, rows_of, subcommand_name_of, subcommand_of, subcommand_rows, subcommand_rows_of, takes}
+use Rattle.clap.specs.Words.{Row, Text, App, HasMatchesOf, app_of, first_value, found_of, is_simple, rows_of, subcommand_name_of, subcommand_of, subcommand_rows, subcommand_rows_of, fault_of, kind_of, HasKind, Kinds}
 use Rattle.clap.specs.declared.parser.matches.ArgMatches.{ArgMatches}
 use Rattle.clap.specs.declared.parser.matches.ArgMatches.TheViews.{out-ArgMatches, out-SubCommand}
 use Rattle.clap.specs.declared.parser.matches.SubCommand.{SubCommand}
 use Rattle.clap.specs.declared.builder.command.Command.{Command}
+use Rattle.clap.specs.declared.error.Error.{Error}
+use Rattle.clap.specs.declared.error.kind.ErrorKind.TheVariants.{OutOfMemory}
+use Rattle.phase_modes.specs.Lists.{is_empty}
 use Rattle.std.specs.Box.{box_value}
 use Rattle.std.proofs.lemmas.Slice.Eq.{bytes_eq-Decides}
 use Rattle.clap.proofs.WalkLemmas.{first_value-rows}
@@ -54,11 +57,29 @@ without_file true name rows e other = absurd (other ((bytes_eq-Decides name (cod
 pub other_file : (name : Text) (rows : List Row) → (name ≡ codes "events" → ⊥) → file_among (name, rows) ≡ None
 other_file name rows other = without_file (bytes_eq name (codes "events")) name rows refl other
 
--- words that name a job are taken, and name its file
-taken_of : (taken : Bool) (named : Option Text) (file : Text) → (if taken then named else None) ≡ Some file → (taken ≡ true) × (named ≡ Some file)
-taken_of true named file e = (refl, e)
-taken_of false named file e = cc
+-- words that name a job have no fault, and name its file
+faultless_of : (faults : Kinds) (named : Option Text) (file : Text) → (if is_empty faults then named else None) ≡ Some file → (faults ≡ []) × (named ≡ Some file)
+faultless_of [] named file e = (refl, e)
+faultless_of (k ∷ ks) named file e = cc
 
-pub job_named : (words : List Text) (file : Text) → job_in words ≡ Some file → (takes program_app words ≡ true) × (file_in words ≡ Some file)
+pub job_named : (words : List Text) (file : Text) → job_in words ≡ Some file → (fault_of program_app words ≡ []) × (file_in words ≡ Some file)
 unfolding job_in
-job_named words file e = taken_of (takes program_app words) (file_in words) file e
+job_named words file e = faultless_of (fault_of program_app words) (file_in words) file e
+
+-- words without a fault name the job of their file
+pub named_job : (words : List Text) → fault_of program_app words ≡ [] → job_in words ≡ file_in words
+unfolding job_in
+named_job words e = ap (λ faults. if is_empty faults then file_in words else None) e
+
+-- an error where no word is at fault is want of memory
+none_at_fault : (faults : Kinds) (e : Error) → faults ≡ [] → HasKind faults e → kind_of e ≡ OutOfMemory
+none_at_fault [] e none (inl memory) = memory
+none_at_fault [] e none (inr among) = absurd among
+none_at_fault (k ∷ ks) e none h = cc
+
+-- the program's command is simple, so its faults are known
+pub fault_at : (words : List Text) (command : Command) → app_of command ≡ program_app → fault_of (app_of command) words ≡ fault_of program_app words
+fault_at words command app = ap (λ (a : App). fault_of a words) app
+
+pub memory_alone : (words : List Text) (command : Command) (e : Error) → app_of command ≡ program_app → fault_of program_app words ≡ [] → HasKind (fault_of (app_of command) words) e → kind_of e ≡ OutOfMemory
+memory_alone words command e app none h = none_at_fault (fault_of (app_of command) words) e (fault_at words command app ∙ none) h

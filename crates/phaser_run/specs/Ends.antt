@@ -1,23 +1,39 @@
 -- How a job ends: its failures, their lines, and the statuses.
-use Rattle.std.specs.Prelude.{◌≡◌, ◌<◌, ℕ, List, length, Option, IfSome, codes, ⊤}
+use Rattle.std.specs.Prelude.{◌≡◌, ◌<◌, ◌++◌, ◌⊎◌, ℕ, List, length, take, Bool, true, Option, Ok, Err, IfSome, codes, ⊤}
+use Rattle.std.specs.Io.KnownBytes.{Appends}
+use Rattle.events_text.specs.Form.{Form}
 use Rattle.phase_modes.specs.declared.refusal.Refusal.TheVariants.{Memory, BadText}
 use Rattle.phase_modes.specs.Refusal.{refusal_text}
+use Rattle.phaser_run.specs.File.{file_spelled}
+use Rattle.phaser_run.specs.declared.failure.Ending.{Ending}
 use Rattle.phaser_run.specs.declared.failure.Failure.{Failure}
 use Rattle.phaser_run.specs.declared.failure.Failure.TheVariants.{Refused, Read, Write}
 use Rattle.phaser_run.specs.declared.failure.Status.{Status}
 use Rattle.phaser_run.specs.declared.failure.Status.TheVariants as statuses
 use Rattle.phaser_run.specs.declared.events.TheConstants.{MOST_BYTES}
 
--- the line that tells a failure, without the newline
-abbrev pub failure_text : Failure → List ℕ
-failure_text (Refused r) = refusal_text r
-failure_text Read = codes "fault read"
-failure_text Write = codes "fault write"
+-- the line that tells a failure, with its newline
+abbrev pub failure_line : Failure → List ℕ
+failure_line (Refused r) = refusal_text r ++ codes "\n"
+failure_line Read = codes "fault read\n"
+failure_line Write = codes "fault write\n"
 
 abbrev pub status_of : Failure → Status
 status_of (Refused r) = statuses.Refused
 status_of Read = statuses.Fault
 status_of Write = statuses.Fault
+
+-- a beginning of the text was appended, and where all of it was written, exactly the text
+abbrev pub AppendsFront : Bool → Option (List ℕ) → Option (List ℕ) → List ℕ → Type 0
+AppendsFront all old new text = ((n : ℕ) × Appends old new (take n text)) × (all ≡ true → Appends old new text)
+
+-- some failure has this status, and this is known of it; what was appended is its line, or where that was not told, a beginning of it
+abbrev pub Tells : (Failure → Type 0) → Ending → Option (List ℕ) → Option (List ℕ) → Type 0
+Tells Known e old new = (f : Failure) × (status_of f ≡ e.status) × Known f × AppendsFront e.told old new (failure_line f)
+
+-- the same of a status alone, which doesn't say whether the line was told
+abbrev pub TellsStatus : (Failure → Type 0) → Status → Option (List ℕ) → Option (List ℕ) → Type 0
+TellsStatus Known s old new = (told : Bool) × Tells Known (record { status = s; told = told }) old new
 
 -- the exit status of the process
 abbrev pub code_of : Status → ℕ
@@ -26,13 +42,13 @@ code_of statuses.Refused = 1
 code_of statuses.BadWords = 2
 code_of statuses.Fault = 3
 
--- answering a text that is in memory fails for want of memory, by the text or by a write
-abbrev pub IsOfAnswer : Failure → Type 0
-IsOfAnswer (Refused Memory) = ⊤
-IsOfAnswer (Refused (BadText p)) = ⊤
-IsOfAnswer (Refused _) = ⊥
-IsOfAnswer Read = ⊥
-IsOfAnswer Write = ⊤
+-- answering these bytes fails for want of memory, by their first fault, or by a write for a file that has none
+abbrev pub IsOfAnswer : List ℕ → Failure → Type 0
+IsOfAnswer bytes (Refused Memory) = ⊤
+IsOfAnswer bytes (Refused (BadText p)) = file_spelled bytes ≡ Err p
+IsOfAnswer bytes (Refused _) = ⊥
+IsOfAnswer bytes Read = ⊥
+IsOfAnswer bytes Write = (file : Form) × (file_spelled bytes ≡ Ok file)
 
 -- reading the whole of what a reader has left fails for want of memory, by a read, or because there are too many bytes
 abbrev pub IsOfReading : Option (List ℕ) → Failure → Type 0
@@ -41,3 +57,7 @@ IsOfReading all (Refused (BadText p)) = (p ≡ 0) × IfSome all (λ bytes. MOST_
 IsOfReading all (Refused _) = ⊥
 IsOfReading all Read = ⊤
 IsOfReading all Write = ⊥
+
+-- it is a failure of reading, or of answering the bytes that were read, which are all
+abbrev pub IsOfJob : Option (List ℕ) → Failure → Type 0
+IsOfJob all f = IsOfReading all f ⊎ ((bytes : List ℕ) × IfSome all (λ known. bytes ≡ known) × IsOfAnswer bytes f)

@@ -1,7 +1,12 @@
 -- What a clause says of each answer of reading.
-use Rattle.std.specs.Prelude.{ℕ, List, ⊤}
+use Rattle.std.specs.Prelude.{◌≡◌, ℕ, List, false, ⊤}
+use Rattle.phaser_run.specs.declared.input.Reads.{Reads}
 use Rattle.phaser_run.specs.declared.input.ReadAll.{ReadAll}
 use Rattle.phaser_run.specs.declared.input.ReadAll.TheVariants.{Bytes, TooLong, Fault, Memory}
+
+-- no read was made yet
+abbrev pub IsFresh : Reads → Type 0
+IsFresh reads = (reads.made ≡ 0) × (reads.failed ≡ false)
 
 -- P of the bytes, where there are bytes
 abbrev pub IfBytes : ReadAll → (List ℕ → Type 0) → Type 0

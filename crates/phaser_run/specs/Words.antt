@@ -2,7 +2,7 @@
 use Rattle.std.specs.Prelude.{List, [], ◌∷◌, Bool, true, not, ◌||◌, ◌==◌, if◌then◌else◌, Option, None, option_and_then, codes}
 use Rattle.std.specs.Str.{bytes_eq}
 use Rattle.phase_modes.specs.Lists.{is_empty}
-use Rattle.clap.specs.Words.{App, Row, Rule, Text, first_of, new_app, new_rule, subcommand_of, takes, with_rule, with_subcommand}
+use Rattle.clap.specs.Words.{App, Row, Rule, Text, fault_of, first_of, new_app, new_rule, subcommand_of, with_rule, with_subcommand}
 use Rattle.phaser_run.specs.declared.failure.Status.{Status}
 use Rattle.phaser_run.specs.declared.failure.Status.TheVariants as statuses
 use Rattle.phaser_run.specs.declared.words.Job.{Job}
@@ -18,10 +18,10 @@ file_rule = record (new_rule (codes "file")) { required = true; value_names = 1 
 abbrev pub events_app : App
 events_app = with_rule (new_app (codes "events")) file_rule
 
--- the program, which has to be given a subcommand, and has no subcommand `help`
+-- the program, which has a version, has to be given a subcommand, and has no subcommand `help`
 abbrev pub bare_app : App
 bare_app = record (new_app (codes "phaser_run")) {
-  top = record (new_app (codes "phaser_run")).top { subcommand_required = true; disable_help_subcommand = true };
+  top = record (new_app (codes "phaser_run")).top { has_version = true; subcommand_required = true; disable_help_subcommand = true };
 }
 
 abbrev pub program_app : App
@@ -35,9 +35,9 @@ file_among p = if bytes_eq p.0 (codes "events") then first_of (codes "file") p.1
 unfoldable pub file_in : List Text → Option Text
 file_in words = option_and_then file_among (subcommand_of program_app words)
 
--- FILE in words that are taken whole
+-- FILE in words that are the command's and no more: no step of their reading is at fault
 unfoldable pub job_in : List Text → Option Text
-job_in words = if takes program_app words then file_in words else None
+job_in words = if is_empty (fault_of program_app words) then file_in words else None
 
 -- it is `-`, or does not begin with a hyphen
 abbrev pub is_plain : Text → Bool

@@ -1,19 +1,19 @@
 //! Answers an events file: applies its calls in turn to one phaser, and writes a line for each.
-ghost use Rattle.std.specs.Prelude.{◌≡◌, ◌≢◌, Ok, Err, ℕ, List, map, ◌≤◌, length, OnOk, IfOk, IfErr, IfSome};
+ghost use Rattle.std.specs.Prelude.{◌≡◌, ◌≢◌, Ok, Err, map, true, OnOk, IfOk, IfErr, IfSome};
 ghost use Rattle.std.specs.Io.KnownBytes.{Appends, Keeps};
-ghost use Rattle.phase_model.specs.Replies.{reply, after, line, lines};
-ghost use Rattle.events_text.specs.Form.{Form, form_of, reading};
-ghost use Rattle.events_text.specs.Lines.{line_of, text_of, text_for};
-ghost use Rattle.events_text.specs.Reading.{call_view};
-ghost use Rattle.phaser_run.specs.Ends.{status_of, IsOfAnswer, IsOfReading};
-ghost use Rattle.phaser_run.specs.Outcomes.{done_line, passing_line, look_line};
+ghost use Rattle.phase_model.specs.Replies.{replies};
+ghost use Rattle.events_text.specs.Form.{Form};
+ghost use Rattle.events_text.specs.Lines.{text_of, text_for};
+ghost use Rattle.phaser_run.specs.Ends.{status_of, IsOfAnswer, IsOfJob, IsOfReading, Tells, TellsStatus};
+ghost use Rattle.phaser_run.specs.File.{file_spelled};
+ghost use Rattle.phaser_run.specs.Input.{IsFresh};
 
-use crate::failure::{Failure, Status};
-use crate::input::{ReadAll, read_all};
-use events_text::{Call, Reply, TextFault, read_events};
-use phase_model::Look;
+use crate::failure::{Ending, Failure, Status};
+use crate::input::{ReadAll, Reads, read_all};
+use events_text::read_events;
+use phase_model::Call;
 use phase_modes::Refusal;
-use phaser_core::{Passing, PhaserState};
+use phaser_core::PhaserState;
 use std::alloc::Global;
 use std::io;
 use std::io::{Read, Write};
@@ -21,90 +21,34 @@ use std::io::{Read, Write};
 /// How many bytes an events file has at most.
 pub const MOST_BYTES: usize = 1_048_576;
 
-/// What a call is answered that is done or refused.
-fn done_reply(outcome: Result<(), Refusal>) -> Reply
-    ensures { line_of result ≡ done_line outcome }
-{
-    match outcome {
-        Ok(()) => Reply::Done,
-        Err(refusal) => Reply::Refused(refusal),
-    }
-}
-
-/// What a `pass` is answered.
-fn passing_reply(outcome: Result<Passing, Refusal>) -> Reply
-    ensures { line_of result ≡ passing_line outcome }
-{
-    match outcome {
-        Ok(Passing::Passed(phase)) => Reply::Phase(phase),
-        Ok(Passing::Claimed(number)) => Reply::Claim(number),
-        Ok(Passing::NotYet) => Reply::NotYet,
-        Err(refusal) => Reply::Refused(refusal),
-    }
-}
-
-/// What a `look` is answered.
-fn look_reply(outcome: Result<Look, Refusal>) -> Reply
-    ensures { line_of result ≡ look_line outcome }
-{
-    match outcome {
-        Ok(seen) => Reply::Saw(seen),
-        Err(refusal) => Reply::Refused(refusal),
-    }
-}
-
-/// Applies a call.
-fn apply(state: &mut PhaserState, call: Call) -> Reply
-    ensures line { line_of result ≡ line state.old.past (reply state.old (call_view call)) }
-    ensures history { state.new ≡ after state.old (reply state.old (call_view call)) }
-{
-    match call {
-        Call::Make(task, mode) => done_reply(state.make(task, mode)),
-        Call::Register(parent, child, mode) => done_reply(state.register(parent, child, mode)),
-        Call::Signal(task, number) => done_reply(state.signal(task, number)),
-        Call::Pass(task) => passing_reply(state.pass(task)),
-        Call::SingleDone(task) => done_reply(state.single_done(task)),
-        Call::Send(task, accumulator, value) => done_reply(state.send(task, accumulator, value)),
-        Call::Look(task, accumulator) => look_reply(state.look(task, accumulator)),
-        Call::Drop(task) => done_reply(state.drop_task(task)),
-    }
-}
-
 /// Applies the calls in turn, and writes a line for each.
 fn write_replies<W: Write>(state: &mut PhaserState, calls: &[Call], out: &mut W) -> io::Result<()>
     ensures { OnOk result (Appends (W.contents out.old) (W.contents out.new)
-        (text_of (lines state.old (map call_view calls.now)))) }
+        (text_of (replies state.old calls.now))) }
 {
     for call in calls {
-        let reply = apply(state, *call);
+        let reply = state.apply(*call);
         writeln!(out, "{reply}")?;
     }
     out.flush()
 }
 
 /// Reads an events file, applies its calls in turn, and writes a line for each. The file is read
-/// whole before the first line is written.
+/// whole before the first line is written. More than 1,048,576 bytes are refused at place 0.
 pub fn answer<W: Write>(alloc: Global, input: &[u8], out: &mut W) -> Result<(), Failure>
     // Exactly the reply lines of the file's calls.
-    ensures done { OnOk result ((file : Form) × (form_of (reading input.now) ≡ Ok file)
+    ensures done { OnOk result ((file : Form) × (file_spelled input.now ≡ Ok file)
         × Appends (W.contents out.old) (W.contents out.new) (text_for file)) }
     // A refusal writes nothing.
     ensures refused { IfErr result (λ f. status_of f ≡ Status.Refused → Keeps (W.contents out.old) (W.contents out.new)) }
-    // A refused text is refused at its first fault.
-    ensures place { (p : ℕ) → result ≡ Err (Failure.Refused (Refusal.BadText p)) → form_of (reading input.now) ≡ Err p }
-    // Only a text that isn't refused is written for.
-    ensures fault { result ≡ Err Failure.Write → (file : Form) × (form_of (reading input.now) ≡ Ok file) }
-    // Nothing else is refused but for memory.
-    ensures kind { IfErr result IsOfAnswer }
+    // A text is refused at its first fault, and a write fails only for a text that has none.
+    ensures failure { IfErr result (IsOfAnswer input.now) }
 {
-    let file = match read_events(alloc, input) {
-        Ok(file) => file,
-        Err(TextFault::Memory) => return Err(Failure::Refused(Refusal::Memory)),
-        Err(TextFault::At(place)) => return Err(Failure::Refused(Refusal::BadText(place))),
-    };
-    let Ok(mut state) = PhaserState::new(alloc, file.limits, file.ops) else {
-        return Err(Failure::Refused(Refusal::Memory));
-    };
+    if input.len() > MOST_BYTES {
+        return Err(Failure::Refused(Refusal::BadText(0)));
+    }
+    let file = read_events(alloc, input)?;
+    let mut state = PhaserState::new(alloc, file.limits, file.ops)?;
     match write_replies(&mut state, &file.calls, out) {
         Ok(()) => Ok(()),
         Err(_) => Err(Failure::Write),
@@ -113,35 +57,58 @@ pub fn answer<W: Write>(alloc: Global, input: &[u8], out: &mut W) -> Result<(), 
 
 /// Answers an events file whose bytes are here. The line of a failure goes to `faults`; where it
 /// can't be written, the status stays what it is.
+pub fn ending_on<W: Write, F: Write>(
+    alloc: Global,
+    input: &[u8],
+    out: &mut W,
+    faults: &mut F,
+) -> Ending
+    ensures done { result.status ≡ Status.Done → (file : Form) × (file_spelled input.now ≡ Ok file)
+        × Appends (W.contents out.old) (W.contents out.new) (text_for file) }
+    ensures quiet { result.status ≡ Status.Done → Keeps (F.contents faults.old) (F.contents faults.new) }
+    ensures refused { result.status ≡ Status.Refused → Keeps (W.contents out.old) (W.contents out.new) }
+    ensures fault { result.status ≡ Status.Fault → (file : Form) × (file_spelled input.now ≡ Ok file) }
+    // What is told is the line of a failure of these bytes with this status.
+    ensures told { result.status ≢ Status.Done → Tells (IsOfAnswer input.now) result
+        (F.contents faults.old) (F.contents faults.new) }
+    ensures words { result.status ≢ Status.BadWords }
+{
+    match answer(alloc, input, out) {
+        Ok(()) => Ending {
+            status: Status::Done,
+            told: false,
+        },
+        Err(failure) => failure.end(alloc, faults),
+    }
+}
+
+/// The status of `ending_on`.
 pub fn events_on<W: Write, F: Write>(
     alloc: Global,
     input: &[u8],
     out: &mut W,
     faults: &mut F,
 ) -> Status
-    ensures done { result ≡ Status.Done → (file : Form) × (form_of (reading input.now) ≡ Ok file)
+    ensures done { result ≡ Status.Done → (file : Form) × (file_spelled input.now ≡ Ok file)
         × Appends (W.contents out.old) (W.contents out.new) (text_for file) }
     ensures quiet { result ≡ Status.Done → Keeps (F.contents faults.old) (F.contents faults.new) }
     ensures refused { result ≡ Status.Refused → Keeps (W.contents out.old) (W.contents out.new) }
-    ensures fault { result ≡ Status.Fault → (file : Form) × (form_of (reading input.now) ≡ Ok file) }
+    ensures fault { result ≡ Status.Fault → (file : Form) × (file_spelled input.now ≡ Ok file) }
+    ensures told { result ≢ Status.Done → TellsStatus (IsOfAnswer input.now) result
+        (F.contents faults.old) (F.contents faults.new) }
     ensures words { result ≢ Status.BadWords }
 {
-    match answer(alloc, input, out) {
-        Ok(()) => Status::Done,
-        Err(failure) => {
-            let _ = failure.tell(faults);
-            failure.status()
-        }
-    }
+    ending_on(alloc, input, out, faults).status
 }
 
 /// All bytes of the reader, which are no more than an events file may have.
-fn bytes_of<R: Read>(alloc: Global, reader: &mut R) -> Result<Vec<u8>, Failure>
-    ensures bytes { IfOk result (λ bytes. (length bytes.items ≤ MOST_BYTES)
-        × IfSome (R.remaining reader.old) (λ all. bytes.items ≡ all)) }
+fn bytes_of<R: Read>(alloc: Global, reader: &mut R, reads: &mut Reads) -> Result<Vec<u8>, Failure>
+    requires { IsFresh reads.old }
+    ensures bytes { IfOk result (λ bytes. IfSome (R.remaining reader.old) (λ all. bytes.items ≡ all)) }
+    ensures failed { reads.new.failed ≡ true → result ≡ Err Failure.Read }
     ensures failure { IfErr result (IsOfReading (R.remaining reader.old)) }
 {
-    match read_all(alloc, reader, MOST_BYTES) {
+    match read_all(alloc, reader, reads, MOST_BYTES) {
         ReadAll::Bytes(bytes) => Ok(bytes),
         ReadAll::TooLong => Err(Failure::Refused(Refusal::BadText(0))),
         ReadAll::Fault => Err(Failure::Read),
@@ -149,25 +116,49 @@ fn bytes_of<R: Read>(alloc: Global, reader: &mut R) -> Result<Vec<u8>, Failure>
     }
 }
 
-/// Answers the events file that the reader gives, as `events_on` does.
+/// Answers the events file that the reader gives, as `ending_on` does, and counts the reads.
+pub fn ending_from<R: Read, W: Write, F: Write>(
+    alloc: Global,
+    reader: &mut R,
+    reads: &mut Reads,
+    out: &mut W,
+    faults: &mut F,
+) -> Ending
+    requires { IsFresh reads.old }
+    ensures done { result.status ≡ Status.Done → IfSome (R.remaining reader.old) (λ all.
+        (file : Form) × (file_spelled all ≡ Ok file)
+        × Appends (W.contents out.old) (W.contents out.new) (text_for file)) }
+    ensures quiet { result.status ≡ Status.Done → Keeps (F.contents faults.old) (F.contents faults.new) }
+    ensures refused { result.status ≡ Status.Refused → Keeps (W.contents out.old) (W.contents out.new) }
+    // A failed read ends in a fault.
+    ensures failed { reads.new.failed ≡ true → result.status ≡ Status.Fault }
+    // What is told is the line of a failure of reading, or of the bytes, with this status.
+    ensures told { result.status ≢ Status.Done → Tells (IsOfJob (R.remaining reader.old)) result
+        (F.contents faults.old) (F.contents faults.new) }
+    ensures words { result.status ≢ Status.BadWords }
+{
+    match bytes_of(alloc, reader, reads) {
+        Ok(bytes) => ending_on(alloc, &bytes, out, faults),
+        Err(failure) => failure.end(alloc, faults),
+    }
+}
+
+/// The status of `ending_from`.
 pub fn events_from<R: Read, W: Write, F: Write>(
     alloc: Global,
     reader: &mut R,
     out: &mut W,
     faults: &mut F,
 ) -> Status
-    ensures done { result ≡ Status.Done → IfSome (R.remaining reader.old) (λ all. (length all ≤ MOST_BYTES)
-        × ((file : Form) × (form_of (reading all) ≡ Ok file)
-        × Appends (W.contents out.old) (W.contents out.new) (text_for file))) }
+    ensures done { result ≡ Status.Done → IfSome (R.remaining reader.old) (λ all.
+        (file : Form) × (file_spelled all ≡ Ok file)
+        × Appends (W.contents out.old) (W.contents out.new) (text_for file)) }
     ensures quiet { result ≡ Status.Done → Keeps (F.contents faults.old) (F.contents faults.new) }
     ensures refused { result ≡ Status.Refused → Keeps (W.contents out.old) (W.contents out.new) }
+    ensures told { result ≢ Status.Done → TellsStatus (IsOfJob (R.remaining reader.old)) result
+        (F.contents faults.old) (F.contents faults.new) }
     ensures words { result ≢ Status.BadWords }
 {
-    match bytes_of(alloc, reader) {
-        Ok(bytes) => events_on(alloc, &bytes, out, faults),
-        Err(failure) => {
-            let _ = failure.tell(faults);
-            failure.status()
-        }
-    }
+    let mut reads = Reads::none();
+    ending_from(alloc, reader, &mut reads, out, faults).status
 }

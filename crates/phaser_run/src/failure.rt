@@ -1,11 +1,10 @@
 //! Why a job was not done, the line that tells it, and the exit statuses.
-ghost use Rattle.std.specs.Prelude.{◌≡◌, ◌++◌, OnOk, codes};
-ghost use Rattle.std.specs.Io.KnownBytes.{Appends};
-ghost use Rattle.phaser_run.specs.Ends.{code_of, failure_text, status_of};
+ghost use Rattle.std.specs.Prelude.{◌≡◌, ◌⊎◌};
+ghost use Rattle.phaser_run.specs.Ends.{AppendsFront, Tells, code_of, status_of};
 
 use phase_modes::Refusal;
-use std::io::Write;
-use std::{fmt, io};
+use std::alloc::Global;
+use std::io::{ErrorKind, Write};
 
 /// How the program ends.
 #[derive(Clone, Copy, Debug, PartialEq, Eq)]
@@ -14,7 +13,7 @@ pub enum Status {
     Done,
     /// The text was refused, or memory ran out.
     Refused,
-    /// The words were bad, or asked for help.
+    /// The words were bad, or asked for help or the version.
     BadWords,
     /// A read or a write failed.
     Fault,
@@ -34,6 +33,15 @@ impl Status {
     }
 }
 
+/// How a job ended.
+#[derive(Clone, Copy, Debug, PartialEq, Eq)]
+pub struct Ending {
+    /// How the program ends.
+    pub status: Status,
+    /// Whether the line of a failure was written whole.
+    pub told: bool,
+}
+
 /// Why a job was not done.
 #[derive(Clone, Copy, Debug, PartialEq, Eq)]
 pub enum Failure {
@@ -45,36 +53,65 @@ pub enum Failure {
     Write,
 }
 
-impl fmt::Display for Failure {
-    ghost use Rattle.std.specs.Prelude.{Some};
+impl From<Refusal> for Failure {
+    ghost use Rattle.std.specs.Prelude.{◌≡◌};
+    ghost use Rattle.phaser_run.specs.declared.failure.Failure.TheVariants.{Refused};
 
-    ghost output = { λ f. Some (failure_text f) };
+    ghost from_gives = { λ refusal failure. failure ≡ Refused refusal };
 
-    /// `refused 24 BadText at 2`, `fault read`, `fault write`.
-    fn fmt<W: fmt::Write>(&self, f: &mut fmt::Formatter<W>) -> fmt::Result {
-        match self {
-            Failure::Refused(refusal) => write!(f, "{refusal}"),
-            Failure::Read => f.write_str("fault read"),
-            Failure::Write => f.write_str("fault write"),
-        }
+    fn from(refusal: Refusal) -> Failure {
+        Failure::Refused(refusal)
     }
 }
 
 impl Failure {
-    /// How the program ends.
-    pub fn status(self) -> Status
-        ensures { result ≡ status_of self }
+    /// Ends the job with this failure, and writes its line: `refused 24 BadText at 2`, `fault read`,
+    /// `fault write`. Where the line can't be written, the status stays what it is.
+    pub fn end<F: Write>(self, alloc: Global, faults: &mut F) -> Ending
+        ensures status { result.status ≡ status_of self }
+        // A refusal whose line gets no memory is told as want of memory.
+        ensures told { Tells (λ f. (f ≡ self) ⊎ (f ≡ Failure.Refused Refusal.Memory)) result
+            (F.contents faults.old) (F.contents faults.new) }
     {
         match self {
-            Failure::Refused(_) => Status::Refused,
-            Failure::Read | Failure::Write => Status::Fault,
+            Failure::Refused(refusal) => match format!(in alloc; "{refusal}\n") {
+                Ok(line) => tell(Status::Refused, line.as_str(), faults),
+                Err(_) => tell(Status::Refused, "refused 23 Memory\n", faults),
+            },
+            Failure::Read => tell(Status::Fault, "fault read\n", faults),
+            Failure::Write => tell(Status::Fault, "fault write\n", faults),
         }
     }
+}
 
-    /// Writes the line that tells it.
-    pub fn tell<F: Write>(self, faults: &mut F) -> io::Result<()>
-        ensures { OnOk result (Appends (F.contents faults.old) (F.contents faults.new) (failure_text self ++ codes "\n")) }
-    {
-        writeln!(faults, "{self}")
+/// The ending with this status, whose line this is.
+fn tell<F: Write>(status: Status, line: &str, faults: &mut F) -> Ending
+    ensures status { result.status ≡ status }
+    ensures line { AppendsFront result.told (F.contents faults.old) (F.contents faults.new) line.now }
+{
+    let told = write_text(faults, line);
+    Ending { status, told }
+}
+
+/// How many writes are tried for one text.
+const MOST_WRITES: u32 = 1_000;
+
+/// Writes the text: in one write, where the writer takes it whole. Returns whether all was written.
+pub fn write_text<F: Write>(faults: &mut F, text: &str) -> bool
+    ensures { AppendsFront result (F.contents faults.old) (F.contents faults.new) text.now }
+{
+    let bytes = text.as_bytes();
+    let mut written = 0;
+    for _ in 0..MOST_WRITES {
+        match faults.write(&bytes[written..]) {
+            Ok(0) => return false,
+            Ok(count) => written += count,
+            Err(error) if error.kind() == ErrorKind::Interrupted => {}
+            Err(_) => return false,
+        }
+        if written == bytes.len() {
+            return true;
+        }
     }
+    false
 }

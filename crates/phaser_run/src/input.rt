@@ -1,8 +1,8 @@
 //! All bytes of a reader, up to a limit of bytes and of reads.
-ghost use Rattle.std.specs.Prelude.{◌≡◌, ◌≤◌, ◌<◌, ◌+◌, ◌⊎◌, true, length, IfSome, OnErr};
+ghost use Rattle.std.specs.Prelude.{◌≡◌, ◌≤◌, ◌<◌, ◌+◌, ◌⊎◌, true, length, IfSome, IfOk, OnErr};
 ghost use Rattle.std.specs.Io.KnownBytes.{ReadConsumes, IsAtEnd};
 ghost use Rattle.std.specs.Io.{ReadsAtMost};
-ghost use Rattle.phaser_run.specs.Input.{IfBytes, IfTooLong, IfFault};
+ghost use Rattle.phaser_run.specs.Input.{IfBytes, IfTooLong, IfFault, IsFresh};
 
 use std::alloc::Global;
 use std::io;
@@ -36,12 +36,26 @@ pub struct Reads {
     pub failed: bool,
 }
 
+impl Reads {
+    /// No read.
+    pub fn none() -> Reads
+        ensures { IsFresh result }
+    {
+        Reads {
+            made: 0,
+            failed: false,
+        }
+    }
+}
+
+/// One read, counted.
 fn read_once<R: Read>(reader: &mut R, reads: &mut Reads, chunk: &mut [u8]) -> io::Result<usize>
     requires { reads.old.made < MOST_READS }
     ensures count { reads.new.made ≡ reads.old.made + 1 }
     ensures bytes { ReadConsumes (R.remaining reader.old) (R.remaining reader.new) result chunk.new }
     ensures bound { ReadsAtMost result chunk.new }
     ensures failed { OnErr result (reads.new.failed ≡ true) }
+    ensures unfailed { IfOk result (λ n. reads.new.failed ≡ reads.old.failed) }
 {
     reads.made += 1;
     let result = reader.read(chunk);
@@ -52,18 +66,15 @@ fn read_once<R: Read>(reader: &mut R, reads: &mut Reads, chunk: &mut [u8]) -> io
 }
 
 /// Reads to the end of the reader, at most `most` bytes, by at most 100,000,000 reads, and counts them.
-pub fn read_counted<R: Read>(
-    alloc: Global,
-    reader: &mut R,
-    reads: &mut Reads,
-    most: usize,
-) -> ReadAll
-    requires { reads.old.made ≡ 0 }
+/// After a read that failed there is no other.
+pub fn read_all<R: Read>(alloc: Global, reader: &mut R, reads: &mut Reads, most: usize) -> ReadAll
+    requires { IsFresh reads.old }
     ensures reads { reads.new.made ≤ MOST_READS }
     ensures bytes { IfBytes result (λ bytes. (length bytes ≤ most)
         × IfSome (R.remaining reader.old) (λ all. bytes ≡ all)
         × IsAtEnd (R.remaining reader.new)) }
     ensures too_long { IfTooLong result (IfSome (R.remaining reader.old) (λ all. most < length all)) }
+    ensures failed { reads.new.failed ≡ true → result ≡ ReadAll.Fault }
     ensures fault { IfFault result ((reads.new.failed ≡ true) ⊎ (reads.new.made ≡ MOST_READS)) }
 {
     let mut bytes = Vec::new(alloc);
@@ -83,18 +94,4 @@ pub fn read_counted<R: Read>(
         }
     }
     ReadAll::Fault
-}
-
-/// Reads to the end of the reader, at most `most` bytes, by at most 100,000,000 reads.
-pub fn read_all<R: Read>(alloc: Global, reader: &mut R, most: usize) -> ReadAll
-    ensures bytes { IfBytes result (λ bytes. (length bytes ≤ most)
-        × IfSome (R.remaining reader.old) (λ all. bytes ≡ all)
-        × IsAtEnd (R.remaining reader.new)) }
-    ensures too_long { IfTooLong result (IfSome (R.remaining reader.old) (λ all. most < length all)) }
-{
-    let mut reads = Reads {
-        made: 0,
-        failed: false,
-    };
-    read_counted(alloc, reader, &mut reads, most)
 }

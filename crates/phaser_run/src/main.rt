@@ -1,23 +1,25 @@
 //! The program: the words of the command line to a job, the job's file to lines.
 #![tactic(auto)]
 
-ghost use Rattle.std.specs.Prelude.{◌≡◌, ◌≢◌, ◌≤◌, length, IfSome, Ok};
-ghost use Rattle.events_text.specs.Form.{Form, form_of, reading};
+ghost use Rattle.std.specs.Prelude.{◌≡◌, ◌≢◌, ◌⊎◌, IfSome, Ok};
+ghost use Rattle.events_text.specs.Form.{Form};
 ghost use Rattle.phaser_run.specs.Ends.{status_of};
+ghost use Rattle.phaser_run.specs.File.{file_spelled};
+ghost use Rattle.phaser_run.specs.Words.{no_job_status};
 
 mod events;
 mod failure;
 mod input;
 mod words;
 
-use events::{MOST_BYTES, events_from};
-use failure::{Failure, Status};
+use events::events_from;
+use failure::{Failure, Status, write_text};
 use phase_modes::Refusal;
 use std::env;
 use std::fs::File;
 use std::io::{BufWriter, ErrorKind, Read};
 use std::process::ExitCode;
-use words::{Job, job_of};
+use words::{Job, NoJob, job_of};
 
 fn main(rt: HostRuntime) -> ExitCode {
     ExitCode::from(run(&rt).code())
@@ -41,10 +43,20 @@ fn run(rt: &HostRuntime) -> Status {
     }
     match job_of(rt.alloc(), borrowed.as_slice()) {
         Ok(Job::Events { file }) => answer_file(rt, file),
-        Err(no_job) => {
-            let _ = rt.eprint(&no_job);
+        Err(no_job) => no_words(rt, &no_job),
+    }
+}
+
+/// Prints why there is no job, as one text.
+fn no_words(rt: &HostRuntime, no_job: &NoJob) -> Status
+    ensures { (result ≡ no_job_status no_job.now) ⊎ (result ≡ Status.Refused) }
+{
+    match no_job.to_string(rt.alloc()) {
+        Ok(text) => {
+            write_text(&mut rt.stderr(), text.as_str());
             no_job.status()
         }
+        Err(_) => out_of_memory(rt),
     }
 }
 
@@ -52,7 +64,7 @@ fn run(rt: &HostRuntime) -> Status {
 fn bad_words(rt: &HostRuntime, text: &str) -> Status
     ensures { result ≡ Status.BadWords }
 {
-    let _ = rt.eprint(text);
+    write_text(&mut rt.stderr(), text);
     Status::BadWords
 }
 
@@ -60,8 +72,7 @@ fn bad_words(rt: &HostRuntime, text: &str) -> Status
 fn failed(rt: &HostRuntime, failure: Failure) -> Status
     ensures { result ≡ status_of failure }
 {
-    let _ = failure.tell(&mut rt.stderr());
-    failure.status()
+    failure.end(rt.alloc(), &mut rt.stderr()).status
 }
 
 fn out_of_memory(rt: &HostRuntime) -> Status
@@ -85,8 +96,8 @@ fn answer_file(rt: &HostRuntime, file: &str) -> Status
 
 /// Answers the events file that the reader gives, on standard output.
 fn answer_from<R: Read>(rt: &HostRuntime, reader: &mut R) -> Status
-    ensures done { result ≡ Status.Done → IfSome (R.remaining reader.old) (λ all. (length all ≤ MOST_BYTES)
-        × ((file : Form) × (form_of (reading all) ≡ Ok file))) }
+    ensures done { result ≡ Status.Done → IfSome (R.remaining reader.old) (λ all.
+        (file : Form) × (file_spelled all ≡ Ok file)) }
     ensures words { result ≢ Status.BadWords }
 {
     let Ok(mut out) = BufWriter::new(rt.alloc(), rt.stdout()) else {

@@ -2,7 +2,7 @@
 ghost use Rattle.std.specs.Prelude.{◌≡◌, ℕ, List, [], ◌∷◌, Some, codes, map, true, false, IfOk, MatchResult};
 ghost use Rattle.clap.specs.Words.{app_of, kind_of};
 ghost use Rattle.clap.specs.declared.builder.command.Command.TheViews.{out-Command as fields_of};
-ghost use Rattle.phaser_run.specs.Words.{events_app, file_in, file_of, is_plain, job_in, no_job_status, program_app};
+ghost use Rattle.phaser_run.specs.Words.{events_app, file_of, is_plain, job_in, no_job_status, program_app};
 
 use crate::failure::Status;
 use clap::error::ErrorKind;
@@ -20,7 +20,7 @@ pub enum Job<'a> {
 /// Why there is no job.
 #[derive(Debug, Drop, Error)]
 pub enum NoJob {
-    /// The words are bad, or ask for help. The message is `clap`'s.
+    /// The words are bad, or ask for help or the version. The message is `clap`'s.
     #[error("{0}")]
     Words(clap::Error),
     /// A required word is missing.
@@ -64,6 +64,9 @@ fn no_job_for(error: clap::Error) -> NoJob
     }
 }
 
+/// What `--version` says after the program's name.
+const VERSION: &str = "0.1.0";
+
 /// What `events --help` says of the file and of the lines.
 const EVENTS_HELP: &str = "\
 The file is JSON: {\"limits\":{..},\"accs\":[..],\"calls\":[..]}, at most 1,048,576 bytes.
@@ -78,7 +81,7 @@ with the number of the first bad call, or 0.";
 
 /// What `--help` says of the exit status.
 const PROGRAM_HELP: &str = "\
-Exit status: 0 done, 1 refused (bad text, or memory ran out), 2 bad words or help,
+Exit status: 0 done, 1 refused (bad text, or memory ran out), 2 bad words, help or version,
 3 a read or a write failed.";
 
 /// `events FILE`.
@@ -101,6 +104,7 @@ fn command<'a>(alloc: Global) -> Result<Command<'a>, AllocError>
     ensures app { IfOk result (λ c. app_of c ≡ program_app) }
 {
     Command::new(alloc, "phaser_run")
+        .version(VERSION)
         .about("Runs phasers: barriers for a changing set of tasks")
         .after_help(PROGRAM_HELP)
         .subcommand_required(true)
@@ -110,8 +114,8 @@ fn command<'a>(alloc: Global) -> Result<Command<'a>, AllocError>
 
 /// The job that the words name. The first word is the program's own name.
 pub fn job_of<'a>(alloc: Global, words: &'a [&'a str]) -> Result<Job<'a>, NoJob>
-    // The job's file is the one that the words name.
-    ensures file { IfOk result (λ job. file_in (map (λ w. w.now) words.entry.now) ≡ Some (file_of job)) }
+    // The words are those of the job's command and no more.
+    ensures file { IfOk result (λ job. job_in (map (λ w. w.now) words.entry.now) ≡ Some (file_of job)) }
     // Words that name a job are refused for want of memory alone.
     ensures named { (file : List ℕ) → job_in (map (λ w. w.now) words.entry.now) ≡ Some file
         → MatchResult result (λ job. file_of job ≡ file) (λ e. e ≡ NoJob.Memory) }

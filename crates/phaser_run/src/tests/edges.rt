@@ -1,6 +1,8 @@
 //! Readers and writers that fail, and input that is too long.
-use crate::events::{MOST_BYTES, events_from, events_on};
-use crate::failure::Status;
+use crate::events::{MOST_BYTES, answer, ending_from, ending_on, events_from, events_on};
+use crate::failure::{Ending, Failure, Status};
+use crate::input::{ReadAll, Reads, read_all};
+use phase_modes::Refusal;
 use std::io;
 use std::io::{BufWriter, Error, ErrorKind, Read, Write};
 use std::test::Fail;
@@ -47,6 +49,51 @@ impl Write for FailsAfter {
         }
         self.calls -= 1;
         Ok(buf.len().min(1))
+    }
+
+    fn flush(&mut self) -> io::Result<()> {
+        Ok(())
+    }
+}
+
+/// A reader that gives a byte of the text a call. The call of one number fails, and those after it
+/// would go on.
+#[derive(Drop)]
+struct FailsOnce<'a> {
+    text: &'a [u8],
+    fails_at: usize,
+    calls: usize,
+}
+
+impl Read for FailsOnce<'_> {
+    fn read(&mut self, buf: &mut [u8]) -> io::Result<usize> {
+        self.calls = self.calls.saturating_add(1);
+        if self.calls == self.fails_at {
+            return Err(Error::from(ErrorKind::Interrupted));
+        }
+        match (self.text, buf.first_mut()) {
+            ([byte, rest @ ..], Some(first)) => {
+                *first = *byte;
+                self.text = rest;
+                Ok(1)
+            }
+            _ => Ok(0),
+        }
+    }
+}
+
+/// A writer that takes all that it is given, and counts its calls.
+#[derive(Drop)]
+struct CountsWrites {
+    taken: usize,
+    calls: usize,
+}
+
+impl Write for CountsWrites {
+    fn write(&mut self, buf: &[u8]) -> io::Result<usize> {
+        self.calls = self.calls.saturating_add(1);
+        self.taken = self.taken.saturating_add(buf.len());
+        Ok(buf.len())
     }
 
     fn flush(&mut self) -> io::Result<()> {
@@ -115,6 +162,82 @@ fn read_fails(rt: HostRuntime) {
     assert_eq!(rt; faults.len(), 0);
 }
 
+// After a read that failed there is no other, though the reader would go on.
+#[test]
+fn no_read_after_a_fault(rt: HostRuntime) {
+    for fails_at in 1..=INPUT.len() + 1 {
+        let mut reader = FailsOnce {
+            text: INPUT,
+            fails_at,
+            calls: 0,
+        };
+        let mut reads = Reads::none();
+        let bytes = read_all(rt.alloc(), &mut reader, &mut reads, MOST_BYTES);
+        assert!(rt; matches!(bytes, ReadAll::Fault), "{fails_at}");
+        assert_eq!(rt; reader.calls, fails_at);
+        assert_eq!(rt; reads.made as usize, fails_at);
+        assert!(rt; reads.failed, "{fails_at}");
+    }
+    let mut reader = FailsOnce {
+        text: INPUT,
+        fails_at: 9,
+        calls: 0,
+    };
+    let mut reads = Reads::none();
+    let mut out = Vec::new(rt.alloc());
+    let mut faults = Vec::new(rt.alloc());
+    let ended = ending_from(rt.alloc(), &mut reader, &mut reads, &mut out, &mut faults);
+    let told = true;
+    assert_eq!(rt;
+        ended,
+        Ending {
+            status: Status::Fault,
+            told
+        }
+    );
+    assert_eq!(rt; reader.calls, 9);
+    assert_eq!(rt; out.len(), 0);
+    assert_eq!(rt; faults.as_slice(), b"fault read\n".as_slice());
+}
+
+// The line of a failure is one write.
+#[test]
+fn one_write_a_line(rt: HostRuntime) {
+    let lines: [(Failure, &str); 4] = [
+        (Failure::Read, "fault read\n"),
+        (Failure::Write, "fault write\n"),
+        (Failure::Refused(Refusal::Memory), "refused 23 Memory\n"),
+        (
+            Failure::Refused(Refusal::BadText(12_345)),
+            "refused 24 BadText at 12345\n",
+        ),
+    ];
+    for (failure, line) in lines {
+        let mut faults = CountsWrites { taken: 0, calls: 0 };
+        let ended = failure.end(rt.alloc(), &mut faults);
+        assert!(rt; ended.told, "{line}");
+        assert_eq!(rt; faults.calls, 1, "{line}");
+        assert_eq!(rt; faults.taken, line.len());
+        let mut text = Vec::new(rt.alloc());
+        let ended = failure.end(rt.alloc(), &mut text);
+        assert!(rt; ended.told, "{line}");
+        assert_eq!(rt; text.as_slice(), line.as_bytes());
+    }
+}
+
+// Where the line can't be written whole, the ending says so.
+#[test]
+fn line_not_told(rt: HostRuntime) {
+    let line = b"refused 24 BadText at 0\n";
+    for calls in 0..=line.len() {
+        let mut out = Vec::new(rt.alloc());
+        let mut faults = FailsAfter { calls };
+        let ended = ending_on(rt.alloc(), b"7", &mut out, &mut faults);
+        assert_eq!(rt; ended.status, Status::Refused);
+        assert_eq!(rt; ended.told, calls == line.len(), "{calls}");
+    }
+}
+
 // Exactly the greatest number of bytes is read; one more is refused.
 #[test]
 fn too_long(rt: HostRuntime) -> Result<(), Fail> {
@@ -133,5 +256,32 @@ fn too_long(rt: HostRuntime) -> Result<(), Fail> {
     assert_eq!(rt; status, Status::Refused);
     assert_eq!(rt; out.len(), 0);
     assert_eq!(rt; faults.as_slice(), b"refused 24 BadText at 0\n".as_slice());
+    Ok(())
+}
+
+// The same of bytes that are here.
+#[test]
+fn too_long_in_memory(rt: HostRuntime) -> Result<(), Fail> {
+    let mut text = INPUT.to_vec(rt.alloc())?;
+    for _ in INPUT.len()..1_048_576 {
+        text.push(b' ')?;
+    }
+    let mut out = Vec::new(rt.alloc());
+    let mut faults = Vec::new(rt.alloc());
+    assert_eq!(rt;
+        events_on(rt.alloc(), &text, &mut out, &mut faults),
+        Status::Done
+    );
+    assert_eq!(rt; out.as_slice(), OUTPUT);
+    text.push(b' ')?;
+    let mut out = Vec::new(rt.alloc());
+    assert_eq!(rt;
+        events_on(rt.alloc(), &text, &mut out, &mut faults),
+        Status::Refused
+    );
+    assert_eq!(rt; faults.as_slice(), b"refused 24 BadText at 0\n".as_slice());
+    let refused = Err(Failure::Refused(Refusal::BadText(0)));
+    assert_eq!(rt; answer(rt.alloc(), &text, &mut out), refused);
+    assert_eq!(rt; out.len(), 0);
     Ok(())
 }

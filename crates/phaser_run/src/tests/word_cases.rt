@@ -92,3 +92,23 @@ fn bad_words(rt: HostRuntime) -> Result<(), Fail> {
     )?;
     Ok(())
 }
+
+// The version is a text of status 2, as help is: status 0 says that the reply lines were written.
+#[test]
+fn version(rt: HostRuntime) -> Result<(), Fail> {
+    let alloc = rt.alloc();
+    is_bad(
+        &rt,
+        alloc,
+        &["phaser_run", "--version"],
+        "phaser_run 0.1.0\n",
+    )?;
+    is_bad(&rt, alloc, &["phaser_run", "-V"], "phaser_run 0.1.0\n")?;
+    is_bad(
+        &rt,
+        alloc,
+        &["phaser_run", "events", "--version"],
+        "unexpected argument '--version'",
+    )?;
+    Ok(())
+}

@@ -1,6 +1,6 @@
 use Rattle.std.proofs.Common.{rules, arith, refl}
 use Rattle.phaser_run.proofs.Known.{whole, past}
-use Rattle.phaser_run.proofs.input.read_counted.Goals as goal
+use Rattle.phaser_run.proofs.input.read_all.Goals as goal
 
 pub returns-in-Ok-eq0-clause-bytes : goal.returns-in-Ok-eq0-clause-bytes
 returns-in-Ok-eq0-clause-bytes g c =
