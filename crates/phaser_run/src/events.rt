@@ -1,5 +1,5 @@
 //! Answers an events file: applies its calls in turn to one phaser, and writes a line for each.
-ghost use Rattle.std.specs.Prelude.{◌≡◌, ◌≢◌, Ok, Err, map, true, OnOk, IfOk, IfErr, IfSome};
+ghost use Rattle.std.specs.Prelude.{◌≡◌, ◌≢◌, Ok, Err, length, map, nat_le, true, OnOk, IfOk, IfErr, IfSome};
 ghost use Rattle.std.specs.Io.KnownBytes.{Appends, Keeps};
 ghost use Rattle.phase_model.specs.Replies.{replies};
 ghost use Rattle.events_text.specs.Form.{Form};
@@ -33,6 +33,13 @@ fn write_replies<W: Write>(state: &mut PhaserState, calls: &[Call], out: &mut W)
     out.flush()
 }
 
+/// Whether there are no more bytes than an events file may have.
+fn fits(input: &[u8]) -> bool
+    ensures { result ≡ nat_le (length input.now) MOST_BYTES }
+{
+    input.len() <= MOST_BYTES
+}
+
 /// Reads an events file, applies its calls in turn, and writes a line for each. The file is read
 /// whole before the first line is written. More than 1,048,576 bytes are refused at place 0.
 pub fn answer<W: Write>(alloc: Global, input: &[u8], out: &mut W) -> Result<(), Failure>
@@ -44,7 +51,7 @@ pub fn answer<W: Write>(alloc: Global, input: &[u8], out: &mut W) -> Result<(), 
     // A text is refused at its first fault, and a write fails only for a text that has none.
     ensures failure { IfErr result (IsOfAnswer input.now) }
 {
-    if input.len() > MOST_BYTES {
+    if !fits(input) {
         return Err(Failure::Refused(Refusal::BadText(0)));
     }
     let file = read_events(alloc, input)?;
