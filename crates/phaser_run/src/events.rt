@@ -55,8 +55,8 @@ fn look_reply(outcome: Result<Look, Refusal>) -> Reply
 
 /// Applies a call.
 fn apply(state: &mut PhaserState, call: Call) -> Reply
-    ensures line { line_of result ≡ line state.old.past (reply state.old (call_view call)) }
-    ensures history { state.new ≡ after state.old (reply state.old (call_view call)) }
+    ensures line { line_of result ≡ line state.old.story.past (reply state.old.story (call_view call)) }
+    ensures history { state.new.story ≡ after state.old.story (reply state.old.story (call_view call)) }
 {
     match call {
         Call::Make(task, mode) => done_reply(state.make(task, mode)),
@@ -73,7 +73,7 @@ fn apply(state: &mut PhaserState, call: Call) -> Reply
 /// Applies the calls in turn, and writes a line for each.
 fn write_replies<W: Write>(state: &mut PhaserState, calls: &[Call], out: &mut W) -> io::Result<()>
     ensures { OnOk result (Appends (W.contents out.old) (W.contents out.new)
-        (text_of (lines state.old (map call_view calls.now)))) }
+        (text_of (lines state.old.story (map call_view calls.now)))) }
 {
     for call in calls {
         let reply = apply(state, *call);

@@ -6,5 +6,5 @@ use Rattle.events_text.specs.Lines.{text_of}
 use Rattle.phaser_run.proofs.events.write_replies.Given as goal
 
 abbrev pub invariant-loop-call : goal.invariant-loop-call
-invariant-loop-call g l = (final : Option (List ℕ)) → Appends (g.W.Write.contents l.out) final (text_of (lines l.state (map call_view (drop l.call-index l.calls))))
-    → Appends (g.W.Write.contents l.initial.out) final (text_of (lines l.initial.state (map call_view l.calls)))
+invariant-loop-call g l = (final : Option (List ℕ)) → Appends (g.W.Write.contents l.out) final (text_of (lines l.state.story (map call_view (drop l.call-index l.calls))))
+    → Appends (g.W.Write.contents l.initial.out) final (text_of (lines l.initial.state.story (map call_view l.calls)))
