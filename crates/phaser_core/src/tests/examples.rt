@@ -42,6 +42,43 @@ fn one_task_turn(rt: HostRuntime) -> Result<(), Fail> {
     Ok(())
 }
 
+/// A reader that stays behind still sees each phase's value, while the signaller has run ahead.
+#[test]
+fn late_reader(rt: HostRuntime) -> Result<(), Fail> {
+    let rows = [
+        (Call::Make(0, Mode::SigWait), Answer::Done),
+        (Call::Register(0, 1, Mode::Sig), Answer::Done),
+        (Call::Register(0, 2, Mode::Wait), Answer::Done),
+        (Call::DropTask(0), Answer::Done),
+        (Call::Send(1, 0, 1), Answer::Done),
+        (Call::Signal(1, None), Answer::Done),
+        (Call::Pass(1), Answer::Passed(0)),
+        (Call::Send(1, 0, 2), Answer::Done),
+        (Call::Signal(1, None), Answer::Done),
+        (Call::Pass(1), Answer::Passed(1)),
+        (Call::Send(1, 0, 3), Answer::Done),
+        (Call::Signal(1, None), Answer::Done),
+        (Call::Pass(1), Answer::Passed(2)),
+        (Call::Pass(2), Answer::Passed(0)),
+        (Call::Look(2, 0), Answer::Saw(Look::Value(1))),
+        (Call::Pass(2), Answer::Passed(1)),
+        (Call::Look(2, 0), Answer::Saw(Look::Value(2))),
+        (Call::Pass(2), Answer::Passed(2)),
+        (Call::Look(2, 0), Answer::Saw(Look::Value(3))),
+    ];
+    let state = play(
+        &rt,
+        rt.alloc(),
+        limits_with(4_096, 256),
+        first_ops(1),
+        rows.as_slice(),
+    )?;
+    // The reader has passed three phases: it may look at the last of them alone.
+    assert_eq!(rt; state.fold_at(0, 1), None);
+    assert_eq!(rt; state.fold_at(0, 2), Some(Look::Value(3)));
+    Ok(())
+}
+
 /// Two tasks: the first waits until the second has signalled too.
 #[test]
 fn two_tasks_turn(rt: HostRuntime) -> Result<(), Fail> {
