@@ -12,7 +12,10 @@ fn each_number_has_a_bit_of_its_own(rt: HostRuntime) -> Result<(), Fail> {
     set.insert(64);
     set.insert(129);
     for number in 0..130 {
-        assert_eq!(rt; set.contains(number), number == 63 || number == 64 || number == 129);
+        assert_eq!(rt;
+            set.contains(number),
+            number == 63 || number == 64 || number == 129
+        );
     }
     Ok(())
 }
