@@ -1,5 +1,5 @@
 //! The calls as values: each is made by the method that it names, and what that returns is a reply.
-ghost use Rattle.std.specs.Prelude.{◌≡◌};
+ghost use Rattle.std.specs.Prelude.{◌≡◌, ◌≤◌};
 ghost use Rattle.phase_model.specs.Replies.{reply, returned, after};
 ghost use Rattle.phaser_core.specs.Outcomes.{done_reply, pass_reply, look_reply};
 
@@ -42,8 +42,9 @@ fn look_reply(outcome: Result<Look, Refusal>) -> Reply
 impl PhaserState {
     /// Makes the call that the value names.
     pub fn apply(&mut self, call: Call) -> Reply
-        ensures reply { result ≡ returned self.old.past (reply self.old call) }
-        ensures history { self.new ≡ after self.old (reply self.old call) }
+        ensures reply { result ≡ returned self.old.story.past (reply self.old.story call) }
+        ensures history { self.new.story ≡ after self.old.story (reply self.old.story call) }
+        ensures compared { self.new.compared ≤ 18 }
     {
         match call {
             Call::Make(task, mode) => done_reply(self.make(task, mode)),

@@ -24,7 +24,7 @@ pub const MOST_BYTES: usize = 1_048_576;
 /// Applies the calls in turn, and writes a line for each.
 fn write_replies<W: Write>(state: &mut PhaserState, calls: &[Call], out: &mut W) -> io::Result<()>
     ensures { OnOk result (Appends (W.contents out.old) (W.contents out.new)
-        (text_of (replies state.old calls.now))) }
+        (text_of (replies state.old.story calls.now))) }
 {
     for call in calls {
         let reply = state.apply(*call);

@@ -42,6 +42,43 @@ fn one_task_turn(rt: HostRuntime) -> Result<(), Fail> {
     Ok(())
 }
 
+/// A reader that stays behind still sees each phase's value, while the signaller has run ahead.
+#[test]
+fn late_reader(rt: HostRuntime) -> Result<(), Fail> {
+    let rows = [
+        (Call::Make(0, Mode::SigWait), Reply::Done),
+        (Call::Register(0, 1, Mode::Sig), Reply::Done),
+        (Call::Register(0, 2, Mode::Wait), Reply::Done),
+        (Call::Drop(0), Reply::Done),
+        (Call::Send(1, 0, 1), Reply::Done),
+        (Call::Signal(1, None), Reply::Done),
+        (Call::Pass(1), Reply::Phase(0)),
+        (Call::Send(1, 0, 2), Reply::Done),
+        (Call::Signal(1, None), Reply::Done),
+        (Call::Pass(1), Reply::Phase(1)),
+        (Call::Send(1, 0, 3), Reply::Done),
+        (Call::Signal(1, None), Reply::Done),
+        (Call::Pass(1), Reply::Phase(2)),
+        (Call::Pass(2), Reply::Phase(0)),
+        (Call::Look(2, 0), Reply::Saw(Look::Value(1))),
+        (Call::Pass(2), Reply::Phase(1)),
+        (Call::Look(2, 0), Reply::Saw(Look::Value(2))),
+        (Call::Pass(2), Reply::Phase(2)),
+        (Call::Look(2, 0), Reply::Saw(Look::Value(3))),
+    ];
+    let state = play(
+        &rt,
+        rt.alloc(),
+        limits_with(4_096, 256),
+        first_ops(1),
+        rows.as_slice(),
+    )?;
+    // The reader has passed three phases: it may look at the last of them alone.
+    assert_eq!(rt; state.fold_at(0, 1), None);
+    assert_eq!(rt; state.fold_at(0, 2), Some(Look::Value(3)));
+    Ok(())
+}
+
 /// Two tasks: the first waits until the second has signalled too.
 #[test]
 fn two_tasks_turn(rt: HostRuntime) -> Result<(), Fail> {
@@ -244,7 +281,8 @@ fn value_after_signal(rt: HostRuntime) -> Result<(), Fail> {
         first_ops(1),
         rows.as_slice(),
     )?;
-    assert_eq!(rt; state.fold_at(0, 0), Some(Look::Value(6)));
+    // Task 0 alone can wait, and may look at phase 1 and later ones.
+    assert_eq!(rt; state.fold_at(0, 0), None);
     assert_eq!(rt; state.fold_at(0, 1), Some(Look::Value(3)));
     assert_eq!(rt; state.fold_at(0, 2), Some(Look::Value(0)));
     assert_eq!(rt; state.fold_at(0, 4_096), None);
