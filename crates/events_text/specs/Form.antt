@@ -7,12 +7,13 @@ use Rattle.serde_json.specs.Data.{Data, Items, no_items, item, Members, no_membe
 use Rattle.serde_json.specs.Find.{get, at, as_number, as_u64, as_i64, as_str, as_array, as_object}
 use Rattle.serde_json.specs.Read.{read}
 use Rattle.phase_modes.specs.declared.mode.Mode.{Mode}
-use Rattle.phase_modes.specs.declared.mode.Mode.TheVariants.{Sig, Wait, SigWait, Single}
+use Rattle.phase_modes.specs.Mode as modes
 use Rattle.phase_modes.specs.declared.limits.Limits.{Limits}
 use Rattle.phase_modes.specs.Limits.{limits_fit, default_limits}
 use Rattle.phase_model.specs.declared.op.Op.{Op}
-use Rattle.phase_model.specs.declared.op.Op.TheVariants.{Sum, Least, Greatest}
-use Rattle.phase_model.specs.Replies.{Call, make, register, signal, pass, single_done, send, look, drop_task}
+use Rattle.phase_model.specs.Ops as operators
+use Rattle.phase_model.specs.declared.call.Call.{Call}
+use Rattle.phase_model.specs.declared.call.Call.TheVariants.{Make as make, Register as register, Signal as signal, Pass as pass, SingleDone as single_done, Send as send, Look as look, Drop as drop_task}
 
 -- ---- what a text says
 
@@ -36,12 +37,7 @@ number_in most d = option_and_then as_u64 (as_number d) >>= λ n. if nat_le n mo
 
 -- the mode of that name
 unfoldable pub mode_in : Data → Option Mode
-mode_in d = as_str d >>= λ name.
-    if bytes_eq name (codes "SIG") then Some Sig
-    else (if bytes_eq name (codes "WAIT") then Some Wait
-    else (if bytes_eq name (codes "SIG_WAIT") then Some SigWait
-    else (if bytes_eq name (codes "SINGLE") then Some Single
-    else None)))
+mode_in d = as_str d >>= modes.named
 
 -- ---- calls
 
@@ -185,11 +181,7 @@ limits_or (Some d) = limits_in d
 
 -- the operator of that name
 unfoldable pub op_in : Data → Option Op
-op_in d = as_str d >>= λ name.
-    if bytes_eq name (codes "sum") then Some Sum
-    else (if bytes_eq name (codes "least") then Some Least
-    else (if bytes_eq name (codes "greatest") then Some Greatest
-    else None))
+op_in d = as_str d >>= operators.named
 
 -- an operator, and those after it
 abbrev pub op_then : Option Op → Option (List Op) → Option (List Op)

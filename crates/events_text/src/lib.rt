@@ -1,16 +1,12 @@
-//! The texts of the command `events`: the file, from bytes to calls, and the lines that tell the
-//! replies. What a text spells is defined in `specs/`.
+//! The text of an events file, from bytes to calls. What a text spells, and what is printed for it, is
+//! defined in `specs/`.
 #![tactic(auto)]
 
 mod events_file;
-mod lines;
 mod reading;
-mod text_fault;
 
-pub use events_file::{Call, EventsFile};
-pub use lines::Reply;
+pub use events_file::EventsFile;
 pub use reading::read_events;
-pub use text_fault::TextFault;
 
 #[cfg(test)]
 mod tests;

@@ -7,12 +7,11 @@ ghost use Rattle.serde_json.specs.Errors.{IsMemory};
 ghost use Rattle.serde_json.specs.View.{view, items_view};
 ghost use Rattle.phase_modes.specs.Limits.{limits_fit};
 ghost use Rattle.events_text.specs.Form.{number_in, task_at, mode_in, mode_at, accumulator_at, signed_in, value_at, make_in, register_in, signal_in, pass_in, did_in, send_in, look_in, drop_in, call_in, calls_from, has_only, limit_at, named_limits_in, limits_in, limits_or, op_in, ops_from, at_most_four, ops_in, ops_or, outer_in, form, form_of, reading};
-ghost use Rattle.events_text.specs.Reading.{call_view, form_view, Gives};
+ghost use Rattle.events_text.specs.Reading.{form_view, Gives};
 
-use crate::events_file::{Call, EventsFile};
-use crate::text_fault::TextFault;
-use phase_model::{Op, Ops};
-use phase_modes::{Limits, Mode};
+use crate::events_file::EventsFile;
+use phase_model::{Call, Op, Ops};
+use phase_modes::{Limits, Mode, Refusal};
 use serde_json::{Category, Error, Map, Value};
 use std::alloc::Global;
 
@@ -67,13 +66,8 @@ fn value_of(list: &Value, index: usize) -> Option<i32>
 fn mode_named(value: &Value) -> Option<Mode>
     ensures { result ≡ mode_in (view value.now) }
 {
-    match value.as_str()? {
-        "SIG" => Some(Mode::Sig),
-        "WAIT" => Some(Mode::Wait),
-        "SIG_WAIT" => Some(Mode::SigWait),
-        "SINGLE" => Some(Mode::Single),
-        _ => None,
-    }
+    let name = value.as_str()?;
+    Mode::of_name(name)
 }
 
 /// The mode at an index of a list.
@@ -87,7 +81,7 @@ fn mode_of(list: &Value, index: usize) -> Option<Mode>
 
 #[tactic(auto, unfolding(crate::specs::Form::make_in))]
 fn make_of(list: &Value) -> Option<Call>
-    ensures { option_map call_view result ≡ make_in (view list.now) }
+    ensures { result ≡ make_in (view list.now) }
 {
     if list.get(3).is_some() {
         return None;
@@ -99,7 +93,7 @@ fn make_of(list: &Value) -> Option<Call>
 
 #[tactic(auto, unfolding(crate::specs::Form::register_in))]
 fn register_of(list: &Value) -> Option<Call>
-    ensures { option_map call_view result ≡ register_in (view list.now) }
+    ensures { result ≡ register_in (view list.now) }
 {
     if list.get(4).is_some() {
         return None;
@@ -112,7 +106,7 @@ fn register_of(list: &Value) -> Option<Call>
 
 #[tactic(auto, unfolding(crate::specs::Form::signal_in))]
 fn signal_of(list: &Value) -> Option<Call>
-    ensures { option_map call_view result ≡ signal_in (view list.now) }
+    ensures { result ≡ signal_in (view list.now) }
 {
     if list.get(3).is_some() {
         return None;
@@ -127,7 +121,7 @@ fn signal_of(list: &Value) -> Option<Call>
 
 #[tactic(auto, unfolding(crate::specs::Form::pass_in))]
 fn pass_of(list: &Value) -> Option<Call>
-    ensures { option_map call_view result ≡ pass_in (view list.now) }
+    ensures { result ≡ pass_in (view list.now) }
 {
     if list.get(2).is_some() {
         return None;
@@ -138,7 +132,7 @@ fn pass_of(list: &Value) -> Option<Call>
 
 #[tactic(auto, unfolding(crate::specs::Form::did_in))]
 fn did_of(list: &Value) -> Option<Call>
-    ensures { option_map call_view result ≡ did_in (view list.now) }
+    ensures { result ≡ did_in (view list.now) }
 {
     if list.get(2).is_some() {
         return None;
@@ -149,7 +143,7 @@ fn did_of(list: &Value) -> Option<Call>
 
 #[tactic(auto, unfolding(crate::specs::Form::send_in))]
 fn send_of(list: &Value) -> Option<Call>
-    ensures { option_map call_view result ≡ send_in (view list.now) }
+    ensures { result ≡ send_in (view list.now) }
 {
     if list.get(4).is_some() {
         return None;
@@ -162,7 +156,7 @@ fn send_of(list: &Value) -> Option<Call>
 
 #[tactic(auto, unfolding(crate::specs::Form::look_in))]
 fn look_of(list: &Value) -> Option<Call>
-    ensures { option_map call_view result ≡ look_in (view list.now) }
+    ensures { result ≡ look_in (view list.now) }
 {
     if list.get(3).is_some() {
         return None;
@@ -174,7 +168,7 @@ fn look_of(list: &Value) -> Option<Call>
 
 #[tactic(auto, unfolding(crate::specs::Form::drop_in))]
 fn drop_of(list: &Value) -> Option<Call>
-    ensures { option_map call_view result ≡ drop_in (view list.now) }
+    ensures { result ≡ drop_in (view list.now) }
 {
     if list.get(2).is_some() {
         return None;
@@ -186,7 +180,7 @@ fn drop_of(list: &Value) -> Option<Call>
 /// The call that a list spells: its first item is the name.
 #[tactic(auto, unfolding(crate::specs::Form::call_in))]
 fn call_of(list: &Value) -> Option<Call>
-    ensures { option_map call_view result ≡ call_in (view list.now) }
+    ensures { result ≡ call_in (view list.now) }
 {
     match list.get(0)?.as_str()? {
         "make" => make_of(list),
@@ -201,15 +195,15 @@ fn call_of(list: &Value) -> Option<Call>
     }
 }
 
-/// All calls, or the number of the first that is none.
-fn calls_of(alloc: Global, items: &[Value]) -> Result<Vec<Call>, TextFault>
-    ensures { Gives (λ v. map call_view v.items) result (calls_from 1 (items_view items.now)) }
+/// All calls; `BadText` with the number of the first that is none.
+fn calls_of(alloc: Global, items: &[Value]) -> Result<Vec<Call>, Refusal>
+    ensures { Gives (λ v. v.items) result (calls_from 1 (items_view items.now)) }
 {
     let mut calls = Vec::new(alloc);
     for (index, item) in items.iter().enumerate() {
         let place = index as u64 + 1;
         let call = match call_of(item) {
-            None => return Err(TextFault::At(place)),
+            None => return Err(Refusal::BadText(place)),
             Some(call) => call,
         };
         calls.push(call)?;
@@ -296,12 +290,8 @@ fn limits_of(limits: &Value) -> Option<Limits>
 fn op_named(value: &Value) -> Option<Op>
     ensures { result ≡ op_in (view value.now) }
 {
-    match value.as_str()? {
-        "sum" => Some(Op::Sum),
-        "least" => Some(Op::Least),
-        "greatest" => Some(Op::Greatest),
-        _ => None,
-    }
+    let name = value.as_str()?;
+    Op::of_name(name)
 }
 
 /// The operators, if each item is the name of one and there are at most four.
@@ -363,11 +353,11 @@ fn outer_of(file: &Value) -> Option<Outer<'_>>
 }
 
 /// The file that the value spells.
-fn form_of_value(alloc: Global, value: &Value) -> Result<EventsFile, TextFault>
+fn form_of_value(alloc: Global, value: &Value) -> Result<EventsFile, Refusal>
     ensures { Gives form_view result (form (view value.now)) }
 {
     let outer = match outer_of(value) {
-        None => return Err(TextFault::At(0)),
+        None => return Err(Refusal::BadText(0)),
         Some(outer) => outer,
     };
     let calls = calls_of(alloc, outer.calls)?;
@@ -384,18 +374,19 @@ fn is_memory(error: &Error) -> bool
     error.classify() == Category::Memory
 }
 
-/// Reads the bytes of an events file. The place of a fault is 0 where the bytes are no JSON or
-/// the outer object is wrong, else the number of the first call that is wrong, counted from 1.
-pub fn read_events(alloc: Global, bytes: &[u8]) -> Result<EventsFile, TextFault>
+/// Reads the bytes of an events file. `BadText` where they are not of the form: its place is 0 where
+/// the bytes are no JSON or the outer object is wrong, else the number of the first call that is
+/// wrong, counted from 1. `Memory` where there is too little for the JSON value or for the calls.
+pub fn read_events(alloc: Global, bytes: &[u8]) -> Result<EventsFile, Refusal>
     ensures { Gives form_view result (form_of (reading bytes.now)) }
 {
     match Value::from_slice(alloc, bytes) {
         Ok(value) => form_of_value(alloc, &value),
         Err(error) => {
             if is_memory(&error) {
-                return Err(TextFault::Memory);
+                return Err(Refusal::Memory);
             }
-            Err(TextFault::At(0))
+            Err(Refusal::BadText(0))
         }
     }
 }

@@ -1,6 +1,6 @@
-//! The places at which texts are refused, what is read where they are not, and the lines of replies.
+//! The places at which texts are refused, and what is read where they are not.
 use super::*;
-use phase_model::{Look, Op};
+use phase_model::{Call, Op};
 use phase_modes::{Limits, Mode, Refusal};
 use std::test::Fail;
 
@@ -8,8 +8,8 @@ use std::test::Fail;
 fn place_of(rt: &HostRuntime, text: &str) -> Result<Option<u64>, Fail> {
     match read_events(rt.alloc(), text.as_bytes()) {
         Ok(_) => Ok(None),
-        Err(TextFault::At(place)) => Ok(Some(place)),
-        Err(TextFault::Memory) => Err(Fail::from("memory")),
+        Err(Refusal::BadText(place)) => Ok(Some(place)),
+        Err(_) => Err(Fail::from("memory")),
     }
 }
 
@@ -215,26 +215,5 @@ fn contents(rt: HostRuntime) -> Result<(), Fail> {
         Call::Drop(6),
     ];
     assert_eq!(rt; file.calls.as_slice(), calls.as_slice());
-    Ok(())
-}
-
-#[test]
-fn lines_of_replies(rt: HostRuntime) -> Result<(), Fail> {
-    let lines = [
-        (Reply::Done, "ok"),
-        (Reply::Phase(3), "ok phase 3"),
-        (Reply::Claim(7), "claim 7"),
-        (Reply::Saw(Look::Value(-5)), "value -5"),
-        (Reply::Saw(Look::Nothing), "none"),
-        (Reply::NotYet, "not yet"),
-        (
-            Reply::Refused(Refusal::HistoryFull),
-            "refused 15 HistoryFull",
-        ),
-    ];
-    for (reply, line) in lines {
-        let text = reply.to_string(rt.alloc())?;
-        assert_eq!(rt; text.as_str(), line);
-    }
     Ok(())
 }

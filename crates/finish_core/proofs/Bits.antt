@@ -3,7 +3,7 @@ use Rattle.std.proofs.Common.{◌≡◌, ℕ, zero, suc, ◌+◌, ◌<◌, ◌�
 use Rattle.std.proofs.lemmas.Bool.{cases_Bool, cases_lt, eqb-true, eq-eqb, false≢true}
 use Rattle.std.proofs.lemmas.List.{get_or-set_same, get_or-set_other, get_or_past}
 use Rattle.std.proofs.lemmas.List.Sums.{sum_by-cons, sum_by-set, count_by-le-length}
-use Rattle.finish_core.specs.Notes.{ones}
+use Rattle.finish_core.specs.inner.State.{ones}
 
 -- one bit more
 pub ones-cons : (b : Bool) (bs : List Bool) → ones (b ∷ bs) ≡ cond b 1 0 + ones bs
@@ -51,7 +51,7 @@ among_back (false ∷ a) (true ∷ b) e among few (suc k) is =
 among_back (false ∷ a) (false ∷ b) e among few (suc k) is =
     among_back a b (omega arith) (λ j. among (suc j)) (omega (arith, few, ones-cons false a, ones-cons false b)) k is
 
--- bits that tell of each number whether it passes a test, with one more set
+-- bits that say of each number whether it passes a test, with one more set
 pub bits-set : (bs : List Bool) (f : ℕ → Bool) (t : ℕ) → t < length bs → ((u : ℕ) → get_or bs u false ≡ f u) → (u : ℕ) → get_or (set bs t true) u false ≡ ((t == u) || f u)
 bits-set bs f t within bits u =
     elim (cases_Bool (t == u)) [

@@ -1,14 +1,14 @@
--- What holds of each legal history of a finish, and that answers keep it legal.
-use Rattle.std.proofs.Common.{◌≡◌, ℕ, ◌<◌, ◌==◌, nat_lt, Bool, true, false, ◌||◌, ◌&&◌, not, List, [], ◌∷◌, ◌++◌, Ok, Err, refl, sym, inl, inr, subst}
+-- What holds of each legal history of a finish, and that replies keep it legal.
+use Rattle.std.proofs.Common.{◌≡◌, ℕ, ◌<◌, ◌==◌, nat_lt, true, false, ◌&&◌, not, List, [], ◌∷◌, ◌++◌, Option, Some, None, Ok, Err, refl, ap, sym, inl, inr, subst}
 use Rattle.std.proofs.lemmas.Bool.{and_parts, and_from, or_cases, or_right, eqb-true, ltb-true, not-true}
-use Rattle.phase_modes.specs.Lists.{is_empty}
-use Rattle.phase_modes.specs.declared.refusal.Refusal.TheVariants.{NotNow, TasksFull}
+use Rattle.phase_modes.specs.declared.refusal.Refusal.{Refusal}
 use Rattle.phase_modes.specs.Refusal.{first_refusal}
 use Rattle.finish_core.specs.declared.event.FinishEvent.{FinishEvent}
 use Rattle.finish_core.specs.declared.event.FinishEvent.TheVariants.{Opened, Spawned, Ended, Shut}
-use Rattle.finish_core.specs.Finish.{FinishStory, is_open, is_spawned, has_ended, may_shut, is_allowed, is_legal_finish}
-use Rattle.finish_core.specs.Answers.{done_unless, answer, after}
-use Rattle.finish_core.specs.Laws.{AnswersKeepLegal, after_all}
+use Rattle.finish_core.specs.Finish.{FinishStory, is_open, is_spawned, has_ended, conditions, is_allowed, is_legal_finish}
+use Rattle.finish_core.specs.Replies.{done_unless, reply, after}
+use Rattle.finish_core.specs.Laws.{RepliesKeepLegal, DoneWhereAllowed, after_all}
+use Rattle.phase_modes.proofs.FirstRefusal.{met_where_none, none_where_met}
 
 -- what the newest event of a legal history says
 pub record Follows (tasks : ℕ) (h : List FinishEvent) (e : FinishEvent) : Type 0 where
@@ -63,44 +63,33 @@ pub is_legal_finish-rest : (tasks : ℕ) (later h : List FinishEvent) → is_leg
 is_legal_finish-rest tasks [] h k = k
 is_legal_finish-rest tasks (e ∷ later) h k = is_legal_finish-rest tasks later h (last_follows tasks (later ++ h) e k).before
 
--- a call with one cause is done where it doesn't stand
-one_cause : (a : Bool) → done_unless (first_refusal ((NotNow, not a) ∷ [])) ≡ Ok tt → a ≡ true
-one_cause true e = refl
-one_cause false e = absurd cc
-
--- the same for a spawn, of the tests that its causes are made of
-spawn_causes : (a b c : Bool) → done_unless (first_refusal ((NotNow, not a || b) ∷ (TasksFull, not c) ∷ [])) ≡ Ok tt → (a && not b && c) ≡ true
-spawn_causes true true c e = absurd cc
-spawn_causes true false true e = refl
-spawn_causes true false false e = absurd cc
-spawn_causes false b c e = absurd cc
-
--- and for a task's end
-end_causes : (a b c : Bool) → done_unless (first_refusal ((NotNow, not (a && b) || c) ∷ [])) ≡ Ok tt → (a && b && not c) ≡ true
-end_causes true true true e = absurd cc
-end_causes true true false e = refl
-end_causes true false c e = absurd cc
-end_causes false b c e = absurd cc
+-- no refusal was given
+none_given : (o : Option Refusal) → done_unless o ≡ Ok tt → o ≡ None
+none_given None k = refl
+none_given (Some r) k = absurd cc
 
 -- a call that is done adds an allowed event
-pub done_is_allowed : (tasks : ℕ) (h : List FinishEvent) (e : FinishEvent) → answer tasks h e ≡ Ok tt → is_allowed tasks h e ≡ true
-done_is_allowed tasks h (Opened t) k = one_cause (is_empty h) k
-done_is_allowed tasks h (Spawned t) k = spawn_causes (is_open h) (is_spawned t h) (nat_lt t tasks) k
-done_is_allowed tasks h (Ended t) k = end_causes (is_open h) (is_spawned t h) (has_ended t h) k
-done_is_allowed tasks h Shut k = one_cause (may_shut h) k
+pub done_is_allowed : (tasks : ℕ) (h : List FinishEvent) (e : FinishEvent) → reply tasks h e ≡ Ok tt → is_allowed tasks h e ≡ true
+done_is_allowed tasks h e k =
+    let cs = conditions tasks h e in
+    met_where_none cs (none_given (first_refusal cs) k)
 
--- the same, where the answer speaks of what a contract sees
-pub allowed_in : {s v : FinishStory} (e : FinishEvent) → s ≡ v → Ok tt ≡ answer v.tasks v.past e → is_allowed s.tasks s.past e ≡ true
+-- and a call whose event is allowed is done
+pub done_where_allowed : DoneWhereAllowed
+done_where_allowed tasks h e = (done_is_allowed tasks h e, λ k. ap done_unless (none_where_met (conditions tasks h e) k))
+
+-- the same, where the reply speaks of what a contract sees
+pub allowed_in : {s v : FinishStory} (e : FinishEvent) → s ≡ v → Ok tt ≡ reply v.tasks v.past e → is_allowed s.tasks s.past e ≡ true
 allowed_in {s} {v} e same done = rw same (done_is_allowed v.tasks v.past e (sym done))
 
 -- whatever calls follow a legal history, it stays legal
 pub calls_keep_legal : (tasks : ℕ) (h calls : List FinishEvent) → is_legal_finish tasks h ≡ true → is_legal_finish tasks (after_all (record { tasks = tasks; past = h }) calls).past ≡ true
 calls_keep_legal tasks h [] k = k
 calls_keep_legal tasks h (e ∷ es) k =
-    (elim (answer tasks h e) as (λ r. answer tasks h e ≡ r → is_legal_finish tasks (after_all (after (record { tasks = tasks; past = h }) e r) es).past ≡ true) [
+    (elim (reply tasks h e) as (λ r. reply tasks h e ≡ r → is_legal_finish tasks (after_all (after (record { tasks = tasks; past = h }) e r) es).past ≡ true) [
       | Ok u ↦ λ a. calls_keep_legal tasks (e ∷ h) es (and_from (is_allowed tasks h e) (is_legal_finish tasks h) (done_is_allowed tasks h e a) k)
       | Err r ↦ λ a. calls_keep_legal tasks h es k
     ]) refl
 
-pub answers_keep_legal : AnswersKeepLegal
-answers_keep_legal tasks calls = calls_keep_legal tasks [] calls refl
+pub replies_keep_legal : RepliesKeepLegal
+replies_keep_legal tasks calls = calls_keep_legal tasks [] calls refl

@@ -1,4 +1,4 @@
--- The lemmas: bits, stored lists, legal histories, the notes, and the laws.
+-- The lemmas: bits, stored lists, legal histories, the state, and the laws.
 pub mod Bits
 pub mod Past
 pub mod Legal

@@ -1,4 +1,4 @@
--- What the notes stand for after each event, and what they tell.
+-- The state after each event, and what its fields say of the history.
 use Rattle.std.proofs.Common.{◌≡◌, ℕ, ◌+◌, ◌*◌, ◌-◌, ◌<◌, ◌≤◌, ◌==◌, Bool, true, false, List, [], ◌∷◌, length, set, refl, ap, sym, ◌∙◌, inl, inr, arith}
 use Rattle.std.specs.List.{list_any, list_all}
 use Rattle.std.proofs.lemmas.Bool.{cases_Bool, cases_lt, and_parts, not-true, and_from, eqb-true, eq-eqb, ne_eqb, false≢true, or_left, or_right}
@@ -7,7 +7,7 @@ use Rattle.finish_core.specs.declared.event.FinishEvent.{FinishEvent}
 use Rattle.finish_core.specs.declared.event.FinishEvent.TheVariants.{Spawned, Ended}
 use Rattle.finish_core.specs.declared.stage.Stage.{Stage}
 use Rattle.finish_core.specs.Finish.{shuts, spawned_tasks, is_open, is_spawned, has_ended, all_ended, is_allowed, is_legal_finish}
-use Rattle.finish_core.specs.Notes.{stage_of, frame_events, ones, Stands}
+use Rattle.finish_core.specs.inner.State.{stage_of, frame_events, ones, IsFinishState}
 use Rattle.finish_core.proofs.Bits.{AreAmong, ones-le-length, ones-set, ones-le-ones, among_back, bits-set, set_within}
 use Rattle.finish_core.proofs.Legal.{spawn_follows, end_follows, ended_was_spawned}
 
@@ -42,7 +42,7 @@ list_all_at p (u ∷ ts) t all has =
 pub all_ended_at : (h : List FinishEvent) (t : ℕ) → all_ended h ≡ true → is_spawned t h ≡ true → has_ended t h ≡ true
 all_ended_at h t all is = list_all_at (λ u. has_ended u h) (spawned_tasks h) t all is
 
-module _ {tasks : ℕ} {stage : Stage} {a b : List Bool} {n : ℕ} {h : List FinishEvent} (s : Stands tasks stage a b n h) where
+module _ {tasks : ℕ} {stage : Stage} {a b : List Bool} {n : ℕ} {h : List FinishEvent} (s : IsFinishState tasks stage a b n h) where
   same_size : length b ≡ length a
   same_size = s.ended_size ∙ sym s.spawned_size
 
@@ -83,8 +83,8 @@ module _ {tasks : ℕ} {stage : Stage} {a b : List Bool} {n : ℕ} {h : List Fin
     pub spawn_within : t < length a
     spawn_within = omega (arith, (spawn_follows tasks h t allowed).fits, s.spawned_size)
 
-    -- the notes after a spawn
-    pub stands_spawned : Stands tasks stage (set a t true) b (n + 1) (Spawned t ∷ h)
+    -- the state after a spawn
+    pub stands_spawned : IsFinishState tasks stage (set a t true) b (n + 1) (Spawned t ∷ h)
     stands_spawned =
         let f = spawn_follows tasks h t allowed in
         let more = ones-set a t spawn_within (s.spawned_bits t ∙ f.new) in
@@ -116,8 +116,8 @@ module _ {tasks : ℕ} {stage : Stage} {a b : List Bool} {n : ℕ} {h : List Fin
               absurd (false≢true (sym f.running ∙ all_ended_at h t all f.spawned))
         ]
 
-    -- the notes after a task's end
-    pub stands_ended : Stands tasks stage a (set b t true) (n - 1) (Ended t ∷ h)
+    -- the state after a task's end
+    pub stands_ended : IsFinishState tasks stage a (set b t true) (n - 1) (Ended t ∷ h)
     stands_ended =
         let f = end_follows tasks h t allowed in
         let more = ones-set b t end_within (s.ended_bits t ∙ f.running) in

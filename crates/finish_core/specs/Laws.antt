@@ -3,24 +3,24 @@ use Rattle.std.specs.Prelude.{ℕ, ◌≡◌, ◌<◌, ◌↔◌, true, List, []
 use Rattle.finish_core.specs.declared.event.FinishEvent.{FinishEvent}
 use Rattle.finish_core.specs.declared.event.FinishEvent.TheVariants.{Opened, Spawned, Ended, Shut}
 use Rattle.finish_core.specs.Finish.{FinishStory, fresh, may_shut, is_allowed, is_legal_finish}
-use Rattle.finish_core.specs.Answers.{answer, after}
+use Rattle.finish_core.specs.Replies.{reply, after}
 
 -- the story after calls that are made one after another, the first of the list first
 abbrev pub after_all : FinishStory → List FinishEvent → FinishStory
 after_all s [] = s
-after_all s (e ∷ es) = after_all (after s e (answer s.tasks s.past e)) es
+after_all s (e ∷ es) = after_all (after s e (reply s.tasks s.past e)) es
 
 -- whatever calls are made on a fresh finish, its history is legal
-abbrev pub AnswersKeepLegal : Type 0
-AnswersKeepLegal = (tasks : ℕ) (calls : List FinishEvent) → is_legal_finish tasks (after_all (fresh tasks) calls).past ≡ true
+abbrev pub RepliesKeepLegal : Type 0
+RepliesKeepLegal = (tasks : ℕ) (calls : List FinishEvent) → is_legal_finish tasks (after_all (fresh tasks) calls).past ≡ true
 
 -- a call is done exactly where its event is allowed
 abbrev pub DoneWhereAllowed : Type 0
-DoneWhereAllowed = (tasks : ℕ) (h : List FinishEvent) (e : FinishEvent) → (answer tasks h e ≡ Ok tt) ↔ (is_allowed tasks h e ≡ true)
+DoneWhereAllowed = (tasks : ℕ) (h : List FinishEvent) (e : FinishEvent) → (reply tasks h e ≡ Ok tt) ↔ (is_allowed tasks h e ≡ true)
 
 -- the finish may be shut exactly where the call that shuts it is done
 abbrev pub ShutWhereItMay : Type 0
-ShutWhereItMay = (tasks : ℕ) (h : List FinishEvent) → (may_shut h ≡ true) ↔ (answer tasks h Shut ≡ Ok tt)
+ShutWhereItMay = (tasks : ℕ) (h : List FinishEvent) → (may_shut h ≡ true) ↔ (reply tasks h Shut ≡ Ok tt)
 
 -- after each task's spawning comes its end
 abbrev pub EachSpawnedEnds : List FinishEvent → Type 0

@@ -1,5 +1,5 @@
 -- The definitions that the contracts cite.
 pub mod Finish
-pub mod Answers
-pub mod Notes
 pub mod Laws
+pub mod Replies
+pub mod inner

@@ -1,9 +1,9 @@
 //! What holds of every finish. Each function does nothing: its contract is the law.
-ghost use Rattle.finish_core.specs.Laws.{AnswersKeepLegal, DoneWhereAllowed, LegalIsOrderly, ShutAwaitsAll, ShutWhereItMay};
+ghost use Rattle.finish_core.specs.Laws.{RepliesKeepLegal, DoneWhereAllowed, LegalIsOrderly, ShutAwaitsAll, ShutWhereItMay};
 
 /// Whatever calls are made on a fresh finish, its history is legal.
-pub fn answers_keep_legal()
-    ensures { AnswersKeepLegal }
+pub fn replies_keep_legal()
+    ensures { RepliesKeepLegal }
 {}
 
 /// A call is done exactly where its event is allowed.

@@ -72,8 +72,8 @@ fn plain_function_by_hand(rt: HostRuntime) {
         (allowed(&running, 8, FinishEvent::Ended(4)), false),
         (allowed(&running, 8, FinishEvent::Shut), false),
     ];
-    for (answer, expected) in rows {
-        assert_eq!(rt; answer, expected);
+    for (is_allowed, expected) in rows {
+        assert_eq!(rt; is_allowed, expected);
     }
 }
 
@@ -113,8 +113,8 @@ fn make(finish: &mut FinishState, call: FinishEvent) -> Result<(), Refusal> {
     }
 }
 
-/// What the plain side answers. A call that only a higher limit would allow finds it full.
-fn answer_of(events: &[FinishEvent], tasks: u32, call: FinishEvent) -> Result<(), Refusal> {
+/// The reply by the plain function. A call that only a higher limit would allow finds it full.
+fn reply_by(events: &[FinishEvent], tasks: u32, call: FinishEvent) -> Result<(), Refusal> {
     if allowed(events, tasks, call) {
         Ok(())
     } else if allowed(events, u32::MAX, call) {
@@ -133,9 +133,9 @@ struct Counts {
 }
 
 impl Counts {
-    fn add(&mut self, call: FinishEvent, answer: Result<(), Refusal>) {
+    fn add(&mut self, call: FinishEvent, reply: Result<(), Refusal>) {
         let kind = kind_of(call);
-        match answer {
+        match reply {
             Ok(()) => self.done[kind] = self.done[kind].saturating_add(1),
             Err(Refusal::NotNow) => self.not_now[kind] = self.not_now[kind].saturating_add(1),
             Err(_) => self.full = self.full.saturating_add(1),
@@ -155,7 +155,7 @@ fn side_by_side_with_the_plain_function(rt: HostRuntime) -> Result<(), Fail> {
             let call = call_of(seed);
             let may_shut = allowed(&events, 8, FinishEvent::Shut);
             assert_eq!(rt; finish.may_shut(), may_shut, "before {call:?}");
-            let expected = answer_of(&events, 8, call);
+            let expected = reply_by(&events, 8, call);
             assert_eq!(rt; make(&mut finish, call), expected, "at {call:?}");
             if expected.is_ok() {
                 events.push(call)?;

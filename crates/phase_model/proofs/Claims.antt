@@ -1,4 +1,5 @@
--- The claims and reports of a legal history: a phase is claimed once, after a proposal for it, and reported after the claim.
+-- The claims and reports of a legal history: a phase is claimed once, after a proposal for it, and reported
+-- after the claim.
 use Rattle.std.proofs.Common.{◌≡◌, ℕ, ◌+◌, ◌<◌, Bool, true, false, ◌&&◌, ◌==◌, List, [], ◌∷◌, sym, ◌∙◌, inl, inr, subst}
 use Rattle.std.proofs.lemmas.Bool.{eqb-true, and_parts, or_cases, or_left, or_right, false≢true}
 use Rattle.phase_modes.specs.declared.limits.Limits.{Limits}

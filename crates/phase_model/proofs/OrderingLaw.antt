@@ -1,4 +1,5 @@
--- Each legal history is ordered: what each signaller had signalled where a waiter passed, each has signalled at each later moment.
+-- Each legal history is ordered: what each signaller had signalled where a waiter passed, each has signalled
+-- at each later moment.
 use Rattle.std.proofs.Common.{◌≡◌, ℕ, ◌+◌, true, false, List, [], ◌∷◌, ◌++◌, refl, arith, subst}
 use Rattle.phase_modes.specs.declared.limits.Limits.{Limits}
 use Rattle.phase_modes.specs.Lists.{is_empty}

@@ -1,4 +1,5 @@
--- A proposer of a legal history has come to the phase that it proposed for; what it owes is that phase's single alone.
+-- A proposer of a legal history has come to the phase that it proposed for; what it owes is that phase's
+-- single alone.
 use Rattle.std.proofs.Common.{◌≡◌, ℕ, ◌<◌, ◌≤◌, nat_lt, Bool, true, false, ◌||◌, ◌&&◌, ◌==◌, not, List, [], ◌∷◌, Some, refl, sym, ◌∙◌, inl, inr, subst, arith}
 use Rattle.std.specs.List.{list_any}
 use Rattle.std.proofs.lemmas.Bool.{cases_Bool, cases_lt, eqb-true, eq-eqb, and_parts, and_from, or_cases, or_left, or_right, false_from_ne_true, false≢true}

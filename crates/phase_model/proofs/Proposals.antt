@@ -1,4 +1,5 @@
--- The proposals of a legal history: they agree on each phase's number, and no phase is proposed for while an earlier single is open.
+-- The proposals of a legal history: they agree on each phase's number, and no phase is proposed for while an
+-- earlier single is open.
 use Rattle.std.proofs.Common.{◌≡◌, ℕ, ◌-◌, ◌≤◌, ◌<◌, Bool, true, false, ◌||◌, ◌&&◌, ◌==◌, not, List, [], ◌∷◌, Option, Some, None, refl, sym, ap, ◌∙◌, arith, inl, inr, subst}
 use Rattle.std.specs.List.{list_any, find}
 use Rattle.std.specs.Option.{option_map}

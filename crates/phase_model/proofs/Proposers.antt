@@ -1,4 +1,5 @@
--- Who proposed for a phase whose single is open stands before that phase's end, and somebody may claim it or report it done.
+-- Who proposed for a phase whose single is open stands before that phase's end, and somebody may claim it or
+-- report it done.
 use Rattle.std.proofs.Common.{◌≡◌, ◌⊎◌, ℕ, ◌+◌, Bool, true, false, ◌&&◌, ◌||◌, ◌==◌, not, nat_lt, List, [], ◌∷◌, Option, Some, None, refl, sym, subst, ap, ◌∙◌, inl, inr, arith}
 use Rattle.std.specs.List.{list_any}
 use Rattle.std.specs.Option.{option_map_or}

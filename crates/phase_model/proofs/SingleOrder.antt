@@ -1,4 +1,5 @@
--- The claims and reports of a legal history in order: one of each, after the signals of their phase and before its waiters' passes.
+-- The claims and reports of a legal history in order: one of each, after the signals of their phase and
+-- before its waiters' passes.
 use Rattle.std.proofs.Common.{◌≡◌, ℕ, ◌+◌, ◌≤◌, Bool, true, false, ◌==◌, List, [], ◌∷◌, ◌++◌, refl, sym, ◌∙◌, subst, arith}
 use Rattle.std.proofs.lemmas.Bool.{eqb-true, and_parts, or_left, ne_eqb, false≢true}
 use Rattle.phase_modes.specs.declared.limits.Limits.{Limits}

@@ -1,13 +1,16 @@
 pub mod Amounts
+pub mod Conditions
 pub mod Examples
 pub mod Explaining
 pub mod Laws
+pub mod Ops
 pub mod Ordering
 pub mod Phases
-pub mod Places
 pub mod Replies
+pub mod ReplyLines
 pub mod Rules
 pub mod SingleLaws
 pub mod Singles
 pub mod Tasks
 pub mod Values
+pub mod inner

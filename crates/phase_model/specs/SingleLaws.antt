@@ -9,7 +9,8 @@ use Rattle.phase_model.specs.declared.op.Op.{Op}
 use Rattle.phase_model.specs.Tasks.{has_mode}
 use Rattle.phase_model.specs.Phases.{waits, signals}
 use Rattle.phase_model.specs.Rules.{Story, is_permitted, has_room, is_legal}
-use Rattle.phase_model.specs.Replies.{pass, single_done, drop_task, refused, done, reply}
+use Rattle.phase_model.specs.declared.call.Call.TheVariants.{Pass as pass, SingleDone as single_done, Drop as drop_task}
+use Rattle.phase_model.specs.Replies.{refused, done, reply}
 
 -- the event after h signals phase p
 abbrev pub is_signal : ℕ → List Event → Event → Bool
@@ -31,7 +32,8 @@ abbrev pub is_pass : ℕ → List Event → Event → Bool
 is_pass p h (Pass t) = has_mode can_wait t h && waits t h == p
 is_pass p h _ = false
 
--- of no phase does a late event come after an early one: `NoneAfter is_signal is_claim` says that no signal of a phase comes after a claim of its single
+-- of no phase does a late event come after an early one: `NoneAfter is_signal is_claim` says that no signal
+-- of a phase comes after a claim of its single
 abbrev pub NoneAfter : (ℕ → List Event → Event → Bool) → (ℕ → List Event → Event → Bool) → List Event → Type 0
 NoneAfter late early h = (p : ℕ) (later between before : List Event) (e f : Event)
     → h ≡ later ++ (f ∷ (between ++ e ∷ before))
@@ -43,10 +45,14 @@ abbrev pub OneClaimAndOneReport : Type 0
 OneClaimAndOneReport = (l : Limits) (ops : List Op) (h : List Event) → is_legal l ops h ≡ true
     → NoneAfter is_claim is_claim h × NoneAfter is_report is_report h × NoneAfter is_claim is_report h
 
--- in a legal history the claim and the report of a phase stand after its last signal and before its first pass by a task that can wait
+-- in a legal history the claim and the report of a phase stand after its last signal and before its first
+-- pass by a task that can wait
 abbrev pub SinglesStandBetween : Type 0
 SinglesStandBetween = (l : Limits) (ops : List Op) (h : List Event) → is_legal l ops h ≡ true
-    → NoneAfter is_signal is_claim h × NoneAfter is_signal is_report h × NoneAfter is_claim is_pass h × NoneAfter is_report is_pass h
+    → NoneAfter is_signal is_claim h
+    × NoneAfter is_signal is_report h
+    × NoneAfter is_claim is_pass h
+    × NoneAfter is_report is_pass h
 
 -- after a legal history there is room for each claim, each report and each drop that it permits
 abbrev pub SinglesHaveRoom : Type 0
@@ -55,7 +61,8 @@ SinglesHaveRoom = (l : Limits) (ops : List Op) (h : List Event) → is_legal l o
     × (is_permitted l ops h (Did t) ≡ true → has_room l (Did t ∷ h) ≡ true)
     × (is_permitted l ops h (Drop t) ≡ true → has_room l (Drop t ∷ h) ≡ true)
 
--- so in a legal story a pass that may claim does claim, and no report and no drop is refused because the history is full
+-- so in a legal story a pass that may claim does claim, and no report and no drop is refused because the
+-- history is full
 abbrev pub SinglesAreAnswered : Type 0
 SinglesAreAnswered = (s : Story) → is_legal s.limits s.ops s.past ≡ true → (t : ℕ)
     → (is_permitted s.limits s.ops s.past (Claim t) ≡ true → reply s (pass t) ≡ done (Claim t))

@@ -110,7 +110,7 @@ fn single_is_claimed_and_done(rt: HostRuntime) -> Result<(), Fail> {
 }
 
 #[test]
-fn first_fault_is_told(rt: HostRuntime) -> Result<(), Fail> {
+fn first_fault_is_found(rt: HostRuntime) -> Result<(), Fail> {
     let events = [
         Event::Make(0, Mode::SigWait),
         Event::Sig(0, None),
@@ -134,5 +134,41 @@ fn last_places_are_for_drops(rt: HostRuntime) -> Result<(), Fail> {
     assert_eq!(rt; history.limits().history, 4);
     assert!(rt; !allowed(&history, Event::Sig(0, None)));
     assert!(rt; allowed(&history, Event::Drop(0)));
+    Ok(())
+}
+
+#[test]
+fn operators_have_names(rt: HostRuntime) -> Result<(), Fail> {
+    let rows = [
+        (Op::Sum, "sum"),
+        (Op::Least, "least"),
+        (Op::Greatest, "greatest"),
+    ];
+    for (op, name) in rows {
+        assert!(rt; op.name() == name);
+        assert_eq!(rt; Op::of_name(name), Some(op));
+    }
+    assert_eq!(rt; Op::of_name("Sum"), None);
+    Ok(())
+}
+
+#[test]
+fn replies_are_printed(rt: HostRuntime) -> Result<(), Fail> {
+    let rows = [
+        (Reply::Done, "ok"),
+        (Reply::Phase(3), "ok phase 3"),
+        (Reply::Claim(4_294_967_295), "claim 4294967295"),
+        (Reply::Saw(Look::Value(-4)), "value -4"),
+        (Reply::Saw(Look::Nothing), "none"),
+        (Reply::NotYet, "not yet"),
+        (
+            Reply::Refused(Refusal::NoAccumulator),
+            "refused 9 NoAccumulator",
+        ),
+    ];
+    for (reply, line) in rows {
+        let printed = reply.to_string(rt.alloc())?;
+        assert_eq!(rt; printed.as_str(), line);
+    }
     Ok(())
 }

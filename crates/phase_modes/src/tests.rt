@@ -1,5 +1,6 @@
 //! Each public function once, against the table of modes, refusals and limits.
 use super::*;
+use std::alloc::{AllocError, AllocFailed, Global};
 use std::test::Fail;
 
 const MODES: [Mode; 4] = [Mode::Sig, Mode::Wait, Mode::SigWait, Mode::Single];
@@ -62,6 +63,33 @@ fn child_begins_where_its_parent_stands(rt: HostRuntime) -> Result<(), Fail> {
     assert_eq!(rt; waiter.waits(), 7);
     assert!(rt; !waiter.ahead);
     assert_eq!(rt; waiter.child_of(Mode::Sig), Err(Refusal::MoreThanParent));
+    Ok(())
+}
+
+#[test]
+fn registration_goes_step_by_step(rt: HostRuntime) -> Result<(), Fail> {
+    let maker = Reg::maker(Mode::SigWait);
+    assert_eq!(rt; (maker.signals(), maker.waits()), (0, 0));
+    let ahead = maker.signalled();
+    assert_eq!(rt; (ahead.signals(), ahead.waits()), (1, 0));
+    let next = ahead.passed();
+    assert_eq!(rt; (next.signals(), next.waits()), (1, 1));
+    assert_eq!(rt; next.mode, Mode::SigWait);
+    Ok(())
+}
+
+/// A list of one number, `Memory` where it can't grow.
+fn one_number(alloc: Global) -> Result<Vec<u32>, Refusal> {
+    let mut numbers = Vec::with_capacity(alloc, 1)?;
+    numbers.push(7)?;
+    Ok(numbers)
+}
+
+#[test]
+fn refused_memory_is_a_refusal(rt: HostRuntime) -> Result<(), Fail> {
+    assert_eq!(rt; Refusal::from(AllocError), Refusal::Memory);
+    assert_eq!(rt; Refusal::from(AllocFailed { value: 7 }), Refusal::Memory);
+    assert_eq!(rt; one_number(rt.alloc())?.len(), 1);
     Ok(())
 }
 

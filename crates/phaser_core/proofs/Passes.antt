@@ -8,7 +8,9 @@ use Rattle.phase_model.specs.Tasks.{is_live, has_mode}
 use Rattle.phase_model.specs.Phases.{waits, signals, is_closed}
 use Rattle.phase_model.specs.Singles.{is_settled}
 use Rattle.phase_model.specs.Rules.{Story, has_room, is_permitted}
-use Rattle.phase_model.specs.Replies.{reply, refused, not_yet, settled, causes, must_wait, event_for, pass}
+use Rattle.phase_model.specs.declared.call.Call.TheVariants.{Pass as pass}
+use Rattle.phase_model.specs.Conditions.{conditions}
+use Rattle.phase_model.specs.Replies.{reply, refused, not_yet, settled, must_wait, event_for}
 use Rattle.phase_model.proofs.Replied.{reply_by}
 
 -- a && not b, the other way round
@@ -16,6 +18,11 @@ unless : (a b : Bool) → (a && not b) ≡ false → (not a || b) ≡ true
 unless true true k = refl
 unless true false k = absurd cc
 unless false b k = refl
+
+unless_not : (a b : Bool) → (a && not b) ≡ true → (not a || b) ≡ false
+unless_not true true k = absurd cc
+unless_not true false k = refl
+unless_not false b k = absurd cc
 
 -- who need not wait passes, and who must can't
 waits_not : (w c : Bool) → (w && not c) ≡ false → (w && not (not w || c) && not false) ≡ false
@@ -39,11 +46,11 @@ module _ (s : Story) (t : ℕ) where
 
   module _ (live : is_live t s.past ≡ true) where
     pub not_signalled : (has_mode can_signal t s.past && not (signals t s.past == waits t s.past + 1)) ≡ true → reply s (pass t) ≡ refused NotSignalled
-    not_signalled b = rw (live, b) refl
+    not_signalled b = rw (live, unless_not (has_mode can_signal t s.past) (signals t s.past == waits t s.past + 1) b) refl
 
     module _ (signalled : (has_mode can_signal t s.past && not (signals t s.past == waits t s.past + 1)) ≡ false) where
-      no_cause : first_refusal (causes s.limits s.ops s.past (pass t)) ≡ None
-      no_cause = rw (live, signalled) refl
+      no_cause : first_refusal (conditions s.limits s.ops s.past (pass t)) ≡ None
+      no_cause = rw (live, unless (has_mode can_signal t s.past) (signals t s.past == waits t s.past + 1) signalled) refl
 
       -- the task claims
       pub claims : is_permitted s.limits s.ops s.past (Claim t) ≡ true → reply s (pass t) ≡ settled None false (has_room s.limits (Claim t ∷ s.past)) (Claim t)

@@ -6,7 +6,8 @@ use Rattle.phase_model.specs.declared.event.Event.TheVariants.{Send, Look as Loo
 use Rattle.phase_model.specs.Tasks.{is_live, has_mode}
 use Rattle.phase_model.specs.Phases.{waits}
 use Rattle.phase_model.specs.Rules.{Story, has_room, look_of}
-use Rattle.phase_model.specs.Replies.{reply, refused, settled, send, look}
+use Rattle.phase_model.specs.declared.call.Call.TheVariants.{Send as send, Look as look}
+use Rattle.phase_model.specs.Replies.{reply, refused, settled}
 
 module _ (s : Story) (t a : ℕ) (v : ℤ) where
   pub unknown : is_live t s.past ≡ false → reply s (send t a v) ≡ refused NotRegistered

@@ -1,4 +1,3 @@
-pub mod Applied
 pub mod Known
 pub mod Fronts
 pub mod Named

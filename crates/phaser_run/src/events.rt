@@ -1,21 +1,19 @@
 //! Answers an events file: applies its calls in turn to one phaser, and writes a line for each.
 ghost use Rattle.std.specs.Prelude.{◌≡◌, ◌≢◌, Ok, Err, length, map, nat_le, true, OnOk, IfOk, IfErr, IfSome};
 ghost use Rattle.std.specs.Io.KnownBytes.{Appends, Keeps};
-ghost use Rattle.phase_model.specs.Replies.{reply, after, line, lines};
+ghost use Rattle.phase_model.specs.Replies.{replies};
 ghost use Rattle.events_text.specs.Form.{Form};
-ghost use Rattle.events_text.specs.Lines.{line_of, text_of, text_for};
-ghost use Rattle.events_text.specs.Reading.{call_view};
+ghost use Rattle.events_text.specs.Lines.{text_of, text_for};
 ghost use Rattle.phaser_run.specs.Ends.{status_of, IsOfAnswer, IsOfJob, IsOfReading, Tells, TellsStatus};
 ghost use Rattle.phaser_run.specs.File.{file_spelled};
 ghost use Rattle.phaser_run.specs.Input.{IsFresh};
-ghost use Rattle.phaser_run.specs.Outcomes.{done_line, passing_line, look_line};
 
 use crate::failure::{Ending, Failure, Status};
 use crate::input::{ReadAll, Reads, read_all};
-use events_text::{Call, Reply, TextFault, read_events};
-use phase_model::Look;
+use events_text::read_events;
+use phase_model::Call;
 use phase_modes::Refusal;
-use phaser_core::{Passing, PhaserState};
+use phaser_core::PhaserState;
 use std::alloc::Global;
 use std::io;
 use std::io::{Read, Write};
@@ -23,62 +21,13 @@ use std::io::{Read, Write};
 /// How many bytes an events file has at most.
 pub const MOST_BYTES: usize = 1_048_576;
 
-/// What a call is answered that is done or refused.
-fn done_reply(outcome: Result<(), Refusal>) -> Reply
-    ensures { line_of result ≡ done_line outcome }
-{
-    match outcome {
-        Ok(()) => Reply::Done,
-        Err(refusal) => Reply::Refused(refusal),
-    }
-}
-
-/// What a `pass` is answered.
-fn passing_reply(outcome: Result<Passing, Refusal>) -> Reply
-    ensures { line_of result ≡ passing_line outcome }
-{
-    match outcome {
-        Ok(Passing::Passed(phase)) => Reply::Phase(phase),
-        Ok(Passing::Claimed(number)) => Reply::Claim(number),
-        Ok(Passing::NotYet) => Reply::NotYet,
-        Err(refusal) => Reply::Refused(refusal),
-    }
-}
-
-/// What a `look` is answered.
-fn look_reply(outcome: Result<Look, Refusal>) -> Reply
-    ensures { line_of result ≡ look_line outcome }
-{
-    match outcome {
-        Ok(seen) => Reply::Saw(seen),
-        Err(refusal) => Reply::Refused(refusal),
-    }
-}
-
-/// Applies a call.
-fn apply(state: &mut PhaserState, call: Call) -> Reply
-    ensures line { line_of result ≡ line state.old.past (reply state.old (call_view call)) }
-    ensures history { state.new ≡ after state.old (reply state.old (call_view call)) }
-{
-    match call {
-        Call::Make(task, mode) => done_reply(state.make(task, mode)),
-        Call::Register(parent, child, mode) => done_reply(state.register(parent, child, mode)),
-        Call::Signal(task, number) => done_reply(state.signal(task, number)),
-        Call::Pass(task) => passing_reply(state.pass(task)),
-        Call::SingleDone(task) => done_reply(state.single_done(task)),
-        Call::Send(task, accumulator, value) => done_reply(state.send(task, accumulator, value)),
-        Call::Look(task, accumulator) => look_reply(state.look(task, accumulator)),
-        Call::Drop(task) => done_reply(state.drop_task(task)),
-    }
-}
-
 /// Applies the calls in turn, and writes a line for each.
 fn write_replies<W: Write>(state: &mut PhaserState, calls: &[Call], out: &mut W) -> io::Result<()>
     ensures { OnOk result (Appends (W.contents out.old) (W.contents out.new)
-        (text_of (lines state.old (map call_view calls.now)))) }
+        (text_of (replies state.old.story calls.now))) }
 {
     for call in calls {
-        let reply = apply(state, *call);
+        let reply = state.apply(*call);
         writeln!(out, "{reply}")?;
     }
     out.flush()
@@ -105,14 +54,8 @@ pub fn answer<W: Write>(alloc: Global, input: &[u8], out: &mut W) -> Result<(), 
     if !fits(input) {
         return Err(Failure::Refused(Refusal::BadText(0)));
     }
-    let file = match read_events(alloc, input) {
-        Ok(file) => file,
-        Err(TextFault::Memory) => return Err(Failure::Refused(Refusal::Memory)),
-        Err(TextFault::At(place)) => return Err(Failure::Refused(Refusal::BadText(place))),
-    };
-    let Ok(mut state) = PhaserState::new(alloc, file.limits, file.ops) else {
-        return Err(Failure::Refused(Refusal::Memory));
-    };
+    let file = read_events(alloc, input)?;
+    let mut state = PhaserState::new(alloc, file.limits, file.ops)?;
     match write_replies(&mut state, &file.calls, out) {
         Ok(()) => Ok(()),
         Err(_) => Err(Failure::Write),

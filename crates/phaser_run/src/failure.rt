@@ -53,6 +53,17 @@ pub enum Failure {
     Write,
 }
 
+impl From<Refusal> for Failure {
+    ghost use Rattle.std.specs.Prelude.{◌≡◌};
+    ghost use Rattle.phaser_run.specs.declared.failure.Failure.TheVariants.{Refused};
+
+    ghost from_gives = { λ refusal failure. failure ≡ Refused refusal };
+
+    fn from(refusal: Refusal) -> Failure {
+        Failure::Refused(refusal)
+    }
+}
+
 impl Failure {
     /// Ends the job with this failure, and writes its line: `refused 24 BadText at 2`, `fault read`,
     /// `fault write`. Where the line can't be written, the status stays what it is.

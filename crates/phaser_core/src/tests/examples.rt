@@ -1,4 +1,4 @@
-//! The worked examples: the calls of each, and what each call is answered.
+//! The worked examples: the calls of each, and the reply to each call.
 use super::*;
 use std::test::Fail;
 
@@ -22,9 +22,9 @@ fn new_is_not_always_out_of_memory(rt: HostRuntime) -> Result<(), Fail> {
 #[test]
 fn one_task_turn(rt: HostRuntime) -> Result<(), Fail> {
     let rows = [
-        (Call::Make(0, Mode::SigWait), Answer::Done),
-        (Call::Signal(0, None), Answer::Done),
-        (Call::Pass(0), Answer::Passed(0)),
+        (Call::Make(0, Mode::SigWait), Reply::Done),
+        (Call::Signal(0, None), Reply::Done),
+        (Call::Pass(0), Reply::Phase(0)),
     ];
     let state = play(
         &rt,
@@ -42,17 +42,54 @@ fn one_task_turn(rt: HostRuntime) -> Result<(), Fail> {
     Ok(())
 }
 
+/// A reader that stays behind still sees each phase's value, while the signaller has run ahead.
+#[test]
+fn late_reader(rt: HostRuntime) -> Result<(), Fail> {
+    let rows = [
+        (Call::Make(0, Mode::SigWait), Reply::Done),
+        (Call::Register(0, 1, Mode::Sig), Reply::Done),
+        (Call::Register(0, 2, Mode::Wait), Reply::Done),
+        (Call::Drop(0), Reply::Done),
+        (Call::Send(1, 0, 1), Reply::Done),
+        (Call::Signal(1, None), Reply::Done),
+        (Call::Pass(1), Reply::Phase(0)),
+        (Call::Send(1, 0, 2), Reply::Done),
+        (Call::Signal(1, None), Reply::Done),
+        (Call::Pass(1), Reply::Phase(1)),
+        (Call::Send(1, 0, 3), Reply::Done),
+        (Call::Signal(1, None), Reply::Done),
+        (Call::Pass(1), Reply::Phase(2)),
+        (Call::Pass(2), Reply::Phase(0)),
+        (Call::Look(2, 0), Reply::Saw(Look::Value(1))),
+        (Call::Pass(2), Reply::Phase(1)),
+        (Call::Look(2, 0), Reply::Saw(Look::Value(2))),
+        (Call::Pass(2), Reply::Phase(2)),
+        (Call::Look(2, 0), Reply::Saw(Look::Value(3))),
+    ];
+    let state = play(
+        &rt,
+        rt.alloc(),
+        limits_with(4_096, 256),
+        first_ops(1),
+        rows.as_slice(),
+    )?;
+    // The reader has passed three phases: it may look at the last of them alone.
+    assert_eq!(rt; state.fold_at(0, 1), None);
+    assert_eq!(rt; state.fold_at(0, 2), Some(Look::Value(3)));
+    Ok(())
+}
+
 /// Two tasks: the first waits until the second has signalled too.
 #[test]
 fn two_tasks_turn(rt: HostRuntime) -> Result<(), Fail> {
     let rows = [
-        (Call::Make(0, Mode::SigWait), Answer::Done),
-        (Call::Register(0, 1, Mode::SigWait), Answer::Done),
-        (Call::Signal(0, None), Answer::Done),
-        (Call::Pass(0), Answer::NotYet),
-        (Call::Signal(1, None), Answer::Done),
-        (Call::Pass(0), Answer::Passed(0)),
-        (Call::Pass(1), Answer::Passed(0)),
+        (Call::Make(0, Mode::SigWait), Reply::Done),
+        (Call::Register(0, 1, Mode::SigWait), Reply::Done),
+        (Call::Signal(0, None), Reply::Done),
+        (Call::Pass(0), Reply::NotYet),
+        (Call::Signal(1, None), Reply::Done),
+        (Call::Pass(0), Reply::Phase(0)),
+        (Call::Pass(1), Reply::Phase(0)),
     ];
     let state = play(
         &rt,
@@ -71,13 +108,13 @@ fn two_tasks_turn(rt: HostRuntime) -> Result<(), Fail> {
 #[test]
 fn waiter_alone(rt: HostRuntime) -> Result<(), Fail> {
     let rows = [
-        (Call::Make(0, Mode::Wait), Answer::Done),
+        (Call::Make(0, Mode::Wait), Reply::Done),
         (
             Call::Register(0, 1, Mode::Sig),
-            Answer::Refused(Refusal::MoreThanParent),
+            Reply::Refused(Refusal::MoreThanParent),
         ),
-        (Call::Pass(0), Answer::Passed(0)),
-        (Call::Pass(0), Answer::Passed(1)),
+        (Call::Pass(0), Reply::Phase(0)),
+        (Call::Pass(0), Reply::Phase(1)),
     ];
     let _state = play(
         &rt,
@@ -93,19 +130,19 @@ fn waiter_alone(rt: HostRuntime) -> Result<(), Fail> {
 #[test]
 fn split_phase_child(rt: HostRuntime) -> Result<(), Fail> {
     let rows = [
-        (Call::Make(0, Mode::SigWait), Answer::Done),
-        (Call::Signal(0, None), Answer::Done),
-        (Call::Register(0, 1, Mode::Sig), Answer::Done),
-        (Call::Pass(0), Answer::Passed(0)),
+        (Call::Make(0, Mode::SigWait), Reply::Done),
+        (Call::Signal(0, None), Reply::Done),
+        (Call::Register(0, 1, Mode::Sig), Reply::Done),
+        (Call::Pass(0), Reply::Phase(0)),
         (
             Call::Signal(1, None),
-            Answer::Refused(Refusal::AlreadySignalled),
+            Reply::Refused(Refusal::AlreadySignalled),
         ),
-        (Call::Pass(1), Answer::Passed(0)),
-        (Call::Signal(0, None), Answer::Done),
-        (Call::Pass(0), Answer::NotYet),
-        (Call::Signal(1, None), Answer::Done),
-        (Call::Pass(0), Answer::Passed(1)),
+        (Call::Pass(1), Reply::Phase(0)),
+        (Call::Signal(0, None), Reply::Done),
+        (Call::Pass(0), Reply::NotYet),
+        (Call::Signal(1, None), Reply::Done),
+        (Call::Pass(0), Reply::Phase(1)),
     ];
     let _state = play(
         &rt,
@@ -121,20 +158,20 @@ fn split_phase_child(rt: HostRuntime) -> Result<(), Fail> {
 #[test]
 fn signaller_runs_ahead(rt: HostRuntime) -> Result<(), Fail> {
     let rows = [
-        (Call::Make(0, Mode::SigWait), Answer::Done),
-        (Call::Register(0, 1, Mode::Sig), Answer::Done),
-        (Call::Register(0, 2, Mode::Wait), Answer::Done),
-        (Call::DropTask(0), Answer::Done),
-        (Call::Signal(1, None), Answer::Done),
-        (Call::Pass(1), Answer::Passed(0)),
-        (Call::Signal(1, None), Answer::Done),
-        (Call::Pass(1), Answer::Passed(1)),
-        (Call::Signal(1, None), Answer::Done),
-        (Call::Pass(1), Answer::Passed(2)),
-        (Call::Pass(2), Answer::Passed(0)),
-        (Call::Pass(2), Answer::Passed(1)),
-        (Call::Pass(2), Answer::Passed(2)),
-        (Call::Pass(2), Answer::NotYet),
+        (Call::Make(0, Mode::SigWait), Reply::Done),
+        (Call::Register(0, 1, Mode::Sig), Reply::Done),
+        (Call::Register(0, 2, Mode::Wait), Reply::Done),
+        (Call::Drop(0), Reply::Done),
+        (Call::Signal(1, None), Reply::Done),
+        (Call::Pass(1), Reply::Phase(0)),
+        (Call::Signal(1, None), Reply::Done),
+        (Call::Pass(1), Reply::Phase(1)),
+        (Call::Signal(1, None), Reply::Done),
+        (Call::Pass(1), Reply::Phase(2)),
+        (Call::Pass(2), Reply::Phase(0)),
+        (Call::Pass(2), Reply::Phase(1)),
+        (Call::Pass(2), Reply::Phase(2)),
+        (Call::Pass(2), Reply::NotYet),
     ];
     let _state = play(
         &rt,
@@ -150,15 +187,15 @@ fn signaller_runs_ahead(rt: HostRuntime) -> Result<(), Fail> {
 #[test]
 fn value_of_dropped_sender(rt: HostRuntime) -> Result<(), Fail> {
     let rows = [
-        (Call::Make(0, Mode::SigWait), Answer::Done),
-        (Call::Register(0, 1, Mode::Sig), Answer::Done),
-        (Call::Register(0, 2, Mode::Wait), Answer::Done),
-        (Call::DropTask(0), Answer::Done),
-        (Call::Send(1, 0, 5), Answer::Done),
-        (Call::Pass(2), Answer::NotYet),
-        (Call::DropTask(1), Answer::Done),
-        (Call::Pass(2), Answer::Passed(0)),
-        (Call::Look(2, 0), Answer::Saw(Look::Value(5))),
+        (Call::Make(0, Mode::SigWait), Reply::Done),
+        (Call::Register(0, 1, Mode::Sig), Reply::Done),
+        (Call::Register(0, 2, Mode::Wait), Reply::Done),
+        (Call::Drop(0), Reply::Done),
+        (Call::Send(1, 0, 5), Reply::Done),
+        (Call::Pass(2), Reply::NotYet),
+        (Call::Drop(1), Reply::Done),
+        (Call::Pass(2), Reply::Phase(0)),
+        (Call::Look(2, 0), Reply::Saw(Look::Value(5))),
     ];
     let _state = play(
         &rt,
@@ -174,15 +211,15 @@ fn value_of_dropped_sender(rt: HostRuntime) -> Result<(), Fail> {
 #[test]
 fn empty_folds(rt: HostRuntime) -> Result<(), Fail> {
     let rows = [
-        (Call::Make(0, Mode::SigWait), Answer::Done),
-        (Call::Look(0, 0), Answer::Refused(Refusal::NoPhaseYet)),
-        (Call::Signal(0, None), Answer::Done),
-        (Call::Pass(0), Answer::Passed(0)),
-        (Call::Look(0, 0), Answer::Saw(Look::Value(0))),
-        (Call::Look(0, 1), Answer::Saw(Look::Nothing)),
-        (Call::Look(0, 2), Answer::Saw(Look::Nothing)),
-        (Call::Look(0, 3), Answer::Refused(Refusal::NoAccumulator)),
-        (Call::Send(0, 3, 1), Answer::Refused(Refusal::NoAccumulator)),
+        (Call::Make(0, Mode::SigWait), Reply::Done),
+        (Call::Look(0, 0), Reply::Refused(Refusal::NoPhaseYet)),
+        (Call::Signal(0, None), Reply::Done),
+        (Call::Pass(0), Reply::Phase(0)),
+        (Call::Look(0, 0), Reply::Saw(Look::Value(0))),
+        (Call::Look(0, 1), Reply::Saw(Look::Nothing)),
+        (Call::Look(0, 2), Reply::Saw(Look::Nothing)),
+        (Call::Look(0, 3), Reply::Refused(Refusal::NoAccumulator)),
+        (Call::Send(0, 3, 1), Reply::Refused(Refusal::NoAccumulator)),
     ];
     let _state = play(
         &rt,
@@ -198,15 +235,15 @@ fn empty_folds(rt: HostRuntime) -> Result<(), Fail> {
 #[test]
 fn extreme_values(rt: HostRuntime) -> Result<(), Fail> {
     let rows = [
-        (Call::Make(0, Mode::SigWait), Answer::Done),
-        (Call::Send(0, 0, -2147483648), Answer::Done),
-        (Call::Send(0, 0, -2147483648), Answer::Done),
-        (Call::Send(0, 1, -2147483648), Answer::Done),
-        (Call::Signal(0, None), Answer::Done),
-        (Call::Pass(0), Answer::Passed(0)),
-        (Call::Look(0, 0), Answer::Saw(Look::Value(-4294967296))),
-        (Call::Look(0, 1), Answer::Saw(Look::Value(-2147483648))),
-        (Call::Look(0, 2), Answer::Saw(Look::Nothing)),
+        (Call::Make(0, Mode::SigWait), Reply::Done),
+        (Call::Send(0, 0, -2147483648), Reply::Done),
+        (Call::Send(0, 0, -2147483648), Reply::Done),
+        (Call::Send(0, 1, -2147483648), Reply::Done),
+        (Call::Signal(0, None), Reply::Done),
+        (Call::Pass(0), Reply::Phase(0)),
+        (Call::Look(0, 0), Reply::Saw(Look::Value(-4294967296))),
+        (Call::Look(0, 1), Reply::Saw(Look::Value(-2147483648))),
+        (Call::Look(0, 2), Reply::Saw(Look::Nothing)),
     ];
     let _state = play(
         &rt,
@@ -222,20 +259,20 @@ fn extreme_values(rt: HostRuntime) -> Result<(), Fail> {
 #[test]
 fn value_after_signal(rt: HostRuntime) -> Result<(), Fail> {
     let rows = [
-        (Call::Make(0, Mode::SigWait), Answer::Done),
-        (Call::Register(0, 1, Mode::Sig), Answer::Done),
-        (Call::Send(0, 0, 3), Answer::Done),
-        (Call::Send(0, 0, 3), Answer::Done),
-        (Call::Signal(1, None), Answer::Done),
-        (Call::Send(1, 0, 3), Answer::Done),
-        (Call::Signal(0, None), Answer::Done),
-        (Call::Pass(0), Answer::Passed(0)),
-        (Call::Look(0, 0), Answer::Saw(Look::Value(6))),
-        (Call::Pass(1), Answer::Passed(0)),
-        (Call::Signal(1, None), Answer::Done),
-        (Call::Signal(0, None), Answer::Done),
-        (Call::Pass(0), Answer::Passed(1)),
-        (Call::Look(0, 0), Answer::Saw(Look::Value(3))),
+        (Call::Make(0, Mode::SigWait), Reply::Done),
+        (Call::Register(0, 1, Mode::Sig), Reply::Done),
+        (Call::Send(0, 0, 3), Reply::Done),
+        (Call::Send(0, 0, 3), Reply::Done),
+        (Call::Signal(1, None), Reply::Done),
+        (Call::Send(1, 0, 3), Reply::Done),
+        (Call::Signal(0, None), Reply::Done),
+        (Call::Pass(0), Reply::Phase(0)),
+        (Call::Look(0, 0), Reply::Saw(Look::Value(6))),
+        (Call::Pass(1), Reply::Phase(0)),
+        (Call::Signal(1, None), Reply::Done),
+        (Call::Signal(0, None), Reply::Done),
+        (Call::Pass(0), Reply::Phase(1)),
+        (Call::Look(0, 0), Reply::Saw(Look::Value(3))),
     ];
     let state = play(
         &rt,
@@ -244,7 +281,8 @@ fn value_after_signal(rt: HostRuntime) -> Result<(), Fail> {
         first_ops(1),
         rows.as_slice(),
     )?;
-    assert_eq!(rt; state.fold_at(0, 0), Some(Look::Value(6)));
+    // Task 0 alone can wait, and may look at phase 1 and later ones.
+    assert_eq!(rt; state.fold_at(0, 0), None);
     assert_eq!(rt; state.fold_at(0, 1), Some(Look::Value(3)));
     assert_eq!(rt; state.fold_at(0, 2), Some(Look::Value(0)));
     assert_eq!(rt; state.fold_at(0, 4_096), None);
@@ -256,25 +294,25 @@ fn value_after_signal(rt: HostRuntime) -> Result<(), Fail> {
 #[test]
 fn single_statement(rt: HostRuntime) -> Result<(), Fail> {
     let rows = [
-        (Call::Make(0, Mode::Single), Answer::Done),
-        (Call::Register(0, 1, Mode::Single), Answer::Done),
-        (Call::Register(0, 2, Mode::Single), Answer::Done),
-        (Call::Signal(0, Some(7)), Answer::Done),
-        (Call::Signal(1, Some(7)), Answer::Done),
+        (Call::Make(0, Mode::Single), Reply::Done),
+        (Call::Register(0, 1, Mode::Single), Reply::Done),
+        (Call::Register(0, 2, Mode::Single), Reply::Done),
+        (Call::Signal(0, Some(7)), Reply::Done),
+        (Call::Signal(1, Some(7)), Reply::Done),
         (
             Call::Signal(2, Some(8)),
-            Answer::Refused(Refusal::SingleMismatch),
+            Reply::Refused(Refusal::SingleMismatch),
         ),
-        (Call::Pass(0), Answer::NotYet),
-        (Call::Signal(2, Some(7)), Answer::Done),
-        (Call::DropTask(0), Answer::Refused(Refusal::NotNow)),
-        (Call::Pass(0), Answer::Claimed(7)),
-        (Call::Pass(1), Answer::NotYet),
-        (Call::SingleDone(1), Answer::Refused(Refusal::NotNow)),
-        (Call::SingleDone(0), Answer::Done),
-        (Call::Pass(1), Answer::Passed(0)),
-        (Call::Pass(0), Answer::Passed(0)),
-        (Call::Pass(2), Answer::Passed(0)),
+        (Call::Pass(0), Reply::NotYet),
+        (Call::Signal(2, Some(7)), Reply::Done),
+        (Call::Drop(0), Reply::Refused(Refusal::NotNow)),
+        (Call::Pass(0), Reply::Claim(7)),
+        (Call::Pass(1), Reply::NotYet),
+        (Call::SingleDone(1), Reply::Refused(Refusal::NotNow)),
+        (Call::SingleDone(0), Reply::Done),
+        (Call::Pass(1), Reply::Phase(0)),
+        (Call::Pass(0), Reply::Phase(0)),
+        (Call::Pass(2), Reply::Phase(0)),
     ];
     let _state = play(
         &rt,
@@ -290,11 +328,11 @@ fn single_statement(rt: HostRuntime) -> Result<(), Fail> {
 #[test]
 fn history_full(rt: HostRuntime) -> Result<(), Fail> {
     let rows = [
-        (Call::Make(0, Mode::SigWait), Answer::Done),
-        (Call::Signal(0, None), Answer::Done),
-        (Call::Pass(0), Answer::Passed(0)),
-        (Call::Signal(0, None), Answer::Refused(Refusal::HistoryFull)),
-        (Call::DropTask(0), Answer::Done),
+        (Call::Make(0, Mode::SigWait), Reply::Done),
+        (Call::Signal(0, None), Reply::Done),
+        (Call::Pass(0), Reply::Phase(0)),
+        (Call::Signal(0, None), Reply::Refused(Refusal::HistoryFull)),
+        (Call::Drop(0), Reply::Done),
     ];
     let state = play(
         &rt,
@@ -311,27 +349,27 @@ fn history_full(rt: HostRuntime) -> Result<(), Fail> {
 #[test]
 fn refusals_in_order(rt: HostRuntime) -> Result<(), Fail> {
     let rows = [
-        (Call::Make(0, Mode::SigWait), Answer::Done),
-        (Call::Register(0, 1, Mode::Wait), Answer::Done),
-        (Call::Signal(1, None), Answer::Refused(Refusal::NoSignal)),
+        (Call::Make(0, Mode::SigWait), Reply::Done),
+        (Call::Register(0, 1, Mode::Wait), Reply::Done),
+        (Call::Signal(1, None), Reply::Refused(Refusal::NoSignal)),
         (
             Call::Register(0, 1, Mode::Sig),
-            Answer::Refused(Refusal::RegisteredTwice),
+            Reply::Refused(Refusal::RegisteredTwice),
         ),
         (
             Call::Signal(9, None),
-            Answer::Refused(Refusal::NotRegistered),
+            Reply::Refused(Refusal::NotRegistered),
         ),
-        (Call::Signal(0, Some(5)), Answer::Refused(Refusal::NoSingle)),
-        (Call::Pass(0), Answer::Refused(Refusal::NotSignalled)),
-        (Call::Register(0, 2, Mode::Sig), Answer::Done),
-        (Call::Look(2, 0), Answer::Refused(Refusal::NoWait)),
-        (Call::DropTask(1), Answer::Done),
+        (Call::Signal(0, Some(5)), Reply::Refused(Refusal::NoSingle)),
+        (Call::Pass(0), Reply::Refused(Refusal::NotSignalled)),
+        (Call::Register(0, 2, Mode::Sig), Reply::Done),
+        (Call::Look(2, 0), Reply::Refused(Refusal::NoWait)),
+        (Call::Drop(1), Reply::Done),
         (
             Call::Register(0, 1, Mode::Wait),
-            Answer::Refused(Refusal::RegisteredTwice),
+            Reply::Refused(Refusal::RegisteredTwice),
         ),
-        (Call::Make(3, Mode::Sig), Answer::Refused(Refusal::NotNow)),
+        (Call::Make(3, Mode::Sig), Reply::Refused(Refusal::NotNow)),
     ];
     let _state = play(
         &rt,
@@ -347,14 +385,14 @@ fn refusals_in_order(rt: HostRuntime) -> Result<(), Fail> {
 #[test]
 fn registrations_full(rt: HostRuntime) -> Result<(), Fail> {
     let rows = [
-        (Call::Make(0, Mode::SigWait), Answer::Done),
+        (Call::Make(0, Mode::SigWait), Reply::Done),
         (
             Call::Register(0, 256, Mode::Sig),
-            Answer::Refused(Refusal::TasksFull),
+            Reply::Refused(Refusal::TasksFull),
         ),
         (
             Call::Register(0, 1, Mode::Sig),
-            Answer::Refused(Refusal::RegsFull),
+            Reply::Refused(Refusal::RegsFull),
         ),
     ];
     let _state = play(
@@ -371,12 +409,12 @@ fn registrations_full(rt: HostRuntime) -> Result<(), Fail> {
 #[test]
 fn room_for_a_single(rt: HostRuntime) -> Result<(), Fail> {
     let refused = [
-        (Call::Make(0, Mode::Single), Answer::Done),
+        (Call::Make(0, Mode::Single), Reply::Done),
         (
             Call::Signal(0, Some(7)),
-            Answer::Refused(Refusal::HistoryFull),
+            Reply::Refused(Refusal::HistoryFull),
         ),
-        (Call::Signal(0, None), Answer::Done),
+        (Call::Signal(0, None), Reply::Done),
     ];
     let state = play(
         &rt,
@@ -387,12 +425,12 @@ fn room_for_a_single(rt: HostRuntime) -> Result<(), Fail> {
     )?;
     assert!(rt; !state.is_full());
     let done = [
-        (Call::Make(0, Mode::Single), Answer::Done),
-        (Call::Signal(0, Some(7)), Answer::Done),
-        (Call::Pass(0), Answer::Claimed(7)),
-        (Call::SingleDone(0), Answer::Done),
-        (Call::Pass(0), Answer::Refused(Refusal::HistoryFull)),
-        (Call::DropTask(0), Answer::Done),
+        (Call::Make(0, Mode::Single), Reply::Done),
+        (Call::Signal(0, Some(7)), Reply::Done),
+        (Call::Pass(0), Reply::Claim(7)),
+        (Call::SingleDone(0), Reply::Done),
+        (Call::Pass(0), Reply::Refused(Refusal::HistoryFull)),
+        (Call::Drop(0), Reply::Done),
     ];
     let state = play(
         &rt,
@@ -409,16 +447,16 @@ fn room_for_a_single(rt: HostRuntime) -> Result<(), Fail> {
 #[test]
 fn plain_waiter_holds_still(rt: HostRuntime) -> Result<(), Fail> {
     let rows = [
-        (Call::Make(0, Mode::Single), Answer::Done),
-        (Call::Register(0, 1, Mode::SigWait), Answer::Done),
-        (Call::Signal(0, Some(7)), Answer::Done),
-        (Call::Signal(1, None), Answer::Done),
-        (Call::Pass(1), Answer::NotYet),
-        (Call::Pass(0), Answer::Claimed(7)),
-        (Call::Pass(1), Answer::NotYet),
-        (Call::SingleDone(0), Answer::Done),
-        (Call::Pass(1), Answer::Passed(0)),
-        (Call::Pass(0), Answer::Passed(0)),
+        (Call::Make(0, Mode::Single), Reply::Done),
+        (Call::Register(0, 1, Mode::SigWait), Reply::Done),
+        (Call::Signal(0, Some(7)), Reply::Done),
+        (Call::Signal(1, None), Reply::Done),
+        (Call::Pass(1), Reply::NotYet),
+        (Call::Pass(0), Reply::Claim(7)),
+        (Call::Pass(1), Reply::NotYet),
+        (Call::SingleDone(0), Reply::Done),
+        (Call::Pass(1), Reply::Phase(0)),
+        (Call::Pass(0), Reply::Phase(0)),
     ];
     let _state = play(
         &rt,

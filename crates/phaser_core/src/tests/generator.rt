@@ -86,7 +86,7 @@ impl Dice {
             21..=23 => Call::SingleDone(task),
             24..=26 => Call::Send(task, self.accumulator(), self.value()),
             27..=30 => Call::Look(task, self.accumulator()),
-            _ => Call::DropTask(task),
+            _ => Call::Drop(task),
         }
     }
 }

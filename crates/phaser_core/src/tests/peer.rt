@@ -104,7 +104,7 @@ fn cause(history: &History, call: Call) -> Option<Refusal> {
         Call::Register(parent, child, mode) => register_causes(history, parent, child, mode),
         Call::Signal(task, number) => signal_causes(history, task, number),
         Call::Pass(task) => pass_causes(history, task),
-        Call::SingleDone(task) | Call::DropTask(task) => {
+        Call::SingleDone(task) | Call::Drop(task) => {
             let causes = [
                 (!live(history, task), Refusal::NotRegistered),
                 (!allowed(history, event_for(history, call)), Refusal::NotNow),
@@ -116,7 +116,7 @@ fn cause(history: &History, call: Call) -> Option<Refusal> {
     }
 }
 
-/// Whether a task that waits has to come again, where it may claim nothing.
+/// Whether a task that waits may not pass yet, where it may claim nothing.
 fn must_wait(history: &History, call: Call) -> bool {
     let Call::Pass(task) = call else {
         return false;
@@ -152,33 +152,31 @@ fn event_for(history: &History, call: Call) -> Event {
             accumulator,
             seen_by(history, task, accumulator),
         ),
-        Call::DropTask(task) => Event::Drop(task),
+        Call::Drop(task) => Event::Drop(task),
     }
 }
 
-/// The answer to a call that adds this event.
-fn answer_of(history: &History, event: Event) -> Answer {
+/// The reply to a call that adds this event.
+fn reply_for(history: &History, event: Event) -> Reply {
     match event {
-        Event::Pass(task) => Answer::Passed(waits(history, task)),
-        Event::Claim(task) => {
-            Answer::Claimed(proposed(history, waits(history, task)).unwrap_or(0))
-        }
-        Event::Look(_, _, seen) => Answer::Saw(seen),
-        _ => Answer::Done,
+        Event::Pass(task) => Reply::Phase(waits(history, task)),
+        Event::Claim(task) => { Reply::Claim(proposed(history, waits(history, task)).unwrap_or(0)) }
+        Event::Look(_, _, seen) => Reply::Saw(seen),
+        _ => Reply::Done,
     }
 }
 
-/// What the call is answered, and the event that it adds if it is done.
-pub(super) fn expected(history: &History, call: Call) -> (Answer, Option<Event>) {
+/// The reply to the call, and the event that it adds if it is done.
+pub(super) fn expected(history: &History, call: Call) -> (Reply, Option<Event>) {
     let event = event_for(history, call);
     if allowed(history, event) {
-        return (answer_of(history, event), Some(event));
+        return (reply_for(history, event), Some(event));
     }
     if let Some(refusal) = cause(history, call) {
-        return (Answer::Refused(refusal), None);
+        return (Reply::Refused(refusal), None);
     }
     if must_wait(history, call) {
-        return (Answer::NotYet, None);
+        return (Reply::NotYet, None);
     }
-    (Answer::Refused(Refusal::HistoryFull), None)
+    (Reply::Refused(Refusal::HistoryFull), None)
 }

@@ -18,54 +18,54 @@ enum Verb {
     DropTask,
 }
 
-/// Every call with every kind of answer that it can have, numbers made 0, but for `Memory`.
-const KINDS: [(Verb, Answer); 46] = [
-    (Verb::Make, Answer::Done),
-    (Verb::Make, Answer::Refused(Refusal::NotNow)),
-    (Verb::Make, Answer::Refused(Refusal::TasksFull)),
-    (Verb::Register, Answer::Done),
-    (Verb::Register, Answer::Refused(Refusal::NotRegistered)),
-    (Verb::Register, Answer::Refused(Refusal::MoreThanParent)),
-    (Verb::Register, Answer::Refused(Refusal::TasksFull)),
-    (Verb::Register, Answer::Refused(Refusal::RegisteredTwice)),
-    (Verb::Register, Answer::Refused(Refusal::RegsFull)),
-    (Verb::Register, Answer::Refused(Refusal::HistoryFull)),
-    (Verb::Signal, Answer::Done),
-    (Verb::Signal, Answer::Refused(Refusal::NotRegistered)),
-    (Verb::Signal, Answer::Refused(Refusal::NoSignal)),
-    (Verb::Signal, Answer::Refused(Refusal::AlreadySignalled)),
-    (Verb::Signal, Answer::Refused(Refusal::HistoryFull)),
-    (Verb::Propose, Answer::Done),
-    (Verb::Propose, Answer::Refused(Refusal::NotRegistered)),
-    (Verb::Propose, Answer::Refused(Refusal::NoSignal)),
-    (Verb::Propose, Answer::Refused(Refusal::NoSingle)),
-    (Verb::Propose, Answer::Refused(Refusal::AlreadySignalled)),
-    (Verb::Propose, Answer::Refused(Refusal::SingleMismatch)),
-    (Verb::Propose, Answer::Refused(Refusal::HistoryFull)),
-    (Verb::Pass, Answer::Passed(0)),
-    (Verb::Pass, Answer::Claimed(0)),
-    (Verb::Pass, Answer::NotYet),
-    (Verb::Pass, Answer::Refused(Refusal::NotRegistered)),
-    (Verb::Pass, Answer::Refused(Refusal::NotSignalled)),
-    (Verb::Pass, Answer::Refused(Refusal::HistoryFull)),
-    (Verb::SingleDone, Answer::Done),
-    (Verb::SingleDone, Answer::Refused(Refusal::NotRegistered)),
-    (Verb::SingleDone, Answer::Refused(Refusal::NotNow)),
-    (Verb::Send, Answer::Done),
-    (Verb::Send, Answer::Refused(Refusal::NotRegistered)),
-    (Verb::Send, Answer::Refused(Refusal::NoSignal)),
-    (Verb::Send, Answer::Refused(Refusal::NoAccumulator)),
-    (Verb::Send, Answer::Refused(Refusal::HistoryFull)),
-    (Verb::Look, Answer::Saw(Look::Value(0))),
-    (Verb::Look, Answer::Saw(Look::Nothing)),
-    (Verb::Look, Answer::Refused(Refusal::NotRegistered)),
-    (Verb::Look, Answer::Refused(Refusal::NoWait)),
-    (Verb::Look, Answer::Refused(Refusal::NoAccumulator)),
-    (Verb::Look, Answer::Refused(Refusal::NoPhaseYet)),
-    (Verb::Look, Answer::Refused(Refusal::HistoryFull)),
-    (Verb::DropTask, Answer::Done),
-    (Verb::DropTask, Answer::Refused(Refusal::NotRegistered)),
-    (Verb::DropTask, Answer::Refused(Refusal::NotNow)),
+/// Every call with every kind of reply that it can have, numbers made 0, but for `Memory`.
+const KINDS: [(Verb, Reply); 46] = [
+    (Verb::Make, Reply::Done),
+    (Verb::Make, Reply::Refused(Refusal::NotNow)),
+    (Verb::Make, Reply::Refused(Refusal::TasksFull)),
+    (Verb::Register, Reply::Done),
+    (Verb::Register, Reply::Refused(Refusal::NotRegistered)),
+    (Verb::Register, Reply::Refused(Refusal::MoreThanParent)),
+    (Verb::Register, Reply::Refused(Refusal::TasksFull)),
+    (Verb::Register, Reply::Refused(Refusal::RegisteredTwice)),
+    (Verb::Register, Reply::Refused(Refusal::RegsFull)),
+    (Verb::Register, Reply::Refused(Refusal::HistoryFull)),
+    (Verb::Signal, Reply::Done),
+    (Verb::Signal, Reply::Refused(Refusal::NotRegistered)),
+    (Verb::Signal, Reply::Refused(Refusal::NoSignal)),
+    (Verb::Signal, Reply::Refused(Refusal::AlreadySignalled)),
+    (Verb::Signal, Reply::Refused(Refusal::HistoryFull)),
+    (Verb::Propose, Reply::Done),
+    (Verb::Propose, Reply::Refused(Refusal::NotRegistered)),
+    (Verb::Propose, Reply::Refused(Refusal::NoSignal)),
+    (Verb::Propose, Reply::Refused(Refusal::NoSingle)),
+    (Verb::Propose, Reply::Refused(Refusal::AlreadySignalled)),
+    (Verb::Propose, Reply::Refused(Refusal::SingleMismatch)),
+    (Verb::Propose, Reply::Refused(Refusal::HistoryFull)),
+    (Verb::Pass, Reply::Phase(0)),
+    (Verb::Pass, Reply::Claim(0)),
+    (Verb::Pass, Reply::NotYet),
+    (Verb::Pass, Reply::Refused(Refusal::NotRegistered)),
+    (Verb::Pass, Reply::Refused(Refusal::NotSignalled)),
+    (Verb::Pass, Reply::Refused(Refusal::HistoryFull)),
+    (Verb::SingleDone, Reply::Done),
+    (Verb::SingleDone, Reply::Refused(Refusal::NotRegistered)),
+    (Verb::SingleDone, Reply::Refused(Refusal::NotNow)),
+    (Verb::Send, Reply::Done),
+    (Verb::Send, Reply::Refused(Refusal::NotRegistered)),
+    (Verb::Send, Reply::Refused(Refusal::NoSignal)),
+    (Verb::Send, Reply::Refused(Refusal::NoAccumulator)),
+    (Verb::Send, Reply::Refused(Refusal::HistoryFull)),
+    (Verb::Look, Reply::Saw(Look::Value(0))),
+    (Verb::Look, Reply::Saw(Look::Nothing)),
+    (Verb::Look, Reply::Refused(Refusal::NotRegistered)),
+    (Verb::Look, Reply::Refused(Refusal::NoWait)),
+    (Verb::Look, Reply::Refused(Refusal::NoAccumulator)),
+    (Verb::Look, Reply::Refused(Refusal::NoPhaseYet)),
+    (Verb::Look, Reply::Refused(Refusal::HistoryFull)),
+    (Verb::DropTask, Reply::Done),
+    (Verb::DropTask, Reply::Refused(Refusal::NotRegistered)),
+    (Verb::DropTask, Reply::Refused(Refusal::NotNow)),
 ];
 
 fn verb_of(call: Call) -> Verb {
@@ -78,16 +78,16 @@ fn verb_of(call: Call) -> Verb {
         Call::SingleDone(_) => Verb::SingleDone,
         Call::Send(_, _, _) => Verb::Send,
         Call::Look(_, _) => Verb::Look,
-        Call::DropTask(_) => Verb::DropTask,
+        Call::Drop(_) => Verb::DropTask,
     }
 }
 
-/// The answer with its number made 0.
-fn without_number(answer: Answer) -> Answer {
-    match answer {
-        Answer::Passed(_) => Answer::Passed(0),
-        Answer::Claimed(_) => Answer::Claimed(0),
-        Answer::Saw(Look::Value(_)) => Answer::Saw(Look::Value(0)),
+/// The reply with its number made 0.
+fn without_number(reply: Reply) -> Reply {
+    match reply {
+        Reply::Phase(_) => Reply::Phase(0),
+        Reply::Claim(_) => Reply::Claim(0),
+        Reply::Saw(Look::Value(_)) => Reply::Saw(Look::Value(0)),
         other => other,
     }
 }
@@ -99,8 +99,8 @@ struct Tally {
 }
 
 impl Tally {
-    fn add(&mut self, call: Call, answer: Answer) {
-        let kind = (verb_of(call), without_number(answer));
+    fn add(&mut self, call: Call, reply: Reply) {
+        let kind = (verb_of(call), without_number(reply));
         for (count, known) in self.counts.iter_mut().zip(KINDS) {
             if known == kind {
                 *count = count.saturating_add(1);
@@ -108,7 +108,7 @@ impl Tally {
         }
     }
 
-    /// How many answers were of one of the kinds.
+    /// How many replies were of one of the kinds.
     fn total(&self) -> u64 {
         let mut total: u64 = 0;
         for count in self.counts.iter() {
@@ -118,10 +118,10 @@ impl Tally {
     }
 }
 
-/// Makes one call on both, which answer alike and add the same event.
-fn step(rt: &impl Abort, state: &mut PhaserState, peer: &mut History, call: Call) -> Answer {
-    let (answered, event) = expected(peer, call);
-    assert_eq!(rt; answer_to(state, call), answered, "{call:?}");
+/// Makes one call on both, which reply alike and add the same event.
+fn step(rt: &impl Abort, state: &mut PhaserState, peer: &mut History, call: Call) -> Reply {
+    let (wanted, event) = expected(peer, call);
+    assert_eq!(rt; state.apply(call), wanted, "{call:?}");
     if let Some(event) = event {
         assert!(rt; peer.len() < peer.limits().history);
         peer.add(event);
@@ -131,7 +131,7 @@ fn step(rt: &impl Abort, state: &mut PhaserState, peer: &mut History, call: Call
         state.history().events().last() == peer.events().last(),
         "{call:?}"
     );
-    answered
+    wanted
 }
 
 /// The limits of a phaser: a third have room for all calls, and a third for few.
@@ -164,8 +164,8 @@ fn play_both(
     let mut peer = History::new(alloc, limits, ops)?;
     for _ in 0..120 {
         let call = dice.call(&peer);
-        let answered = step(rt, &mut state, &mut peer, call);
-        tally.add(call, answered);
+        let reply = step(rt, &mut state, &mut peer, call);
+        tally.add(call, reply);
     }
     assert!(rt; state.history().events() == peer.events());
     agrees_with_plain(rt, &state);

@@ -1,10 +1,9 @@
-use Rattle.std.proofs.Common.{Option, List, ℕ, drop, map}
+use Rattle.std.proofs.Common.{Option, List, ℕ, drop}
 use Rattle.std.specs.Io.KnownBytes.{Appends}
-use Rattle.phase_model.specs.Replies.{lines}
-use Rattle.events_text.specs.Reading.{call_view}
+use Rattle.phase_model.specs.Replies.{replies}
 use Rattle.events_text.specs.Lines.{text_of}
 use Rattle.phaser_run.proofs.events.write_replies.Given as goal
 
 abbrev pub invariant-loop-call : goal.invariant-loop-call
-invariant-loop-call g l = (final : Option (List ℕ)) → Appends (g.W.Write.contents l.out) final (text_of (lines l.state (map call_view (drop l.call-index l.calls))))
-    → Appends (g.W.Write.contents l.initial.out) final (text_of (lines l.initial.state (map call_view l.calls)))
+invariant-loop-call g l = (final : Option (List ℕ)) → Appends (g.W.Write.contents l.out) final (text_of (replies l.state.story (drop l.call-index l.calls)))
+    → Appends (g.W.Write.contents l.initial.out) final (text_of (replies l.initial.state.story l.calls))

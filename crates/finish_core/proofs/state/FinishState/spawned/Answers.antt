@@ -1,4 +1,4 @@
--- There is room for the spawn, the task has a bit, and the notes stand afterwards.
+-- There is room for the spawn, the task has a bit, and the fields stand for the history afterwards.
 use Rattle.std.proofs.Common.{reverse, arith}
 use Rattle.std.proofs.lemmas.List.{length-reverse}
 use Rattle.finish_core.specs.declared.event.FinishEvent.TheVariants.{Spawned}

@@ -1,10 +1,10 @@
 use Rattle.std.proofs.Common.{subst}
 use Rattle.phase_model.specs.Ordering.{IsOrdered}
-use Rattle.phase_model.specs.Rules.{Story}
+use Rattle.phaser_core.specs.Phaser.{Phaser}
 use Rattle.phase_model.proofs.OrderingLaw.{legal_is_ordered}
 use Rattle.phaser_core.proofs.state.PhaserState.history.Goals as goal
 
 pub returns-clause-ordered : goal.returns-clause-ordered
 returns-clause-ordered c =
     let s = c.self.inside.history in
-    subst (λ (v : Story). IsOrdered v.past) c.self.view_is (legal_is_ordered s.limits s.ops s.past c.self.invariant.stands.legal)
+    subst (λ (v : Phaser). IsOrdered v.story.past) c.self.view_is (legal_is_ordered s.limits s.ops s.past c.self.invariant.stands.legal)

@@ -1,0 +1,26 @@
+-- What the calls of a phaser return, as replies.
+use Rattle.std.specs.Prelude.{Result, Ok, Err}
+use Rattle.phase_modes.specs.declared.refusal.Refusal.{Refusal}
+use Rattle.phase_model.specs.declared.op.Look.{Look}
+use Rattle.phase_model.specs.declared.reply.Reply.{Reply}
+use Rattle.phase_model.specs.declared.reply.Reply.TheVariants.{Done, Phase, Claim, Saw, NotYet, Refused}
+use Rattle.phaser_core.specs.declared.state.Passing.{Passing}
+use Rattle.phaser_core.specs.declared.state.Passing.TheVariants.{Passed, Claimed}
+use Rattle.phaser_core.specs.declared.state.Passing.TheVariants as passings
+
+-- of a call without a result of its own
+abbrev pub done_reply : Result (Unit {0}) Refusal → Reply
+done_reply (Ok u) = Done
+done_reply (Err r) = Refused r
+
+-- of a `pass`
+abbrev pub pass_reply : Result Passing Refusal → Reply
+pass_reply (Ok (Passed p)) = Phase p
+pass_reply (Ok (Claimed n)) = Claim n
+pass_reply (Ok passings.NotYet) = NotYet
+pass_reply (Err r) = Refused r
+
+-- of a `look`
+abbrev pub look_reply : Result Look Refusal → Reply
+look_reply (Ok x) = Saw x
+look_reply (Err r) = Refused r
