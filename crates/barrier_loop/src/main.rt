@@ -1,5 +1,6 @@
-//! A caller of the library: three tasks at a barrier with one sum, played in turn by one thread. In each
-//! phase each task sends what it changed, and one of them runs a statement before the others go on.
+//! A caller of the library: three tasks at a barrier with one sum, played in turn by one thread. In
+//! each phase each task sends what it changed, and one of them runs a statement before the others
+//! go on.
 #![tactic(auto)]
 
 use phase_model::{Look, Op, Ops};

@@ -70,7 +70,7 @@ fn fill(state: &mut PhaserState, kind: Kind, tasks: u32) {
     }
 }
 
-/// Fills a phaser, and tells how many calls of the kind were done. Each is one event.
+/// Fills a phaser, and returns how many calls of the kind were done. Each is one event.
 fn calls_on_one(alloc: Global, job: Job) -> Result<u32, Refusal> {
     let mut state = ready(alloc, job.tasks)?;
     let before = state.history().len();
@@ -78,7 +78,7 @@ fn calls_on_one(alloc: Global, job: Job) -> Result<u32, Refusal> {
     Ok(state.history().len().saturating_sub(before))
 }
 
-/// Fills the job's phasers one after the other, and tells how many calls of the kind were done in
+/// Fills the job's phasers one after the other, and returns how many calls of the kind were done in
 /// all. An error is `Memory`, where a phaser got none.
 pub fn calls_on_all(alloc: Global, job: Job) -> Result<u64, Refusal> {
     let mut calls: u64 = 0;

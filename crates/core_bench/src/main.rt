@@ -11,7 +11,7 @@ use std::env;
 use std::process::ExitCode;
 use words::job_of;
 
-/// What is told where the words are bad.
+/// What is printed where the words are bad.
 const USAGE: &str =
     "usage: core_bench none|turn|send|look TASKS PHASERS (1 to 256 tasks, 1 to 1000 phasers)\n";
 
@@ -36,13 +36,13 @@ fn run(rt: &HostRuntime) -> u8 {
         }
     }
     match job_of(borrowed.as_slice()) {
-        Some(job) => tell(rt, calls_on_all(rt.alloc(), job).ok()),
+        Some(job) => report(rt, calls_on_all(rt.alloc(), job).ok()),
         None => bad_words(rt),
     }
 }
 
 /// Prints the number of calls, where there was memory for them.
-fn tell(rt: &HostRuntime, calls: Option<u64>) -> u8 {
+fn report(rt: &HostRuntime, calls: Option<u64>) -> u8 {
     let Some(calls) = calls else {
         return 1;
     };

@@ -5,7 +5,7 @@ ghost use Rattle.core_bench.specs.Words.{IsNumberUpTo, number_in, Names};
 use crate::job::Job;
 use crate::kind::Kind;
 
-/// The number that the word tells, where it is 1 or more, and at most so many.
+/// The number that the word spells, where it is 1 or more, and at most so many.
 fn number_of(word: &str, most: u32) -> Option<u32>
     ensures { SomeIff result (IsNumberUpTo most word.now) (number_in word.now) }
 {

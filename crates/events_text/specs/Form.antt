@@ -166,7 +166,8 @@ named_limits_in d =
 
 -- the keys of the limits
 abbrev pub limit_keys : List (List ℕ)
-limit_keys = codes "acts" ∷ codes "finishes" ∷ codes "history" ∷ codes "phasers" ∷ codes "regs" ∷ codes "tasks" ∷ []
+limit_keys = codes "acts" ∷ codes "finishes" ∷ codes "history" ∷ codes "phasers" ∷ codes "regs"
+    ∷ codes "tasks" ∷ []
 
 -- the limits, in an object that has no other keys
 unfoldable pub limits_in : Data → Option Limits

@@ -1,5 +1,5 @@
-//! The text of an events file, from bytes to calls. What a text spells, and what is printed for it, is
-//! defined in `specs/`.
+//! The text of an events file, from bytes to calls. What a text spells, and what is printed for it,
+//! is defined in `specs/`.
 #![tactic(auto)]
 
 mod events_file;

@@ -334,7 +334,8 @@ struct Outer<'a> {
 /// The outer object, where nothing is wrong outside the calls.
 #[tactic(auto, unfolding(crate::specs::Form::outer_in))]
 fn outer_of(file: &Value) -> Option<Outer<'_>>
-    ensures outer { option_map (λ o. (o.limits, o.ops, items_view o.calls.now.items)) result ≡ outer_in (view file.now) }
+    ensures outer { option_map (λ o. (o.limits, o.ops, items_view o.calls.now.items)) result
+        ≡ outer_in (view file.now) }
     ensures fit { IfSome result (λ o. limits_fit o.limits ≡ true) }
 {
     if !has_only_keys(file, &["limits", "accs", "calls"]) {
@@ -374,9 +375,10 @@ fn is_memory(error: &Error) -> bool
     error.classify() == Category::Memory
 }
 
-/// Reads the bytes of an events file. `BadText` where they are not of the form: its place is 0 where
-/// the bytes are no JSON or the outer object is wrong, else the number of the first call that is
-/// wrong, counted from 1. `Memory` where there is too little for the JSON value or for the calls.
+/// Reads the bytes of an events file. `BadText` where they are not of the form: its place is 0
+/// where the bytes are no JSON or the outer object is wrong, else the number of the first call that
+/// is wrong, counted from 1. `Memory` where there is too little for the JSON value or for the
+/// calls.
 pub fn read_events(alloc: Global, bytes: &[u8]) -> Result<EventsFile, Refusal>
     ensures { Gives form_view result (form_of (reading bytes.now)) }
 {

@@ -78,7 +78,8 @@ fn outer_object(rt: HostRuntime) -> Result<(), Fail> {
     Ok(())
 }
 
-/// The place of the first fault of a list with `call` as its third item, and a fourth that is no call.
+/// The place of the first fault of a list with `call` as its third item, and a fourth that is no
+/// call.
 fn place_of_third(rt: &HostRuntime, call: &str) -> Result<Option<u64>, Fail> {
     let text = format!(in rt.alloc(); "{{\"calls\":[[\"sig\",0],[\"sig\",0],{call},7]}}")?;
     place_of(rt, text.as_str())

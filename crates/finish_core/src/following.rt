@@ -1,5 +1,5 @@
-//! What may follow a list of events, computed from the whole list. It goes over lists with the oldest
-//! event first, as they are stored.
+//! What may follow a list of events, computed from the whole list. It goes over lists with the
+//! oldest event first, as they are stored.
 ghost use Rattle.std.specs.Prelude.{◌≡◌, reverse};
 ghost use Rattle.finish_core.specs.Finish.{is_open, is_spawned, has_ended, all_ended, is_allowed};
 

@@ -45,7 +45,8 @@ fn operators_are_a_list(rt: HostRuntime) -> Result<(), Fail> {
     Ok(())
 }
 
-/// A task sends 3 twice; another signals, and sends 3 after that; the first signals, passes and looks.
+/// A task sends 3 twice; another signals, and sends 3 after that; the first signals, passes and
+/// looks.
 const VALUES: [Event; 9] = [
     Event::Make(0, Mode::SigWait),
     Event::Reg(0, 1, Mode::Sig),

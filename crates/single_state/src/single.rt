@@ -7,8 +7,8 @@ use phase_modes::Refusal;
 use std::marker::Model;
 
 /// The last proposed single of a phaser, none where nothing was proposed yet. A single is proposed
-/// only once the one before it is done, so that the older ones need not be remembered. Contracts see
-/// the statement.
+/// only once the one before it is done, so that the older ones need not be remembered. Contracts
+/// see the statement.
 #[derive(Clone, Copy, Debug, PartialEq, Eq)]
 pub struct Single {
     last: Option<Statement>,
@@ -37,8 +37,10 @@ impl Single {
     /// `SingleMismatch` where another number stands for the phase.
     pub fn propose(&mut self, phase: u32, number: u32) -> Result<(), Refusal>
         requires { MayPropose self.old phase }
-        ensures result { result ≡ (if is_mismatch self.old phase number then Err Refusal.SingleMismatch else Ok tt) }
-        ensures state { self.new ≡ (if is_mismatch self.old phase number then self.old else proposed self.old phase number) }
+        ensures result { result
+            ≡ (if is_mismatch self.old phase number then Err Refusal.SingleMismatch else Ok tt) }
+        ensures state { self.new
+            ≡ (if is_mismatch self.old phase number then self.old else proposed self.old phase number) }
     {
         match self.last {
             Some(last) if last.phase == phase => {

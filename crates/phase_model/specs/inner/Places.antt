@@ -7,7 +7,8 @@ use Rattle.phase_model.specs.declared.op.Op.TheVariants.{Sum}
 use Rattle.phase_model.specs.declared.ops.Ops.TheInside.{Inside}
 
 -- the list gives the four places back
-pub places_back : (ops : List Op) (len : ℕ) → len ≤ 4 → length ops ≡ 4 → drop len ops ≡ replicate (4 - len) Sum
+pub places_back : (ops : List Op) (len : ℕ) → len ≤ 4 → length ops ≡ 4
+    → drop len ops ≡ replicate (4 - len) Sum
     → ◌≡◌ {A = Inside} (record { ops = take len ops ++ replicate (4 - length (take len ops)) Sum; len = length (take len ops) }) (record { ops = ops; len = len })
 places_back ops len few four filled =
     let within : len ≤ length ops = omega arith in

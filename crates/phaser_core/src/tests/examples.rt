@@ -345,7 +345,7 @@ fn history_full(rt: HostRuntime) -> Result<(), Fail> {
     Ok(())
 }
 
-/// Each call tells the first refusal whose cause stands.
+/// Each call is refused with the first refusal whose condition is not met.
 #[test]
 fn refusals_in_order(rt: HostRuntime) -> Result<(), Fail> {
     let rows = [
