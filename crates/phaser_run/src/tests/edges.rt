@@ -188,7 +188,13 @@ fn no_read_after_a_fault(rt: HostRuntime) {
     let mut faults = Vec::new(rt.alloc());
     let ended = ending_from(rt.alloc(), &mut reader, &mut reads, &mut out, &mut faults);
     let told = true;
-    assert_eq!(rt; ended, Ending { status: Status::Fault, told });
+    assert_eq!(rt;
+        ended,
+        Ending {
+            status: Status::Fault,
+            told
+        }
+    );
     assert_eq!(rt; reader.calls, 9);
     assert_eq!(rt; out.len(), 0);
     assert_eq!(rt; faults.as_slice(), b"fault read\n".as_slice());
@@ -262,11 +268,17 @@ fn too_long_in_memory(rt: HostRuntime) -> Result<(), Fail> {
     }
     let mut out = Vec::new(rt.alloc());
     let mut faults = Vec::new(rt.alloc());
-    assert_eq!(rt; events_on(rt.alloc(), &text, &mut out, &mut faults), Status::Done);
+    assert_eq!(rt;
+        events_on(rt.alloc(), &text, &mut out, &mut faults),
+        Status::Done
+    );
     assert_eq!(rt; out.as_slice(), OUTPUT);
     text.push(b' ')?;
     let mut out = Vec::new(rt.alloc());
-    assert_eq!(rt; events_on(rt.alloc(), &text, &mut out, &mut faults), Status::Refused);
+    assert_eq!(rt;
+        events_on(rt.alloc(), &text, &mut out, &mut faults),
+        Status::Refused
+    );
     assert_eq!(rt; faults.as_slice(), b"refused 24 BadText at 0\n".as_slice());
     let refused = Err(Failure::Refused(Refusal::BadText(0)));
     assert_eq!(rt; answer(rt.alloc(), &text, &mut out), refused);

@@ -97,7 +97,12 @@ fn bad_words(rt: HostRuntime) -> Result<(), Fail> {
 #[test]
 fn version(rt: HostRuntime) -> Result<(), Fail> {
     let alloc = rt.alloc();
-    is_bad(&rt, alloc, &["phaser_run", "--version"], "phaser_run 0.1.0\n")?;
+    is_bad(
+        &rt,
+        alloc,
+        &["phaser_run", "--version"],
+        "phaser_run 0.1.0\n",
+    )?;
     is_bad(&rt, alloc, &["phaser_run", "-V"], "phaser_run 0.1.0\n")?;
     is_bad(
         &rt,
