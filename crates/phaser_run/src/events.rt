@@ -47,7 +47,8 @@ pub fn answer<W: Write>(alloc: Global, input: &[u8], out: &mut W) -> Result<(), 
     ensures done { OnOk result ((file : Form) × (file_spelled input.now ≡ Ok file)
         × Appends (W.contents out.old) (W.contents out.new) (text_for file)) }
     // A refusal writes nothing.
-    ensures refused { IfErr result (λ f. status_of f ≡ Status.Refused → Keeps (W.contents out.old) (W.contents out.new)) }
+    ensures refused { IfErr result (λ f. status_of f ≡ Status.Refused
+        → Keeps (W.contents out.old) (W.contents out.new)) }
     // A text is refused at its first fault, and a write fails only for a text that has none.
     ensures failure { IfErr result (IsOfAnswer input.now) }
 {
