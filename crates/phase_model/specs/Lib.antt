@@ -11,3 +11,4 @@ pub mod SingleLaws
 pub mod Singles
 pub mod Tasks
 pub mod Values
+pub mod Waiting
