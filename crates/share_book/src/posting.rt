@@ -33,9 +33,9 @@ pub fn post<K: Ledgers>(
     event: &Event,
 )
     requires { 0 < phaser.old.room }
-    ensures books { books.new.totals ≡ plus books.old.totals (amount event.now) }
-    ensures phaser { phaser.new.totals ≡ plus phaser.old.totals (amount event.now) }
-    ensures mine { mine.new ≡ plus mine.old (amount event.now) }
+    ensures books { books.new.totals ≡ plus (amount event.now) books.old.totals }
+    ensures phaser { phaser.new.totals ≡ plus (amount event.now) phaser.old.totals }
+    ensures mine { mine.new ≡ plus (amount event.now) mine.old }
     ensures room { (books.new.room + 1 ≡ books.old.room) × (phaser.new.room + 1 ≡ phaser.old.room) }
     ensures same { (books.new.phasers ≡ books.old.phasers) × (phaser.new.number ≡ phaser.old.number) }
 {
