@@ -24,7 +24,7 @@ use Rattle.phaser_core.specs.Answers.{pass_result, look_result}
 use Rattle.phaser_core.proofs.Reading.{history_fits}
 use Rattle.share_book.specs.Accounts.{Entry, nothing}
 use Rattle.scope_locks.specs.declared.parking.Parked.{Parked}
-use Rattle.scope_locks.specs.Amounts.{weight, amount_if}
+use Rattle.scope_locks.specs.Amounts.{weight, amount_if, plus_nothing}
 use Rattle.scope_locks.specs.Cells.{IsKept}
 use Rattle.scope_locks.specs.Parking.{all_wait, are_parked_once, freed, has_gone_on}
 use Rattle.scope_locks.proofs.Parks.{all_stay, none_freed}
@@ -50,13 +50,6 @@ one_event (Drop t) = refl
 zero_plus : (n : ℕ) → 0 + n ≡ n
 zero_plus n = omega arith
 
--- nothing adds nothing
-pub plus_nothing : (a : Amount) → plus nothing a ≡ a
-plus_nothing a =
-    ap (λ n. record { events = n; up = 0 + a.up; down = 0 + a.down }) (zero_plus a.events)
-    ∙ (ap (λ n. record { events = a.events; up = n; down = 0 + a.down }) (zero_plus a.up)
-    ∙ ap (λ n. record { events = a.events; up = a.up; down = n }) (zero_plus a.down))
-
 -- the story after a reply has the reply's amount more
 pub record Moved (s s' : Story) (w : Amount) : Type 0 where
   pub limits : s'.limits ≡ s.limits
@@ -64,8 +57,8 @@ pub record Moved (s s' : Story) (w : Amount) : Type 0 where
   pub longer : length s'.past ≡ w.events + length s.past
 
 pub moved : (s : Story) (r : Reply) → Moved s (after s r) (weight r)
-moved s (refused x) = record { limits = refl; sums = sym (plus_nothing (totals s.past)); longer = sym (zero_plus (length s.past)) }
-moved s not_yet = record { limits = refl; sums = sym (plus_nothing (totals s.past)); longer = sym (zero_plus (length s.past)) }
+moved s (refused x) = record { limits = refl; sums = plus_nothing (totals s.past); longer = sym (zero_plus (length s.past)) }
+moved s not_yet = record { limits = refl; sums = plus_nothing (totals s.past); longer = sym (zero_plus (length s.past)) }
 moved s (done e) = record { limits = refl; sums = refl; longer = omega (arith, one_event e) }
 
 -- a history that takes one event more had room for it

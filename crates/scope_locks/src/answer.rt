@@ -2,7 +2,7 @@
 use phase_modes::Refusal;
 
 /// What a `pass` answers. The item comes back with it, or it is parked.
-#[derive(Debug, PartialEq, Eq, Drop)]
+#[derive(Drop)]
 pub enum PassAnswer<T> {
     /// The turn of this phase is ended.
     Passed(T, u32),
@@ -15,7 +15,7 @@ pub enum PassAnswer<T> {
 }
 
 /// What a `shut` of a finish answers. The item comes back with it, or it is parked.
-#[derive(Debug, PartialEq, Eq, Drop)]
+#[derive(Drop)]
 pub enum ShutAnswer<T> {
     /// The finish is shut.
     Done(T),

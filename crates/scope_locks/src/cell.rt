@@ -14,10 +14,11 @@ ghost use Rattle.scope_locks.specs.Parking.{is_parked, waiting, freed, locked_pa
 use crate::answer::PassAnswer;
 use crate::out::Out;
 use crate::parking::{Parked, is_phase_open, may_leave, park, release_if};
+use crate::posting::{Post, post_if};
 use phase_model::{Event, Look, Ops};
 use phase_modes::{Limits, Mode, Refusal};
 use phaser_core::{Passing, PhaserState};
-use share_book::{Books, Ledgers, PhaserBook, Shares, post};
+use share_book::{Ledgers, PhaserBook, Shares};
 use std::alloc::Global;
 use std::collections::VecDeque;
 
@@ -32,25 +33,6 @@ pub struct PhaserCell<T, K: Ledgers> {
     ghost kept: { IsKept state.story book parked.items },
     ghost seats: { 256 ≤ deque_capacity parked },
     ghost seated: { deque_len parked ≤ 256 },
-}
-
-/// Posts the event of a call where it was added.
-fn post_if<K: Ledgers>(
-    added: bool,
-    book: &mut PhaserBook<K>,
-    books: &mut Books<K>,
-    mine: &mut Shares<K>,
-    event: Event,
-)
-    requires room { added ≡ true → 0 < book.old.room }
-    ensures book { book.new.totals ≡ plus (amount_if added event) book.old.totals }
-    ensures room { book.new.room + (amount_if added event).events ≡ book.old.room }
-    ensures books { books.new.totals ≡ plus (amount_if added event) books.old.totals }
-    ensures mine { mine.new ≡ plus (amount_if added event) mine.old }
-{
-    if added {
-        post(books, book, mine, &event);
-    }
 }
 
 /// Whether a pass has added an event. What it amounts to is the same for a turn's end and a claim.
@@ -91,9 +73,9 @@ fn settle<T>(
 
 impl<T, K: Ledgers> PhaserCell<T, K> {
     /// The phaser's `make`, with its refusals. Nobody is let go on by it.
-    pub fn make(
+    pub fn make<B: Post<K>>(
         &mut self,
-        books: &mut Books<K>,
+        books: &mut B,
         mine: &mut Shares<K>,
         task: u32,
         mode: Mode,
@@ -102,7 +84,7 @@ impl<T, K: Ledgers> PhaserCell<T, K> {
         ensures history { self.new.state.story
             ≡ after self.old.state.story (reply self.old.state.story (make task mode)) }
         ensures mine { mine.new ≡ plus (amount_if (is_ok result) (Event.Make task mode)) mine.old }
-        ensures books { books.new.totals ≡ plus (amount_if (is_ok result) (Event.Make task mode)) books.old.totals }
+        ensures books { B.rose books.old books.new (amount_if (is_ok result) (Event.Make task mode)) }
         ensures parked { self.new.parked ≡ self.old.parked }
     {
         let PhaserCell { state, book, .. } = self;
@@ -112,9 +94,9 @@ impl<T, K: Ledgers> PhaserCell<T, K> {
     }
 
     /// The phaser's `register`, with its refusals. Nobody is let go on by it.
-    pub fn register(
+    pub fn register<B: Post<K>>(
         &mut self,
-        books: &mut Books<K>,
+        books: &mut B,
         mine: &mut Shares<K>,
         parent: u32,
         child: u32,
@@ -124,7 +106,7 @@ impl<T, K: Ledgers> PhaserCell<T, K> {
         ensures history { self.new.state.story
             ≡ after self.old.state.story (reply self.old.state.story (register parent child mode)) }
         ensures mine { mine.new ≡ plus (amount_if (is_ok result) (Event.Reg parent child mode)) mine.old }
-        ensures books { books.new.totals ≡ plus (amount_if (is_ok result) (Event.Reg parent child mode)) books.old.totals }
+        ensures books { B.rose books.old books.new (amount_if (is_ok result) (Event.Reg parent child mode)) }
         ensures parked { self.new.parked ≡ self.old.parked }
     {
         let PhaserCell { state, book, .. } = self;
@@ -135,9 +117,9 @@ impl<T, K: Ledgers> PhaserCell<T, K> {
     }
 
     /// The phaser's `send`, with its refusals. Nobody is let go on by it.
-    pub fn send(
+    pub fn send<B: Post<K>>(
         &mut self,
-        books: &mut Books<K>,
+        books: &mut B,
         mine: &mut Shares<K>,
         task: u32,
         accumulator: u8,
@@ -147,7 +129,7 @@ impl<T, K: Ledgers> PhaserCell<T, K> {
         ensures history { self.new.state.story
             ≡ after self.old.state.story (reply self.old.state.story (send task accumulator value)) }
         ensures mine { mine.new ≡ plus (amount_if (is_ok result) (Event.Send task accumulator value)) mine.old }
-        ensures books { books.new.totals ≡ plus (amount_if (is_ok result) (Event.Send task accumulator value)) books.old.totals }
+        ensures books { B.rose books.old books.new (amount_if (is_ok result) (Event.Send task accumulator value)) }
         ensures parked { self.new.parked ≡ self.old.parked }
     {
         let PhaserCell { state, book, .. } = self;
@@ -158,9 +140,9 @@ impl<T, K: Ledgers> PhaserCell<T, K> {
     }
 
     /// The phaser's `look`, with its refusals. Nobody is let go on by it.
-    pub fn look(
+    pub fn look<B: Post<K>>(
         &mut self,
-        books: &mut Books<K>,
+        books: &mut B,
         mine: &mut Shares<K>,
         task: u32,
         accumulator: u8,
@@ -169,8 +151,7 @@ impl<T, K: Ledgers> PhaserCell<T, K> {
         ensures history { self.new.state.story
             ≡ after self.old.state.story (reply self.old.state.story (look task accumulator)) }
         ensures mine { (x : Look) → mine.new ≡ plus (amount_if (is_ok result) (Event.Look task accumulator x)) mine.old }
-        ensures books { (x : Look) → books.new.totals
-            ≡ plus (amount_if (is_ok result) (Event.Look task accumulator x)) books.old.totals }
+        ensures books { (x : Look) → B.rose books.old books.new (amount_if (is_ok result) (Event.Look task accumulator x)) }
         ensures parked { self.new.parked ≡ self.old.parked }
     {
         let PhaserCell { state, book, .. } = self;
@@ -183,9 +164,9 @@ impl<T, K: Ledgers> PhaserCell<T, K> {
 
     /// The phaser's `signal`, with its refusals. The items of all whom it lets go on are put into
     /// `out`.
-    pub fn signal(
+    pub fn signal<B: Post<K>>(
         &mut self,
-        books: &mut Books<K>,
+        books: &mut B,
         mine: &mut Shares<K>,
         out: &mut Out<T>,
         task: u32,
@@ -196,7 +177,7 @@ impl<T, K: Ledgers> PhaserCell<T, K> {
         ensures history { self.new.state.story
             ≡ after self.old.state.story (reply self.old.state.story (signal task number)) }
         ensures mine { mine.new ≡ plus (amount_if (is_ok result) (Event.Sig task number)) mine.old }
-        ensures books { books.new.totals ≡ plus (amount_if (is_ok result) (Event.Sig task number)) books.old.totals }
+        ensures books { B.rose books.old books.new (amount_if (is_ok result) (Event.Sig task number)) }
         ensures parked { self.new.parked.items ≡ waiting self.new.state.story self.old.parked.items }
         ensures out { out.new ≡ freed self.new.state.story self.old.parked.items }
         ensures refused { OnErr result (out.new ≡ []) }
@@ -216,9 +197,9 @@ impl<T, K: Ledgers> PhaserCell<T, K> {
 
     /// The phaser's `drop_task`, with its refusals. The items of all whom it lets go on are put into
     /// `out`, the dropped task's own too where it was parked.
-    pub fn drop_task(
+    pub fn drop_task<B: Post<K>>(
         &mut self,
-        books: &mut Books<K>,
+        books: &mut B,
         mine: &mut Shares<K>,
         out: &mut Out<T>,
         task: u32,
@@ -228,7 +209,7 @@ impl<T, K: Ledgers> PhaserCell<T, K> {
         ensures history { self.new.state.story
             ≡ after self.old.state.story (reply self.old.state.story (drop_task task)) }
         ensures mine { mine.new ≡ plus (amount_if (is_ok result) (Event.Drop task)) mine.old }
-        ensures books { books.new.totals ≡ plus (amount_if (is_ok result) (Event.Drop task)) books.old.totals }
+        ensures books { B.rose books.old books.new (amount_if (is_ok result) (Event.Drop task)) }
         ensures parked { self.new.parked.items ≡ waiting self.new.state.story self.old.parked.items }
         ensures out { out.new ≡ freed self.new.state.story self.old.parked.items }
         ensures refused { OnErr result (out.new ≡ []) }
@@ -250,9 +231,9 @@ impl<T, K: Ledgers> PhaserCell<T, K> {
 
     /// The phaser's `single_done`, with its refusals. The items of all whom it lets go on are put into
     /// `out`.
-    pub fn single_done(
+    pub fn single_done<B: Post<K>>(
         &mut self,
-        books: &mut Books<K>,
+        books: &mut B,
         mine: &mut Shares<K>,
         out: &mut Out<T>,
         task: u32,
@@ -262,7 +243,7 @@ impl<T, K: Ledgers> PhaserCell<T, K> {
         ensures history { self.new.state.story
             ≡ after self.old.state.story (reply self.old.state.story (single_done task)) }
         ensures mine { mine.new ≡ plus (amount_if (is_ok result) (Event.Did task)) mine.old }
-        ensures books { books.new.totals ≡ plus (amount_if (is_ok result) (Event.Did task)) books.old.totals }
+        ensures books { B.rose books.old books.new (amount_if (is_ok result) (Event.Did task)) }
         ensures parked { self.new.parked.items ≡ waiting self.new.state.story self.old.parked.items }
         ensures out { out.new ≡ freed self.new.state.story self.old.parked.items }
         ensures refused { OnErr result (out.new ≡ []) }
@@ -281,9 +262,9 @@ impl<T, K: Ledgers> PhaserCell<T, K> {
 
     /// The phaser's `pass`, with its refusals; a task that has to wait leaves its item here instead, or
     /// has it back with `NotNow` where it is parked already. Nobody is let go on by it.
-    pub fn pass(
+    pub fn pass<B: Post<K>>(
         &mut self,
-        books: &mut Books<K>,
+        books: &mut B,
         mine: &mut Shares<K>,
         task: u32,
         item: T,
@@ -293,8 +274,7 @@ impl<T, K: Ledgers> PhaserCell<T, K> {
         ensures history { self.new.state.story
             ≡ after self.old.state.story (reply self.old.state.story (pass task)) }
         ensures mine { mine.new ≡ plus (amount_if (goes_on result) (Event.Pass task)) mine.old }
-        ensures books { books.new.totals
-            ≡ plus (amount_if (goes_on result) (Event.Pass task)) books.old.totals }
+        ensures books { B.rose books.old books.new (amount_if (goes_on result) (Event.Pass task)) }
         ensures item { IsBack item result }
         ensures parked { self.new.parked.items ≡ parking (told self.old.state.story task)
             (is_parked task self.old.parked.items) (record { task = task; item = item }) self.old.parked.items }

@@ -2,6 +2,7 @@
 use Rattle.std.specs.Prelude.{ℕ, List, ◌*◌, ◌≤◌}
 use Rattle.std.specs.List.{sum_by}
 use Rattle.phase_model.specs.Amounts.{Amount}
+use Rattle.share_book.specs.declared.gathering.Totals.{Totals}
 
 -- all phasers' books together: of how many phasers, the room they have left for events, and what they add up to
 pub record Account : Type 0 where
@@ -35,6 +36,6 @@ IsWithin a b = (a.events ≤ b.events) × (a.up ≤ b.up) × (a.down ≤ b.down)
 abbrev pub fresh_books : ℕ → Account
 fresh_books n = record { phasers = n; room = 65536 * n; totals = nothing }
 
--- phaser number n's book then
-abbrev pub fresh_book : ℕ → Entry
-fresh_book n = record { number = n; room = 65536; totals = nothing }
+-- totals as an amount
+abbrev pub amount_of : Totals → Amount
+amount_of t = record { events = t.events; up = t.up; down = t.down }

@@ -1,7 +1,8 @@
 //! What the run, a phaser and a worker hold.
 ghost use Rattle.std.specs.Prelude.{◌≡◌, ◌+◌, ◌*◌, ◌≤◌};
-ghost use Rattle.share_book.specs.Accounts.{IsWithin};
+ghost use Rattle.share_book.specs.Accounts.{IsWithin, amount_of};
 
+use crate::gathering::Totals;
 use crate::ledgers::Ledgers;
 use crate::tally::{Part, Tally};
 use std::marker::Model;
@@ -88,20 +89,23 @@ impl<K: Ledgers> Model for Shares<K> {
 }
 
 impl<K: Ledgers> Books<K> {
-    /// Shows a worker that has the books that of no kind all phasers together have less than the worker
-    /// itself. Nothing changes.
-    pub fn cover(&mut self, mine: &mut Shares<K>)
+    /// What all phasers together add up to so far: of no kind less than what this worker has posted.
+    /// Nothing changes.
+    pub fn so_far(&mut self, mine: &mut Shares<K>) -> Totals
+        ensures totals { amount_of result ≡ self.new.totals }
+        ensures within { IsWithin mine.new (amount_of result) }
         ensures same { (self.new ≡ self.old) × (mine.new ≡ mine.old) }
-        ensures within { IsWithin mine.new self.new.totals }
     {
         let Books {
-            events,
-            up,
-            down,
-            ..
+            events, up, down, ..
         } = self;
         events.covers(&mut mine.events);
         up.covers(&mut mine.up);
         down.covers(&mut mine.down);
+        Totals {
+            events: events.amount,
+            up: up.amount,
+            down: down.amount,
+        }
     }
 }

@@ -1,7 +1,7 @@
 //! All parts together again.
 ghost use Rattle.std.specs.Prelude.{◌≡◌, ◌+◌, ◌^◌, ◌<◌, ◌↔◌, IsTrue, IsOk, IfOk, IfErr, vec_len};
 ghost use Rattle.std.specs.List.{sum_by};
-ghost use Rattle.share_book.specs.Accounts.{sum, sum_of_books};
+ghost use Rattle.share_book.specs.Accounts.{sum, sum_of_books, amount_of};
 ghost use Rattle.share_book.specs.Opening.{AreAllParts};
 
 use crate::books::{Books, PhaserBook, Shares};
@@ -209,7 +209,7 @@ pub fn gather<K: Ledgers>(
 ) -> Result<Totals, Refusal>
     ensures exactly { IsOk result
         ↔ ((sum shares.items ≡ books.totals) × (sum_of_books phasers.items ≡ books.totals)) }
-    ensures totals { IfOk result (λ t. record { events = t.events; up = t.up; down = t.down } ≡ books.totals) }
+    ensures totals { IfOk result (λ t. amount_of t ≡ books.totals) }
     ensures differ { IfErr result (λ e. e ≡ Refusal.SharesDiffer) }
     ensures whole { AreAllParts (vec_len shares) K.EventsByWorker.parts K.UpByWorker.parts K.DownByWorker.parts
         → AreAllParts (vec_len phasers) K.EventsByPhaser.parts K.UpByPhaser.parts K.DownByPhaser.parts

@@ -1,6 +1,6 @@
 //! The books, the phasers' books and the workers' shares as a run begins with them.
 ghost use Rattle.std.specs.Prelude.{◌≡◌, ℕ, ◌+◌, ◌*◌, ◌<◌, ◌≤◌, All, IfOk, IfErr, IfSome, vec_len, slice_get};
-ghost use Rattle.share_book.specs.Accounts.{nothing, fresh_books, fresh_book};
+ghost use Rattle.share_book.specs.Accounts.{nothing, fresh_books};
 ghost use Rattle.share_book.specs.Opening.{IsNamed, IsParted};
 
 use crate::blanks::Blanks;
@@ -61,7 +61,8 @@ fn phaser_books<K: Ledgers>(
     requires down { (down.parts ≡ phasers) × (down.amount ≡ 0) }
     requires room { (room.parts ≡ phasers) × (room.amount ≡ 65536 * phasers) }
     ensures length { IfOk result (λ v. vec_len v ≡ phasers) }
-    ensures fresh { IfOk result (λ v. (i : ℕ) → IfSome (slice_get v.items i) (λ b. b ≡ fresh_book i)) }
+    ensures fresh { IfOk result (λ v. All (λ b. (b.totals ≡ nothing) × (b.room ≡ 65536)) v.items) }
+    ensures numbers { IfOk result (λ v. (i : ℕ) → IfSome (slice_get v.items i) (λ b. b.number ≡ i)) }
 {
     let mut books = Vec::new(alloc);
     for number in 0..phasers {
@@ -113,7 +114,8 @@ pub fn open<K: Ledgers>(
         K.UpByWorker.parts K.DownByPhaser.parts K.DownByWorker.parts K.Room.parts }
     ensures books { IfOk result (λ r. r.0 ≡ fresh_books blanks.phasers) }
     ensures phasers { IfOk result (λ r. vec_len r.1 ≡ blanks.phasers) }
-    ensures each { IfOk result (λ r. (i : ℕ) → IfSome (slice_get r.1.items i) (λ b. b ≡ fresh_book i)) }
+    ensures fresh { IfOk result (λ r. All (λ b. (b.totals ≡ nothing) × (b.room ≡ 65536)) r.1.items) }
+    ensures numbers { IfOk result (λ r. (i : ℕ) → IfSome (slice_get r.1.items i) (λ b. b.number ≡ i)) }
     ensures workers { IfOk result (λ r. (vec_len r.2 ≡ blanks.workers) × All (λ s. s ≡ nothing) r.2.items) }
     ensures memory { IfErr result (λ e. e ≡ Refusal.Memory) }
 {

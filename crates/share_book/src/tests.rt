@@ -69,7 +69,7 @@ fn run<K: Ledgers>(alloc: Global, blanks: Blanks, lose_one: bool) -> Result<Tota
         if let (Some(phaser), Some(mine)) = (phasers.get_mut(phaser), shares.get_mut(worker)) {
             if phaser.room_left() > 0 {
                 post(&mut books, phaser, mine, &event);
-                books.cover(mine);
+                let _so_far = books.so_far(mine);
             }
         }
     }

@@ -1,5 +1,5 @@
-use Rattle.std.proofs.Common.{◌≡◌, ℕ, ◌+◌, ◌*◌, IfSome, vec_len, slice_get}
-use Rattle.share_book.specs.Accounts.{fresh_book}
+use Rattle.std.proofs.Common.{◌≡◌, ℕ, ◌+◌, ◌*◌, All, IfSome, vec_len, slice_get}
+use Rattle.share_book.specs.Accounts.{nothing}
 use Rattle.share_book.proofs.opening.phaser_books.Given as goal
 
 abbrev pub invariant-loop-number : goal.invariant-loop-number
@@ -9,5 +9,6 @@ invariant-loop-number g l = record {
   down : (l.down.parts + l.number ≡ l.phasers) × (l.down.amount ≡ 0);
   room : (l.room.parts + l.number ≡ l.phasers) × (l.room.amount + 65536 * l.number ≡ 65536 * l.phasers);
   length : vec_len l.books ≡ l.number;
-  fresh : (i : ℕ) → IfSome (slice_get l.books.items i) (λ b. b ≡ fresh_book i);
+  fresh : All (λ b. (b.totals ≡ nothing) × (b.room ≡ 65536)) l.books.items;
+  numbers : (i : ℕ) → IfSome (slice_get l.books.items i) (λ b. b.number ≡ i);
 }
