@@ -4,16 +4,22 @@
 mod calls;
 mod job;
 mod kind;
+mod locked;
 mod words;
 
 use calls::calls_on_all;
+use job::Job;
+use kind::Kind;
+use locked::calls_behind_locks;
+use phase_modes::Refusal;
 use std::env;
 use std::process::ExitCode;
 use words::job_of;
 
 /// What is told where the words are bad.
 const USAGE: &str =
-    "usage: core_bench none|turn|send|look TASKS PHASERS (1 to 256 tasks, 1 to 1000 phasers)\n";
+    "usage: core_bench KIND TASKS PHASERS (1 to 256 tasks, 1 to 1000 phasers), and KIND is none,
+turn, send or look, or through a table ready, locked, quiet, frees or pair\n";
 
 fn main(rt: HostRuntime) -> ExitCode {
     ExitCode::from(run(&rt))
@@ -36,8 +42,16 @@ fn run(rt: &HostRuntime) -> u8 {
         }
     }
     match job_of(borrowed.as_slice()) {
-        Some(job) => tell(rt, calls_on_all(rt.alloc(), job).ok()),
+        Some(job) => tell(rt, calls_of(rt, job).ok()),
         None => bad_words(rt),
+    }
+}
+
+/// Does the job: on phasers alone, or through tables of them.
+fn calls_of(rt: &HostRuntime, job: Job) -> Result<u64, Refusal> {
+    match job.kind {
+        Kind::Nothing | Kind::Turn | Kind::Send | Kind::Look => calls_on_all(rt.alloc(), job),
+        _ => calls_behind_locks(rt, rt.alloc(), job),
     }
 }
 

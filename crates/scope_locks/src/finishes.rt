@@ -1,5 +1,5 @@
 //! Finishes by number, each behind a lock of its own.
-ghost use Rattle.std.specs.Prelude.{◌≡◌, [], ◌<◌, ◌≤◌, true, All, IfOk, IfErr, map, length, vec_len, vec_capacity};
+ghost use Rattle.std.specs.Prelude.{◌≡◌, ◌+◌, [], ◌<◌, ◌≤◌, true, All, IfOk, IfErr, map, length, vec_len, vec_capacity};
 ghost use Rattle.phase_modes.specs.Limits.{limits_fit};
 ghost use Rattle.finish_core.specs.Finish.{is_legal_finish};
 ghost use Rattle.scope_locks.specs.Shutting.{ended_count, IsBackFromShut};
@@ -34,6 +34,32 @@ pub struct FinishTable<T, L> {
 pub struct FinishParts<L> {
     pub states: Vec<FinishState>,
     pub logs: Vec<Vec<L>>,
+}
+
+/// Adds a cell's state and logs to those of the finishes before it.
+fn take_apart<T: Drop, L: Drop>(
+    cell: FinishCell<T, L>,
+    states: &mut Vec<FinishState>,
+    logs: &mut Vec<Vec<L>>,
+)
+    requires room_for_state { vec_len states.old < vec_capacity states.old }
+    requires room_for_logs { vec_len logs.old < vec_capacity logs.old }
+    requires legal { All (λ s. is_legal_finish s.tasks s.past ≡ true) states.old.items }
+    requires logged { map (λ l. length l.items) logs.old.items ≡ map (λ s. ended_count s.past) states.old.items }
+    ensures states { vec_len states.new ≡ vec_len states.old + 1 }
+    ensures lists { vec_len logs.new ≡ vec_len logs.old + 1 }
+    ensures room_for_states { vec_capacity states.new ≡ vec_capacity states.old }
+    ensures room_for_logs { vec_capacity logs.new ≡ vec_capacity logs.old }
+    ensures legal { All (λ s. is_legal_finish s.tasks s.past ≡ true) states.new.items }
+    ensures logged { map (λ l. length l.items) logs.new.items ≡ map (λ s. ended_count s.past) states.new.items }
+{
+    let FinishCell {
+        state,
+        logs: ended,
+        parked: _,
+    } = cell;
+    states.push_reserved(state);
+    logs.push_reserved(ended);
 }
 
 impl<T: Drop, L: Drop> FinishTable<T, L> {
@@ -82,13 +108,7 @@ impl<T: Drop, L: Drop> FinishTable<T, L> {
             mut logs,
         } = self;
         for cell in cells {
-            let FinishCell {
-                state,
-                logs: ended,
-                parked: _,
-            } = cell.into_inner();
-            states.push_reserved(state);
-            logs.push_reserved(ended);
+            take_apart(cell.into_inner(), &mut states, &mut logs);
         }
         FinishParts { states, logs }
     }

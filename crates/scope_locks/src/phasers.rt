@@ -2,7 +2,7 @@
 //!
 //! Each call takes its phaser's lock, and inside it the books' lock for the one post that it makes. No
 //! call takes the locks of two phasers, and none takes a phaser's lock while it has the books.
-ghost use Rattle.std.specs.Prelude.{◌≡◌, [], ◌<◌, ◌≤◌, true, All, IfOk, IfErr, OnErr, is_ok, map, vec_len, vec_capacity};
+ghost use Rattle.std.specs.Prelude.{◌≡◌, ◌+◌, [], ◌<◌, ◌≤◌, true, All, IfOk, IfErr, OnErr, is_ok, map, vec_len, vec_capacity};
 ghost use Rattle.phase_modes.specs.Limits.{limits_fit};
 ghost use Rattle.phase_model.specs.Amounts.{plus, totals};
 ghost use Rattle.phase_model.specs.Laws.{IsLegal};
@@ -47,6 +47,32 @@ pub struct PhaserParts<K: Ledgers> {
     pub books: Books<K>,
 }
 
+/// Adds a cell's state and book to those of the phasers before it.
+fn take_apart<T: Drop, K: Ledgers>(
+    cell: PhaserCell<T, K>,
+    states: &mut Vec<PhaserState>,
+    of_phasers: &mut Vec<PhaserBook<K>>,
+)
+    requires room_for_state { vec_len states.old < vec_capacity states.old }
+    requires room_for_book { vec_len of_phasers.old < vec_capacity of_phasers.old }
+    requires legal { All (λ s. IsLegal s.story) states.old.items }
+    requires posted { map (λ b. b.totals) of_phasers.old.items ≡ map (λ s. totals s.story.past) states.old.items }
+    ensures states { vec_len states.new ≡ vec_len states.old + 1 }
+    ensures books { vec_len of_phasers.new ≡ vec_len of_phasers.old + 1 }
+    ensures room_for_states { vec_capacity states.new ≡ vec_capacity states.old }
+    ensures room_for_books { vec_capacity of_phasers.new ≡ vec_capacity of_phasers.old }
+    ensures legal { All (λ s. IsLegal s.story) states.new.items }
+    ensures posted { map (λ b. b.totals) of_phasers.new.items ≡ map (λ s. totals s.story.past) states.new.items }
+{
+    let PhaserCell {
+        state,
+        book,
+        parked: _,
+    } = cell;
+    states.push_reserved(state);
+    of_phasers.push_reserved(book);
+}
+
 impl<T: Drop, K: Ledgers> PhaserTable<T, K> {
     /// As many phasers as there are books of phasers, each with these limits and operators, and made by
     /// nobody yet. The phasers' books are those of one `open`, in order. All memory that the table will
@@ -63,17 +89,20 @@ impl<T: Drop, K: Ledgers> PhaserTable<T, K> {
         ensures phasers { IfOk result (λ t. t.phasers ≡ vec_len phasers) }
         ensures memory { IfErr result (λ r. r ≡ Refusal.Memory) }
     {
-        let count = phasers.len();
-        let (Ok(mut cells), Ok(states), Ok(of_phasers)) = (
-            Vec::with_capacity(alloc, count),
+        let mut cells = Vec::new(alloc);
+        for book in phasers {
+            let cell = Mutex::new(PhaserCell::new(alloc, limits, ops, book)?);
+            if cells.push(cell).is_err() {
+                return Err(Refusal::Memory);
+            }
+        }
+        let count = cells.len();
+        let (Ok(states), Ok(of_phasers)) = (
             Vec::with_capacity(alloc, count),
             Vec::with_capacity(alloc, count),
         ) else {
             return Err(Refusal::Memory);
         };
-        for book in phasers {
-            cells.push_reserved(Mutex::new(PhaserCell::new(alloc, limits, ops, book)?));
-        }
         Ok(PhaserTable {
             phasers: count,
             cells,
@@ -99,13 +128,7 @@ impl<T: Drop, K: Ledgers> PhaserTable<T, K> {
             mut of_phasers,
         } = self;
         for cell in cells {
-            let PhaserCell {
-                state,
-                book,
-                parked: _,
-            } = cell.into_inner();
-            states.push_reserved(state);
-            of_phasers.push_reserved(book);
+            take_apart(cell.into_inner(), &mut states, &mut of_phasers);
         }
         PhaserParts {
             states,

@@ -11,7 +11,7 @@ enum Shutting {
     Refused(u32, Refusal),
 }
 
-fn shutting(answer: ShutAnswer<u32>) -> Shutting {
+fn answer_of(answer: ShutAnswer<u32>) -> Shutting {
     match answer {
         ShutAnswer::Done(item) => Shutting::Done(item),
         ShutAnswer::Parked => Shutting::Parked,
@@ -38,21 +38,21 @@ fn two_finishes(alloc: Global) -> Result<FinishTable<u32, u32>, Refusal>
 fn parked_owner(rt: HostRuntime) -> Result<(), Fail> {
     let table = two_finishes(rt.alloc())?;
     let mut out = Out::new(rt.alloc())?;
-    assert_eq!(rt; shutting(table.shut(&rt, 1, 100)), Shutting::Refused(100, Refusal::NotNow));
+    assert_eq!(rt; answer_of(table.shut(&rt, 1, 100)), Shutting::Refused(100, Refusal::NotNow));
     assert_eq!(rt; table.opened(&rt, 0, 0), Err(Refusal::NotNow), "it is open from the start");
     assert_eq!(rt; table.opened(&rt, 1, 0), Ok(()));
     assert_eq!(rt; table.spawned(&rt, 1, 1), Ok(()));
     assert_eq!(rt; table.spawned(&rt, 1, 2), Ok(()));
     assert_eq!(rt; table.ended(&rt, 1, 3, 33, &mut out), Err(33));
-    assert_eq!(rt; shutting(table.shut(&rt, 1, 100)), Shutting::Parked);
-    assert_eq!(rt; shutting(table.shut(&rt, 1, 101)), Shutting::Refused(101, Refusal::NotNow));
+    assert_eq!(rt; answer_of(table.shut(&rt, 1, 100)), Shutting::Parked);
+    assert_eq!(rt; answer_of(table.shut(&rt, 1, 101)), Shutting::Refused(101, Refusal::NotNow));
     let mut out = Out::new(rt.alloc())?;
     assert_eq!(rt; table.ended(&rt, 1, 2, 22, &mut out), Ok(()));
     assert_eq!(rt; out.len(), 0);
     let mut out = Out::new(rt.alloc())?;
     assert_eq!(rt; table.ended(&rt, 1, 1, 11, &mut out), Ok(()));
     assert_eq!(rt; out.take(), Some(100));
-    assert_eq!(rt; shutting(table.shut(&rt, 1, 100)), Shutting::Done(100));
+    assert_eq!(rt; answer_of(table.shut(&rt, 1, 100)), Shutting::Done(100));
     let parts = table.into_parts();
     assert_eq!(rt; parts.states.len(), 2);
     let logs = parts.logs.get(1).ok_or("no second finish")?;

@@ -124,9 +124,9 @@ const PHASERS: u32 = 8;
 const WORKERS: u32 = 4;
 
 /// So many turns of each worker on each phaser, with four calls a turn, and so many runs.
-const TURNS: u32 = 64;
+const TURNS: u32 = 6;
 
-const RUNS: u32 = 12;
+const RUNS: u32 = 130;
 
 /// Takes out all items. Whether none is left.
 fn is_drained(out: &mut Out<u32>) -> bool
@@ -240,7 +240,9 @@ where
     set_up(rt, &table, mine)?;
     let staff = numbered(alloc, shares)?;
     let shared = &table;
-    let done = thread::map_vec(rt, staff, &|worker| work(rt, alloc, shared, worker))?;
+    let Ok(done) = thread::map_vec(rt, staff, &|worker| work(rt, alloc, shared, worker)) else {
+        return Err(Refusal::Memory);
+    };
     let mut shares = Vec::new(alloc);
     for mine in done {
         if shares.push(mine?).is_err() {
