@@ -43,6 +43,6 @@ fn looks_on_two_phasers(rt: HostRuntime) -> Result<(), Fail> {
 #[test]
 fn turns_behind_a_lock(rt: HostRuntime) -> Result<(), Fail> {
     let job = job_of(&["core_bench", "locked", "1", "1"]).ok_or("no job")?;
-    assert_eq!(rt; calls_of(&rt, job), Ok(65_534));
+    assert_eq!(rt; calls_of(&rt, rt.alloc(), job), Ok(65_534));
     Ok(())
 }
