@@ -8,7 +8,7 @@ use phaser_core::PhaserState;
 use std::alloc::Global;
 
 /// The limits of a file that asks for a history of 65,536 events and 4,096 tasks.
-pub const LIMITS: Limits = Limits {
+const LIMITS: Limits = Limits {
     acts: 4_096,
     finishes: 64,
     history: 65_536,
@@ -62,10 +62,10 @@ fn fill(state: &mut PhaserState, kind: Kind, tasks: u32) {
             return;
         }
         match kind {
+            Kind::Nothing => return,
             Kind::Turn => turn(state, tasks),
             Kind::Send => send(state, tasks),
             Kind::Look => look(state, tasks),
-            _ => return,
         }
     }
 }

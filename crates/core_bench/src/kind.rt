@@ -13,16 +13,6 @@ pub enum Kind {
     Send,
     /// Looks at the accumulator.
     Look,
-    /// None through a table of phasers: what is left is the making of the tables.
-    Ready,
-    /// The same turns through a table of phasers, by one thread.
-    Locked,
-    /// Signals and passes of one task while all others wait: none lets anybody go on.
-    Quiet,
-    /// Turns in which all but one wait, and its signal lets all go on.
-    Frees,
-    /// Turns by two threads, each on a phaser of its own.
-    Pair,
 }
 
 impl Kind {
@@ -35,11 +25,6 @@ impl Kind {
             "turn" => Some(Kind::Turn),
             "send" => Some(Kind::Send),
             "look" => Some(Kind::Look),
-            "ready" => Some(Kind::Ready),
-            "locked" => Some(Kind::Locked),
-            "quiet" => Some(Kind::Quiet),
-            "frees" => Some(Kind::Frees),
-            "pair" => Some(Kind::Pair),
             _ => None,
         }
     }

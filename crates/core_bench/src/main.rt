@@ -4,61 +4,40 @@
 mod calls;
 mod job;
 mod kind;
-mod locked;
 mod words;
 
 use calls::calls_on_all;
-use job::Job;
-use kind::Kind;
-use locked::calls_behind_locks;
-use phase_modes::Refusal;
-use std::alloc::Global;
 use std::env;
 use std::process::ExitCode;
-use std::sync::Wait;
-use std::thread::Threads;
 use words::job_of;
 
 /// What is told where the words are bad.
 const USAGE: &str =
-    "usage: core_bench KIND TASKS PHASERS (1 to 256 tasks, 1 to 1000 phasers), and KIND is none,
-turn, send or look, or through a table ready, locked, quiet, frees or pair\n";
+    "usage: core_bench none|turn|send|look TASKS PHASERS (1 to 256 tasks, 1 to 1000 phasers)\n";
 
 fn main(rt: HostRuntime) -> ExitCode {
-    let status = match named_job(&rt) {
-        Ok(job) => tell(&rt, calls_of(&rt, rt.alloc(), job).ok()),
-        Err(status) => status,
-    };
-    ExitCode::from(status)
+    ExitCode::from(run(&rt))
 }
 
-/// Reads the words, and answers the job that they name, or the exit status: 1 out of memory, 2 bad
-/// words. Of a job it is 0 done, 1 out of memory, 3 a write failed.
-fn named_job(rt: &HostRuntime) -> Result<Job, u8> {
+/// Reads the words, and does the job that they name. Returns the exit status: 0 done, 1 out of
+/// memory, 2 bad words, 3 a write failed.
+fn run(rt: &HostRuntime) -> u8 {
     let Ok(args) = env::args(rt) else {
-        return Err(bad_words(rt));
+        return bad_words(rt);
     };
     let words: Vec<String> = match args.collect(rt.alloc()) {
         Ok(words) => words,
-        Err(_) => return Err(1),
+        Err(_) => return 1,
     };
     let mut borrowed: Vec<&str> = Vec::new(rt.alloc());
     for word in &words {
         if borrowed.push(word.as_str()).is_err() {
-            return Err(1);
+            return 1;
         }
     }
     match job_of(borrowed.as_slice()) {
-        Some(job) => Ok(job),
-        None => Err(bad_words(rt)),
-    }
-}
-
-/// Does the job: on phasers alone, or through tables of them.
-fn calls_of<R: Threads + Wait + Sync>(rt: &R, alloc: Global, job: Job) -> Result<u64, Refusal> {
-    match job.kind {
-        Kind::Nothing | Kind::Turn | Kind::Send | Kind::Look => calls_on_all(alloc, job),
-        _ => calls_behind_locks(rt, alloc, job),
+        Some(job) => tell(rt, calls_on_all(rt.alloc(), job).ok()),
+        None => bad_words(rt),
     }
 }
 

@@ -1,5 +1,6 @@
 //! The words, and how many calls a history has room for.
 use super::*;
+use crate::kind::Kind;
 use std::test::Fail;
 
 #[test]
@@ -35,14 +36,5 @@ fn turns_of_one_task(rt: HostRuntime) -> Result<(), Fail> {
 fn looks_on_two_phasers(rt: HostRuntime) -> Result<(), Fail> {
     let job = job_of(&["core_bench", "look", "256", "2"]).ok_or("no job")?;
     assert_eq!(rt; calls_on_all(rt.alloc(), job), Ok(129_024));
-    Ok(())
-}
-
-// The making takes 1 place, and the last call is done at a
-// length of 65,534.
-#[test]
-fn turns_behind_a_lock(rt: HostRuntime) -> Result<(), Fail> {
-    let job = job_of(&["core_bench", "locked", "1", "1"]).ok_or("no job")?;
-    assert_eq!(rt; calls_of(&rt, rt.alloc(), job), Ok(65_534));
     Ok(())
 }
