@@ -15,7 +15,9 @@ fn shut_waits_for_each_task(rt: HostRuntime) -> Result<(), Fail> {
     assert_eq!(rt; finish.tasks(), 256);
     assert_eq!(rt; finish.spawned(1), NOT_NOW);
     assert_eq!(rt; finish.shut(), NOT_NOW);
+    assert!(rt; !finish.is_open());
     assert_eq!(rt; finish.opened(0), DONE);
+    assert!(rt; finish.is_open());
     assert_eq!(rt; finish.spawned(1), DONE);
     assert_eq!(rt; finish.spawned(2), DONE);
     assert_eq!(rt; finish.spawned(1), NOT_NOW);
@@ -28,6 +30,7 @@ fn shut_waits_for_each_task(rt: HostRuntime) -> Result<(), Fail> {
     assert_eq!(rt; finish.ended(2), DONE);
     assert!(rt; finish.may_shut());
     assert_eq!(rt; finish.shut(), DONE);
+    assert!(rt; !finish.is_open());
     assert!(rt; !finish.may_shut());
     assert_eq!(rt; finish.spawned(3), NOT_NOW);
     assert_eq!(rt; finish.ended(2), NOT_NOW);

@@ -13,4 +13,5 @@ pub mod SingleLaws
 pub mod Singles
 pub mod Tasks
 pub mod Values
+pub mod Waiting
 pub mod inner

@@ -1,0 +1,41 @@
+-- Who waits, and which events can let a waiting task go on.
+use Rattle.std.specs.Prelude.{ℕ, ◌≡◌, Bool, true, false, ◌&&◌, not, ◌∷◌}
+use Rattle.phase_model.specs.declared.event.Event.{Event}
+use Rattle.phase_model.specs.declared.event.Event.TheVariants.{Sig, Did, Drop}
+use Rattle.phase_model.specs.Tasks.{is_live}
+use Rattle.phase_model.specs.Phases.{waits, is_closed}
+use Rattle.phase_model.specs.Rules.{Story, with_event, is_legal}
+use Rattle.phase_model.specs.declared.call.Call.TheVariants.{Pass as pass}
+use Rattle.phase_model.specs.Replies.{Reply, refused, not_yet, done, reply}
+use Rattle.phase_model.specs.Laws.{IsLegal}
+
+-- the reply says that the task has to come again
+abbrev pub is_not_yet : Reply → Bool
+is_not_yet (refused r) = false
+is_not_yet not_yet = true
+is_not_yet (done e) = false
+
+-- a pass of t would be answered so: t waits
+abbrev pub would_wait : Story → ℕ → Bool
+would_wait s t = is_not_yet (reply s (pass t))
+
+-- t is registered, and the phase at which it stands isn't closed
+abbrev pub is_in_open_phase : Story → ℕ → Bool
+is_in_open_phase s t = is_live t s.past && not (is_closed (waits t s.past) s.past)
+
+-- the events that can let a waiting task go on: a signal, a single's report, and a drop
+abbrev pub can_free : Event → Bool
+can_free (Sig t x) = true
+can_free (Did t) = true
+can_free (Drop t) = true
+can_free _ = false
+
+-- after any other event of a legal history, who waited before waits on
+abbrev pub OthersFreeNobody : Type 0
+OthersFreeNobody = (s : Story) (e : Event) (t : ℕ) → is_legal s.limits s.ops (e ∷ s.past) ≡ true
+    → can_free e ≡ false → would_wait s t ≡ true → would_wait (with_event s e) t ≡ true
+
+-- in a legal story all who wait stand at the same phase, whether for its signals or for its single
+abbrev pub AllWaitInOnePhase : Type 0
+AllWaitInOnePhase = (s : Story) (t u : ℕ) → IsLegal s
+    → would_wait s t ≡ true → would_wait s u ≡ true → waits t s.past ≡ waits u s.past

@@ -1,0 +1,13 @@
+//! What holds of those who wait. Each function does nothing: its contract is the law, and the check
+//! proves it.
+ghost use Rattle.phase_model.specs.Waiting.{AllWaitInOnePhase, OthersFreeNobody};
+
+/// Only a signal, a single's report and a drop can let a waiting task go on.
+pub fn others_free_nobody()
+    ensures { OthersFreeNobody }
+{}
+
+/// All tasks that wait at a phaser stand at the same phase of it.
+pub fn all_wait_in_one_phase()
+    ensures { AllWaitInOnePhase }
+{}

@@ -1,0 +1,27 @@
+//! Who waits: the first of two tasks has signalled and the second hasn't, then both have.
+use super::*;
+use std::test::Fail;
+
+#[test]
+fn first_of_two_waits(rt: HostRuntime) -> Result<(), Fail> {
+    let rows = [
+        (Call::Make(0, Mode::SigWait), Answer::Done),
+        (Call::Register(0, 1, Mode::SigWait), Answer::Done),
+        (Call::Signal(0, None), Answer::Done),
+    ];
+    let mut state = play(
+        &rt,
+        rt.alloc(),
+        limits_with(4_096, 256),
+        Ops::none(),
+        rows.as_slice(),
+    )?;
+    assert!(rt; state.would_wait(0), "the other hasn't signalled");
+    assert!(rt; !state.would_wait(1), "a pass of it would be refused");
+    assert!(rt; state.is_in_open_phase(0));
+    assert!(rt; !state.is_in_open_phase(2), "it isn't registered");
+    assert_eq!(rt; state.signal(1, None), Ok(()));
+    assert!(rt; !state.would_wait(0));
+    assert!(rt; !state.is_in_open_phase(0));
+    Ok(())
+}
