@@ -34,7 +34,7 @@ abbrev hold : Bool → Bool → Bool → Bool → Bool → Bool → Bool → Boo
 hold live sig eq wait cl st pr cd = live && not (sig && not eq) && wait && not (cl && st) && not (pr && cl && not cd)
 
 simple : (live sig eq wait cl st pr cd : Bool)
-    → (not (is_some (cond (not live) (Some NotRegistered) (cond (sig && not eq) (Some NotSignalled) None))) && (wait && not (live && (not sig || eq) && (not wait || (cl && st))) && not (live && pr && cl && not cd)))
+    → (not (is_some (cond live (cond (not sig || eq) None (Some NotSignalled)) (Some NotRegistered))) && (wait && not (live && (not sig || eq) && (not wait || (cl && st))) && not (live && pr && cl && not cd)))
     ≡ hold live sig eq wait cl st pr cd
 simple false sig eq wait cl st pr cd = refl
 simple true true false wait cl st pr cd = refl

@@ -5,9 +5,9 @@ use std::test::Fail;
 #[test]
 fn first_of_two_waits(rt: HostRuntime) -> Result<(), Fail> {
     let rows = [
-        (Call::Make(0, Mode::SigWait), Answer::Done),
-        (Call::Register(0, 1, Mode::SigWait), Answer::Done),
-        (Call::Signal(0, None), Answer::Done),
+        (Call::Make(0, Mode::SigWait), Reply::Done),
+        (Call::Register(0, 1, Mode::SigWait), Reply::Done),
+        (Call::Signal(0, None), Reply::Done),
     ];
     let mut state = play(
         &rt,
