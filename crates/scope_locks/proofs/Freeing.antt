@@ -6,7 +6,9 @@ use Rattle.phase_model.specs.declared.event.Event.{Event}
 use Rattle.phase_model.specs.declared.event.Event.TheVariants.{Sig, Drop}
 use Rattle.phase_model.specs.Laws.{IsLegal}
 use Rattle.phase_model.specs.Rules.{Story, with_event, is_legal, is_allowed}
-use Rattle.phase_model.specs.Replies.{Call, Reply, refused, not_yet, done, reply, after, done_result, signal, single_done, drop_task}
+use Rattle.phase_model.specs.declared.call.Call.{Call}
+use Rattle.phase_model.specs.declared.call.Call.TheVariants.{Signal as signal, SingleDone as single_done, Drop as drop_task}
+use Rattle.phase_model.specs.Replies.{Reply, refused, not_yet, done, reply, after, done_result}
 use Rattle.phase_model.specs.Waiting.{would_wait}
 use Rattle.phase_model.proofs.Replied.{done_is_allowed}
 use Rattle.share_book.specs.Accounts.{Entry}

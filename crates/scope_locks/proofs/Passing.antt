@@ -9,7 +9,8 @@ use Rattle.phase_model.specs.declared.op.Op.{Op}
 use Rattle.phase_model.specs.Amounts.{totals}
 use Rattle.phase_model.specs.Laws.{IsLegal}
 use Rattle.phase_model.specs.Rules.{Story, is_legal}
-use Rattle.phase_model.specs.Replies.{Reply, refused, not_yet, done, reply, after, pass}
+use Rattle.phase_model.specs.declared.call.Call.TheVariants.{Pass as pass}
+use Rattle.phase_model.specs.Replies.{Reply, refused, not_yet, done, reply, after}
 use Rattle.phase_model.specs.Waiting.{would_wait, is_not_yet}
 use Rattle.phase_model.proofs.OrderingLaw.{legal_is_ordered}
 use Rattle.phaser_core.specs.declared.state.Passing.{Passing}

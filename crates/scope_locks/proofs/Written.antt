@@ -16,7 +16,10 @@ use Rattle.phase_model.specs.Phases.{waits}
 use Rattle.phase_model.specs.Singles.{reserve}
 use Rattle.phase_model.specs.Tasks.{live_count}
 use Rattle.phase_model.specs.Rules.{Story, with_event, is_permitted, is_legal, is_allowed, has_room, look_of}
-use Rattle.phase_model.specs.Replies.{Call, Reply, refused, not_yet, done, reply, after, done_result, causes, must_wait, event_for, pass, look}
+use Rattle.phase_model.specs.declared.call.Call.{Call}
+use Rattle.phase_model.specs.declared.call.Call.TheVariants.{Pass as pass, Look as look}
+use Rattle.phase_model.specs.Conditions.{conditions}
+use Rattle.phase_model.specs.Replies.{Reply, refused, not_yet, done, reply, after, done_result, must_wait, event_for}
 use Rattle.phase_model.specs.Waiting.{can_free}
 use Rattle.phase_model.proofs.OrderingLaw.{legal_is_ordered}
 use Rattle.phase_model.proofs.Replied.{settled_done, done_is_allowed, legal_after}
@@ -33,7 +36,7 @@ use Rattle.scope_locks.proofs.Parks.{all_stay, none_freed}
 pub event_is : (s : Story) (c : Call) (e : Event) → reply s c ≡ done e → event_for s.limits s.ops s.past c ≡ e
 event_is s c e k =
     let f = event_for s.limits s.ops s.past c in
-    (settled_done (first_refusal (causes s.limits s.ops s.past c)) (must_wait s.limits s.ops s.past c) (has_room s.limits (f ∷ s.past)) f e k).1
+    (settled_done (first_refusal (conditions s.limits s.ops s.past c)) (must_wait s.limits s.ops s.past c) (has_room s.limits (f ∷ s.past)) f e k).1
 
 -- each event counts as one
 pub one_event : (e : Event) → (amount e).events ≡ 1

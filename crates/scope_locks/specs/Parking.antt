@@ -7,7 +7,8 @@ use Rattle.phase_model.specs.Rules.{Story}
 use Rattle.phase_model.specs.Waiting.{would_wait, is_in_open_phase}
 use Rattle.phaser_core.specs.declared.state.Passing.{Passing}
 use Rattle.phaser_core.specs.declared.state.Passing.TheVariants.{Passed as Over, Claimed as Run, NotYet}
-use Rattle.phase_model.specs.Replies.{reply, pass}
+use Rattle.phase_model.specs.declared.call.Call.TheVariants.{Pass as pass}
+use Rattle.phase_model.specs.Replies.{reply}
 use Rattle.phaser_core.specs.Answers.{pass_result}
 use Rattle.scope_locks.specs.declared.answer.PassAnswer.{PassAnswer}
 use Rattle.scope_locks.specs.declared.answer.PassAnswer.TheVariants.{Passed, Claimed, Parked as Waits, Refused}

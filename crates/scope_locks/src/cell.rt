@@ -3,7 +3,8 @@ ghost use Rattle.std.specs.Prelude.{◌≡◌, Ok, ◌+◌, [], ◌<◌, ◌≤�
 ghost use Rattle.std.specs.VecDeque.{deque_len, deque_capacity};
 ghost use Rattle.phase_modes.specs.Limits.{limits_fit};
 ghost use Rattle.phase_model.specs.Amounts.{plus};
-ghost use Rattle.phase_model.specs.Replies.{reply, after, done_result, signal, pass, single_done, drop_task, send, look, make, register};
+ghost use Rattle.phase_model.specs.declared.call.Call.TheVariants.{Make as make, Register as register, Signal as signal, Pass as pass, SingleDone as single_done, Send as send, Look as look, Drop as drop_task};
+ghost use Rattle.phase_model.specs.Replies.{reply, after, done_result};
 ghost use Rattle.phaser_core.specs.declared.state.Passing.TheVariants.{NotYet};
 ghost use Rattle.phaser_core.specs.Answers.{pass_result, look_result};
 ghost use Rattle.share_book.specs.Accounts.{nothing};

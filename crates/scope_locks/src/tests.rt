@@ -4,7 +4,7 @@ ghost use Rattle.std.specs.Prelude.{◌≡◌, [], ◌<◌, ◌≤◌, true};
 ghost use Rattle.share_book.specs.Opening.{IsNamed, IsParted};
 
 use super::*;
-use phase_model::{Look, Op, Ops, explain};
+use phase_model::{Call, Look, Op, Ops, Reply, explain};
 use phase_modes::{Limits, Mode, Refusal};
 use share_book::{Blanks, Ledgers, Seven, Shares, Totals, gather, open};
 use std::alloc::Global;
@@ -20,54 +20,30 @@ mod threads;
 
 use examples::*;
 
-/// A call on a phaser of the table.
-#[derive(Clone, Copy, Debug, PartialEq, Eq)]
-pub enum Call {
-    Make(u32, Mode),
-    Register(u32, u32, Mode),
-    Signal(u32, Option<u32>),
-    Pass(u32),
-    SingleDone(u32),
-    Send(u32, u8, i32),
-    Look(u32, u8),
-    DropTask(u32),
-}
-
-/// What a call is answered. The item of a task is its number.
-#[derive(Clone, Copy, Debug, PartialEq, Eq)]
-pub enum Answer {
-    Done,
-    Passed(u32),
-    Claimed(u32),
-    NotYet,
-    Saw(Look),
-    Refused(Refusal),
-}
-
-fn plainly(answer: Result<(), Refusal>) -> Answer {
+fn plainly(answer: Result<(), Refusal>) -> Reply {
     match answer {
-        Ok(()) => Answer::Done,
-        Err(refusal) => Answer::Refused(refusal),
+        Ok(()) => Reply::Done,
+        Err(refusal) => Reply::Refused(refusal),
     }
 }
 
-fn turned(answer: PassAnswer<u32>) -> Answer {
+fn turned(answer: PassAnswer<u32>) -> Reply {
     match answer {
-        PassAnswer::Passed(_, phase) => Answer::Passed(phase),
-        PassAnswer::Claimed(_, number) => Answer::Claimed(number),
-        PassAnswer::Parked => Answer::NotYet,
-        PassAnswer::Refused(_, refusal) => Answer::Refused(refusal),
+        PassAnswer::Passed(_, phase) => Reply::Phase(phase),
+        PassAnswer::Claimed(_, number) => Reply::Claim(number),
+        PassAnswer::Parked => Reply::NotYet,
+        PassAnswer::Refused(_, refusal) => Reply::Refused(refusal),
     }
 }
 
-fn looked(answer: Result<Look, Refusal>) -> Answer {
+fn looked(answer: Result<Look, Refusal>) -> Reply {
     match answer {
-        Ok(seen) => Answer::Saw(seen),
-        Err(refusal) => Answer::Refused(refusal),
+        Ok(seen) => Reply::Saw(seen),
+        Err(refusal) => Reply::Refused(refusal),
     }
 }
 
-/// Makes the call on a phaser of the table.
+/// Makes the call on a phaser of the table. The item of a task is its number.
 fn answer_to<K: Ledgers, R: Wait>(
     rt: &R,
     table: &PhaserTable<u32, K>,
@@ -75,7 +51,7 @@ fn answer_to<K: Ledgers, R: Wait>(
     mine: &mut Shares<K>,
     out: &mut Out<u32>,
     call: Call,
-) -> Answer
+) -> Reply
     requires number { number < table.now.phasers }
     requires empty { out.old ≡ [] }
 {
@@ -93,7 +69,7 @@ fn answer_to<K: Ledgers, R: Wait>(
             plainly(table.send(rt, number, mine, task, accumulator, value))
         }
         Call::Look(task, accumulator) => looked(table.look(rt, number, mine, task, accumulator)),
-        Call::DropTask(task) => plainly(table.drop_task(rt, number, mine, out, task)),
+        Call::Drop(task) => plainly(table.drop_task(rt, number, mine, out, task)),
     }
 }
 
@@ -123,7 +99,7 @@ fn example<R: Abort + Wait>(
     alloc: Global,
     limits: Limits,
     ops: Ops,
-    rows: &[(Call, Answer)],
+    rows: &[(Call, Reply)],
 ) -> Result<(), Refusal> {
     let blanks = Blanks::new(1, 1);
     named::<R, Brand, Brand, Brand, Brand, Brand, Brand, Brand>(rt, alloc, blanks, limits, ops, rows)
@@ -144,7 +120,7 @@ fn named<
     blanks: Blanks,
     limits: Limits,
     ops: Ops,
-    rows: &[(Call, Answer)],
+    rows: &[(Call, Reply)],
 ) -> Result<(), Refusal>
     requires names { IsNamed blanks A.name B.name C.name D.name E.name F.name G.name }
     requires parts { IsParted blanks A.parts B.parts C.parts D.parts E.parts F.parts G.parts }
@@ -159,7 +135,7 @@ fn play<K: Ledgers, R: Abort + Wait>(
     blanks: Blanks,
     limits: Limits,
     ops: Ops,
-    rows: &[(Call, Answer)],
+    rows: &[(Call, Reply)],
 ) -> Result<(), Refusal>
     requires names { IsNamed blanks K.EventsByPhaser.name K.EventsByWorker.name K.UpByPhaser.name
         K.UpByWorker.name K.DownByPhaser.name K.DownByWorker.name K.Room.name }
@@ -181,7 +157,7 @@ fn play<K: Ledgers, R: Abort + Wait>(
             }
         }
         match expected {
-            Answer::NotYet | Answer::Refused(_) => {}
+            Reply::NotYet | Reply::Refused(_) => {}
             _ => events += 1,
         }
     }

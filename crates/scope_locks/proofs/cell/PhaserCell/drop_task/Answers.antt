@@ -1,6 +1,6 @@
 use Rattle.std.proofs.Common.{◌≡◌, ◌||◌, ◌&&◌, not, Bool, ap, sym, refl, ◌∙◌}
 use Rattle.std.specs.Result.{is_ok}
-use Rattle.phase_model.specs.Replies.{drop_task}
+use Rattle.phase_model.specs.declared.call.Call.TheVariants.{Drop as drop_task}
 use Rattle.phase_model.specs.Waiting.{would_wait}
 use Rattle.scope_locks.specs.Parking.{is_phase_open}
 use Rattle.scope_locks.proofs.Freeing.{drop_frees_nobody}

@@ -1,6 +1,6 @@
 use Rattle.std.proofs.Common.{ap, refl, ◌∙◌}
 use Rattle.std.specs.Result.{is_ok}
-use Rattle.phase_model.specs.Replies.{make}
+use Rattle.phase_model.specs.declared.call.Call.TheVariants.{Make as make}
 use Rattle.scope_locks.proofs.Written.{told_result, kept, stays_waiting}
 use Rattle.scope_locks.proofs.cell.PhaserCell.make.Goals as goal
 

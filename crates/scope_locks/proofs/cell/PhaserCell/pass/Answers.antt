@@ -1,6 +1,6 @@
 use Rattle.std.proofs.Common.{◌<◌, length, Result, ap, sym, ◌∙◌, arith}
 use Rattle.phase_modes.specs.declared.refusal.Refusal.{Refusal}
-use Rattle.phase_model.specs.Replies.{pass}
+use Rattle.phase_model.specs.declared.call.Call.TheVariants.{Pass as pass}
 use Rattle.phaser_core.specs.declared.state.Passing.{Passing}
 use Rattle.scope_locks.specs.declared.parking.Parked.{Parked}
 use Rattle.scope_locks.specs.Parking.{is_parked, locked_pass, parking, has_gone_on, told_is}

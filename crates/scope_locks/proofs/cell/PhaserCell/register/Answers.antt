@@ -1,6 +1,6 @@
 use Rattle.std.proofs.Common.{ap, refl, ◌∙◌}
 use Rattle.std.specs.Result.{is_ok}
-use Rattle.phase_model.specs.Replies.{register}
+use Rattle.phase_model.specs.declared.call.Call.TheVariants.{Register as register}
 use Rattle.scope_locks.proofs.Written.{told_result, kept, stays_waiting}
 use Rattle.scope_locks.proofs.cell.PhaserCell.register.Goals as goal
 

@@ -1,7 +1,7 @@
 use Rattle.std.proofs.Common.{w32, ap, refl, ◌∙◌}
 use Rattle.std.proofs.lemmas.Int.{to_z-of_z}
 use Rattle.std.specs.Result.{is_ok}
-use Rattle.phase_model.specs.Replies.{send}
+use Rattle.phase_model.specs.declared.call.Call.TheVariants.{Send as send}
 use Rattle.scope_locks.proofs.Written.{told_result, kept, stays_waiting}
 use Rattle.scope_locks.proofs.cell.PhaserCell.send.Goals as goal
 
