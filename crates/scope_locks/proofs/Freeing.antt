@@ -14,7 +14,7 @@ use Rattle.phase_model.proofs.Replied.{done_is_allowed}
 use Rattle.share_book.specs.Accounts.{Entry}
 use Rattle.scope_locks.specs.declared.parking.Parked.{Parked}
 use Rattle.scope_locks.specs.Cells.{IsKept}
-use Rattle.scope_locks.specs.Parking.{is_parked, all_wait, is_phase_open}
+use Rattle.scope_locks.specs.Parking.{all_wait, is_phase_open}
 use Rattle.scope_locks.proofs.Lists.{all_past_signal, all_past_closed_signal, all_past_drop, all_past_closed_drop, not_parked}
 use Rattle.scope_locks.proofs.Written.{event_is}
 

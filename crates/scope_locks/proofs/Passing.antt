@@ -1,5 +1,5 @@
 -- A pass through the cell: who is parked after it.
-use Rattle.std.proofs.Common.{◌≡◌, ℕ, ◌+◌, Bool, true, false, List, [], ◌∷◌, Result, Ok, Err, length, ap, sym, refl, ◌∙◌, arith}
+use Rattle.std.proofs.Common.{◌≡◌, ℕ, Bool, true, false, List, [], Result, Ok, Err, length, ap, sym, refl, ◌∙◌, arith}
 use Rattle.phase_modes.specs.declared.limits.Limits.{Limits}
 use Rattle.phase_modes.specs.declared.refusal.Refusal.{Refusal}
 use Rattle.phase_modes.specs.Limits.{limits_fit}

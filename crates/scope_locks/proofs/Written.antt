@@ -1,5 +1,5 @@
 -- What a call leaves of the fact that a cell keeps: one step for all calls.
-use Rattle.std.proofs.Common.{◌≡◌, ℕ, ◌+◌, ◌<◌, ◌≤◌, Bool, true, false, List, [], ◌∷◌, length, Result, Ok, Err, cond, refl, ap, sym, ◌∙◌, subst, arith}
+use Rattle.std.proofs.Common.{◌≡◌, ℕ, ◌+◌, ◌<◌, Bool, true, false, List, [], ◌∷◌, length, Result, Ok, Err, cond, refl, ap, sym, ◌∙◌, subst, arith}
 use Rattle.std.specs.Prelude.{OnErr}
 use Rattle.std.specs.Result.{is_ok}
 use Rattle.std.proofs.lemmas.Bool.{leb-true, and_parts, and_from}
@@ -11,11 +11,10 @@ use Rattle.phase_model.specs.declared.event.Event.TheVariants.{Make, Reg, Sig, C
 use Rattle.phase_model.specs.declared.op.Look.{Look as Seen}
 use Rattle.phase_model.specs.Amounts.{Amount, amount, plus, totals}
 use Rattle.phase_model.specs.Laws.{IsLegal}
-use Rattle.phase_model.specs.Ordering.{IsOrdered}
 use Rattle.phase_model.specs.Phases.{waits}
 use Rattle.phase_model.specs.Singles.{reserve}
 use Rattle.phase_model.specs.Tasks.{live_count}
-use Rattle.phase_model.specs.Rules.{Story, with_event, is_permitted, is_legal, is_allowed, has_room, look_of}
+use Rattle.phase_model.specs.Rules.{Story, is_permitted, is_legal, is_allowed, has_room, look_of}
 use Rattle.phase_model.specs.declared.call.Call.{Call}
 use Rattle.phase_model.specs.declared.call.Call.TheVariants.{Pass as pass, Look as look}
 use Rattle.phase_model.specs.Conditions.{conditions}
@@ -25,7 +24,7 @@ use Rattle.phase_model.proofs.OrderingLaw.{legal_is_ordered}
 use Rattle.phase_model.proofs.Replied.{settled_done, done_is_allowed, legal_after}
 use Rattle.phaser_core.specs.Answers.{pass_result, look_result}
 use Rattle.phaser_core.proofs.Reading.{history_fits}
-use Rattle.share_book.specs.Accounts.{Entry, nothing}
+use Rattle.share_book.specs.Accounts.{Entry}
 use Rattle.scope_locks.specs.declared.parking.Parked.{Parked}
 use Rattle.scope_locks.specs.Amounts.{weight, amount_if, plus_nothing}
 use Rattle.scope_locks.specs.Cells.{IsKept}

@@ -307,9 +307,7 @@ impl<T: Drop, K: Ledgers> PhaserCell<T, K> {
         ensures memory { IfErr result (λ r. r ≡ Refusal.Memory) }
     {
         let state = PhaserState::new(alloc, limits, ops)?;
-        let Ok(parked) = VecDeque::with_capacity(alloc, 256) else {
-            return Err(Refusal::Memory);
-        };
+        let parked = VecDeque::with_capacity(alloc, 256)?;
         Ok(PhaserCell {
             state,
             book,

@@ -71,13 +71,9 @@ impl<T: Drop, L: Drop> FinishTable<T, L> {
         ensures memory { IfErr result (λ r. r ≡ Refusal.Memory) }
     {
         let count = limits.finishes as usize;
-        let (Ok(mut cells), Ok(states), Ok(logs)) = (
-            Vec::with_capacity(alloc, count),
-            Vec::with_capacity(alloc, count),
-            Vec::with_capacity(alloc, count),
-        ) else {
-            return Err(Refusal::Memory);
-        };
+        let mut cells = Vec::with_capacity(alloc, count)?;
+        let states = Vec::with_capacity(alloc, count)?;
+        let logs = Vec::with_capacity(alloc, count)?;
         for number in 0..count {
             let mut cell = FinishCell::new(alloc, limits.tasks)?;
             if number == 0 {

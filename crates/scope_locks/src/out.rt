@@ -30,10 +30,8 @@ impl<T> Out<T> {
         ensures empty { IfOk result (λ o. o ≡ []) }
         ensures memory { IfErr result (λ e. e ≡ Refusal.Memory) }
     {
-        match VecDeque::with_capacity(alloc, 256) {
-            Ok(items) => Ok(Out { items }),
-            Err(_) => Err(Refusal::Memory),
-        }
+        let items = VecDeque::with_capacity(alloc, 256)?;
+        Ok(Out { items })
     }
 
     /// How many items there are, at most 256.

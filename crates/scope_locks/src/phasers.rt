@@ -92,17 +92,11 @@ impl<T: Drop, K: Ledgers> PhaserTable<T, K> {
         let mut cells = Vec::new(alloc);
         for book in phasers {
             let cell = Mutex::new(PhaserCell::new(alloc, limits, ops, book)?);
-            if cells.push(cell).is_err() {
-                return Err(Refusal::Memory);
-            }
+            cells.push(cell)?;
         }
         let count = cells.len();
-        let (Ok(states), Ok(of_phasers)) = (
-            Vec::with_capacity(alloc, count),
-            Vec::with_capacity(alloc, count),
-        ) else {
-            return Err(Refusal::Memory);
-        };
+        let states = Vec::with_capacity(alloc, count)?;
+        let of_phasers = Vec::with_capacity(alloc, count)?;
         Ok(PhaserTable {
             phasers: count,
             cells,

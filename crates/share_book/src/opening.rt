@@ -153,20 +153,15 @@ pub fn open<K: Ledgers>(
         down,
         room,
     };
-    let Ok(phasers) = phaser_books::<K>(
+    let phasers = phaser_books::<K>(
         alloc,
         phasers,
         phaser_events,
         phaser_up,
         phaser_down,
         all_room,
-    ) else {
-        return Err(Refusal::Memory);
-    };
-    let Ok(workers) = worker_shares::<K>(alloc, workers, worker_events, worker_up, worker_down)
-    else {
-        return Err(Refusal::Memory);
-    };
+    )?;
+    let workers = worker_shares::<K>(alloc, workers, worker_events, worker_up, worker_down)?;
     Ok((books, phasers, workers))
 }
 

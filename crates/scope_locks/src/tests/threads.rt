@@ -195,9 +195,7 @@ fn numbered<K: Ledgers>(
     let mut staff = Vec::new(alloc);
     let mut number = 0u32;
     for mine in shares {
-        if staff.push((number, mine)).is_err() {
-            return Err(Refusal::Memory);
-        }
+        staff.push((number, mine))?;
         number = number.saturating_add(1);
     }
     Ok(staff)
@@ -240,14 +238,10 @@ where
     set_up(rt, &table, mine)?;
     let staff = numbered(alloc, shares)?;
     let shared = &table;
-    let Ok(done) = thread::map_vec(rt, staff, &|worker| work(rt, alloc, shared, worker)) else {
-        return Err(Refusal::Memory);
-    };
+    let done = thread::map_vec(rt, staff, &|worker| work(rt, alloc, shared, worker))?;
     let mut shares = Vec::new(alloc);
     for mine in done {
-        if shares.push(mine?).is_err() {
-            return Err(Refusal::Memory);
-        }
+        shares.push(mine?)?;
     }
     let parts = table.into_parts();
     let events = judged(&parts)?;

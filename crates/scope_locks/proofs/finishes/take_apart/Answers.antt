@@ -1,4 +1,4 @@
-use Rattle.std.proofs.Common.{◌≡◌, true, length, rules}
+use Rattle.std.proofs.Common.{◌≡◌, true, length}
 use Rattle.std.proofs.lemmas.List.Elements.{All-push}
 use Rattle.finish_core.specs.Finish.{is_legal_finish}
 use Rattle.scope_locks.specs.Shutting.{ended_count}

@@ -1,4 +1,3 @@
-use Rattle.std.proofs.Common.{rules}
 use Rattle.std.proofs.lemmas.List.Elements.{All-push}
 use Rattle.phase_model.specs.Amounts.{totals}
 use Rattle.phase_model.specs.Laws.{IsLegal}

@@ -1,7 +1,5 @@
 use Rattle.std.proofs.Common.{ap, refl, ◌∙◌}
 use Rattle.std.specs.Result.{is_ok}
-use Rattle.phase_model.specs.declared.op.Look.{Look}
-use Rattle.phaser_core.specs.Answers.{look_result}
 use Rattle.phase_model.specs.declared.call.Call.TheVariants.{Look as look}
 use Rattle.scope_locks.proofs.Written.{told_look, kept, stays_waiting}
 use Rattle.scope_locks.proofs.cell.PhaserCell.look.Goals as goal

@@ -1,8 +1,6 @@
-use Rattle.std.proofs.Common.{◌≡◌, ◌||◌, ◌&&◌, not, Bool, ap, sym, refl, ◌∙◌}
+use Rattle.std.proofs.Common.{ap, sym, ◌∙◌}
 use Rattle.std.specs.Result.{is_ok}
 use Rattle.phase_model.specs.declared.call.Call.TheVariants.{SingleDone as single_done}
-use Rattle.phase_model.specs.Waiting.{would_wait}
-use Rattle.scope_locks.specs.Parking.{is_phase_open}
 use Rattle.scope_locks.proofs.Freeing.{refused_frees_nobody}
 use Rattle.scope_locks.proofs.Parks.{all_waiting, once_waiting}
 use Rattle.scope_locks.proofs.Written.{told_result, kept, none_where_refused}
