@@ -112,4 +112,3 @@ still_open : (was now : Bool) → was ≡ true → (was && not now) ≡ false �
 still_open true true a k = refl
 still_open true false a k = absurd cc
 still_open false now a k = absurd cc
-

@@ -17,6 +17,7 @@ use std::test::*;
 mod examples;
 mod finishes;
 mod threads;
+mod waiter;
 
 use examples::*;
 
@@ -102,7 +103,9 @@ fn example<R: Abort + Wait>(
     rows: &[(Call, Reply)],
 ) -> Result<(), Refusal> {
     let blanks = Blanks::new(1, 1);
-    named::<R, Brand, Brand, Brand, Brand, Brand, Brand, Brand>(rt, alloc, blanks, limits, ops, rows)
+    named::<R, Brand, Brand, Brand, Brand, Brand, Brand, Brand>(
+        rt, alloc, blanks, limits, ops, rows,
+    )
 }
 
 fn named<
@@ -147,7 +150,7 @@ fn play<K: Ledgers, R: Abort + Wait>(
     }
     let (books, phasers, mut shares) = open::<K>(alloc, blanks)?;
     let table = PhaserTable::new(alloc, limits, ops, books, phasers)?;
-    let mut events = 0;
+    let mut events = 0u64;
     for (call, expected) in rows {
         let mut out = Out::new(alloc)?;
         if let Some(mine) = shares.get_mut(0) {
@@ -158,7 +161,7 @@ fn play<K: Ledgers, R: Abort + Wait>(
         }
         match expected {
             Reply::NotYet | Reply::Refused(_) => {}
-            _ => events += 1,
+            _ => events = events.saturating_add(1),
         }
     }
     let parts = table.into_parts();
@@ -182,15 +185,57 @@ fn examples_on_table(rt: HostRuntime) -> Result<(), Fail> {
     example(&rt, alloc, plain, none, WAITER_ALONE.as_slice())?;
     example(&rt, alloc, plain, none, SPLIT_PHASE_CHILD.as_slice())?;
     example(&rt, alloc, plain, none, SIGNALLER_RUNS_AHEAD.as_slice())?;
-    example(&rt, alloc, plain, first_ops(1), VALUE_OF_DROPPED_SENDER.as_slice())?;
+    example(
+        &rt,
+        alloc,
+        plain,
+        first_ops(1),
+        VALUE_OF_DROPPED_SENDER.as_slice(),
+    )?;
     example(&rt, alloc, plain, first_ops(3), EMPTY_FOLDS.as_slice())?;
     example(&rt, alloc, plain, first_ops(3), EXTREME_VALUES.as_slice())?;
-    example(&rt, alloc, plain, first_ops(1), VALUE_AFTER_SIGNAL.as_slice())?;
+    example(
+        &rt,
+        alloc,
+        plain,
+        first_ops(1),
+        VALUE_AFTER_SIGNAL.as_slice(),
+    )?;
     example(&rt, alloc, plain, none, SINGLE_STATEMENT.as_slice())?;
-    example(&rt, alloc, limits_with(4, 256), none, HISTORY_FULL.as_slice())?;
-    example(&rt, alloc, plain, first_ops(1), REFUSALS_IN_ORDER.as_slice())?;
-    example(&rt, alloc, limits_with(4_096, 1), none, REGISTRATIONS_FULL.as_slice())?;
-    example(&rt, alloc, limits_with(4, 256), none, ROOM_FOR_A_SINGLE.as_slice())?;
-    example(&rt, alloc, limits_with(5, 256), none, ROOM_FOR_A_SINGLE_AND_ITS_END.as_slice())?;
+    example(
+        &rt,
+        alloc,
+        limits_with(4, 256),
+        none,
+        HISTORY_FULL.as_slice(),
+    )?;
+    example(
+        &rt,
+        alloc,
+        plain,
+        first_ops(1),
+        REFUSALS_IN_ORDER.as_slice(),
+    )?;
+    example(
+        &rt,
+        alloc,
+        limits_with(4_096, 1),
+        none,
+        REGISTRATIONS_FULL.as_slice(),
+    )?;
+    example(
+        &rt,
+        alloc,
+        limits_with(4, 256),
+        none,
+        ROOM_FOR_A_SINGLE.as_slice(),
+    )?;
+    example(
+        &rt,
+        alloc,
+        limits_with(5, 256),
+        none,
+        ROOM_FOR_A_SINGLE_AND_ITS_END.as_slice(),
+    )?;
     Ok(())
 }

@@ -38,14 +38,24 @@ fn two_finishes(alloc: Global) -> Result<FinishTable<u32, u32>, Refusal>
 fn parked_owner(rt: HostRuntime) -> Result<(), Fail> {
     let table = two_finishes(rt.alloc())?;
     let mut out = Out::new(rt.alloc())?;
-    assert_eq!(rt; answer_of(table.shut(&rt, 1, 100)), Shutting::Refused(100, Refusal::NotNow));
-    assert_eq!(rt; table.opened(&rt, 0, 0), Err(Refusal::NotNow), "it is open from the start");
+    assert_eq!(rt;
+        answer_of(table.shut(&rt, 1, 100)),
+        Shutting::Refused(100, Refusal::NotNow)
+    );
+    assert_eq!(rt;
+        table.opened(&rt, 0, 0),
+        Err(Refusal::NotNow),
+        "it is open from the start"
+    );
     assert_eq!(rt; table.opened(&rt, 1, 0), Ok(()));
     assert_eq!(rt; table.spawned(&rt, 1, 1), Ok(()));
     assert_eq!(rt; table.spawned(&rt, 1, 2), Ok(()));
     assert_eq!(rt; table.ended(&rt, 1, 3, 33, &mut out), Err(33));
     assert_eq!(rt; answer_of(table.shut(&rt, 1, 100)), Shutting::Parked);
-    assert_eq!(rt; answer_of(table.shut(&rt, 1, 101)), Shutting::Refused(101, Refusal::NotNow));
+    assert_eq!(rt;
+        answer_of(table.shut(&rt, 1, 101)),
+        Shutting::Refused(101, Refusal::NotNow)
+    );
     let mut out = Out::new(rt.alloc())?;
     assert_eq!(rt; table.ended(&rt, 1, 2, 22, &mut out), Ok(()));
     assert_eq!(rt; out.len(), 0);

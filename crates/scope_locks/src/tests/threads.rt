@@ -271,13 +271,21 @@ fn named_crowd<
 #[test]
 fn four_threads_on_eight_phasers(rt: HostRuntime) -> Result<(), Fail> {
     for _run in 0..RUNS {
-        let (events, totals) = named_crowd::<HostRuntime, Brand, Brand, Brand, Brand, Brand, Brand, Brand>(
-            &rt,
-            rt.alloc(),
-            Blanks::new(PHASERS, WORKERS),
-        )?;
+        let (events, totals) = named_crowd::<
+            HostRuntime,
+            Brand,
+            Brand,
+            Brand,
+            Brand,
+            Brand,
+            Brand,
+            Brand,
+        >(&rt, rt.alloc(), Blanks::new(PHASERS, WORKERS))?;
         assert_eq!(rt; totals.events, events);
-        assert!(rt; events >= u64::from(PHASERS * WORKERS), "each task was registered");
+        assert!(rt;
+            events >= u64::from(PHASERS * WORKERS),
+            "each task was registered"
+        );
         assert!(rt; totals.up > 0, "values were sent");
     }
     Ok(())

@@ -28,8 +28,8 @@ invariant_of-self g c =
     let told = told_pass s t c.has_gone_on.result (c.has_gone_on.ensures ∙ ap (λ (a : Result Passing Refusal). has_gone_on a) c.pass-answer.ensures.reply) in
     record {
       kept = kept s _ cell.book _ cell.parked.items _ (pass t) _ _ cell.kept told is c.post_if.ensures.book c.post_if.ensures.room
-      (parking_waits s _ cell.book c.pass-answer.result p cell.parked.items _ cell.kept is c.pass-answer.ensures.reply left)
-      (parking_once c.pass-answer.result p cell.parked.items _ cell.kept.once left);
+          (parking_waits s _ cell.book c.pass-answer.result p cell.parked.items _ cell.kept is c.pass-answer.ensures.reply left)
+          (parking_once c.pass-answer.result p cell.parked.items _ cell.kept.once left);
       seats = c.settle.ensures.seats;
       seated = c.settle.ensures.seated;
     }
