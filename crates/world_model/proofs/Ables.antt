@@ -19,10 +19,14 @@ use Rattle.world_model.specs.declared.event.Tried.TheVariants.{Begun as Beginnin
 use Rattle.world_model.specs.declared.event.WorldEvent.{WorldEvent}
 use Rattle.world_model.specs.declared.event.WorldEvent.TheVariants.{Phaser, Finish, Begin, Refuse, Fail}
 use Rattle.world_model.specs.Tasks.{is_ended, acts}
-use Rattle.world_model.specs.Due.{actor, next_event, is_idle}
-use Rattle.world_model.specs.Replies.{is_accepted, is_made, same_number, same_mode, same_step, same_finish_event, same_event, act_reply, is_number_used, is_refused_by, may_fail, may_refuse, done_where, is_reg, part_done, part_reply, is_counted, own_causes, unless, act_done}
+use Rattle.world_model.specs.Actors.{actor}
+use Rattle.world_model.specs.Due.{next_event, is_idle}
+use Rattle.world_model.specs.Replies.{is_accepted, is_made}
+use Rattle.world_model.specs.Continuing.{same_number, same_mode, same_step, same_finish_event, same_event, next_done, next_reply}
+use Rattle.world_model.specs.Acts.{act_reply, is_number_used, is_counted, own_causes, unless, act_done}
+use Rattle.world_model.specs.GivingUp.{is_refused_by, may_fail, may_refuse, done_where, is_reg}
 use Rattle.world_model.specs.Able.{IsAble, is_able, candidates}
-use Rattle.world_model.specs.Laws.{AbleIsComputed}
+use Rattle.world_model.specs.ProgressLaws.{AbleIsComputed}
 use Rattle.world_model.proofs.Made.{act_made, part_made}
 
 pub same_modes : (m n : Mode) → same_mode m n ≡ true → m ≡ n
@@ -190,7 +194,7 @@ module _ (l : Limits) (w : List WorldEvent) (t : ℕ) where
 
   fail_found : (n : ℕ) → is_accepted l w (Fail t n) ≡ true → Found l w t
   fail_found n k =
-      let x = (n == 7 || n == 15) && option_map_or (λ e. is_refused_by n (part_done l w e)) (next_event l t w) false in
+      let x = (n == 7 || n == 15) && option_map_or (λ e. is_refused_by n (next_done l w e)) (next_event l t w) false in
       let y = n == 14 && option_map_or is_reg (next_event l t w) false in
       let z = n == 23 && is_idle t w in
       let at : (m : ℕ) → (n == m) ≡ true → is_accepted l w (Fail t m) ≡ true = λ m e. subst (λ v. is_accepted l w (Fail t v) ≡ true) (eqb-true n m e) k in
@@ -198,7 +202,7 @@ module _ (l : Limits) (w : List WorldEvent) (t : ℕ) where
         | inl e ↦
             elim (or_cases x y e) [
               | inl f ↦
-                  elim (or_cases (n == 7) (n == 15) (and_parts (n == 7 || n == 15) (option_map_or (λ d. is_refused_by n (part_done l w d)) (next_event l t w) false) f).0) [
+                  elim (or_cases (n == 7) (n == 15) (and_parts (n == 7 || n == 15) (option_map_or (λ d. is_refused_by n (next_done l w d)) (next_event l t w) false) f).0) [
                     | inl g ↦ found_7 l w t (at 7 g)
                     | inr g ↦ found_15 l w t (at 15 g)
                   ]
@@ -207,7 +211,7 @@ module _ (l : Limits) (w : List WorldEvent) (t : ℕ) where
         | inr e ↦ found_23 l w t (at 23 (and_parts (n == 23) (is_idle t w) e).0)
       ]
 
-  part_found : (e : WorldEvent) → actor w e ≡ t → is_accepted l w e ≡ true → is_made (part_reply l w e) ≡ true → Found l w t
+  part_found : (e : WorldEvent) → actor w e ≡ t → is_accepted l w e ≡ true → is_made (next_reply l w e) ≡ true → Found l w t
   part_found e a k p =
       let f = found (λ d. same_event d e) (next_event l (actor w e) w) (part_made l w e p).0 in
       let same : f.0 ≡ e = same_events f.0 e f.2 in

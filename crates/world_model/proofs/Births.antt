@@ -16,10 +16,12 @@ use Rattle.world_model.specs.declared.event.Begun.TheVariants.{Async}
 use Rattle.world_model.specs.declared.event.WorldEvent.{WorldEvent}
 use Rattle.world_model.specs.declared.event.WorldEvent.TheVariants.{Phaser, Finish, Begin, Refuse, Fail}
 use Rattle.world_model.specs.Parts.{ops_of, phaser_past}
-use Rattle.world_model.specs.Tasks.{spawner, is_named, spawns, is_born}
-use Rattle.world_model.specs.Due.{actor, due, is_entry, is_of_single, or_single}
+use Rattle.world_model.specs.Tasks.{spawner, spawns, is_born}
+use Rattle.world_model.specs.Numbers.{is_named}
+use Rattle.world_model.specs.Actors.{actor}
+use Rattle.world_model.specs.Due.{due, is_entry, is_of_single, or_single}
 use Rattle.world_model.specs.Replies.{is_legal_world, is_accepted}
-use Rattle.world_model.specs.Able.{last_entry}
+use Rattle.world_model.specs.Conditions.{last_entry}
 use Rattle.world_model.proofs.Made.{last_accepted, part_made}
 use Rattle.world_model.proofs.Nexts.{First, first_due, childless}
 use Rattle.world_model.proofs.Spawning.{begins_spawn, is_child_event, is_spawn_list, spawn_due, named_by_spawn, named_later, names_fresh}

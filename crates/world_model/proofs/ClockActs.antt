@@ -14,11 +14,12 @@ use Rattle.world_model.specs.declared.event.WorldEvent.{WorldEvent}
 use Rattle.world_model.specs.declared.event.WorldEvent.TheVariants.{Phaser, Begin}
 use Rattle.world_model.specs.Parts.{phaser_past}
 use Rattle.world_model.specs.Tasks.{is_born, spawns, spawner, phasers_of}
-use Rattle.world_model.specs.Due.{actor, is_entry, is_idle, fixed_by}
+use Rattle.world_model.specs.Actors.{actor}
+use Rattle.world_model.specs.Due.{is_entry, is_idle, fixed_by}
 use Rattle.world_model.specs.Clock.{clock, base, is_turn}
 use Rattle.world_model.specs.Replies.{is_legal_world, is_accepted}
-use Rattle.world_model.specs.Able.{last_entry}
-use Rattle.world_model.specs.Laws.{has_passed, begins_turn, is_pass_on, leads_to_end}
+use Rattle.world_model.specs.Conditions.{last_entry}
+use Rattle.world_model.specs.ClockLaws.{has_passed, begins_turn, is_pass_on, leads_to_end}
 use Rattle.world_model.proofs.Ables.{idle_in_act}
 use Rattle.world_model.proofs.Frames.{last_other, clock_other}
 use Rattle.world_model.proofs.ClockRows.{ClockLaw, pass_row_here, pass_row_there}

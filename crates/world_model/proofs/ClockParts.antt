@@ -12,10 +12,11 @@ use Rattle.world_model.specs.declared.event.Step.TheVariants.{Sig, Claim, Did, P
 use Rattle.world_model.specs.declared.event.WorldEvent.{WorldEvent}
 use Rattle.world_model.specs.declared.event.WorldEvent.TheVariants.{Phaser}
 use Rattle.world_model.specs.Parts.{ops_of, phaser_past}
-use Rattle.world_model.specs.Due.{actor, due, is_entry, is_of_single, is_idle, or_single}
+use Rattle.world_model.specs.Actors.{actor}
+use Rattle.world_model.specs.Due.{due, is_entry, is_of_single, is_idle, or_single}
 use Rattle.world_model.specs.Clock.{clock, base}
-use Rattle.world_model.specs.Able.{last_entry}
-use Rattle.world_model.specs.Laws.{has_passed, begins_turn, is_pass_on}
+use Rattle.world_model.specs.Conditions.{last_entry}
+use Rattle.world_model.specs.ClockLaws.{has_passed, begins_turn, is_pass_on}
 use Rattle.world_model.proofs.Made.{IsNext}
 use Rattle.world_model.proofs.Frames.{due_other, last_other, last_plain, due_own}
 use Rattle.world_model.proofs.Nexts.{First, first_due}

@@ -7,7 +7,7 @@ use Rattle.world_model.specs.declared.event.Step.TheVariants.{Make, Reg, Sig, Cl
 use Rattle.world_model.specs.declared.event.WorldEvent.{WorldEvent}
 use Rattle.world_model.specs.declared.event.WorldEvent.TheVariants.{Phaser, Finish, Begin, Refuse, Fail}
 use Rattle.world_model.specs.Replies.{is_legal_world, is_accepted}
-use Rattle.world_model.specs.Laws.{ClocksAgree}
+use Rattle.world_model.specs.ClockLaws.{ClocksAgree}
 use Rattle.world_model.proofs.Made.{last_accepted}
 use Rattle.world_model.proofs.ClockEvents.{Both, after_send, after_look, after_claim, after_did, after_sig, after_drop, after_opened, after_ended, after_shut, after_make}
 use Rattle.world_model.proofs.ClockSpawns.{after_reg, after_birth}

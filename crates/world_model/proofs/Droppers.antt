@@ -14,10 +14,13 @@ use Rattle.world_model.specs.declared.event.Tried.TheVariants.{Begun as Beginnin
 use Rattle.world_model.specs.declared.event.WorldEvent.{WorldEvent}
 use Rattle.world_model.specs.declared.event.WorldEvent.TheVariants.{Phaser, Finish, Begin, Refuse, Fail}
 use Rattle.world_model.specs.Parts.{phaser_past}
-use Rattle.world_model.specs.Tasks.{home, inner, enclosing, open_finishes, spawner, spawns, is_born, is_named, phasers_of}
-use Rattle.world_model.specs.Due.{actor, due, fixed, ending, drops_due, unborn, is_entry, is_of_single}
+use Rattle.world_model.specs.Tasks.{home, spawner, spawns, is_born, phasers_of}
+use Rattle.world_model.specs.Scopes.{inner, enclosing, open_finishes}
+use Rattle.world_model.specs.Numbers.{is_named}
+use Rattle.world_model.specs.Actors.{actor}
+use Rattle.world_model.specs.Due.{due, fixed, ending, drops_due, unborn, is_entry, is_of_single}
 use Rattle.world_model.specs.Replies.{is_legal_world, is_accepted}
-use Rattle.world_model.specs.Able.{last_entry}
+use Rattle.world_model.specs.Conditions.{last_entry}
 use Rattle.world_model.proofs.Ables.{idle_in_act, refuse_idle, made_done_where}
 use Rattle.world_model.proofs.DueHas.{due_has}
 use Rattle.world_model.proofs.Spawning.{names_fresh}

@@ -13,7 +13,9 @@ use Rattle.world_model.specs.declared.event.Begun.TheVariants.{Async}
 use Rattle.world_model.specs.declared.event.WorldEvent.{WorldEvent}
 use Rattle.world_model.specs.declared.event.WorldEvent.TheVariants.{Phaser, Finish, Begin}
 use Rattle.world_model.specs.Parts.{phaser_past}
-use Rattle.world_model.specs.Tasks.{open_finishes, spawner, names, is_born, is_named, phasers_of}
+use Rattle.world_model.specs.Scopes.{open_finishes}
+use Rattle.world_model.specs.Tasks.{spawner, is_born, phasers_of}
+use Rattle.world_model.specs.Numbers.{names, is_named}
 use Rattle.world_model.specs.Due.{drops_due, ending, unborn, named_by}
 use Rattle.world_model.specs.Replies.{is_legal_world}
 use Rattle.world_model.proofs.Made.{last_accepted}

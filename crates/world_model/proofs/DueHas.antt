@@ -11,11 +11,12 @@ use Rattle.world_model.specs.declared.event.WorldEvent.{WorldEvent}
 use Rattle.world_model.specs.declared.event.WorldEvent.TheVariants.{Phaser, Finish, Begin, Refuse, Fail}
 use Rattle.world_model.specs.Parts.{phaser_past}
 use Rattle.world_model.specs.Tasks.{phasers_of}
-use Rattle.world_model.specs.Due.{actor, due, fixed, fixed_by, is_entry, is_of_single, passes_due, is_behind}
+use Rattle.world_model.specs.Actors.{actor}
+use Rattle.world_model.specs.Due.{due, fixed, fixed_by, is_entry, is_of_single, passes_due, is_behind}
 use Rattle.world_model.specs.Clock.{is_turn}
 use Rattle.world_model.specs.Replies.{is_legal_world}
-use Rattle.world_model.specs.Able.{last_entry}
-use Rattle.world_model.specs.Laws.{begins_turn, is_pass_on}
+use Rattle.world_model.specs.Conditions.{last_entry}
+use Rattle.world_model.specs.ClockLaws.{begins_turn, is_pass_on}
 use Rattle.phase_model.specs.Tasks.{is_live}
 use Rattle.world_model.proofs.Made.{last_accepted}
 use Rattle.world_model.proofs.Joined.{times, phasers_once}

@@ -9,8 +9,10 @@ use Rattle.world_model.specs.declared.event.Begun.{Begun}
 use Rattle.world_model.specs.declared.event.Begun.TheVariants.{Async, Signal, Wait, Next, NextSingle, Shut, End}
 use Rattle.world_model.specs.declared.event.WorldEvent.{WorldEvent}
 use Rattle.world_model.specs.declared.event.WorldEvent.TheVariants.{Phaser, Finish, Begin, Refuse, Fail}
-use Rattle.world_model.specs.Tasks.{home, open_finishes, inner, enclosing, phasers_of}
-use Rattle.world_model.specs.Due.{actor, due, fixed, fixed_by, ending, is_entry, is_of_single, signals_due, passes_due, drops_due, unborn, is_behind}
+use Rattle.world_model.specs.Tasks.{home, phasers_of}
+use Rattle.world_model.specs.Scopes.{open_finishes, inner, enclosing}
+use Rattle.world_model.specs.Actors.{actor}
+use Rattle.world_model.specs.Due.{due, fixed, fixed_by, ending, is_entry, is_of_single, signals_due, passes_due, drops_due, unborn, is_behind}
 use Rattle.world_model.specs.Parts.{phaser_past}
 use Rattle.std.specs.Prelude.{◌==◌, filter}
 

@@ -10,9 +10,10 @@ use Rattle.world_model.specs.declared.event.Step.TheVariants.{Claim, Did, Pass}
 use Rattle.world_model.specs.declared.event.WorldEvent.{WorldEvent}
 use Rattle.world_model.specs.declared.event.WorldEvent.TheVariants.{Phaser}
 use Rattle.world_model.specs.Parts.{ops_of, phaser_past}
-use Rattle.world_model.specs.Due.{actor, due, fixed, is_entry, is_of_single, or_single}
+use Rattle.world_model.specs.Actors.{actor}
+use Rattle.world_model.specs.Due.{due, fixed, is_entry, is_of_single, or_single}
 use Rattle.world_model.specs.Replies.{is_legal_world, is_accepted}
-use Rattle.world_model.specs.Able.{last_entry}
+use Rattle.world_model.specs.Conditions.{last_entry}
 use Rattle.world_model.proofs.Made.{last_accepted, IsNext}
 use Rattle.world_model.proofs.Frames.{last_plain, due_own}
 use Rattle.world_model.proofs.Nexts.{First, first_due}

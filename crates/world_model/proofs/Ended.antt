@@ -10,10 +10,13 @@ use Rattle.world_model.specs.declared.event.Begun.TheVariants.{Async}
 use Rattle.world_model.specs.declared.event.WorldEvent.{WorldEvent}
 use Rattle.world_model.specs.declared.event.WorldEvent.TheVariants.{Phaser, Finish, Begin}
 use Rattle.world_model.specs.Parts.{phaser_past}
-use Rattle.world_model.specs.Tasks.{home, open_finishes, spawner, spawns, is_born, is_named, is_ended}
-use Rattle.world_model.specs.Due.{actor, due, is_entry, is_of_single}
+use Rattle.world_model.specs.Tasks.{home, spawner, spawns, is_born, is_ended}
+use Rattle.world_model.specs.Scopes.{open_finishes}
+use Rattle.world_model.specs.Numbers.{is_named}
+use Rattle.world_model.specs.Actors.{actor}
+use Rattle.world_model.specs.Due.{due, is_entry, is_of_single}
 use Rattle.world_model.specs.Replies.{is_legal_world, is_accepted}
-use Rattle.world_model.specs.Able.{last_entry}
+use Rattle.world_model.specs.Conditions.{last_entry}
 use Rattle.world_model.proofs.Spawning.{names_fresh}
 use Rattle.world_model.proofs.Passing.{unborn_none}
 use Rattle.world_model.proofs.Endings.{nothing_due, later_ended}

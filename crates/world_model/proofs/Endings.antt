@@ -11,11 +11,14 @@ use Rattle.world_model.specs.declared.event.Begun.TheVariants.{Async}
 use Rattle.world_model.specs.declared.event.Tried.TheVariants.{Begun as Beginning, New, Open, Send as Sending, Look as Looking}
 use Rattle.world_model.specs.declared.event.WorldEvent.{WorldEvent}
 use Rattle.world_model.specs.declared.event.WorldEvent.TheVariants.{Phaser, Finish, Begin, Refuse, Fail}
-use Rattle.world_model.specs.Tasks.{home, open_finishes, is_born, is_ended, ends, inner, spawner, spawns, names, is_named}
-use Rattle.world_model.specs.Due.{actor, due, fixed, ending, drops_due, unborn, is_entry, is_of_single, is_idle, or_single}
+use Rattle.world_model.specs.Tasks.{home, is_born, is_ended, ends, spawner, spawns}
+use Rattle.world_model.specs.Scopes.{open_finishes, inner}
+use Rattle.world_model.specs.Numbers.{names, is_named}
+use Rattle.world_model.specs.Actors.{actor}
+use Rattle.world_model.specs.Due.{due, fixed, ending, drops_due, unborn, is_entry, is_of_single, is_idle, or_single}
 use Rattle.world_model.specs.Replies.{is_legal_world, is_accepted}
-use Rattle.world_model.specs.Able.{last_entry}
-use Rattle.world_model.specs.Laws.{leads_to_end}
+use Rattle.world_model.specs.Conditions.{last_entry}
+use Rattle.world_model.specs.ClockLaws.{leads_to_end}
 use Rattle.world_model.proofs.Made.{last_accepted, part_made, IsNext}
 use Rattle.world_model.proofs.Ables.{idle_in_act}
 use Rattle.world_model.proofs.DueHas.{due_has}

@@ -25,11 +25,15 @@ use Rattle.world_model.specs.declared.event.WorldEvent.TheVariants.{Phaser, Fini
 use Rattle.world_model.specs.declared.reply.Reply.{Reply}
 use Rattle.world_model.specs.declared.reply.Reply.TheVariants.{NotYet}
 use Rattle.world_model.specs.Parts.{ops_of, phaser_past, finish_past}
-use Rattle.world_model.specs.Tasks.{home, inner, owner, open_finishes, enclosing, is_born, is_ended}
-use Rattle.world_model.specs.Due.{actor, due, before_pass, or_single}
-use Rattle.world_model.specs.Replies.{told, is_made, when_done, finish_reply, part_done, is_legal_world}
-use Rattle.world_model.specs.Able.{last_entry}
-use Rattle.world_model.specs.Laws.{is_expected, NextsAreExpected}
+use Rattle.world_model.specs.Tasks.{home, is_born, is_ended}
+use Rattle.world_model.specs.Scopes.{inner, owner, open_finishes, enclosing}
+use Rattle.world_model.specs.Actors.{actor}
+use Rattle.world_model.specs.Due.{due, before_pass, or_single}
+use Rattle.world_model.specs.Answers.{phaser_answer, finish_answer, finish_reply}
+use Rattle.world_model.specs.Replies.{is_made, is_legal_world}
+use Rattle.world_model.specs.Continuing.{next_done}
+use Rattle.world_model.specs.Conditions.{last_entry}
+use Rattle.world_model.specs.ProgressLaws.{is_expected, NextsAreExpected}
 use Rattle.world_model.proofs.Spawning.{begins_spawn, is_spawn_list, spawn_due, named_by_spawn}
 use Rattle.world_model.proofs.Touched.{unborn_idle}
 use Rattle.world_model.proofs.Pairs.{MayJoin, may_join}
@@ -51,14 +55,14 @@ made_expected (Ok x) k = refl
 made_expected (Err r) k = absurd (false≢true k)
 
 -- a call without a cause is done, or has to wait, or has no room
-room_expected : (h : List Event) (o : Option Refusal) (waiting room : Bool) (e : Event) → o ≡ None → is_expected (told h (settled o waiting room e)) ≡ true
+room_expected : (h : List Event) (o : Option Refusal) (waiting room : Bool) (e : Event) → o ≡ None → is_expected (phaser_answer h (settled o waiting room e)) ≡ true
 room_expected h o true room e n = rw n refl
-room_expected h o false true e n = rw n (made_expected (told h (phaser.done e)) (told_made h e))
+room_expected h o false true e n = rw n (made_expected (phaser_answer h (phaser.done e)) (told_made h e))
 room_expected h o false false e n = rw n refl
 
 module _ (l : Limits) (w : List WorldEvent) (k : is_legal_world l w ≡ true) (t : ℕ) (born : is_born t w ≡ true) (going : is_ended t w ≡ false) where
   abbrev IsExpected : WorldEvent → Type 0
-  IsExpected e = (actor w e ≡ t) × (is_expected (part_done l w e) ≡ true)
+  IsExpected e = (actor w e ≡ t) × (is_expected (next_done l w e) ≡ true)
 
   -- a registration is refused where registrations are at the limit, or there is no room
   of_reg : (n c : ℕ) (m : Mode) (ds : List WorldEvent) → begins_spawn c (last_entry t w) ≡ true → due t w ≡ Phaser n (Reg t c m) ∷ ds → IsExpected (Phaser n (Reg t c m))
@@ -73,7 +77,7 @@ module _ (l : Limits) (w : List WorldEvent) (k : is_legal_world l w ≡ true) (t
       (refl, by (is_live t h) (is_within_task m t h) (nat_lt c l.tasks) (is_registered c h) (nat_lt (live_count h) l.regs) (has_room l (Registered t c m ∷ h)) p1.0 p1.1 (spawn_fits l t c w k s) (not-true (is_registered c h) p3.1))
     where
       by : (a b d e f room : Bool) → a ≡ true → b ≡ true → d ≡ true → e ≡ false
-          → is_expected (told (phaser_past n w) (settled (first_refusal ((NotRegistered, not a) ∷ (MoreThanParent, not b) ∷ (TasksFull, not d) ∷ (RegisteredTwice, e) ∷ (RegsFull, not f) ∷ [])) false room (Registered t c m))) ≡ true
+          → is_expected (phaser_answer (phaser_past n w) (settled (first_refusal ((NotRegistered, not a) ∷ (MoreThanParent, not b) ∷ (TasksFull, not d) ∷ (RegisteredTwice, e) ∷ (RegsFull, not f) ∷ [])) false room (Registered t c m))) ≡ true
       by a b d e true true x y z u = rw (x, y, z, u) refl
       by a b d e true false x y z u = rw (x, y, z, u) refl
       by a b d e false room x y z u = rw (x, y, z, u) refl
@@ -100,16 +104,16 @@ module _ (l : Limits) (w : List WorldEvent) (k : is_legal_world l w ≡ true) (t
   of_turn : (n : ℕ) (ds : List WorldEvent) → moves_act (last_entry t w) ≡ true → due t w ≡ Phaser n (Pass t) ∷ ds → IsExpected (before_pass l n t w)
   of_turn n ds s here =
       by (is_permitted l (ops_of n w) (phaser_past n w) (Claimed t)) (is_permitted l (ops_of n w) (phaser_past n w) (Done t))
-      (λ y. made_expected (part_done l w (Phaser n (Claim t))) (claim_made l w k t born going n y)) (λ y. made_expected (part_done l w (Phaser n (Did t))) (report_made l w k t born going n y))
+      (λ y. made_expected (next_done l w (Phaser n (Claim t))) (claim_made l w k t born going n y)) (λ y. made_expected (next_done l w (Phaser n (Did t))) (report_made l w k t born going n y))
     where
-      pass_expected : is_expected (part_done l w (Phaser n (Pass t))) ≡ true
+      pass_expected : is_expected (next_done l w (Phaser n (Pass t))) ≡ true
       pass_expected =
           let h = phaser_past n w in
           let p = pass_stands l w k t born going n ds s here in
           let event = phaser.event_for l (ops_of n w) h (pass t) in
           room_expected h (first_refusal (phaser.causes l (ops_of n w) h (pass t))) (phaser.must_wait l (ops_of n w) h (pass t)) (has_room l (event ∷ h)) event (pass_causeless l w k t born going n p.0 p.1)
 
-      by : (b c : Bool) → (b ≡ true → is_expected (part_done l w (Phaser n (Claim t))) ≡ true) → (c ≡ true → is_expected (part_done l w (Phaser n (Did t))) ≡ true)
+      by : (b c : Bool) → (b ≡ true → is_expected (next_done l w (Phaser n (Claim t))) ≡ true) → (c ≡ true → is_expected (next_done l w (Phaser n (Did t))) ≡ true)
           → IsExpected (cond b (Phaser n (Claim t)) (cond c (Phaser n (Did t)) (Phaser n (Pass t))))
       by true c f g = (refl, f refl)
       by false true f g = (refl, g refl)
@@ -122,7 +126,7 @@ module _ (l : Limits) (w : List WorldEvent) (k : is_legal_world l w ≡ true) (t
         refl,
         elim (sig_causes l w k t born going n x ds s here) [
           | inl agreed ↦ room_expected h (first_refusal (phaser.causes l (ops_of n w) h (phaser.signal t x))) false room (Signalled t x) agreed
-          | inr mismatch ↦ ap (λ o. is_expected (told h (settled o false room (Signalled t x)))) mismatch
+          | inr mismatch ↦ ap (λ o. is_expected (phaser_answer h (settled o false room (Signalled t x)))) mismatch
         ],
       )
 
@@ -139,7 +143,7 @@ module _ (l : Limits) (w : List WorldEvent) (k : is_legal_world l w ≡ true) (t
   of_shut : (f : ℕ) → owner f w ≡ t → is_open (finish_past f w) ≡ true → IsExpected (Finish f Shutting)
   of_shut f by opened = (by, answered (is_open (finish_past f w)) (all_ended (finish_past f w)) opened)
     where
-      answered : (a b : Bool) → a ≡ true → is_expected (cond b (when_done (done_unless (first_refusal ((NotNow, not (a && b)) ∷ [])))) (Ok NotYet)) ≡ true
+      answered : (a b : Bool) → a ≡ true → is_expected (cond b (finish_answer (done_unless (first_refusal ((NotNow, not (a && b)) ∷ [])))) (Ok NotYet)) ≡ true
       answered a true x = rw x refl
       answered a false x = refl
 
@@ -171,7 +175,7 @@ module _ (l : Limits) (w : List WorldEvent) (k : is_legal_world l w ≡ true) (t
       ]
 
   of_leave : (d : WorldEvent) (ds : List WorldEvent) → leaves_act (last_entry t w) ≡ true → due t w ≡ d ∷ ds → list_all is_leave (d ∷ ds) ≡ true → IsExpected (or_single l w d)
-  of_leave (Phaser n (Drop u)) ds s here y = let p = drop_made l w k t born going u n ds s here in (p.0, made_expected (part_done l w (Phaser n (Drop u))) p.1)
+  of_leave (Phaser n (Drop u)) ds s here y = let p = drop_made l w k t born going u n ds s here in (p.0, made_expected (next_done l w (Phaser n (Drop u))) p.1)
   of_leave (Finish f Shutting) ds s here y = of_finish (Finish f Shutting) ds s here refl
   of_leave (Finish f (Ended u)) ds s here y = of_finish (Finish f (Ended u)) ds s here refl
   of_leave d ds s here y = absurd cc

@@ -17,21 +17,22 @@ use Rattle.world_model.specs.declared.event.WorldEvent.TheVariants.{Finish}
 use Rattle.world_model.specs.declared.reply.Reply.{Reply}
 use Rattle.world_model.specs.declared.reply.Reply.TheVariants.{NotYet}
 use Rattle.world_model.specs.Parts.{finish_past}
-use Rattle.world_model.specs.Replies.{is_accepted, is_legal_world, is_made, when_done, finish_reply}
+use Rattle.world_model.specs.Replies.{is_accepted, is_legal_world, is_made}
+use Rattle.world_model.specs.Answers.{finish_answer, finish_reply}
 use Rattle.world_model.proofs.Made.{last_accepted, act_made, part_made}
 
 -- one cause, and two, that don't stand
-one : (a : Bool) (r : Refusal) → is_made (when_done (done_unless (first_refusal ((r, not a) ∷ [])))) ≡ true → a ≡ true
+one : (a : Bool) (r : Refusal) → is_made (finish_answer (done_unless (first_refusal ((r, not a) ∷ [])))) ≡ true → a ≡ true
 one true r k = refl
 one false r k = absurd cc
 
-two : (a b c : Bool) (r s : Refusal) → is_made (when_done (done_unless (first_refusal ((r, not a || b) ∷ (s, not c) ∷ [])))) ≡ true → (a && not b && c) ≡ true
+two : (a b c : Bool) (r s : Refusal) → is_made (finish_answer (done_unless (first_refusal ((r, not a || b) ∷ (s, not c) ∷ [])))) ≡ true → (a && not b && c) ≡ true
 two true false true r s k = refl
 two true false false r s k = absurd cc
 two true true c r s k = absurd cc
 two false b c r s k = absurd cc
 
-one_or : (a b c : Bool) (r : Refusal) → is_made (when_done (done_unless (first_refusal ((r, not (a && b) || c) ∷ [])))) ≡ true → (a && b && not c) ≡ true
+one_or : (a b c : Bool) (r : Refusal) → is_made (finish_answer (done_unless (first_refusal ((r, not (a && b) || c) ∷ [])))) ≡ true → (a && b && not c) ≡ true
 one_or true true false r k = refl
 one_or true true true r k = absurd cc
 one_or true false c r k = absurd cc
@@ -47,7 +48,7 @@ module _ (l : Limits) (w : List WorldEvent) (f : ℕ) where
   made_allowed (Spawned t) k = two (is_open (finish_past f w)) (is_spawned t (finish_past f w)) (nat_lt t l.tasks) NotNow TasksFull k
   made_allowed (Ended t) k = one_or (is_open (finish_past f w)) (is_spawned t (finish_past f w)) (has_ended t (finish_past f w)) NotNow k
   made_allowed Shutting k =
-      one (may_shut (finish_past f w)) NotNow (made_in (all_ended (finish_past f w)) (when_done (answer l.tasks (finish_past f w) Shutting)) k)
+      one (may_shut (finish_past f w)) NotNow (made_in (all_ended (finish_past f w)) (finish_answer (answer l.tasks (finish_past f w) Shutting)) k)
 
   -- an accepted event is one that the finish's history allows
   pub event_allowed : (e : FinishEvent) → is_accepted l w (Finish f e) ≡ true → is_allowed l.tasks (finish_past f w) e ≡ true

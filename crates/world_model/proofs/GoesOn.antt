@@ -25,11 +25,16 @@ use Rattle.world_model.specs.declared.event.Step.TheVariants.{Reg, Sig, Claim, D
 use Rattle.world_model.specs.declared.event.WorldEvent.{WorldEvent}
 use Rattle.world_model.specs.declared.event.WorldEvent.TheVariants.{Phaser, Finish}
 use Rattle.world_model.specs.Parts.{ops_of, phaser_past, finish_past, story_of}
-use Rattle.world_model.specs.Tasks.{inner, owner, spawner, is_born, is_ended}
+use Rattle.world_model.specs.Scopes.{inner, owner}
+use Rattle.world_model.specs.Tasks.{spawner, is_born, is_ended}
 use Rattle.world_model.specs.Due.{due, is_behind, next_event}
-use Rattle.world_model.specs.Replies.{told, is_made, is_refused_by, when_done, finish_reply, phaser_reply, same_number, is_legal_world}
-use Rattle.world_model.specs.Able.{is_able, last_entry}
-use Rattle.world_model.specs.Laws.{is_pass_on}
+use Rattle.world_model.specs.Answers.{phaser_answer, finish_answer, finish_reply, phaser_reply}
+use Rattle.world_model.specs.Replies.{is_made, is_legal_world}
+use Rattle.world_model.specs.GivingUp.{is_refused_by}
+use Rattle.world_model.specs.Continuing.{same_number}
+use Rattle.world_model.specs.Able.{is_able}
+use Rattle.world_model.specs.Conditions.{last_entry}
+use Rattle.world_model.specs.ClockLaws.{is_pass_on}
 use Rattle.world_model.proofs.Phasers.{phasers_legal}
 use Rattle.world_model.proofs.Spawning.{begins_spawn, is_spawn_list, named_by_spawn}
 use Rattle.world_model.proofs.Births.{unborn_child}
@@ -78,7 +83,7 @@ module _ (l : Limits) (w : List WorldEvent) (k : is_legal_world l w ≡ true) (t
       let new : is_spawned c h ≡ false = false_from_ne_true (is_spawned c h) (λ y. true≢false (sym (spawned_is_born c f w y) ∙ unborn)) in
       answered (is_open h) (is_spawned c h) (nat_lt c l.tasks) opened new (spawn_fits l t c w k s)
     where
-      answered : (a b c : Bool) → a ≡ true → b ≡ false → c ≡ true → is_made (when_done (done_unless (first_refusal ((NotNow, not a || b) ∷ (TasksFull, not c) ∷ [])))) ≡ true
+      answered : (a b c : Bool) → a ≡ true → b ≡ false → c ≡ true → is_made (finish_answer (done_unless (first_refusal ((NotNow, not a || b) ∷ (TasksFull, not c) ∷ [])))) ≡ true
       answered a b c x y z = rw (x, y, z) refl
 
   of_spawn : (c f : ℕ) (ds : List WorldEvent) → begins_spawn c (last_entry t w) ≡ true → due t w ≡ Finish f (Spawned c) ∷ ds → is_able l w t ≡ true
@@ -123,7 +128,7 @@ module _ (l : Limits) (w : List WorldEvent) (k : is_legal_world l w ≡ true) (t
       let room = has_room l (Signalled t x ∷ h) in
       let first = first_refusal (phaser.causes l (ops_of n w) h (phaser.signal t x)) in
       elim (sig_causes n x ds s here) [
-        | inr mismatch ↦ fails_7 l w t going e next (ap (λ o. is_refused_by 7 (told h (settled o false room (Signalled t x)))) mismatch)
+        | inr mismatch ↦ fails_7 l w t going e next (ap (λ o. is_refused_by 7 (phaser_answer h (settled o false room (Signalled t x)))) mismatch)
         | inl agreed ↦
             elim (made_or_full h first false room (Signalled t x) agreed refl) [
               | inl made ↦ able_by l w t going e refl (part_accepted l w t going e (and_from (n == n) (t == t && same_number x x) (eq-eqb n n refl) (and_from (t == t) (same_number x x) (eq-eqb t t refl) (same_self x))) refl next made)
@@ -137,7 +142,7 @@ module _ (l : Limits) (w : List WorldEvent) (k : is_legal_world l w ≡ true) (t
 
   -- a claim that may be made is made
   pub claim_made : (n : ℕ) → is_permitted l (ops_of n w) (phaser_past n w) (Claimed t) ≡ true → is_made (phaser_reply l w n (Claim t)) ≡ true
-  claim_made n y = subst (λ r. is_made (told (phaser_past n w) r) ≡ true) (sym ((singles_are_answered (story_of l n w) (phasers_legal l w k n) t).0 y)) refl
+  claim_made n y = subst (λ r. is_made (phaser_answer (phaser_past n w) r) ≡ true) (sym ((singles_are_answered (story_of l n w) (phasers_legal l w k n) t).0 y)) refl
 
   -- and so is a report
   pub report_made : (n : ℕ) → is_permitted l (ops_of n w) (phaser_past n w) (Done t) ≡ true → is_made (phaser_reply l w n (Did t)) ≡ true
@@ -148,7 +153,7 @@ module _ (l : Limits) (w : List WorldEvent) (k : is_legal_world l w ≡ true) (t
       answered h (is_live t h) (has_claimed t (waits t h) h) (is_done (waits t h) h) (has_room l (Done t ∷ h)) f.live f.claimed f.undone room
     where
       answered : (h : List Event) (a b c room : Bool) → a ≡ true → b ≡ true → c ≡ false → room ≡ true
-          → is_made (told h (settled (cond (not a) (Some NotRegistered) (cond (not (b && not c)) (Some NotNow) None)) false room (Done t))) ≡ true
+          → is_made (phaser_answer h (settled (cond (not a) (Some NotRegistered) (cond (not (b && not c)) (Some NotNow) None)) false room (Done t))) ≡ true
       answered h a b c room p q r s = rw (p, q, r, s) refl
 
   -- a pass that is due is of a phaser on which the task is live and not behind

@@ -14,7 +14,9 @@ use Rattle.world_model.specs.declared.event.Tried.TheVariants.{Begun as Beginnin
 use Rattle.world_model.specs.declared.event.WorldEvent.{WorldEvent}
 use Rattle.world_model.specs.declared.event.WorldEvent.TheVariants.{Phaser, Finish, Begin}
 use Rattle.world_model.specs.Parts.{finish_past}
-use Rattle.world_model.specs.Tasks.{home, inner, enclosing, spawner, spawns, names, is_born, is_named, is_finish}
+use Rattle.world_model.specs.Tasks.{home, spawner, spawns, is_born}
+use Rattle.world_model.specs.Scopes.{inner, enclosing}
+use Rattle.world_model.specs.Numbers.{names, is_named, is_finish}
 use Rattle.world_model.specs.Replies.{is_legal_world, is_accepted}
 use Rattle.world_model.proofs.Made.{last_accepted}
 use Rattle.world_model.proofs.Ables.{idle_in_act}

@@ -11,10 +11,12 @@ use Rattle.world_model.specs.declared.event.Begun.TheVariants.{Async}
 use Rattle.world_model.specs.declared.event.WorldEvent.{WorldEvent}
 use Rattle.world_model.specs.declared.event.WorldEvent.TheVariants.{Finish, Begin}
 use Rattle.world_model.specs.Parts.{finish_past}
-use Rattle.world_model.specs.Tasks.{home, inner, spawns, is_born, is_ended, ends}
+use Rattle.world_model.specs.Tasks.{home, spawns, is_born, is_ended, ends}
+use Rattle.world_model.specs.Scopes.{inner}
 use Rattle.world_model.specs.Due.{is_entry}
-use Rattle.world_model.specs.Replies.{is_legal_world, is_accepted, pair_causes}
-use Rattle.world_model.specs.Able.{last_entry}
+use Rattle.world_model.specs.Replies.{is_legal_world, is_accepted}
+use Rattle.world_model.specs.Acts.{pair_causes}
+use Rattle.world_model.specs.Conditions.{last_entry}
 use Rattle.world_model.proofs.Made.{last_accepted, no_refusal, begin_asked}
 use Rattle.world_model.proofs.Frames.{last_plain}
 use Rattle.world_model.proofs.Finishes.{finishes_legal}

@@ -14,9 +14,11 @@ use Rattle.finish_core.proofs.Standing.{all_ended_at}
 use Rattle.world_model.specs.declared.event.WorldEvent.{WorldEvent}
 use Rattle.world_model.specs.declared.event.WorldEvent.TheVariants.{Finish}
 use Rattle.world_model.specs.Parts.{phaser_past, finish_past}
-use Rattle.world_model.specs.Tasks.{home, open_finishes, owner, spawns, is_born, is_ended, is_finish}
+use Rattle.world_model.specs.Tasks.{home, spawns, is_born, is_ended}
+use Rattle.world_model.specs.Scopes.{open_finishes, owner}
+use Rattle.world_model.specs.Numbers.{is_finish}
 use Rattle.world_model.specs.Replies.{is_legal_world}
-use Rattle.world_model.specs.Laws.{Inside}
+use Rattle.world_model.specs.ScopeLaws.{Inside}
 use Rattle.world_model.proofs.Made.{last_accepted}
 use Rattle.world_model.proofs.Finishes.{event_allowed, finishes_legal}
 use Rattle.world_model.proofs.Opened.{opened}

@@ -16,10 +16,12 @@ use Rattle.world_model.specs.declared.event.Tried.TheVariants.{Begun as Beginnin
 use Rattle.world_model.specs.declared.event.WorldEvent.{WorldEvent}
 use Rattle.world_model.specs.declared.event.WorldEvent.TheVariants.{Phaser, Finish, Begin, Refuse, Fail}
 use Rattle.world_model.specs.Parts.{phaser_past, finish_past}
-use Rattle.world_model.specs.Tasks.{home, open_finishes, inner, owner, phasers_of, is_ended, ends}
-use Rattle.world_model.specs.Due.{actor, due, fixed, fixed_by, signals_due, passes_due, is_behind, is_entry, is_of_single}
+use Rattle.world_model.specs.Tasks.{home, phasers_of, is_ended, ends}
+use Rattle.world_model.specs.Scopes.{open_finishes, inner, owner}
+use Rattle.world_model.specs.Actors.{actor}
+use Rattle.world_model.specs.Due.{due, fixed, fixed_by, signals_due, passes_due, is_behind, is_entry, is_of_single}
 use Rattle.world_model.specs.Replies.{is_legal_world, is_accepted}
-use Rattle.world_model.specs.Able.{last_entry}
+use Rattle.world_model.specs.Conditions.{last_entry}
 use Rattle.world_model.proofs.Made.{last_accepted, part_made}
 use Rattle.world_model.proofs.Ables.{idle_in_act, refuse_idle, made_done_where}
 use Rattle.world_model.proofs.Frames.{last_plain, due_own}

@@ -16,8 +16,11 @@ use Rattle.world_model.specs.declared.event.Tried.TheVariants.{Begun as Beginnin
 use Rattle.world_model.specs.declared.event.WorldEvent.{WorldEvent}
 use Rattle.world_model.specs.declared.event.WorldEvent.TheVariants.{Phaser, Finish, Begin, Refuse, Fail}
 use Rattle.world_model.specs.Parts.{phaser_past}
-use Rattle.world_model.specs.Tasks.{home, opened_by, open_finishes, spawner, is_born, is_named, is_ended, ends}
-use Rattle.world_model.specs.Due.{actor, due, fixed, ending, unborn, drops_due, is_entry, is_idle}
+use Rattle.world_model.specs.Tasks.{home, spawner, is_born, is_ended, ends}
+use Rattle.world_model.specs.Scopes.{opened_by, open_finishes}
+use Rattle.world_model.specs.Numbers.{is_named}
+use Rattle.world_model.specs.Actors.{actor}
+use Rattle.world_model.specs.Due.{due, fixed, ending, unborn, drops_due, is_entry, is_idle}
 use Rattle.world_model.specs.Replies.{is_legal_world, is_accepted}
 use Rattle.world_model.proofs.Made.{part_made}
 use Rattle.world_model.proofs.Ables.{idle_in_act, refuse_idle, made_done_where}

@@ -13,7 +13,9 @@ use Rattle.world_model.specs.declared.event.Begun.TheVariants.{Async, End}
 use Rattle.world_model.specs.declared.event.WorldEvent.{WorldEvent}
 use Rattle.world_model.specs.declared.event.WorldEvent.TheVariants.{Phaser, Finish, Begin, Refuse, Fail}
 use Rattle.world_model.specs.Parts.{phaser_past}
-use Rattle.world_model.specs.Tasks.{home, open_finishes, spawner, spawns, names, is_born, is_named, is_ended, phasers_of}
+use Rattle.world_model.specs.Tasks.{home, spawner, spawns, is_born, is_ended, phasers_of}
+use Rattle.world_model.specs.Scopes.{open_finishes}
+use Rattle.world_model.specs.Numbers.{names, is_named}
 use Rattle.world_model.specs.Due.{drops_due, ending, unborn, named_by}
 use Rattle.world_model.specs.Replies.{is_legal_world}
 use Rattle.world_model.proofs.Joined.{times, phasers_once}

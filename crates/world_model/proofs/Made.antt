@@ -18,21 +18,25 @@ use Rattle.world_model.specs.declared.event.Tried.{Tried}
 use Rattle.world_model.specs.declared.event.Tried.TheVariants.{Begun as Beginning}
 use Rattle.world_model.specs.declared.event.WorldEvent.TheVariants.{Begin}
 use Rattle.world_model.specs.declared.reply.Reply.{Reply}
-use Rattle.world_model.specs.Due.{actor, next_event, is_idle}
+use Rattle.world_model.specs.Actors.{actor}
+use Rattle.world_model.specs.Due.{next_event, is_idle}
 use Rattle.world_model.specs.Tasks.{acts}
-use Rattle.world_model.specs.Replies.{told, is_made, is_accepted, is_legal_world, unless, same_event, part_done, part_reply, act_causes, act_done, act_reply, begin_causes, is_counted, is_number_used}
+use Rattle.world_model.specs.Answers.{phaser_answer}
+use Rattle.world_model.specs.Replies.{is_made, is_accepted, is_legal_world}
+use Rattle.world_model.specs.Acts.{unless, act_causes, act_done, act_reply, begin_causes, is_counted, is_number_used}
+use Rattle.world_model.specs.Continuing.{same_event, next_done, next_reply}
 
 -- the last event of a legal world was accepted, and what came before it is legal
 pub last_accepted : (l : Limits) (e : WorldEvent) (w : List WorldEvent) → is_legal_world l (e ∷ w) ≡ true → (is_accepted l w e ≡ true) × (is_legal_world l w ≡ true)
 last_accepted l e w k = and_parts (is_accepted l w e) (is_legal_world l w) k
 
-told_done : (h : List Event) (r : phaser.Reply) → is_made (told h r) ≡ true → (e : Event) × (r ≡ phaser.done e)
+told_done : (h : List Event) (r : phaser.Reply) → is_made (phaser_answer h r) ≡ true → (e : Event) × (r ≡ phaser.done e)
 told_done h (phaser.refused r) k = absurd cc
 told_done h phaser.not_yet k = absurd cc
 told_done h (phaser.done e) k = (e, refl)
 
 -- where a phaser made an event, its history allowed it
-pub call_allowed : (s : Story) (c : Call) → is_made (told s.past (phaser.reply s c)) ≡ true
+pub call_allowed : (s : Story) (c : Call) → is_made (phaser_answer s.past (phaser.reply s c)) ≡ true
     → is_allowed s.limits s.ops s.past (phaser.event_for s.limits s.ops s.past c) ≡ true
 call_allowed s c k =
     let m = told_done s.past (phaser.reply s c) k in
@@ -70,5 +74,5 @@ abbrev pub IsNext : Limits → List WorldEvent → WorldEvent → Type 0
 IsNext l w e = option_map_or (λ d. same_event d e) (next_event l (actor w e) w) false ≡ true
 
 -- an event that continues an act was the one to come
-pub part_made : (l : Limits) (w : List WorldEvent) (e : WorldEvent) → is_made (part_reply l w e) ≡ true → IsNext l w e × (is_made (part_done l w e) ≡ true)
-part_made l w e k = made_where (option_map_or (λ d. same_event d e) (next_event l (actor w e) w) false) (part_done l w e) k
+pub part_made : (l : Limits) (w : List WorldEvent) (e : WorldEvent) → is_made (next_reply l w e) ≡ true → IsNext l w e × (is_made (next_done l w e) ≡ true)
+part_made l w e k = made_where (option_map_or (λ d. same_event d e) (next_event l (actor w e) w) false) (next_done l w e) k

@@ -10,10 +10,11 @@ use Rattle.world_model.specs.declared.event.Begun.{Begun}
 use Rattle.world_model.specs.declared.event.Begun.TheVariants.{Async, Shut, End}
 use Rattle.world_model.specs.declared.event.WorldEvent.{WorldEvent}
 use Rattle.world_model.specs.declared.event.WorldEvent.TheVariants.{Phaser, Finish, Begin, Refuse, Fail}
-use Rattle.world_model.specs.Tasks.{home, inner, enclosing, open_finishes, phasers_of}
+use Rattle.world_model.specs.Tasks.{home, phasers_of}
+use Rattle.world_model.specs.Scopes.{inner, enclosing, open_finishes}
 use Rattle.world_model.specs.Due.{due, fixed, fixed_by, ending, drops_due, unborn, is_entry}
 use Rattle.world_model.specs.Replies.{is_legal_world}
-use Rattle.world_model.specs.Able.{last_entry}
+use Rattle.world_model.specs.Conditions.{last_entry}
 use Rattle.world_model.proofs.DueHas.{due_has}
 use Rattle.world_model.proofs.LeaveActs.{none_in_map, none_in_both, none_in_drop}
 use Rattle.world_model.proofs.TurnShape.{moves_act}

@@ -9,7 +9,9 @@ use Rattle.finish_core.proofs.Legal.{spawn_follows, end_follows, ended_was_spawn
 use Rattle.world_model.specs.declared.event.WorldEvent.{WorldEvent}
 use Rattle.world_model.specs.declared.event.WorldEvent.TheVariants.{Finish}
 use Rattle.world_model.specs.Parts.{finish_past}
-use Rattle.world_model.specs.Tasks.{home, owner, spawns, is_born, is_ended, ends, is_finish}
+use Rattle.world_model.specs.Tasks.{home, spawns, is_born, is_ended, ends}
+use Rattle.world_model.specs.Scopes.{owner}
+use Rattle.world_model.specs.Numbers.{is_finish}
 use Rattle.world_model.specs.Replies.{is_legal_world, is_accepted}
 use Rattle.world_model.proofs.Made.{last_accepted}
 use Rattle.world_model.proofs.Finishes.{event_allowed, finishes_legal}

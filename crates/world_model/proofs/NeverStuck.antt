@@ -8,10 +8,11 @@ use Rattle.phase_model.proofs.LiveTasks.{has}
 use Rattle.finish_core.specs.Finish.{is_spawned, has_ended, spawned_tasks}
 use Rattle.world_model.specs.declared.event.WorldEvent.{WorldEvent}
 use Rattle.world_model.specs.Parts.{phaser_past, finish_past}
-use Rattle.world_model.specs.Tasks.{home, owner, enclosing, spawner, is_born, is_ended}
+use Rattle.world_model.specs.Tasks.{home, spawner, is_born, is_ended}
+use Rattle.world_model.specs.Scopes.{owner, enclosing}
 use Rattle.world_model.specs.Replies.{is_legal_world}
 use Rattle.world_model.specs.Able.{is_able, tasks}
-use Rattle.world_model.specs.Laws.{NobodyIsStuck}
+use Rattle.world_model.specs.ProgressLaws.{NobodyIsStuck}
 use Rattle.world_model.proofs.Opened.{opened}
 use Rattle.world_model.proofs.Touched.{agent}
 use Rattle.world_model.proofs.Homes.{root_home}

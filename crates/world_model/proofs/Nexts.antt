@@ -11,10 +11,13 @@ use Rattle.world_model.specs.declared.event.Begun.TheVariants.{Async, Signal, Wa
 use Rattle.world_model.specs.declared.event.WorldEvent.{WorldEvent}
 use Rattle.world_model.specs.declared.event.WorldEvent.TheVariants.{Phaser, Finish, Begin, Refuse, Fail}
 use Rattle.world_model.specs.Parts.{phaser_past}
-use Rattle.world_model.specs.Tasks.{inner, home, open_finishes, phasers_of, enclosing}
-use Rattle.world_model.specs.Due.{actor, due, fixed, fixed_by, ending, unborn, is_entry, next_event, or_single, signals_due, passes_due, drops_due, is_behind}
-use Rattle.world_model.specs.Replies.{is_legal_world, same_event}
-use Rattle.world_model.specs.Able.{last_entry}
+use Rattle.world_model.specs.Scopes.{inner, open_finishes, enclosing}
+use Rattle.world_model.specs.Tasks.{home, phasers_of}
+use Rattle.world_model.specs.Actors.{actor}
+use Rattle.world_model.specs.Due.{due, fixed, fixed_by, ending, unborn, is_entry, next_event, or_single, signals_due, passes_due, drops_due, is_behind}
+use Rattle.world_model.specs.Replies.{is_legal_world}
+use Rattle.world_model.specs.Continuing.{same_event}
+use Rattle.world_model.specs.Conditions.{last_entry}
 use Rattle.world_model.proofs.Made.{IsNext}
 use Rattle.world_model.proofs.Ables.{same_events, found}
 use Rattle.world_model.proofs.DueHas.{due_has}

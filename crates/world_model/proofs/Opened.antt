@@ -12,8 +12,10 @@ use Rattle.finish_core.specs.Finish.{is_open, shuts}
 use Rattle.world_model.specs.declared.event.WorldEvent.{WorldEvent}
 use Rattle.world_model.specs.declared.event.WorldEvent.TheVariants.{Finish}
 use Rattle.world_model.specs.Parts.{finish_past}
-use Rattle.world_model.specs.Tasks.{opened_by, open_finishes, home, inner, owner, is_finish, spawns}
-use Rattle.world_model.specs.Due.{actor}
+use Rattle.world_model.specs.Scopes.{opened_by, open_finishes, inner, owner}
+use Rattle.world_model.specs.Tasks.{home, spawns}
+use Rattle.world_model.specs.Numbers.{is_finish}
+use Rattle.world_model.specs.Actors.{actor}
 use Rattle.world_model.specs.Replies.{is_legal_world, is_accepted}
 use Rattle.world_model.proofs.Made.{last_accepted}
 use Rattle.world_model.proofs.Finishes.{event_allowed}

@@ -8,7 +8,9 @@ use Rattle.finish_core.specs.declared.event.FinishEvent.TheVariants.{Opened, Spa
 use Rattle.world_model.specs.declared.event.Tried.TheVariants.{Open}
 use Rattle.world_model.specs.declared.event.WorldEvent.{WorldEvent}
 use Rattle.world_model.specs.declared.event.WorldEvent.TheVariants.{Finish}
-use Rattle.world_model.specs.Tasks.{home, owner, spawns, is_born, is_finish}
+use Rattle.world_model.specs.Tasks.{home, spawns, is_born}
+use Rattle.world_model.specs.Scopes.{owner}
+use Rattle.world_model.specs.Numbers.{is_finish}
 use Rattle.world_model.specs.Replies.{is_legal_world, is_accepted}
 use Rattle.world_model.proofs.Made.{last_accepted}
 use Rattle.world_model.proofs.Ables.{idle_in_act}

@@ -25,9 +25,13 @@ use Rattle.world_model.specs.declared.event.Tried.TheVariants.{Begun as Beginnin
 use Rattle.world_model.specs.declared.event.WorldEvent.{WorldEvent}
 use Rattle.world_model.specs.declared.event.WorldEvent.TheVariants.{Phaser, Finish, Begin, Refuse, Fail}
 use Rattle.world_model.specs.Parts.{ops_of, phaser_past, event_for, story_of}
-use Rattle.world_model.specs.Due.{actor, due, is_entry, is_of_single, before_pass, next_event, or_single, is_idle}
-use Rattle.world_model.specs.Replies.{told, phaser_reply, part_done, is_refused_by, is_reg, may_fail, is_legal_world, is_accepted}
-use Rattle.world_model.specs.Able.{last_entry}
+use Rattle.world_model.specs.Actors.{actor}
+use Rattle.world_model.specs.Due.{due, is_entry, is_of_single, before_pass, next_event, or_single, is_idle}
+use Rattle.world_model.specs.Answers.{phaser_answer, phaser_reply}
+use Rattle.world_model.specs.Continuing.{next_done}
+use Rattle.world_model.specs.GivingUp.{is_refused_by, is_reg, may_fail}
+use Rattle.world_model.specs.Replies.{is_legal_world, is_accepted}
+use Rattle.world_model.specs.Conditions.{last_entry}
 use Rattle.world_model.proofs.Made.{last_accepted, part_made}
 use Rattle.world_model.proofs.Ables.{idle_in_act, refuse_idle, made_done_where}
 use Rattle.world_model.proofs.Frames.{last_plain}
@@ -39,7 +43,7 @@ use Rattle.world_model.proofs.MoveActs.{move_act}
 use Rattle.world_model.proofs.Basics.{head_same}
 
 -- what a call is answered whose causes don't stand, where there is room
-told_done : (h : List Event) (e : Event) (n : ℕ) → is_refused_by n (told h (phaser.done e)) ≡ false
+told_done : (h : List Event) (e : Event) (n : ℕ) → is_refused_by n (phaser_answer h (phaser.done e)) ≡ false
 told_done h (Passed t) n = refl
 told_done h (Looked t a x) n = refl
 told_done h e n = refl
@@ -60,7 +64,7 @@ module _ (l : Limits) (w : List WorldEvent) (k : is_legal_world l w ≡ true) (n
 
   claim_answer : (x : ℕ) → is_permitted l (ops_of n w) (phaser_past n w) (Claimed t) ≡ true → is_refused_by x (phaser_reply l w n (Claim t)) ≡ false
   claim_answer x y =
-      subst (λ r. is_refused_by x (told (phaser_past n w) r) ≡ false) (sym ((singles_are_answered (story_of l n w) (phasers_legal l w k n) t).0 y)) refl
+      subst (λ r. is_refused_by x (phaser_answer (phaser_past n w) r) ≡ false) (sym ((singles_are_answered (story_of l n w) (phasers_legal l w k n) t).0 y)) refl
 
   did_answer : (x : ℕ) → is_permitted l (ops_of n w) (phaser_past n w) (Done t) ≡ true → is_refused_by x (phaser_reply l w n (Did t)) ≡ false
   did_answer x y =
@@ -70,7 +74,7 @@ module _ (l : Limits) (w : List WorldEvent) (k : is_legal_world l w ≡ true) (n
       answered (is_live t h) (has_claimed t (waits t h) h) (is_done (waits t h) h) (has_room l (Done t ∷ h)) f.live f.claimed f.undone room
     where
       answered : (a b c room : Bool) → a ≡ true → b ≡ true → c ≡ false → room ≡ true
-          → is_refused_by x (told (phaser_past n w) (settled (cond (not a) (Some NotRegistered) (cond (not (b && not c)) (Some NotNow) None)) false room (Done t))) ≡ false
+          → is_refused_by x (phaser_answer (phaser_past n w) (settled (cond (not a) (Some NotRegistered) (cond (not (b && not c)) (Some NotNow) None)) false room (Done t))) ≡ false
       answered a b c room p q r s = rw (p, q, r, s) refl
 
   pass_answer : (x : ℕ) → is_permitted l (ops_of n w) (phaser_past n w) (Claimed t) ≡ false → ((x == 7) || (x == 15)) ≡ true → is_refused_by x (phaser_reply l w n (Pass t)) ≡ false
@@ -91,17 +95,17 @@ module _ (l : Limits) (w : List WorldEvent) (k : is_legal_world l w ≡ true) (n
           ])
 
       answered : (a b c p q room : Bool) (e : Event) → c ≡ true → p ≡ false → q ≡ false
-          → is_refused_by x (told (phaser_past n w) (settled (cond a (Some NotRegistered) (cond b (Some NotSignalled) None)) (c && not p && not q) room e)) ≡ false
+          → is_refused_by x (phaser_answer (phaser_past n w) (settled (cond a (Some NotRegistered) (cond b (Some NotSignalled) None)) (c && not p && not q) room e)) ≡ false
       answered true b c p q room e y z v = number 1 refl refl
       answered false true c p q room e y z v = number 6 refl refl
       answered false false c p q room e y z v = rw (y, z, v) refl
 
-  before_answer : (x : ℕ) → ((x == 7) || (x == 15)) ≡ true → is_refused_by x (part_done l w (before_pass l n t w)) ≡ false
+  before_answer : (x : ℕ) → ((x == 7) || (x == 15)) ≡ true → is_refused_by x (next_done l w (before_pass l n t w)) ≡ false
   before_answer x s =
       by (is_permitted l (ops_of n w) (phaser_past n w) (Claimed t)) (is_permitted l (ops_of n w) (phaser_past n w) (Done t)) (claim_answer x) (did_answer x) (λ c. pass_answer x c s)
     where
       by : (b c : Bool) → (b ≡ true → is_refused_by x (phaser_reply l w n (Claim t)) ≡ false) → (c ≡ true → is_refused_by x (phaser_reply l w n (Did t)) ≡ false)
-          → (b ≡ false → is_refused_by x (phaser_reply l w n (Pass t)) ≡ false) → is_refused_by x (part_done l w (cond b (Phaser n (Claim t)) (cond c (Phaser n (Did t)) (Phaser n (Pass t))))) ≡ false
+          → (b ≡ false → is_refused_by x (phaser_reply l w n (Pass t)) ≡ false) → is_refused_by x (next_done l w (cond b (Phaser n (Claim t)) (cond c (Phaser n (Did t)) (Phaser n (Pass t))))) ≡ false
       by true c f g h = f refl
       by false true f g h = g refl
       by false false f g h = h refl
@@ -118,15 +122,15 @@ module _ (l : Limits) (w : List WorldEvent) (k : is_legal_world l w ≡ true) (n
   may_not_fail : (x : ℕ) → due t w ≡ Phaser n (Pass t) ∷ [] → may_fail l w t x ≡ true → ⊥
   may_not_fail x here y =
       let next : next_event l t w ≡ Some (before_pass l n t w) = ap (λ ds. option_map (or_single l w) (slice_get ds 0)) here in
-      let sevens = (x == 7 || x == 15) && option_map_or (λ e. is_refused_by x (part_done l w e)) (next_event l t w) false in
+      let sevens = (x == 7 || x == 15) && option_map_or (λ e. is_refused_by x (next_done l w e)) (next_event l t w) false in
       let regs = x == 14 && option_map_or is_reg (next_event l t w) false in
       elim (or_cases (sevens || regs) (x == 23 && is_idle t w) y) [
         | inr z ↦ true≢false (sym (nothing_due t w (and_parts (x == 23) (is_idle t w) z).1).0 ∙ ap (λ ds. is_empty ds) here)
         | inl z ↦
             elim (or_cases sevens regs z) [
               | inl v ↦
-                  let p = and_parts (x == 7 || x == 15) (option_map_or (λ e. is_refused_by x (part_done l w e)) (next_event l t w) false) v in
-                  true≢false (sym (subst (λ o. option_map_or (λ e. is_refused_by x (part_done l w e)) o false ≡ true) next p.1) ∙ before_answer x p.0)
+                  let p = and_parts (x == 7 || x == 15) (option_map_or (λ e. is_refused_by x (next_done l w e)) (next_event l t w) false) v in
+                  true≢false (sym (subst (λ o. option_map_or (λ e. is_refused_by x (next_done l w e)) o false ≡ true) next p.1) ∙ before_answer x p.0)
               | inr v ↦ true≢false (sym (subst (λ o. option_map_or is_reg o false ≡ true) next (and_parts (x == 14) (option_map_or is_reg (next_event l t w) false) v).1) ∙ no_reg)
             ]
       ]

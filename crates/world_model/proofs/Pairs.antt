@@ -15,8 +15,8 @@ use Rattle.world_model.specs.declared.event.Step.TheVariants.{Reg}
 use Rattle.world_model.specs.declared.event.WorldEvent.{WorldEvent}
 use Rattle.world_model.specs.declared.event.WorldEvent.TheVariants.{Phaser, Finish}
 use Rattle.world_model.specs.Parts.{phaser_past}
-use Rattle.world_model.specs.Tasks.{inner, enclosing}
-use Rattle.world_model.specs.Replies.{pair_causes}
+use Rattle.world_model.specs.Scopes.{inner, enclosing}
+use Rattle.world_model.specs.Acts.{pair_causes}
 
 -- a due registration of c by q can be made, and its spawn is in q's innermost finish
 abbrev pub may_join : ℕ → ℕ → List WorldEvent → WorldEvent → Bool

@@ -18,12 +18,17 @@ use Rattle.world_model.specs.declared.event.Tried.TheVariants.{Begun as Beginnin
 use Rattle.world_model.specs.declared.event.WorldEvent.{WorldEvent}
 use Rattle.world_model.specs.declared.event.WorldEvent.TheVariants.{Phaser, Finish, Begin, Refuse, Fail}
 use Rattle.world_model.specs.Parts.{ops_of, phaser_past, event_for}
-use Rattle.world_model.specs.Tasks.{inner, home, open_finishes, phasers_of, enclosing, is_born, is_ended, spawns, is_named}
-use Rattle.world_model.specs.Due.{actor, due, fixed, fixed_by, ending, unborn, is_entry, is_of_single, is_idle, next_event, or_single, drops_due, is_behind}
+use Rattle.world_model.specs.Scopes.{inner, open_finishes, enclosing}
+use Rattle.world_model.specs.Tasks.{home, phasers_of, is_born, is_ended, spawns}
+use Rattle.world_model.specs.Numbers.{is_named}
+use Rattle.world_model.specs.Actors.{actor}
+use Rattle.world_model.specs.Due.{due, fixed, fixed_by, ending, unborn, is_entry, is_of_single, is_idle, next_event, or_single, drops_due, is_behind}
 use Rattle.world_model.specs.Clock.{is_turn}
-use Rattle.world_model.specs.Replies.{is_legal_world, is_accepted, may_fail, is_refused_by, part_done, is_reg}
-use Rattle.world_model.specs.Able.{last_entry}
-use Rattle.world_model.specs.Laws.{begins_turn}
+use Rattle.world_model.specs.Replies.{is_legal_world, is_accepted}
+use Rattle.world_model.specs.GivingUp.{may_fail, is_refused_by, is_reg}
+use Rattle.world_model.specs.Continuing.{next_done}
+use Rattle.world_model.specs.Conditions.{last_entry}
+use Rattle.world_model.specs.ClockLaws.{begins_turn}
 use Rattle.world_model.proofs.Made.{last_accepted, part_made}
 use Rattle.world_model.proofs.Ables.{idle_in_act, refuse_idle, made_done_where}
 use Rattle.world_model.proofs.DueHas.{due_has}
@@ -152,8 +157,8 @@ pub fail_born : (l : Limits) (w : List WorldEvent) (t n : ℕ) → due t w ≡ [
 fail_born l w t n d k = last_part ((n == 7) || (n == 15)) (n == 14) (n == 23) (is_idle t w) (next_event l t w) (ap (λ ds. option_map (or_single l w) (slice_get ds 0)) d) k
   where
     last_part : (x y z i : Bool) (o : Option WorldEvent) → o ≡ None
-        → (((x && option_map_or (λ e. is_refused_by n (part_done l w e)) o false) || (y && option_map_or is_reg o false)) || (z && i)) ≡ true → i ≡ true
-    last_part x y z i o e h = only x y z i (subst (λ p. (((x && option_map_or (λ e. is_refused_by n (part_done l w e)) p false) || (y && option_map_or is_reg p false)) || (z && i)) ≡ true) e h)
+        → (((x && option_map_or (λ e. is_refused_by n (next_done l w e)) o false) || (y && option_map_or is_reg o false)) || (z && i)) ≡ true → i ≡ true
+    last_part x y z i o e h = only x y z i (subst (λ p. (((x && option_map_or (λ e. is_refused_by n (next_done l w e)) p false) || (y && option_map_or is_reg p false)) || (z && i)) ≡ true) e h)
       where
         only : (x y z i : Bool) → (((x && false) || (y && false)) || (z && i)) ≡ true → i ≡ true
         only x y z true h = refl

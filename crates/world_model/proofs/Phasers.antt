@@ -20,7 +20,9 @@ use Rattle.world_model.specs.declared.event.WorldEvent.{WorldEvent}
 use Rattle.world_model.specs.declared.event.WorldEvent.TheVariants.{Phaser}
 use Rattle.world_model.specs.Parts.{ops_of, phaser_past, event_for, story_of}
 use Rattle.world_model.specs.Due.{due, or_single}
-use Rattle.world_model.specs.Replies.{is_accepted, is_legal_world, is_made, same_event, phaser_reply, call_for, part_reply}
+use Rattle.world_model.specs.Replies.{is_accepted, is_legal_world, is_made}
+use Rattle.world_model.specs.Continuing.{same_event, next_reply}
+use Rattle.world_model.specs.Answers.{phaser_reply, call_for}
 use Rattle.world_model.proofs.Made.{last_accepted, call_allowed, act_made, part_made, IsNext}
 use Rattle.world_model.proofs.DueParts.{plain_due, plain_first, is_plain}
 
@@ -86,7 +88,7 @@ module _ (l : Limits) (w : List WorldEvent) (n : ℕ) where
   acted : (s : Step) → is_made (phaser_reply l w n s) ≡ true → is_allowed l (ops_of n w) (phaser_past n w) (phaser.event_for l (ops_of n w) (phaser_past n w) (call_for s)) ≡ true
   acted s k = call_allowed (story_of l n w) (call_for s) k
 
-  part_acted : (s : Step) → is_made (part_reply l w (Phaser n s)) ≡ true → is_allowed l (ops_of n w) (phaser_past n w) (phaser.event_for l (ops_of n w) (phaser_past n w) (call_for s)) ≡ true
+  part_acted : (s : Step) → is_made (next_reply l w (Phaser n s)) ≡ true → is_allowed l (ops_of n w) (phaser_past n w) (phaser.event_for l (ops_of n w) (phaser_past n w) (call_for s)) ≡ true
   part_acted s k = acted s (part_made l w (Phaser n s) k).1
 
   -- an accepted step is one that the phaser's history allows

@@ -16,10 +16,12 @@ use Rattle.world_model.specs.declared.event.Tried.TheVariants.{New}
 use Rattle.world_model.specs.declared.event.WorldEvent.{WorldEvent}
 use Rattle.world_model.specs.declared.event.WorldEvent.TheVariants.{Phaser, Finish, Begin, Refuse, Fail}
 use Rattle.world_model.specs.Parts.{ops_of, phaser_past, event_for}
-use Rattle.world_model.specs.Tasks.{home, inner, owner, enclosing, spawner, spawns, is_born, is_phaser}
+use Rattle.world_model.specs.Tasks.{home, spawner, spawns, is_born}
+use Rattle.world_model.specs.Scopes.{inner, owner, enclosing}
+use Rattle.world_model.specs.Numbers.{is_phaser}
 use Rattle.world_model.specs.Due.{due}
 use Rattle.world_model.specs.Replies.{is_legal_world, is_accepted}
-use Rattle.world_model.specs.Laws.{RegistrationsAreWithin}
+use Rattle.world_model.specs.ScopeLaws.{RegistrationsAreWithin}
 use Rattle.world_model.proofs.Made.{last_accepted}
 use Rattle.world_model.proofs.Ables.{idle_in_act}
 use Rattle.world_model.proofs.Phasers.{step_allowed}

@@ -11,11 +11,13 @@ use Rattle.world_model.specs.declared.event.WorldEvent.{WorldEvent}
 use Rattle.world_model.specs.declared.event.WorldEvent.TheVariants.{Finish, Begin}
 use Rattle.world_model.specs.declared.event.Begun.TheVariants.{Async}
 use Rattle.world_model.specs.Parts.{phaser_past, finish_past}
-use Rattle.world_model.specs.Tasks.{home, inner, owner, enclosing, open_finishes, is_born, is_ended}
+use Rattle.world_model.specs.Tasks.{home, is_born, is_ended}
+use Rattle.world_model.specs.Scopes.{inner, owner, enclosing, open_finishes}
 use Rattle.world_model.specs.Due.{due}
 use Rattle.world_model.specs.Replies.{is_legal_world, is_accepted}
-use Rattle.world_model.specs.Able.{last_entry}
-use Rattle.world_model.specs.Laws.{Inside, leads_to_end, ShutsLeaveNobody}
+use Rattle.world_model.specs.Conditions.{last_entry}
+use Rattle.world_model.specs.ScopeLaws.{Inside, ShutsLeaveNobody}
+use Rattle.world_model.specs.ClockLaws.{leads_to_end}
 use Rattle.world_model.proofs.Made.{last_accepted, part_made}
 use Rattle.world_model.proofs.Finishes.{event_allowed}
 use Rattle.world_model.proofs.Spawning.{begins_spawn}

@@ -15,10 +15,12 @@ use Rattle.world_model.specs.declared.event.Begun.TheVariants.{Async, Signal, Wa
 use Rattle.world_model.specs.declared.event.WorldEvent.{WorldEvent}
 use Rattle.world_model.specs.declared.event.WorldEvent.TheVariants.{Phaser, Finish, Begin, Refuse, Fail}
 use Rattle.world_model.specs.Parts.{phaser_past}
-use Rattle.world_model.specs.Tasks.{open_finishes, home, spawner, inner, enclosing, is_born, phasers_of}
-use Rattle.world_model.specs.Due.{actor, due, fixed, is_entry, is_of_single}
+use Rattle.world_model.specs.Scopes.{open_finishes, inner, enclosing}
+use Rattle.world_model.specs.Tasks.{home, spawner, is_born, phasers_of}
+use Rattle.world_model.specs.Actors.{actor}
+use Rattle.world_model.specs.Due.{due, fixed, is_entry, is_of_single}
 use Rattle.world_model.specs.Replies.{is_legal_world, is_accepted}
-use Rattle.world_model.specs.Able.{last_entry}
+use Rattle.world_model.specs.Conditions.{last_entry}
 use Rattle.world_model.proofs.Made.{no_refusal, begin_asked}
 use Rattle.world_model.proofs.Joined.{times, times-filter, phasers_once}
 use Rattle.world_model.proofs.Touched.{agent}

@@ -12,10 +12,12 @@ use Rattle.world_model.specs.declared.event.Begun.TheVariants.{Async}
 use Rattle.world_model.specs.declared.event.WorldEvent.{WorldEvent}
 use Rattle.world_model.specs.declared.event.WorldEvent.TheVariants.{Phaser, Finish, Begin, Refuse, Fail}
 use Rattle.world_model.specs.declared.event.Tried.TheVariants.{Begun as Beginning}
-use Rattle.world_model.specs.Tasks.{inner, spawner, names, is_named}
+use Rattle.world_model.specs.Scopes.{inner}
+use Rattle.world_model.specs.Tasks.{spawner}
+use Rattle.world_model.specs.Numbers.{names, is_named}
 use Rattle.world_model.specs.Due.{due, fixed, fixed_by, is_entry, is_idle}
 use Rattle.world_model.specs.Replies.{is_legal_world, is_accepted}
-use Rattle.world_model.specs.Able.{last_entry}
+use Rattle.world_model.specs.Conditions.{last_entry}
 use Rattle.world_model.proofs.Made.{last_accepted}
 use Rattle.world_model.proofs.Ables.{act_now}
 use Rattle.world_model.proofs.DueHas.{due_has}

@@ -16,10 +16,14 @@ use Rattle.world_model.specs.declared.event.Begun.TheVariants.{Async}
 use Rattle.world_model.specs.declared.event.WorldEvent.{WorldEvent}
 use Rattle.world_model.specs.declared.event.WorldEvent.TheVariants.{Phaser, Finish, Begin, Refuse, Fail}
 use Rattle.world_model.specs.Parts.{phaser_past}
-use Rattle.world_model.specs.Tasks.{inner, enclosing, is_phaser, is_born}
-use Rattle.world_model.specs.Due.{actor, due, fixed, is_entry, is_of_single}
-use Rattle.world_model.specs.Replies.{is_legal_world, is_accepted, pair_causes}
-use Rattle.world_model.specs.Able.{last_entry}
+use Rattle.world_model.specs.Scopes.{inner, enclosing}
+use Rattle.world_model.specs.Numbers.{is_phaser}
+use Rattle.world_model.specs.Tasks.{is_born}
+use Rattle.world_model.specs.Actors.{actor}
+use Rattle.world_model.specs.Due.{due, fixed, is_entry, is_of_single}
+use Rattle.world_model.specs.Replies.{is_legal_world, is_accepted}
+use Rattle.world_model.specs.Acts.{pair_causes}
+use Rattle.world_model.specs.Conditions.{last_entry}
 use Rattle.world_model.proofs.Made.{no_refusal, begin_asked}
 use Rattle.world_model.proofs.Phasers.{new_past}
 use Rattle.world_model.proofs.Spawning.{begins_spawn, is_spawn_list, spawn_due, names_fresh, named_by_spawn}

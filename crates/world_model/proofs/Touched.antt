@@ -11,7 +11,8 @@ use Rattle.world_model.specs.declared.event.Tried.TheVariants.{New, Send as Send
 use Rattle.world_model.specs.declared.event.WorldEvent.{WorldEvent}
 use Rattle.world_model.specs.declared.event.WorldEvent.TheVariants.{Phaser, Finish, Begin, Refuse, Fail}
 use Rattle.world_model.specs.Tasks.{spawner, spawns, is_born}
-use Rattle.world_model.specs.Due.{actor, due}
+use Rattle.world_model.specs.Actors.{actor}
+use Rattle.world_model.specs.Due.{due}
 use Rattle.world_model.specs.Replies.{is_legal_world, is_accepted}
 use Rattle.world_model.proofs.Made.{IsNext, part_made}
 use Rattle.world_model.proofs.Ables.{idle_in_act}

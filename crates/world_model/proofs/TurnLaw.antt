@@ -15,7 +15,7 @@ use Rattle.world_model.specs.Parts.{phaser_past}
 use Rattle.world_model.specs.Tasks.{phasers_of}
 use Rattle.world_model.specs.Due.{is_behind}
 use Rattle.world_model.specs.Replies.{is_legal_world}
-use Rattle.world_model.specs.Laws.{is_pass_on}
+use Rattle.world_model.specs.ClockLaws.{is_pass_on}
 use Rattle.world_model.proofs.Joined.{times, times-filter, phasers_once}
 use Rattle.world_model.proofs.TurnShape.{passes_of, sigs_of}
 

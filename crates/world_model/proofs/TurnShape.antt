@@ -16,7 +16,7 @@ use Rattle.world_model.specs.Parts.{phaser_past}
 use Rattle.world_model.specs.Tasks.{phasers_of}
 use Rattle.world_model.specs.Due.{due, fixed, fixed_by, is_entry, is_ahead, is_behind}
 use Rattle.world_model.specs.Replies.{is_legal_world, is_accepted}
-use Rattle.world_model.specs.Able.{last_entry}
+use Rattle.world_model.specs.Conditions.{last_entry}
 use Rattle.world_model.proofs.Made.{last_accepted, no_refusal, begin_asked}
 use Rattle.world_model.proofs.DueHas.{due_has}
 

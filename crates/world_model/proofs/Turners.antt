@@ -17,10 +17,11 @@ use Rattle.world_model.specs.declared.event.WorldEvent.{WorldEvent}
 use Rattle.world_model.specs.declared.event.WorldEvent.TheVariants.{Phaser, Finish, Begin, Refuse, Fail}
 use Rattle.world_model.specs.Parts.{phaser_past}
 use Rattle.world_model.specs.Tasks.{phasers_of, is_born}
-use Rattle.world_model.specs.Due.{actor, due, fixed, is_entry, is_of_single, is_behind}
+use Rattle.world_model.specs.Actors.{actor}
+use Rattle.world_model.specs.Due.{due, fixed, is_entry, is_of_single, is_behind}
 use Rattle.world_model.specs.Replies.{is_legal_world, is_accepted}
-use Rattle.world_model.specs.Able.{last_entry}
-use Rattle.world_model.specs.Laws.{is_pass_on}
+use Rattle.world_model.specs.Conditions.{last_entry}
+use Rattle.world_model.specs.ClockLaws.{is_pass_on}
 use Rattle.world_model.proofs.Made.{no_refusal, begin_asked}
 use Rattle.world_model.proofs.DueHas.{pass_is_last}
 use Rattle.world_model.proofs.Passing.{passing}

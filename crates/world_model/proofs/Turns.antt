@@ -10,10 +10,11 @@ use Rattle.world_model.specs.declared.event.WorldEvent.{WorldEvent}
 use Rattle.world_model.specs.declared.event.WorldEvent.TheVariants.{Phaser, Finish, Begin, Refuse, Fail}
 use Rattle.world_model.specs.Parts.{phaser_past}
 use Rattle.world_model.specs.Tasks.{phasers_of}
-use Rattle.world_model.specs.Due.{actor, due, fixed, fixed_by, is_entry, is_of_single, is_behind}
+use Rattle.world_model.specs.Actors.{actor}
+use Rattle.world_model.specs.Due.{due, fixed, fixed_by, is_entry, is_of_single, is_behind}
 use Rattle.world_model.specs.Clock.{is_turn}
-use Rattle.world_model.specs.Able.{last_entry}
-use Rattle.world_model.specs.Laws.{begins_turn}
+use Rattle.world_model.specs.Conditions.{last_entry}
+use Rattle.world_model.specs.ClockLaws.{begins_turn}
 use Rattle.world_model.proofs.Basics.{eq_self}
 
 abbrev pub is_pass : ℕ → WorldEvent → Bool

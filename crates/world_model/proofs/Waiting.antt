@@ -14,8 +14,9 @@ use Rattle.world_model.specs.Parts.{phaser_past}
 use Rattle.world_model.specs.Tasks.{spawner, spawns, is_born, is_ended}
 use Rattle.world_model.specs.Clock.{clock}
 use Rattle.world_model.specs.Replies.{is_legal_world}
-use Rattle.world_model.specs.Able.{is_able, born_by, tasks, last_entry}
-use Rattle.world_model.specs.Laws.{leads_to_end}
+use Rattle.world_model.specs.Able.{is_able, born_by, tasks}
+use Rattle.world_model.specs.Conditions.{last_entry}
+use Rattle.world_model.specs.ClockLaws.{leads_to_end}
 use Rattle.world_model.proofs.Spawning.{begins_spawn}
 use Rattle.world_model.proofs.Endings.{half_spawned}
 use Rattle.world_model.proofs.Touched.{agent}

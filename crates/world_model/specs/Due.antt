@@ -1,59 +1,33 @@
--- The events that a task still has to make.
-use Rattle.std.specs.Prelude.{ℕ, Bool, true, false, ◌&&◌, ◌==◌, not, if◌then◌else◌, List, [], ◌∷◌, ◌++◌, map, drop, Option, Some, None, option_map, filter, filter_map, flat_map, slice_get}
-use Rattle.phase_modes.specs.Lists.{is_empty}
-use Rattle.phase_modes.specs.declared.limits.Limits.{Limits}
+-- The events that a task still has to make: what its last entry fixed, less what it made since.
+use Rattle.std.specs.Prelude.{ℕ, Bool, true, false, ◌&&◌, ◌==◌, not, if◌then◌else◌, List, [], ◌∷◌, ◌++◌, map, drop, filter, filter_map, flat_map, slice_get, Option, Some, None, option_map}
 use Rattle.phase_modes.specs.Mode.{can_signal}
+use Rattle.phase_modes.specs.declared.limits.Limits.{Limits}
+use Rattle.phase_modes.specs.Lists.{is_empty}
 use Rattle.phase_model.specs.declared.event.Event.{Event}
-use Rattle.phase_model.specs.declared.event.Event.TheVariants.{Claim as Claimed, Did as Done}
 use Rattle.phase_model.specs.Tasks.{has_mode}
 use Rattle.phase_model.specs.Phases.{waits, signals}
 use Rattle.phase_model.specs.Rules.{is_permitted}
-use Rattle.finish_core.specs.declared.event.FinishEvent.{FinishEvent}
-use Rattle.finish_core.specs.declared.event.FinishEvent.TheVariants.{Opened, Spawned, Ended, Shut as Shutting}
-use Rattle.world_model.specs.declared.event.Step.{Step}
-use Rattle.world_model.specs.declared.event.Step.TheVariants.{Make, Reg, Sig, Claim, Did, Pass, Send, Look, Drop}
+use Rattle.phase_model.specs.declared.event.Event.TheVariants.{Claim as Claimed, Did as Done}
+use Rattle.finish_core.specs.declared.event.FinishEvent.TheVariants.{Spawned, Ended, Shut as Shutting}
 use Rattle.world_model.specs.declared.event.Begun.{Begun}
-use Rattle.world_model.specs.declared.event.Begun.TheVariants.{Async, Signal, Wait, Next, NextSingle, Shut, End}
 use Rattle.world_model.specs.declared.event.WorldEvent.{WorldEvent}
+use Rattle.world_model.specs.declared.event.Step.TheVariants.{Reg, Sig, Claim, Did, Pass, Drop}
+use Rattle.world_model.specs.declared.event.Begun.TheVariants.{Async, Signal, Wait, Next, NextSingle, Shut, End}
 use Rattle.world_model.specs.declared.event.WorldEvent.TheVariants.{Phaser, Finish, Begin, Refuse, Fail}
+use Rattle.world_model.specs.Tasks.{phasers_of, is_ended, is_born, home}
+use Rattle.world_model.specs.Scopes.{enclosing, open_finishes, inner}
+use Rattle.world_model.specs.Actors.{actor}
 use Rattle.world_model.specs.Parts.{phaser_past, ops_of}
-use Rattle.world_model.specs.Tasks.{spawner, is_born, is_ended, home, open_finishes, inner, owner, enclosing, phasers_of}
 
--- the task that makes the step on a phaser; a child that was never spawned is dropped by its spawner
-abbrev pub step_actor : List WorldEvent → Step → ℕ
-step_actor w (Make t m ops) = t
-step_actor w (Reg q t m) = q
-step_actor w (Sig t x) = t
-step_actor w (Claim t) = t
-step_actor w (Did t) = t
-step_actor w (Pass t) = t
-step_actor w (Send t a v) = t
-step_actor w (Look t a) = t
-step_actor w (Drop t) = if is_born t w then t else spawner t w
-
-abbrev pub finish_actor : List WorldEvent → ℕ → FinishEvent → ℕ
-finish_actor w f (Opened t) = t
-finish_actor w f (Spawned t) = spawner t w
-finish_actor w f (Ended t) = t
-finish_actor w f Shutting = owner f w
-
--- the task that makes the event
-abbrev pub actor : List WorldEvent → WorldEvent → ℕ
-actor w (Phaser n s) = step_actor w s
-actor w (Finish f e) = finish_actor w f e
-actor w (Begin t b) = t
-actor w (Refuse t a n) = t
-actor w (Fail t n) = t
-
--- t can signal on the phaser, and has signalled since its last turn
+-- t can signal on the phaser of this history, and has signalled since its last turn
 abbrev pub is_ahead : ℕ → List Event → Bool
 is_ahead t h = has_mode can_signal t h && not (signals t h == waits t h)
 
--- t can signal on the phaser, and hasn't
+-- t can signal on it, and hasn't
 abbrev pub is_behind : ℕ → List Event → Bool
 is_behind t h = has_mode can_signal t h && signals t h == waits t h
 
--- a signal wherever t owes one, a pass and a drop on each phaser of t, in the order of its registrations
+-- a signal wherever t can signal and hasn't, a pass and a drop on each phaser of t, in the order of its registrations
 abbrev pub signals_due : ℕ → Option ℕ → List WorldEvent → List WorldEvent
 signals_due t x w = map (λ n. Phaser n (Sig t x)) (filter (λ n. is_behind t (phaser_past n w)) (phasers_of t w))
 
@@ -63,7 +37,7 @@ passes_due t w = map (λ n. Phaser n (Pass t)) (phasers_of t w)
 abbrev pub drops_due : ℕ → List WorldEvent → List WorldEvent
 drops_due t w = map (λ n. Phaser n (Drop t)) (phasers_of t w)
 
--- what leads to t's end: it leaves its phasers, shuts its open finishes, the innermost first, and ends
+-- what leads to t's end: it leaves its phasers, shuts its open finishes, the innermost first, and ends; the shut of finish 0 is the root's end
 abbrev pub ending : ℕ → List WorldEvent → List WorldEvent
 ending t w =
     drops_due t w
@@ -79,9 +53,10 @@ named_by t _ = None
 abbrev pub unborn : ℕ → List WorldEvent → List ℕ
 unborn t w = filter (λ c. not (is_born c w)) (filter_map (named_by t) w)
 
--- what an act that t begins fixes
+-- what an act fixes that t begins
 abbrev pub fixed_by : ℕ → Begun → List WorldEvent → List WorldEvent
-fixed_by t (Async c pairs) w = map (λ p. Phaser p.phaser (Reg t c p.mode)) pairs ++ Finish (inner t w) (Spawned c) ∷ []
+fixed_by t (Async c pairs) w =
+    map (λ p. Phaser p.phaser (Reg t c p.mode)) pairs ++ Finish (inner t w) (Spawned c) ∷ []
 fixed_by t Signal w = signals_due t None w
 fixed_by t Wait w = passes_due t w
 fixed_by t Next w = signals_due t None w ++ passes_due t w
@@ -91,7 +66,7 @@ fixed_by t Shut w =
     ++ Finish (inner t w) Shutting ∷ []
 fixed_by t End w = ending t w
 
--- what an entry of a task's log fixes: after a refusal and after a failure the task ends, and leaves no child half spawned
+-- what an entry of a task's log fixes: a refusal and a failure lead to the task's end, and a child that is half spawned leaves its phasers first
 abbrev pub fixed : WorldEvent → List WorldEvent → List WorldEvent
 fixed (Begin t b) w = fixed_by t b w
 fixed (Refuse t a n) w = ending t w
@@ -105,7 +80,7 @@ is_entry t (Refuse u a n) = u == t
 is_entry t (Fail u n) = u == t
 is_entry t _ = false
 
--- a claim and its report come before the pass that is due
+-- a claim and its report: they come before the pass that is due, and stand for none
 abbrev pub is_of_single : WorldEvent → Bool
 is_of_single (Phaser n (Claim t)) = true
 is_of_single (Phaser n (Did t)) = true
@@ -119,7 +94,7 @@ due t (e ∷ w) =
     else (if actor w e == t && not (is_of_single e) then drop 1 (due t w)
     else due t w)
 
--- where a pass is due, the single may come first
+-- where a pass is due: the claim where t may claim, the report where t claimed, else the pass
 abbrev pub before_pass : Limits → ℕ → ℕ → List WorldEvent → WorldEvent
 before_pass l n t w =
     if is_permitted l (ops_of n w) (phaser_past n w) (Claimed t) then Phaser n (Claim t)

@@ -1,4 +1,7 @@
-ghost use Rattle.world_model.specs.Laws.{PhasersAreLegal, PhasersAreOrdered, FinishesAreLegal, AbleIsComputed, ClocksAgree, NextsAreExpected, NobodyIsStuck, RegistrationsAreWithin, ShutsLeaveNobody};
+ghost use Rattle.world_model.specs.ClockLaws.{ClocksAgree};
+ghost use Rattle.world_model.specs.Laws.{FinishesAreLegal, PhasersAreLegal, PhasersAreOrdered};
+ghost use Rattle.world_model.specs.ProgressLaws.{AbleIsComputed, NextsAreExpected, NobodyIsStuck};
+ghost use Rattle.world_model.specs.ScopeLaws.{RegistrationsAreWithin, ShutsLeaveNobody};
 
 /// The history of each phaser of a legal world is legal.
 pub fn phasers_are_legal()

@@ -1,13 +1,18 @@
-//! Many phasers, finishes and tasks at once, as one list of events.
+//! Many phasers, finishes and tasks at once, as one list of events: the words, the definitions that
+//! contracts cite (`specs/`), and what holds of each world. It runs nothing.
 #![tactic(auto)]
 
+mod condition;
 mod event;
 mod laws;
 mod reply;
+mod report;
 
+pub use condition::Condition;
 pub use event::{Begun, Step, Tried, WorldEvent};
 pub use laws::{
     able_is_computed, clocks_agree, finishes_are_legal, nexts_are_expected, nobody_is_stuck,
     phasers_are_legal, phasers_are_ordered, registrations_are_within, shuts_leave_nobody,
 };
-pub use reply::{Condition, Reply};
+pub use reply::Reply;
+pub use report::{FinishLine, FoldLine, PhaserLines, TaskLine, TotalsLine, WorldReport};
