@@ -14,11 +14,11 @@ use Rattle.world_model.specs.Actors.{actor}
 use Rattle.world_model.specs.Due.{due, fixed, is_entry, is_of_single, or_single}
 use Rattle.world_model.specs.Replies.{is_legal_world, is_accepted}
 use Rattle.world_model.specs.Conditions.{last_entry}
-use Rattle.world_model.proofs.Made.{last_accepted, IsNext}
-use Rattle.world_model.proofs.Frames.{last_plain, due_own}
-use Rattle.world_model.proofs.Nexts.{First, first_due}
-use Rattle.world_model.proofs.Endings.{continues}
-use Rattle.world_model.proofs.Basics.{empty_is}
+use Rattle.world_model.proofs.MadeMeans.{last_accepted, IsNext}
+use Rattle.world_model.proofs.OthersLeave.{last_plain, due_own}
+use Rattle.world_model.proofs.NextIsDue.{First, first_due}
+use Rattle.world_model.proofs.AbruptEnds.{continues}
+use Rattle.world_model.proofs.SmallWords.{empty_is}
 
 single_first : (b c : Bool) (n t : ℕ) (e : WorldEvent) → cond b (Phaser n (Claim t)) (cond c (Phaser n (Did t)) (Phaser n (Pass t))) ≡ e → is_of_single e ≡ false → Phaser n (Pass t) ≡ e
 single_first true c n t e k s = absurd (true≢false (subst (λ x. is_of_single x ≡ false) (sym k) s))

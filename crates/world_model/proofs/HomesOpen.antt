@@ -17,14 +17,14 @@ use Rattle.world_model.specs.Due.{is_entry}
 use Rattle.world_model.specs.Replies.{is_legal_world, is_accepted}
 use Rattle.world_model.specs.Acts.{pair_causes}
 use Rattle.world_model.specs.Conditions.{last_entry}
-use Rattle.world_model.proofs.Made.{last_accepted, no_refusal, begin_asked}
-use Rattle.world_model.proofs.Frames.{last_plain}
-use Rattle.world_model.proofs.Finishes.{finishes_legal}
-use Rattle.world_model.proofs.Spawning.{begins_spawn}
-use Rattle.world_model.proofs.Opened.{open_later, open_is_own, inner_is_opened, root_finish, shuts_finish}
+use Rattle.world_model.proofs.MadeMeans.{last_accepted, no_refusal, begin_asked}
+use Rattle.world_model.proofs.OthersLeave.{last_plain}
+use Rattle.world_model.proofs.FinishesLegal.{finishes_legal}
+use Rattle.world_model.proofs.SpawnUnderWay.{begins_spawn}
+use Rattle.world_model.proofs.OpenFinishes.{open_later, open_is_own, inner_is_opened, root_finish, shuts_finish}
 use Rattle.world_model.proofs.DueStays.{last_of_entry}
-use Rattle.world_model.proofs.Homes.{root_home, home_begun}
-use Rattle.world_model.proofs.Inside.{closed_ended, ended_in, home_spawned}
+use Rattle.world_model.proofs.SpawnedAtHome.{root_home, home_begun}
+use Rattle.world_model.proofs.EndedInside.{closed_ended, ended_in, home_spawned}
 
 -- finish 0 is open until the root ends
 pub root_open : (l : Limits) (w : List WorldEvent) → is_legal_world l w ≡ true → is_ended 0 w ≡ false → is_open (finish_past 0 w) ≡ true

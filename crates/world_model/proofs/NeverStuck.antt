@@ -13,19 +13,19 @@ use Rattle.world_model.specs.Scopes.{owner, enclosing}
 use Rattle.world_model.specs.Replies.{is_legal_world}
 use Rattle.world_model.specs.Able.{is_able, tasks}
 use Rattle.world_model.specs.ProgressLaws.{NobodyIsStuck}
-use Rattle.world_model.proofs.Opened.{opened}
-use Rattle.world_model.proofs.Touched.{agent}
-use Rattle.world_model.proofs.Homes.{root_home}
-use Rattle.world_model.proofs.Scopes.{InScope, registered_in_scope}
-use Rattle.world_model.proofs.LeaveActs.{root_owner}
-use Rattle.world_model.proofs.Inside.{root_unspawned, owner_opened, open_begun}
-use Rattle.world_model.proofs.ShutLaw.{shutter_left}
-use Rattle.world_model.proofs.TurnLaw.{none_at}
+use Rattle.world_model.proofs.OpenFinishes.{opened}
+use Rattle.world_model.proofs.AgentOfTask.{agent}
+use Rattle.world_model.proofs.SpawnedAtHome.{root_home}
+use Rattle.world_model.proofs.RegisteredInScope.{InScope, registered_in_scope}
+use Rattle.world_model.proofs.LeavesAtEnds.{root_owner}
+use Rattle.world_model.proofs.EndedInside.{root_unspawned, owner_opened, open_begun}
+use Rattle.world_model.proofs.ShutsLeaveNobody.{shutter_left}
+use Rattle.world_model.proofs.TurnsStand.{none_at}
 use Rattle.world_model.proofs.HomesOpen.{spawned_is_born}
-use Rattle.world_model.proofs.GoesOn.{WaitsToPass, WaitsToShut}
-use Rattle.world_model.proofs.Openings.{opened_at, opened_within, owner_before}
-use Rattle.world_model.proofs.Nesting.{is_inside, inside_is, inside_after, root_outside, spawned_home, ended_at_home}
-use Rattle.world_model.proofs.Waiting.{tasks_born, born_tasks, fails_at, found_in, going_on, listed, goes, none_alone, holder, holder_is, sorted}
+use Rattle.world_model.proofs.AbleOrWaits.{WaitsToPass, WaitsToShut}
+use Rattle.world_model.proofs.OpenedInOrder.{opened_at, opened_within, owner_before}
+use Rattle.world_model.proofs.InsideIsLater.{is_inside, inside_is, inside_after, root_outside, spawned_home, ended_at_home}
+use Rattle.world_model.proofs.NoneWaitsAlone.{tasks_born, born_tasks, fails_at, found_in, going_on, listed, goes, none_alone, holder, holder_is, sorted}
 
 module _ (l : Limits) (w : List WorldEvent) (k : is_legal_world l w ≡ true)
     (no_able : (t : ℕ) → is_born t w ≡ true → is_able l w t ≡ true → ⊥) where

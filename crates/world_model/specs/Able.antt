@@ -5,9 +5,9 @@ use Rattle.phase_modes.specs.declared.limits.Limits.{Limits}
 use Rattle.finish_core.specs.declared.event.FinishEvent.TheVariants.{Spawned}
 use Rattle.world_model.specs.declared.event.WorldEvent.{WorldEvent}
 use Rattle.world_model.specs.declared.event.WorldEvent.TheVariants.{Finish, Fail}
-use Rattle.world_model.specs.Tasks.{is_ended}
-use Rattle.world_model.specs.Replies.{is_accepted}
 use Rattle.world_model.specs.Actors.{actor}
+use Rattle.world_model.specs.Replies.{is_accepted}
+use Rattle.world_model.specs.Tasks.{is_ended}
 use Rattle.world_model.specs.Due.{next_event}
 
 -- a task is able where it hasn't ended and some event of its own is accepted

@@ -2,12 +2,12 @@
 use Rattle.std.specs.Prelude.{ℕ, if◌then◌else◌, List}
 use Rattle.finish_core.specs.declared.event.FinishEvent.{FinishEvent}
 use Rattle.finish_core.specs.declared.event.FinishEvent.TheVariants.{Opened, Spawned, Ended, Shut}
-use Rattle.world_model.specs.declared.event.WorldEvent.{WorldEvent}
 use Rattle.world_model.specs.declared.event.Step.{Step}
+use Rattle.world_model.specs.declared.event.WorldEvent.{WorldEvent}
 use Rattle.world_model.specs.declared.event.Step.TheVariants.{Make, Reg, Sig, Claim, Did, Pass, Send, Look, Drop}
 use Rattle.world_model.specs.declared.event.WorldEvent.TheVariants.{Phaser, Finish, Begin, Refuse, Fail}
+use Rattle.world_model.specs.Tasks.{is_born, spawner}
 use Rattle.world_model.specs.Scopes.{owner}
-use Rattle.world_model.specs.Tasks.{spawner, is_born}
 
 -- a step on a phaser; a child that was never spawned is taken off by its spawner
 abbrev pub step_actor : List WorldEvent → Step → ℕ

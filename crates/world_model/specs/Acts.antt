@@ -2,14 +2,14 @@
 use Rattle.std.specs.Prelude.{ℕ, Bool, true, false, ◌&&◌, ◌||◌, ◌==◌, not, nat_lt, List, [], ◌∷◌, length, Option, Some, None, Result, Ok, Err}
 use Rattle.std.specs.List.{list_any}
 use Rattle.phase_modes.specs.declared.refusal.Refusal.TheVariants.{NotRegistered, NoSingle, AlreadySignalled, NotSignalled, OnePhaserOnly, MoreThanParent, OutsideScope, RegisteredTwice, PhasersFull, TasksFull, FinishesFull, ActsFull, FinishOpen, NoFinish, NotNow}
-use Rattle.phase_modes.specs.declared.phased.Pair.{Pair}
-use Rattle.phase_modes.specs.Lists.{is_empty, is_one}
-use Rattle.phase_modes.specs.declared.refusal.Refusal.{Refusal}
 use Rattle.phase_modes.specs.declared.limits.Limits.{Limits}
-use Rattle.phase_modes.specs.Refusal.{first_refusal}
+use Rattle.phase_modes.specs.declared.phased.Pair.{Pair}
+use Rattle.phase_modes.specs.declared.refusal.Refusal.{Refusal}
 use Rattle.phase_modes.specs.Mode.{can_single}
-use Rattle.phase_model.specs.Rules.{is_within_task}
+use Rattle.phase_modes.specs.Refusal.{first_refusal}
+use Rattle.phase_modes.specs.Lists.{is_empty, is_one}
 use Rattle.phase_model.specs.Tasks.{is_live, has_mode}
+use Rattle.phase_model.specs.Rules.{is_within_task}
 use Rattle.finish_core.specs.declared.event.FinishEvent.TheVariants.{Opened}
 use Rattle.world_model.specs.declared.event.Begun.{Begun}
 use Rattle.world_model.specs.declared.reply.Reply.{Reply}
@@ -19,11 +19,11 @@ use Rattle.world_model.specs.declared.event.Step.TheVariants.{Make, Send, Look}
 use Rattle.world_model.specs.declared.event.Begun.TheVariants.{Async, Signal, Wait, Next, NextSingle, Shut, End}
 use Rattle.world_model.specs.declared.event.Tried.TheVariants.{Begun as Beginning, New, Open, Send as Sending, Look as Looking}
 use Rattle.world_model.specs.declared.reply.Reply.TheVariants.{Done}
-use Rattle.world_model.specs.Scopes.{enclosing, open_finishes, inner}
-use Rattle.world_model.specs.Due.{is_idle, is_behind, is_ahead}
-use Rattle.world_model.specs.Answers.{finish_reply, phaser_reply}
 use Rattle.world_model.specs.Tasks.{phasers_of, acts}
-use Rattle.world_model.specs.Numbers.{is_named, is_finish, is_phaser}
+use Rattle.world_model.specs.Scopes.{open_finishes, enclosing, inner}
+use Rattle.world_model.specs.Answers.{phaser_reply, finish_reply}
+use Rattle.world_model.specs.Due.{is_behind, is_ahead, is_idle}
+use Rattle.world_model.specs.Numbers.{is_named, is_phaser, is_finish}
 use Rattle.world_model.specs.Parts.{phaser_past}
 
 -- the number that the act wants to give is in use

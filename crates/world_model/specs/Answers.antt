@@ -7,16 +7,16 @@ use Rattle.phase_model.specs.Phases.{waits}
 use Rattle.phase_model.specs.declared.event.Event.TheVariants.{Pass as Passed, Look as Looked}
 use Rattle.phase_model.specs.Replies as phaser
 use Rattle.phase_model.specs.Replies.{Call, make, register, signal, pass, single_done, send, look, drop_task}
-use Rattle.finish_core.specs.Finish.{all_ended}
 use Rattle.finish_core.specs.declared.event.FinishEvent.{FinishEvent}
+use Rattle.finish_core.specs.Finish.{all_ended}
 use Rattle.finish_core.specs.Answers.{answer}
 use Rattle.finish_core.specs.declared.event.FinishEvent.TheVariants.{Shut as Shutting}
-use Rattle.world_model.specs.declared.event.WorldEvent.{WorldEvent}
-use Rattle.world_model.specs.declared.event.Step.{Step}
 use Rattle.world_model.specs.declared.reply.Reply.{Reply}
+use Rattle.world_model.specs.declared.event.Step.{Step}
+use Rattle.world_model.specs.declared.event.WorldEvent.{WorldEvent}
 use Rattle.world_model.specs.declared.event.Step.TheVariants.{Make, Reg, Sig, Claim, Did, Pass, Send, Look, Drop}
 use Rattle.world_model.specs.declared.reply.Reply.TheVariants.{Done, Phase, Value, NotYet}
-use Rattle.world_model.specs.Parts.{story_of, finish_past, phaser_past}
+use Rattle.world_model.specs.Parts.{phaser_past, finish_past, story_of}
 
 -- a phaser's answer, after this history, as the world's
 abbrev pub phaser_answer : List Event → phaser.Reply → Result Reply Refusal
@@ -50,5 +50,6 @@ finish_answer (Err r) = Err r
 -- the answer of finish f: its shut has to wait while a task that was spawned in it hasn't ended
 abbrev pub finish_reply : Limits → List WorldEvent → ℕ → FinishEvent → Result Reply Refusal
 finish_reply l w f Shutting =
-    if all_ended (finish_past f w) then finish_answer (answer l.tasks (finish_past f w) Shutting) else Ok NotYet
+    if all_ended (finish_past f w) then finish_answer (answer l.tasks (finish_past f w) Shutting)
+    else Ok NotYet
 finish_reply l w f e = finish_answer (answer l.tasks (finish_past f w) e)

@@ -2,13 +2,13 @@
 use Rattle.std.specs.Prelude.{ℕ, ◌+◌, Bool, true, false, ◌&&◌, ◌==◌, if◌then◌else◌, List, [], ◌∷◌}
 use Rattle.phase_modes.specs.Lists.{is_empty, is_one}
 use Rattle.finish_core.specs.declared.event.FinishEvent.TheVariants.{Spawned}
-use Rattle.world_model.specs.declared.event.WorldEvent.{WorldEvent}
 use Rattle.world_model.specs.declared.event.Begun.{Begun}
+use Rattle.world_model.specs.declared.event.WorldEvent.{WorldEvent}
 use Rattle.world_model.specs.declared.event.Step.TheVariants.{Make, Pass}
 use Rattle.world_model.specs.declared.event.Begun.TheVariants.{Wait, Next, NextSingle}
 use Rattle.world_model.specs.declared.event.WorldEvent.TheVariants.{Phaser, Finish, Begin}
-use Rattle.world_model.specs.Tasks.{phasers_of, spawner}
 use Rattle.world_model.specs.Due.{due}
+use Rattle.world_model.specs.Tasks.{phasers_of, spawner}
 
 -- the act is a turn
 abbrev pub is_turn : Begun → Bool

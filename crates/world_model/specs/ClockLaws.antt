@@ -8,12 +8,12 @@ use Rattle.phase_model.specs.Phases.{waits}
 use Rattle.world_model.specs.declared.event.WorldEvent.{WorldEvent}
 use Rattle.world_model.specs.declared.event.Step.TheVariants.{Pass}
 use Rattle.world_model.specs.declared.event.WorldEvent.TheVariants.{Phaser, Begin, Refuse, Fail}
-use Rattle.world_model.specs.Clock.{base, is_turn, clock}
-use Rattle.world_model.specs.Tasks.{is_born}
-use Rattle.world_model.specs.Parts.{phaser_past}
 use Rattle.world_model.specs.Laws.{OfEachWorld}
+use Rattle.world_model.specs.Clock.{is_turn, clock, base}
 use Rattle.world_model.specs.Due.{due}
+use Rattle.world_model.specs.Tasks.{is_born}
 use Rattle.world_model.specs.Conditions.{last_entry}
+use Rattle.world_model.specs.Parts.{phaser_past}
 
 -- the entry begins a turn
 abbrev pub begins_turn : Option WorldEvent → Bool
@@ -48,4 +48,5 @@ ClocksAgree = OfEachWorld (λ l w. (t n : ℕ)
 
 -- each turn is an act that is counted, and a child goes on from its spawner's clock: so no clock passes the acts that all tasks may begin, 2^28 at most, far below what 32 bits hold
 abbrev pub ClocksFit : Type 0
-ClocksFit = OfEachWorld (λ l w. limits_fit l ≡ true → (t : ℕ) → (clock t w ≤ l.tasks * l.acts) × (clock t w ≤ 268435456))
+ClocksFit = OfEachWorld (λ l w. limits_fit l ≡ true
+    → (t : ℕ) → (clock t w ≤ l.tasks * l.acts) × (clock t w ≤ 268435456))

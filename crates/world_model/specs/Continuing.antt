@@ -1,20 +1,20 @@
 -- What is answered to an event that continues an act.
 use Rattle.std.specs.Prelude.{ℕ, Bool, true, false, ◌&&◌, ◌==◌, if◌then◌else◌, List, Option, Some, None, Result, Err}
 use Rattle.std.specs.Option.{option_map_or}
-use Rattle.phase_modes.specs.Mode.{is_within}
-use Rattle.phase_modes.specs.declared.refusal.Refusal.TheVariants.{NotNow}
-use Rattle.phase_modes.specs.declared.mode.Mode.{Mode}
 use Rattle.phase_modes.specs.declared.limits.Limits.{Limits}
+use Rattle.phase_modes.specs.declared.mode.Mode.{Mode}
+use Rattle.phase_modes.specs.declared.refusal.Refusal.TheVariants.{NotNow}
 use Rattle.phase_modes.specs.declared.refusal.Refusal.{Refusal}
+use Rattle.phase_modes.specs.Mode.{is_within}
 use Rattle.finish_core.specs.declared.event.FinishEvent.{FinishEvent}
 use Rattle.finish_core.specs.declared.event.FinishEvent.TheVariants.{Spawned, Ended, Shut as Shutting}
-use Rattle.world_model.specs.declared.event.WorldEvent.{WorldEvent}
-use Rattle.world_model.specs.declared.event.Step.{Step}
 use Rattle.world_model.specs.declared.reply.Reply.{Reply}
+use Rattle.world_model.specs.declared.event.Step.{Step}
+use Rattle.world_model.specs.declared.event.WorldEvent.{WorldEvent}
 use Rattle.world_model.specs.declared.event.Step.TheVariants.{Reg, Sig, Claim, Did, Pass, Drop}
 use Rattle.world_model.specs.declared.event.WorldEvent.TheVariants.{Phaser, Finish}
-use Rattle.world_model.specs.Answers.{finish_reply, phaser_reply}
 use Rattle.world_model.specs.Actors.{actor}
+use Rattle.world_model.specs.Answers.{phaser_reply, finish_reply}
 use Rattle.world_model.specs.Due.{next_event}
 
 -- two events that continue an act are the same

@@ -1,12 +1,12 @@
 -- The events that a task still has to make: what its last entry fixed, less what it made since.
 use Rattle.std.specs.Prelude.{ℕ, Bool, true, false, ◌&&◌, ◌==◌, not, if◌then◌else◌, List, [], ◌∷◌, ◌++◌, map, drop, filter, filter_map, flat_map, slice_get, Option, Some, None, option_map}
-use Rattle.phase_modes.specs.Mode.{can_signal}
 use Rattle.phase_modes.specs.declared.limits.Limits.{Limits}
+use Rattle.phase_modes.specs.Mode.{can_signal}
 use Rattle.phase_modes.specs.Lists.{is_empty}
 use Rattle.phase_model.specs.declared.event.Event.{Event}
 use Rattle.phase_model.specs.Tasks.{has_mode}
-use Rattle.phase_model.specs.Phases.{waits, signals}
 use Rattle.phase_model.specs.Rules.{is_permitted}
+use Rattle.phase_model.specs.Phases.{waits, signals}
 use Rattle.phase_model.specs.declared.event.Event.TheVariants.{Claim as Claimed, Did as Done}
 use Rattle.finish_core.specs.declared.event.FinishEvent.TheVariants.{Spawned, Ended, Shut as Shutting}
 use Rattle.world_model.specs.declared.event.Begun.{Begun}
@@ -14,9 +14,9 @@ use Rattle.world_model.specs.declared.event.WorldEvent.{WorldEvent}
 use Rattle.world_model.specs.declared.event.Step.TheVariants.{Reg, Sig, Claim, Did, Pass, Drop}
 use Rattle.world_model.specs.declared.event.Begun.TheVariants.{Async, Signal, Wait, Next, NextSingle, Shut, End}
 use Rattle.world_model.specs.declared.event.WorldEvent.TheVariants.{Phaser, Finish, Begin, Refuse, Fail}
-use Rattle.world_model.specs.Tasks.{phasers_of, is_ended, is_born, home}
-use Rattle.world_model.specs.Scopes.{enclosing, open_finishes, inner}
 use Rattle.world_model.specs.Actors.{actor}
+use Rattle.world_model.specs.Scopes.{open_finishes, enclosing, inner}
+use Rattle.world_model.specs.Tasks.{is_ended, is_born, phasers_of, home}
 use Rattle.world_model.specs.Parts.{phaser_past, ops_of}
 
 -- t can signal on the phaser of this history, and has signalled since its last turn
@@ -29,7 +29,8 @@ is_behind t h = has_mode can_signal t h && signals t h == waits t h
 
 -- a signal wherever t can signal and hasn't, a pass and a drop on each phaser of t, in the order of its registrations
 abbrev pub signals_due : ℕ → Option ℕ → List WorldEvent → List WorldEvent
-signals_due t x w = map (λ n. Phaser n (Sig t x)) (filter (λ n. is_behind t (phaser_past n w)) (phasers_of t w))
+signals_due t x w =
+    map (λ n. Phaser n (Sig t x)) (filter (λ n. is_behind t (phaser_past n w)) (phasers_of t w))
 
 abbrev pub passes_due : ℕ → List WorldEvent → List WorldEvent
 passes_due t w = map (λ n. Phaser n (Pass t)) (phasers_of t w)

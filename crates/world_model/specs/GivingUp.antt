@@ -1,19 +1,19 @@
 -- When a task may note that its act was refused, or give up what it is about. Either leads to its end.
 use Rattle.std.specs.Prelude.{ℕ, Bool, true, false, ◌&&◌, ◌||◌, ◌==◌, not, List, Result, Ok, Err}
 use Rattle.std.specs.Option.{option_map_or}
-use Rattle.phase_modes.specs.declared.refusal.Refusal.TheVariants.{NotNow}
-use Rattle.phase_modes.specs.Refusal.{number_of}
 use Rattle.phase_modes.specs.declared.limits.Limits.{Limits}
+use Rattle.phase_modes.specs.declared.refusal.Refusal.TheVariants.{NotNow}
 use Rattle.phase_modes.specs.declared.refusal.Refusal.{Refusal}
-use Rattle.world_model.specs.declared.event.WorldEvent.{WorldEvent}
-use Rattle.world_model.specs.declared.event.Tried.{Tried}
+use Rattle.phase_modes.specs.Refusal.{number_of}
 use Rattle.world_model.specs.declared.reply.Reply.{Reply}
+use Rattle.world_model.specs.declared.event.Tried.{Tried}
+use Rattle.world_model.specs.declared.event.WorldEvent.{WorldEvent}
 use Rattle.world_model.specs.declared.event.Step.TheVariants.{Reg}
 use Rattle.world_model.specs.declared.event.WorldEvent.TheVariants.{Phaser}
 use Rattle.world_model.specs.declared.reply.Reply.TheVariants.{Done}
-use Rattle.world_model.specs.Continuing.{next_done}
 use Rattle.world_model.specs.Acts.{act_reply}
 use Rattle.world_model.specs.Due.{is_idle, next_event}
+use Rattle.world_model.specs.Continuing.{next_done}
 
 -- the answer is the refusal of this number
 abbrev pub is_refused_by : ℕ → Result Reply Refusal → Bool

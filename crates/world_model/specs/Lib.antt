@@ -22,3 +22,9 @@ pub mod Laws
 pub mod ScopeLaws
 pub mod ClockLaws
 pub mod ProgressLaws
+-- Worked examples, by computation.
+pub mod ExampleWords
+pub mod FinishExamples
+pub mod TurnExamples
+pub mod LimitExamples
+pub mod MomentExamples

@@ -4,14 +4,14 @@
 use Rattle.std.specs.Prelude.{ℕ, ◌==◌, if◌then◌else◌, List, [], ◌∷◌}
 use Rattle.phase_modes.specs.declared.limits.Limits.{Limits}
 use Rattle.phase_model.specs.declared.event.Event.{Event}
-use Rattle.phase_model.specs.Phases.{waits}
-use Rattle.phase_model.specs.Rules.{Story, look_of}
 use Rattle.phase_model.specs.declared.op.Op.{Op}
+use Rattle.phase_model.specs.Rules.{Story, look_of}
+use Rattle.phase_model.specs.Phases.{waits}
 use Rattle.phase_model.specs.declared.event.Event.TheVariants.{Make, Reg, Sig, Claim, Did, Pass, Send, Look, Drop}
 use Rattle.finish_core.specs.declared.event.FinishEvent.{FinishEvent}
 use Rattle.finish_core.specs.declared.event.FinishEvent.TheVariants.{Opened}
-use Rattle.world_model.specs.declared.event.WorldEvent.{WorldEvent}
 use Rattle.world_model.specs.declared.event.Step.{Step}
+use Rattle.world_model.specs.declared.event.WorldEvent.{WorldEvent}
 use Rattle.world_model.specs.declared.event.Step.TheVariants.{Make as Making, Reg as Registering, Sig as Signing, Claim as Claiming, Did as Doing, Pass as Passing, Send as Sending, Look as Looking, Drop as Dropping}
 use Rattle.world_model.specs.declared.event.WorldEvent.TheVariants.{Phaser, Finish}
 

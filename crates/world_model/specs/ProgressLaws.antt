@@ -3,14 +3,14 @@ use Rattle.std.specs.Prelude.{ℕ, ◌≡◌, ◌↔◌, Bool, true, false, List
 use Rattle.phase_modes.specs.declared.refusal.Refusal.TheVariants.{SingleMismatch, RegsFull, HistoryFull}
 use Rattle.phase_modes.specs.declared.limits.Limits.{Limits}
 use Rattle.phase_modes.specs.declared.refusal.Refusal.{Refusal}
-use Rattle.world_model.specs.declared.event.WorldEvent.{WorldEvent}
 use Rattle.world_model.specs.declared.reply.Reply.{Reply}
-use Rattle.world_model.specs.Able.{is_stuck, is_able, IsAble}
-use Rattle.world_model.specs.Continuing.{next_done}
-use Rattle.world_model.specs.Tasks.{is_ended}
-use Rattle.world_model.specs.Actors.{actor}
-use Rattle.world_model.specs.Due.{next_event}
+use Rattle.world_model.specs.declared.event.WorldEvent.{WorldEvent}
+use Rattle.world_model.specs.Able.{is_able, is_stuck, IsAble}
 use Rattle.world_model.specs.Laws.{OfEachWorld}
+use Rattle.world_model.specs.Actors.{actor}
+use Rattle.world_model.specs.Tasks.{is_ended}
+use Rattle.world_model.specs.Continuing.{next_done}
+use Rattle.world_model.specs.Due.{next_event}
 
 -- whether a task can go on, as it is computed, is that some event of its own is accepted
 abbrev pub AbleIsComputed : Type 0
@@ -26,7 +26,8 @@ is_expected (Err _) = false
 
 -- what continues the act of a task that hasn't ended is the task's own event, and is refused for no other reason
 abbrev pub NextsAreExpected : Type 0
-NextsAreExpected = OfEachWorld (λ l w. (t : ℕ) (e : WorldEvent) → is_ended t w ≡ false → next_event l t w ≡ Some e
+NextsAreExpected = OfEachWorld (λ l w. (t : ℕ) (e : WorldEvent)
+    → is_ended t w ≡ false → next_event l t w ≡ Some e
     → (actor w e ≡ t) × (is_expected (next_done l w e) ≡ true))
 
 -- as long as some task hasn't ended, some task is able

@@ -3,15 +3,15 @@ use Rattle.std.specs.Prelude.{Bool, true, false, ◌&&◌, if◌then◌else◌, 
 use Rattle.phase_modes.specs.declared.limits.Limits.{Limits}
 use Rattle.phase_modes.specs.declared.refusal.Refusal.{Refusal}
 use Rattle.finish_core.specs.declared.event.FinishEvent.TheVariants.{Opened}
-use Rattle.world_model.specs.declared.event.WorldEvent.{WorldEvent}
 use Rattle.world_model.specs.declared.reply.Reply.{Reply}
+use Rattle.world_model.specs.declared.event.WorldEvent.{WorldEvent}
 use Rattle.world_model.specs.declared.event.Step.TheVariants.{Make, Send, Look}
 use Rattle.world_model.specs.declared.event.Tried.TheVariants.{Begun as Beginning, New, Open, Send as Sending, Look as Looking}
 use Rattle.world_model.specs.declared.event.WorldEvent.TheVariants.{Phaser, Finish, Begin, Refuse, Fail}
 use Rattle.world_model.specs.declared.reply.Reply.TheVariants.{NotYet}
-use Rattle.world_model.specs.GivingUp.{may_fail, done_where, may_refuse}
-use Rattle.world_model.specs.Continuing.{next_reply}
 use Rattle.world_model.specs.Acts.{act_reply}
+use Rattle.world_model.specs.GivingUp.{may_fail, may_refuse, done_where}
+use Rattle.world_model.specs.Continuing.{next_reply}
 
 -- the answer to an event
 abbrev pub reply : Limits → List WorldEvent → WorldEvent → Result Reply Refusal

@@ -3,23 +3,22 @@ use Rattle.std.specs.Prelude.{ℕ, ◌+◌, Bool, true, false, ◌==◌, if◌th
 use Rattle.std.specs.List.{range_with_len}
 use Rattle.phase_modes.specs.declared.limits.Limits.{Limits}
 use Rattle.phase_model.specs.declared.event.Event.{Event}
-use Rattle.phase_model.specs.Amounts.{totals}
 use Rattle.phase_model.specs.declared.op.Op.{Op}
-use Rattle.phase_model.specs.Phases.{waits, signals}
 use Rattle.phase_model.specs.Values.{sent, fold}
 use Rattle.phase_model.specs.Tasks.{registered_by}
+use Rattle.phase_model.specs.Phases.{waits, signals}
+use Rattle.phase_model.specs.Amounts.{totals}
 use Rattle.phase_model.specs.declared.event.Event.TheVariants.{Sig, Pass, Send, Drop}
 use Rattle.finish_core.specs.Finish.{spawned_tasks}
+use Rattle.world_model.specs.declared.report.FinishLine.{FinishLine}
 use Rattle.world_model.specs.declared.report.FoldLine.{FoldLine}
 use Rattle.world_model.specs.declared.report.TaskLine.{TaskLine}
 use Rattle.world_model.specs.declared.report.TotalsLine.{TotalsLine}
 use Rattle.world_model.specs.declared.event.WorldEvent.{WorldEvent}
-use Rattle.world_model.specs.declared.report.FinishLine.{FinishLine}
 use Rattle.world_model.specs.declared.event.WorldEvent.TheVariants.{Refuse, Fail}
+use Rattle.world_model.specs.Parts.{phaser_past, finish_past, ops_of}
 use Rattle.world_model.specs.Tasks.{is_born}
-use Rattle.world_model.specs.Parts.{finish_past, phaser_past, ops_of}
-use Rattle.world_model.specs.Numbers.{is_finish, is_phaser}
-use Rattle.world_model.specs.Able.{tasks}
+use Rattle.world_model.specs.Numbers.{is_phaser, is_finish}
 
 -- the numbers below n, in order
 abbrev pub below : ℕ → List ℕ

@@ -8,11 +8,11 @@ use Rattle.finish_core.specs.declared.event.FinishEvent.TheVariants.{Shut as Shu
 use Rattle.world_model.specs.declared.event.WorldEvent.{WorldEvent}
 use Rattle.world_model.specs.declared.event.Step.TheVariants.{Reg}
 use Rattle.world_model.specs.declared.event.WorldEvent.TheVariants.{Phaser, Finish}
-use Rattle.world_model.specs.Numbers.{is_finish}
-use Rattle.world_model.specs.Scopes.{owner, enclosing, inner}
-use Rattle.world_model.specs.Parts.{finish_past, phaser_past}
-use Rattle.world_model.specs.Tasks.{is_ended}
 use Rattle.world_model.specs.Laws.{OfEachWorld}
+use Rattle.world_model.specs.Scopes.{owner, enclosing, inner}
+use Rattle.world_model.specs.Parts.{phaser_past, finish_past}
+use Rattle.world_model.specs.Tasks.{is_ended}
+use Rattle.world_model.specs.Numbers.{is_finish}
 
 -- a child gets no capability that its spawner lacks, and comes only to phasers that its spawner's innermost finish encloses
 abbrev pub RegistrationsAreWithin : Type 0
@@ -23,7 +23,8 @@ RegistrationsAreWithin = OfEachWorld (λ l w.
 -- t was spawned in f, or in a finish that a task opened that is itself inside f
 pub data Inside (w : List WorldEvent) (f : ℕ) : ℕ → Type 0 where
   spawned : {t : ℕ} → is_spawned t (finish_past f w) ≡ true → Inside w f t
-  further : {t : ℕ} (g : ℕ) → is_finish g w ≡ true → is_spawned t (finish_past g w) ≡ true → Inside w f (owner g w) → Inside w f t
+  further : {t : ℕ} (g : ℕ) → is_finish g w ≡ true → is_spawned t (finish_past g w) ≡ true
+      → Inside w f (owner g w) → Inside w f t
 
 -- where f is shut, each task inside it has ended, and nobody is left on a phaser that f encloses
 abbrev pub ShutsLeaveNobody : Type 0

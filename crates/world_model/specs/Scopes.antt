@@ -5,8 +5,8 @@ use Rattle.finish_core.specs.declared.event.FinishEvent.TheVariants.{Opened}
 use Rattle.world_model.specs.declared.event.WorldEvent.{WorldEvent}
 use Rattle.world_model.specs.declared.event.Step.TheVariants.{Make}
 use Rattle.world_model.specs.declared.event.WorldEvent.TheVariants.{Phaser, Finish}
-use Rattle.world_model.specs.Tasks.{home}
 use Rattle.world_model.specs.Parts.{finish_past}
+use Rattle.world_model.specs.Tasks.{home}
 
 -- the finish that the event opens for t
 abbrev pub opened_by : ℕ → WorldEvent → Option ℕ

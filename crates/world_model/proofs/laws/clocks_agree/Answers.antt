@@ -1,4 +1,4 @@
-use Rattle.world_model.proofs.Clocks.{clocks_agree}
+use Rattle.world_model.proofs.ClocksAgree.{clocks_agree}
 use Rattle.world_model.proofs.laws.clocks_agree.Goals as goal
 
 pub returns : goal.returns

@@ -1,4 +1,4 @@
-use Rattle.world_model.proofs.Phasers.{phasers_legal}
+use Rattle.world_model.proofs.PhasersLegal.{phasers_legal}
 use Rattle.world_model.proofs.laws.phasers_are_legal.Goals as goal
 
 pub returns : goal.returns

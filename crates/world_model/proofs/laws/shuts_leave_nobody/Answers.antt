@@ -1,4 +1,4 @@
-use Rattle.world_model.proofs.ShutLaw.{shuts_leave_nobody}
+use Rattle.world_model.proofs.ShutsLeaveNobody.{shuts_leave_nobody}
 use Rattle.world_model.proofs.laws.shuts_leave_nobody.Goals as goal
 
 pub returns : goal.returns
