@@ -2,7 +2,7 @@
 use Rattle.std.proofs.Common.{◌≡◌, ℕ, ◌≤◌, ◌-◌, List, ◌+◌, ◌<◌, length, take, drop, set, replicate, sym, ap, ◌∙◌, arith}
 use Rattle.std.proofs.lemmas.List.{length-take-le, length-set, drop-set-lt, drop-drop, drop-replicate}
 use Rattle.phase_modes.specs.declared.phased.Pair.{Pair}
-use Rattle.phase_modes.specs.Places.{filler}
+use Rattle.phase_modes.specs.inner.Places.{filler}
 
 -- a list that isn't full leaves a place
 pub room_left : (pairs : List Pair) (len : ℕ) → len ≤ 16 → length pairs ≡ 16 → length (take len pairs) < 16 → len < 16

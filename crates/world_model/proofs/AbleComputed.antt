@@ -23,11 +23,11 @@ use Rattle.world_model.specs.Actors.{actor}
 use Rattle.world_model.specs.Due.{next_event, is_idle}
 use Rattle.world_model.specs.Replies.{is_accepted, is_made}
 use Rattle.world_model.specs.Continuing.{same_number, same_mode, same_step, same_finish_event, same_event, next_done, next_reply}
-use Rattle.world_model.specs.Acts.{act_reply, is_number_used, is_counted, own_causes, unless, act_done}
+use Rattle.world_model.specs.Acts.{act_reply, is_number_used, is_counted, own_conditions, unless, act_done}
 use Rattle.world_model.specs.GivingUp.{is_refused_by, may_fail, may_refuse, done_where, is_reg}
 use Rattle.world_model.specs.Able.{IsAble, is_able, candidates}
 use Rattle.world_model.specs.ProgressLaws.{AbleIsComputed}
-use Rattle.world_model.proofs.MadeMeans.{act_made, part_made}
+use Rattle.world_model.proofs.MadeMeans.{act_made, part_made, no_refusal}
 
 pub same_modes : (m n : Mode) → same_mode m n ≡ true → m ≡ n
 same_modes OnlySig OnlySig k = refl
@@ -104,15 +104,6 @@ at_3 a b c d r k = or_right a (b || (c || (d || r))) (or_right b (c || (d || r))
 at_4 : (a b c d r : Bool) → r ≡ true → (a || (b || (c || (d || r)))) ≡ true
 at_4 a b c d r k = or_right a (b || (c || (d || r))) (or_right b (c || (d || r)) (or_right c (d || r) (or_right d r k)))
 
--- an act that met no refusal came in an idle moment
-pub no_first : (b : Bool) (r : Refusal) (cs : List (Refusal × Bool)) → first_refusal ((r, b) ∷ cs) ≡ None → b ≡ false
-no_first true r cs k = absurd cc
-no_first false r cs k = refl
-
-idle_by : (i u : Bool) → (not i || u) ≡ false → i ≡ true
-idle_by true u k = refl
-idle_by false u k = absurd cc
-
 refused_number : (r : Refusal) (n : ℕ) → number_of r ≡ 22 → (number_of r == n && not (n == 22)) ≡ false
 refused_number r n e =
     elim (cases_Bool (n == 22)) [
@@ -159,12 +150,15 @@ module _ (l : Limits) (w : List WorldEvent) (t : ℕ) where
   idle_gives_up e = subst (λ b. is_made (done_where b) ≡ true) (sym e) refl
 
 -- an act that is begun comes in an idle moment, and its number is free
-pub act_now : (l : Limits) (w : List WorldEvent) (t : ℕ) (a : Tried) → is_made (act_reply l w t a) ≡ true → (not (is_idle t w) || is_number_used w a) ≡ false
+pub act_now : (l : Limits) (w : List WorldEvent) (t : ℕ) (a : Tried) → is_made (act_reply l w t a) ≡ true → (is_idle t w ≡ true) × (is_number_used w a ≡ false)
 act_now l w t a k =
-    no_first (not (is_idle t w) || is_number_used w a) NotNow ((ActsFull, is_counted a && not (nat_lt (acts t w) l.acts)) ∷ own_causes l w t a) (act_made l w t a k).0
+    let counted : Refusal × Bool = (ActsFull, not (is_counted a) || nat_lt (acts t w) l.acts) in
+    let free : Refusal × Bool = (NotNow, not (is_number_used w a)) in
+    let idle = no_refusal NotNow (is_idle t w) (free ∷ counted ∷ own_conditions l w t a) (act_made l w t a k).0 in
+    (idle.0, not-true (is_number_used w a) (no_refusal NotNow free.1 (counted ∷ own_conditions l w t a) idle.1).0)
 
 pub idle_in_act : (l : Limits) (w : List WorldEvent) (t : ℕ) (a : Tried) → is_made (act_reply l w t a) ≡ true → is_idle t w ≡ true
-idle_in_act l w t a k = idle_by (is_idle t w) (is_number_used w a) (act_now l w t a k)
+idle_in_act l w t a k = (act_now l w t a k).0
 
 pub made_done_where : (b : Bool) → is_made (done_where b) ≡ true → b ≡ true
 made_done_where true k = refl
@@ -178,7 +172,7 @@ refuse_idle l w t a n k =
       | inr e ↦ absurd (true≢false (sym (not_now e) ∙ refused_number NotNow n refl))
     ]
   where
-    told : (i : Bool) → i ≡ false → is_refused_by n (unless (first_refusal ((NotNow, not i || is_number_used w a) ∷ (ActsFull, is_counted a && not (nat_lt (acts t w) l.acts)) ∷ own_causes l w t a)) (act_done l w t a)) ≡ (22 == n)
+    told : (i : Bool) → i ≡ false → is_refused_by n (unless (first_refusal ((NotNow, i) ∷ (NotNow, not (is_number_used w a)) ∷ (ActsFull, not (is_counted a) || nat_lt (acts t w) l.acts) ∷ own_conditions l w t a)) (act_done l w t a)) ≡ (22 == n)
     told true e = absurd (true≢false e)
     told false e = refl
 

@@ -12,15 +12,19 @@ use Rattle.phase_model.specs.declared.event.Event.TheVariants.{Sig as Signalled,
 use Rattle.phase_model.specs.Tasks.{is_live, has_mode}
 use Rattle.phase_model.specs.Phases.{waits, signals}
 use Rattle.phase_model.specs.Singles.{has_claimed, is_done}
-use Rattle.phase_model.specs.Rules.{is_permitted, has_room, is_other_proposed}
+use Rattle.phase_model.specs.Conditions.{is_other_proposed}
+use Rattle.phase_model.specs.Rules.{is_permitted, has_room}
 use Rattle.phase_model.specs.Replies as phaser
-use Rattle.phase_model.specs.Replies.{settled, pass}
+use Rattle.phase_model.specs.declared.call.Call.TheVariants.{Signal as signal}
+use Rattle.phase_model.specs.Conditions.{conditions}
+use Rattle.phase_model.specs.declared.call.Call.TheVariants.{Pass as pass}
+use Rattle.phase_model.specs.Replies.{settled}
 use Rattle.phase_model.proofs.Legal.{at_or_ahead}
 use Rattle.phase_model.proofs.SingleRules.{did_follows}
 use Rattle.phase_model.proofs.SingleReplies.{singles_are_answered, singles_have_room}
 use Rattle.finish_core.specs.declared.event.FinishEvent.TheVariants.{Spawned, Shut as Shutting}
 use Rattle.finish_core.specs.Finish.{is_open, is_spawned, all_ended}
-use Rattle.finish_core.specs.Answers.{done_unless}
+use Rattle.finish_core.specs.Replies.{done_unless}
 use Rattle.world_model.specs.declared.event.Step.TheVariants.{Reg, Sig, Claim, Did, Pass}
 use Rattle.world_model.specs.declared.event.WorldEvent.{WorldEvent}
 use Rattle.world_model.specs.declared.event.WorldEvent.TheVariants.{Phaser, Finish}
@@ -28,12 +32,12 @@ use Rattle.world_model.specs.Parts.{ops_of, phaser_past, finish_past, story_of}
 use Rattle.world_model.specs.Scopes.{inner, owner}
 use Rattle.world_model.specs.Tasks.{spawner, is_born, is_ended}
 use Rattle.world_model.specs.Due.{due, is_behind, next_event}
-use Rattle.world_model.specs.Answers.{phaser_answer, finish_answer, finish_reply, phaser_reply}
+use Rattle.world_model.specs.PartReplies.{returned, finish_returned, finish_reply, phaser_reply}
 use Rattle.world_model.specs.Replies.{is_made, is_legal_world}
 use Rattle.world_model.specs.GivingUp.{is_refused_by}
 use Rattle.world_model.specs.Continuing.{same_number}
 use Rattle.world_model.specs.Able.{is_able}
-use Rattle.world_model.specs.Conditions.{last_entry}
+use Rattle.world_model.specs.TaskConditions.{last_entry}
 use Rattle.world_model.specs.ClockLaws.{is_pass_on}
 use Rattle.world_model.proofs.PhasersLegal.{phasers_legal}
 use Rattle.world_model.proofs.SpawnUnderWay.{begins_spawn, is_spawn_list, named_by_spawn}
@@ -83,7 +87,7 @@ module _ (l : Limits) (w : List WorldEvent) (k : is_legal_world l w ≡ true) (t
       let new : is_spawned c h ≡ false = false_from_ne_true (is_spawned c h) (λ y. true≢false (sym (spawned_is_born c f w y) ∙ unborn)) in
       answered (is_open h) (is_spawned c h) (nat_lt c l.tasks) opened new (spawn_fits l t c w k s)
     where
-      answered : (a b c : Bool) → a ≡ true → b ≡ false → c ≡ true → is_made (finish_answer (done_unless (first_refusal ((NotNow, not a || b) ∷ (TasksFull, not c) ∷ [])))) ≡ true
+      answered : (a b c : Bool) → a ≡ true → b ≡ false → c ≡ true → is_made (finish_returned (done_unless (first_refusal ((NotNow, a) ∷ (NotNow, not b) ∷ (TasksFull, c) ∷ [])))) ≡ true
       answered a b c x y z = rw (x, y, z) refl
 
   of_spawn : (c f : ℕ) (ds : List WorldEvent) → begins_spawn c (last_entry t w) ≡ true → due t w ≡ Finish f (Spawned c) ∷ ds → is_able l w t ≡ true
@@ -99,9 +103,9 @@ module _ (l : Limits) (w : List WorldEvent) (k : is_legal_world l w ≡ true) (t
       of_spawn c f ds s (subst (λ v. due t w ≡ Finish f (Spawned v) ∷ ds) same here)
   in_spawn c d ds s here y = absurd cc
 
-  -- a signal meets no cause but that another number stands
+  -- a signal meets each condition but that no other number stands
   pub sig_causes : (n : ℕ) (x : Option ℕ) (ds : List WorldEvent) → moves_act (last_entry t w) ≡ true → due t w ≡ Phaser n (Sig t x) ∷ ds
-      → (first_refusal (phaser.causes l (ops_of n w) (phaser_past n w) (phaser.signal t x)) ≡ None) ⊎ (first_refusal (phaser.causes l (ops_of n w) (phaser_past n w) (phaser.signal t x)) ≡ Some SingleMismatch)
+      → (first_refusal (conditions l (ops_of n w) (phaser_past n w) (signal t x)) ≡ None) ⊎ (first_refusal (conditions l (ops_of n w) (phaser_past n w) (signal t x)) ≡ Some SingleMismatch)
   sig_causes n x ds s here =
       let h = phaser_past n w in
       let q : Turning t w (Phaser n (Sig t x) ∷ ds) = subst (λ xs. Turning t w xs) here (turning l t w k s) in
@@ -114,8 +118,8 @@ module _ (l : Limits) (w : List WorldEvent) (k : is_legal_world l w ≡ true) (t
       single_mode (Some v) q = ap (λ b. not b) (q.singles n (or_left (n == n) (list_any (is_single_on n) ds) (eq-eqb n n refl)))
 
       by : (a b c d e : Bool) → a ≡ true → b ≡ true → c ≡ false → d ≡ true
-          → (first_refusal ((NotRegistered, not a) ∷ (NoSignal, not b) ∷ (NoSingle, c) ∷ (AlreadySignalled, not d) ∷ (SingleMismatch, e) ∷ []) ≡ None)
-          ⊎ (first_refusal ((NotRegistered, not a) ∷ (NoSignal, not b) ∷ (NoSingle, c) ∷ (AlreadySignalled, not d) ∷ (SingleMismatch, e) ∷ []) ≡ Some SingleMismatch)
+          → (first_refusal ((NotRegistered, a) ∷ (NoSignal, b) ∷ (NoSingle, not c) ∷ (AlreadySignalled, d) ∷ (SingleMismatch, not e) ∷ []) ≡ None)
+          ⊎ (first_refusal ((NotRegistered, a) ∷ (NoSignal, b) ∷ (NoSingle, not c) ∷ (AlreadySignalled, d) ∷ (SingleMismatch, not e) ∷ []) ≡ Some SingleMismatch)
       by a b c d true x y z u = inr (rw (x, y, z, u) refl)
       by a b c d false x y z u = inl (rw (x, y, z, u) refl)
 
@@ -126,9 +130,9 @@ module _ (l : Limits) (w : List WorldEvent) (k : is_legal_world l w ≡ true) (t
       let h = phaser_past n w in
       let next = next_is l w t going e ds here in
       let room = has_room l (Signalled t x ∷ h) in
-      let first = first_refusal (phaser.causes l (ops_of n w) h (phaser.signal t x)) in
+      let first = first_refusal (conditions l (ops_of n w) h (signal t x)) in
       elim (sig_causes n x ds s here) [
-        | inr mismatch ↦ fails_7 l w t going e next (ap (λ o. is_refused_by 7 (phaser_answer h (settled o false room (Signalled t x)))) mismatch)
+        | inr mismatch ↦ fails_7 l w t going e next (ap (λ o. is_refused_by 7 (returned h (settled o false room (Signalled t x)))) mismatch)
         | inl agreed ↦
             elim (made_or_full h first false room (Signalled t x) agreed refl) [
               | inl made ↦ able_by l w t going e refl (part_accepted l w t going e (and_from (n == n) (t == t && same_number x x) (eq-eqb n n refl) (and_from (t == t) (same_number x x) (eq-eqb t t refl) (same_self x))) refl next made)
@@ -142,7 +146,7 @@ module _ (l : Limits) (w : List WorldEvent) (k : is_legal_world l w ≡ true) (t
 
   -- a claim that may be made is made
   pub claim_made : (n : ℕ) → is_permitted l (ops_of n w) (phaser_past n w) (Claimed t) ≡ true → is_made (phaser_reply l w n (Claim t)) ≡ true
-  claim_made n y = subst (λ r. is_made (phaser_answer (phaser_past n w) r) ≡ true) (sym ((singles_are_answered (story_of l n w) (phasers_legal l w k n) t).0 y)) refl
+  claim_made n y = subst (λ r. is_made (returned (phaser_past n w) r) ≡ true) (sym ((singles_are_answered (story_of l n w) (phasers_legal l w k n) t).0 y)) refl
 
   -- and so is a report
   pub report_made : (n : ℕ) → is_permitted l (ops_of n w) (phaser_past n w) (Done t) ≡ true → is_made (phaser_reply l w n (Did t)) ≡ true
@@ -153,7 +157,7 @@ module _ (l : Limits) (w : List WorldEvent) (k : is_legal_world l w ≡ true) (t
       answered h (is_live t h) (has_claimed t (waits t h) h) (is_done (waits t h) h) (has_room l (Done t ∷ h)) f.live f.claimed f.undone room
     where
       answered : (h : List Event) (a b c room : Bool) → a ≡ true → b ≡ true → c ≡ false → room ≡ true
-          → is_made (phaser_answer h (settled (cond (not a) (Some NotRegistered) (cond (not (b && not c)) (Some NotNow) None)) false room (Done t))) ≡ true
+          → is_made (returned h (settled (cond a (cond b (cond (not c) None (Some NotNow)) (Some NotNow)) (Some NotRegistered)) false room (Done t))) ≡ true
       answered h a b c room p q r s = rw (p, q, r, s) refl
 
   -- a pass that is due is of a phaser on which the task is live and not behind
@@ -166,17 +170,17 @@ module _ (l : Limits) (w : List WorldEvent) (k : is_legal_world l w ≡ true) (t
       let p = q.passes n (or_left (n == n) (list_any (is_pass_on n) ds) (eq-eqb n n refl)) in
       (p.0, false_from_ne_true (is_behind t h) (λ b. true≢false (sym (any_sig t w ds n n ds (p.1 b)) ∙ none)))
 
-  -- so it meets no cause
-  pub pass_causeless : (n : ℕ) → is_live t (phaser_past n w) ≡ true → is_behind t (phaser_past n w) ≡ false → first_refusal (phaser.causes l (ops_of n w) (phaser_past n w) (pass t)) ≡ None
+  -- so it meets each condition
+  pub pass_causeless : (n : ℕ) → is_live t (phaser_past n w) ≡ true → is_behind t (phaser_past n w) ≡ false → first_refusal (conditions l (ops_of n w) (phaser_past n w) (pass t)) ≡ None
   pass_causeless n live ahead =
       let h = phaser_past n w in
       no_cause (is_live t h) (has_mode can_signal t h) (signals t h == waits t h + 1) live (has_signalled (cases_Bool (has_mode can_signal t h)))
     where
-      no_cause : (a b c : Bool) → a ≡ true → (b && not c) ≡ false → cond (not a) (Some NotRegistered) (cond (b && not c) (Some NotSignalled) None) ≡ None
+      no_cause : (a b c : Bool) → a ≡ true → (not b || c) ≡ true → cond a (cond (not b || c) None (Some NotSignalled)) (Some NotRegistered) ≡ None
       no_cause a b c x y = rw (x, y) refl
 
       has_signalled : ((has_mode can_signal t (phaser_past n w) ≡ true) ⊎ (has_mode can_signal t (phaser_past n w) ≡ false))
-          → (has_mode can_signal t (phaser_past n w) && not (signals t (phaser_past n w) == waits t (phaser_past n w) + 1)) ≡ false
+          → (not (has_mode can_signal t (phaser_past n w)) || (signals t (phaser_past n w) == waits t (phaser_past n w) + 1)) ≡ true
       has_signalled (inr no_signaller) = rw no_signaller refl
       has_signalled (inl signaller) =
           elim (at_or_ahead l (ops_of n w) (phaser_past n w) (phasers_legal l w k n) t signaller) [
@@ -209,7 +213,7 @@ module _ (l : Limits) (w : List WorldEvent) (k : is_legal_world l w ≡ true) (t
             let v = and_parts (has_mode can_wait t h) (not (is_permitted l (ops_of n w) h (Passed t))) z.0 in
             inr (inl (record { on = n; rest = ds; is = here; live = live; signalled = ahead; waiter = v.0; no_pass = not-true (is_permitted l (ops_of n w) h (Passed t)) v.1; no_claim = no_claim; no_did = no_did }))
         | inr y ↦
-            elim (made_or_full h (first_refusal (phaser.causes l (ops_of n w) h (pass t))) waiting (has_room l (event ∷ h)) event (pass_causeless n live ahead) y) [
+            elim (made_or_full h (first_refusal (conditions l (ops_of n w) h (pass t))) waiting (has_room l (event ∷ h)) event (pass_causeless n live ahead) y) [
               | inl made ↦ inl (able_by l w t going e refl (part_accepted l w t going e (self n) refl next made))
               | inr full ↦ inl (fails_15 l w t going e next full)
             ]

@@ -17,7 +17,7 @@ use Rattle.world_model.specs.Numbers.{names, is_named}
 use Rattle.world_model.specs.Actors.{actor}
 use Rattle.world_model.specs.Due.{due, fixed, ending, drops_due, unborn, is_entry, is_of_single, is_idle, or_single}
 use Rattle.world_model.specs.Replies.{is_legal_world, is_accepted}
-use Rattle.world_model.specs.Conditions.{last_entry}
+use Rattle.world_model.specs.TaskConditions.{last_entry}
 use Rattle.world_model.specs.ClockLaws.{leads_to_end}
 use Rattle.world_model.proofs.MadeMeans.{last_accepted, part_made, IsNext}
 use Rattle.world_model.proofs.AbleComputed.{idle_in_act}

@@ -18,7 +18,7 @@ use Rattle.world_model.specs.declared.event.WorldEvent.TheVariants.{Phaser, Fini
 use Rattle.world_model.specs.Tasks.{acts, is_act, is_born}
 use Rattle.world_model.specs.Numbers.{names, is_named}
 use Rattle.world_model.specs.Due.{is_idle}
-use Rattle.world_model.specs.Acts.{act_causes, act_reply, is_counted, is_number_used, own_causes, pair_causes}
+use Rattle.world_model.specs.Acts.{act_conditions, act_reply, is_counted, is_number_used, own_conditions, pair_conditions}
 use Rattle.world_model.specs.Replies.{is_accepted, is_legal_world, is_made}
 use Rattle.world_model.specs.Clock.{is_turn}
 use Rattle.world_model.proofs.SmallWords.{eq_self, unnot}
@@ -31,10 +31,12 @@ use Rattle.world_model.proofs.ClockWithinTurns.{turns_begun}
 -- a counted act finds its task below the limit
 counted_below : (l : Limits) (w : List WorldEvent) (u : ℕ) (a : Tried) → is_counted a ≡ true → is_made (act_reply l w u a) ≡ true → acts u w < l.acts
 counted_below l w u a c m =
-    let full = is_counted a && not (nat_lt (acts u w) l.acts) in
-    let none = no_refusal NotNow (not (is_idle u w) || is_number_used w a) ((ActsFull, full) ∷ own_causes l w u a) (act_made l w u a m).0 in
-    let free : full ≡ false = (no_refusal ActsFull full (own_causes l w u a) none.1).0 in
-    ltb-true (acts u w) l.acts (unnot (nat_lt (acts u w) l.acts) (subst (λ b. (b && not (nat_lt (acts u w) l.acts)) ≡ false) c free))
+    let room = not (is_counted a) || nat_lt (acts u w) l.acts in
+    let free : Refusal × Bool = (NotNow, not (is_number_used w a)) in
+    let idle = no_refusal NotNow (is_idle u w) (free ∷ (ActsFull, room) ∷ own_conditions l w u a) (act_made l w u a m).0 in
+    let now = no_refusal NotNow free.1 ((ActsFull, room) ∷ own_conditions l w u a) idle.1 in
+    let has : room ≡ true = (no_refusal ActsFull room (own_conditions l w u a) now.1).0 in
+    ltb-true (acts u w) l.acts (subst (λ b. (not b || nat_lt (acts u w) l.acts) ≡ true) c has)
 
 below_limit : (l : Limits) (w : List WorldEvent) (e : WorldEvent) (t : ℕ) → is_accepted l w e ≡ true → is_act t e ≡ true → acts t w < l.acts
 below_limit l w (Phaser n (Make u m ops)) t h k = subst (λ v. acts v w < l.acts) (eqb-true u t k) (counted_below l w u (New n m ops) refl h)
@@ -117,8 +119,8 @@ named_fits l (e ∷ w) k t n =
   where
     by_event : (e : WorldEvent) → is_accepted l w e ≡ true → names t e ≡ true → t < l.tasks
     by_event (Begin u (Async c ps)) h b =
-        let asked = no_refusal TasksFull (not (nat_lt c l.tasks)) (pair_causes w u [] ps) (begin_asked l w u (Async c ps) h) in
-        subst (λ v. v < l.tasks) (eqb-true c t b) (ltb-true c l.tasks (unnot (nat_lt c l.tasks) asked.0))
+        let asked = no_refusal TasksFull (nat_lt c l.tasks) (pair_conditions w u [] ps) (begin_asked l w u (Async c ps) h) in
+        subst (λ v. v < l.tasks) (eqb-true c t b) (ltb-true c l.tasks asked.0)
     by_event e h b = absurd cc
 
 born_fits : (l : Limits) (w : List WorldEvent) → is_legal_world l w ≡ true → 1 ≤ l.tasks → (t : ℕ) → is_born t w ≡ true → t < l.tasks

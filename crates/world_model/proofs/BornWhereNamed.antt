@@ -21,7 +21,7 @@ use Rattle.world_model.specs.Numbers.{is_named}
 use Rattle.world_model.specs.Actors.{actor}
 use Rattle.world_model.specs.Due.{due, is_entry, is_of_single, or_single}
 use Rattle.world_model.specs.Replies.{is_legal_world, is_accepted}
-use Rattle.world_model.specs.Conditions.{last_entry}
+use Rattle.world_model.specs.TaskConditions.{last_entry}
 use Rattle.world_model.proofs.MadeMeans.{last_accepted, part_made}
 use Rattle.world_model.proofs.NextIsDue.{First, first_due, childless}
 use Rattle.world_model.proofs.SpawnUnderWay.{begins_spawn, is_child_event, is_spawn_list, spawn_due, named_by_spawn, named_later, names_fresh}

@@ -18,7 +18,7 @@ use Rattle.world_model.specs.Actors.{actor}
 use Rattle.world_model.specs.Due.{is_entry, is_idle, fixed_by}
 use Rattle.world_model.specs.Clock.{clock, base, is_turn}
 use Rattle.world_model.specs.Replies.{is_legal_world, is_accepted}
-use Rattle.world_model.specs.Conditions.{last_entry}
+use Rattle.world_model.specs.TaskConditions.{last_entry}
 use Rattle.world_model.specs.ClockLaws.{has_passed, begins_turn, is_pass_on, leads_to_end}
 use Rattle.world_model.proofs.AbleComputed.{idle_in_act}
 use Rattle.world_model.proofs.OthersLeave.{last_other, clock_other}

@@ -11,7 +11,7 @@ use Rattle.world_model.specs.declared.event.WorldEvent.TheVariants.{Phaser}
 use Rattle.world_model.specs.Parts.{phaser_past}
 use Rattle.world_model.specs.Due.{due}
 use Rattle.world_model.specs.Clock.{clock, base}
-use Rattle.world_model.specs.Conditions.{last_entry}
+use Rattle.world_model.specs.TaskConditions.{last_entry}
 use Rattle.world_model.specs.ClockLaws.{has_passed, clock_here, begins_turn, is_pass_on}
 use Rattle.world_model.proofs.OthersLeave.{due_own}
 use Rattle.world_model.proofs.SmallWords.{eq_self}

@@ -15,7 +15,7 @@ use Rattle.world_model.specs.Parts.{ops_of, phaser_past}
 use Rattle.world_model.specs.Actors.{actor}
 use Rattle.world_model.specs.Due.{due, is_entry, is_of_single, is_idle, or_single}
 use Rattle.world_model.specs.Clock.{clock, base}
-use Rattle.world_model.specs.Conditions.{last_entry}
+use Rattle.world_model.specs.TaskConditions.{last_entry}
 use Rattle.world_model.specs.ClockLaws.{has_passed, begins_turn, is_pass_on}
 use Rattle.world_model.proofs.MadeMeans.{IsNext}
 use Rattle.world_model.proofs.OthersLeave.{due_other, last_other, last_plain, due_own}

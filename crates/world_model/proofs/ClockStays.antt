@@ -22,7 +22,7 @@ use Rattle.world_model.specs.Tasks.{is_born, spawns, spawner}
 use Rattle.world_model.specs.Due.{due, is_entry, is_idle}
 use Rattle.world_model.specs.Clock.{clock, base}
 use Rattle.world_model.specs.Replies.{is_legal_world, is_accepted}
-use Rattle.world_model.specs.Conditions.{last_entry}
+use Rattle.world_model.specs.TaskConditions.{last_entry}
 use Rattle.world_model.specs.ClockLaws.{has_passed, begins_turn, is_pass_on, leads_to_end}
 use Rattle.world_model.proofs.MadeMeans.{part_made}
 use Rattle.world_model.proofs.AbleComputed.{idle_in_act}

@@ -16,7 +16,7 @@ use Rattle.world_model.specs.Actors.{actor}
 use Rattle.world_model.specs.Due.{due, fixed_by, is_behind, is_entry, is_of_single}
 use Rattle.world_model.specs.Replies.{is_accepted, is_legal_world}
 use Rattle.world_model.specs.Clock.{clock, is_turn}
-use Rattle.world_model.specs.Conditions.{last_entry}
+use Rattle.world_model.specs.TaskConditions.{last_entry}
 use Rattle.world_model.specs.ClockLaws.{begins_turn}
 use Rattle.world_model.proofs.SmallWords.{eq_self}
 use Rattle.world_model.proofs.MadeMeans.{last_accepted}

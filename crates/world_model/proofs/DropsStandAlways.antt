@@ -20,7 +20,7 @@ use Rattle.world_model.specs.Numbers.{is_named}
 use Rattle.world_model.specs.Actors.{actor}
 use Rattle.world_model.specs.Due.{due, fixed, ending, drops_due, unborn, is_entry, is_of_single}
 use Rattle.world_model.specs.Replies.{is_legal_world, is_accepted}
-use Rattle.world_model.specs.Conditions.{last_entry}
+use Rattle.world_model.specs.TaskConditions.{last_entry}
 use Rattle.world_model.proofs.AbleComputed.{idle_in_act, refuse_idle, made_done_where}
 use Rattle.world_model.proofs.DueHolds.{due_has}
 use Rattle.world_model.proofs.SpawnUnderWay.{names_fresh}

@@ -15,7 +15,7 @@ use Rattle.world_model.specs.Actors.{actor}
 use Rattle.world_model.specs.Due.{due, fixed, fixed_by, is_entry, is_of_single, passes_due, is_behind}
 use Rattle.world_model.specs.Clock.{is_turn}
 use Rattle.world_model.specs.Replies.{is_legal_world}
-use Rattle.world_model.specs.Conditions.{last_entry}
+use Rattle.world_model.specs.TaskConditions.{last_entry}
 use Rattle.world_model.specs.ClockLaws.{begins_turn, is_pass_on}
 use Rattle.phase_model.specs.Tasks.{is_live}
 use Rattle.world_model.proofs.MadeMeans.{last_accepted}

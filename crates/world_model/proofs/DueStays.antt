@@ -13,7 +13,7 @@ use Rattle.world_model.specs.Parts.{ops_of, phaser_past}
 use Rattle.world_model.specs.Actors.{actor}
 use Rattle.world_model.specs.Due.{due, fixed, is_entry, is_of_single, or_single}
 use Rattle.world_model.specs.Replies.{is_legal_world, is_accepted}
-use Rattle.world_model.specs.Conditions.{last_entry}
+use Rattle.world_model.specs.TaskConditions.{last_entry}
 use Rattle.world_model.proofs.MadeMeans.{last_accepted, IsNext}
 use Rattle.world_model.proofs.OthersLeave.{last_plain, due_own}
 use Rattle.world_model.proofs.NextIsDue.{First, first_due}

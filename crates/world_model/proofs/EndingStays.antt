@@ -16,7 +16,7 @@ use Rattle.world_model.specs.Numbers.{is_named}
 use Rattle.world_model.specs.Actors.{actor}
 use Rattle.world_model.specs.Due.{due, is_entry, is_of_single}
 use Rattle.world_model.specs.Replies.{is_legal_world, is_accepted}
-use Rattle.world_model.specs.Conditions.{last_entry}
+use Rattle.world_model.specs.TaskConditions.{last_entry}
 use Rattle.world_model.proofs.SpawnUnderWay.{names_fresh}
 use Rattle.world_model.proofs.PassesInTurns.{unborn_none}
 use Rattle.world_model.proofs.AbruptEnds.{nothing_due, later_ended}

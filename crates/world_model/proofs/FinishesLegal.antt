@@ -1,7 +1,7 @@
 -- The history of each finish of a legal world is legal.
 use Rattle.phase_modes.specs.Lists.{is_empty}
 use Rattle.std.proofs.Common.{◌≡◌, ℕ, Bool, true, false, ◌&&◌, ◌||◌, ◌==◌, not, cond, nat_lt, List, [], ◌∷◌, refl, subst, inl, inr}
-use Rattle.std.specs.Prelude.{Result, Ok}
+use Rattle.std.specs.Prelude.{Result, Ok, Err}
 use Rattle.std.proofs.lemmas.Bool.{and_from, cases_Bool, eqb-true}
 use Rattle.phase_modes.specs.declared.limits.Limits.{Limits}
 use Rattle.phase_modes.specs.declared.refusal.Refusal.{Refusal}
@@ -10,7 +10,8 @@ use Rattle.phase_modes.specs.Refusal.{first_refusal}
 use Rattle.finish_core.specs.declared.event.FinishEvent.{FinishEvent}
 use Rattle.finish_core.specs.declared.event.FinishEvent.TheVariants.{Opened, Spawned, Ended, Shut as Shutting}
 use Rattle.finish_core.specs.Finish.{is_allowed, is_legal_finish, is_open, is_spawned, has_ended, may_shut, all_ended}
-use Rattle.finish_core.specs.Answers.{done_unless, answer}
+use Rattle.finish_core.specs.Replies as finish
+use Rattle.finish_core.proofs.Legal.{done_is_allowed}
 use Rattle.world_model.specs.declared.event.Tried.TheVariants.{Open}
 use Rattle.world_model.specs.declared.event.WorldEvent.{WorldEvent}
 use Rattle.world_model.specs.declared.event.WorldEvent.TheVariants.{Finish}
@@ -18,37 +19,28 @@ use Rattle.world_model.specs.declared.reply.Reply.{Reply}
 use Rattle.world_model.specs.declared.reply.Reply.TheVariants.{NotYet}
 use Rattle.world_model.specs.Parts.{finish_past}
 use Rattle.world_model.specs.Replies.{is_accepted, is_legal_world, is_made}
-use Rattle.world_model.specs.Answers.{finish_answer, finish_reply}
+use Rattle.world_model.specs.PartReplies.{finish_returned, finish_reply}
 use Rattle.world_model.proofs.MadeMeans.{last_accepted, act_made, part_made}
 
--- one cause, and two, that don't stand
-one : (a : Bool) (r : Refusal) → is_made (finish_answer (done_unless (first_refusal ((r, not a) ∷ [])))) ≡ true → a ≡ true
-one true r k = refl
-one false r k = absurd cc
-
-two : (a b c : Bool) (r s : Refusal) → is_made (finish_answer (done_unless (first_refusal ((r, not a || b) ∷ (s, not c) ∷ [])))) ≡ true → (a && not b && c) ≡ true
-two true false true r s k = refl
-two true false false r s k = absurd cc
-two true true c r s k = absurd cc
-two false b c r s k = absurd cc
-
-one_or : (a b c : Bool) (r : Refusal) → is_made (finish_answer (done_unless (first_refusal ((r, not (a && b) || c) ∷ [])))) ≡ true → (a && b && not c) ≡ true
-one_or true true false r k = refl
-one_or true true true r k = absurd cc
-one_or true false c r k = absurd cc
-one_or false b c r k = absurd cc
+-- a finish's event that is made was done
+done_by : (r : Result (Unit {0}) Refusal) → is_made (finish_returned r) ≡ true → r ≡ Ok tt
+done_by (Ok u) k = refl
+done_by (Err r) k = absurd cc
 
 made_in : (b : Bool) (r : Result Reply Refusal) → is_made (cond b r (Ok NotYet)) ≡ true → is_made r ≡ true
 made_in true r k = k
 made_in false r k = absurd cc
 
 module _ (l : Limits) (w : List WorldEvent) (f : ℕ) where
+  by_reply : (e : FinishEvent) → is_made (finish_returned (finish.reply l.tasks (finish_past f w) e)) ≡ true → is_allowed l.tasks (finish_past f w) e ≡ true
+  by_reply e k = done_is_allowed l.tasks (finish_past f w) e (done_by (finish.reply l.tasks (finish_past f w) e) k)
+
   made_allowed : (e : FinishEvent) → is_made (finish_reply l w f e) ≡ true → is_allowed l.tasks (finish_past f w) e ≡ true
-  made_allowed (Opened t) k = one (is_empty (finish_past f w)) NotNow k
-  made_allowed (Spawned t) k = two (is_open (finish_past f w)) (is_spawned t (finish_past f w)) (nat_lt t l.tasks) NotNow TasksFull k
-  made_allowed (Ended t) k = one_or (is_open (finish_past f w)) (is_spawned t (finish_past f w)) (has_ended t (finish_past f w)) NotNow k
+  made_allowed (Opened t) k = by_reply (Opened t) k
+  made_allowed (Spawned t) k = by_reply (Spawned t) k
+  made_allowed (Ended t) k = by_reply (Ended t) k
   made_allowed Shutting k =
-      one (may_shut (finish_past f w)) NotNow (made_in (all_ended (finish_past f w)) (finish_answer (answer l.tasks (finish_past f w) Shutting)) k)
+      by_reply Shutting (made_in (all_ended (finish_past f w)) (finish_returned (finish.reply l.tasks (finish_past f w) Shutting)) k)
 
   -- an accepted event is one that the finish's history allows
   pub event_allowed : (e : FinishEvent) → is_accepted l w (Finish f e) ≡ true → is_allowed l.tasks (finish_past f w) e ≡ true

@@ -15,8 +15,8 @@ use Rattle.world_model.specs.Tasks.{home, spawns, is_born, is_ended, ends}
 use Rattle.world_model.specs.Scopes.{inner}
 use Rattle.world_model.specs.Due.{is_entry}
 use Rattle.world_model.specs.Replies.{is_legal_world, is_accepted}
-use Rattle.world_model.specs.Acts.{pair_causes}
-use Rattle.world_model.specs.Conditions.{last_entry}
+use Rattle.world_model.specs.Acts.{pair_conditions}
+use Rattle.world_model.specs.TaskConditions.{last_entry}
 use Rattle.world_model.proofs.MadeMeans.{last_accepted, no_refusal, begin_asked}
 use Rattle.world_model.proofs.OthersLeave.{last_plain}
 use Rattle.world_model.proofs.FinishesLegal.{finishes_legal}
@@ -96,11 +96,7 @@ spawn_fits l q c (e ∷ w) k s =
       | inr n ↦ spawn_fits l q c w a.1 (subst (λ o. begins_spawn c o ≡ true) (last_plain q e w n) s)
     ]
   where
-    unnot : (b : Bool) → not b ≡ false → b ≡ true
-    unnot true y = refl
-    unnot false y = absurd (true≢false y)
-
     at_entry : (d : WorldEvent) → is_accepted l w d ≡ true → begins_spawn c (Some d) ≡ true → nat_lt c l.tasks ≡ true
     at_entry (Begin u (Async x ps)) h y =
-        subst (λ v. nat_lt v l.tasks ≡ true) (eqb-true x c y) (unnot (nat_lt x l.tasks) (no_refusal TasksFull (not (nat_lt x l.tasks)) (pair_causes w u [] ps) (begin_asked l w u (Async x ps) h)).0)
+        subst (λ v. nat_lt v l.tasks ≡ true) (eqb-true x c y) (no_refusal TasksFull (nat_lt x l.tasks) (pair_conditions w u [] ps) (begin_asked l w u (Async x ps) h)).0
     at_entry d h y = absurd cc

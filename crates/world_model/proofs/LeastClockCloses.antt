@@ -14,7 +14,7 @@ use Rattle.world_model.specs.Parts.{ops_of, phaser_past}
 use Rattle.world_model.specs.Tasks.{is_born}
 use Rattle.world_model.specs.Clock.{clock, base}
 use Rattle.world_model.specs.Replies.{is_legal_world}
-use Rattle.world_model.specs.Conditions.{last_entry}
+use Rattle.world_model.specs.TaskConditions.{last_entry}
 use Rattle.world_model.specs.ClockLaws.{has_passed, leads_to_end}
 use Rattle.world_model.proofs.PhasersLegal.{phasers_legal}
 use Rattle.world_model.proofs.ClocksAgree.{clocks_agree}

@@ -21,7 +21,7 @@ use Rattle.world_model.specs.Tasks.{is_born}
 use Rattle.world_model.specs.Due.{due, is_behind}
 use Rattle.world_model.specs.Clock.{clock}
 use Rattle.world_model.specs.Replies.{is_legal_world}
-use Rattle.world_model.specs.Conditions.{last_entry}
+use Rattle.world_model.specs.TaskConditions.{last_entry}
 use Rattle.world_model.specs.ClockLaws.{begins_turn, has_passed, is_pass_on, leads_to_end}
 use Rattle.world_model.proofs.PhasersLegal.{phasers_legal}
 use Rattle.world_model.proofs.PassesInTurns.{is_any_pass, passless}

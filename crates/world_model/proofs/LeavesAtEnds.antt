@@ -21,7 +21,7 @@ use Rattle.world_model.specs.Scopes.{open_finishes, inner, owner}
 use Rattle.world_model.specs.Actors.{actor}
 use Rattle.world_model.specs.Due.{due, fixed, fixed_by, signals_due, passes_due, is_behind, is_entry, is_of_single}
 use Rattle.world_model.specs.Replies.{is_legal_world, is_accepted}
-use Rattle.world_model.specs.Conditions.{last_entry}
+use Rattle.world_model.specs.TaskConditions.{last_entry}
 use Rattle.world_model.proofs.MadeMeans.{last_accepted, part_made}
 use Rattle.world_model.proofs.AbleComputed.{idle_in_act, refuse_idle, made_done_where}
 use Rattle.world_model.proofs.OthersLeave.{last_plain, due_own}

@@ -15,7 +15,7 @@ use Rattle.world_model.specs.declared.event.WorldEvent.TheVariants.{Fail}
 use Rattle.world_model.specs.Tasks.{is_ended}
 use Rattle.world_model.specs.Actors.{actor}
 use Rattle.world_model.specs.Due.{due, next_event, or_single, is_idle}
-use Rattle.world_model.specs.Answers.{phaser_answer}
+use Rattle.world_model.specs.PartReplies.{returned}
 use Rattle.world_model.specs.Replies.{is_made, is_accepted}
 use Rattle.world_model.specs.GivingUp.{is_refused_by, is_reg, may_fail, done_where}
 use Rattle.world_model.specs.Continuing.{next_done, next_reply, same_event}
@@ -23,14 +23,14 @@ use Rattle.world_model.specs.Able.{is_able}
 use Rattle.world_model.proofs.AbleComputed.{able_is_computed}
 
 -- a phaser's event is made, whatever it is
-pub told_made : (h : List Event) (e : Event) → is_made (phaser_answer h (phaser.done e)) ≡ true
+pub told_made : (h : List Event) (e : Event) → is_made (returned h (phaser.done e)) ≡ true
 told_made h (Passed t) = refl
 told_made h (Looked t a x) = refl
 told_made h e = refl
 
 -- a call without a cause that doesn't wait is done, or has no room
 pub made_or_full : (h : List Event) (o : Option Refusal) (waiting room : Bool) (e : Event) → o ≡ None → waiting ≡ false
-    → (is_made (phaser_answer h (settled o waiting room e)) ≡ true) ⊎ (is_refused_by 15 (phaser_answer h (settled o waiting room e)) ≡ true)
+    → (is_made (returned h (settled o waiting room e)) ≡ true) ⊎ (is_refused_by 15 (returned h (settled o waiting room e)) ≡ true)
 made_or_full h o waiting true e n v = inl (rw (n, v) (told_made h e))
 made_or_full h o waiting false e n v = inr (rw (n, v) refl)
 

@@ -14,7 +14,7 @@ use Rattle.world_model.specs.Tasks.{home, phasers_of}
 use Rattle.world_model.specs.Scopes.{inner, enclosing, open_finishes}
 use Rattle.world_model.specs.Due.{due, fixed, fixed_by, ending, drops_due, unborn, is_entry}
 use Rattle.world_model.specs.Replies.{is_legal_world}
-use Rattle.world_model.specs.Conditions.{last_entry}
+use Rattle.world_model.specs.TaskConditions.{last_entry}
 use Rattle.world_model.proofs.DueHolds.{due_has}
 use Rattle.world_model.proofs.LeavesAtEnds.{none_in_map, none_in_both, none_in_drop}
 use Rattle.world_model.proofs.SignalsComeFirst.{moves_act}

@@ -17,7 +17,7 @@ use Rattle.world_model.specs.Actors.{actor}
 use Rattle.world_model.specs.Due.{due, fixed, fixed_by, ending, unborn, is_entry, next_event, or_single, signals_due, passes_due, drops_due, is_behind}
 use Rattle.world_model.specs.Replies.{is_legal_world}
 use Rattle.world_model.specs.Continuing.{same_event}
-use Rattle.world_model.specs.Conditions.{last_entry}
+use Rattle.world_model.specs.TaskConditions.{last_entry}
 use Rattle.world_model.proofs.MadeMeans.{IsNext}
 use Rattle.world_model.proofs.AbleComputed.{same_events, found}
 use Rattle.world_model.proofs.DueHolds.{due_has}

@@ -12,13 +12,17 @@ use Rattle.phase_modes.specs.Refusal.{first_refusal}
 use Rattle.phase_model.specs.declared.event.Event.{Event}
 use Rattle.phase_model.specs.declared.event.Event.TheVariants.{Reg as Registered, Sig as Signalled, Claim as Claimed, Did as Done}
 use Rattle.phase_model.specs.Tasks.{is_registered, is_live, live_count}
-use Rattle.phase_model.specs.Rules.{is_permitted, is_within_task, has_room}
+use Rattle.phase_model.specs.Conditions.{is_within_task}
+use Rattle.phase_model.specs.Rules.{is_permitted, has_room}
 use Rattle.phase_model.specs.Replies as phaser
-use Rattle.phase_model.specs.Replies.{settled, pass}
+use Rattle.phase_model.specs.declared.call.Call.TheVariants.{Signal as signal}
+use Rattle.phase_model.specs.Conditions.{conditions}
+use Rattle.phase_model.specs.declared.call.Call.TheVariants.{Pass as pass}
+use Rattle.phase_model.specs.Replies.{settled}
 use Rattle.phase_model.proofs.LiveTasks.{has}
 use Rattle.finish_core.specs.declared.event.FinishEvent.TheVariants.{Spawned, Ended, Shut as Shutting}
 use Rattle.finish_core.specs.Finish.{is_open, all_ended}
-use Rattle.finish_core.specs.Answers.{done_unless}
+use Rattle.finish_core.specs.Replies.{done_unless}
 use Rattle.world_model.specs.declared.event.Step.TheVariants.{Reg, Sig, Claim, Did, Pass, Drop}
 use Rattle.world_model.specs.declared.event.WorldEvent.{WorldEvent}
 use Rattle.world_model.specs.declared.event.WorldEvent.TheVariants.{Phaser, Finish}
@@ -29,10 +33,10 @@ use Rattle.world_model.specs.Tasks.{home, is_born, is_ended}
 use Rattle.world_model.specs.Scopes.{inner, owner, open_finishes, enclosing}
 use Rattle.world_model.specs.Actors.{actor}
 use Rattle.world_model.specs.Due.{due, before_pass, or_single}
-use Rattle.world_model.specs.Answers.{phaser_answer, finish_answer, finish_reply}
+use Rattle.world_model.specs.PartReplies.{returned, finish_returned, finish_reply}
 use Rattle.world_model.specs.Replies.{is_made, is_legal_world}
 use Rattle.world_model.specs.Continuing.{next_done}
-use Rattle.world_model.specs.Conditions.{last_entry}
+use Rattle.world_model.specs.TaskConditions.{last_entry}
 use Rattle.world_model.specs.ProgressLaws.{is_expected, NextsAreExpected}
 use Rattle.world_model.proofs.SpawnUnderWay.{begins_spawn, is_spawn_list, spawn_due, named_by_spawn}
 use Rattle.world_model.proofs.AgentOfTask.{unborn_idle}
@@ -55,9 +59,9 @@ made_expected (Ok x) k = refl
 made_expected (Err r) k = absurd (false≢true k)
 
 -- a call without a cause is done, or has to wait, or has no room
-room_expected : (h : List Event) (o : Option Refusal) (waiting room : Bool) (e : Event) → o ≡ None → is_expected (phaser_answer h (settled o waiting room e)) ≡ true
+room_expected : (h : List Event) (o : Option Refusal) (waiting room : Bool) (e : Event) → o ≡ None → is_expected (returned h (settled o waiting room e)) ≡ true
 room_expected h o true room e n = rw n refl
-room_expected h o false true e n = rw n (made_expected (phaser_answer h (phaser.done e)) (told_made h e))
+room_expected h o false true e n = rw n (made_expected (returned h (phaser.done e)) (told_made h e))
 room_expected h o false false e n = rw n refl
 
 module _ (l : Limits) (w : List WorldEvent) (k : is_legal_world l w ≡ true) (t : ℕ) (born : is_born t w ≡ true) (going : is_ended t w ≡ false) where
@@ -77,7 +81,7 @@ module _ (l : Limits) (w : List WorldEvent) (k : is_legal_world l w ≡ true) (t
       (refl, by (is_live t h) (is_within_task m t h) (nat_lt c l.tasks) (is_registered c h) (nat_lt (live_count h) l.regs) (has_room l (Registered t c m ∷ h)) p1.0 p1.1 (spawn_fits l t c w k s) (not-true (is_registered c h) p3.1))
     where
       by : (a b d e f room : Bool) → a ≡ true → b ≡ true → d ≡ true → e ≡ false
-          → is_expected (phaser_answer (phaser_past n w) (settled (first_refusal ((NotRegistered, not a) ∷ (MoreThanParent, not b) ∷ (TasksFull, not d) ∷ (RegisteredTwice, e) ∷ (RegsFull, not f) ∷ [])) false room (Registered t c m))) ≡ true
+          → is_expected (returned (phaser_past n w) (settled (first_refusal ((NotRegistered, a) ∷ (MoreThanParent, b) ∷ (TasksFull, d) ∷ (RegisteredTwice, not e) ∷ (RegsFull, f) ∷ [])) false room (Registered t c m))) ≡ true
       by a b d e true true x y z u = rw (x, y, z, u) refl
       by a b d e true false x y z u = rw (x, y, z, u) refl
       by a b d e false room x y z u = rw (x, y, z, u) refl
@@ -111,7 +115,7 @@ module _ (l : Limits) (w : List WorldEvent) (k : is_legal_world l w ≡ true) (t
           let h = phaser_past n w in
           let p = pass_stands l w k t born going n ds s here in
           let event = phaser.event_for l (ops_of n w) h (pass t) in
-          room_expected h (first_refusal (phaser.causes l (ops_of n w) h (pass t))) (phaser.must_wait l (ops_of n w) h (pass t)) (has_room l (event ∷ h)) event (pass_causeless l w k t born going n p.0 p.1)
+          room_expected h (first_refusal (conditions l (ops_of n w) h (pass t))) (phaser.must_wait l (ops_of n w) h (pass t)) (has_room l (event ∷ h)) event (pass_causeless l w k t born going n p.0 p.1)
 
       by : (b c : Bool) → (b ≡ true → is_expected (next_done l w (Phaser n (Claim t))) ≡ true) → (c ≡ true → is_expected (next_done l w (Phaser n (Did t))) ≡ true)
           → IsExpected (cond b (Phaser n (Claim t)) (cond c (Phaser n (Did t)) (Phaser n (Pass t))))
@@ -125,8 +129,8 @@ module _ (l : Limits) (w : List WorldEvent) (k : is_legal_world l w ≡ true) (t
       let room = has_room l (Signalled t x ∷ h) in (
         refl,
         elim (sig_causes l w k t born going n x ds s here) [
-          | inl agreed ↦ room_expected h (first_refusal (phaser.causes l (ops_of n w) h (phaser.signal t x))) false room (Signalled t x) agreed
-          | inr mismatch ↦ ap (λ o. is_expected (phaser_answer h (settled o false room (Signalled t x)))) mismatch
+          | inl agreed ↦ room_expected h (first_refusal (conditions l (ops_of n w) h (signal t x))) false room (Signalled t x) agreed
+          | inr mismatch ↦ ap (λ o. is_expected (returned h (settled o false room (Signalled t x)))) mismatch
         ],
       )
 
@@ -143,7 +147,7 @@ module _ (l : Limits) (w : List WorldEvent) (k : is_legal_world l w ≡ true) (t
   of_shut : (f : ℕ) → owner f w ≡ t → is_open (finish_past f w) ≡ true → IsExpected (Finish f Shutting)
   of_shut f by opened = (by, answered (is_open (finish_past f w)) (all_ended (finish_past f w)) opened)
     where
-      answered : (a b : Bool) → a ≡ true → is_expected (cond b (finish_answer (done_unless (first_refusal ((NotNow, not (a && b)) ∷ [])))) (Ok NotYet)) ≡ true
+      answered : (a b : Bool) → a ≡ true → is_expected (cond b (finish_returned (done_unless (first_refusal ((NotNow, a && b) ∷ [])))) (Ok NotYet)) ≡ true
       answered a true x = rw x refl
       answered a false x = refl
 

@@ -15,7 +15,7 @@ use Rattle.world_model.specs.Tasks.{spawner, spawns, is_born, is_ended}
 use Rattle.world_model.specs.Clock.{clock}
 use Rattle.world_model.specs.Replies.{is_legal_world}
 use Rattle.world_model.specs.Able.{is_able, born_by, tasks}
-use Rattle.world_model.specs.Conditions.{last_entry}
+use Rattle.world_model.specs.TaskConditions.{last_entry}
 use Rattle.world_model.specs.ClockLaws.{leads_to_end}
 use Rattle.world_model.proofs.SpawnUnderWay.{begins_spawn}
 use Rattle.world_model.proofs.AbruptEnds.{half_spawned}

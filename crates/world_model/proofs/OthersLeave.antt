@@ -9,7 +9,7 @@ use Rattle.world_model.specs.Tasks.{spawns}
 use Rattle.world_model.specs.Actors.{actor}
 use Rattle.world_model.specs.Due.{due, is_entry, is_of_single}
 use Rattle.world_model.specs.Clock.{clock}
-use Rattle.world_model.specs.Conditions.{last_entry}
+use Rattle.world_model.specs.TaskConditions.{last_entry}
 
 -- an entry is made by the task whose log it is in
 entry_other : (t : ℕ) (e : WorldEvent) (w : List WorldEvent) → (actor w e == t) ≡ false → is_entry t e ≡ false

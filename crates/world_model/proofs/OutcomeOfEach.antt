@@ -19,7 +19,7 @@ use Rattle.phase_model.proofs.SingleReplies.{singles_have_room}
 use Rattle.phase_model.proofs.OwnPhase.{owes_nothing_is}
 use Rattle.finish_core.specs.declared.event.FinishEvent.TheVariants.{Ended, Shut as Shutting}
 use Rattle.finish_core.specs.Finish.{is_open, is_spawned, has_ended, all_ended}
-use Rattle.finish_core.specs.Answers.{done_unless}
+use Rattle.finish_core.specs.Replies.{done_unless}
 use Rattle.world_model.specs.declared.event.Step.TheVariants.{Sig, Pass, Drop}
 use Rattle.world_model.specs.declared.event.Begun.TheVariants.{Async, Signal, Wait, Next, NextSingle, Shut, End}
 use Rattle.world_model.specs.declared.event.WorldEvent.{WorldEvent}
@@ -30,10 +30,10 @@ use Rattle.world_model.specs.Parts.{ops_of, phaser_past, finish_past}
 use Rattle.world_model.specs.Tasks.{home, spawner, is_born, is_ended}
 use Rattle.world_model.specs.Scopes.{inner, owner, open_finishes}
 use Rattle.world_model.specs.Due.{due, is_entry, fixed}
-use Rattle.world_model.specs.Answers.{phaser_answer, finish_answer, finish_reply, phaser_reply}
+use Rattle.world_model.specs.PartReplies.{returned, finish_returned, finish_reply, phaser_reply}
 use Rattle.world_model.specs.Replies.{is_made, is_legal_world}
 use Rattle.world_model.specs.Able.{is_able}
-use Rattle.world_model.specs.Conditions.{last_entry}
+use Rattle.world_model.specs.TaskConditions.{last_entry}
 use Rattle.world_model.proofs.PhasersLegal.{phasers_legal}
 use Rattle.world_model.proofs.DueHolds.{due_has}
 use Rattle.world_model.proofs.SpawnUnderWay.{begins_spawn, is_spawn_list, spawn_due}
@@ -92,7 +92,7 @@ module _ (l : Limits) (w : List WorldEvent) (k : is_legal_world l w ≡ true) (t
       (p.0, answered h (is_live u h) (owes_nothing u h) (has_room l (Dropped u ∷ h)) p.1 nothing room)
     where
       answered : (h : List Event) (a b room : Bool) → a ≡ true → b ≡ true → room ≡ true
-          → is_made (phaser_answer h (settled (cond (not a) (Some NotRegistered) (cond (not b) (Some NotNow) None)) false room (Dropped u))) ≡ true
+          → is_made (returned h (settled (cond a (cond b None (Some NotNow)) (Some NotRegistered)) false room (Dropped u))) ≡ true
       answered h a b room x y z = rw (x, y, z) refl
 
   of_drop : (u n : ℕ) (ds : List WorldEvent) → leaves_act (last_entry t w) ≡ true → due t w ≡ Phaser n (Drop u) ∷ ds → is_able l w t ≡ true
@@ -112,7 +112,7 @@ module _ (l : Limits) (w : List WorldEvent) (k : is_legal_world l w ≡ true) (t
             inl (able_by l w t going e by (part_accepted l w t going e (and_from (f == f) true (eq-eqb f f refl) refl) by (next_is l w t going e ds here) made))
       ]
     where
-      answered : (a b : Bool) → a ≡ true → b ≡ true → is_made (cond b (finish_answer (done_unless (first_refusal ((NotNow, not (a && b)) ∷ [])))) (Ok NotYet)) ≡ true
+      answered : (a b : Bool) → a ≡ true → b ≡ true → is_made (cond b (finish_returned (done_unless (first_refusal ((NotNow, a && b) ∷ [])))) (Ok NotYet)) ≡ true
       answered a b x y = rw (x, y) refl
 
   -- its end in its home is made
@@ -123,7 +123,7 @@ module _ (l : Limits) (w : List WorldEvent) (k : is_legal_world l w ≡ true) (t
       let running : has_ended t h ≡ false = false_from_ne_true (has_ended t h) (λ y. true≢false (sym (ended_in t f w y) ∙ going)) in
       answered (is_open h) (is_spawned t h) (has_ended t h) (home_open l w k t born going) (home_spawned l w k t born z) running
     where
-      answered : (a b c : Bool) → a ≡ true → b ≡ true → c ≡ false → is_made (finish_answer (done_unless (first_refusal ((NotNow, not (a && b) || c) ∷ [])))) ≡ true
+      answered : (a b c : Bool) → a ≡ true → b ≡ true → c ≡ false → is_made (finish_returned (done_unless (first_refusal ((NotNow, a) ∷ (NotNow, b) ∷ (NotNow, not c) ∷ [])))) ≡ true
       answered a b c x y v = rw (x, y, v) refl
 
   of_end : (ds : List WorldEvent) → due t w ≡ Finish (home t w) (Ended t) ∷ ds → (t == 0) ≡ false → is_able l w t ≡ true

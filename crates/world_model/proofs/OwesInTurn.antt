@@ -14,7 +14,8 @@ use Rattle.phase_model.specs.Phases.{waits, signals}
 use Rattle.phase_model.specs.Singles.{has_proposed, has_claimed, is_done, is_settled}
 use Rattle.phase_model.specs.Rules.{is_permitted, has_room}
 use Rattle.phase_model.specs.Replies as phaser
-use Rattle.phase_model.specs.Replies.{settled, pass, single_done}
+use Rattle.phase_model.specs.declared.call.Call.TheVariants.{Pass as pass, SingleDone as single_done}
+use Rattle.phase_model.specs.Replies.{settled}
 use Rattle.phase_model.proofs.Legal.{pass_follows}
 use Rattle.phase_model.proofs.SingleRules.{did_follows}
 use Rattle.phase_model.proofs.SingleReplies.{singles_are_answered}
@@ -27,11 +28,11 @@ use Rattle.world_model.specs.declared.event.WorldEvent.TheVariants.{Phaser, Fini
 use Rattle.world_model.specs.Parts.{ops_of, phaser_past, event_for, story_of}
 use Rattle.world_model.specs.Actors.{actor}
 use Rattle.world_model.specs.Due.{due, is_entry, is_of_single, before_pass, next_event, or_single, is_idle}
-use Rattle.world_model.specs.Answers.{phaser_answer, phaser_reply}
+use Rattle.world_model.specs.PartReplies.{returned, phaser_reply}
 use Rattle.world_model.specs.Continuing.{next_done}
 use Rattle.world_model.specs.GivingUp.{is_refused_by, is_reg, may_fail}
 use Rattle.world_model.specs.Replies.{is_legal_world, is_accepted}
-use Rattle.world_model.specs.Conditions.{last_entry}
+use Rattle.world_model.specs.TaskConditions.{last_entry}
 use Rattle.world_model.proofs.MadeMeans.{last_accepted, part_made}
 use Rattle.world_model.proofs.AbleComputed.{idle_in_act, refuse_idle, made_done_where}
 use Rattle.world_model.proofs.OthersLeave.{last_plain}
@@ -43,7 +44,7 @@ use Rattle.world_model.proofs.MovesInTurns.{move_act}
 use Rattle.world_model.proofs.SmallWords.{head_same}
 
 -- what a call is answered whose causes don't stand, where there is room
-told_done : (h : List Event) (e : Event) (n : ℕ) → is_refused_by n (phaser_answer h (phaser.done e)) ≡ false
+told_done : (h : List Event) (e : Event) (n : ℕ) → is_refused_by n (returned h (phaser.done e)) ≡ false
 told_done h (Passed t) n = refl
 told_done h (Looked t a x) n = refl
 told_done h e n = refl
@@ -64,7 +65,7 @@ module _ (l : Limits) (w : List WorldEvent) (k : is_legal_world l w ≡ true) (n
 
   claim_answer : (x : ℕ) → is_permitted l (ops_of n w) (phaser_past n w) (Claimed t) ≡ true → is_refused_by x (phaser_reply l w n (Claim t)) ≡ false
   claim_answer x y =
-      subst (λ r. is_refused_by x (phaser_answer (phaser_past n w) r) ≡ false) (sym ((singles_are_answered (story_of l n w) (phasers_legal l w k n) t).0 y)) refl
+      subst (λ r. is_refused_by x (returned (phaser_past n w) r) ≡ false) (sym ((singles_are_answered (story_of l n w) (phasers_legal l w k n) t).0 y)) refl
 
   did_answer : (x : ℕ) → is_permitted l (ops_of n w) (phaser_past n w) (Done t) ≡ true → is_refused_by x (phaser_reply l w n (Did t)) ≡ false
   did_answer x y =
@@ -74,7 +75,7 @@ module _ (l : Limits) (w : List WorldEvent) (k : is_legal_world l w ≡ true) (n
       answered (is_live t h) (has_claimed t (waits t h) h) (is_done (waits t h) h) (has_room l (Done t ∷ h)) f.live f.claimed f.undone room
     where
       answered : (a b c room : Bool) → a ≡ true → b ≡ true → c ≡ false → room ≡ true
-          → is_refused_by x (phaser_answer (phaser_past n w) (settled (cond (not a) (Some NotRegistered) (cond (not (b && not c)) (Some NotNow) None)) false room (Done t))) ≡ false
+          → is_refused_by x (returned (phaser_past n w) (settled (cond a (cond b (cond (not c) None (Some NotNow)) (Some NotNow)) (Some NotRegistered)) false room (Done t))) ≡ false
       answered a b c room p q r s = rw (p, q, r, s) refl
 
   pass_answer : (x : ℕ) → is_permitted l (ops_of n w) (phaser_past n w) (Claimed t) ≡ false → ((x == 7) || (x == 15)) ≡ true → is_refused_by x (phaser_reply l w n (Pass t)) ≡ false
@@ -82,7 +83,7 @@ module _ (l : Limits) (w : List WorldEvent) (k : is_legal_world l w ≡ true) (n
       let h = phaser_past n w in
       let e = phaser.event_for l (ops_of n w) h (pass t) in
       let no_pass : is_permitted l (ops_of n w) h (Passed t) ≡ false = false_from_ne_true (is_permitted l (ops_of n w) h (Passed t)) may_not_pass in
-      answered (not (is_live t h)) (has_mode can_signal t h && not (signals t h == waits t h + 1)) (has_mode can_wait t h) (is_permitted l (ops_of n w) h (Passed t)) (is_permitted l (ops_of n w) h (Claimed t))
+      answered (is_live t h) (not (has_mode can_signal t h) || (signals t h == waits t h + 1)) (has_mode can_wait t h) (is_permitted l (ops_of n w) h (Passed t)) (is_permitted l (ops_of n w) h (Claimed t))
       (has_room l (e ∷ h)) e (single_waits t h stands.single) no_pass c
     where
       number : (r : ℕ) → (r == 7) ≡ false → (r == 15) ≡ false → (r == x) ≡ false
@@ -95,10 +96,10 @@ module _ (l : Limits) (w : List WorldEvent) (k : is_legal_world l w ≡ true) (n
           ])
 
       answered : (a b c p q room : Bool) (e : Event) → c ≡ true → p ≡ false → q ≡ false
-          → is_refused_by x (phaser_answer (phaser_past n w) (settled (cond a (Some NotRegistered) (cond b (Some NotSignalled) None)) (c && not p && not q) room e)) ≡ false
-      answered true b c p q room e y z v = number 1 refl refl
-      answered false true c p q room e y z v = number 6 refl refl
-      answered false false c p q room e y z v = rw (y, z, v) refl
+          → is_refused_by x (returned (phaser_past n w) (settled (cond a (cond b None (Some NotSignalled)) (Some NotRegistered)) (c && not p && not q) room e)) ≡ false
+      answered false b c p q room e y z v = number 1 refl refl
+      answered true false c p q room e y z v = number 6 refl refl
+      answered true true c p q room e y z v = rw (y, z, v) refl
 
   before_answer : (x : ℕ) → ((x == 7) || (x == 15)) ≡ true → is_refused_by x (next_done l w (before_pass l n t w)) ≡ false
   before_answer x s =

@@ -8,7 +8,7 @@ use Rattle.phase_modes.specs.declared.refusal.Refusal.{Refusal}
 use Rattle.phase_modes.specs.Refusal.{first_refusal}
 use Rattle.phase_model.specs.declared.event.Event.{Event}
 use Rattle.phase_model.specs.Tasks.{is_registered, is_live}
-use Rattle.phase_model.specs.Rules.{is_within_task}
+use Rattle.phase_model.specs.Conditions.{is_within_task}
 use Rattle.phase_model.proofs.LiveTasks.{has}
 use Rattle.finish_core.specs.declared.event.FinishEvent.TheVariants.{Spawned}
 use Rattle.world_model.specs.declared.event.Step.TheVariants.{Reg}
@@ -16,7 +16,7 @@ use Rattle.world_model.specs.declared.event.WorldEvent.{WorldEvent}
 use Rattle.world_model.specs.declared.event.WorldEvent.TheVariants.{Phaser, Finish}
 use Rattle.world_model.specs.Parts.{phaser_past}
 use Rattle.world_model.specs.Scopes.{inner, enclosing}
-use Rattle.world_model.specs.Acts.{pair_causes}
+use Rattle.world_model.specs.Acts.{pair_conditions}
 
 -- a due registration of c by q can be made, and its spawn is in q's innermost finish
 abbrev pub may_join : ℕ → ℕ → List WorldEvent → WorldEvent → Bool
@@ -54,16 +54,16 @@ pub record PairStands (w : List WorldEvent) (t : ℕ) (named : List ℕ) (p : Pa
   pub within : is_within_task p.mode t (phaser_past p.phaser w) ≡ true
   pub scope : (enclosing p.phaser w == inner t w) ≡ true
   pub new : has p.phaser named ≡ false
-  pub rest : first_refusal (pair_causes w t (p.phaser ∷ named) ps) ≡ None
+  pub rest : first_refusal (pair_conditions w t (p.phaser ∷ named) ps) ≡ None
 
-pub pair_stands : (w : List WorldEvent) (t : ℕ) (named : List ℕ) (p : Pair) (ps : List Pair) → first_refusal (pair_causes w t named (p ∷ ps)) ≡ None → PairStands w t named p ps
+pub pair_stands : (w : List WorldEvent) (t : ℕ) (named : List ℕ) (p : Pair) (ps : List Pair) → first_refusal (pair_conditions w t named (p ∷ ps)) ≡ None → PairStands w t named p ps
 pair_stands w t named p ps k =
-    let o = first_refusal (pair_causes w t (p.phaser ∷ named) ps) in
+    let o = first_refusal (pair_conditions w t (p.phaser ∷ named) ps) in
     let h = phaser_past p.phaser w in
     let f = four (is_live t h) (is_within_task p.mode t h) (enclosing p.phaser w == inner t w) (has p.phaser named) o _ _ _ _ k in
     record { live = f.0; within = f.1; scope = f.2; new = f.3; rest = f.4 }
   where
-    four : (a b c d : Bool) (o : Option Refusal) (r s u v : Refusal) → cond (not a) (Some r) (cond (not b) (Some s) (cond (not c) (Some u) (cond d (Some v) o))) ≡ None
+    four : (a b c d : Bool) (o : Option Refusal) (r s u v : Refusal) → cond a (cond b (cond c (cond (not d) o (Some v)) (Some u)) (Some s)) (Some r) ≡ None
         → (a ≡ true) × (b ≡ true) × (c ≡ true) × (d ≡ false) × (o ≡ None)
     four true true true false o r s u v k = (refl, refl, refl, refl, k)
     four true true true true o r s u v k = absurd cc
@@ -75,7 +75,7 @@ abbrev pub joining : ℕ → ℕ → ℕ → List Pair → List WorldEvent
 joining q c f ps = map (λ p. Phaser p.phaser (Reg q c p.mode)) ps ++ Finish f (Spawned c) ∷ []
 
 module _ (w : List WorldEvent) (q c : ℕ) (fresh : (n : ℕ) → is_registered c (phaser_past n w) ≡ false) where
-  pub pairs_join : (named : List ℕ) (ps : List Pair) → first_refusal (pair_causes w q named ps) ≡ None → list_all (may_join q c w) (joining q c (inner q w) ps) ≡ true
+  pub pairs_join : (named : List ℕ) (ps : List Pair) → first_refusal (pair_conditions w q named ps) ≡ None → list_all (may_join q c w) (joining q c (inner q w) ps) ≡ true
   pairs_join named [] k = and_from (inner q w == inner q w) true (eq-eqb (inner q w) (inner q w) refl) refl
   pairs_join named (p ∷ ps) k =
       let s = pair_stands w q named p ps k in
@@ -86,7 +86,7 @@ module _ (w : List WorldEvent) (q c : ℕ) (fresh : (n : ℕ) → is_registered 
       (and_from (is_live q h && is_within_task p.mode q h && (enclosing p.phaser w == inner q w)) (not (is_registered c h)) abc ok) (pairs_join (p.phaser ∷ named) ps s.rest)
 
   -- a phaser that was named isn't named again
-  not_again : (n : ℕ) (named : List ℕ) (ps : List Pair) → has n named ≡ true → first_refusal (pair_causes w q named ps) ≡ None → list_any (registers_on n) (joining q c (inner q w) ps) ≡ false
+  not_again : (n : ℕ) (named : List ℕ) (ps : List Pair) → has n named ≡ true → first_refusal (pair_conditions w q named ps) ≡ None → list_any (registers_on n) (joining q c (inner q w) ps) ≡ false
   not_again n named [] h k = refl
   not_again n named (p ∷ ps) h k =
       let s = pair_stands w q named p ps k in
@@ -94,7 +94,7 @@ module _ (w : List WorldEvent) (q c : ℕ) (fresh : (n : ℕ) → is_registered 
       (false_from_ne_true (p.phaser == n) (λ e. true≢false (sym h ∙ subst (λ v. has v named ≡ false) (eqb-true p.phaser n e) s.new)))
       (not_again n (p.phaser ∷ named) ps (or_right (p.phaser == n) (has n named) h) s.rest)
 
-  pub pairs_apart : (named : List ℕ) (ps : List Pair) → first_refusal (pair_causes w q named ps) ≡ None → joins_apart (joining q c (inner q w) ps) ≡ true
+  pub pairs_apart : (named : List ℕ) (ps : List Pair) → first_refusal (pair_conditions w q named ps) ≡ None → joins_apart (joining q c (inner q w) ps) ≡ true
   pairs_apart named [] k = refl
   pairs_apart named (p ∷ ps) k =
       let s = pair_stands w q named p ps k in

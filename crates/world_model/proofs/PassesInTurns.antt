@@ -27,7 +27,7 @@ use Rattle.world_model.specs.Clock.{is_turn}
 use Rattle.world_model.specs.Replies.{is_legal_world, is_accepted}
 use Rattle.world_model.specs.GivingUp.{may_fail, is_refused_by, is_reg}
 use Rattle.world_model.specs.Continuing.{next_done}
-use Rattle.world_model.specs.Conditions.{last_entry}
+use Rattle.world_model.specs.TaskConditions.{last_entry}
 use Rattle.world_model.specs.ClockLaws.{begins_turn}
 use Rattle.world_model.proofs.MadeMeans.{last_accepted, part_made}
 use Rattle.world_model.proofs.AbleComputed.{idle_in_act, refuse_idle, made_done_where}

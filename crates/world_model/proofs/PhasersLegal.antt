@@ -22,7 +22,7 @@ use Rattle.world_model.specs.Parts.{ops_of, phaser_past, event_for, story_of}
 use Rattle.world_model.specs.Due.{due, or_single}
 use Rattle.world_model.specs.Replies.{is_accepted, is_legal_world, is_made}
 use Rattle.world_model.specs.Continuing.{same_event, next_reply}
-use Rattle.world_model.specs.Answers.{phaser_reply, call_for}
+use Rattle.world_model.specs.PartReplies.{phaser_reply, call_for}
 use Rattle.world_model.proofs.MadeMeans.{last_accepted, call_allowed, act_made, part_made, IsNext}
 use Rattle.world_model.proofs.SinglesComeFirst.{plain_due, plain_first, is_plain}
 

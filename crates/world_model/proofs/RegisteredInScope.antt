@@ -8,7 +8,8 @@ use Rattle.phase_modes.specs.declared.limits.Limits.{Limits}
 use Rattle.phase_model.specs.declared.event.Event.{Event}
 use Rattle.phase_model.specs.declared.event.Event.TheVariants.{Make as Made, Reg as Registered}
 use Rattle.phase_model.specs.Tasks.{registers, is_registered, is_live}
-use Rattle.phase_model.specs.Rules.{is_permitted, has_room, is_within_task}
+use Rattle.phase_model.specs.Conditions.{is_within_task}
+use Rattle.phase_model.specs.Rules.{is_permitted, has_room}
 use Rattle.phase_model.proofs.Legal.{reg_follows}
 use Rattle.finish_core.specs.declared.event.FinishEvent.TheVariants.{Spawned}
 use Rattle.world_model.specs.declared.event.Step.TheVariants.{Make, Reg}

@@ -8,7 +8,7 @@ use Rattle.phase_modes.specs.declared.limits.Limits.{Limits}
 use Rattle.phase_modes.specs.declared.phased.Pair.{Pair}
 use Rattle.phase_modes.specs.declared.refusal.Refusal.TheVariants.{TasksFull}
 use Rattle.phase_model.specs.Tasks.{is_registered, is_live}
-use Rattle.phase_model.specs.Rules.{is_within_task}
+use Rattle.phase_model.specs.Conditions.{is_within_task}
 use Rattle.phase_model.proofs.Closing.{some_live}
 use Rattle.finish_core.specs.declared.event.FinishEvent.TheVariants.{Spawned}
 use Rattle.world_model.specs.declared.event.Step.TheVariants.{Make, Reg, Claim, Did}
@@ -22,8 +22,8 @@ use Rattle.world_model.specs.Tasks.{is_born}
 use Rattle.world_model.specs.Actors.{actor}
 use Rattle.world_model.specs.Due.{due, fixed, is_entry, is_of_single}
 use Rattle.world_model.specs.Replies.{is_legal_world, is_accepted}
-use Rattle.world_model.specs.Acts.{pair_causes}
-use Rattle.world_model.specs.Conditions.{last_entry}
+use Rattle.world_model.specs.Acts.{pair_conditions}
+use Rattle.world_model.specs.TaskConditions.{last_entry}
 use Rattle.world_model.proofs.MadeMeans.{no_refusal, begin_asked}
 use Rattle.world_model.proofs.PhasersLegal.{new_past}
 use Rattle.world_model.proofs.SpawnUnderWay.{begins_spawn, is_spawn_list, spawn_due, names_fresh, named_by_spawn}
@@ -51,7 +51,7 @@ unregistered l w u x ps k a n = false_from_ne_true (is_registered x (phaser_past
 module _ (l : Limits) (q c : ℕ) where
   entry_joins : (e : WorldEvent) (w : List WorldEvent) → is_legal_world l w ≡ true → is_accepted l w e ≡ true → is_entry q e ≡ true → begins_spawn c (Some e) ≡ true → MayJoin q c (e ∷ w) (fixed e w)
   entry_joins (Begin u (Async x ps)) w k a n s =
-      let asked = (no_refusal TasksFull (not (nat_lt x l.tasks)) (pair_causes w u [] ps) (begin_asked l w u (Async x ps) a)).1 in
+      let asked = (no_refusal TasksFull (nat_lt x l.tasks) (pair_conditions w u [] ps) (begin_asked l w u (Async x ps) a)).1 in
       let fresh = unregistered l w u x ps k a in
       subst (λ v. MayJoin v c (Begin u (Async x ps) ∷ w) (joining u x (inner u w) ps)) (eqb-true u q n)
       (subst (λ v. MayJoin u v (Begin u (Async x ps) ∷ w) (joining u x (inner u w) ps)) (eqb-true x c s)

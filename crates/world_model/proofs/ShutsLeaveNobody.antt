@@ -15,7 +15,7 @@ use Rattle.world_model.specs.Tasks.{home, is_born, is_ended}
 use Rattle.world_model.specs.Scopes.{inner, owner, enclosing, open_finishes}
 use Rattle.world_model.specs.Due.{due}
 use Rattle.world_model.specs.Replies.{is_legal_world, is_accepted}
-use Rattle.world_model.specs.Conditions.{last_entry}
+use Rattle.world_model.specs.TaskConditions.{last_entry}
 use Rattle.world_model.specs.ScopeLaws.{Inside, ShutsLeaveNobody}
 use Rattle.world_model.specs.ClockLaws.{leads_to_end}
 use Rattle.world_model.proofs.MadeMeans.{last_accepted, part_made}

@@ -2,7 +2,7 @@
 use Rattle.std.proofs.Common.{◌≡◌, ℕ, Bool, true, false, ◌&&◌, ◌||◌, ◌==◌, not, cond, List, [], ◌∷◌, ◌++◌, map, Option, Some, refl, sym, subst, ap, ◌∙◌, inl, inr}
 use Rattle.std.specs.Prelude.{filter, slice_index_or}
 use Rattle.std.specs.List.{list_any, list_all}
-use Rattle.std.proofs.lemmas.Bool.{and_parts, cases_Bool, eqb-true, true≢false, false≢true}
+use Rattle.std.proofs.lemmas.Bool.{and_parts, cases_Bool, eqb-true, true≢false, false≢true, not-true}
 use Rattle.phase_modes.specs.Lists.{is_empty}
 use Rattle.phase_modes.specs.declared.limits.Limits.{Limits}
 use Rattle.phase_modes.specs.declared.refusal.Refusal.TheVariants.{NoFinish}
@@ -20,7 +20,7 @@ use Rattle.world_model.specs.Tasks.{home, spawner, is_born, phasers_of}
 use Rattle.world_model.specs.Actors.{actor}
 use Rattle.world_model.specs.Due.{due, fixed, is_entry, is_of_single}
 use Rattle.world_model.specs.Replies.{is_legal_world, is_accepted}
-use Rattle.world_model.specs.Conditions.{last_entry}
+use Rattle.world_model.specs.TaskConditions.{last_entry}
 use Rattle.world_model.proofs.MadeMeans.{no_refusal, begin_asked}
 use Rattle.world_model.proofs.PhasersOnce.{times, times-filter, phasers_once}
 use Rattle.world_model.proofs.AgentOfTask.{agent}
@@ -50,7 +50,7 @@ entry_shuts l t (Begin u Shut) w k a n q =
     subst (λ v. Shutter v (Begin u Shut ∷ w) (map (λ m. Phaser m (Drop u)) ns ++ Finish (inner u w) Shutting ∷ [])) (eqb-true u t n)
     (record {
       form = λ some. record { drops = map (λ m. Phaser m (Drop u)) ns; all_drops = drops_map u ns; is = refl };
-      own = λ some. (no_refusal NoFinish (is_empty (open_finishes u w)) [] (begin_asked l w u Shut a)).0;
+      own = λ some. not-true (is_empty (open_finishes u w)) (no_refusal NoFinish (not (is_empty (open_finishes u w))) [] (begin_asked l w u Shut a)).0;
       covers = λ some m v g.
           any_append_left (is_drop_of u m) (map (λ x. Phaser x (Drop u)) ns) (Finish (inner u w) Shutting ∷ [])
           (drop_in u m ns (times-filter (λ x. enclosing x w == inner u w) m (phasers_of u w) ∙ (ap (λ b. cond b (times m (phasers_of u w)) 0) g ∙ (phasers_once l w k u m ∙ ap (λ b. cond b 1 0) v))));

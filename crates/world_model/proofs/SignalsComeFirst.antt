@@ -5,6 +5,7 @@ use Rattle.std.specs.List.{list_any, list_all}
 use Rattle.std.proofs.lemmas.Bool.{and_parts, and_from, eqb-true, eq-eqb, true≢false, false≢true}
 use Rattle.phase_modes.specs.Lists.{is_one}
 use Rattle.phase_modes.specs.declared.limits.Limits.{Limits}
+use Rattle.phase_modes.specs.declared.refusal.Refusal.{Refusal}
 use Rattle.phase_modes.specs.declared.refusal.Refusal.TheVariants.{OnePhaserOnly, NoSingle, AlreadySignalled}
 use Rattle.phase_modes.specs.Mode.{can_single}
 use Rattle.phase_model.specs.Tasks.{has_mode}
@@ -16,7 +17,7 @@ use Rattle.world_model.specs.Parts.{phaser_past}
 use Rattle.world_model.specs.Tasks.{phasers_of}
 use Rattle.world_model.specs.Due.{due, fixed, fixed_by, is_entry, is_ahead, is_behind}
 use Rattle.world_model.specs.Replies.{is_legal_world, is_accepted}
-use Rattle.world_model.specs.Conditions.{last_entry}
+use Rattle.world_model.specs.TaskConditions.{last_entry}
 use Rattle.world_model.proofs.MadeMeans.{last_accepted, no_refusal, begin_asked}
 use Rattle.world_model.proofs.DueHolds.{due_has}
 
@@ -109,13 +110,17 @@ pub record SingleAsked (t : ℕ) (w : List WorldEvent) : Type 0 where
 pub single_asked : (l : Limits) (w : List WorldEvent) (t x : ℕ) → is_accepted l w (Begin t (NextSingle x)) ≡ true → SingleAsked t w
 single_asked l w t x a =
     let ns = phasers_of t w in
-    let c = no_refusal OnePhaserOnly (not (is_one ns)) ((NoSingle, list_any (λ n. not (has_mode can_single t (phaser_past n w))) ns) ∷ (AlreadySignalled, list_any (λ n. is_ahead t (phaser_past n w)) ns) ∷ []) (begin_asked l w t (NextSingle x) a) in
-    let d = no_refusal NoSingle (list_any (λ n. not (has_mode can_single t (phaser_past n w))) ns) ((AlreadySignalled, list_any (λ n. is_ahead t (phaser_past n w)) ns) ∷ []) c.1 in
-    record { one = unnot (is_one ns) c.0; single = d.0 }
+    let single = list_all (λ n. has_mode can_single t (phaser_past n w)) ns in
+    let ahead : Refusal × Bool = (AlreadySignalled, not (list_any (λ n. is_ahead t (phaser_past n w)) ns)) in
+    let c = no_refusal OnePhaserOnly (is_one ns) ((NoSingle, single) ∷ ahead ∷ []) (begin_asked l w t (NextSingle x) a) in
+    let d = no_refusal NoSingle single (ahead ∷ []) c.1 in
+    record { one = c.0; single = none_fails (λ n. has_mode can_single t (phaser_past n w)) ns d.0 }
   where
-    unnot : (b : Bool) → not b ≡ false → b ≡ true
-    unnot true k = refl
-    unnot false k = absurd (true≢false k)
+    none_fails : (f : ℕ → Bool) (xs : List ℕ) → list_all f xs ≡ true → list_any (λ n. not (f n)) xs ≡ false
+    none_fails f [] k = refl
+    none_fails f (x ∷ xs) k =
+        let b = and_parts (f x) (list_all f xs) k in
+        rw (b.0, none_fails f xs b.1) refl
 
 less_moves : (t : ℕ) (ds : List WorldEvent) → Moves t ds → Moves t (drop 1 ds)
 less_moves t [] p = p

@@ -17,7 +17,7 @@ use Rattle.world_model.specs.Tasks.{spawner}
 use Rattle.world_model.specs.Numbers.{names, is_named}
 use Rattle.world_model.specs.Due.{due, fixed, fixed_by, is_entry, is_idle}
 use Rattle.world_model.specs.Replies.{is_legal_world, is_accepted}
-use Rattle.world_model.specs.Conditions.{last_entry}
+use Rattle.world_model.specs.TaskConditions.{last_entry}
 use Rattle.world_model.proofs.MadeMeans.{last_accepted}
 use Rattle.world_model.proofs.AbleComputed.{act_now}
 use Rattle.world_model.proofs.DueHolds.{due_has}
@@ -78,7 +78,7 @@ spawn_due l q c w k s =
 -- an act that begins to spawn c finds its number free
 pub names_fresh : (l : Limits) (w : List WorldEvent) (u c : ℕ) (ps : List Pair) → is_accepted l w (Begin u (Async c ps)) ≡ true → is_named c w ≡ false
 names_fresh l w u c ps k =
-    (or_parts (not (is_idle u w)) (is_named c w) (act_now l w u (Beginning (Async c ps)) k)).1
+    (act_now l w u (Beginning (Async c ps)) k).1
 
 -- a spawn under way has named its child, for its own task
 abbrev pub IsNamedBy : ℕ → ℕ → List WorldEvent → Type 0

@@ -13,7 +13,7 @@ use Rattle.world_model.specs.Tasks.{phasers_of}
 use Rattle.world_model.specs.Actors.{actor}
 use Rattle.world_model.specs.Due.{due, fixed, fixed_by, is_entry, is_of_single, is_behind}
 use Rattle.world_model.specs.Clock.{is_turn}
-use Rattle.world_model.specs.Conditions.{last_entry}
+use Rattle.world_model.specs.TaskConditions.{last_entry}
 use Rattle.world_model.specs.ClockLaws.{begins_turn}
 use Rattle.world_model.proofs.SmallWords.{eq_self}
 

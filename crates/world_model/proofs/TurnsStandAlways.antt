@@ -20,7 +20,7 @@ use Rattle.world_model.specs.Tasks.{phasers_of, is_born}
 use Rattle.world_model.specs.Actors.{actor}
 use Rattle.world_model.specs.Due.{due, fixed, is_entry, is_of_single, is_behind}
 use Rattle.world_model.specs.Replies.{is_legal_world, is_accepted}
-use Rattle.world_model.specs.Conditions.{last_entry}
+use Rattle.world_model.specs.TaskConditions.{last_entry}
 use Rattle.world_model.specs.ClockLaws.{is_pass_on}
 use Rattle.world_model.proofs.MadeMeans.{no_refusal, begin_asked}
 use Rattle.world_model.proofs.DueHolds.{pass_is_last}
@@ -48,7 +48,8 @@ module _ (l : Limits) (u : ℕ) (w : List WorldEvent) (k : is_legal_world l w �
 
   from_wait : is_accepted l w (Begin u Wait) ≡ true → Turning u (Begin u Wait ∷ w) (fixed (Begin u Wait) w)
   from_wait a =
-      let none = (no_refusal NotSignalled (list_any (λ n. is_behind u (phaser_past n w)) (phasers_of u w)) [] (begin_asked l w u Wait a)).0 in
+      let behind = list_any (λ n. is_behind u (phaser_past n w)) (phasers_of u w) in
+      let none = not-true behind (no_refusal NotSignalled (not behind) [] (begin_asked l w u Wait a)).0 in
       let q = wait_turn l u w k (λ n h. none_at (λ m. is_behind u (phaser_past m w)) (phasers_of u w) n none h) in
       record { sigs = q.sigs; once = q.once; passes = q.passes; singles = q.singles }
 

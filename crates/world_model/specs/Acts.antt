@@ -1,6 +1,6 @@
--- What is answered where a task tries an act: the causes of its refusals, in their order.
-use Rattle.std.specs.Prelude.{ℕ, Bool, true, false, ◌&&◌, ◌||◌, ◌==◌, not, nat_lt, List, [], ◌∷◌, length, Option, Some, None, Result, Ok, Err}
-use Rattle.std.specs.List.{list_any}
+-- What is replied where a task tries an act: its conditions, in the order in which they are asked, each with the refusal where it is not met.
+use Rattle.std.specs.Prelude.{ℕ, Bool, true, false, ◌||◌, ◌==◌, not, nat_lt, List, [], ◌∷◌, length, Option, Some, None, Result, Ok, Err}
+use Rattle.std.specs.List.{list_any, list_all}
 use Rattle.phase_modes.specs.declared.refusal.Refusal.TheVariants.{NotRegistered, NoSingle, AlreadySignalled, NotSignalled, OnePhaserOnly, MoreThanParent, OutsideScope, RegisteredTwice, PhasersFull, TasksFull, FinishesFull, ActsFull, FinishOpen, NoFinish, NotNow}
 use Rattle.phase_modes.specs.declared.limits.Limits.{Limits}
 use Rattle.phase_modes.specs.declared.phased.Pair.{Pair}
@@ -9,7 +9,7 @@ use Rattle.phase_modes.specs.Mode.{can_single}
 use Rattle.phase_modes.specs.Refusal.{first_refusal}
 use Rattle.phase_modes.specs.Lists.{is_empty, is_one}
 use Rattle.phase_model.specs.Tasks.{is_live, has_mode}
-use Rattle.phase_model.specs.Rules.{is_within_task}
+use Rattle.phase_model.specs.Conditions.{is_within_task}
 use Rattle.finish_core.specs.declared.event.FinishEvent.TheVariants.{Opened}
 use Rattle.world_model.specs.declared.event.Begun.{Begun}
 use Rattle.world_model.specs.declared.reply.Reply.{Reply}
@@ -20,9 +20,9 @@ use Rattle.world_model.specs.declared.event.Begun.TheVariants.{Async, Signal, Wa
 use Rattle.world_model.specs.declared.event.Tried.TheVariants.{Begun as Beginning, New, Open, Send as Sending, Look as Looking}
 use Rattle.world_model.specs.declared.reply.Reply.TheVariants.{Done}
 use Rattle.world_model.specs.Tasks.{phasers_of, acts}
-use Rattle.world_model.specs.Scopes.{open_finishes, enclosing, inner}
-use Rattle.world_model.specs.Answers.{phaser_reply, finish_reply}
-use Rattle.world_model.specs.Due.{is_behind, is_ahead, is_idle}
+use Rattle.world_model.specs.Scopes.{inner, open_finishes, enclosing}
+use Rattle.world_model.specs.PartReplies.{phaser_reply, finish_reply}
+use Rattle.world_model.specs.Due.{is_idle, is_ahead, is_behind}
 use Rattle.world_model.specs.Numbers.{is_named, is_phaser, is_finish}
 use Rattle.world_model.specs.Parts.{phaser_past}
 
@@ -38,52 +38,53 @@ abbrev pub is_counted : Tried → Bool
 is_counted (Beginning End) = false
 is_counted _ = true
 
--- why t can't hand these phasers to a child, pair by pair, where the spawn has named others before
-abbrev pub pair_causes : List WorldEvent → ℕ → List ℕ → List Pair → List (Refusal × Bool)
-pair_causes w t named [] = []
-pair_causes w t named (p ∷ ps) =
-    (NotRegistered, not (is_live t (phaser_past p.phaser w)))
-    ∷ (MoreThanParent, not (is_within_task p.mode t (phaser_past p.phaser w)))
-    ∷ (OutsideScope, not (enclosing p.phaser w == inner t w))
-    ∷ (RegisteredTwice, list_any (λ n. n == p.phaser) named)
-    ∷ pair_causes w t (p.phaser ∷ named) ps
+-- that t may hand these phasers to a child, pair by pair, where the spawn has named others before
+abbrev pub pair_conditions : List WorldEvent → ℕ → List ℕ → List Pair → List (Refusal × Bool)
+pair_conditions w t named [] = []
+pair_conditions w t named (p ∷ ps) =
+    (NotRegistered, is_live t (phaser_past p.phaser w))
+    ∷ (MoreThanParent, is_within_task p.mode t (phaser_past p.phaser w))
+    ∷ (OutsideScope, enclosing p.phaser w == inner t w)
+    ∷ (RegisteredTwice, not (list_any (λ n. n == p.phaser) named))
+    ∷ pair_conditions w t (p.phaser ∷ named) ps
 
--- the causes of an act that is begun
-abbrev pub begin_causes : Limits → List WorldEvent → ℕ → Begun → List (Refusal × Bool)
-begin_causes l w t (Async c pairs) = (TasksFull, not (nat_lt c l.tasks)) ∷ pair_causes w t [] pairs
-begin_causes l w t Signal =
-    (AlreadySignalled, list_any (λ n. is_ahead t (phaser_past n w)) (phasers_of t w)) ∷ []
-begin_causes l w t Wait =
-    (NotSignalled, list_any (λ n. is_behind t (phaser_past n w)) (phasers_of t w)) ∷ []
-begin_causes l w t Next = []
-begin_causes l w t (NextSingle x) =
-    (OnePhaserOnly, not (is_one (phasers_of t w)))
-    ∷ (NoSingle, list_any (λ n. not (has_mode can_single t (phaser_past n w))) (phasers_of t w))
-    ∷ (AlreadySignalled, list_any (λ n. is_ahead t (phaser_past n w)) (phasers_of t w))
+-- those of an act that is begun
+abbrev pub begin_conditions : Limits → List WorldEvent → ℕ → Begun → List (Refusal × Bool)
+begin_conditions l w t (Async c pairs) = (TasksFull, nat_lt c l.tasks) ∷ pair_conditions w t [] pairs
+begin_conditions l w t Signal =
+    (AlreadySignalled, not (list_any (λ n. is_ahead t (phaser_past n w)) (phasers_of t w))) ∷ []
+begin_conditions l w t Wait =
+    (NotSignalled, not (list_any (λ n. is_behind t (phaser_past n w)) (phasers_of t w))) ∷ []
+begin_conditions l w t Next = []
+begin_conditions l w t (NextSingle x) =
+    (OnePhaserOnly, is_one (phasers_of t w))
+    ∷ (NoSingle, list_all (λ n. has_mode can_single t (phaser_past n w)) (phasers_of t w))
+    ∷ (AlreadySignalled, not (list_any (λ n. is_ahead t (phaser_past n w)) (phasers_of t w)))
     ∷ []
-begin_causes l w t Shut = (NoFinish, is_empty (open_finishes t w)) ∷ []
-begin_causes l w t End = (FinishOpen, not (is_empty (open_finishes t w))) ∷ []
+begin_conditions l w t Shut = (NoFinish, not (is_empty (open_finishes t w))) ∷ []
+begin_conditions l w t End = (FinishOpen, is_empty (open_finishes t w)) ∷ []
 
 -- a task is on at most so many phasers at once
 abbrev pub most_phasers_held : ℕ
 most_phasers_held = 16
 
--- the causes of any act's own; a value and a look have those of their phaser alone
-abbrev pub own_causes : Limits → List WorldEvent → ℕ → Tried → List (Refusal × Bool)
-own_causes l w t (Beginning b) = begin_causes l w t b
-own_causes l w t (New n m ops) =
-    (PhasersFull, not (nat_lt n l.phasers) || not (nat_lt (length (phasers_of t w)) most_phasers_held)) ∷ []
-own_causes l w t (Open f) = (FinishesFull, not (nat_lt f l.finishes)) ∷ []
-own_causes l w t _ = []
+-- any act's own; a value and a look have those of their phaser alone
+abbrev pub own_conditions : Limits → List WorldEvent → ℕ → Tried → List (Refusal × Bool)
+own_conditions l w t (Beginning b) = begin_conditions l w t b
+own_conditions l w t (New n m ops) =
+    (PhasersFull, nat_lt n l.phasers) ∷ (PhasersFull, nat_lt (length (phasers_of t w)) most_phasers_held) ∷ []
+own_conditions l w t (Open f) = (FinishesFull, nat_lt f l.finishes) ∷ []
+own_conditions l w t _ = []
 
--- the refusals of an act, in order, each with whether its cause stands
-abbrev pub act_causes : Limits → List WorldEvent → ℕ → Tried → List (Refusal × Bool)
-act_causes l w t a =
-    (NotNow, not (is_idle t w) || is_number_used w a)
-    ∷ (ActsFull, is_counted a && not (nat_lt (acts t w) l.acts))
-    ∷ own_causes l w t a
+-- all conditions of an act
+abbrev pub act_conditions : Limits → List WorldEvent → ℕ → Tried → List (Refusal × Bool)
+act_conditions l w t a =
+    (NotNow, is_idle t w)
+    ∷ (NotNow, not (is_number_used w a))
+    ∷ (ActsFull, not (is_counted a) || nat_lt (acts t w) l.acts)
+    ∷ own_conditions l w t a
 
--- what an act is answered that meets none of them: a phaser or a finish may refuse it still
+-- the reply to an act that meets them all: a phaser or a finish may refuse it still
 abbrev pub act_done : Limits → List WorldEvent → ℕ → Tried → Result Reply Refusal
 act_done l w t (Beginning b) = Ok Done
 act_done l w t (New n m ops) = phaser_reply l w n (Make t m ops)
@@ -92,9 +93,9 @@ act_done l w t (Sending n a v) = phaser_reply l w n (Send t a v)
 act_done l w t (Looking n a) = phaser_reply l w n (Look t a)
 
 abbrev pub unless : Option Refusal → Result Reply Refusal → Result Reply Refusal
-unless (Some r) answered = Err r
-unless None answered = answered
+unless (Some r) done = Err r
+unless None done = done
 
--- the answer to an act that t tries
+-- the reply to an act that t tries
 abbrev pub act_reply : Limits → List WorldEvent → ℕ → Tried → Result Reply Refusal
-act_reply l w t a = unless (first_refusal (act_causes l w t a)) (act_done l w t a)
+act_reply l w t a = unless (first_refusal (act_conditions l w t a)) (act_done l w t a)

@@ -9,10 +9,10 @@ use Rattle.world_model.specs.declared.event.WorldEvent.{WorldEvent}
 use Rattle.world_model.specs.declared.event.Step.TheVariants.{Pass}
 use Rattle.world_model.specs.declared.event.WorldEvent.TheVariants.{Phaser, Begin, Refuse, Fail}
 use Rattle.world_model.specs.Laws.{OfEachWorld}
-use Rattle.world_model.specs.Clock.{is_turn, clock, base}
+use Rattle.world_model.specs.Clock.{clock, base, is_turn}
 use Rattle.world_model.specs.Due.{due}
 use Rattle.world_model.specs.Tasks.{is_born}
-use Rattle.world_model.specs.Conditions.{last_entry}
+use Rattle.world_model.specs.TaskConditions.{last_entry}
 use Rattle.world_model.specs.Parts.{phaser_past}
 
 -- the entry begins a turn

@@ -1,4 +1,4 @@
--- What is answered to an event that continues an act.
+-- The reply to an event that continues an act.
 use Rattle.std.specs.Prelude.{ℕ, Bool, true, false, ◌&&◌, ◌==◌, if◌then◌else◌, List, Option, Some, None, Result, Err}
 use Rattle.std.specs.Option.{option_map_or}
 use Rattle.phase_modes.specs.declared.limits.Limits.{Limits}
@@ -14,7 +14,7 @@ use Rattle.world_model.specs.declared.event.WorldEvent.{WorldEvent}
 use Rattle.world_model.specs.declared.event.Step.TheVariants.{Reg, Sig, Claim, Did, Pass, Drop}
 use Rattle.world_model.specs.declared.event.WorldEvent.TheVariants.{Phaser, Finish}
 use Rattle.world_model.specs.Actors.{actor}
-use Rattle.world_model.specs.Answers.{phaser_reply, finish_reply}
+use Rattle.world_model.specs.PartReplies.{phaser_reply, finish_reply}
 use Rattle.world_model.specs.Due.{next_event}
 
 -- two events that continue an act are the same
@@ -46,13 +46,13 @@ same_event (Phaser n s) (Phaser m r) = n == m && same_step s r
 same_event (Finish f e) (Finish g d) = f == g && same_finish_event e d
 same_event _ _ = false
 
--- what its phaser or its finish answers to the event that continues an act
+-- what its phaser or its finish replies to the event that continues an act
 abbrev pub next_done : Limits → List WorldEvent → WorldEvent → Result Reply Refusal
 next_done l w (Phaser n s) = phaser_reply l w n s
 next_done l w (Finish f e) = finish_reply l w f e
 next_done l w _ = Err NotNow
 
--- the answer to an event that is to continue an act: any other than the one that is next is refused
+-- the reply to an event that is to continue an act: any other than the one that is next is refused
 abbrev pub next_reply : Limits → List WorldEvent → WorldEvent → Result Reply Refusal
 next_reply l w e =
     if option_map_or (λ d. same_event d e) (next_event l (actor w e) w) false then next_done l w e

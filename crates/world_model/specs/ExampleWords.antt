@@ -14,7 +14,7 @@ use Rattle.world_model.specs.declared.report.TaskLine.{TaskLine}
 use Rattle.world_model.specs.declared.report.TotalsLine.{TotalsLine}
 use Rattle.world_model.specs.declared.event.WorldEvent.{WorldEvent}
 use Rattle.world_model.specs.declared.reply.Reply.TheVariants.{Done}
-use Rattle.world_model.specs.Report.{Report, PhaserReport, report_of}
+use Rattle.world_model.specs.Report.{Report, report_of, PhaserReport}
 use Rattle.world_model.specs.Actors.{actor}
 use Rattle.world_model.specs.Replies.{replies, reply, after}
 
@@ -64,6 +64,6 @@ in_all r s p d n u m =
 abbrev pub no_phasers : List TaskLine → List FinishLine → Report
 no_phasers ts fs = record { phasers = []; tasks = ts; finishes = fs; totals = in_all 0 0 0 0 0 0 0 }
 
--- handed these events in turn, a fresh world answers these, and is reported so at the end
+-- handed these events in turn, a fresh world replies so, and is reported so at the end
 abbrev pub Plays : Limits → List WorldEvent → List (Result Reply Refusal) → Report → Type 0
-Plays l es answers r = (replies l [] es ≡ answers) × (report_of l (played l [] es) ≡ r)
+Plays l es rs r = (replies l [] es ≡ rs) × (report_of l (played l [] es) ≡ r)

@@ -1,4 +1,4 @@
--- Worked examples of finishes: the events handed to a world, what each is answered, and what is reported at the end.
+-- Worked examples of finishes: the events handed to a world, the reply to each, and what is reported at the end.
 use Rattle.std.specs.Prelude.{◌≡◌, List, [], ◌∷◌, reverse, Ok, Err}
 use Rattle.phase_modes.specs.declared.refusal.Refusal.TheVariants.{OutsideScope, NotNow}
 use Rattle.phase_modes.specs.declared.mode.Mode.TheVariants.{Sig as OnlySig, Wait as OnlyWait, SigWait}
@@ -9,7 +9,7 @@ use Rattle.world_model.specs.declared.event.Begun.TheVariants.{Async, Next, Shut
 use Rattle.world_model.specs.declared.event.Tried.TheVariants.{Begun as Beginning}
 use Rattle.world_model.specs.declared.event.WorldEvent.TheVariants.{Phaser, Finish, Begin, Refuse}
 use Rattle.world_model.specs.declared.reply.Reply.TheVariants.{Phase, NotYet}
-use Rattle.world_model.specs.ExampleWords.{actors, phases_of, no_phasers, Plays, limits, ok, on, played, in_all, refused_with, ended, tasks_in}
+use Rattle.world_model.specs.ExampleWords.{in_all, ok, refused_with, played, tasks_in, phases_of, Plays, ended, no_phasers, limits, actors, on}
 
 -- nothing is done at all
 abbrev pub NothingToDo : Type 0

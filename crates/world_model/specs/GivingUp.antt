@@ -12,10 +12,10 @@ use Rattle.world_model.specs.declared.event.Step.TheVariants.{Reg}
 use Rattle.world_model.specs.declared.event.WorldEvent.TheVariants.{Phaser}
 use Rattle.world_model.specs.declared.reply.Reply.TheVariants.{Done}
 use Rattle.world_model.specs.Acts.{act_reply}
-use Rattle.world_model.specs.Due.{is_idle, next_event}
+use Rattle.world_model.specs.Due.{next_event, is_idle}
 use Rattle.world_model.specs.Continuing.{next_done}
 
--- the answer is the refusal of this number
+-- the reply is the refusal of this number
 abbrev pub is_refused_by : ℕ → Result Reply Refusal → Bool
 is_refused_by n (Ok x) = false
 is_refused_by n (Err r) = number_of r == n
@@ -36,7 +36,7 @@ may_fail l w t n =
 abbrev pub may_refuse : Limits → List WorldEvent → ℕ → Tried → ℕ → Bool
 may_refuse l w t a n = is_refused_by n (act_reply l w t a) && not (n == 22) && not (n == 23)
 
--- the answer to such an entry
+-- the reply to such an entry
 abbrev pub done_where : Bool → Result Reply Refusal
 done_where true = Ok Done
 done_where false = Err NotNow

@@ -12,7 +12,7 @@ use Rattle.phase_model.specs.declared.event.Event.TheVariants.{Look as Looked}
 use Rattle.phase_model.specs.declared.op.Look.{Look}
 use Rattle.finish_core.specs.Finish.{is_legal_finish}
 use Rattle.world_model.specs.declared.event.WorldEvent.{WorldEvent}
-use Rattle.world_model.specs.Parts.{phaser_past, finish_past, ops_of}
+use Rattle.world_model.specs.Parts.{finish_past, ops_of, phaser_past}
 use Rattle.world_model.specs.Replies.{is_legal_world}
 
 -- a law of each legal world

@@ -1,4 +1,4 @@
--- Worked examples of limits and of refused acts: the events handed to a world, what each is answered, and what is reported at the end.
+-- Worked examples of limits and of refused acts: the events handed to a world, the reply to each, and what is reported at the end.
 use Rattle.std.specs.Prelude.{List, [], ◌∷◌, None, Ok, Err, pos}
 use Rattle.phase_modes.specs.declared.refusal.Refusal.TheVariants.{NotRegistered, OnePhaserOnly, RegsFull, HistoryFull, PhasersFull, TasksFull, FinishesFull, ActsFull, FinishOpen, NoFinish, NotNow}
 use Rattle.phase_modes.specs.declared.limits.Limits.{Limits}
@@ -11,7 +11,7 @@ use Rattle.world_model.specs.declared.event.Begun.TheVariants.{Async, Next, Next
 use Rattle.world_model.specs.declared.event.Tried.TheVariants.{Begun as Beginning, New, Open, Send as Sending}
 use Rattle.world_model.specs.declared.event.WorldEvent.TheVariants.{Phaser, Finish, Begin, Refuse, Fail}
 use Rattle.world_model.specs.declared.reply.Reply.TheVariants.{Phase, NotYet}
-use Rattle.world_model.specs.ExampleWords.{phases_of, no_phasers, Plays, limits, ok, on, sum_is, in_all, refused_with, ended, tasks_in}
+use Rattle.world_model.specs.ExampleWords.{in_all, ok, sum_is, refused_with, tasks_in, phases_of, Plays, no_phasers, ended, limits, on}
 use Rattle.world_model.specs.Tasks.{acts}
 
 -- limits that the root meets: of acts

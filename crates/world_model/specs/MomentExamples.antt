@@ -1,4 +1,4 @@
--- Worked examples of single moments: what each of several events would be answered there, what comes next, and what each task is about.
+-- Worked examples of single moments: the reply that each of several events would have there, what comes next, and what each task is about.
 use Rattle.std.specs.Prelude.{◌≡◌, List, [], ◌∷◌, map, Some, None, Ok, Err, pos, take}
 use Rattle.phase_modes.specs.declared.refusal.Refusal.TheVariants.{NotRegistered, NoSignal, NoWait, NotSignalled, OnePhaserOnly, NoAccumulator, MoreThanParent, RegisteredTwice, PhasersFull, TasksFull, FinishesFull, NoFinish, NotNow}
 use Rattle.phase_modes.specs.declared.mode.Mode.TheVariants.{Sig as OnlySig, SigWait, Wait as OnlyWait}
@@ -11,10 +11,10 @@ use Rattle.world_model.specs.declared.event.WorldEvent.TheVariants.{Begin, Fail,
 use Rattle.world_model.specs.declared.condition.Condition.TheVariants as condition
 use Rattle.world_model.specs.declared.reply.Reply.TheVariants.{NotYet, Phase}
 use Rattle.world_model.specs.Clock.{clock}
-use Rattle.world_model.specs.Conditions.{condition_of}
-use Rattle.world_model.specs.TurnExamples.{two_spawned, one_single, crossed_turn}
-use Rattle.world_model.specs.LimitExamples.{half_spawned, two_regs}
-use Rattle.world_model.specs.ExampleWords.{played, ok, on, limits}
+use Rattle.world_model.specs.TaskConditions.{condition_of}
+use Rattle.world_model.specs.TurnExamples.{one_single, two_spawned, crossed_turn}
+use Rattle.world_model.specs.LimitExamples.{two_regs, half_spawned}
+use Rattle.world_model.specs.ExampleWords.{played, on, ok, limits}
 use Rattle.world_model.specs.Due.{next_event}
 use Rattle.world_model.specs.Replies.{reply}
 

@@ -5,7 +5,7 @@ use Rattle.phase_modes.specs.declared.limits.Limits.{Limits}
 use Rattle.phase_modes.specs.declared.refusal.Refusal.{Refusal}
 use Rattle.world_model.specs.declared.reply.Reply.{Reply}
 use Rattle.world_model.specs.declared.event.WorldEvent.{WorldEvent}
-use Rattle.world_model.specs.Able.{is_able, is_stuck, IsAble}
+use Rattle.world_model.specs.Able.{is_able, IsAble, is_stuck}
 use Rattle.world_model.specs.Laws.{OfEachWorld}
 use Rattle.world_model.specs.Actors.{actor}
 use Rattle.world_model.specs.Tasks.{is_ended}
@@ -16,7 +16,7 @@ use Rattle.world_model.specs.Due.{next_event}
 abbrev pub AbleIsComputed : Type 0
 AbleIsComputed = (l : Limits) (w : List WorldEvent) (t : ℕ) → (is_able l w t ≡ true) ↔ IsAble l w t
 
--- an answer to an event that continues an act: it is made or has to wait, or it is refused because another number stands, registrations are at the limit, or the history is full
+-- a reply to an event that continues an act: it is made or has to wait, or it is refused because another number stands, registrations are at the limit, or the history is full
 abbrev pub is_expected : Result Reply Refusal → Bool
 is_expected (Ok x) = true
 is_expected (Err SingleMismatch) = true

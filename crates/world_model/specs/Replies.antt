@@ -1,4 +1,4 @@
--- What a world answers to an event, and which histories are legal.
+-- What a world replies to an event, and which histories are legal.
 use Rattle.std.specs.Prelude.{Bool, true, false, ◌&&◌, if◌then◌else◌, List, [], ◌∷◌, Result, Ok, Err}
 use Rattle.phase_modes.specs.declared.limits.Limits.{Limits}
 use Rattle.phase_modes.specs.declared.refusal.Refusal.{Refusal}
@@ -10,10 +10,10 @@ use Rattle.world_model.specs.declared.event.Tried.TheVariants.{Begun as Beginnin
 use Rattle.world_model.specs.declared.event.WorldEvent.TheVariants.{Phaser, Finish, Begin, Refuse, Fail}
 use Rattle.world_model.specs.declared.reply.Reply.TheVariants.{NotYet}
 use Rattle.world_model.specs.Acts.{act_reply}
-use Rattle.world_model.specs.GivingUp.{may_fail, may_refuse, done_where}
+use Rattle.world_model.specs.GivingUp.{done_where, may_refuse, may_fail}
 use Rattle.world_model.specs.Continuing.{next_reply}
 
--- the answer to an event
+-- the reply to an event
 abbrev pub reply : Limits → List WorldEvent → WorldEvent → Result Reply Refusal
 reply l w (Phaser n (Make t m ops)) = act_reply l w t (New n m ops)
 reply l w (Phaser n (Send t a v)) = act_reply l w t (Sending n a v)
@@ -24,7 +24,7 @@ reply l w (Refuse t a n) = done_where (may_refuse l w t a n)
 reply l w (Fail t n) = done_where (may_fail l w t n)
 reply l w e = next_reply l w e
 
--- an event that is answered so is made
+-- an event with this reply is made
 abbrev pub is_made : Result Reply Refusal → Bool
 is_made (Err r) = false
 is_made (Ok NotYet) = false
@@ -39,11 +39,11 @@ abbrev pub is_legal_world : Limits → List WorldEvent → Bool
 is_legal_world l [] = true
 is_legal_world l (e ∷ w) = is_accepted l w e && is_legal_world l w
 
--- the history after an answer: what isn't made changes nothing
+-- the history after a reply: what isn't made changes nothing
 abbrev pub after : List WorldEvent → WorldEvent → Result Reply Refusal → List WorldEvent
 after w e r = if is_made r then e ∷ w else w
 
--- the answers to a list of events, each handed in where the one before it left the world
+-- the replies to a list of events, each handed in where the one before it left the world
 abbrev pub replies : Limits → List WorldEvent → List WorldEvent → List (Result Reply Refusal)
 replies l w [] = []
 replies l w (e ∷ es) = reply l w e ∷ replies l (after w e (reply l w e)) es

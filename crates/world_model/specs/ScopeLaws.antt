@@ -2,15 +2,15 @@
 use Rattle.std.specs.Prelude.{ℕ, ◌≡◌, true, false, List, ◌∷◌, ◌++◌}
 use Rattle.phase_modes.specs.declared.mode.Mode.{Mode}
 use Rattle.phase_model.specs.Tasks.{is_live}
-use Rattle.phase_model.specs.Rules.{is_within_task}
+use Rattle.phase_model.specs.Conditions.{is_within_task}
 use Rattle.finish_core.specs.Finish.{is_spawned}
 use Rattle.finish_core.specs.declared.event.FinishEvent.TheVariants.{Shut as Shutting}
 use Rattle.world_model.specs.declared.event.WorldEvent.{WorldEvent}
 use Rattle.world_model.specs.declared.event.Step.TheVariants.{Reg}
 use Rattle.world_model.specs.declared.event.WorldEvent.TheVariants.{Phaser, Finish}
 use Rattle.world_model.specs.Laws.{OfEachWorld}
-use Rattle.world_model.specs.Scopes.{owner, enclosing, inner}
-use Rattle.world_model.specs.Parts.{phaser_past, finish_past}
+use Rattle.world_model.specs.Scopes.{inner, owner, enclosing}
+use Rattle.world_model.specs.Parts.{finish_past, phaser_past}
 use Rattle.world_model.specs.Tasks.{is_ended}
 use Rattle.world_model.specs.Numbers.{is_finish}
 

@@ -1,4 +1,4 @@
--- Worked examples of turns: the events handed to a world, what each is answered, and what is reported at the end.
+-- Worked examples of turns: the events handed to a world, the reply to each, and what is reported at the end.
 use Rattle.std.specs.Prelude.{ℕ, List, [], ◌∷◌, ◌++◌, Some, None, Result, Ok, Err, ℤ, pos}
 use Rattle.phase_modes.specs.declared.refusal.Refusal.TheVariants.{NotSignalled, SingleMismatch, NotNow}
 use Rattle.phase_modes.specs.declared.refusal.Refusal.{Refusal}
@@ -12,7 +12,7 @@ use Rattle.world_model.specs.declared.event.Begun.TheVariants.{Async, Wait, Next
 use Rattle.world_model.specs.declared.event.Tried.TheVariants.{Begun as Beginning}
 use Rattle.world_model.specs.declared.event.WorldEvent.TheVariants.{Phaser, Finish, Begin, Refuse, Fail}
 use Rattle.world_model.specs.declared.reply.Reply.TheVariants.{Phase, NotYet}
-use Rattle.world_model.specs.ExampleWords.{phases_of, Plays, ok, limits, on, sum_is, in_all, refused_with, ended, tasks_in}
+use Rattle.world_model.specs.ExampleWords.{in_all, ok, sum_is, refused_with, tasks_in, phases_of, Plays, ended, limits, on}
 
 -- one task alone takes a turn, and ends
 abbrev pub SmallestTrace : Type 0
