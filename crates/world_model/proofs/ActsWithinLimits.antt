@@ -1,7 +1,7 @@
 -- No task begins more acts than the limit, so all tasks together begin no more turns than the limits' product.
-use Rattle.std.proofs.Common.{◌≡◌, ℕ, ◌+◌, ◌*◌, ◌≤◌, ◌<◌, suc, zero, Bool, true, false, ◌&&◌, ◌||◌, ◌==◌, not, nat_lt, cond, List, [], ◌∷◌, refl, sym, subst, ap, ◌∙◌, inl, inr, arith}
+use Rattle.std.proofs.Common.{◌≡◌, ℕ, ◌+◌, ◌*◌, ◌≤◌, ◌<◌, suc, zero, Bool, true, ◌||◌, ◌==◌, not, nat_lt, cond, List, [], ◌∷◌, refl, sym, subst, ap, ◌∙◌, inl, inr, arith}
 use Rattle.std.specs.List.{list_any}
-use Rattle.std.proofs.lemmas.Bool.{and_parts, or_cases, cases_Bool, cases_lt, eqb-true, ne_eqb, ltb-true, true≢false}
+use Rattle.std.proofs.lemmas.Bool.{or_cases, cases_Bool, cases_lt, eqb-true, ltb-true}
 use Rattle.std.proofs.lemmas.List.Sums.{sum_by-cons}
 use Rattle.std.proofs.Math.Nat.{suc-mul}
 use Rattle.phase_modes.specs.declared.limits.Limits.{Limits}
@@ -10,18 +10,18 @@ use Rattle.phase_modes.specs.declared.refusal.Refusal.TheVariants.{NotNow, ActsF
 use Rattle.finish_core.specs.declared.event.FinishEvent.TheVariants.{Opened}
 use Rattle.world_model.specs.declared.event.Step.TheVariants.{Make, Send, Look}
 use Rattle.world_model.specs.declared.event.Begun.{Begun}
-use Rattle.world_model.specs.declared.event.Begun.TheVariants.{Async, Signal, Wait, Next, NextSingle, Shut, End}
+use Rattle.world_model.specs.declared.event.Begun.TheVariants.{Async, Signal, Wait, Next, NextSingle, Shut}
 use Rattle.world_model.specs.declared.event.Tried.{Tried}
 use Rattle.world_model.specs.declared.event.Tried.TheVariants.{Begun as Beginning, New, Open, Send as Sending, Look as Looking}
 use Rattle.world_model.specs.declared.event.WorldEvent.{WorldEvent}
 use Rattle.world_model.specs.declared.event.WorldEvent.TheVariants.{Phaser, Finish, Begin, Refuse, Fail}
 use Rattle.world_model.specs.Tasks.{acts, is_act, is_born}
-use Rattle.world_model.specs.Numbers.{names, is_named}
+use Rattle.world_model.specs.Numbers.{names}
 use Rattle.world_model.specs.Due.{is_idle}
-use Rattle.world_model.specs.Acts.{act_conditions, act_reply, is_counted, is_number_used, own_conditions, pair_conditions}
+use Rattle.world_model.specs.Acts.{act_reply, is_counted, is_number_used, own_conditions, pair_conditions}
 use Rattle.world_model.specs.Replies.{is_accepted, is_legal_world, is_made}
 use Rattle.world_model.specs.Clock.{is_turn}
-use Rattle.world_model.proofs.SmallWords.{eq_self, unnot}
+use Rattle.world_model.proofs.SmallWords.{eq_self}
 use Rattle.world_model.proofs.MadeMeans.{last_accepted, act_made, begin_asked, no_refusal}
 use Rattle.world_model.proofs.AbleComputed.{idle_in_act}
 use Rattle.world_model.proofs.PassesInTurns.{idle_is_born}

@@ -86,7 +86,7 @@ own_pass l w n u k h before =
     let clock_after : clock u (e ∷ w) ≡ cond (is_empty p.rest) (clock u w + 1) (clock u w) = rw (eq_self u, p.here) refl in
     let due_after : due u (e ∷ w) ≡ p.rest = due_own u e w refl (eq_self u) refl ∙ ap (λ ds. drop 1 ds) p.here in
     let way_after : under_way u (e ∷ w) ≡ one_if (not (is_empty p.rest)) =
-      ap (λ ds. one_if (begins_turn (last_entry u w) && not (is_empty ds))) due_after ∙ ap (λ b. one_if (b && not (is_empty p.rest))) p.turn
+    ap (λ ds. one_if (begins_turn (last_entry u w) && not (is_empty ds))) due_after ∙ ap (λ b. one_if (b && not (is_empty p.rest))) p.turn
     in
     let way_before : under_way u w ≡ 1 = rw (p.turn, p.here) refl in
     let all : clock u w + 1 ≤ turns_begun w = subst (λ x. clock u w + x ≤ turns_begun w) way_before before in

@@ -1,12 +1,10 @@
 -- No clock passes the acts that all tasks may begin.
-use Rattle.std.proofs.Common.{◌≡◌, ℕ, ◌*◌, ◌≤◌, Bool, true, ◌&&◌, nat_le, List, arith}
+use Rattle.std.proofs.Common.{◌≡◌, ℕ, ◌*◌, ◌≤◌, true, ◌&&◌, nat_le, arith}
 use Rattle.std.proofs.lemmas.Bool.{and_parts, leb-true}
 use Rattle.std.proofs.Math.Nat.{mul-le-mul_left, mul-le-mul_right}
 use Rattle.phase_modes.specs.declared.limits.Limits.{Limits}
 use Rattle.phase_modes.specs.Limits.{is_between, limits_fit}
-use Rattle.world_model.specs.declared.event.WorldEvent.{WorldEvent}
 use Rattle.world_model.specs.Clock.{clock}
-use Rattle.world_model.specs.Replies.{is_legal_world}
 use Rattle.world_model.specs.ClockLaws.{ClocksFit}
 use Rattle.world_model.proofs.ClockWithinTurns.{clock_within, turns_begun}
 use Rattle.world_model.proofs.ActsWithinLimits.{turns_within}

@@ -1,15 +1,12 @@
 -- The history of each finish of a legal world is legal.
-use Rattle.phase_modes.specs.Lists.{is_empty}
-use Rattle.std.proofs.Common.{◌≡◌, ℕ, Bool, true, false, ◌&&◌, ◌||◌, ◌==◌, not, cond, nat_lt, List, [], ◌∷◌, refl, subst, inl, inr}
+use Rattle.std.proofs.Common.{◌≡◌, ℕ, Bool, true, false, ◌==◌, cond, List, [], ◌∷◌, refl, subst, inl, inr}
 use Rattle.std.specs.Prelude.{Result, Ok, Err}
 use Rattle.std.proofs.lemmas.Bool.{and_from, cases_Bool, eqb-true}
 use Rattle.phase_modes.specs.declared.limits.Limits.{Limits}
 use Rattle.phase_modes.specs.declared.refusal.Refusal.{Refusal}
-use Rattle.phase_modes.specs.declared.refusal.Refusal.TheVariants.{NotNow, TasksFull}
-use Rattle.phase_modes.specs.Refusal.{first_refusal}
 use Rattle.finish_core.specs.declared.event.FinishEvent.{FinishEvent}
 use Rattle.finish_core.specs.declared.event.FinishEvent.TheVariants.{Opened, Spawned, Ended, Shut as Shutting}
-use Rattle.finish_core.specs.Finish.{is_allowed, is_legal_finish, is_open, is_spawned, has_ended, may_shut, all_ended}
+use Rattle.finish_core.specs.Finish.{is_allowed, is_legal_finish, all_ended}
 use Rattle.finish_core.specs.Replies as finish
 use Rattle.finish_core.proofs.Legal.{done_is_allowed}
 use Rattle.world_model.specs.declared.event.Tried.TheVariants.{Open}

@@ -14,7 +14,7 @@ use Rattle.phase_model.specs.Phases.{waits, signals}
 use Rattle.phase_model.specs.Singles.{has_proposed, has_claimed, is_done, is_settled}
 use Rattle.phase_model.specs.Rules.{is_permitted, has_room}
 use Rattle.phase_model.specs.Replies as phaser
-use Rattle.phase_model.specs.declared.call.Call.TheVariants.{Pass as pass, SingleDone as single_done}
+use Rattle.phase_model.specs.declared.call.Call.TheVariants.{Pass as pass}
 use Rattle.phase_model.specs.Replies.{settled}
 use Rattle.phase_model.proofs.Legal.{pass_follows}
 use Rattle.phase_model.proofs.SingleRules.{did_follows}

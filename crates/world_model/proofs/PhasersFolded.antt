@@ -1,8 +1,7 @@
 -- Each legal history is folded: the values of a closed phase stay, and each look saw a fold of such.
-use Rattle.std.proofs.Common.{◌≡◌, ℕ, ◌+◌, ◌-◌, ◌≤◌, ◌<◌, ◌==◌, nat_lt, Bool, true, false, ◌&&◌, not, cond, List, [], ◌∷◌, ◌++◌, length, refl, sym, subst, ap, ◌∙◌, arith}
+use Rattle.std.proofs.Common.{◌≡◌, ℕ, ◌+◌, ◌-◌, ◌≤◌, ◌<◌, ◌==◌, nat_lt, Bool, true, false, ◌&&◌, cond, List, [], ◌∷◌, ◌++◌, length, refl, sym, subst, ap, ◌∙◌, arith}
 use Rattle.std.specs.Prelude.{ℤ, slice_get}
 use Rattle.std.specs.Option.{option_map_or}
-use Rattle.std.specs.Ordering.{int_eq}
 use Rattle.std.proofs.lemmas.Bool.{ne_eqb, ltb-true, and_parts}
 use Rattle.std.proofs.lemmas.Bool.Decides.{Decides-int_eq}
 use Rattle.phase_modes.specs.declared.limits.Limits.{Limits}
@@ -54,8 +53,7 @@ closed_stays : (l : Limits) (ops : List Op) (later before : List Event) (p a : �
     → HaveSignalled (p + 1) (later ++ before) × (sent a p (later ++ before) ≡ sent a p before)
 closed_stays l ops [] before p a k some s = (s, refl)
 closed_stays l ops (e ∷ later) before p a k some s =
-    let r = closed_stays l ops later before p a (last_follows l ops (later ++ before) e k).before some s in
-    (
+    let r = closed_stays l ops later before p a (last_follows l ops (later ++ before) e k).before some s in (
       signalled_stays l ops (p + 1) e (later ++ before) k (not_empty later before some) r.0,
       sent_stays l ops p a e (later ++ before) k r.0 ∙ r.1,
     )
@@ -86,19 +84,19 @@ pub legal_is_folded : (l : Limits) (ops : List Op) (h : List Event) → is_legal
 legal_is_folded l ops h k =
     record {
       stays = λ later before p a is some c.
-        let here : is_legal l ops (later ++ before) ≡ true = subst (λ (g : List Event). is_legal l ops g ≡ true) is k in
-        let r = closed_stays l ops later before p a here some (as_signalled p before c) in
-        (subst (λ (g : List Event). IsClosed p g) (sym is) (as_closed p (later ++ before) r.0), subst (λ (g : List Event). sent a p g ≡ sent a p before) (sym is) r.1);
+          let here : is_legal l ops (later ++ before) ≡ true = subst (λ (g : List Event). is_legal l ops g ≡ true) is k in
+          let r = closed_stays l ops later before p a here some (as_signalled p before c) in
+          (subst (λ (g : List Event). IsClosed p g) (sym is) (as_closed p (later ++ before) r.0), subst (λ (g : List Event). sent a p g ≡ sent a p before) (sym is) r.1);
       seen = λ later before t a x is.
-        let here : is_legal l ops (later ++ Looked t a x ∷ before) ≡ true = subst (λ (g : List Event). is_legal l ops g ≡ true) is k in
-        let look : is_legal l ops (Looked t a x ∷ before) ≡ true = is_legal-rest l ops later (Looked t a x ∷ before) here in
-        let s = saw l ops before t a x look in
-        let p = waits t before - 1 in
-        let less : p < waits t before = omega (arith, s.turned) in
-        let over = (over_behind l ops before (last_follows l ops before (Looked t a x) look).before t p s.waiter less).closed in
-        let r = closed_stays l ops later (Looked t a x ∷ before) p a here refl over in
-        let values : sent a p h ≡ sent a p before = subst (λ (g : List Event). sent a p g ≡ sent a p before) (sym is) r.1 in
-        (as_closed p before over, s.value ∙ sym (ap (λ vs. option_map_or (λ op. fold op vs) (slice_get ops a) Nothing) values));
+          let here : is_legal l ops (later ++ Looked t a x ∷ before) ≡ true = subst (λ (g : List Event). is_legal l ops g ≡ true) is k in
+          let look : is_legal l ops (Looked t a x ∷ before) ≡ true = is_legal-rest l ops later (Looked t a x ∷ before) here in
+          let s = saw l ops before t a x look in
+          let p = waits t before - 1 in
+          let less : p < waits t before = omega (arith, s.turned) in
+          let over = (over_behind l ops before (last_follows l ops before (Looked t a x) look).before t p s.waiter less).closed in
+          let r = closed_stays l ops later (Looked t a x ∷ before) p a here refl over in
+          let values : sent a p h ≡ sent a p before = subst (λ (g : List Event). sent a p g ≡ sent a p before) (sym is) r.1 in
+          (as_closed p before over, s.value ∙ sym (ap (λ vs. option_map_or (λ op. fold op vs) (slice_get ops a) Nothing) values));
     }
 
 pub phasers_folded : PhasersAreFolded

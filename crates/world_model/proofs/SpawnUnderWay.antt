@@ -3,7 +3,7 @@ use Rattle.phase_modes.specs.Lists.{is_empty}
 use Rattle.std.proofs.Common.{◌≡◌, ℕ, Bool, true, false, ◌&&◌, ◌||◌, ◌==◌, not, List, [], ◌∷◌, ◌++◌, map, Option, Some, refl, sym, subst, ◌∙◌, inl, inr}
 use Rattle.std.specs.Prelude.{drop}
 use Rattle.std.specs.List.{list_any}
-use Rattle.std.proofs.lemmas.Bool.{and_parts, or_cases, or_parts, or_right, cases_Bool, eqb-true, true≢false}
+use Rattle.std.proofs.lemmas.Bool.{and_parts, or_cases, or_right, cases_Bool, eqb-true, true≢false}
 use Rattle.phase_modes.specs.declared.limits.Limits.{Limits}
 use Rattle.phase_modes.specs.declared.phased.Pair.{Pair}
 use Rattle.finish_core.specs.declared.event.FinishEvent.TheVariants.{Spawned}
@@ -15,7 +15,7 @@ use Rattle.world_model.specs.declared.event.Tried.TheVariants.{Begun as Beginnin
 use Rattle.world_model.specs.Scopes.{inner}
 use Rattle.world_model.specs.Tasks.{spawner}
 use Rattle.world_model.specs.Numbers.{names, is_named}
-use Rattle.world_model.specs.Due.{due, fixed, fixed_by, is_entry, is_idle}
+use Rattle.world_model.specs.Due.{due, fixed, fixed_by, is_entry}
 use Rattle.world_model.specs.Replies.{is_legal_world, is_accepted}
 use Rattle.world_model.specs.TaskConditions.{last_entry}
 use Rattle.world_model.proofs.MadeMeans.{last_accepted}

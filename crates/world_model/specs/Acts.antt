@@ -20,10 +20,10 @@ use Rattle.world_model.specs.declared.event.Begun.TheVariants.{Async, Signal, Wa
 use Rattle.world_model.specs.declared.event.Tried.TheVariants.{Begun as Beginning, New, Open, Send as Sending, Look as Looking}
 use Rattle.world_model.specs.declared.reply.Reply.TheVariants.{Done}
 use Rattle.world_model.specs.Tasks.{phasers_of, acts}
-use Rattle.world_model.specs.Scopes.{inner, open_finishes, enclosing}
+use Rattle.world_model.specs.Scopes.{inner, enclosing, open_finishes}
 use Rattle.world_model.specs.PartReplies.{phaser_reply, finish_reply}
-use Rattle.world_model.specs.Due.{is_idle, is_ahead, is_behind}
-use Rattle.world_model.specs.Numbers.{is_named, is_phaser, is_finish}
+use Rattle.world_model.specs.Due.{is_ahead, is_idle, is_behind}
+use Rattle.world_model.specs.Numbers.{is_named, is_finish, is_phaser}
 use Rattle.world_model.specs.Parts.{phaser_past}
 
 -- the number that the act wants to give is in use

@@ -9,7 +9,7 @@ use Rattle.world_model.specs.declared.event.WorldEvent.{WorldEvent}
 use Rattle.world_model.specs.declared.event.Step.TheVariants.{Pass}
 use Rattle.world_model.specs.declared.event.WorldEvent.TheVariants.{Phaser, Begin, Refuse, Fail}
 use Rattle.world_model.specs.Laws.{OfEachWorld}
-use Rattle.world_model.specs.Clock.{clock, base, is_turn}
+use Rattle.world_model.specs.Clock.{base, clock, is_turn}
 use Rattle.world_model.specs.Due.{due}
 use Rattle.world_model.specs.Tasks.{is_born}
 use Rattle.world_model.specs.TaskConditions.{last_entry}

@@ -15,9 +15,9 @@ use Rattle.world_model.specs.declared.event.Step.TheVariants.{Reg, Sig, Claim, D
 use Rattle.world_model.specs.declared.event.Begun.TheVariants.{Async, Signal, Wait, Next, NextSingle, Shut, End}
 use Rattle.world_model.specs.declared.event.WorldEvent.TheVariants.{Phaser, Finish, Begin, Refuse, Fail}
 use Rattle.world_model.specs.Actors.{actor}
-use Rattle.world_model.specs.Scopes.{inner, open_finishes, enclosing}
+use Rattle.world_model.specs.Scopes.{inner, enclosing, open_finishes}
 use Rattle.world_model.specs.Tasks.{phasers_of, is_born, is_ended, home}
-use Rattle.world_model.specs.Parts.{ops_of, phaser_past}
+use Rattle.world_model.specs.Parts.{phaser_past, ops_of}
 
 -- t can signal on the phaser of this history, and has signalled since its last turn
 abbrev pub is_ahead : ℕ → List Event → Bool

@@ -5,7 +5,6 @@ use Rattle.phase_modes.specs.declared.mode.Mode.{Mode}
 use Rattle.phase_modes.specs.declared.phased.Pair.{Pair}
 use Rattle.phase_modes.specs.declared.refusal.Refusal.{Refusal}
 use Rattle.phase_modes.specs.Limits.{default_limits}
-use Rattle.phase_model.specs.Phases.{signals}
 use Rattle.phase_model.specs.declared.op.Look.TheVariants.{Value as Saw}
 use Rattle.world_model.specs.declared.report.FinishLine.{FinishLine}
 use Rattle.world_model.specs.declared.report.FoldLine.{FoldLine}
@@ -14,9 +13,9 @@ use Rattle.world_model.specs.declared.report.TaskLine.{TaskLine}
 use Rattle.world_model.specs.declared.report.TotalsLine.{TotalsLine}
 use Rattle.world_model.specs.declared.event.WorldEvent.{WorldEvent}
 use Rattle.world_model.specs.declared.reply.Reply.TheVariants.{Done}
-use Rattle.world_model.specs.Report.{Report, report_of, PhaserReport}
+use Rattle.world_model.specs.Report.{Report, PhaserReport, report_of}
 use Rattle.world_model.specs.Actors.{actor}
-use Rattle.world_model.specs.Replies.{replies, reply, after}
+use Rattle.world_model.specs.Replies.{after, reply, replies}
 
 -- the limits of a run that names none
 abbrev pub limits : Limits

@@ -9,7 +9,7 @@ use Rattle.world_model.specs.declared.event.Begun.TheVariants.{Async, Next, Shut
 use Rattle.world_model.specs.declared.event.Tried.TheVariants.{Begun as Beginning}
 use Rattle.world_model.specs.declared.event.WorldEvent.TheVariants.{Phaser, Finish, Begin, Refuse}
 use Rattle.world_model.specs.declared.reply.Reply.TheVariants.{Phase, NotYet}
-use Rattle.world_model.specs.ExampleWords.{in_all, ok, refused_with, played, tasks_in, phases_of, Plays, ended, no_phasers, limits, actors, on}
+use Rattle.world_model.specs.ExampleWords.{ok, limits, actors, on, tasks_in, Plays, ended, in_all, phases_of, refused_with, no_phasers, played}
 
 -- nothing is done at all
 abbrev pub NothingToDo : Type 0

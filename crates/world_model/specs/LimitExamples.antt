@@ -11,8 +11,7 @@ use Rattle.world_model.specs.declared.event.Begun.TheVariants.{Async, Next, Next
 use Rattle.world_model.specs.declared.event.Tried.TheVariants.{Begun as Beginning, New, Open, Send as Sending}
 use Rattle.world_model.specs.declared.event.WorldEvent.TheVariants.{Phaser, Finish, Begin, Refuse, Fail}
 use Rattle.world_model.specs.declared.reply.Reply.TheVariants.{Phase, NotYet}
-use Rattle.world_model.specs.ExampleWords.{in_all, ok, sum_is, refused_with, tasks_in, phases_of, Plays, no_phasers, ended, limits, on}
-use Rattle.world_model.specs.Tasks.{acts}
+use Rattle.world_model.specs.ExampleWords.{ok, limits, on, tasks_in, Plays, ended, in_all, phases_of, refused_with, no_phasers, sum_is}
 
 -- limits that the root meets: of acts
 abbrev pub ActsFullExample : Type 0

@@ -12,8 +12,8 @@ use Rattle.world_model.specs.declared.condition.Condition.TheVariants as conditi
 use Rattle.world_model.specs.declared.reply.Reply.TheVariants.{NotYet, Phase}
 use Rattle.world_model.specs.Clock.{clock}
 use Rattle.world_model.specs.TaskConditions.{condition_of}
-use Rattle.world_model.specs.TurnExamples.{one_single, two_spawned, crossed_turn}
-use Rattle.world_model.specs.LimitExamples.{two_regs, half_spawned}
+use Rattle.world_model.specs.TurnExamples.{crossed_turn, two_spawned, one_single}
+use Rattle.world_model.specs.LimitExamples.{half_spawned, two_regs}
 use Rattle.world_model.specs.ExampleWords.{played, on, ok, limits}
 use Rattle.world_model.specs.Due.{next_event}
 use Rattle.world_model.specs.Replies.{reply}

@@ -5,7 +5,7 @@ use Rattle.phase_modes.specs.Lists.{is_empty}
 use Rattle.world_model.specs.declared.event.WorldEvent.{WorldEvent}
 use Rattle.world_model.specs.declared.event.Begun.TheVariants.{Async}
 use Rattle.world_model.specs.declared.event.WorldEvent.TheVariants.{Begin}
-use Rattle.world_model.specs.Parts.{finish_past, phaser_past}
+use Rattle.world_model.specs.Parts.{phaser_past, finish_past}
 
 -- phaser n was made
 abbrev pub is_phaser : ℕ → List WorldEvent → Bool

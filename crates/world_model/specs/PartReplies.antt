@@ -17,7 +17,7 @@ use Rattle.world_model.specs.declared.event.Step.{Step}
 use Rattle.world_model.specs.declared.event.WorldEvent.{WorldEvent}
 use Rattle.world_model.specs.declared.event.Step.TheVariants.{Make, Reg, Sig, Claim, Did, Pass, Send, Look, Drop}
 use Rattle.world_model.specs.declared.reply.Reply.TheVariants.{Done, Phase, Value, NotYet}
-use Rattle.world_model.specs.Parts.{finish_past, story_of, phaser_past}
+use Rattle.world_model.specs.Parts.{phaser_past, finish_past, story_of}
 
 -- a phaser's reply as the world's, for the history before it
 abbrev pub returned : List Event → phaser.Reply → Result Reply Refusal

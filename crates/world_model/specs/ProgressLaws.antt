@@ -5,7 +5,7 @@ use Rattle.phase_modes.specs.declared.limits.Limits.{Limits}
 use Rattle.phase_modes.specs.declared.refusal.Refusal.{Refusal}
 use Rattle.world_model.specs.declared.reply.Reply.{Reply}
 use Rattle.world_model.specs.declared.event.WorldEvent.{WorldEvent}
-use Rattle.world_model.specs.Able.{is_able, IsAble, is_stuck}
+use Rattle.world_model.specs.Able.{IsAble, is_able, is_stuck}
 use Rattle.world_model.specs.Laws.{OfEachWorld}
 use Rattle.world_model.specs.Actors.{actor}
 use Rattle.world_model.specs.Tasks.{is_ended}

@@ -10,7 +10,7 @@ use Rattle.world_model.specs.declared.event.Tried.TheVariants.{Begun as Beginnin
 use Rattle.world_model.specs.declared.event.WorldEvent.TheVariants.{Phaser, Finish, Begin, Refuse, Fail}
 use Rattle.world_model.specs.declared.reply.Reply.TheVariants.{NotYet}
 use Rattle.world_model.specs.Acts.{act_reply}
-use Rattle.world_model.specs.GivingUp.{done_where, may_refuse, may_fail}
+use Rattle.world_model.specs.GivingUp.{may_fail, may_refuse, done_where}
 use Rattle.world_model.specs.Continuing.{next_reply}
 
 -- the reply to an event

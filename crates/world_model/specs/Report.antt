@@ -16,7 +16,7 @@ use Rattle.world_model.specs.declared.report.TaskLine.{TaskLine}
 use Rattle.world_model.specs.declared.report.TotalsLine.{TotalsLine}
 use Rattle.world_model.specs.declared.event.WorldEvent.{WorldEvent}
 use Rattle.world_model.specs.declared.event.WorldEvent.TheVariants.{Refuse, Fail}
-use Rattle.world_model.specs.Parts.{finish_past, ops_of, phaser_past}
+use Rattle.world_model.specs.Parts.{phaser_past, finish_past, ops_of}
 use Rattle.world_model.specs.Tasks.{is_born}
 use Rattle.world_model.specs.Numbers.{is_phaser, is_finish}
 

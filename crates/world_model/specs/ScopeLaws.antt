@@ -10,7 +10,7 @@ use Rattle.world_model.specs.declared.event.Step.TheVariants.{Reg}
 use Rattle.world_model.specs.declared.event.WorldEvent.TheVariants.{Phaser, Finish}
 use Rattle.world_model.specs.Laws.{OfEachWorld}
 use Rattle.world_model.specs.Scopes.{inner, owner, enclosing}
-use Rattle.world_model.specs.Parts.{finish_past, phaser_past}
+use Rattle.world_model.specs.Parts.{phaser_past, finish_past}
 use Rattle.world_model.specs.Tasks.{is_ended}
 use Rattle.world_model.specs.Numbers.{is_finish}
 

@@ -6,7 +6,7 @@ use Rattle.world_model.specs.declared.event.Step.TheVariants.{Sig}
 use Rattle.world_model.specs.declared.event.Begun.TheVariants.{Async, Signal, Wait, Next, NextSingle, Shut}
 use Rattle.world_model.specs.declared.event.WorldEvent.TheVariants.{Phaser, Begin}
 use Rattle.world_model.specs.declared.condition.Condition.TheVariants as condition
-use Rattle.world_model.specs.Due.{due, is_entry}
+use Rattle.world_model.specs.Due.{is_entry, due}
 use Rattle.world_model.specs.Tasks.{is_born, is_ended}
 
 -- the last entry of t's log

@@ -12,7 +12,7 @@ use Rattle.world_model.specs.declared.event.Begun.TheVariants.{Async, Wait, Next
 use Rattle.world_model.specs.declared.event.Tried.TheVariants.{Begun as Beginning}
 use Rattle.world_model.specs.declared.event.WorldEvent.TheVariants.{Phaser, Finish, Begin, Refuse, Fail}
 use Rattle.world_model.specs.declared.reply.Reply.TheVariants.{Phase, NotYet}
-use Rattle.world_model.specs.ExampleWords.{in_all, ok, sum_is, refused_with, tasks_in, phases_of, Plays, ended, limits, on}
+use Rattle.world_model.specs.ExampleWords.{ok, limits, on, tasks_in, Plays, ended, in_all, phases_of, refused_with, sum_is}
 
 -- one task alone takes a turn, and ends
 abbrev pub SmallestTrace : Type 0

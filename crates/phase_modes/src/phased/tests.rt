@@ -22,7 +22,7 @@ fn phasers_are_named_in_order(rt: HostRuntime) -> Result<(), Fail> {
     assert_eq!(rt; named.get(0), Some(first));
     assert_eq!(rt; named.get(1), Some(second));
     assert_eq!(rt; named.get(2), None);
-    assert!(rt; named.as_slice() == [first, second]);
+    assert!(rt; named.as_slice() == [first, second].as_slice());
     assert_eq!(rt; one.len(), 1);
     assert!(rt; one != named);
     Ok(())
