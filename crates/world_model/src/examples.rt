@@ -1,5 +1,6 @@
-//! The worked examples: events that are handed to a world in turn, what each is answered, and what is
-//! reported at the end. Each function does nothing: its contract says it, and the check computes it.
+//! The worked examples: events that are handed to a world in turn, what each is answered, and what
+//! is reported at the end. Each function does nothing: its contract says it, and the check
+//! computes it.
 ghost use Rattle.world_model.specs.FinishExamples.{NestedFinish, NestedFinishActors, NestedFinishTrace, NothingToDo, OutsideScopeExample, OwnerLeavesBeforeShut};
 ghost use Rattle.world_model.specs.LimitExamples.{ActsFullExample, FinishOpenExample, FinishesFullExample, HistoryFullInNext, NoFinishExample, NotRegisteredExample, OnePhaserOnlyExample, PhasersFullExample, TasksFullExample, UnbornChildDropped};
 ghost use Rattle.world_model.specs.MomentExamples.{AskedIdle, AskedSpawning, AskedTurning, ClocksAfterTurn, NextOfSingle};
@@ -38,8 +39,8 @@ pub fn worked_limits()
     ensures history_full_in_next { HistoryFullInNext }
 {}
 
-/// Single moments: what each of several events would be answered, what comes next, and what each task
-/// is about.
+/// Single moments: what each of several events would be answered, what comes next, and what each
+/// task is about.
 pub fn worked_moments()
     ensures asked_idle { AskedIdle }
     ensures asked_turning { AskedTurning }

@@ -1,5 +1,5 @@
-//! What holds of each legal world. Each function does nothing: its contract is the law, and the check
-//! proves it.
+//! What holds of each legal world. Each function does nothing: its contract is the law, and the
+//! check proves it.
 ghost use Rattle.world_model.specs.ClockLaws.{ClocksAgree, ClocksFit};
 ghost use Rattle.world_model.specs.Laws.{FinishesAreLegal, PhasersAreFolded, PhasersAreLegal, PhasersAreOrdered};
 ghost use Rattle.world_model.specs.ProgressLaws.{AbleIsComputed, NextsAreExpected, NobodyIsStuck};
@@ -10,14 +10,14 @@ pub fn phasers_are_legal()
     ensures { PhasersAreLegal }
 {}
 
-/// No wait passed a phase of a phaser before every signaller, registered then or later, had signalled
-/// it.
+/// No wait passed a phase of a phaser before every signaller, registered then or later, had
+/// signalled it.
 pub fn phasers_are_ordered()
     ensures { PhasersAreOrdered }
 {}
 
-/// The values of a closed phase stay as they are, and each look saw the fold of all values that were
-/// ever sent for the phase.
+/// The values of a closed phase stay as they are, and each look saw the fold of all values that
+/// were ever sent for the phase.
 pub fn phasers_are_folded()
     ensures { PhasersAreFolded }
 {}
@@ -39,8 +39,8 @@ pub fn shuts_leave_nobody()
     ensures { ShutsLeaveNobody }
 {}
 
-/// On a phaser, a task that goes on has ended as many turns as its clock was raised since the phaser
-/// was made, and one more where it has passed in the turn under way.
+/// On a phaser, a task that goes on has ended as many turns as its clock was raised since the
+/// phaser was made, and one more where it has passed in the turn under way.
 pub fn clocks_agree()
     ensures { ClocksAgree }
 {}

@@ -11,9 +11,9 @@ pub struct FoldLine {
     pub value: Look,
 }
 
-/// A phaser that was made: how many phases it had, and what its accumulators came to, phase by phase
-/// and in each phase by their index. The last phase is the last that was signalled, passed or sent
-/// for.
+/// A phaser that was made: how many phases it had, and what its accumulators came to, phase by
+/// phase and in each phase by their index. The last phase is the last that was signalled, passed
+/// or sent for.
 #[derive(Drop)]
 pub struct PhaserLines {
     pub phaser: u32,
@@ -29,7 +29,8 @@ impl Model for PhaserLines {
     ghost view = { λ s. record { phaser = s.phaser; phases = s.phases; folds = s.folds.items } };
 }
 
-/// The root or a task that was spawned, with the number of the refusal by which it ended, if one did.
+/// The root or a task that was spawned, with the number of the refusal by which it ended, if one
+/// did.
 #[derive(Clone, Copy, Debug, PartialEq, Eq)]
 pub struct TaskLine {
     pub task: u32,
@@ -44,8 +45,8 @@ pub struct FinishLine {
     pub tasks: u32,
 }
 
-/// Sums over all phasers: registrations (making is one), signals, passes, drops and sends, the sum of
-/// the positive values sent and that of the negative values' magnitudes.
+/// Sums over all phasers: registrations (making is one), signals, passes, drops and sends, the sum
+/// of the positive values sent and that of the negative values' magnitudes.
 #[derive(Clone, Copy, Debug, PartialEq, Eq)]
 pub struct TotalsLine {
     pub registered: u64,
