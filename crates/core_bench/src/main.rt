@@ -2,14 +2,14 @@
 #![tactic(auto)]
 
 mod calls;
+mod command_line;
 mod job;
 mod kind;
-mod words;
 
 use calls::calls_on_all;
+use command_line::job_of;
 use std::env;
 use std::process::ExitCode;
-use words::job_of;
 
 /// What is printed where the words are bad.
 const USAGE: &str =

@@ -2,7 +2,7 @@
 ghost use Rattle.std.specs.Prelude.{◌≡◌, ℕ, List, [], ◌∷◌, Some, codes, map, true, false, IfOk, MatchResult};
 ghost use Rattle.clap.specs.Words.{app_of, kind_of};
 ghost use Rattle.clap.specs.declared.builder.command.Command.TheViews.{out-Command as fields_of};
-ghost use Rattle.phaser_run.specs.Words.{events_app, file_of, is_plain, job_in, no_job_status, program_app};
+ghost use Rattle.phaser_run.specs.CommandLine.{events_app, file_of, is_plain, job_in, no_job_status, program_app};
 
 use crate::failure::Status;
 use clap::error::ErrorKind;
@@ -45,7 +45,7 @@ impl NoJob {
 
 impl From<AllocError> for NoJob {
     ghost use Rattle.std.specs.Prelude.{◌≡◌};
-    ghost use Rattle.phaser_run.specs.declared.words.NoJob.TheVariants.{Memory};
+    ghost use Rattle.phaser_run.specs.declared.command_line.NoJob.TheVariants.{Memory};
 
     ghost from_gives = { λ _ n. n ≡ Memory };
 

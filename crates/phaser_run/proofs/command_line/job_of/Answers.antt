@@ -1,9 +1,9 @@
 use Rattle.std.proofs.Common.{ap, map, sym, ◌∙◌}
 use Rattle.clap.specs.Words.{found_of, is_simple_and_free, rows_of}
-use Rattle.phaser_run.specs.Words.{job_in}
+use Rattle.phaser_run.specs.CommandLine.{job_in}
 use Rattle.phaser_run.proofs.Named.{entered_at, entered_file, events_file, fault_at, job_named, memory_alone, named_job, other_file}
 use Rattle.phaser_run.proofs.Plain.{plain_named}
-use Rattle.phaser_run.proofs.words.job_of.Goals as goal
+use Rattle.phaser_run.proofs.command_line.job_of.Goals as goal
 
 pub returns-in-Err-clause-named : goal.returns-in-Err-clause-named
 returns-in-Err-clause-named c = λ file named.

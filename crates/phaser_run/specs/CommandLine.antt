@@ -5,10 +5,10 @@ use Rattle.phase_modes.specs.Lists.{is_empty}
 use Rattle.clap.specs.Words.{App, Row, Rule, Text, fault_of, first_of, new_app, new_rule, subcommand_of, with_rule, with_subcommand}
 use Rattle.phaser_run.specs.declared.failure.Status.{Status}
 use Rattle.phaser_run.specs.declared.failure.Status.TheVariants as statuses
-use Rattle.phaser_run.specs.declared.words.Job.{Job}
-use Rattle.phaser_run.specs.declared.words.Job.TheVariants.{Events}
-use Rattle.phaser_run.specs.declared.words.NoJob.{NoJob}
-use Rattle.phaser_run.specs.declared.words.NoJob.TheVariants.{Words, Missing, Memory}
+use Rattle.phaser_run.specs.declared.command_line.Job.{Job}
+use Rattle.phaser_run.specs.declared.command_line.Job.TheVariants.{Events}
+use Rattle.phaser_run.specs.declared.command_line.NoJob.{NoJob}
+use Rattle.phaser_run.specs.declared.command_line.NoJob.TheVariants.{Words, Missing, Memory}
 
 -- FILE, which has to be there
 abbrev pub file_rule : Rule
