@@ -1,7 +1,7 @@
 -- The kinds of calls, as the words name them.
 use Rattle.std.specs.Prelude.{ℕ, List, codes}
 use Rattle.core_bench.specs.declared.kind.Kind.{Kind}
-use Rattle.core_bench.specs.declared.kind.Kind.TheVariants.{Nothing, Turn, Send, Look}
+use Rattle.core_bench.specs.declared.kind.Kind.TheVariants.{Nothing, Turn, Send, Look, Drop}
 
 -- as it is written on the command line
 abbrev pub name_of : Kind → List ℕ
@@ -9,3 +9,4 @@ name_of Nothing = codes "none"
 name_of Turn = codes "turn"
 name_of Send = codes "send"
 name_of Look = codes "look"
+name_of Drop = codes "drop"

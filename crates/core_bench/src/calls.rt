@@ -42,6 +42,18 @@ fn look(state: &mut PhaserState, tasks: u32) {
     }
 }
 
+/// The first task registers a child and drops it, with each number that is still free. Where all
+/// registrations are taken, the last task goes first.
+fn register_and_drop(state: &mut PhaserState, tasks: u32) {
+    if tasks == LIMITS.regs {
+        let _ = state.drop_task(tasks - 1);
+    }
+    for child in tasks..LIMITS.tasks {
+        let _ = state.register(0, child, Mode::SigWait);
+        let _ = state.drop_task(child);
+    }
+}
+
 /// A phaser with one sum, on which so many tasks are registered that have all had one turn.
 fn ready(alloc: Global, tasks: u32) -> Result<PhaserState, Refusal> {
     let mut ops = Ops::none();
@@ -55,7 +67,8 @@ fn ready(alloc: Global, tasks: u32) -> Result<PhaserState, Refusal> {
     Ok(state)
 }
 
-/// Applies calls of the kind, in turn over the tasks, until the history is full.
+/// Applies calls of the kind, in turn over the tasks, until the history is full, and drops until no
+/// task number is free.
 fn fill(state: &mut PhaserState, kind: Kind, tasks: u32) {
     for _ in 0..LIMITS.history {
         if state.is_full() {
@@ -66,6 +79,7 @@ fn fill(state: &mut PhaserState, kind: Kind, tasks: u32) {
             Kind::Turn => turn(state, tasks),
             Kind::Send => send(state, tasks),
             Kind::Look => look(state, tasks),
+            Kind::Drop => return register_and_drop(state, tasks),
         }
     }
 }

@@ -13,6 +13,8 @@ pub enum Kind {
     Send,
     /// Looks at the accumulator.
     Look,
+    /// Registrations of a child, each followed by its drop.
+    Drop,
 }
 
 impl Kind {
@@ -25,6 +27,7 @@ impl Kind {
             "turn" => Some(Kind::Turn),
             "send" => Some(Kind::Send),
             "look" => Some(Kind::Look),
+            "drop" => Some(Kind::Drop),
             _ => None,
         }
     }

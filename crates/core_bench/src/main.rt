@@ -2,18 +2,18 @@
 #![tactic(auto)]
 
 mod calls;
+mod command_line;
 mod job;
 mod kind;
-mod words;
 
 use calls::calls_on_all;
+use command_line::job_of;
 use std::env;
 use std::process::ExitCode;
-use words::job_of;
 
 /// What is printed where the words are bad.
 const USAGE: &str =
-    "usage: core_bench none|turn|send|look TASKS PHASERS (1 to 256 tasks, 1 to 1000 phasers)\n";
+    "usage: core_bench none|turn|send|look|drop TASKS PHASERS (1 to 256 tasks, 1 to 1000 phasers)\n";
 
 fn main(rt: HostRuntime) -> ExitCode {
     ExitCode::from(run(&rt))

@@ -30,6 +30,15 @@ fn turns_of_one_task(rt: HostRuntime) -> Result<(), Fail> {
     Ok(())
 }
 
+// 255 tasks and the child take all registrations: the drop that makes room is a call, and then a
+// registration and a drop for each of the 3,840 numbers from 256 to 4,095.
+#[test]
+fn drops_beside_all_tasks(rt: HostRuntime) -> Result<(), Fail> {
+    let job = job_of(&["core_bench", "drop", "256", "1"]).ok_or("no job")?;
+    assert_eq!(rt; calls_on_all(rt.alloc(), job), Ok(7_681));
+    Ok(())
+}
+
 // The makings and a turn of 256 tasks take 768 places of each phaser, and the last look is done at
 // a length of 65,279.
 #[test]

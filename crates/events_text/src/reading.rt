@@ -1,4 +1,4 @@
-//! Reads an events file: bytes to JSON, JSON to limits and calls.
+//! An events file, and how it is read: bytes to JSON, JSON to limits, operators and calls.
 ghost use Rattle.std.specs.Prelude.{◌≡◌, map, option_map, string_bytes, IsTrue, IfSome, true, ◌↔◌};
 ghost use Rattle.std.specs.List.{list_all, list_any};
 ghost use Rattle.std.specs.Str.{bytes_eq};

@@ -35,10 +35,8 @@ impl NumberSet {
         ensures empty { IfOk result (λ s. (n : ℕ) → has_number s n ≡ false) }
         ensures memory { IfErr result (λ r. r ≡ Refusal.Memory) }
     {
-        match vec![in alloc; 0; size as usize / 64 + 1] {
-            Ok(words) => Ok(NumberSet { size, words }),
-            Err(_) => Err(Refusal::Memory),
-        }
+        let words = vec![in alloc; 0; size as usize / 64 + 1]?;
+        Ok(NumberSet { size, words })
     }
 
     /// Whether the number is in the set.

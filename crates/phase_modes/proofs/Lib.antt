@@ -1,1 +1,2 @@
 pub mod FirstRefusal
+pub mod Places

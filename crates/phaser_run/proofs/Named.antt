@@ -13,7 +13,7 @@ use Rattle.phase_modes.specs.Lists.{is_empty}
 use Rattle.std.specs.Box.{box_value}
 use Rattle.std.proofs.lemmas.Slice.Eq.{bytes_eq-Decides}
 use Rattle.clap.proofs.WalkLemmas.{first_value-rows}
-use Rattle.phaser_run.specs.Words.{file_among, file_in, job_in, program_app}
+use Rattle.phaser_run.specs.CommandLine.{file_among, file_in, job_in, program_app}
 
 -- the name that a subcommand's rows go by
 module _ {Z : Type 0} where

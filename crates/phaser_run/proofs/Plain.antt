@@ -4,7 +4,7 @@ use Rattle.std.proofs.lemmas.Bool.{eqb-true}
 use Rattle.clap.specs.Words.{Text}
 use Rattle.clap.proofs.OnLiterals.{clap_on_literals}
 use Rattle.phase_modes.specs.Lists.{is_empty}
-use Rattle.phaser_run.specs.Words.{file_in, job_in, is_plain}
+use Rattle.phaser_run.specs.CommandLine.{file_in, job_in, is_plain}
 
 -- a file whose name does not begin with a hyphen
 other_named : (p : Text) (c : ℕ) (cs : Text) → (c == 45) ≡ false → job_in (p ∷ codes "events" ∷ (c ∷ cs) ∷ []) ≡ Some (c ∷ cs)

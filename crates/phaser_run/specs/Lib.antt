@@ -1,4 +1,4 @@
+pub mod CommandLine
 pub mod Ends
 pub mod File
 pub mod Input
-pub mod Words

@@ -5,13 +5,14 @@ ghost use Rattle.std.specs.Prelude.{◌≡◌, ◌≢◌, ◌⊎◌, IfSome, Ok}
 ghost use Rattle.events_text.specs.Form.{Form};
 ghost use Rattle.phaser_run.specs.Ends.{status_of};
 ghost use Rattle.phaser_run.specs.File.{file_spelled};
-ghost use Rattle.phaser_run.specs.Words.{no_job_status};
+ghost use Rattle.phaser_run.specs.CommandLine.{no_job_status};
 
+mod command_line;
 mod events;
 mod failure;
 mod input;
-mod words;
 
+use command_line::{Job, NoJob, job_of};
 use events::events_from;
 use failure::{Failure, Status, write_text};
 use phase_modes::Refusal;
@@ -19,7 +20,6 @@ use std::env;
 use std::fs::File;
 use std::io::{BufWriter, ErrorKind, Read};
 use std::process::ExitCode;
-use words::{Job, NoJob, job_of};
 
 fn main(rt: HostRuntime) -> ExitCode {
     ExitCode::from(run(&rt).code())

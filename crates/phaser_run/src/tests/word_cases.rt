@@ -1,6 +1,6 @@
 //! Words that name a job, and words that name none.
+use crate::command_line::{Job, job_of};
 use crate::failure::Status;
-use crate::words::{Job, job_of};
 use std::alloc::Global;
 use std::process::Abort;
 use std::test::Fail;

@@ -1,0 +1,2 @@
+-- What only the code's own values need: no public contract cites it.
+pub mod Places
