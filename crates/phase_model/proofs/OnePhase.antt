@@ -149,4 +149,3 @@ closed_past_drop s u t wait other closed =
       not_over = closed_not_over (is_closed w h) (is_closed w now) (is_settled w h) (is_settled w h) closed (λ e. e) k.not_over;
       no_claim = closed_no_claim (has_proposed t w h) (is_closed w h) (is_closed w now) (is_claimed w h) closed k.no_claim;
     })
-

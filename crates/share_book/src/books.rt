@@ -97,7 +97,10 @@ impl<K: Ledgers> Books<K> {
         ensures same { (self.new ≡ self.old) × (mine.new ≡ mine.old) }
     {
         let Books {
-            events, up, down, ..
+            events,
+            up,
+            down,
+            ..
         } = self;
         events.covers(&mut mine.events);
         up.covers(&mut mine.up);

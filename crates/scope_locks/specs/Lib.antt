@@ -1,4 +1,0 @@
-pub mod Amounts
-pub mod Cells
-pub mod Parking
-pub mod Shutting
