@@ -8,7 +8,7 @@ use crate::view::View;
 use reg_table::Comparisons;
 
 impl PhaserState {
-    /// Whether a pass of the task would be told to come again (`NotYet`).
+    /// Whether a pass of the task would be answered `NotYet`.
     pub fn would_wait(&self, task: u32) -> bool
         ensures { result ≡ would_wait self.now.story task }
     {
