@@ -12,8 +12,8 @@ use std::env;
 use std::process::ExitCode;
 
 /// What is printed where the words are bad.
-const USAGE: &str =
-    "usage: core_bench none|turn|send|look|drop TASKS PHASERS (1 to 256 tasks, 1 to 1000 phasers)\n";
+const USAGE: &str = "usage: core_bench none|turn|send|look|drop TASKS PHASERS \
+                     (1 to 256 tasks, 1 to 1000 phasers)\n";
 
 fn main(rt: HostRuntime) -> ExitCode {
     ExitCode::from(run(&rt))

@@ -21,8 +21,11 @@ fn outer_object(rt: HostRuntime) -> Result<(), Fail> {
         r#"{"calls":[],"limits":{}}"#,
         r#"{"accs":[],"calls":[]}"#,
         r#"{"accs":["sum","least","greatest","sum"],"calls":[]}"#,
-        r#"{"limits":{"acts":1,"finishes":1,"history":4,"phasers":1,"regs":1,"tasks":1},"calls":[]}"#,
-        r#"{"limits":{"acts":65536,"finishes":1024,"history":65536,"phasers":64,"regs":256,"tasks":4096},"calls":[]}"#,
+        r#"{"limits":
+            {"acts":1,"finishes":1,"history":4,"phasers":1,"regs":1,"tasks":1},"calls":[]}"#,
+        r#"{"limits":
+            {"acts":65536,"finishes":1024,"history":65536,"phasers":64,"regs":256,"tasks":4096},
+            "calls":[]}"#,
     ];
     for text in good {
         assert_eq!(rt; place_of(&rt, text)?, None, "{text}");
@@ -189,8 +192,9 @@ fn numbers_not_of_the_form(rt: HostRuntime) -> Result<(), Fail> {
 
 #[test]
 fn contents(rt: HostRuntime) -> Result<(), Fail> {
-    let text =
-        r#"{"limits":{"regs":3,"tasks":9},"calls":[["make",1,"SIG"],["reg",2,3,"WAIT"],["sig",4],["sig",5,6],["pass",7],["did",8],["send",9,1,-2],["look",3,2],["drop",6]],"accs":["greatest","sum"]}"#;
+    let text = r#"{"limits":{"regs":3,"tasks":9},"calls":[
+        ["make",1,"SIG"],["reg",2,3,"WAIT"],["sig",4],["sig",5,6],["pass",7],["did",8],
+        ["send",9,1,-2],["look",3,2],["drop",6]],"accs":["greatest","sum"]}"#;
     let file = read_events(rt.alloc(), text.as_bytes())
         .ok()
         .ok_or("a file")?;

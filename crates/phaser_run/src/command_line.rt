@@ -120,7 +120,8 @@ pub fn job_of<'a>(alloc: Global, words: &'a [&'a str]) -> Result<Job<'a>, NoJob>
     ensures named { (file : List ℕ) → job_in (map (λ w. w.now) words.entry.now) ≡ Some file
         → MatchResult result (λ job. file_of job ≡ file) (λ e. e ≡ NoJob.Memory) }
     // So `events FILE` names that file, where FILE doesn't look like an option.
-    ensures plain { (program file : List ℕ) → map (λ w. w.now) words.entry.now ≡ program ∷ codes "events" ∷ file ∷ []
+    ensures plain { (program file : List ℕ)
+        → map (λ w. w.now) words.entry.now ≡ program ∷ codes "events" ∷ file ∷ []
         → is_plain file ≡ true → MatchResult result (λ job. file_of job ≡ file) (λ e. e ≡ NoJob.Memory) }
 {
     let matches = match command(alloc)?.try_get_matches_from(words) {

@@ -65,8 +65,8 @@ fn read_once<R: Read>(reader: &mut R, reads: &mut Reads, chunk: &mut [u8]) -> io
     result
 }
 
-/// Reads to the end of the reader, at most `most` bytes, by at most 100,000,000 reads, and counts them.
-/// After a read that failed there is no other.
+/// Reads to the end of the reader, at most `most` bytes, by at most 100,000,000 reads, and counts
+/// them. After a read that failed there is no other.
 pub fn read_all<R: Read>(alloc: Global, reader: &mut R, reads: &mut Reads, most: usize) -> ReadAll
     requires { IsFresh reads.old }
     ensures reads { reads.new.made ≤ MOST_READS }

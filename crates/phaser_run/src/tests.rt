@@ -37,7 +37,9 @@ fn two_tasks_turn(rt: HostRuntime) {
     answers(
         &rt,
         rt.alloc(),
-        r#"{"calls":[["make",0,"SIG_WAIT"],["reg",0,1,"SIG_WAIT"],["sig",0],["pass",0],["sig",1],["pass",0],["pass",1]]}"#,
+        r#"{"calls":[
+            ["make",0,"SIG_WAIT"],["reg",0,1,"SIG_WAIT"],["sig",0],["pass",0],["sig",1],
+            ["pass",0],["pass",1]]}"#,
         "ok\nok\nok\nnot yet\nok\nok phase 0\nok phase 0\n",
     );
 }
@@ -57,8 +59,11 @@ fn split_phase_child(rt: HostRuntime) {
     answers(
         &rt,
         rt.alloc(),
-        r#"{"calls":[["make",0,"SIG_WAIT"],["sig",0],["reg",0,1,"SIG"],["pass",0],["sig",1],["pass",1],["sig",0],["pass",0],["sig",1],["pass",0]]}"#,
-        "ok\nok\nok\nok phase 0\nrefused 5 AlreadySignalled\nok phase 0\nok\nnot yet\nok\nok phase 1\n",
+        r#"{"calls":[
+            ["make",0,"SIG_WAIT"],["sig",0],["reg",0,1,"SIG"],["pass",0],["sig",1],
+            ["pass",1],["sig",0],["pass",0],["sig",1],["pass",0]]}"#,
+        "ok\nok\nok\nok phase 0\nrefused 5 AlreadySignalled\nok phase 0\nok\nnot yet\n\
+         ok\nok phase 1\n",
     );
 }
 
@@ -71,7 +76,8 @@ fn signaller_runs_ahead(rt: HostRuntime) {
             ["make",0,"SIG_WAIT"],["reg",0,1,"SIG"],["reg",0,2,"WAIT"],["drop",0],
             ["sig",1],["pass",1],["sig",1],["pass",1],["sig",1],["pass",1],
             ["pass",2],["pass",2],["pass",2],["pass",2]]}"#,
-        "ok\nok\nok\nok\nok\nok phase 0\nok\nok phase 1\nok\nok phase 2\nok phase 0\nok phase 1\nok phase 2\nnot yet\n",
+        "ok\nok\nok\nok\nok\nok phase 0\nok\nok phase 1\nok\nok phase 2\nok phase 0\n\
+         ok phase 1\nok phase 2\nnot yet\n",
     );
 }
 
@@ -80,7 +86,8 @@ fn history_full(rt: HostRuntime) {
     answers(
         &rt,
         rt.alloc(),
-        r#"{"limits":{"history":4},"calls":[["make",0,"SIG_WAIT"],["sig",0],["pass",0],["sig",0],["drop",0]]}"#,
+        r#"{"limits":{"history":4},"calls":[
+            ["make",0,"SIG_WAIT"],["sig",0],["pass",0],["sig",0],["drop",0]]}"#,
         "ok\nok\nok phase 0\nrefused 15 HistoryFull\nok\n",
     );
 }
@@ -90,7 +97,8 @@ fn registrations_full(rt: HostRuntime) {
     answers(
         &rt,
         rt.alloc(),
-        r#"{"limits":{"regs":1},"calls":[["make",0,"SIG_WAIT"],["reg",0,256,"SIG"],["reg",0,1,"SIG"]]}"#,
+        r#"{"limits":{"regs":1},"calls":[
+            ["make",0,"SIG_WAIT"],["reg",0,256,"SIG"],["reg",0,1,"SIG"]]}"#,
         "ok\nrefused 17 TasksFull\nrefused 14 RegsFull\n",
     );
 }
@@ -115,7 +123,8 @@ fn empty_folds(rt: HostRuntime) {
         r#"{"accs":["sum","least","greatest"],"calls":[
             ["make",0,"SIG_WAIT"],["look",0,0],["sig",0],["pass",0],["look",0,0],
             ["look",0,1],["look",0,2],["look",0,3],["send",0,3,1]]}"#,
-        "ok\nrefused 10 NoPhaseYet\nok\nok phase 0\nvalue 0\nnone\nnone\nrefused 9 NoAccumulator\nrefused 9 NoAccumulator\n",
+        "ok\nrefused 10 NoPhaseYet\nok\nok phase 0\nvalue 0\nnone\nnone\n\
+         refused 9 NoAccumulator\nrefused 9 NoAccumulator\n",
     );
 }
 
@@ -141,7 +150,8 @@ fn value_after_signal(rt: HostRuntime) {
             ["make",0,"SIG_WAIT"],["reg",0,1,"SIG"],["send",0,0,3],["send",0,0,3],
             ["sig",1],["send",1,0,3],["sig",0],["pass",0],["look",0,0],["pass",1],
             ["sig",1],["sig",0],["pass",0],["look",0,0]]}"#,
-        "ok\nok\nok\nok\nok\nok\nok\nok phase 0\nvalue 6\nok phase 0\nok\nok\nok phase 1\nvalue 3\n",
+        "ok\nok\nok\nok\nok\nok\nok\nok phase 0\nvalue 6\nok phase 0\nok\nok\n\
+         ok phase 1\nvalue 3\n",
     );
 }
 
@@ -155,7 +165,8 @@ fn single_statement(rt: HostRuntime) {
             ["sig",0,7],["sig",1,7],["sig",2,8],["pass",0],["sig",2,7],["drop",0],
             ["pass",0],["pass",1],["did",1],["did",0],["pass",1],["pass",0],
             ["pass",2]]}"#,
-        "ok\nok\nok\nok\nok\nrefused 7 SingleMismatch\nnot yet\nok\nrefused 22 NotNow\nclaim 7\nnot yet\nrefused 22 NotNow\nok\nok phase 0\nok phase 0\nok phase 0\n",
+        "ok\nok\nok\nok\nok\nrefused 7 SingleMismatch\nnot yet\nok\nrefused 22 NotNow\n\
+         claim 7\nnot yet\nrefused 22 NotNow\nok\nok phase 0\nok phase 0\nok phase 0\n",
     );
 }
 
@@ -180,7 +191,9 @@ fn refusals_in_order(rt: HostRuntime) {
             ["make",0,"SIG_WAIT"],["reg",0,1,"WAIT"],["sig",1],["reg",0,1,"SIG"],
             ["sig",9],["sig",0,5],["pass",0],["reg",0,2,"SIG"],["look",2,0],
             ["drop",1],["reg",0,1,"WAIT"],["make",3,"SIG"]]}"#,
-        "ok\nok\nrefused 2 NoSignal\nrefused 13 RegisteredTwice\nrefused 1 NotRegistered\nrefused 4 NoSingle\nrefused 6 NotSignalled\nok\nrefused 3 NoWait\nok\nrefused 13 RegisteredTwice\nrefused 22 NotNow\n",
+        "ok\nok\nrefused 2 NoSignal\nrefused 13 RegisteredTwice\n\
+         refused 1 NotRegistered\nrefused 4 NoSingle\nrefused 6 NotSignalled\nok\n\
+         refused 3 NoWait\nok\nrefused 13 RegisteredTwice\nrefused 22 NotNow\n",
     );
 }
 

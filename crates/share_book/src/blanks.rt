@@ -3,8 +3,9 @@ ghost use Rattle.std.specs.Prelude.{◌≡◌, ◌≤◌};
 
 use std::sync::ledger::Blank;
 
-/// What `open` starts from: the seven ledgers before they are opened, for so many phasers and workers.
-/// Whoever opens them names each ledger by a type, and has its name and number of parts here.
+/// What `open` starts from: the seven ledgers before they are opened, for so many phasers and
+/// workers. Whoever opens them names each ledger by a type, and has its name and number of parts
+/// here.
 #[derive(Drop)]
 pub struct Blanks {
     pub phasers: u32,

@@ -11,8 +11,8 @@ use std::sync::ledger::Book;
 /// The books of a run, of all phasers and workers together.
 ///
 /// The type keeps that of each kind the total by phaser equals that by worker, that room and events
-/// together are 65,536 for each phaser, and that what was sent up and what was sent down are at most
-/// 2^31 for each event. So no total passes a u64. Contracts see what the books add up to.
+/// together are 65,536 for each phaser, and that what was sent up and what was sent down are at
+/// most 2^31 for each event. So no total passes a u64. Contracts see what the books add up to.
 #[derive(Drop)]
 pub struct Books<K: Ledgers> {
     pub(crate) phasers: u64,
@@ -40,8 +40,8 @@ impl<K: Ledgers> Model for Books<K> {
     } };
 }
 
-/// What one phaser has in each book. Contracts see its number, how many events it still has room for,
-/// and what its events add up to.
+/// What one phaser has in each book. Contracts see its number, how many events it still has room
+/// for, and what its events add up to.
 #[derive(Drop)]
 pub struct PhaserBook<K: Ledgers> {
     pub(crate) number: u32,
@@ -89,8 +89,8 @@ impl<K: Ledgers> Model for Shares<K> {
 }
 
 impl<K: Ledgers> Books<K> {
-    /// What all phasers together add up to so far: of no kind less than what this worker has posted.
-    /// Nothing changes.
+    /// What all phasers together add up to so far: of no kind less than what this worker has
+    /// posted. Nothing changes.
     pub fn so_far(&mut self, mine: &mut Shares<K>) -> Totals
         ensures totals { amount_of result ≡ self.new.totals }
         ensures within { IsWithin mine.new (amount_of result) }

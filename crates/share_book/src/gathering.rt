@@ -200,8 +200,8 @@ fn are_phasers_all<K: Ledgers>(books: &mut Books<K>, phasers: Vec<PhaserBook<K>>
     events_are && up_are && down_are
 }
 
-/// What the run added up to, where of each kind the shares and the phasers' books each add up to the
-/// books; else `SharesDiffer`. With all parts of one `open` they do.
+/// What the run added up to, where of each kind the shares and the phasers' books each add up to
+/// the books; else `SharesDiffer`. With all parts of one `open` they do.
 pub fn gather<K: Ledgers>(
     shares: Vec<Shares<K>>,
     phasers: Vec<PhaserBook<K>>,
@@ -211,7 +211,7 @@ pub fn gather<K: Ledgers>(
         ↔ ((sum shares.items ≡ books.totals) × (sum_of_books phasers.items ≡ books.totals)) }
     ensures totals { IfOk result (λ t. amount_of t ≡ books.totals) }
     ensures differ { IfErr result (λ e. e ≡ Refusal.SharesDiffer) }
-    ensures whole { AreAllParts (vec_len shares) K.EventsByWorker.parts K.UpByWorker.parts K.DownByWorker.parts
+    ensures all { AreAllParts (vec_len shares) K.EventsByWorker.parts K.UpByWorker.parts K.DownByWorker.parts
         → AreAllParts (vec_len phasers) K.EventsByPhaser.parts K.UpByPhaser.parts K.DownByPhaser.parts
         → IsOk result }
 {

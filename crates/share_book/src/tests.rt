@@ -1,4 +1,5 @@
-//! Two phasers and three workers: what is posted is gathered, and a share that is missing is noticed.
+//! Two phasers and three workers: what is posted is gathered, and a share that is missing is
+//! noticed.
 ghost use Rattle.std.specs.Prelude.{◌≡◌, ◌<◌, ◌≤◌};
 ghost use Rattle.share_book.specs.Opening.{IsNamed, IsParted};
 

@@ -72,5 +72,10 @@ impl Model for WorldReport {
 
     ghost Value = { Report };
 
-    ghost view = { λ s. record { phasers = s.phasers.items; tasks = s.tasks.items; finishes = s.finishes.items; totals = s.totals } };
+    ghost view = { λ s. record {
+      phasers = s.phasers.items;
+      tasks = s.tasks.items;
+      finishes = s.finishes.items;
+      totals = s.totals;
+    } };
 }

@@ -126,7 +126,7 @@ fn waiter_alone(rt: HostRuntime) -> Result<(), Fail> {
     Ok(())
 }
 
-/// A child that is registered between its parent's signal and pass has signalled what its parent has.
+/// A child registered between its parent's signal and pass has signalled what its parent has.
 #[test]
 fn split_phase_child(rt: HostRuntime) -> Result<(), Fail> {
     let rows = [
