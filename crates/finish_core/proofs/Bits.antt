@@ -14,7 +14,8 @@ pub ones-le-length : (bs : List Bool) → ones bs ≤ length bs
 ones-le-length bs = count_by-le-length (λ b. b) bs
 
 -- setting a clear bit makes one more
-pub ones-set : (bs : List Bool) (i : ℕ) → i < length bs → get_or bs i false ≡ false → ones (set bs i true) ≡ ones bs + 1
+pub ones-set : (bs : List Bool) (i : ℕ) → i < length bs → get_or bs i false ≡ false
+    → ones (set bs i true) ≡ ones bs + 1
 ones-set bs i within clear =
     let e = sum_by-set (λ x. cond x 1 0) bs i true false within in
     omega (arith, rw clear at e)
@@ -41,18 +42,33 @@ among_back a [] e among few k is = absurd (false≢true is)
 among_back [] (y ∷ b) e among few k is = absurd (omega arith)
 among_back (true ∷ a) (y ∷ b) e among few zero is = refl
 among_back (false ∷ a) (true ∷ b) e among few zero is =
-    absurd (omega (arith, few, ones-cons false a, ones-cons true b, ones-le-ones a b (omega arith) (λ k. among (suc k))))
+    absurd (omega (
+      arith,
+      few,
+      ones-cons false a,
+      ones-cons true b,
+      ones-le-ones a b (omega arith) (λ k. among (suc k)),
+    ))
 among_back (false ∷ a) (false ∷ b) e among few zero is = is
 among_back (true ∷ a) (true ∷ b) e among few (suc k) is =
-    among_back a b (omega arith) (λ j. among (suc j)) (omega (arith, few, ones-cons true a, ones-cons true b)) k is
+    among_back a b (omega arith) (λ j. among (suc j))
+    (omega (arith, few, ones-cons true a, ones-cons true b)) k is
 among_back (true ∷ a) (false ∷ b) e among few (suc k) is = absurd (false≢true (among zero refl))
 among_back (false ∷ a) (true ∷ b) e among few (suc k) is =
-    absurd (omega (arith, few, ones-cons false a, ones-cons true b, ones-le-ones a b (omega arith) (λ k. among (suc k))))
+    absurd (omega (
+      arith,
+      few,
+      ones-cons false a,
+      ones-cons true b,
+      ones-le-ones a b (omega arith) (λ k. among (suc k)),
+    ))
 among_back (false ∷ a) (false ∷ b) e among few (suc k) is =
-    among_back a b (omega arith) (λ j. among (suc j)) (omega (arith, few, ones-cons false a, ones-cons false b)) k is
+    among_back a b (omega arith) (λ j. among (suc j))
+    (omega (arith, few, ones-cons false a, ones-cons false b)) k is
 
 -- bits that say of each number whether it passes a test, with one more set
-pub bits-set : (bs : List Bool) (f : ℕ → Bool) (t : ℕ) → t < length bs → ((u : ℕ) → get_or bs u false ≡ f u) → (u : ℕ) → get_or (set bs t true) u false ≡ ((t == u) || f u)
+pub bits-set : (bs : List Bool) (f : ℕ → Bool) (t : ℕ) → t < length bs → ((u : ℕ) → get_or bs u false ≡ f u)
+    → (u : ℕ) → get_or (set bs t true) u false ≡ ((t == u) || f u)
 bits-set bs f t within bits u =
     elim (cases_Bool (t == u)) [
       | inl e ↦ rw (e, ← eqb-true t u e) (get_or-set_same bs t true false within)

@@ -29,7 +29,8 @@ contains_spawn (Shut ∷ h) t is = later_contains Shut h (Spawned t) (contains_s
 is_spawned-from_Contains : (h : List FinishEvent) (t : ℕ) → Contains h (Spawned t) → is_spawned t h ≡ true
 is_spawned-from_Contains h t k =
     let test : FinishEvent → Bool = λ e. option_map_or (λ u. u == t) (spawned_by e) false in
-    list_any-filter_map (λ u. u == t) spawned_by h ∙ list_any_at test h k.0 (Spawned t) k.1 (ap test k.2 ∙ eq-eqb t t refl)
+    list_any-filter_map (λ u. u == t) spawned_by h
+    ∙ list_any_at test h k.0 (Spawned t) k.1 (ap test k.2 ∙ eq-eqb t t refl)
 
 -- an end that stands in it is found by the test
 has_ended-from_Contains : (h : List FinishEvent) (t : ℕ) → Contains h (Ended t) → has_ended t h ≡ true
@@ -48,24 +49,31 @@ opens tasks Shut f = absurd (false≢true f.allowed)
 
 module _ (tasks : ℕ) (h : List FinishEvent) (legal : is_legal_finish tasks h ≡ true) where
   -- what an event inside the history says
-  follows_at : (later before : List FinishEvent) (e : FinishEvent) → h ≡ later ++ e ∷ before → Follows tasks before e
+  follows_at : (later before : List FinishEvent) (e : FinishEvent) → h ≡ later ++ e ∷ before
+      → Follows tasks before e
   follows_at later before e is =
-      let whole : is_legal_finish tasks (later ++ e ∷ before) ≡ true = subst (λ (g : List FinishEvent). is_legal_finish tasks g ≡ true) is legal in
+      let whole : is_legal_finish tasks (later ++ e ∷ before) ≡ true =
+      subst (λ (g : List FinishEvent). is_legal_finish tasks g ≡ true) is legal in
       last_follows tasks before e (is_legal_finish-rest tasks later (e ∷ before) whole)
 
   orderly : IsOrderly tasks h
   orderly = record {
     first_opens = λ later e is. opens tasks e (follows_at later [] e is);
     opens_first = λ later before t is. empty before (follows_at later before (Opened t) is).allowed;
-    number_fits = λ later before t is. (spawn_follows tasks before t (follows_at later before (Spawned t) is).allowed).fits;
+    number_fits =
+        λ later before t is.
+        (spawn_follows tasks before t (follows_at later before (Spawned t) is).allowed).fits;
     spawned_once =
         λ later before t is k.
-        false≢true (sym (spawn_follows tasks before t (follows_at later before (Spawned t) is).allowed).new ∙ is_spawned-from_Contains before t k);
+        false≢true (sym (spawn_follows tasks before t (follows_at later before (Spawned t) is).allowed).new
+        ∙ is_spawned-from_Contains before t k);
     was_spawned =
-        λ later before t is. contains_spawn before t (end_follows tasks before t (follows_at later before (Ended t) is).allowed).spawned;
+        λ later before t is. contains_spawn before t
+        (end_follows tasks before t (follows_at later before (Ended t) is).allowed).spawned;
     ended_once =
         λ later before t is k.
-        false≢true (sym (end_follows tasks before t (follows_at later before (Ended t) is).allowed).running ∙ has_ended-from_Contains before t k);
+        false≢true (sym (end_follows tasks before t (follows_at later before (Ended t) is).allowed).running
+        ∙ has_ended-from_Contains before t k);
   }
 
 pub legal_is_orderly : LegalIsOrderly

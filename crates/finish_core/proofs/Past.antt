@@ -14,17 +14,23 @@ pub list_any-reverse : {X : Type 0} (p : X → Bool) (xs : List X) → list_any 
 list_any-reverse p xs = sym (list_any-IsPermutation p xs (reverse xs) (IsPermutation-reverse xs))
 
 -- all pass where none fails
-list_all_not_any : {X : Type 0} (p : X → Bool) (xs : List X) → list_all p xs ≡ not (list_any (λ x. not (p x)) xs)
+list_all_not_any : {X : Type 0} (p : X → Bool) (xs : List X)
+    → list_all p xs ≡ not (list_any (λ x. not (p x)) xs)
 list_all_not_any p [] = refl
 list_all_not_any p (x ∷ xs) =
-    elim (p x) as (λ b. (b && list_all p xs) ≡ not (not b || list_any (λ y. not (p y)) xs)) [ true ↦ list_all_not_any p xs | false ↦ refl ]
+    elim (p x) as (λ b. (b && list_all p xs) ≡ not (not b || list_any (λ y. not (p y)) xs)) [
+      | true ↦ list_all_not_any p xs
+      | false ↦ refl
+    ]
 
 -- nor to a test of each
 pub list_all-reverse : {X : Type 0} (p : X → Bool) (xs : List X) → list_all p (reverse xs) ≡ list_all p xs
-list_all-reverse p xs = rw (list_all_not_any p (reverse xs), list_any-reverse (λ x. not (p x)) xs, ← list_all_not_any p xs)
+list_all-reverse p xs =
+    rw (list_all_not_any p (reverse xs), list_any-reverse (λ x. not (p x)) xs, ← list_all_not_any p xs)
 
 -- a test of the items that h gives, as a test of each element
-pub list_any-filter_map : {X Y : Type 0} (p : Y → Bool) (h : X → Option Y) (xs : List X) → list_any p (filter_map h xs) ≡ list_any (λ x. option_map_or p (h x) false) xs
+pub list_any-filter_map : {X Y : Type 0} (p : Y → Bool) (h : X → Option Y) (xs : List X)
+    → list_any p (filter_map h xs) ≡ list_any (λ x. option_map_or p (h x) false) xs
 list_any-filter_map p h [] = refl
 list_any-filter_map {X} {Y} p h (x ∷ xs) =
     let test : X → Bool = λ z. option_map_or p (h z) false in
@@ -35,7 +41,8 @@ list_any-filter_map {X} {Y} p h (x ∷ xs) =
       | Some y ↦ ap (λ b. p y || b) more
     ]
 
-pub list_all-filter_map : {X Y : Type 0} (p : Y → Bool) (h : X → Option Y) (xs : List X) → list_all p (filter_map h xs) ≡ list_all (λ x. option_map_or p (h x) true) xs
+pub list_all-filter_map : {X Y : Type 0} (p : Y → Bool) (h : X → Option Y) (xs : List X)
+    → list_all p (filter_map h xs) ≡ list_all (λ x. option_map_or p (h x) true) xs
 list_all-filter_map p h [] = refl
 list_all-filter_map {X} {Y} p h (x ∷ xs) =
     let test : X → Bool = λ z. option_map_or p (h z) true in

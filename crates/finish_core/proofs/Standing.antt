@@ -12,7 +12,8 @@ use Rattle.finish_core.proofs.Bits.{AreAmong, ones-le-length, ones-set, ones-le-
 use Rattle.finish_core.proofs.Legal.{spawn_follows, end_follows, ended_was_spawned}
 
 -- an event in an open finish that doesn't shut it leaves the stage
-stage_stays : (h : List FinishEvent) (e : FinishEvent) → is_open h ≡ true → shuts e ≡ false → stage_of (e ∷ h) ≡ stage_of h
+stage_stays : (h : List FinishEvent) (e : FinishEvent) → is_open h ≡ true → shuts e ≡ false
+    → stage_of (e ∷ h) ≡ stage_of h
 stage_stays [] e is k = absurd cc
 stage_stays (d ∷ h) e is k = rw k refl
 
@@ -22,14 +23,16 @@ open_frame [] is = absurd cc
 open_frame (e ∷ h) is = rw (not-true (list_any shuts (e ∷ h)) is) refl
 
 -- numbers that all pass when they stand in a list
-list_all-from : (p : ℕ → Bool) (ts : List ℕ) → ((t : ℕ) → list_any (λ u. u == t) ts ≡ true → p t ≡ true) → list_all p ts ≡ true
+list_all-from : (p : ℕ → Bool) (ts : List ℕ) → ((t : ℕ) → list_any (λ u. u == t) ts ≡ true → p t ≡ true)
+    → list_all p ts ≡ true
 list_all-from p [] each = refl
 list_all-from p (t ∷ ts) each =
     and_from (p t) (list_all p ts) (each t (or_left (t == t) (list_any (λ u. u == t) ts) (eq-eqb t t refl)))
     (list_all-from p ts (λ u k. each u (or_right (t == u) (list_any (λ v. v == u) ts) k)))
 
 -- and back
-list_all_at : (p : ℕ → Bool) (ts : List ℕ) (t : ℕ) → list_all p ts ≡ true → list_any (λ u. u == t) ts ≡ true → p t ≡ true
+list_all_at : (p : ℕ → Bool) (ts : List ℕ) (t : ℕ) → list_all p ts ≡ true
+    → list_any (λ u. u == t) ts ≡ true → p t ≡ true
 list_all_at p [] t all has = absurd cc
 list_all_at p (u ∷ ts) t all has =
     let parts = and_parts (p u) (list_all p ts) all in
@@ -39,10 +42,12 @@ list_all_at p (u ∷ ts) t all has =
     ]
 
 -- where all have ended, each task that was spawned has
-pub all_ended_at : (h : List FinishEvent) (t : ℕ) → all_ended h ≡ true → is_spawned t h ≡ true → has_ended t h ≡ true
+pub all_ended_at : (h : List FinishEvent) (t : ℕ) → all_ended h ≡ true → is_spawned t h ≡ true
+    → has_ended t h ≡ true
 all_ended_at h t all is = list_all_at (λ u. has_ended u h) (spawned_tasks h) t all is
 
-module _ {tasks : ℕ} {stage : Stage} {a b : List Bool} {n : ℕ} {h : List FinishEvent} (s : IsFinishState tasks stage a b n h) where
+module _ {tasks : ℕ} {stage : Stage} {a b : List Bool} {n : ℕ} {h : List FinishEvent}
+    (s : IsFinishState tasks stage a b n h) where
   same_size : length b ≡ length a
   same_size = s.ended_size ∙ sym s.spawned_size
 
@@ -67,7 +72,8 @@ module _ {tasks : ℕ} {stage : Stage} {a b : List Bool} {n : ℕ} {h : List Fin
   all_have_ended : all_ended h ≡ true → n ≡ 0
   all_have_ended all =
       let few : ones a ≤ ones b =
-      ones-le-ones a b (sym same_size) (λ t is. s.ended_bits t ∙ all_ended_at h t all (sym (s.spawned_bits t) ∙ is))
+      ones-le-ones a b (sym same_size)
+      (λ t is. s.ended_bits t ∙ all_ended_at h t all (sym (s.spawned_bits t) ∙ is))
       in
       omega (arith, s.counted, few)
 
@@ -103,7 +109,8 @@ module _ {tasks : ℕ} {stage : Stage} {a b : List Bool} {n : ℕ} {h : List Fin
 
   module _ (t : ℕ) (allowed : is_allowed tasks h (Ended t) ≡ true) where
     pub end_within : t < length b
-    end_within = omega (arith, set_within a t (s.spawned_bits t ∙ (end_follows tasks h t allowed).spawned), same_size)
+    end_within =
+        omega (arith, set_within a t (s.spawned_bits t ∙ (end_follows tasks h t allowed).spawned), same_size)
 
     -- before it some task is counted
     pub some_running : 0 < n

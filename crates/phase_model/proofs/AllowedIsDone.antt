@@ -26,48 +26,65 @@ goes_on false p c k = refl
 module _ (s : Story) where
   -- an event that is allowed is permitted, and has room
   parts_of : (c : Call) → is_allowed s.limits s.ops s.past (event_for s.limits s.ops s.past c) ≡ true
-      → (is_permitted s.limits s.ops s.past (event_for s.limits s.ops s.past c) ≡ true) × (has_room s.limits (event_for s.limits s.ops s.past c ∷ s.past) ≡ true)
+      → (is_permitted s.limits s.ops s.past (event_for s.limits s.ops s.past c) ≡ true)
+      × (has_room s.limits (event_for s.limits s.ops s.past c ∷ s.past) ≡ true)
   parts_of c k =
       let e = event_for s.limits s.ops s.past c in
       and_parts (is_permitted s.limits s.ops s.past e) (has_room s.limits (e ∷ s.past)) k
 
   -- a call that never waits, and whose conditions are met
-  plainly : (c : Call) → are_met (conditions s.limits s.ops s.past c) ≡ true → must_wait s.limits s.ops s.past c ≡ false
-      → has_room s.limits (event_for s.limits s.ops s.past c ∷ s.past) ≡ true → reply s c ≡ done (event_for s.limits s.ops s.past c)
+  plainly : (c : Call) → are_met (conditions s.limits s.ops s.past c) ≡ true
+      → must_wait s.limits s.ops s.past c ≡ false
+      → has_room s.limits (event_for s.limits s.ops s.past c ∷ s.past) ≡ true
+      → reply s c ≡ done (event_for s.limits s.ops s.past c)
   plainly c met free room =
       let e = event_for s.limits s.ops s.past c in
-      reply_by s c None false e (none_where_met (conditions s.limits s.ops s.past c) met) free refl ∙ ap (λ b. settled None false b e) room
+      reply_by s c None false e (none_where_met (conditions s.limits s.ops s.past c) met) free refl
+      ∙ ap (λ b. settled None false b e) room
 
   -- a pass that claims nothing
-  passes : (t : ℕ) → is_permitted s.limits s.ops s.past (Claim t) ≡ false → is_allowed s.limits s.ops s.past (Pass t) ≡ true → reply s (pass t) ≡ done (Pass t)
+  passes : (t : ℕ) → is_permitted s.limits s.ops s.past (Claim t) ≡ false
+      → is_allowed s.limits s.ops s.past (Pass t) ≡ true → reply s (pass t) ≡ done (Pass t)
   passes t no_claim k =
       let h = s.past in
       let parts = and_parts (is_permitted s.limits s.ops h (Pass t)) (has_room s.limits (Pass t ∷ h)) k in
-      let event : event_for s.limits s.ops h (pass t) ≡ Pass t = ap (λ b. cond b (Claim t) (Pass t)) no_claim in
+      let event : event_for s.limits s.ops h (pass t) ≡ Pass t =
+      ap (λ b. cond b (Claim t) (Pass t)) no_claim in
       let met =
-      (and_parts (are_met (conditions s.limits s.ops h (pass t))) (not (has_mode can_wait t h) || (is_closed (waits t h) h && is_settled (waits t h) h)) parts.0).0
+      (and_parts (are_met (conditions s.limits s.ops h (pass t)))
+      (not (has_mode can_wait t h) || (is_closed (waits t h) h && is_settled (waits t h) h)) parts.0).0
       in
       reply_by s (pass t) None false (Pass t) (none_where_met (conditions s.limits s.ops h (pass t)) met)
-      (goes_on (has_mode can_wait t h) (is_permitted s.limits s.ops h (Pass t)) (is_permitted s.limits s.ops h (Claim t)) parts.0) event
+      (goes_on (has_mode can_wait t h) (is_permitted s.limits s.ops h (Pass t))
+      (is_permitted s.limits s.ops h (Claim t)) parts.0) event
       ∙ ap (λ b. settled None false b (Pass t)) parts.1
 
-  allowed_is_done : (c : Call) → is_legal s.limits s.ops s.past ≡ true → is_allowed s.limits s.ops s.past (event_for s.limits s.ops s.past c) ≡ true
+  allowed_is_done : (c : Call) → is_legal s.limits s.ops s.past ≡ true
+      → is_allowed s.limits s.ops s.past (event_for s.limits s.ops s.past c) ≡ true
       → reply s c ≡ done (event_for s.limits s.ops s.past c)
   allowed_is_done (make t m) l k = plainly (make t m) (parts_of (make t m) k).0 refl (parts_of (make t m) k).1
-  allowed_is_done (register q t m) l k = plainly (register q t m) (parts_of (register q t m) k).0 refl (parts_of (register q t m) k).1
-  allowed_is_done (signal t x) l k = plainly (signal t x) (parts_of (signal t x) k).0 refl (parts_of (signal t x) k).1
+  allowed_is_done (register q t m) l k =
+      plainly (register q t m) (parts_of (register q t m) k).0 refl (parts_of (register q t m) k).1
+  allowed_is_done (signal t x) l k =
+      plainly (signal t x) (parts_of (signal t x) k).0 refl (parts_of (signal t x) k).1
   allowed_is_done (pass t) l k =
       elim (cases_Bool (is_permitted s.limits s.ops s.past (Claim t))) [
         | inl e ↦ pass_claims s t l e ∙ ap (λ b. done (cond b (Claim t) (Pass t))) (sym e)
-        | inr e ↦ passes t e (ap (λ b. is_allowed s.limits s.ops s.past (cond b (Claim t) (Pass t))) (sym e) ∙ k) ∙ ap (λ b. done (cond b (Claim t) (Pass t))) (sym e)
+        | inr e ↦
+            passes t e (ap (λ b. is_allowed s.limits s.ops s.past (cond b (Claim t) (Pass t))) (sym e) ∙ k)
+            ∙ ap (λ b. done (cond b (Claim t) (Pass t))) (sym e)
       ]
-  allowed_is_done (single_done t) l k = plainly (single_done t) (parts_of (single_done t) k).0 refl (parts_of (single_done t) k).1
-  allowed_is_done (send t a v) l k = plainly (send t a v) (parts_of (send t a v) k).0 refl (parts_of (send t a v) k).1
+  allowed_is_done (single_done t) l k =
+      plainly (single_done t) (parts_of (single_done t) k).0 refl (parts_of (single_done t) k).1
+  allowed_is_done (send t a v) l k =
+      plainly (send t a v) (parts_of (send t a v) k).0 refl (parts_of (send t a v) k).1
   allowed_is_done (look t a) l k =
       let x = look_of s.ops a (waits t s.past) s.past in
       let parts = parts_of (look t a) k in
-      plainly (look t a) (and_parts (are_met (conditions s.limits s.ops s.past (look t a))) (same_look x x) parts.0).0 refl parts.1
-  allowed_is_done (drop_task t) l k = plainly (drop_task t) (parts_of (drop_task t) k).0 refl (parts_of (drop_task t) k).1
+      plainly (look t a) (and_parts (are_met (conditions s.limits s.ops s.past (look t a)))
+      (same_look x x) parts.0).0 refl parts.1
+  allowed_is_done (drop_task t) l k =
+      plainly (drop_task t) (parts_of (drop_task t) k).0 refl (parts_of (drop_task t) k).1
 
 pub done_where_allowed : DoneWhereAllowed
 done_where_allowed s c k = (done_is_allowed s c (event_for s.limits s.ops s.past c), allowed_is_done s c k)

@@ -27,8 +27,16 @@ Apart (t ∷ ts) = (has t ts ≡ false) × Apart ts
 -- a registered task has a mode
 pub mode_known : (t : ℕ) (h : List Event) → is_some (mode_of t h) ≡ is_registered t h
 mode_known t [] = refl
-mode_known t (Make u m ∷ h) = elim (u == t) as (λ b. is_some (cond b (Some m) (mode_of t h)) ≡ (b || is_registered t h)) [ true ↦ refl | false ↦ mode_known t h ]
-mode_known t (Reg q u m ∷ h) = elim (u == t) as (λ b. is_some (cond b (Some m) (mode_of t h)) ≡ (b || is_registered t h)) [ true ↦ refl | false ↦ mode_known t h ]
+mode_known t (Make u m ∷ h) =
+    elim (u == t) as (λ b. is_some (cond b (Some m) (mode_of t h)) ≡ (b || is_registered t h)) [
+      | true ↦ refl
+      | false ↦ mode_known t h
+    ]
+mode_known t (Reg q u m ∷ h) =
+    elim (u == t) as (λ b. is_some (cond b (Some m) (mode_of t h)) ≡ (b || is_registered t h)) [
+      | true ↦ refl
+      | false ↦ mode_known t h
+    ]
 mode_known t (e ∷ h) = mode_known t h
 
 pub has-registered_tasks : (t : ℕ) (h : List Event) → has t (registered_tasks h) ≡ is_registered t h
@@ -42,7 +50,9 @@ has-filter p t ts = any-filter_same (λ u. u == t) p (p t) (λ u e. ap p (eqb-tr
 
 -- the live tasks are those that are live
 pub has-live_tasks : (t : ℕ) (h : List Event) → has t (live_tasks h) ≡ is_live t h
-has-live_tasks t h = has-filter (λ u. is_live u h) t (registered_tasks h) ∙ (ap (λ b. is_live t h && b) (has-registered_tasks t h) ∙ again (is_registered t h) (not (is_dropped t h)))
+has-live_tasks t h =
+    has-filter (λ u. is_live u h) t (registered_tasks h) ∙ (ap (λ b. is_live t h && b)
+    (has-registered_tasks t h) ∙ again (is_registered t h) (not (is_dropped t h)))
   where
     again : (a b : Bool) → ((a && b) && a) ≡ (a && b)
     again true true = refl
@@ -61,58 +71,81 @@ empty_is [] k = refl
 empty_is (e ∷ h) k = absurd cc
 
 -- nobody is registered twice
-pub registered_apart : (l : Limits) (ops : List Op) (h : List Event) → is_legal l ops h ≡ true → Apart (registered_tasks h)
+pub registered_apart : (l : Limits) (ops : List Op) (h : List Event) → is_legal l ops h ≡ true
+    → Apart (registered_tasks h)
 registered_apart l ops [] k = tt
 registered_apart l ops (Make u m ∷ h) k =
     let f = last_follows l ops h (Make u m) k in
     let empty : h ≡ [] = empty_is h (and_parts (is_empty h) (nat_lt u l.tasks) f.permitted).0 in
     subst (λ (g : List Event). Apart (u ∷ registered_tasks g)) (sym empty) (refl, tt)
 registered_apart l ops (Reg q u m ∷ h) k =
-    let f = last_follows l ops h (Reg q u m) k in
-    (has-registered_tasks u h ∙ (reg_follows l ops h q u m f.permitted).unknown, registered_apart l ops h f.before)
+    let f = last_follows l ops h (Reg q u m) k in (
+      has-registered_tasks u h
+          ∙ (reg_follows l ops h q u m f.permitted).unknown,
+      registered_apart l ops h f.before,
+    )
 registered_apart l ops (e ∷ h) k = registered_apart l ops h (last_follows l ops h e k).before
 
-pub live_apart : (l : Limits) (ops : List Op) (h : List Event) → is_legal l ops h ≡ true → Apart (live_tasks h)
+pub live_apart : (l : Limits) (ops : List Op) (h : List Event) → is_legal l ops h ≡ true
+    → Apart (live_tasks h)
 live_apart l ops h k = Apart-filter (λ t. is_live t h) (registered_tasks h) (registered_apart l ops h k)
 
 -- nobody has ended more turns than there are events
 pub waits_within : (t : ℕ) (h : List Event) → waits t h ≤ length h
 waits_within t [] = omega arith
-waits_within t (Make u m ∷ h) = elim (u == t) as (λ b. cond b 0 (waits t h) ≤ suc (length h)) [ true ↦ omega arith | false ↦ omega (arith, waits_within t h) ]
+waits_within t (Make u m ∷ h) =
+    elim (u == t) as (λ b. cond b 0 (waits t h) ≤ suc (length h)) [
+      | true ↦ omega arith
+      | false ↦ omega (arith, waits_within t h)
+    ]
 waits_within t (Reg q u m ∷ h) = omega (arith, waits_within (cond (u == t) q t) h)
-waits_within t (Pass u ∷ h) = elim (u == t) as (λ b. cond b (waits t h + 1) (waits t h) ≤ suc (length h)) [ true ↦ omega (arith, waits_within t h) | false ↦ omega (arith, waits_within t h) ]
+waits_within t (Pass u ∷ h) =
+    elim (u == t) as (λ b. cond b (waits t h + 1) (waits t h) ≤ suc (length h)) [
+      | true ↦ omega (arith, waits_within t h)
+      | false ↦ omega (arith, waits_within t h)
+    ]
 waits_within t (e ∷ h) = omega (arith, waits_within t h)
 
 -- a legal history has its room
-pub has_room_now : (l : Limits) (ops : List Op) (h : List Event) → is_legal l ops h ≡ true → has_room l h ≡ true
+pub has_room_now : (l : Limits) (ops : List Op) (h : List Event) → is_legal l ops h ≡ true
+    → has_room l h ≡ true
 has_room_now l ops [] k = le-leb 0 l.history (omega arith)
 has_room_now l ops (e ∷ h) k = (last_follows l ops h e k).room
 
 -- who was never registered was never dropped
-pub fresh_not_dropped : (l : Limits) (ops : List Op) (h : List Event) (t : ℕ) → is_legal l ops h ≡ true → is_registered t h ≡ false → is_dropped t h ≡ false
+pub fresh_not_dropped : (l : Limits) (ops : List Op) (h : List Event) (t : ℕ) → is_legal l ops h ≡ true
+    → is_registered t h ≡ false → is_dropped t h ≡ false
 fresh_not_dropped l ops [] t k r = refl
-fresh_not_dropped l ops (Make u m ∷ h) t k r = fresh_not_dropped l ops h t (last_follows l ops h (Make u m) k).before (or_parts (u == t) (is_registered t h) r).1
-fresh_not_dropped l ops (Reg q u m ∷ h) t k r = fresh_not_dropped l ops h t (last_follows l ops h (Reg q u m) k).before (or_parts (u == t) (is_registered t h) r).1
+fresh_not_dropped l ops (Make u m ∷ h) t k r =
+    fresh_not_dropped l ops h t (last_follows l ops h (Make u m) k).before
+    (or_parts (u == t) (is_registered t h) r).1
+fresh_not_dropped l ops (Reg q u m ∷ h) t k r =
+    fresh_not_dropped l ops h t (last_follows l ops h (Reg q u m) k).before
+    (or_parts (u == t) (is_registered t h) r).1
 fresh_not_dropped l ops (Drop u ∷ h) t k r =
     let f = last_follows l ops h (Drop u) k in
     let live : is_live u h ≡ true = (and_parts (is_live u h) (owes_nothing u h) f.permitted).0 in
     let known : is_registered u h ≡ true = (and_parts (is_registered u h) (not (is_dropped u h)) live).0 in
-    let other : (u == t) ≡ false = ne_eqb u t (λ e. false≢true (sym r ∙ (ap (λ v. is_registered v h) (sym e) ∙ known))) in
+    let other : (u == t) ≡ false =
+    ne_eqb u t (λ e. false≢true (sym r ∙ (ap (λ v. is_registered v h) (sym e) ∙ known))) in
     or_from (u == t) (is_dropped t h) other (fresh_not_dropped l ops h t f.before r)
 fresh_not_dropped l ops (e ∷ h) t k r = fresh_not_dropped l ops h t (last_follows l ops h e k).before r
 
-pub filter_same : (p q : ℕ → Bool) (ts : List ℕ) → ((u : ℕ) → has u ts ≡ true → p u ≡ q u) → filter p ts ≡ filter q ts
+pub filter_same : (p q : ℕ → Bool) (ts : List ℕ) → ((u : ℕ) → has u ts ≡ true → p u ≡ q u)
+    → filter p ts ≡ filter q ts
 filter_same p q [] e = refl
 filter_same p q (t ∷ ts) e =
     let rest : filter p ts ≡ filter q ts = filter_same p q ts (λ u k. e u (or_right (t == u) (has u ts) k)) in
     rw (e t (or_left (t == t) (has t ts) (eq-eqb t t refl)), rest) refl
 
 -- a registration adds its task to the live ones
-pub live_tasks-reg : (l : Limits) (ops : List Op) (h : List Event) (q t : ℕ) (m : Mode) → is_legal l ops h ≡ true → is_registered t h ≡ false
+pub live_tasks-reg : (l : Limits) (ops : List Op) (h : List Event) (q t : ℕ) (m : Mode)
+    → is_legal l ops h ≡ true → is_registered t h ≡ false
     → live_tasks (Reg q t m ∷ h) ≡ t ∷ live_tasks h
 live_tasks-reg l ops h q t m k r =
     let itself : is_live t (Reg q t m ∷ h) ≡ true =
-    and_from ((t == t) || is_registered t h) (not (is_dropped t h)) (or_left (t == t) (is_registered t h) (eq-eqb t t refl)) (ap (λ b. not b) (fresh_not_dropped l ops h t k r))
+    and_from ((t == t) || is_registered t h) (not (is_dropped t h)) (or_left (t == t) (is_registered t h)
+    (eq-eqb t t refl)) (ap (λ b. not b) (fresh_not_dropped l ops h t k r))
     in
     let others : filter (λ u. is_live u (Reg q t m ∷ h)) (registered_tasks h) ≡ live_tasks h =
     filter_same (λ u. is_live u (Reg q t m ∷ h)) (λ u. is_live u h) (registered_tasks h)
@@ -120,7 +153,8 @@ live_tasks-reg l ops h q t m k r =
     let known : is_registered u h ≡ true = sym (has-registered_tasks u h) ∙ e in
     ap (λ b. b && not (is_dropped u h)) (or_right (t == u) (is_registered u h) known ∙ sym known))
     in
-    ap (λ b. cond b (t ∷ filter (λ u. is_live u (Reg q t m ∷ h)) (registered_tasks h)) (filter (λ u. is_live u (Reg q t m ∷ h)) (registered_tasks h))) itself
+    ap (λ b. cond b (t ∷ filter (λ u. is_live u (Reg q t m ∷ h)) (registered_tasks h))
+    (filter (λ u. is_live u (Reg q t m ∷ h)) (registered_tasks h))) itself
     ∙ ap (λ ts. t ∷ ts) others
 
 -- two tests in turn are one
@@ -128,15 +162,18 @@ filter-filter : (p q : ℕ → Bool) (ts : List ℕ) → filter p (filter q ts) 
 filter-filter p q [] = refl
 filter-filter p q (t ∷ ts) =
     let rest : filter p (filter q ts) ≡ filter (λ u. q u && p u) ts = filter-filter p q ts in
-    elim (q t) as (λ b. filter p (cond b (t ∷ filter q ts) (filter q ts)) ≡ cond (b && p t) (t ∷ filter (λ u. q u && p u) ts) (filter (λ u. q u && p u) ts)) [
+    elim (q t) as (λ b. filter p (cond b (t ∷ filter q ts) (filter q ts))
+    ≡ cond (b && p t) (t ∷ filter (λ u. q u && p u) ts) (filter (λ u. q u && p u) ts)) [
       | true ↦ ap (λ us. cond (p t) (t ∷ us) us) rest
       | false ↦ rest
     ]
 
 -- a drop takes its task from the live ones
-pub live_tasks-drop : (h : List Event) (t : ℕ) → live_tasks (Drop t ∷ h) ≡ filter (λ u. not (t == u)) (live_tasks h)
+pub live_tasks-drop : (h : List Event) (t : ℕ)
+    → live_tasks (Drop t ∷ h) ≡ filter (λ u. not (t == u)) (live_tasks h)
 live_tasks-drop h t =
-    filter_same (λ u. is_live u (Drop t ∷ h)) (λ u. is_live u h && not (t == u)) (registered_tasks h) (λ u _. moved (is_registered u h) (t == u) (is_dropped u h))
+    filter_same (λ u. is_live u (Drop t ∷ h)) (λ u. is_live u h && not (t == u)) (registered_tasks h)
+    (λ u _. moved (is_registered u h) (t == u) (is_dropped u h))
     ∙ sym (filter-filter (λ u. not (t == u)) (λ u. is_live u h) (registered_tasks h))
   where
     moved : (a b d : Bool) → (a && not (b || d)) ≡ ((a && not d) && not b)

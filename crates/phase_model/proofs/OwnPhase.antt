@@ -1,5 +1,5 @@
--- A proposer of a legal history has come to the phase that it proposed for; what it owes is that phase's
--- single alone.
+-- A proposer of a legal history has come to the phase that it proposed for;
+-- what it owes is that phase's single alone.
 use Rattle.std.proofs.Common.{◌≡◌, ℕ, ◌<◌, ◌≤◌, nat_lt, Bool, true, false, ◌||◌, ◌&&◌, ◌==◌, not, List, [], ◌∷◌, Some, refl, sym, ◌∙◌, inl, inr, subst, arith}
 use Rattle.std.specs.List.{list_any}
 use Rattle.std.proofs.lemmas.Bool.{cases_Bool, cases_lt, eqb-true, eq-eqb, and_parts, and_from, or_cases, or_left, or_right, false_from_ne_true, false≢true}
@@ -25,7 +25,8 @@ pub record HasCome (t p : ℕ) (h : List Event) : Type 0 where
   pub come : p ≤ waits t h
 
 -- each proposer has come to the phase that it proposed for
-pub proposer_has_come : (l : Limits) (ops : List Op) (h : List Event) → is_legal l ops h ≡ true → (t p : ℕ) → has_proposed t p h ≡ true → HasCome t p h
+pub proposer_has_come : (l : Limits) (ops : List Op) (h : List Event) → is_legal l ops h ≡ true → (t p : ℕ)
+    → has_proposed t p h ≡ true → HasCome t p h
 proposer_has_come l ops [] k t p s = absurd cc
 proposer_has_come l ops (Make u m ∷ h) k t p s =
     let empty = (and_parts (is_empty h) (nat_lt u l.tasks) (last_follows l ops h (Make u m) k).permitted).0 in
@@ -34,7 +35,9 @@ proposer_has_come l ops (Reg q u m ∷ h) k t p s =
     let f = last_follows l ops h (Reg q u m) k in
     let g = proposer_has_come l ops h f.before t p s in
     let unknown = (reg_follows l ops h q u m f.permitted).unknown in
-    let other : (u == t) ≡ false = false_from_ne_true (u == t) (λ e. false≢true (sym (unknown_proposed_nothing l ops h f.before t p (subst (λ v. is_registered v h ≡ false) (eqb-true u t e) unknown)) ∙ s)) in
+    let other : (u == t) ≡ false =
+    false_from_ne_true (u == t) (λ e. false≢true (sym (unknown_proposed_nothing l ops h f.before t p
+    (subst (λ v. is_registered v h ≡ false) (eqb-true u t e) unknown)) ∙ s)) in
     record { single = rw other g.single; come = rw other g.come }
 proposer_has_come l ops (Sig u (Some n) ∷ h) k t p s =
     let f = last_follows l ops h (Sig u (Some n)) k in
@@ -42,8 +45,16 @@ proposer_has_come l ops (Sig u (Some n) ∷ h) k t p s =
       | inl e ↦
           let d = and_parts (u == t) (signals u h == p) e in
           subst (λ v. HasCome v p (Sig u (Some n) ∷ h)) (eqb-true u t d.0)
-          (record { single = (proposal_follows l ops h u n f.permitted).single; come = omega (arith, (sig_follows l ops h u (Some n) f.permitted).behind, eqb-true (signals u h) p d.1) })
-      | inr e ↦ let g = proposer_has_come l ops h f.before t p e in record { single = g.single; come = g.come }
+          (record {
+            single = (proposal_follows l ops h u n f.permitted).single;
+            come = omega (
+              arith,
+              (sig_follows l ops h u (Some n) f.permitted).behind,
+              eqb-true (signals u h) p d.1,
+            );
+          })
+      | inr e ↦
+          let g = proposer_has_come l ops h f.before t p e in record { single = g.single; come = g.come }
     ]
 proposer_has_come l ops (Pass u ∷ h) k t p s =
     let g = proposer_has_come l ops h (last_follows l ops h (Pass u) k).before t p s in
@@ -51,23 +62,31 @@ proposer_has_come l ops (Pass u ∷ h) k t p s =
       | inl e ↦ record { single = g.single; come = rw e (omega (arith, g.come)) }
       | inr e ↦ record { single = g.single; come = rw e g.come }
     ]
-proposer_has_come l ops (e ∷ h) k t p s = let g = proposer_has_come l ops h (last_follows l ops h e k).before t p s in record { single = g.single; come = g.come }
+proposer_has_come l ops (e ∷ h) k t p s =
+    let g = proposer_has_come l ops h (last_follows l ops h e k).before t p s in
+    record { single = g.single; come = g.come }
 
 -- a proposer has come to the phase, and where it has passed it, the single is done
-pub own_phase : (l : Limits) (ops : List Op) (h : List Event) → is_legal l ops h ≡ true → (t p : ℕ) → has_proposed t p h ≡ true
+pub own_phase : (l : Limits) (ops : List Op) (h : List Event) → is_legal l ops h ≡ true → (t p : ℕ)
+    → has_proposed t p h ≡ true
     → (p ≤ waits t h) × (p < waits t h → is_settled p h ≡ true)
 own_phase l ops h k t p s =
     let g = proposer_has_come l ops h k t p s in
     (g.come, λ less. settled_behind l ops h k t p (single_waits t h g.single) less)
 
 -- who proposed for settled phases only owes nothing
-owes_none_from : (t : ℕ) (h : List Event) (xs : List Proposal) → ((p : ℕ) → list_any (λ x. x.task == t && x.phase == p) xs ≡ true → is_settled p h ≡ true) → owes_none_of t h xs ≡ true
+owes_none_from : (t : ℕ) (h : List Event) (xs : List Proposal)
+    → ((p : ℕ) → list_any (λ x. x.task == t && x.phase == p) xs ≡ true → is_settled p h ≡ true)
+    → owes_none_of t h xs ≡ true
 owes_none_from t h [] each = refl
 owes_none_from t h (x ∷ xs) each =
     and_from (not (x.task == t) || is_settled x.phase h) (owes_none_of t h xs)
     (implies (x.task == t) (is_settled x.phase h) (λ e.
-    each x.phase (or_left (x.task == t && x.phase == x.phase) (list_any (λ y. y.task == t && y.phase == x.phase) xs) (and_from (x.task == t) (x.phase == x.phase) e (eq-eqb x.phase x.phase refl)))))
-    (owes_none_from t h xs (λ p k. each p (or_right (x.task == t && x.phase == p) (list_any (λ y. y.task == t && y.phase == p) xs) k)))
+    each x.phase
+    (or_left (x.task == t && x.phase == x.phase) (list_any (λ y. y.task == t && y.phase == x.phase) xs)
+    (and_from (x.task == t) (x.phase == x.phase) e (eq-eqb x.phase x.phase refl)))))
+    (owes_none_from t h xs (λ p k. each p
+    (or_right (x.task == t && x.phase == p) (list_any (λ y. y.task == t && y.phase == p) xs) k)))
 
 same_tests : (a b : Bool) → (a ≡ true → b ≡ true) → (b ≡ true → a ≡ true) → a ≡ b
 same_tests true b f g = sym (f refl)

@@ -25,7 +25,8 @@ some_proposal p [] k = absurd cc
 some_proposal p (e ∷ h) k = refl
 
 none_of : (m p : ℕ) (xs : List Proposal) → option_map (λ x. x.number) (find (λ x. x.phase == p) xs) ≡ None
-    → (list_any (λ x. x.phase == p) xs ≡ false) × (list_any (λ x. x.phase == p && not (x.number == m)) xs ≡ false)
+    → (list_any (λ x. x.phase == p) xs ≡ false)
+    × (list_any (λ x. x.phase == p && not (x.number == m)) xs ≡ false)
 none_of m p [] k = (refl, refl)
 none_of m p (x ∷ xs) k =
     elim (cases_Bool (x.phase == p)) [
@@ -37,7 +38,8 @@ none_of m p (x ∷ xs) k =
     some_is_not n e = cc
 
 -- where a phase has no number, nobody proposed for it
-pub no_number : (h : List Event) (m p : ℕ) → number_of p h ≡ None → (is_proposed p h ≡ false) × (is_mismatch m p h ≡ false)
+pub no_number : (h : List Event) (m p : ℕ) → number_of p h ≡ None
+    → (is_proposed p h ≡ false) × (is_mismatch m p h ≡ false)
 no_number h m p k = none_of m p (proposals h) k
 
 -- a phase that is proposed for has a number
@@ -49,7 +51,8 @@ has_number h p k = go (number_of p h) refl
     go None e = absurd (false≢true (sym (no_number h 0 p e).0 ∙ k))
 
 -- where n is no mismatch, whichever number stands is n
-one_number : (n m p : ℕ) (h : List Event) → ((i m : ℕ) → number_of p h ≡ Some i → is_mismatch m p h ≡ not (i == m)) → is_mismatch n p h ≡ false
+one_number : (n m p : ℕ) (h : List Event)
+    → ((i m : ℕ) → number_of p h ≡ Some i → is_mismatch m p h ≡ not (i == m)) → is_mismatch n p h ≡ false
     → (not (n == m) || is_mismatch m p h) ≡ not (n == m)
 one_number n m p h each agrees = go (number_of p h) refl
   where
@@ -68,7 +71,8 @@ one_number n m p h each agrees = go (number_of p h) refl
         twice (not (n == m)) (is_mismatch m p h) (each i m q ∙ ap (λ j. not (j == m)) same)
 
 -- all numbers proposed for a phase are the same
-pub numbers_agree : (l : Limits) (ops : List Op) (h : List Event) → is_legal l ops h ≡ true → (n m p : ℕ) → number_of p h ≡ Some n → is_mismatch m p h ≡ not (n == m)
+pub numbers_agree : (l : Limits) (ops : List Op) (h : List Event) → is_legal l ops h ≡ true → (n m p : ℕ)
+    → number_of p h ≡ Some n → is_mismatch m p h ≡ not (n == m)
 numbers_agree l ops [] k n m p e = absurd cc
 numbers_agree l ops (Sig u (Some j) ∷ h) k n m p e =
     let f = last_follows l ops h (Sig u (Some j)) k in
@@ -76,45 +80,63 @@ numbers_agree l ops (Sig u (Some j) ∷ h) k n m p e =
       | inl now ↦
           let number : ◌≡◌ {A = Option ℕ} (Some j) (Some n) = rw now at e in
           let same : j ≡ n = cc in
-          let agrees : is_mismatch j p h ≡ false = subst (λ q. is_mismatch j q h ≡ false) (eqb-true (signals u h) p now) (proposal_follows l ops h u j f.permitted).agrees in
-          rw (now, same) (one_number n m p h (λ i v q. numbers_agree l ops h f.before i v p q) (rw same at agrees))
+          let agrees : is_mismatch j p h ≡ false =
+          subst (λ q. is_mismatch j q h ≡ false) (eqb-true (signals u h) p now)
+          (proposal_follows l ops h u j f.permitted).agrees in
+          rw (now, same)
+          (one_number n m p h (λ i v q. numbers_agree l ops h f.before i v p q) (rw same at agrees))
       | inr other ↦ rw other (numbers_agree l ops h f.before n m p (rw other at e))
     ]
 numbers_agree l ops (x ∷ h) k n m p e = numbers_agree l ops h (last_follows l ops h x k).before n m p e
 
 -- who was never registered proposed nothing
-pub unknown_proposed_nothing : (l : Limits) (ops : List Op) (h : List Event) → is_legal l ops h ≡ true → (t p : ℕ) → is_registered t h ≡ false → has_proposed t p h ≡ false
+pub unknown_proposed_nothing : (l : Limits) (ops : List Op) (h : List Event) → is_legal l ops h ≡ true
+    → (t p : ℕ) → is_registered t h ≡ false → has_proposed t p h ≡ false
 unknown_proposed_nothing l ops [] k t p r = refl
-unknown_proposed_nothing l ops (Make u m ∷ h) k t p r = unknown_proposed_nothing l ops h (last_follows l ops h (Make u m) k).before t p (or_parts (u == t) (is_registered t h) r).1
-unknown_proposed_nothing l ops (Reg q u m ∷ h) k t p r = unknown_proposed_nothing l ops h (last_follows l ops h (Reg q u m) k).before t p (or_parts (u == t) (is_registered t h) r).1
+unknown_proposed_nothing l ops (Make u m ∷ h) k t p r =
+    unknown_proposed_nothing l ops h (last_follows l ops h (Make u m) k).before t p
+    (or_parts (u == t) (is_registered t h) r).1
+unknown_proposed_nothing l ops (Reg q u m ∷ h) k t p r =
+    unknown_proposed_nothing l ops h (last_follows l ops h (Reg q u m) k).before t p
+    (or_parts (u == t) (is_registered t h) r).1
 unknown_proposed_nothing l ops (Sig u (Some n) ∷ h) k t p r =
     let f = last_follows l ops h (Sig u (Some n)) k in
     let known = registered_live u h (sig_follows l ops h u (Some n) f.permitted).live in
-    let other : (u == t) ≡ false = ne_eqb u t (λ e. false≢true (sym r ∙ subst (λ v. is_registered v h ≡ true) e known)) in
+    let other : (u == t) ≡ false =
+    ne_eqb u t (λ e. false≢true (sym r ∙ subst (λ v. is_registered v h ≡ true) e known)) in
     rw other (unknown_proposed_nothing l ops h f.before t p r)
-unknown_proposed_nothing l ops (e ∷ h) k t p r = unknown_proposed_nothing l ops h (last_follows l ops h e k).before t p r
+unknown_proposed_nothing l ops (e ∷ h) k t p r =
+    unknown_proposed_nothing l ops h (last_follows l ops h e k).before t p r
 
 -- and claimed nothing
-pub unknown_claimed_nothing : (l : Limits) (ops : List Op) (h : List Event) → is_legal l ops h ≡ true → (t p : ℕ) → is_registered t h ≡ false → has_claimed t p h ≡ false
+pub unknown_claimed_nothing : (l : Limits) (ops : List Op) (h : List Event) → is_legal l ops h ≡ true
+    → (t p : ℕ) → is_registered t h ≡ false → has_claimed t p h ≡ false
 unknown_claimed_nothing l ops h k t p r =
-    false_from_ne_true (has_claimed t p h) (λ c. false≢true (sym (unknown_proposed_nothing l ops h k t p r) ∙ claimed_proposed l ops h k t p c))
+    false_from_ne_true (has_claimed t p h)
+    (λ c. false≢true (sym (unknown_proposed_nothing l ops h k t p r) ∙ claimed_proposed l ops h k t p c))
 
 -- no live signaller is behind a waiter
-pub none_behind : (l : Limits) (ops : List Op) (h : List Event) → is_legal l ops h ≡ true → (t n : ℕ) → has_mode can_wait t h ≡ true → n ≤ waits t h → HaveSignalled n h
+pub none_behind : (l : Limits) (ops : List Op) (h : List Event) → is_legal l ops h ≡ true → (t n : ℕ)
+    → has_mode can_wait t h ≡ true → n ≤ waits t h → HaveSignalled n h
 none_behind l ops h k t n w at u live signaller =
     elim (cases_lt 0 n) [
-      | inl some ↦ omega (arith, (over_behind l ops h k t (n - 1) w (omega (arith, some, at))).closed u live signaller)
+      | inl some ↦
+          omega (arith, (over_behind l ops h k t (n - 1) w (omega (arith, some, at))).closed u live signaller)
       | inr none ↦ omega (arith, none)
     ]
 
 -- who proposed n now stands at its phase
-proposing_waits : (l : Limits) (ops : List Op) (h : List Event) (u n : ℕ) → is_legal l ops (Sig u (Some n) ∷ h) ≡ true → (has_mode can_wait u h ≡ true) × (signals u h ≡ waits u h)
+proposing_waits : (l : Limits) (ops : List Op) (h : List Event) (u n : ℕ)
+    → is_legal l ops (Sig u (Some n) ∷ h) ≡ true → (has_mode can_wait u h ≡ true) × (signals u h ≡ waits u h)
 proposing_waits l ops h u n k =
-    let f = last_follows l ops h (Sig u (Some n)) k in
-    (single_waits u h (proposal_follows l ops h u n f.permitted).single, (sig_follows l ops h u (Some n) f.permitted).behind)
+    let f = last_follows l ops h (Sig u (Some n)) k in (
+      single_waits u h (proposal_follows l ops h u n f.permitted).single,
+      (sig_follows l ops h u (Some n) f.permitted).behind,
+    )
 
 -- each live signaller has signalled the phases before one that is proposed for
-pub proposed_signalled : (l : Limits) (ops : List Op) (h : List Event) → is_legal l ops h ≡ true → (p : ℕ) → is_proposed p h ≡ true → HaveSignalled p h
+pub proposed_signalled : (l : Limits) (ops : List Op) (h : List Event) → is_legal l ops h ≡ true → (p : ℕ)
+    → is_proposed p h ≡ true → HaveSignalled p h
 proposed_signalled l ops [] k p s = absurd cc
 proposed_signalled l ops (Sig u (Some n) ∷ h) k p s =
     let f = last_follows l ops h (Sig u (Some n)) k in
@@ -124,15 +146,19 @@ proposed_signalled l ops (Sig u (Some n) ∷ h) k p s =
       | inl e ↦ none_behind l ops h f.before u p w.0 (omega (arith, w.1, eqb-true (signals u h) p e))
       | inr e ↦ proposed_signalled l ops h f.before p e
     ])
-proposed_signalled l ops (e ∷ h) k p s = signalled_stays l ops p e h k (some_proposal p h s) (proposed_signalled l ops h (last_follows l ops h e k).before p s)
+proposed_signalled l ops (e ∷ h) k p s =
+    signalled_stays l ops p e h k (some_proposal p h s)
+    (proposed_signalled l ops h (last_follows l ops h e k).before p s)
 
 -- so no live signaller is behind a proposal
-pub signals_past_proposals : (l : Limits) (ops : List Op) (h : List Event) → is_legal l ops h ≡ true → (t p : ℕ)
+pub signals_past_proposals : (l : Limits) (ops : List Op) (h : List Event)
+    → is_legal l ops h ≡ true → (t p : ℕ)
     → is_proposed p h ≡ true → is_live t h ≡ true → has_mode can_signal t h ≡ true → p ≤ signals t h
 signals_past_proposals l ops h k t p s live signaller = proposed_signalled l ops h k p s t live signaller
 
 -- a phase before one that is proposed for is over
-pub over_before : (l : Limits) (ops : List Op) (h : List Event) → is_legal l ops h ≡ true → (p q : ℕ) → is_proposed q h ≡ true → p < q → IsOver p h
+pub over_before : (l : Limits) (ops : List Op) (h : List Event) → is_legal l ops h ≡ true → (p q : ℕ)
+    → is_proposed q h ≡ true → p < q → IsOver p h
 over_before l ops [] k p q s less = absurd cc
 over_before l ops (Sig u (Some n) ∷ h) k p q s less =
     let f = last_follows l ops h (Sig u (Some n)) k in
@@ -142,15 +168,19 @@ over_before l ops (Sig u (Some n) ∷ h) k p q s less =
       | inl e ↦ over_behind l ops h f.before u p w.0 (omega (arith, less, w.1, eqb-true (signals u h) q e))
       | inr e ↦ over_before l ops h f.before p q e less
     ])
-over_before l ops (e ∷ h) k p q s less = over_stays l ops p e h k (some_proposal q h s) (over_before l ops h (last_follows l ops h e k).before p q s less)
+over_before l ops (e ∷ h) k p q s less =
+    over_stays l ops p e h k (some_proposal q h s)
+    (over_before l ops h (last_follows l ops h e k).before p q s less)
 
 -- no phase after an open single's is proposed for
 pub open_is_last : (l : Limits) (ops : List Op) (h : List Event) → is_legal l ops h ≡ true → (p q : ℕ)
     → is_proposed p h ≡ true → is_done p h ≡ false → p < q → is_proposed q h ≡ false
 open_is_last l ops h k p q s d less =
-    false_from_ne_true (is_proposed q h) (λ e. false≢true (sym d ∙ implied (is_proposed p h) (is_done p h) (over_before l ops h k p q e less).settled s))
+    false_from_ne_true (is_proposed q h) (λ e. false≢true
+    (sym d ∙ implied (is_proposed p h) (is_done p h) (over_before l ops h k p q e less).settled s))
 
 -- where two phases are proposed for, the earlier one's single is done
 pub earlier_are_done : (l : Limits) (ops : List Op) (h : List Event) → is_legal l ops h ≡ true → (p q : ℕ)
     → is_proposed p h ≡ true → is_proposed q h ≡ true → q < p → is_done q h ≡ true
-earlier_are_done l ops h k p q s e less = implied (is_proposed q h) (is_done q h) (over_before l ops h k q p s less).settled e
+earlier_are_done l ops h k p q s e less =
+    implied (is_proposed q h) (is_done q h) (over_before l ops h k q p s less).settled e

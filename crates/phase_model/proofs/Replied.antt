@@ -24,26 +24,30 @@ use Rattle.phase_model.specs.Replies.{Reply, refused, not_yet, done, event_for, 
 
 -- a reply by its parts
 pub reply_by : (s : Story) (c : Call) (o : Option Refusal) (w : Bool) (e : Event)
-    → first_refusal (conditions s.limits s.ops s.past c) ≡ o → must_wait s.limits s.ops s.past c ≡ w → event_for s.limits s.ops s.past c ≡ e
+    → first_refusal (conditions s.limits s.ops s.past c) ≡ o → must_wait s.limits s.ops s.past c ≡ w
+    → event_for s.limits s.ops s.past c ≡ e
     → reply s c ≡ settled o w (has_room s.limits (e ∷ s.past)) e
 reply_by s c o w e a b d =
     let f = event_for s.limits s.ops s.past c in
     let v = must_wait s.limits s.ops s.past c in
     ap (λ x. settled x v (has_room s.limits (f ∷ s.past)) f) a
-    ∙ (ap (λ x. settled o x (has_room s.limits (f ∷ s.past)) f) b ∙ ap (λ x. settled o w (has_room s.limits (x ∷ s.past)) x) d)
+    ∙ (ap (λ x. settled o x (has_room s.limits (f ∷ s.past)) f) b
+    ∙ ap (λ x. settled o w (has_room s.limits (x ∷ s.past)) x) d)
 
 pub record IsDone (o : Option Refusal) (waiting room : Bool) : Type 0 where
   pub no_cause : o ≡ None
   pub no_wait : waiting ≡ false
   pub has_room : room ≡ true
 
-pub settled_done : (o : Option Refusal) (waiting room : Bool) (e f : Event) → settled o waiting room e ≡ done f → IsDone o waiting room × (e ≡ f)
+pub settled_done : (o : Option Refusal) (waiting room : Bool) (e f : Event)
+    → settled o waiting room e ≡ done f → IsDone o waiting room × (e ≡ f)
 settled_done (Some r) w b e f k = absurd cc
 settled_done None true b e f k = absurd cc
 settled_done None false true e f k = (record { no_cause = refl; no_wait = refl; has_room = refl }, cc)
 settled_done None false false e f k = absurd cc
 
-going : (m w x c : Bool) → m ≡ true → (w && not (m && (not w || x)) && not c) ≡ false → c ≡ false → (m && (not w || x)) ≡ true
+going : (m w x c : Bool) → m ≡ true → (w && not (m && (not w || x)) && not c) ≡ false → c ≡ false
+    → (m && (not w || x)) ≡ true
 going true false x c k n e = refl
 going true true true c k n e = refl
 going true true false true k n e = absurd cc
@@ -56,17 +60,20 @@ same_as_itself Nothing = refl
 
 module _ (l : Limits) (ops : List Op) (h : List Event) where
   -- a pass that need not wait claims or passes
-  passing : (t : ℕ) → are_met (conditions l ops h (pass t)) ≡ true → must_wait l ops h (pass t) ≡ false → is_permitted l ops h (event_for l ops h (pass t)) ≡ true
+  passing : (t : ℕ) → are_met (conditions l ops h (pass t)) ≡ true → must_wait l ops h (pass t) ≡ false
+      → is_permitted l ops h (event_for l ops h (pass t)) ≡ true
   passing t k w =
       elim (cases_Bool (is_permitted l ops h (Claim t))) [
         | inl e ↦ subst (λ b. is_permitted l ops h (cond b (Claim t) (Pass t)) ≡ true) (sym e) e
         | inr e ↦
             subst (λ b. is_permitted l ops h (cond b (Claim t) (Pass t)) ≡ true) (sym e)
-            (going (are_met (conditions l ops h (pass t))) (has_mode can_wait t h) (is_closed (waits t h) h && is_settled (waits t h) h) (is_permitted l ops h (Claim t)) k w e)
+            (going (are_met (conditions l ops h (pass t))) (has_mode can_wait t h) (is_closed (waits t h) h
+            && is_settled (waits t h) h) (is_permitted l ops h (Claim t)) k w e)
       ]
 
   -- a call whose conditions are met, and that need not wait, has an event that may follow
-  permitted : (c : Call) → are_met (conditions l ops h c) ≡ true → must_wait l ops h c ≡ false → is_permitted l ops h (event_for l ops h c) ≡ true
+  permitted : (c : Call) → are_met (conditions l ops h c) ≡ true → must_wait l ops h c ≡ false
+      → is_permitted l ops h (event_for l ops h c) ≡ true
   permitted (make t m) k w = k
   permitted (register q t m) k w = k
   permitted (signal t x) k w = k
@@ -79,12 +86,17 @@ module _ (l : Limits) (ops : List Op) (h : List Event) where
   permitted (drop_task t) k w = k
 
 -- the event of a call that is done may follow
-pub done_is_allowed : (s : Story) (c : Call) (e : Event) → reply s c ≡ done e → is_allowed s.limits s.ops s.past e ≡ true
+pub done_is_allowed : (s : Story) (c : Call) (e : Event) → reply s c ≡ done e
+    → is_allowed s.limits s.ops s.past e ≡ true
 done_is_allowed s c e k =
     let f = event_for s.limits s.ops s.past c in
-    let d = settled_done (first_refusal (conditions s.limits s.ops s.past c)) (must_wait s.limits s.ops s.past c) (has_room s.limits (f ∷ s.past)) f e k in
+    let d =
+    settled_done (first_refusal (conditions s.limits s.ops s.past c)) (must_wait s.limits s.ops s.past c)
+    (has_room s.limits (f ∷ s.past)) f e k in
     subst (λ g. is_allowed s.limits s.ops s.past g ≡ true) d.1
-    (and_from (is_permitted s.limits s.ops s.past f) (has_room s.limits (f ∷ s.past)) (permitted s.limits s.ops s.past c (met_where_none (conditions s.limits s.ops s.past c) d.0.no_cause) d.0.no_wait) d.0.has_room)
+    (and_from (is_permitted s.limits s.ops s.past f) (has_room s.limits (f ∷ s.past))
+    (permitted s.limits s.ops s.past c
+    (met_where_none (conditions s.limits s.ops s.past c) d.0.no_cause) d.0.no_wait) d.0.has_room)
 
 -- a legal history stays legal, whatever is called
 pub legal_after : (s : Story) (c : Call) → is_legal s.limits s.ops s.past ≡ true
@@ -94,7 +106,9 @@ legal_after s c k = go (reply s c) refl
     go : (r : Reply) → reply s c ≡ r → is_legal (after s r).limits (after s r).ops (after s r).past ≡ true
     go (refused r) e = k
     go not_yet e = k
-    go (done f) e = and_from (is_allowed s.limits s.ops s.past f) (is_legal s.limits s.ops s.past) (done_is_allowed s c f e) k
+    go (done f) e =
+        and_from (is_allowed s.limits s.ops s.past f) (is_legal s.limits s.ops s.past)
+        (done_is_allowed s c f e) k
 
 -- and so over every list of calls
 pub all_legal : (s : Story) (cs : List Call) → IsLegal s → IsLegal (after_calls s cs)

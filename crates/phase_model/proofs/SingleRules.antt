@@ -16,7 +16,8 @@ pub record ProposalFollows (h : List Event) (t n : ℕ) : Type 0 where
   pub single : has_mode can_single t h ≡ true
   pub agrees : is_mismatch n (signals t h) h ≡ false
 
-pub proposal_follows : (l : Limits) (ops : List Op) (h : List Event) (t n : ℕ) → is_permitted l ops h (Sig t (Some n)) ≡ true → ProposalFollows h t n
+pub proposal_follows : (l : Limits) (ops : List Op) (h : List Event) (t n : ℕ)
+    → is_permitted l ops h (Sig t (Some n)) ≡ true → ProposalFollows h t n
 proposal_follows l ops h t n k =
     let a = is_live t h in
     let b = has_mode can_signal t h in
@@ -25,7 +26,10 @@ proposal_follows l ops h t n k =
     let e = not (is_mismatch n (signals t h) h) in
     let k4 = and_parts (a && b && c && d) e k in
     let k2 = and_parts (a && b) c (and_parts (a && b && c) d k4.0).0 in
-    record { single = twice (has_mode can_single t h) k2.1; agrees = not-true (is_mismatch n (signals t h) h) k4.1 }
+    record {
+      single = twice (has_mode can_single t h) k2.1;
+      agrees = not-true (is_mismatch n (signals t h) h) k4.1;
+    }
   where
     twice : (x : Bool) → not (true && not x) ≡ true → x ≡ true
     twice true h = refl
@@ -38,7 +42,8 @@ pub record ClaimFollows (h : List Event) (t : ℕ) : Type 0 where
   pub closed : is_closed (waits t h) h ≡ true
   pub unclaimed : is_claimed (waits t h) h ≡ false
 
-pub claim_follows : (l : Limits) (ops : List Op) (h : List Event) (t : ℕ) → is_permitted l ops h (Claim t) ≡ true → ClaimFollows h t
+pub claim_follows : (l : Limits) (ops : List Op) (h : List Event) (t : ℕ)
+    → is_permitted l ops h (Claim t) ≡ true → ClaimFollows h t
 claim_follows l ops h t k =
     let a = is_live t h in
     let b = has_proposed t (waits t h) h in
@@ -47,7 +52,12 @@ claim_follows l ops h t k =
     let k3 = and_parts (a && b && c) d k in
     let k2 = and_parts (a && b) c k3.0 in
     let k1 = and_parts a b k2.0 in
-    record { live = k1.0; proposed = k1.1; closed = k2.1; unclaimed = not-true (is_claimed (waits t h) h) k3.1 }
+    record {
+      live = k1.0;
+      proposed = k1.1;
+      closed = k2.1;
+      unclaimed = not-true (is_claimed (waits t h) h) k3.1;
+    }
 
 -- of a report
 pub record DidFollows (h : List Event) (t : ℕ) : Type 0 where
@@ -55,7 +65,8 @@ pub record DidFollows (h : List Event) (t : ℕ) : Type 0 where
   pub claimed : has_claimed t (waits t h) h ≡ true
   pub undone : is_done (waits t h) h ≡ false
 
-pub did_follows : (l : Limits) (ops : List Op) (h : List Event) (t : ℕ) → is_permitted l ops h (Did t) ≡ true → DidFollows h t
+pub did_follows : (l : Limits) (ops : List Op) (h : List Event) (t : ℕ)
+    → is_permitted l ops h (Did t) ≡ true → DidFollows h t
 did_follows l ops h t k =
     let a = is_live t h in
     let b = has_claimed t (waits t h) h in

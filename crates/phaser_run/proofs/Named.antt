@@ -17,12 +17,14 @@ use Rattle.phaser_run.specs.CommandLine.{file_among, file_in, job_in, program_ap
 
 -- the name that a subcommand's rows go by
 module _ {Z : Type 0} where
-  name_of_rows : (o : Option (Box SubCommand Z)) → option_map (λ p. p.0) (subcommand_rows o) ≡ option_map (λ b. (out-SubCommand (box_value b)).name.now) o
+  name_of_rows : (o : Option (Box SubCommand Z)) → option_map (λ p. p.0) (subcommand_rows o)
+      ≡ option_map (λ b. (out-SubCommand (box_value b)).name.now) o
   name_of_rows None = refl
   name_of_rows (Some b) = refl
 
 -- an entered subcommand, by its name and its rows
-pair_of : (o : Option (Text × List Row)) (name : Text) (rows : List Row) → Some name ≡ option_map (λ p. p.0) o → Some rows ≡ option_map (λ p. p.1) o → option_and_then file_among o ≡ file_among (name, rows)
+pair_of : (o : Option (Text × List Row)) (name : Text) (rows : List Row) → Some name ≡ option_map (λ p. p.0) o
+    → Some rows ≡ option_map (λ p. p.1) o → option_and_then file_among o ≡ file_among (name, rows)
 pair_of None name rows named entered = cc
 pair_of (Some p) name rows named entered =
     let same_name : name ≡ p.0 = cc in
@@ -30,12 +32,16 @@ pair_of (Some p) name rows named entered =
     rw (same_name, same_rows) refl
 
 -- the matches of the program's command are those of its words
-pub entered_at : (words : List Text) (command : Command) (m : ArgMatches) → app_of command ≡ program_app → HasMatchesOf (app_of command) words m → subcommand_rows_of m ≡ subcommand_of program_app words
-entered_at words command m app matches = (matches (ap is_simple app)).1 ∙ ap (λ (a : App). subcommand_of a words) app
+pub entered_at : (words : List Text) (command : Command) (m : ArgMatches) → app_of command ≡ program_app
+    → HasMatchesOf (app_of command) words m → subcommand_rows_of m ≡ subcommand_of program_app words
+entered_at words command m app matches =
+    (matches (ap is_simple app)).1 ∙ ap (λ (a : App). subcommand_of a words) app
 
 -- what the words name, where a subcommand was entered
-pub entered_file : (words : List Text) (m found : ArgMatches) (name : Text) → subcommand_rows_of m ≡ subcommand_of program_app words → Some name ≡ subcommand_name_of m
-    → Some (rows_of (found_of found)) ≡ option_map (λ p. p.1) (subcommand_rows_of m) → file_in words ≡ file_among (name, rows_of (found_of found))
+pub entered_file : (words : List Text) (m found : ArgMatches) (name : Text)
+    → subcommand_rows_of m ≡ subcommand_of program_app words → Some name ≡ subcommand_name_of m
+    → Some (rows_of (found_of found)) ≡ option_map (λ p. p.1) (subcommand_rows_of m)
+    → file_in words ≡ file_among (name, rows_of (found_of found))
 unfolding file_in
 entered_file words m found name entered named rows =
     pair_of (subcommand_of program_app words) name (rows_of (found_of found))
@@ -43,26 +49,31 @@ entered_file words m found name entered named rows =
     (rows ∙ ap (option_map (λ p. p.1)) entered)
 
 -- of `events` it is the value of FILE
-pub events_file : (words : List Text) (found : ArgMatches) (name : Text) (value : Option Text) → file_in words ≡ file_among (name, rows_of (found_of found)) → name ≡ codes "events"
+pub events_file : (words : List Text) (found : ArgMatches) (name : Text) (value : Option Text)
+    → file_in words ≡ file_among (name, rows_of (found_of found)) → name ≡ codes "events"
     → value ≡ first_value (found_of found) (codes "file") → file_in words ≡ value
 events_file words found name value named events is =
     let first = first_value-rows (found_of found) (codes "file") in
     named ∙ ap (λ (n : Text). file_among (n, rows_of (found_of found))) events ∙ sym first ∙ sym is
 
 -- another subcommand has none
-without_file : (is_events : Bool) (name : Text) (rows : List Row) → bytes_eq name (codes "events") ≡ is_events → (name ≡ codes "events" → ⊥) → file_among (name, rows) ≡ None
+without_file : (is_events : Bool) (name : Text) (rows : List Row) → bytes_eq name (codes "events") ≡ is_events
+    → (name ≡ codes "events" → ⊥) → file_among (name, rows) ≡ None
 without_file false name rows e other = rw e refl
 without_file true name rows e other = absurd (other ((bytes_eq-Decides name (codes "events")).0 e))
 
-pub other_file : (name : Text) (rows : List Row) → (name ≡ codes "events" → ⊥) → file_among (name, rows) ≡ None
+pub other_file : (name : Text) (rows : List Row) → (name ≡ codes "events" → ⊥)
+    → file_among (name, rows) ≡ None
 other_file name rows other = without_file (bytes_eq name (codes "events")) name rows refl other
 
 -- words that name a job have no fault, and name its file
-faultless_of : (faults : Kinds) (named : Option Text) (file : Text) → (if is_empty faults then named else None) ≡ Some file → (faults ≡ []) × (named ≡ Some file)
+faultless_of : (faults : Kinds) (named : Option Text) (file : Text)
+    → (if is_empty faults then named else None) ≡ Some file → (faults ≡ []) × (named ≡ Some file)
 faultless_of [] named file e = (refl, e)
 faultless_of (k ∷ ks) named file e = cc
 
-pub job_named : (words : List Text) (file : Text) → job_in words ≡ Some file → (fault_of program_app words ≡ []) × (file_in words ≡ Some file)
+pub job_named : (words : List Text) (file : Text) → job_in words ≡ Some file
+    → (fault_of program_app words ≡ []) × (file_in words ≡ Some file)
 unfolding job_in
 job_named words file e = faultless_of (fault_of program_app words) (file_in words) file e
 
@@ -78,8 +89,11 @@ none_at_fault [] e none (inr among) = absurd among
 none_at_fault (k ∷ ks) e none h = cc
 
 -- the program's command is simple, so its faults are known
-pub fault_at : (words : List Text) (command : Command) → app_of command ≡ program_app → fault_of (app_of command) words ≡ fault_of program_app words
+pub fault_at : (words : List Text) (command : Command) → app_of command ≡ program_app
+    → fault_of (app_of command) words ≡ fault_of program_app words
 fault_at words command app = ap (λ (a : App). fault_of a words) app
 
-pub memory_alone : (words : List Text) (command : Command) (e : Error) → app_of command ≡ program_app → fault_of program_app words ≡ [] → HasKind (fault_of (app_of command) words) e → kind_of e ≡ OutOfMemory
-memory_alone words command e app none h = none_at_fault (fault_of (app_of command) words) e (fault_at words command app ∙ none) h
+pub memory_alone : (words : List Text) (command : Command) (e : Error) → app_of command ≡ program_app
+    → fault_of program_app words ≡ [] → HasKind (fault_of (app_of command) words) e → kind_of e ≡ OutOfMemory
+memory_alone words command e app none h =
+    none_at_fault (fault_of (app_of command) words) e (fault_at words command app ∙ none) h

@@ -4,5 +4,6 @@ use Rattle.events_text.specs.Form.{form_of, reading}
 use Rattle.phaser_run.specs.File.{file_spelled}
 use Rattle.phaser_run.specs.declared.events.TheConstants.{MOST_BYTES}
 
-pub within : (bytes : List ℕ) → nat_le (length bytes) MOST_BYTES ≡ true → file_spelled bytes ≡ form_of (reading bytes)
+pub within : (bytes : List ℕ) → nat_le (length bytes) MOST_BYTES ≡ true
+    → file_spelled bytes ≡ form_of (reading bytes)
 within bytes h = rw h refl

@@ -21,7 +21,11 @@ events_app = with_rule (new_app (codes "events")) file_rule
 -- the program, which has a version, has to be given a subcommand, and has no subcommand `help`
 abbrev pub bare_app : App
 bare_app = record (new_app (codes "phaser_run")) {
-  top = record (new_app (codes "phaser_run")).top { has_version = true; subcommand_required = true; disable_help_subcommand = true };
+  top = record (new_app (codes "phaser_run")).top {
+    has_version = true;
+    subcommand_required = true;
+    disable_help_subcommand = true;
+  };
 }
 
 abbrev pub program_app : App

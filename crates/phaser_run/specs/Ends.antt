@@ -25,11 +25,14 @@ status_of Write = statuses.Fault
 
 -- a beginning of the text was appended, and where all of it was written, exactly the text
 abbrev pub AppendsFront : Bool → Option (List ℕ) → Option (List ℕ) → List ℕ → Type 0
-AppendsFront all old new text = ((n : ℕ) × Appends old new (take n text)) × (all ≡ true → Appends old new text)
+AppendsFront all old new text =
+    ((n : ℕ) × Appends old new (take n text)) × (all ≡ true → Appends old new text)
 
--- some failure has this status, and this is known of it; what was appended is its line, or where that was not told, a beginning of it
+-- some failure has this status, and this is known of it; what was appended is its line, or where that was not
+-- told, a beginning of it
 abbrev pub Tells : (Failure → Type 0) → Ending → Option (List ℕ) → Option (List ℕ) → Type 0
-Tells Known e old new = (f : Failure) × (status_of f ≡ e.status) × Known f × AppendsFront e.told old new (failure_line f)
+Tells Known e old new =
+    (f : Failure) × (status_of f ≡ e.status) × Known f × AppendsFront e.told old new (failure_line f)
 
 -- the same of a status alone, which doesn't say whether the line was told
 abbrev pub TellsStatus : (Failure → Type 0) → Status → Option (List ℕ) → Option (List ℕ) → Type 0
@@ -42,7 +45,8 @@ code_of statuses.Refused = 1
 code_of statuses.BadWords = 2
 code_of statuses.Fault = 3
 
--- answering these bytes fails for want of memory, by their first fault, or by a write for a file that has none
+-- answering these bytes fails for want of memory,
+-- by their first fault, or by a write for a file that has none
 abbrev pub IsOfAnswer : List ℕ → Failure → Type 0
 IsOfAnswer bytes (Refused Memory) = ⊤
 IsOfAnswer bytes (Refused (BadText p)) = file_spelled bytes ≡ Err p
@@ -50,7 +54,8 @@ IsOfAnswer bytes (Refused _) = ⊥
 IsOfAnswer bytes Read = ⊥
 IsOfAnswer bytes Write = (file : Form) × (file_spelled bytes ≡ Ok file)
 
--- reading the whole of what a reader has left fails for want of memory, by a read, or because there are too many bytes
+-- reading the whole of what a reader has left fails for want of memory,
+-- by a read, or because there are too many bytes
 abbrev pub IsOfReading : Option (List ℕ) → Failure → Type 0
 IsOfReading all (Refused Memory) = ⊤
 IsOfReading all (Refused (BadText p)) = (p ≡ 0) × IfSome all (λ bytes. MOST_BYTES < length bytes)
@@ -60,4 +65,5 @@ IsOfReading all Write = ⊥
 
 -- it is a failure of reading, or of answering the bytes that were read, which are all
 abbrev pub IsOfJob : Option (List ℕ) → Failure → Type 0
-IsOfJob all f = IsOfReading all f ⊎ ((bytes : List ℕ) × IfSome all (λ known. bytes ≡ known) × IsOfAnswer bytes f)
+IsOfJob all f =
+    IsOfReading all f ⊎ ((bytes : List ℕ) × IfSome all (λ known. bytes ≡ known) × IsOfAnswer bytes f)

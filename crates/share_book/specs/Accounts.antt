@@ -4,7 +4,8 @@ use Rattle.std.specs.List.{sum_by}
 use Rattle.phase_model.specs.Amounts.{Amount}
 use Rattle.share_book.specs.declared.gathering.Totals.{Totals}
 
--- all phasers' books together: of how many phasers, the room they have left for events, and what they add up to
+-- all phasers' books together: of how many phasers,
+-- the room they have left for events, and what they add up to
 pub record Account : Type 0 where
   pub phasers : ℕ
   pub room : ℕ
@@ -18,11 +19,19 @@ pub record Entry : Type 0 where
 
 -- several totals together
 abbrev pub sum : List Amount → Amount
-sum xs = record { events = sum_by (λ a. a.events) xs; up = sum_by (λ a. a.up) xs; down = sum_by (λ a. a.down) xs }
+sum xs = record {
+  events = sum_by (λ a. a.events) xs;
+  up = sum_by (λ a. a.up) xs;
+  down = sum_by (λ a. a.down) xs;
+}
 
 -- what these phasers' books add up to
 abbrev pub sum_of_books : List Entry → Amount
-sum_of_books bs = record { events = sum_by (λ b. b.totals.events) bs; up = sum_by (λ b. b.totals.up) bs; down = sum_by (λ b. b.totals.down) bs }
+sum_of_books bs = record {
+  events = sum_by (λ b. b.totals.events) bs;
+  up = sum_by (λ b. b.totals.up) bs;
+  down = sum_by (λ b. b.totals.down) bs;
+}
 
 -- the totals before the first event
 abbrev pub nothing : Amount

@@ -42,7 +42,8 @@ level_few u n p few = grind (arith, nat_tests)
 
 -- a refused call changes nothing and isn't counted
 counted : (m : Stage → ℕ) (s new : Option Statement) (p k : ℕ) (ok test : Bool)
-    → (ok ≡ true → cond test 1 0 + k ≤ bound m new p) → k ≤ bound m s p → cond (ok && test) 1 0 + k ≤ bound m (cond ok new s) p
+    → (ok ≡ true → cond test 1 0 + k ≤ bound m new p) → k ≤ bound m s p
+    → cond (ok && test) 1 0 + k ≤ bound m (cond ok new s) p
 counted m s new p k true test made kept = made refl
 counted m s new p k false test made kept = omega (arith, kept)
 
@@ -61,7 +62,8 @@ after_proposal m few (Some x) q n p k may h = elim (cases_Bool (x.phase == q)) [
 ]
 
 -- a claim that is answered Ok is the first of its phase
-claim_of_claims : (u : ℕ) (g : Stage) (q p k : ℕ) → (u == q && is_unclaimed g) ≡ true → k ≤ level u (claims_at g) p → cond (q == p) 1 0 + k ≤ level u 1 p
+claim_of_claims : (u : ℕ) (g : Stage) (q p k : ℕ) → (u == q && is_unclaimed g) ≡ true
+    → k ≤ level u (claims_at g) p → cond (q == p) 1 0 + k ≤ level u 1 p
 claim_of_claims u Proposed q p k ok h =
     let same : q ≡ u = sym (eqb-true u q (and_parts (u == q) true ok).0) in
     rw same (level_more u p k h)
@@ -69,13 +71,15 @@ claim_of_claims u (Claimed t) q p k ok h = absurd (false≢true (and_parts (u ==
 claim_of_claims u (Done t) q p k ok h = absurd (false≢true (and_parts (u == q) false ok).1)
 
 -- it is no report
-claim_of_reports : (u : ℕ) (g : Stage) (q p k : ℕ) → (u == q && is_unclaimed g) ≡ true → k ≤ level u (reports_at g) p → 0 + k ≤ level u 0 p
+claim_of_reports : (u : ℕ) (g : Stage) (q p k : ℕ) → (u == q && is_unclaimed g) ≡ true
+    → k ≤ level u (reports_at g) p → 0 + k ≤ level u 0 p
 claim_of_reports u Proposed q p k ok h = omega (arith, h)
 claim_of_reports u (Claimed t) q p k ok h = omega (arith, h)
 claim_of_reports u (Done t) q p k ok h = absurd (false≢true (and_parts (u == q) false ok).1)
 
 -- a report that is answered Ok is no claim
-report_of_claims : (u : ℕ) (g : Stage) (t p k : ℕ) → is_claim_of t g ≡ true → k ≤ level u (claims_at g) p → 0 + k ≤ level u 1 p
+report_of_claims : (u : ℕ) (g : Stage) (t p k : ℕ) → is_claim_of t g ≡ true → k ≤ level u (claims_at g) p
+    → 0 + k ≤ level u 1 p
 report_of_claims u Proposed t p k ok h = absurd (false≢true ok)
 report_of_claims u (Claimed v) t p k ok h = omega (arith, h)
 report_of_claims u (Done v) t p k ok h = absurd (false≢true ok)
@@ -104,51 +108,63 @@ reports_few (Claimed t) = omega arith
 reports_few (Done t) = omega arith
 
 -- the same for what is remembered, whatever it is
-after_claim_claims : (s : Option Statement) (q t p k : ℕ) → is_claimable s q ≡ true → k ≤ bound claims_at s p → cond (q == p) 1 0 + k ≤ bound claims_at (claimed s t) p
+after_claim_claims : (s : Option Statement) (q t p k : ℕ) → is_claimable s q ≡ true → k ≤ bound claims_at s p
+    → cond (q == p) 1 0 + k ≤ bound claims_at (claimed s t) p
 after_claim_claims None q t p k ok h = absurd (false≢true ok)
 after_claim_claims (Some x) q t p k ok h = claim_of_claims x.phase x.stage q p k ok h
 
-after_claim_reports : (s : Option Statement) (q t p k : ℕ) → is_claimable s q ≡ true → k ≤ bound reports_at s p → 0 + k ≤ bound reports_at (claimed s t) p
+after_claim_reports : (s : Option Statement) (q t p k : ℕ) → is_claimable s q ≡ true
+    → k ≤ bound reports_at s p → 0 + k ≤ bound reports_at (claimed s t) p
 after_claim_reports None q t p k ok h = absurd (false≢true ok)
 after_claim_reports (Some x) q t p k ok h = claim_of_reports x.phase x.stage q p k ok h
 
-after_report_claims : (s : Option Statement) (t p k : ℕ) → is_claimed_by s t ≡ true → k ≤ bound claims_at s p → 0 + k ≤ bound claims_at (done s t) p
+after_report_claims : (s : Option Statement) (t p k : ℕ) → is_claimed_by s t ≡ true → k ≤ bound claims_at s p
+    → 0 + k ≤ bound claims_at (done s t) p
 after_report_claims None t p k ok h = absurd (false≢true ok)
 after_report_claims (Some x) t p k ok h = report_of_claims x.phase x.stage t p k ok h
 
-after_report_reports : (s : Option Statement) (t p k : ℕ) → is_claimed_by s t ≡ true → k ≤ bound reports_at s p → cond (is_some (number_for s p)) 1 0 + k ≤ bound reports_at (done s t) p
+after_report_reports : (s : Option Statement) (t p k : ℕ) → is_claimed_by s t ≡ true
+    → k ≤ bound reports_at s p → cond (is_some (number_for s p)) 1 0 + k ≤ bound reports_at (done s t) p
 after_report_reports None t p k ok h = absurd (false≢true ok)
 after_report_reports (Some x) t p k ok h = report_of_reports x.phase x.number x.stage t p k ok h
 
-claims_bound : (cs : List Change) → AreInOrder cs → (p : ℕ) → count_ok (claims_phase p) cs ≤ bound claims_at (remembered cs) p
+claims_bound : (cs : List Change) → AreInOrder cs → (p : ℕ)
+    → count_ok (claims_phase p) cs ≤ bound claims_at (remembered cs) p
 claims_bound [] o p = omega arith
 claims_bound (proposal q n ∷ cs) o p =
     let s = remembered cs in
     let h = claims_bound cs o.1 p in
-    counted claims_at s (proposed s q n) p (count_ok (claims_phase p) cs) (not (is_mismatch s q n)) false (λ e. after_proposal claims_at claims_few s q n p (count_ok (claims_phase p) cs) o.0 h) h
+    counted claims_at s (proposed s q n) p (count_ok (claims_phase p) cs) (not (is_mismatch s q n)) false
+    (λ e. after_proposal claims_at claims_few s q n p (count_ok (claims_phase p) cs) o.0 h) h
 claims_bound (claim q t ∷ cs) o p =
     let s = remembered cs in
     let h = claims_bound cs o p in
-    counted claims_at s (claimed s t) p (count_ok (claims_phase p) cs) (is_claimable s q) (q == p) (λ e. after_claim_claims s q t p (count_ok (claims_phase p) cs) e h) h
+    counted claims_at s (claimed s t) p (count_ok (claims_phase p) cs) (is_claimable s q) (q == p)
+    (λ e. after_claim_claims s q t p (count_ok (claims_phase p) cs) e h) h
 claims_bound (report t ∷ cs) o p =
     let s = remembered cs in
     let h = claims_bound cs o p in
-    counted claims_at s (done s t) p (count_ok (claims_phase p) cs) (is_claimed_by s t) false (λ e. after_report_claims s t p (count_ok (claims_phase p) cs) e h) h
+    counted claims_at s (done s t) p (count_ok (claims_phase p) cs) (is_claimed_by s t) false
+    (λ e. after_report_claims s t p (count_ok (claims_phase p) cs) e h) h
 
-reports_bound : (cs : List Change) → AreInOrder cs → (p : ℕ) → count_ok (reports_phase p) cs ≤ bound reports_at (remembered cs) p
+reports_bound : (cs : List Change) → AreInOrder cs → (p : ℕ)
+    → count_ok (reports_phase p) cs ≤ bound reports_at (remembered cs) p
 reports_bound [] o p = omega arith
 reports_bound (proposal q n ∷ cs) o p =
     let s = remembered cs in
     let h = reports_bound cs o.1 p in
-    counted reports_at s (proposed s q n) p (count_ok (reports_phase p) cs) (not (is_mismatch s q n)) false (λ e. after_proposal reports_at reports_few s q n p (count_ok (reports_phase p) cs) o.0 h) h
+    counted reports_at s (proposed s q n) p (count_ok (reports_phase p) cs) (not (is_mismatch s q n)) false
+    (λ e. after_proposal reports_at reports_few s q n p (count_ok (reports_phase p) cs) o.0 h) h
 reports_bound (claim q t ∷ cs) o p =
     let s = remembered cs in
     let h = reports_bound cs o p in
-    counted reports_at s (claimed s t) p (count_ok (reports_phase p) cs) (is_claimable s q) false (λ e. after_claim_reports s q t p (count_ok (reports_phase p) cs) e h) h
+    counted reports_at s (claimed s t) p (count_ok (reports_phase p) cs) (is_claimable s q) false
+    (λ e. after_claim_reports s q t p (count_ok (reports_phase p) cs) e h) h
 reports_bound (report t ∷ cs) o p =
     let s = remembered cs in
     let h = reports_bound cs o p in
-    counted reports_at s (done s t) p (count_ok (reports_phase p) cs) (is_claimed_by s t) (is_some (number_for s p)) (λ e. after_report_reports s t p (count_ok (reports_phase p) cs) e h) h
+    counted reports_at s (done s t) p (count_ok (reports_phase p) cs) (is_claimed_by s t)
+    (is_some (number_for s p)) (λ e. after_report_reports s t p (count_ok (reports_phase p) cs) e h) h
 
 bound_few : (m : Stage → ℕ) → ((g : Stage) → m g ≤ 1) → (s : Option Statement) (p : ℕ) → bound m s p ≤ 1
 bound_few m few None p = omega arith

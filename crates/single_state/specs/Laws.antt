@@ -48,7 +48,8 @@ reports_phase p s (claim q t) = false
 -- how many of the calls were answered Ok and passed this test when they were made
 abbrev pub count_ok : (Option Statement → Change → Bool) → List Change → ℕ
 count_ok test [] = 0
-count_ok test (c ∷ cs) = (if is_ok_now (remembered cs) c && test (remembered cs) c then 1 else 0) + count_ok test cs
+count_ok test (c ∷ cs) =
+    (if is_ok_now (remembered cs) c && test (remembered cs) c then 1 else 0) + count_ok test cs
 
 -- at most one claim of each phase is answered Ok
 abbrev pub ClaimsAreUnique : Type 0

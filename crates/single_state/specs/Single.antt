@@ -61,7 +61,8 @@ is_mismatch (Some x) p n = x.phase == p && not (x.number == n)
 -- what a proposal leaves
 abbrev pub proposed : Option Statement → ℕ → ℕ → Option Statement
 proposed None p n = Some (record { phase = p; number = n; stage = Proposed })
-proposed (Some x) p n = if x.phase == p then Some x else Some (record { phase = p; number = n; stage = Proposed })
+proposed (Some x) p n =
+    if x.phase == p then Some x else Some (record { phase = p; number = n; stage = Proposed })
 
 -- what a claim leaves
 abbrev pub claimed : Option Statement → ℕ → Option Statement

@@ -83,9 +83,11 @@ same_events d e k = absurd cc
 -- the one that is found
 any_found : {X : Type 0} (test : X → Bool) (xs : List X) → list_any test xs ≡ true → (x : X) × (test x ≡ true)
 any_found test [] k = absurd cc
-any_found test (x ∷ xs) k = elim (or_cases (test x) (list_any test xs) k) [ inl e ↦ (x, e) | inr e ↦ any_found test xs e ]
+any_found test (x ∷ xs) k =
+    elim (or_cases (test x) (list_any test xs) k) [ inl e ↦ (x, e) | inr e ↦ any_found test xs e ]
 
-pub found : {X : Type 0} (test : X → Bool) (o : Option X) → option_map_or test o false ≡ true → (x : X) × (o ≡ Some x) × (test x ≡ true)
+pub found : {X : Type 0} (test : X → Bool) (o : Option X) → option_map_or test o false ≡ true
+    → (x : X) × (o ≡ Some x) × (test x ≡ true)
 found test None k = absurd cc
 found test (Some x) k = (x, refl, k)
 
@@ -99,16 +101,20 @@ at_2 : (a b c d r : Bool) → c ≡ true → (a || (b || (c || (d || r)))) ≡ t
 at_2 a b c d r k = or_right a (b || (c || (d || r))) (or_right b (c || (d || r)) (or_left c (d || r) k))
 
 at_3 : (a b c d r : Bool) → d ≡ true → (a || (b || (c || (d || r)))) ≡ true
-at_3 a b c d r k = or_right a (b || (c || (d || r))) (or_right b (c || (d || r)) (or_right c (d || r) (or_left d r k)))
+at_3 a b c d r k =
+    or_right a (b || (c || (d || r))) (or_right b (c || (d || r)) (or_right c (d || r) (or_left d r k)))
 
 at_4 : (a b c d r : Bool) → r ≡ true → (a || (b || (c || (d || r)))) ≡ true
-at_4 a b c d r k = or_right a (b || (c || (d || r))) (or_right b (c || (d || r)) (or_right c (d || r) (or_right d r k)))
+at_4 a b c d r k =
+    or_right a (b || (c || (d || r))) (or_right b (c || (d || r)) (or_right c (d || r) (or_right d r k)))
 
 refused_number : (r : Refusal) (n : ℕ) → number_of r ≡ 22 → (number_of r == n && not (n == 22)) ≡ false
 refused_number r n e =
     elim (cases_Bool (n == 22)) [
       | inl same ↦ rw same (and_right (number_of r == n) false refl)
-      | inr other ↦ and_left (number_of r == n) (not (n == 22)) (ne_eqb (number_of r) n (λ k. eqb_other n other (sym k ∙ e)))
+      | inr other ↦
+          and_left (number_of r == n) (not (n == 22))
+          (ne_eqb (number_of r) n (λ k. eqb_other n other (sym k ∙ e)))
     ]
   where
     eqb_other : (n : ℕ) → (n == 22) ≡ false → n ≡ 22 → ⊥
@@ -124,20 +130,29 @@ module _ (l : Limits) (w : List WorldEvent) (t : ℕ) where
   abbrev of_next : Bool
   of_next = list_any (λ e. actor w e == t && is_accepted l w e) (option_to_list (next_event l t w))
 
-  passes_test : (e : WorldEvent) → actor w e ≡ t → is_accepted l w e ≡ true → (actor w e == t && is_accepted l w e) ≡ true
+  passes_test : (e : WorldEvent) → actor w e ≡ t → is_accepted l w e ≡ true
+      → (actor w e == t && is_accepted l w e) ≡ true
   passes_test e a k = and_from (actor w e == t) (is_accepted l w e) (eq-eqb (actor w e) t a) k
 
   found_7 : is_accepted l w (Fail t 7) ≡ true → Found
-  found_7 k = at_0 (test (Fail t 7)) (test (Fail t 14)) (test (Fail t 15)) (test (Fail t 23)) of_next (passes_test (Fail t 7) refl k)
+  found_7 k =
+      at_0 (test (Fail t 7)) (test (Fail t 14)) (test (Fail t 15)) (test (Fail t 23)) of_next
+      (passes_test (Fail t 7) refl k)
 
   found_14 : is_accepted l w (Fail t 14) ≡ true → Found
-  found_14 k = at_1 (test (Fail t 7)) (test (Fail t 14)) (test (Fail t 15)) (test (Fail t 23)) of_next (passes_test (Fail t 14) refl k)
+  found_14 k =
+      at_1 (test (Fail t 7)) (test (Fail t 14)) (test (Fail t 15)) (test (Fail t 23)) of_next
+      (passes_test (Fail t 14) refl k)
 
   found_15 : is_accepted l w (Fail t 15) ≡ true → Found
-  found_15 k = at_2 (test (Fail t 7)) (test (Fail t 14)) (test (Fail t 15)) (test (Fail t 23)) of_next (passes_test (Fail t 15) refl k)
+  found_15 k =
+      at_2 (test (Fail t 7)) (test (Fail t 14)) (test (Fail t 15)) (test (Fail t 23)) of_next
+      (passes_test (Fail t 15) refl k)
 
   found_23 : is_accepted l w (Fail t 23) ≡ true → Found
-  found_23 k = at_3 (test (Fail t 7)) (test (Fail t 14)) (test (Fail t 15)) (test (Fail t 23)) of_next (passes_test (Fail t 23) refl k)
+  found_23 k =
+      at_3 (test (Fail t 7)) (test (Fail t 14)) (test (Fail t 15)) (test (Fail t 23)) of_next
+      (passes_test (Fail t 23) refl k)
 
   found_next : (d : WorldEvent) → next_event l t w ≡ Some d → actor w d ≡ t → is_accepted l w d ≡ true → Found
   found_next d e a k =
@@ -150,14 +165,20 @@ module _ (l : Limits) (w : List WorldEvent) (t : ℕ) where
   idle_gives_up e = subst (λ b. is_made (done_where b) ≡ true) (sym e) refl
 
 -- an act that is begun comes in an idle moment, and its number is free
-pub act_now : (l : Limits) (w : List WorldEvent) (t : ℕ) (a : Tried) → is_made (act_reply l w t a) ≡ true → (is_idle t w ≡ true) × (is_number_used w a ≡ false)
+pub act_now : (l : Limits) (w : List WorldEvent) (t : ℕ) (a : Tried) → is_made (act_reply l w t a) ≡ true
+    → (is_idle t w ≡ true) × (is_number_used w a ≡ false)
 act_now l w t a k =
     let counted : Refusal × Bool = (ActsFull, not (is_counted a) || nat_lt (acts t w) l.acts) in
     let free : Refusal × Bool = (NotNow, not (is_number_used w a)) in
-    let idle = no_refusal NotNow (is_idle t w) (free ∷ counted ∷ own_conditions l w t a) (act_made l w t a k).0 in
-    (idle.0, not-true (is_number_used w a) (no_refusal NotNow free.1 (counted ∷ own_conditions l w t a) idle.1).0)
+    let idle =
+    no_refusal NotNow (is_idle t w) (free ∷ counted ∷ own_conditions l w t a) (act_made l w t a k).0 in (
+      idle.0,
+      not-true (is_number_used w a)
+          (no_refusal NotNow free.1 (counted ∷ own_conditions l w t a) idle.1).0,
+    )
 
-pub idle_in_act : (l : Limits) (w : List WorldEvent) (t : ℕ) (a : Tried) → is_made (act_reply l w t a) ≡ true → is_idle t w ≡ true
+pub idle_in_act : (l : Limits) (w : List WorldEvent) (t : ℕ) (a : Tried) → is_made (act_reply l w t a) ≡ true
+    → is_idle t w ≡ true
 idle_in_act l w t a k = (act_now l w t a k).0
 
 pub made_done_where : (b : Bool) → is_made (done_where b) ≡ true → b ≡ true
@@ -165,14 +186,18 @@ made_done_where true k = refl
 made_done_where false k = absurd cc
 
 -- a refusal is told in an idle moment
-pub refuse_idle : (l : Limits) (w : List WorldEvent) (t : ℕ) (a : Tried) (n : ℕ) → may_refuse l w t a n ≡ true → is_idle t w ≡ true
+pub refuse_idle : (l : Limits) (w : List WorldEvent) (t : ℕ) (a : Tried) (n : ℕ) → may_refuse l w t a n ≡ true
+    → is_idle t w ≡ true
 refuse_idle l w t a n k =
     elim (cases_Bool (is_idle t w)) [
       | inl e ↦ e
       | inr e ↦ absurd (true≢false (sym (not_now e) ∙ refused_number NotNow n refl))
     ]
   where
-    told : (i : Bool) → i ≡ false → is_refused_by n (unless (first_refusal ((NotNow, i) ∷ (NotNow, not (is_number_used w a)) ∷ (ActsFull, not (is_counted a) || nat_lt (acts t w) l.acts) ∷ own_conditions l w t a)) (act_done l w t a)) ≡ (22 == n)
+    told : (i : Bool) → i ≡ false
+        → is_refused_by n (unless (first_refusal ((NotNow, i) ∷ (NotNow, not (is_number_used w a))
+        ∷ (ActsFull, not (is_counted a) || nat_lt (acts t w) l.acts) ∷ own_conditions l w t a))
+        (act_done l w t a)) ≡ (22 == n)
     told true e = absurd (true≢false e)
     told false e = refl
 
@@ -188,24 +213,31 @@ module _ (l : Limits) (w : List WorldEvent) (t : ℕ) where
 
   fail_found : (n : ℕ) → is_accepted l w (Fail t n) ≡ true → Found l w t
   fail_found n k =
-      let x = (n == 7 || n == 15) && option_map_or (λ e. is_refused_by n (next_done l w e)) (next_event l t w) false in
+      let x =
+      (n == 7 || n == 15) && option_map_or (λ e. is_refused_by n (next_done l w e))
+      (next_event l t w) false in
       let y = n == 14 && option_map_or is_reg (next_event l t w) false in
       let z = n == 23 && is_idle t w in
-      let at : (m : ℕ) → (n == m) ≡ true → is_accepted l w (Fail t m) ≡ true = λ m e. subst (λ v. is_accepted l w (Fail t v) ≡ true) (eqb-true n m e) k in
+      let at : (m : ℕ) → (n == m) ≡ true → is_accepted l w (Fail t m) ≡ true =
+      λ m e. subst (λ v. is_accepted l w (Fail t v) ≡ true) (eqb-true n m e) k in
       elim (or_cases (x || y) z (made_done_where (may_fail l w t n) k)) [
         | inl e ↦
             elim (or_cases x y e) [
               | inl f ↦
-                  elim (or_cases (n == 7) (n == 15) (and_parts (n == 7 || n == 15) (option_map_or (λ d. is_refused_by n (next_done l w d)) (next_event l t w) false) f).0) [
+                  elim (or_cases (n == 7) (n == 15) (and_parts (n == 7 || n == 15) (option_map_or
+                  (λ d. is_refused_by n (next_done l w d)) (next_event l t w) false) f).0) [
                     | inl g ↦ found_7 l w t (at 7 g)
                     | inr g ↦ found_15 l w t (at 15 g)
                   ]
-              | inr f ↦ found_14 l w t (at 14 (and_parts (n == 14) (option_map_or is_reg (next_event l t w) false) f).0)
+              | inr f ↦
+                  found_14 l w t
+                  (at 14 (and_parts (n == 14) (option_map_or is_reg (next_event l t w) false) f).0)
             ]
         | inr e ↦ found_23 l w t (at 23 (and_parts (n == 23) (is_idle t w) e).0)
       ]
 
-  part_found : (e : WorldEvent) → actor w e ≡ t → is_accepted l w e ≡ true → is_made (next_reply l w e) ≡ true → Found l w t
+  part_found : (e : WorldEvent) → actor w e ≡ t → is_accepted l w e ≡ true
+      → is_made (next_reply l w e) ≡ true → Found l w t
   part_found e a k p =
       let f = found (λ d. same_event d e) (next_event l (actor w e) w) (part_made l w e p).0 in
       let same : f.0 ≡ e = same_events f.0 e f.2 in
@@ -221,14 +253,18 @@ module _ (l : Limits) (w : List WorldEvent) (t : ℕ) where
   event_found (Phaser n (Look u c)) a k = act_found u (Looking n c) a k
   event_found (Finish f (Opened u)) a k = act_found u (Open f) a k
   event_found (Begin u b) a k = act_found u (Beginning b) a k
-  event_found (Refuse u b n) a k = idle_found (subst (λ v. is_idle v w ≡ true) a (refuse_idle l w u b n (made_done_where (may_refuse l w u b n) k)))
+  event_found (Refuse u b n) a k =
+      idle_found (subst (λ v. is_idle v w ≡ true) a
+      (refuse_idle l w u b n (made_done_where (may_refuse l w u b n) k)))
   event_found (Fail u n) a k = fail_found n (subst (λ v. is_accepted l w (Fail v n) ≡ true) a k)
   event_found (Phaser n s) a k = part_found (Phaser n s) a k k
   event_found (Finish f e) a k = part_found (Finish f e) a k k
 
   able_by : is_able l w t ≡ true → IsAble l w t
   able_by k =
-      let p = and_parts (not (is_ended t w)) (list_any (λ e. actor w e == t && is_accepted l w e) (candidates l w t)) k in
+      let p =
+      and_parts (not (is_ended t w))
+      (list_any (λ e. actor w e == t && is_accepted l w e) (candidates l w t)) k in
       let f = any_found (λ e. actor w e == t && is_accepted l w e) (candidates l w t) p.1 in
       let q = and_parts (actor w f.0 == t) (is_accepted l w f.0) f.1 in
       (not-true (is_ended t w) p.0, f.0, eqb-true (actor w f.0) t q.0, q.1)

@@ -74,57 +74,78 @@ pub record WaitsToShut (t : ℕ) (w : List WorldEvent) : Type 0 where
 abbrev pub Outcome : Limits → ℕ → List WorldEvent → Type 0
 Outcome l t w = (is_able l w t ≡ true) ⊎ WaitsToPass l t w ⊎ WaitsToShut t w
 
-module _ (l : Limits) (w : List WorldEvent) (k : is_legal_world l w ≡ true) (t : ℕ) (born : is_born t w ≡ true) (going : is_ended t w ≡ false) where
+module _ (l : Limits) (w : List WorldEvent) (k : is_legal_world l w ≡ true) (t : ℕ)
+    (born : is_born t w ≡ true) (going : is_ended t w ≡ false) where
   -- a spawn is made
-  pub spawn_made : (c f : ℕ) (ds : List WorldEvent) → begins_spawn c (last_entry t w) ≡ true → due t w ≡ Finish f (Spawned c) ∷ ds → is_made (finish_reply l w f (Spawned c)) ≡ true
+  pub spawn_made : (c f : ℕ) (ds : List WorldEvent) → begins_spawn c (last_entry t w) ≡ true
+      → due t w ≡ Finish f (Spawned c) ∷ ds → is_made (finish_reply l w f (Spawned c)) ≡ true
   spawn_made c f ds s here =
       let e = Finish f (Spawned c) in
       let h = finish_past f w in
       let q : MayJoin t c w (e ∷ ds) = subst (λ xs. MayJoin t c w xs) here (spawn_stands l t c w k s) in
-      let inside : f ≡ inner t w = eqb-true f (inner t w) (and_parts (f == inner t w) (list_all (may_join t c w) ds) q.each).0 in
-      let opened : is_open h ≡ true = subst (λ g. is_open (finish_past g w) ≡ true) (sym inside) (inner_open l w k t born going) in
+      let inside : f ≡ inner t w =
+      eqb-true f (inner t w) (and_parts (f == inner t w) (list_all (may_join t c w) ds) q.each).0 in
+      let opened : is_open h ≡ true =
+      subst (λ g. is_open (finish_past g w) ≡ true) (sym inside) (inner_open l w k t born going) in
       let unborn : is_born c w ≡ false = unborn_child l t c w k s (ap (λ xs. is_empty xs) here) in
-      let new : is_spawned c h ≡ false = false_from_ne_true (is_spawned c h) (λ y. true≢false (sym (spawned_is_born c f w y) ∙ unborn)) in
+      let new : is_spawned c h ≡ false =
+      false_from_ne_true (is_spawned c h) (λ y. true≢false (sym (spawned_is_born c f w y) ∙ unborn)) in
       answered (is_open h) (is_spawned c h) (nat_lt c l.tasks) opened new (spawn_fits l t c w k s)
     where
-      answered : (a b c : Bool) → a ≡ true → b ≡ false → c ≡ true → is_made (finish_returned (done_unless (first_refusal ((NotNow, a) ∷ (NotNow, not b) ∷ (TasksFull, c) ∷ [])))) ≡ true
+      answered : (a b c : Bool) → a ≡ true → b ≡ false → c ≡ true → is_made (finish_returned
+          (done_unless (first_refusal ((NotNow, a) ∷ (NotNow, not b) ∷ (TasksFull, c) ∷ [])))) ≡ true
       answered a b c x y z = rw (x, y, z) refl
 
-  of_spawn : (c f : ℕ) (ds : List WorldEvent) → begins_spawn c (last_entry t w) ≡ true → due t w ≡ Finish f (Spawned c) ∷ ds → is_able l w t ≡ true
+  of_spawn : (c f : ℕ) (ds : List WorldEvent) → begins_spawn c (last_entry t w) ≡ true
+      → due t w ≡ Finish f (Spawned c) ∷ ds → is_able l w t ≡ true
   of_spawn c f ds s here =
       let e = Finish f (Spawned c) in
       let by : spawner c w ≡ t = (named_by_spawn l t c w k s).1 in
-      able_by l w t going e by (part_accepted l w t going e (and_from (f == f) (c == c) (eq-eqb f f refl) (eq-eqb c c refl)) by (next_is l w t going e ds here) (spawn_made c f ds s here))
+      able_by l w t going e by
+      (part_accepted l w t going e (and_from (f == f) (c == c) (eq-eqb f f refl) (eq-eqb c c refl)) by
+      (next_is l w t going e ds here) (spawn_made c f ds s here))
 
-  pub in_spawn : (c : ℕ) (d : WorldEvent) (ds : List WorldEvent) → begins_spawn c (last_entry t w) ≡ true → due t w ≡ d ∷ ds → is_spawn_list t c (d ∷ ds) ≡ true → is_able l w t ≡ true
-  in_spawn c (Phaser n (Reg r x m)) ds s here y = fails_14 l w t going (Phaser n (Reg r x m)) (next_is l w t going (Phaser n (Reg r x m)) ds here) refl
+  pub in_spawn : (c : ℕ) (d : WorldEvent) (ds : List WorldEvent) → begins_spawn c (last_entry t w) ≡ true
+      → due t w ≡ d ∷ ds → is_spawn_list t c (d ∷ ds) ≡ true → is_able l w t ≡ true
+  in_spawn c (Phaser n (Reg r x m)) ds s here y =
+      fails_14 l w t going (Phaser n (Reg r x m)) (next_is l w t going (Phaser n (Reg r x m)) ds here) refl
   in_spawn c (Finish f (Spawned x)) ds s here y =
-      let same : x ≡ c = eqb-true x c (and_parts (x == c) (is_empty ds) (and_parts ((x == c) && is_empty ds) (is_spawn_list t c ds) y).0).0 in
+      let same : x ≡ c =
+      eqb-true x c (and_parts (x == c) (is_empty ds)
+      (and_parts ((x == c) && is_empty ds) (is_spawn_list t c ds) y).0).0 in
       of_spawn c f ds s (subst (λ v. due t w ≡ Finish f (Spawned v) ∷ ds) same here)
   in_spawn c d ds s here y = absurd cc
 
   -- a signal meets each condition but that no other number stands
-  pub sig_causes : (n : ℕ) (x : Option ℕ) (ds : List WorldEvent) → moves_act (last_entry t w) ≡ true → due t w ≡ Phaser n (Sig t x) ∷ ds
-      → (first_refusal (conditions l (ops_of n w) (phaser_past n w) (signal t x)) ≡ None) ⊎ (first_refusal (conditions l (ops_of n w) (phaser_past n w) (signal t x)) ≡ Some SingleMismatch)
+  pub sig_causes : (n : ℕ) (x : Option ℕ) (ds : List WorldEvent) → moves_act (last_entry t w) ≡ true
+      → due t w ≡ Phaser n (Sig t x) ∷ ds
+      → (first_refusal (conditions l (ops_of n w) (phaser_past n w) (signal t x)) ≡ None)
+      ⊎ (first_refusal (conditions l (ops_of n w) (phaser_past n w) (signal t x)) ≡ Some SingleMismatch)
   sig_causes n x ds s here =
       let h = phaser_past n w in
       let q : Turning t w (Phaser n (Sig t x) ∷ ds) = subst (λ xs. Turning t w xs) here (turning l t w k s) in
       let p = q.sigs n (or_left (n == n) (list_any (is_sig_on n) ds) (eq-eqb n n refl)) in
       let b = and_parts (has_mode can_signal t h) (signals t h == waits t h) p.1 in
-      by (is_live t h) (has_mode can_signal t h) (is_some x && not (has_mode can_single t h)) (signals t h == waits t h) (is_other_proposed x (signals t h) h) p.0 b.0 (single_mode x q) b.1
+      by (is_live t h) (has_mode can_signal t h) (is_some x && not (has_mode can_single t h))
+      (signals t h == waits t h) (is_other_proposed x (signals t h) h) p.0 b.0 (single_mode x q) b.1
     where
-      single_mode : (y : Option ℕ) → Turning t w (Phaser n (Sig t y) ∷ ds) → (is_some y && not (has_mode can_single t (phaser_past n w))) ≡ false
+      single_mode : (y : Option ℕ) → Turning t w (Phaser n (Sig t y) ∷ ds)
+          → (is_some y && not (has_mode can_single t (phaser_past n w))) ≡ false
       single_mode None q = refl
-      single_mode (Some v) q = ap (λ b. not b) (q.singles n (or_left (n == n) (list_any (is_single_on n) ds) (eq-eqb n n refl)))
+      single_mode (Some v) q =
+          ap (λ b. not b) (q.singles n (or_left (n == n) (list_any (is_single_on n) ds) (eq-eqb n n refl)))
 
       by : (a b c d e : Bool) → a ≡ true → b ≡ true → c ≡ false → d ≡ true
-          → (first_refusal ((NotRegistered, a) ∷ (NoSignal, b) ∷ (NoSingle, not c) ∷ (AlreadySignalled, d) ∷ (SingleMismatch, not e) ∷ []) ≡ None)
-          ⊎ (first_refusal ((NotRegistered, a) ∷ (NoSignal, b) ∷ (NoSingle, not c) ∷ (AlreadySignalled, d) ∷ (SingleMismatch, not e) ∷ []) ≡ Some SingleMismatch)
+          → (first_refusal ((NotRegistered, a) ∷ (NoSignal, b) ∷ (NoSingle, not c) ∷ (AlreadySignalled, d)
+          ∷ (SingleMismatch, not e) ∷ []) ≡ None)
+          ⊎ (first_refusal ((NotRegistered, a) ∷ (NoSignal, b) ∷ (NoSingle, not c) ∷ (AlreadySignalled, d)
+          ∷ (SingleMismatch, not e) ∷ []) ≡ Some SingleMismatch)
       by a b c d true x y z u = inr (rw (x, y, z, u) refl)
       by a b c d false x y z u = inl (rw (x, y, z, u) refl)
 
   -- so it is done, or its number is another, or there is no room
-  pub of_sig : (n : ℕ) (x : Option ℕ) (ds : List WorldEvent) → moves_act (last_entry t w) ≡ true → due t w ≡ Phaser n (Sig t x) ∷ ds → is_able l w t ≡ true
+  pub of_sig : (n : ℕ) (x : Option ℕ) (ds : List WorldEvent) → moves_act (last_entry t w) ≡ true
+      → due t w ≡ Phaser n (Sig t x) ∷ ds → is_able l w t ≡ true
   of_sig n x ds s here =
       let e = Phaser n (Sig t x) in
       let h = phaser_past n w in
@@ -132,10 +153,15 @@ module _ (l : Limits) (w : List WorldEvent) (k : is_legal_world l w ≡ true) (t
       let room = has_room l (Signalled t x ∷ h) in
       let first = first_refusal (conditions l (ops_of n w) h (signal t x)) in
       elim (sig_causes n x ds s here) [
-        | inr mismatch ↦ fails_7 l w t going e next (ap (λ o. is_refused_by 7 (returned h (settled o false room (Signalled t x)))) mismatch)
+        | inr mismatch ↦
+            fails_7 l w t going e next
+            (ap (λ o. is_refused_by 7 (returned h (settled o false room (Signalled t x)))) mismatch)
         | inl agreed ↦
             elim (made_or_full h first false room (Signalled t x) agreed refl) [
-              | inl made ↦ able_by l w t going e refl (part_accepted l w t going e (and_from (n == n) (t == t && same_number x x) (eq-eqb n n refl) (and_from (t == t) (same_number x x) (eq-eqb t t refl) (same_self x))) refl next made)
+              | inl made ↦
+                  able_by l w t going e refl (part_accepted l w t going e
+                  (and_from (n == n) (t == t && same_number x x) (eq-eqb n n refl) (and_from (t == t)
+                  (same_number x x) (eq-eqb t t refl) (same_self x))) refl next made)
               | inr full ↦ fails_15 l w t going e next full
             ]
       ]
@@ -145,92 +171,136 @@ module _ (l : Limits) (w : List WorldEvent) (k : is_legal_world l w ≡ true) (t
       same_self (Some v) = eq-eqb v v refl
 
   -- a claim that may be made is made
-  pub claim_made : (n : ℕ) → is_permitted l (ops_of n w) (phaser_past n w) (Claimed t) ≡ true → is_made (phaser_reply l w n (Claim t)) ≡ true
-  claim_made n y = subst (λ r. is_made (returned (phaser_past n w) r) ≡ true) (sym ((singles_are_answered (story_of l n w) (phasers_legal l w k n) t).0 y)) refl
+  pub claim_made : (n : ℕ) → is_permitted l (ops_of n w) (phaser_past n w) (Claimed t) ≡ true
+      → is_made (phaser_reply l w n (Claim t)) ≡ true
+  claim_made n y =
+      subst (λ r. is_made (returned (phaser_past n w) r) ≡ true)
+      (sym ((singles_are_answered (story_of l n w) (phasers_legal l w k n) t).0 y)) refl
 
   -- and so is a report
-  pub report_made : (n : ℕ) → is_permitted l (ops_of n w) (phaser_past n w) (Done t) ≡ true → is_made (phaser_reply l w n (Did t)) ≡ true
+  pub report_made : (n : ℕ) → is_permitted l (ops_of n w) (phaser_past n w) (Done t) ≡ true
+      → is_made (phaser_reply l w n (Did t)) ≡ true
   report_made n y =
       let h = phaser_past n w in
       let f = did_follows l (ops_of n w) h t y in
       let room = (singles_have_room l (ops_of n w) h (phasers_legal l w k n) t).1 y in
-      answered h (is_live t h) (has_claimed t (waits t h) h) (is_done (waits t h) h) (has_room l (Done t ∷ h)) f.live f.claimed f.undone room
+      answered h (is_live t h) (has_claimed t (waits t h) h) (is_done (waits t h) h)
+      (has_room l (Done t ∷ h)) f.live f.claimed f.undone room
     where
       answered : (h : List Event) (a b c room : Bool) → a ≡ true → b ≡ true → c ≡ false → room ≡ true
-          → is_made (returned h (settled (cond a (cond b (cond (not c) None (Some NotNow)) (Some NotNow)) (Some NotRegistered)) false room (Done t))) ≡ true
+          → is_made (returned h (settled (cond a (cond b (cond (not c) None (Some NotNow)) (Some NotNow))
+          (Some NotRegistered)) false room (Done t))) ≡ true
       answered h a b c room p q r s = rw (p, q, r, s) refl
 
   -- a pass that is due is of a phaser on which the task is live and not behind
-  pub pass_stands : (n : ℕ) (ds : List WorldEvent) → moves_act (last_entry t w) ≡ true → due t w ≡ Phaser n (Pass t) ∷ ds → (is_live t (phaser_past n w) ≡ true) × (is_behind t (phaser_past n w) ≡ false)
+  pub pass_stands : (n : ℕ) (ds : List WorldEvent) → moves_act (last_entry t w) ≡ true → due t w ≡ Phaser n
+      (Pass t) ∷ ds → (is_live t (phaser_past n w) ≡ true) × (is_behind t (phaser_past n w) ≡ false)
   pass_stands n ds s here =
       let h = phaser_past n w in
       let q : Turning t w (Phaser n (Pass t) ∷ ds) = subst (λ xs. Turning t w xs) here (turning l t w k s) in
       let m : Moves t (Phaser n (Pass t) ∷ ds) = subst (λ xs. Moves t xs) here (moves l t w k s) in
-      let none = not-true (list_any is_any_sig ds) (and_parts (not (list_any is_any_sig ds)) (sigs_first ds) m.first).0 in
+      let none =
+      not-true (list_any is_any_sig ds)
+      (and_parts (not (list_any is_any_sig ds)) (sigs_first ds) m.first).0 in
       let p = q.passes n (or_left (n == n) (list_any (is_pass_on n) ds) (eq-eqb n n refl)) in
       (p.0, false_from_ne_true (is_behind t h) (λ b. true≢false (sym (any_sig t w ds n n ds (p.1 b)) ∙ none)))
 
   -- so it meets each condition
-  pub pass_causeless : (n : ℕ) → is_live t (phaser_past n w) ≡ true → is_behind t (phaser_past n w) ≡ false → first_refusal (conditions l (ops_of n w) (phaser_past n w) (pass t)) ≡ None
+  pub pass_causeless : (n : ℕ) → is_live t (phaser_past n w) ≡ true → is_behind t (phaser_past n w) ≡ false
+      → first_refusal (conditions l (ops_of n w) (phaser_past n w) (pass t)) ≡ None
   pass_causeless n live ahead =
       let h = phaser_past n w in
-      no_cause (is_live t h) (has_mode can_signal t h) (signals t h == waits t h + 1) live (has_signalled (cases_Bool (has_mode can_signal t h)))
+      no_cause (is_live t h) (has_mode can_signal t h) (signals t h == waits t h + 1) live
+      (has_signalled (cases_Bool (has_mode can_signal t h)))
     where
-      no_cause : (a b c : Bool) → a ≡ true → (not b || c) ≡ true → cond a (cond (not b || c) None (Some NotSignalled)) (Some NotRegistered) ≡ None
+      no_cause : (a b c : Bool) → a ≡ true → (not b || c) ≡ true
+          → cond a (cond (not b || c) None (Some NotSignalled)) (Some NotRegistered) ≡ None
       no_cause a b c x y = rw (x, y) refl
 
-      has_signalled : ((has_mode can_signal t (phaser_past n w) ≡ true) ⊎ (has_mode can_signal t (phaser_past n w) ≡ false))
-          → (not (has_mode can_signal t (phaser_past n w)) || (signals t (phaser_past n w) == waits t (phaser_past n w) + 1)) ≡ true
+      has_signalled : ((has_mode can_signal t (phaser_past n w) ≡ true)
+          ⊎ (has_mode can_signal t (phaser_past n w) ≡ false))
+          → (not (has_mode can_signal t (phaser_past n w))
+          || (signals t (phaser_past n w) == waits t (phaser_past n w) + 1)) ≡ true
       has_signalled (inr no_signaller) = rw no_signaller refl
       has_signalled (inl signaller) =
           elim (at_or_ahead l (ops_of n w) (phaser_past n w) (phasers_legal l w k n) t signaller) [
-            | inl same ↦ absurd (true≢false (sym (and_from (has_mode can_signal t (phaser_past n w)) (signals t (phaser_past n w) == waits t (phaser_past n w)) signaller (eq-eqb (signals t (phaser_past n w)) (waits t (phaser_past n w)) same)) ∙ ahead))
-            | inr one ↦ rw (signaller, eq-eqb (signals t (phaser_past n w)) (waits t (phaser_past n w) + 1) one) refl
+            | inl same ↦
+                absurd (true≢false (sym (and_from (has_mode can_signal t (phaser_past n w))
+                (signals t (phaser_past n w) == waits t (phaser_past n w)) signaller
+                (eq-eqb (signals t (phaser_past n w)) (waits t (phaser_past n w)) same)) ∙ ahead))
+            | inr one ↦
+                rw (signaller, eq-eqb (signals t (phaser_past n w)) (waits t (phaser_past n w) + 1) one) refl
           ]
 
   -- what is next where a pass is due
-  pub next_by : (n : ℕ) (ds : List WorldEvent) (b c : Bool) → due t w ≡ Phaser n (Pass t) ∷ ds → is_permitted l (ops_of n w) (phaser_past n w) (Claimed t) ≡ b → is_permitted l (ops_of n w) (phaser_past n w) (Done t) ≡ c
+  pub next_by : (n : ℕ) (ds : List WorldEvent) (b c : Bool) → due t w ≡ Phaser n (Pass t) ∷ ds
+      → is_permitted l (ops_of n w) (phaser_past n w) (Claimed t) ≡ b
+      → is_permitted l (ops_of n w) (phaser_past n w) (Done t) ≡ c
       → next_event l t w ≡ Some (cond b (Phaser n (Claim t)) (cond c (Phaser n (Did t)) (Phaser n (Pass t))))
   next_by n ds b c here x y =
       next_is l w t going (Phaser n (Pass t)) ds here
-      ∙ (ap (λ z. Some (cond z (Phaser n (Claim t)) (cond (is_permitted l (ops_of n w) (phaser_past n w) (Done t)) (Phaser n (Did t)) (Phaser n (Pass t))))) x
+      ∙ (ap (λ z. Some (cond z (Phaser n (Claim t)) (cond (is_permitted l (ops_of n w) (phaser_past n w)
+      (Done t)) (Phaser n (Did t)) (Phaser n (Pass t))))) x
       ∙ ap (λ z. Some (cond b (Phaser n (Claim t)) (cond z (Phaser n (Did t)) (Phaser n (Pass t))))) y)
 
   self : (n : ℕ) → ((n == n) && (t == t)) ≡ true
   self n = and_from (n == n) (t == t) (eq-eqb n n refl) (eq-eqb t t refl)
 
-  passes : (n : ℕ) (ds : List WorldEvent) → due t w ≡ Phaser n (Pass t) ∷ ds → is_live t (phaser_past n w) ≡ true → is_behind t (phaser_past n w) ≡ false
-      → is_permitted l (ops_of n w) (phaser_past n w) (Claimed t) ≡ false → is_permitted l (ops_of n w) (phaser_past n w) (Done t) ≡ false → Outcome l t w
+  passes : (n : ℕ) (ds : List WorldEvent) → due t w ≡ Phaser n (Pass t) ∷ ds
+      → is_live t (phaser_past n w) ≡ true → is_behind t (phaser_past n w) ≡ false
+      → is_permitted l (ops_of n w) (phaser_past n w) (Claimed t) ≡ false
+      → is_permitted l (ops_of n w) (phaser_past n w) (Done t) ≡ false → Outcome l t w
   passes n ds here live ahead no_claim no_did =
       let e = Phaser n (Pass t) in
       let h = phaser_past n w in
-      let waiting = has_mode can_wait t h && not (is_permitted l (ops_of n w) h (Passed t)) && not (is_permitted l (ops_of n w) h (Claimed t)) in
+      let waiting =
+      has_mode can_wait t h && not (is_permitted l (ops_of n w) h (Passed t))
+      && not (is_permitted l (ops_of n w) h (Claimed t)) in
       let event = phaser.event_for l (ops_of n w) h (pass t) in
       let next = next_by n ds false false here no_claim no_did in
       elim (cases_Bool waiting) [
         | inl y ↦
-            let z = and_parts (has_mode can_wait t h && not (is_permitted l (ops_of n w) h (Passed t))) (not (is_permitted l (ops_of n w) h (Claimed t))) y in
+            let z =
+            and_parts (has_mode can_wait t h && not (is_permitted l (ops_of n w) h (Passed t)))
+            (not (is_permitted l (ops_of n w) h (Claimed t))) y in
             let v = and_parts (has_mode can_wait t h) (not (is_permitted l (ops_of n w) h (Passed t))) z.0 in
-            inr (inl (record { on = n; rest = ds; is = here; live = live; signalled = ahead; waiter = v.0; no_pass = not-true (is_permitted l (ops_of n w) h (Passed t)) v.1; no_claim = no_claim; no_did = no_did }))
+            inr (inl (record {
+              on = n;
+              rest = ds;
+              is = here;
+              live = live;
+              signalled = ahead;
+              waiter = v.0;
+              no_pass = not-true (is_permitted l (ops_of n w) h (Passed t)) v.1;
+              no_claim = no_claim;
+              no_did = no_did;
+            }))
         | inr y ↦
-            elim (made_or_full h (first_refusal (conditions l (ops_of n w) h (pass t))) waiting (has_room l (event ∷ h)) event (pass_causeless n live ahead) y) [
-              | inl made ↦ inl (able_by l w t going e refl (part_accepted l w t going e (self n) refl next made))
+            elim (made_or_full h (first_refusal (conditions l (ops_of n w) h (pass t))) waiting
+            (has_room l (event ∷ h)) event (pass_causeless n live ahead) y) [
+              | inl made ↦
+                  inl (able_by l w t going e refl (part_accepted l w t going e (self n) refl next made))
               | inr full ↦ inl (fails_15 l w t going e next full)
             ]
       ]
 
   -- a pass, or what comes before it
-  pub of_pass : (n : ℕ) (ds : List WorldEvent) → moves_act (last_entry t w) ≡ true → due t w ≡ Phaser n (Pass t) ∷ ds → Outcome l t w
+  pub of_pass : (n : ℕ) (ds : List WorldEvent) → moves_act (last_entry t w) ≡ true
+      → due t w ≡ Phaser n (Pass t) ∷ ds → Outcome l t w
   of_pass n ds s here =
       let h = phaser_past n w in
       let p = pass_stands n ds s here in
       elim (cases_Bool (is_permitted l (ops_of n w) h (Claimed t))) [
         | inl claim ↦
             let next = next_by n ds true (is_permitted l (ops_of n w) h (Done t)) here claim refl in
-            inl (able_by l w t going (Phaser n (Claim t)) refl (part_accepted l w t going (Phaser n (Claim t)) (self n) refl next (claim_made n claim)))
+            inl (able_by l w t going (Phaser n (Claim t)) refl
+            (part_accepted l w t going (Phaser n (Claim t)) (self n) refl next (claim_made n claim)))
         | inr no_claim ↦
             elim (cases_Bool (is_permitted l (ops_of n w) h (Done t))) [
-              | inl did ↦ inl (able_by l w t going (Phaser n (Did t)) refl (part_accepted l w t going (Phaser n (Did t)) (self n) refl (next_by n ds false true here no_claim did) (report_made n did)))
+              | inl did ↦
+                  inl (able_by l w t going (Phaser n (Did t)) refl
+                  (part_accepted l w t going (Phaser n (Did t)) (self n) refl
+                  (next_by n ds false true here no_claim did) (report_made n did)))
               | inr no_did ↦ passes n ds here p.0 p.1 no_claim no_did
             ]
       ]

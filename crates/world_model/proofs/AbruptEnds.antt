@@ -1,4 +1,5 @@
--- A task that was refused or has failed makes nothing more but its end, and a child that is named is born or given up.
+-- A task that was refused or has failed makes nothing more but its end,
+-- and a child that is named is born or given up.
 use Rattle.phase_modes.specs.Lists.{is_empty}
 use Rattle.std.proofs.Common.{◌≡◌, ◌⊎◌, ℕ, Bool, true, false, ◌&&◌, ◌||◌, ◌==◌, not, cond, List, [], ◌∷◌, ◌++◌, map, Some, refl, sym, subst, ◌∙◌, inl, inr}
 use Rattle.std.specs.Prelude.{drop, flat_map}
@@ -35,7 +36,8 @@ not_empty : (xs : List WorldEvent) (y : WorldEvent) (ys : List WorldEvent) → i
 not_empty [] y ys = refl
 not_empty (x ∷ xs) y ys = refl
 
-end_append : (t : ℕ) (xs : List WorldEvent) (y : WorldEvent) (ys : List WorldEvent) → is_end_list t (y ∷ ys) ≡ true → is_end_list t (xs ++ y ∷ ys) ≡ true
+end_append : (t : ℕ) (xs : List WorldEvent) (y : WorldEvent) (ys : List WorldEvent)
+    → is_end_list t (y ∷ ys) ≡ true → is_end_list t (xs ++ y ∷ ys) ≡ true
 end_append t [] y ys k = k
 end_append t (x ∷ xs) y ys k = rw (not_empty xs y ys) (end_append t xs y ys k)
 
@@ -46,20 +48,25 @@ drop_end t (d ∷ ds) k = (and_parts (not (is_empty ds) || ends t d) (is_end_lis
 abbrev last_of : ℕ → List WorldEvent → WorldEvent
 last_of t w = cond (t == 0) (Finish 0 Shutting) (Finish (home t w) (Ended t))
 
-one_end : (t f : ℕ) (b : Bool) → (t == 0) ≡ b → is_end_list t (cond b (Finish 0 Shutting) (Finish f (Ended t)) ∷ []) ≡ true
+one_end : (t f : ℕ) (b : Bool) → (t == 0) ≡ b
+    → is_end_list t (cond b (Finish 0 Shutting) (Finish f (Ended t)) ∷ []) ≡ true
 one_end t f true e = rw e refl
 one_end t f false e = rw (eq_self t) refl
 
 ending_list : (t : ℕ) (w : List WorldEvent) → is_end_list t (ending t w) ≡ true
-ending_list t w = end_append t (drops_due t w ++ map (λ f. Finish f Shutting) (open_finishes t w)) (last_of t w) [] (one_end t (home t w) (t == 0) refl)
+ending_list t w =
+    end_append t (drops_due t w ++ map (λ f. Finish f Shutting) (open_finishes t w)) (last_of t w) []
+    (one_end t (home t w) (t == 0) refl)
 
 -- what an end's list has before it changes nothing
-before_end : (t : ℕ) (xs ys : List WorldEvent) → is_empty ys ≡ false → is_end_list t ys ≡ true → is_end_list t (xs ++ ys) ≡ true
+before_end : (t : ℕ) (xs ys : List WorldEvent) → is_empty ys ≡ false → is_end_list t ys ≡ true
+    → is_end_list t (xs ++ ys) ≡ true
 before_end t xs [] n k = absurd cc
 before_end t xs (y ∷ ys) n k = end_append t xs y ys k
 
 pub ending_full : (t : ℕ) (w : List WorldEvent) → is_empty (ending t w) ≡ false
-ending_full t w = not_empty (drops_due t w ++ map (λ f. Finish f Shutting) (open_finishes t w)) (last_of t w) []
+ending_full t w =
+    not_empty (drops_due t w ++ map (λ f. Finish f Shutting) (open_finishes t w)) (last_of t w) []
 
 pub full_before : (xs ys : List WorldEvent) → is_empty ys ≡ false → is_empty (xs ++ ys) ≡ false
 full_before [] ys n = n
@@ -68,18 +75,26 @@ full_before (x ∷ xs) ys n = refl
 abbrev IsEndFixed : ℕ → List WorldEvent → Type 0
 IsEndFixed t ds = (is_end_list t ds ≡ true) × (is_empty ds ≡ false)
 
-entry_end : (t : ℕ) (e : WorldEvent) (w : List WorldEvent) → is_entry t e ≡ true → leads_to_end (Some e) ≡ true → IsEndFixed t (fixed e w)
-entry_end t (Refuse u a n) w e k = subst (λ v. IsEndFixed v (ending u w)) (eqb-true u t e) (ending_list u w, ending_full u w)
+entry_end : (t : ℕ) (e : WorldEvent) (w : List WorldEvent) → is_entry t e ≡ true
+    → leads_to_end (Some e) ≡ true → IsEndFixed t (fixed e w)
+entry_end t (Refuse u a n) w e k =
+    subst (λ v. IsEndFixed v (ending u w)) (eqb-true u t e) (ending_list u w, ending_full u w)
 entry_end t (Fail u n) w e k =
     let xs = flat_map (λ x. drops_due x w) (unborn u w) in
-    subst (λ v. IsEndFixed v (xs ++ ending u w)) (eqb-true u t e) (before_end u xs (ending u w) (ending_full u w) (ending_list u w), full_before xs (ending u w) (ending_full u w))
+    subst (λ v. IsEndFixed v (xs ++ ending u w)) (eqb-true u t e) (
+      before_end u xs (ending u w)
+          (ending_full u w) (ending_list u w),
+      full_before xs (ending u w) (ending_full u w),
+    )
 entry_end t (Begin u b) w e k = absurd cc
 entry_end t (Phaser n s) w e k = absurd cc
 entry_end t (Finish f s) w e k = absurd cc
 
-end_due : (l : Limits) (t : ℕ) (w : List WorldEvent) → is_legal_world l w ≡ true → leads_to_end (last_entry t w) ≡ true → is_end_list t (due t w) ≡ true
+end_due : (l : Limits) (t : ℕ) (w : List WorldEvent) → is_legal_world l w ≡ true
+    → leads_to_end (last_entry t w) ≡ true → is_end_list t (due t w) ≡ true
 end_due l t w k s =
-    due_has l t leads_to_end (λ ds. is_end_list t ds ≡ true) refl (drop_end t) (λ e v h x y. (entry_end t e v x y).0) w k s
+    due_has l t leads_to_end (λ ds. is_end_list t ds ≡ true) refl (drop_end t)
+    (λ e v h x y. (entry_end t e v x y).0) w k s
 
 -- an act comes where nothing is due
 idle_parts : (b e d : Bool) → (b && not e && d) ≡ true → (d ≡ true) × (e ≡ false)
@@ -88,38 +103,49 @@ idle_parts true false false k = absurd cc
 idle_parts true true d k = absurd cc
 idle_parts false e d k = absurd cc
 
-pub nothing_due : (t : ℕ) (w : List WorldEvent) → is_idle t w ≡ true → (is_empty (due t w) ≡ true) × (is_ended t w ≡ false)
+pub nothing_due : (t : ℕ) (w : List WorldEvent) → is_idle t w ≡ true
+    → (is_empty (due t w) ≡ true) × (is_ended t w ≡ false)
 nothing_due t w k = idle_parts (is_born t w) (is_ended t w) (is_empty (due t w)) k
 
 -- a task's event in the middle of an act continues it, if it is no entry
-pub continues : (l : Limits) (w : List WorldEvent) (e : WorldEvent) → is_accepted l w e ≡ true → is_entry (actor w e) e ≡ false → is_empty (due (actor w e) w) ≡ false → IsNext l w e
-continues l w (Phaser n (Make t m ops)) a n' d = absurd (true≢false (sym (nothing_due t w (idle_in_act l w t (New n m ops) a)).0 ∙ d))
-continues l w (Phaser n (Send t c v)) a n' d = absurd (true≢false (sym (nothing_due t w (idle_in_act l w t (Sending n c v) a)).0 ∙ d))
-continues l w (Phaser n (Look t c)) a n' d = absurd (true≢false (sym (nothing_due t w (idle_in_act l w t (Looking n c) a)).0 ∙ d))
-continues l w (Finish f (Opened t)) a n' d = absurd (true≢false (sym (nothing_due t w (idle_in_act l w t (Open f) a)).0 ∙ d))
+pub continues : (l : Limits) (w : List WorldEvent) (e : WorldEvent) → is_accepted l w e ≡ true
+    → is_entry (actor w e) e ≡ false → is_empty (due (actor w e) w) ≡ false → IsNext l w e
+continues l w (Phaser n (Make t m ops)) a n' d =
+    absurd (true≢false (sym (nothing_due t w (idle_in_act l w t (New n m ops) a)).0 ∙ d))
+continues l w (Phaser n (Send t c v)) a n' d =
+    absurd (true≢false (sym (nothing_due t w (idle_in_act l w t (Sending n c v) a)).0 ∙ d))
+continues l w (Phaser n (Look t c)) a n' d =
+    absurd (true≢false (sym (nothing_due t w (idle_in_act l w t (Looking n c) a)).0 ∙ d))
+continues l w (Finish f (Opened t)) a n' d =
+    absurd (true≢false (sym (nothing_due t w (idle_in_act l w t (Open f) a)).0 ∙ d))
 continues l w (Begin t b) a n' d = absurd (true≢false (sym (eq_self t) ∙ n'))
 continues l w (Refuse t b n) a n' d = absurd (true≢false (sym (eq_self t) ∙ n'))
 continues l w (Fail t n) a n' d = absurd (true≢false (sym (eq_self t) ∙ n'))
 continues l w (Phaser n s) a n' d = (part_made l w (Phaser n s) a).0
 continues l w (Finish f s) a n' d = (part_made l w (Finish f s) a).0
 
-ends_stands : (l : Limits) (w : List WorldEvent) (t : ℕ) (d e : WorldEvent) → ends t d ≡ true → or_single l w d ≡ e → ends t e ≡ true
+ends_stands : (l : Limits) (w : List WorldEvent) (t : ℕ) (d e : WorldEvent) → ends t d ≡ true
+    → or_single l w d ≡ e → ends t e ≡ true
 ends_stands l w t (Finish f s) e k o = subst (λ x. ends t x ≡ true) o k
 ends_stands l w t d e k o = absurd cc
 
-pub later_ended : (t : ℕ) (e : WorldEvent) (w : List WorldEvent) → is_ended t w ≡ true → is_ended t (e ∷ w) ≡ true
+pub later_ended : (t : ℕ) (e : WorldEvent) (w : List WorldEvent) → is_ended t w ≡ true
+    → is_ended t (e ∷ w) ≡ true
 later_ended t e w k = or_right (ends t e) (is_ended t w) k
 
-must_be : (b : Bool) (ds : List WorldEvent) → is_empty (cond b (drop 1 ds) ds) ≡ true → is_empty ds ≡ false → b ≡ true
+must_be : (b : Bool) (ds : List WorldEvent) → is_empty (cond b (drop 1 ds) ds) ≡ true
+    → is_empty ds ≡ false → b ≡ true
 must_be true ds k n = refl
 must_be false ds k n = absurd (true≢false (sym k ∙ n))
 
 -- a task whose last entry leads to its end has ended once nothing is due
-pub ended_after : (l : Limits) (t : ℕ) (w : List WorldEvent) → is_legal_world l w ≡ true → leads_to_end (last_entry t w) ≡ true → is_empty (due t w) ≡ true → is_ended t w ≡ true
+pub ended_after : (l : Limits) (t : ℕ) (w : List WorldEvent) → is_legal_world l w ≡ true
+    → leads_to_end (last_entry t w) ≡ true → is_empty (due t w) ≡ true → is_ended t w ≡ true
 ended_after l t [] k s d = absurd cc
 ended_after l t (e ∷ w) k s d =
     let a = last_accepted l e w k in
-    (elim (cases_Bool (is_entry t e)) as (λ x. leads_to_end (last_entry t (e ∷ w)) ≡ true → is_empty (due t (e ∷ w)) ≡ true → is_ended t (e ∷ w) ≡ true) [
+    (elim (cases_Bool (is_entry t e)) as (λ x. leads_to_end (last_entry t (e ∷ w)) ≡ true
+    → is_empty (due t (e ∷ w)) ≡ true → is_ended t (e ∷ w) ≡ true) [
       | inl n ↦ rw n (λ r f. absurd (true≢false (sym f ∙ (entry_end t e w n r).1)))
       | inr n ↦
           rw n (λ r f.
@@ -133,30 +159,47 @@ ended_after l t (e ∷ w) k s d =
     last_ends true y h g = h
     last_ends false y h g = absurd cc
 
-    by_end : is_accepted l w e ≡ true → is_legal_world l w ≡ true → is_entry t e ≡ false → leads_to_end (last_entry t w) ≡ true → is_empty (due t w) ≡ false
-        → is_empty (cond (actor w e == t && not (is_of_single e)) (drop 1 (due t w)) (due t w)) ≡ true → ends t e ≡ true
+    by_end : is_accepted l w e ≡ true → is_legal_world l w ≡ true → is_entry t e ≡ false
+        → leads_to_end (last_entry t w) ≡ true → is_empty (due t w) ≡ false
+        → is_empty (cond (actor w e == t && not (is_of_single e)) (drop 1 (due t w)) (due t w))
+        ≡ true → ends t e ≡ true
     by_end a kw n r some f =
-        let b = and_parts (actor w e == t) (not (is_of_single e)) (must_be (actor w e == t && not (is_of_single e)) (due t w) f some) in
+        let b =
+        and_parts (actor w e == t) (not (is_of_single e))
+        (must_be (actor w e == t && not (is_of_single e)) (due t w) f some) in
         let mine : actor w e ≡ t = eqb-true (actor w e) t b.0 in
-        let next : IsNext l w e = continues l w e a (subst (λ v. is_entry v e ≡ false) (sym mine) n) (subst (λ v. is_empty (due v w) ≡ false) (sym mine) some) in
+        let next : IsNext l w e =
+        continues l w e a (subst (λ v. is_entry v e ≡ false) (sym mine) n)
+        (subst (λ v. is_empty (due v w) ≡ false) (sym mine) some) in
         let first : First l w (due t w) e = subst (λ v. First l w (due v w) e) mine (first_due l w e next) in
-        let shape : is_end_list t (first.due ∷ first.rest) ≡ true = subst (λ ds. is_end_list t ds ≡ true) first.is (end_due l t w kw r) in
-        let gone : is_empty first.rest ≡ true = subst (λ c. is_empty (cond c first.rest (first.due ∷ first.rest)) ≡ true) (and_from (actor w e == t) (not (is_of_single e)) b.0 b.1)
-        (subst (λ ds. is_empty (cond (actor w e == t && not (is_of_single e)) (drop 1 ds) ds) ≡ true) first.is f) in
-        ends_stands l w t first.due e (last_ends (is_empty first.rest) (ends t first.due) (and_parts (not (is_empty first.rest) || ends t first.due) (is_end_list t first.rest) shape).0 gone) first.stands
+        let shape : is_end_list t (first.due ∷ first.rest) ≡ true =
+        subst (λ ds. is_end_list t ds ≡ true) first.is (end_due l t w kw r) in
+        let gone : is_empty first.rest ≡ true =
+        subst (λ c. is_empty (cond c first.rest (first.due ∷ first.rest)) ≡ true)
+        (and_from (actor w e == t) (not (is_of_single e)) b.0 b.1)
+        (subst (λ ds. is_empty (cond (actor w e == t && not (is_of_single e)) (drop 1 ds) ds) ≡ true)
+        first.is f) in
+        ends_stands l w t first.due e (last_ends (is_empty first.rest) (ends t first.due)
+        (and_parts (not (is_empty first.rest) || ends t first.due) (is_end_list t first.rest) shape).0
+        gone) first.stands
 
 -- an entry that is no failure comes where nothing is due
-entry_idle : (l : Limits) (w : List WorldEvent) (t : ℕ) (e : WorldEvent) → is_accepted l w e ≡ true → is_entry t e ≡ true → leads_to_end (Some e) ≡ false → is_idle t w ≡ true
-entry_idle l w t (Begin u b) a n s = subst (λ v. is_idle v w ≡ true) (eqb-true u t n) (idle_in_act l w u (Beginning b) a)
+entry_idle : (l : Limits) (w : List WorldEvent) (t : ℕ) (e : WorldEvent) → is_accepted l w e ≡ true
+    → is_entry t e ≡ true → leads_to_end (Some e) ≡ false → is_idle t w ≡ true
+entry_idle l w t (Begin u b) a n s =
+    subst (λ v. is_idle v w ≡ true) (eqb-true u t n) (idle_in_act l w u (Beginning b) a)
 entry_idle l w t (Refuse u b x) a n s = absurd cc
 entry_idle l w t (Fail u x) a n s = absurd cc
 entry_idle l w t (Phaser m r) a n s = absurd cc
 entry_idle l w t (Finish f r) a n s = absurd cc
 
 abbrev pub IsHalfSpawned : ℕ → ℕ → List WorldEvent → Type 0
-IsHalfSpawned q c w = ((begins_spawn c (last_entry q w) ≡ true) × (is_empty (due q w) ≡ false)) ⊎ (leads_to_end (last_entry q w) ≡ true)
+IsHalfSpawned q c w =
+    ((begins_spawn c (last_entry q w) ≡ true) × (is_empty (due q w) ≡ false))
+    ⊎ (leads_to_end (last_entry q w) ≡ true)
 
-module _ (l : Limits) (q c : ℕ) (e : WorldEvent) (w : List WorldEvent) (k : is_legal_world l w ≡ true) (a : is_accepted l w e ≡ true) (unborn_after : is_born c (e ∷ w) ≡ false) where
+module _ (l : Limits) (q c : ℕ) (e : WorldEvent) (w : List WorldEvent) (k : is_legal_world l w ≡ true)
+    (a : is_accepted l w e ≡ true) (unborn_after : is_born c (e ∷ w) ≡ false) where
   after_entry : is_entry q e ≡ true → IsHalfSpawned q c w → IsHalfSpawned q c (e ∷ w)
   after_entry n h =
       elim (cases_Bool (leads_to_end (Some e))) [
@@ -170,16 +213,23 @@ module _ (l : Limits) (q c : ℕ) (e : WorldEvent) (w : List WorldEvent) (k : is
       ]
 
   -- what is left of a spawn after one of its events
-  left : begins_spawn c (last_entry q w) ≡ true → is_empty (due q w) ≡ false → is_entry q e ≡ false → (b : Bool) → (actor w e == q && not (is_of_single e)) ≡ b
+  left : begins_spawn c (last_entry q w) ≡ true → is_empty (due q w) ≡ false → is_entry q e ≡ false
+      → (b : Bool) → (actor w e == q && not (is_of_single e)) ≡ b
       → is_empty (cond b (drop 1 (due q w)) (due q w)) ≡ false
   left s some n false m = some
   left s some n true m =
-      let mine : actor w e ≡ q = eqb-true (actor w e) q (and_parts (actor w e == q) (not (is_of_single e)) m).0 in
-      let next : IsNext l w e = continues l w e a (subst (λ v. is_entry v e ≡ false) (sym mine) n) (subst (λ v. is_empty (due v w) ≡ false) (sym mine) some) in
+      let mine : actor w e ≡ q =
+      eqb-true (actor w e) q (and_parts (actor w e == q) (not (is_of_single e)) m).0 in
+      let next : IsNext l w e =
+      continues l w e a (subst (λ v. is_entry v e ≡ false) (sym mine) n)
+      (subst (λ v. is_empty (due v w) ≡ false) (sym mine) some) in
       let first : First l w (due q w) e = subst (λ v. First l w (due v w) e) mine (first_due l w e next) in
-      let shape : is_spawn_list q c (first.due ∷ first.rest) ≡ true = subst (λ ds. is_spawn_list q c ds ≡ true) first.is (spawn_due l q c w k s) in
+      let shape : is_spawn_list q c (first.due ∷ first.rest) ≡ true =
+      subst (λ ds. is_spawn_list q c ds ≡ true) first.is (spawn_due l q c w k s) in
       subst (λ ds. is_empty (drop 1 ds) ≡ false) (sym first.is)
-      (more first.due first.rest first.stands (and_parts ((is_reg_of q c first.due && not (is_empty first.rest)) || (is_spawn_of c first.due && is_empty first.rest)) (is_spawn_list q c first.rest) shape).0)
+      (more first.due first.rest first.stands
+      (and_parts ((is_reg_of q c first.due && not (is_empty first.rest))
+      || (is_spawn_of c first.due && is_empty first.rest)) (is_spawn_list q c first.rest) shape).0)
     where
       unnot : (b : Bool) → not b ≡ true → b ≡ false
       unnot true h = absurd cc
@@ -187,10 +237,13 @@ module _ (l : Limits) (q c : ℕ) (e : WorldEvent) (w : List WorldEvent) (k : is
 
       not_spawned : (d : WorldEvent) → or_single l w d ≡ e → is_spawn_of c d ≡ true → ⊥
       not_spawned (Finish f (Spawned u)) o h =
-          true≢false (sym (or_right (c == 0) (spawns c e || list_any (spawns c) w) (or_left (spawns c e) (list_any (spawns c) w) (subst (λ x. spawns c x ≡ true) o h))) ∙ unborn_after)
+          true≢false (sym (or_right (c == 0) (spawns c e || list_any (spawns c) w) (or_left (spawns c e)
+          (list_any (spawns c) w) (subst (λ x. spawns c x ≡ true) o h))) ∙ unborn_after)
       not_spawned d o h = absurd cc
 
-      more : (d : WorldEvent) (rest : List WorldEvent) → or_single l w d ≡ e → ((is_reg_of q c d && not (is_empty rest)) || (is_spawn_of c d && is_empty rest)) ≡ true → is_empty rest ≡ false
+      more : (d : WorldEvent) (rest : List WorldEvent) → or_single l w d ≡ e
+          → ((is_reg_of q c d && not (is_empty rest)) || (is_spawn_of c d && is_empty rest)) ≡ true
+          → is_empty rest ≡ false
       more d rest o h =
           elim (or_cases (is_reg_of q c d && not (is_empty rest)) (is_spawn_of c d && is_empty rest) h) [
             | inl x ↦ unnot (is_empty rest) (and_parts (is_reg_of q c d) (not (is_empty rest)) x).1
@@ -208,7 +261,8 @@ module _ (l : Limits) (q c : ℕ) (e : WorldEvent) (w : List WorldEvent) (k : is
   still_half h = elim (cases_Bool (is_entry q e)) [ inl n ↦ after_entry n h | inr n ↦ after_part n h ]
 
 -- a child that is named and not born: its spawn goes on, or was given up
-pub half_spawned : (l : Limits) (c : ℕ) (w : List WorldEvent) → is_legal_world l w ≡ true → is_named c w ≡ true → is_born c w ≡ false → IsHalfSpawned (spawner c w) c w
+pub half_spawned : (l : Limits) (c : ℕ) (w : List WorldEvent) → is_legal_world l w ≡ true
+    → is_named c w ≡ true → is_born c w ≡ false → IsHalfSpawned (spawner c w) c w
 half_spawned l c [] k n b = absurd (true≢false (sym n ∙ b))
 half_spawned l c (e ∷ w) k n b =
     let a = last_accepted l e w k in
@@ -224,11 +278,19 @@ half_spawned l c (e ∷ w) k n b =
         let p = or_parts (c == 0) (spawns c d || list_any (spawns c) w) h in
         or_from (c == 0) (list_any (spawns c) w) p.0 (or_parts (spawns c d) (list_any (spawns c) w) p.1).1
 
-    at_start : (d : WorldEvent) → is_named c (d ∷ w) ≡ true → is_born c (d ∷ w) ≡ false → is_named c w ≡ false → IsHalfSpawned (spawner c (d ∷ w)) c (d ∷ w)
+    at_start : (d : WorldEvent) → is_named c (d ∷ w) ≡ true → is_born c (d ∷ w) ≡ false → is_named c w ≡ false
+        → IsHalfSpawned (spawner c (d ∷ w)) c (d ∷ w)
     at_start (Begin u (Async x ps)) h g f =
         elim (cases_Bool (x == c)) [
-          | inl e ↦ rw (e, eq_self u) (inl (e, full_before (map (λ p. Phaser p.phaser (Reg u x p.mode)) ps) (Finish (inner u w) (Spawned x) ∷ []) refl))
-          | inr e ↦ absurd (true≢false (sym (subst (λ y. ((c == 0) || (y || list_any (names c) w)) ≡ true) e h) ∙ f))
+          | inl e ↦
+              rw (e, eq_self u) (inl (
+                e,
+                full_before (map (λ p. Phaser p.phaser (Reg u x p.mode)) ps)
+                    (Finish (inner u w) (Spawned x) ∷ []) refl,
+              ))
+          | inr e ↦
+              absurd
+              (true≢false (sym (subst (λ y. ((c == 0) || (y || list_any (names c) w)) ≡ true) e h) ∙ f))
         ]
     at_start (Begin u y) h g f = absurd (true≢false (sym h ∙ f))
     at_start (Refuse u y z) h g f = absurd (true≢false (sym h ∙ f))

@@ -1,4 +1,5 @@
--- No task begins more acts than the limit, so all tasks together begin no more turns than the limits' product.
+-- No task begins more acts than the limit,
+-- so all tasks together begin no more turns than the limits' product.
 use Rattle.std.proofs.Common.{◌≡◌, ℕ, ◌+◌, ◌*◌, ◌≤◌, ◌<◌, suc, zero, Bool, true, ◌||◌, ◌==◌, not, nat_lt, cond, List, [], ◌∷◌, refl, sym, subst, ap, ◌∙◌, inl, inr, arith}
 use Rattle.std.specs.List.{list_any}
 use Rattle.std.proofs.lemmas.Bool.{or_cases, cases_Bool, cases_lt, eqb-true, ltb-true}
@@ -29,26 +30,40 @@ use Rattle.world_model.proofs.BornWhereNamed.{born_named}
 use Rattle.world_model.proofs.ClockWithinTurns.{turns_begun}
 
 -- a counted act finds its task below the limit
-counted_below : (l : Limits) (w : List WorldEvent) (u : ℕ) (a : Tried) → is_counted a ≡ true → is_made (act_reply l w u a) ≡ true → acts u w < l.acts
+counted_below : (l : Limits) (w : List WorldEvent) (u : ℕ) (a : Tried) → is_counted a ≡ true
+    → is_made (act_reply l w u a) ≡ true → acts u w < l.acts
 counted_below l w u a c m =
     let room = not (is_counted a) || nat_lt (acts u w) l.acts in
     let free : Refusal × Bool = (NotNow, not (is_number_used w a)) in
-    let idle = no_refusal NotNow (is_idle u w) (free ∷ (ActsFull, room) ∷ own_conditions l w u a) (act_made l w u a m).0 in
+    let idle =
+    no_refusal NotNow (is_idle u w) (free ∷ (ActsFull, room) ∷ own_conditions l w u a)
+    (act_made l w u a m).0 in
     let now = no_refusal NotNow free.1 ((ActsFull, room) ∷ own_conditions l w u a) idle.1 in
     let has : room ≡ true = (no_refusal ActsFull room (own_conditions l w u a) now.1).0 in
     ltb-true (acts u w) l.acts (subst (λ b. (not b || nat_lt (acts u w) l.acts) ≡ true) c has)
 
-below_limit : (l : Limits) (w : List WorldEvent) (e : WorldEvent) (t : ℕ) → is_accepted l w e ≡ true → is_act t e ≡ true → acts t w < l.acts
-below_limit l w (Phaser n (Make u m ops)) t h k = subst (λ v. acts v w < l.acts) (eqb-true u t k) (counted_below l w u (New n m ops) refl h)
-below_limit l w (Phaser n (Send u a v)) t h k = subst (λ x. acts x w < l.acts) (eqb-true u t k) (counted_below l w u (Sending n a v) refl h)
-below_limit l w (Phaser n (Look u a)) t h k = subst (λ v. acts v w < l.acts) (eqb-true u t k) (counted_below l w u (Looking n a) refl h)
-below_limit l w (Finish f (Opened u)) t h k = subst (λ v. acts v w < l.acts) (eqb-true u t k) (counted_below l w u (Open f) refl h)
-below_limit l w (Begin u (Async c ps)) t h k = subst (λ v. acts v w < l.acts) (eqb-true u t k) (counted_below l w u (Beginning (Async c ps)) refl h)
-below_limit l w (Begin u Signal) t h k = subst (λ v. acts v w < l.acts) (eqb-true u t k) (counted_below l w u (Beginning Signal) refl h)
-below_limit l w (Begin u Wait) t h k = subst (λ v. acts v w < l.acts) (eqb-true u t k) (counted_below l w u (Beginning Wait) refl h)
-below_limit l w (Begin u Next) t h k = subst (λ v. acts v w < l.acts) (eqb-true u t k) (counted_below l w u (Beginning Next) refl h)
-below_limit l w (Begin u (NextSingle x)) t h k = subst (λ v. acts v w < l.acts) (eqb-true u t k) (counted_below l w u (Beginning (NextSingle x)) refl h)
-below_limit l w (Begin u Shut) t h k = subst (λ v. acts v w < l.acts) (eqb-true u t k) (counted_below l w u (Beginning Shut) refl h)
+below_limit : (l : Limits) (w : List WorldEvent) (e : WorldEvent) (t : ℕ) → is_accepted l w e ≡ true
+    → is_act t e ≡ true → acts t w < l.acts
+below_limit l w (Phaser n (Make u m ops)) t h k =
+    subst (λ v. acts v w < l.acts) (eqb-true u t k) (counted_below l w u (New n m ops) refl h)
+below_limit l w (Phaser n (Send u a v)) t h k =
+    subst (λ x. acts x w < l.acts) (eqb-true u t k) (counted_below l w u (Sending n a v) refl h)
+below_limit l w (Phaser n (Look u a)) t h k =
+    subst (λ v. acts v w < l.acts) (eqb-true u t k) (counted_below l w u (Looking n a) refl h)
+below_limit l w (Finish f (Opened u)) t h k =
+    subst (λ v. acts v w < l.acts) (eqb-true u t k) (counted_below l w u (Open f) refl h)
+below_limit l w (Begin u (Async c ps)) t h k =
+    subst (λ v. acts v w < l.acts) (eqb-true u t k) (counted_below l w u (Beginning (Async c ps)) refl h)
+below_limit l w (Begin u Signal) t h k =
+    subst (λ v. acts v w < l.acts) (eqb-true u t k) (counted_below l w u (Beginning Signal) refl h)
+below_limit l w (Begin u Wait) t h k =
+    subst (λ v. acts v w < l.acts) (eqb-true u t k) (counted_below l w u (Beginning Wait) refl h)
+below_limit l w (Begin u Next) t h k =
+    subst (λ v. acts v w < l.acts) (eqb-true u t k) (counted_below l w u (Beginning Next) refl h)
+below_limit l w (Begin u (NextSingle x)) t h k =
+    subst (λ v. acts v w < l.acts) (eqb-true u t k) (counted_below l w u (Beginning (NextSingle x)) refl h)
+below_limit l w (Begin u Shut) t h k =
+    subst (λ v. acts v w < l.acts) (eqb-true u t k) (counted_below l w u (Beginning Shut) refl h)
 below_limit l w e t h k = absurd cc
 
 acts_more : (t : ℕ) (e : WorldEvent) (w : List WorldEvent) → acts t (e ∷ w) ≡ cond (is_act t e) 1 0 + acts t w
@@ -75,9 +90,12 @@ abbrev all_acts : ℕ → List WorldEvent → ℕ
 all_acts zero w = 0
 all_acts (suc n) w = acts n w + all_acts n w
 
-all_within : (l : Limits) (w : List WorldEvent) → is_legal_world l w ≡ true → (n : ℕ) → all_acts n w ≤ n * l.acts
+all_within : (l : Limits) (w : List WorldEvent) → is_legal_world l w ≡ true → (n : ℕ)
+    → all_acts n w ≤ n * l.acts
 all_within l w k zero = omega arith
-all_within l w k (suc n) = rw (suc-mul n l.acts) (both (acts n w) (all_acts n w) l.acts (n * l.acts) (acts_within l w k n) (all_within l w k n))
+all_within l w k (suc n) =
+    rw (suc-mul n l.acts)
+    (both (acts n w) (all_acts n w) l.acts (n * l.acts) (acts_within l w k n) (all_within l w k n))
   where
     both : (x y a b : ℕ) → x ≤ a → y ≤ b → x + y ≤ b + a
     both x y a b h k = omega (arith, h, k)
@@ -87,20 +105,25 @@ no_fewer t e w = rw (acts_more t e w) (omega arith)
 
 all_no_fewer : (n : ℕ) (e : WorldEvent) (w : List WorldEvent) → all_acts n w ≤ all_acts n (e ∷ w)
 all_no_fewer zero e w = omega arith
-all_no_fewer (suc n) e w = both (acts n w) (all_acts n w) (acts n (e ∷ w)) (all_acts n (e ∷ w)) (no_fewer n e w) (all_no_fewer n e w)
+all_no_fewer (suc n) e w =
+    both (acts n w) (all_acts n w) (acts n (e ∷ w)) (all_acts n (e ∷ w)) (no_fewer n e w) (all_no_fewer n e w)
   where
     both : (x y a b : ℕ) → x ≤ a → y ≤ b → x + y ≤ a + b
     both x y a b h k = omega (arith, h, k)
 
 -- an act of a task below n is one more
-all_one_more : (n u : ℕ) (e : WorldEvent) (w : List WorldEvent) → u < n → is_act u e ≡ true → all_acts n w + 1 ≤ all_acts n (e ∷ w)
+all_one_more : (n u : ℕ) (e : WorldEvent) (w : List WorldEvent) → u < n → is_act u e ≡ true
+    → all_acts n w + 1 ≤ all_acts n (e ∷ w)
 all_one_more zero u e w s k = absurd (omega (arith, s))
 all_one_more (suc n) u e w s k =
     elim (cases_lt u n) [
-      | inl less ↦ others (acts n w) (all_acts n w) (acts n (e ∷ w)) (all_acts n (e ∷ w)) (no_fewer n e w) (all_one_more n u e w less k)
+      | inl less ↦
+          others (acts n w) (all_acts n w) (acts n (e ∷ w)) (all_acts n (e ∷ w)) (no_fewer n e w)
+          (all_one_more n u e w less k)
       | inr more ↦
           let same : u ≡ n = omega (arith, s, more) in
-          let now : acts n (e ∷ w) ≡ 1 + acts n w = acts_more n e w ∙ ap (λ b. cond b 1 0 + acts n w) (subst (λ v. is_act v e ≡ true) same k) in
+          let now : acts n (e ∷ w) ≡ 1 + acts n w =
+          acts_more n e w ∙ ap (λ b. cond b 1 0 + acts n w) (subst (λ v. is_act v e ≡ true) same k) in
           rw now (own (acts n w) (all_acts n w) (all_acts n (e ∷ w)) (all_no_fewer n e w))
     ]
   where
@@ -111,19 +134,26 @@ all_one_more (suc n) u e w s k =
     own x y b h = omega (arith, h)
 
 -- a number that a spawn named is below the limit
-named_fits : (l : Limits) (w : List WorldEvent) → is_legal_world l w ≡ true → (t : ℕ) → list_any (names t) w ≡ true → t < l.tasks
+named_fits : (l : Limits) (w : List WorldEvent) → is_legal_world l w ≡ true → (t : ℕ)
+    → list_any (names t) w ≡ true → t < l.tasks
 named_fits l [] k t n = absurd cc
 named_fits l (e ∷ w) k t n =
     let a = last_accepted l e w k in
-    elim (or_cases (names t e) (list_any (names t) w) n) [ inl b ↦ by_event e a.0 b | inr b ↦ named_fits l w a.1 t b ]
+    elim (or_cases (names t e) (list_any (names t) w) n) [
+      | inl b ↦ by_event e a.0 b
+      | inr b ↦ named_fits l w a.1 t b
+    ]
   where
     by_event : (e : WorldEvent) → is_accepted l w e ≡ true → names t e ≡ true → t < l.tasks
     by_event (Begin u (Async c ps)) h b =
-        let asked = no_refusal TasksFull (nat_lt c l.tasks) (pair_conditions w u [] ps) (begin_asked l w u (Async c ps) h) in
+        let asked =
+        no_refusal TasksFull (nat_lt c l.tasks) (pair_conditions w u [] ps)
+        (begin_asked l w u (Async c ps) h) in
         subst (λ v. v < l.tasks) (eqb-true c t b) (ltb-true c l.tasks asked.0)
     by_event e h b = absurd cc
 
-born_fits : (l : Limits) (w : List WorldEvent) → is_legal_world l w ≡ true → 1 ≤ l.tasks → (t : ℕ) → is_born t w ≡ true → t < l.tasks
+born_fits : (l : Limits) (w : List WorldEvent) → is_legal_world l w ≡ true → 1 ≤ l.tasks → (t : ℕ)
+    → is_born t w ≡ true → t < l.tasks
 born_fits l w k some t b =
     elim (or_cases (t == 0) (list_any (names t) w) (born_named l t w k b)) [
       | inl z ↦ subst (λ v. v < l.tasks) (sym (eqb-true t 0 z)) (omega (arith, some))
@@ -136,7 +166,8 @@ turn_is_act u Next k = eq_self u
 turn_is_act u (NextSingle x) k = eq_self u
 turn_is_act u b k = absurd cc
 
-turns_counted : (l : Limits) (w : List WorldEvent) → is_legal_world l w ≡ true → 1 ≤ l.tasks → turns_begun w ≤ all_acts l.tasks w
+turns_counted : (l : Limits) (w : List WorldEvent) → is_legal_world l w ≡ true → 1 ≤ l.tasks
+    → turns_begun w ≤ all_acts l.tasks w
 turns_counted l [] k some = none (all_acts l.tasks [])
   where
     none : (n : ℕ) → 0 ≤ n
@@ -151,25 +182,43 @@ turns_counted l (e ∷ w) k some =
     one_more : (x y z : ℕ) → x ≤ y → y + 1 ≤ z → x + 1 ≤ z
     one_more x y z h k = omega (arith, h, k)
 
-    begun : (u : ℕ) (b : Begun) → is_accepted l w (Begin u b) ≡ true → turns_begun w ≤ all_acts l.tasks w → turns_begun (Begin u b ∷ w) ≤ all_acts l.tasks (Begin u b ∷ w)
+    begun : (u : ℕ) (b : Begun) → is_accepted l w (Begin u b) ≡ true → turns_begun w ≤ all_acts l.tasks w
+        → turns_begun (Begin u b ∷ w) ≤ all_acts l.tasks (Begin u b ∷ w)
     begun u b h before =
         elim (cases_Bool (is_turn b)) [
           | inl t ↦
-              let fits : u < l.tasks = born_fits l w (last_accepted l e w k).1 some u (idle_is_born u w (idle_in_act l w u (Beginning b) h)) in
-              rw t (one_more (turns_begun w) (all_acts l.tasks w) (all_acts l.tasks (Begin u b ∷ w)) before (all_one_more l.tasks u (Begin u b) w fits (turn_is_act u b t)))
-          | inr t ↦ rw t (trans (turns_begun w) (all_acts l.tasks w) (all_acts l.tasks (Begin u b ∷ w)) before (all_no_fewer l.tasks (Begin u b) w))
+              let fits : u < l.tasks =
+              born_fits l w (last_accepted l e w k).1 some u
+              (idle_is_born u w (idle_in_act l w u (Beginning b) h)) in
+              rw t (one_more (turns_begun w) (all_acts l.tasks w) (all_acts l.tasks (Begin u b ∷ w)) before
+              (all_one_more l.tasks u (Begin u b) w fits (turn_is_act u b t)))
+          | inr t ↦
+              rw t (trans (turns_begun w) (all_acts l.tasks w) (all_acts l.tasks (Begin u b ∷ w)) before
+              (all_no_fewer l.tasks (Begin u b) w))
         ]
 
-    by_event : (e : WorldEvent) → is_accepted l w e ≡ true → turns_begun w ≤ all_acts l.tasks w → turns_begun (e ∷ w) ≤ all_acts l.tasks (e ∷ w)
+    by_event : (e : WorldEvent) → is_accepted l w e ≡ true → turns_begun w ≤ all_acts l.tasks w
+        → turns_begun (e ∷ w) ≤ all_acts l.tasks (e ∷ w)
     by_event (Begin u b) h before = begun u b h before
-    by_event (Phaser n s) h before = trans (turns_begun w) (all_acts l.tasks w) (all_acts l.tasks (Phaser n s ∷ w)) before (all_no_fewer l.tasks (Phaser n s) w)
-    by_event (Finish f d) h before = trans (turns_begun w) (all_acts l.tasks w) (all_acts l.tasks (Finish f d ∷ w)) before (all_no_fewer l.tasks (Finish f d) w)
-    by_event (Refuse u x n) h before = trans (turns_begun w) (all_acts l.tasks w) (all_acts l.tasks (Refuse u x n ∷ w)) before (all_no_fewer l.tasks (Refuse u x n) w)
-    by_event (Fail u n) h before = trans (turns_begun w) (all_acts l.tasks w) (all_acts l.tasks (Fail u n ∷ w)) before (all_no_fewer l.tasks (Fail u n) w)
+    by_event (Phaser n s) h before =
+        trans (turns_begun w) (all_acts l.tasks w) (all_acts l.tasks (Phaser n s ∷ w)) before
+        (all_no_fewer l.tasks (Phaser n s) w)
+    by_event (Finish f d) h before =
+        trans (turns_begun w) (all_acts l.tasks w) (all_acts l.tasks (Finish f d ∷ w)) before
+        (all_no_fewer l.tasks (Finish f d) w)
+    by_event (Refuse u x n) h before =
+        trans (turns_begun w) (all_acts l.tasks w) (all_acts l.tasks (Refuse u x n ∷ w)) before
+        (all_no_fewer l.tasks (Refuse u x n) w)
+    by_event (Fail u n) h before =
+        trans (turns_begun w) (all_acts l.tasks w) (all_acts l.tasks (Fail u n ∷ w)) before
+        (all_no_fewer l.tasks (Fail u n) w)
 
 -- all tasks together begin no more turns than their number times the acts of each
-pub turns_within : (l : Limits) (w : List WorldEvent) → is_legal_world l w ≡ true → 1 ≤ l.tasks → turns_begun w ≤ l.tasks * l.acts
-turns_within l w k some = trans (turns_begun w) (all_acts l.tasks w) (l.tasks * l.acts) (turns_counted l w k some) (all_within l w k l.tasks)
+pub turns_within : (l : Limits) (w : List WorldEvent) → is_legal_world l w ≡ true → 1 ≤ l.tasks
+    → turns_begun w ≤ l.tasks * l.acts
+turns_within l w k some =
+    trans (turns_begun w) (all_acts l.tasks w) (l.tasks * l.acts) (turns_counted l w k some)
+    (all_within l w k l.tasks)
   where
     trans : (x y z : ℕ) → x ≤ y → y ≤ z → x ≤ z
     trans x y z h k = omega (arith, h, k)

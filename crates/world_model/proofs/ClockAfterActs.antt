@@ -35,7 +35,10 @@ use Rattle.world_model.proofs.SmallWords.{eq_self}
 
 some_pass : (n : ℕ) (ds : List WorldEvent) → passes_on n ds ≡ 1 → list_any (is_pass_on n) ds ≡ true
 some_pass n ds e =
-    elim (cases_Bool (list_any (is_pass_on n) ds)) [ inl x ↦ x | inr x ↦ absurd (none_at (passes_on n ds) (nothing_counted n ds x) e) ]
+    elim (cases_Bool (list_any (is_pass_on n) ds)) [
+      | inl x ↦ x
+      | inr x ↦ absurd (none_at (passes_on n ds) (nothing_counted n ds x) e)
+    ]
   where
     none_at : (x : ℕ) → x ≡ 0 → x ≡ 1 → ⊥
     none_at x y z = omega arith
@@ -55,8 +58,11 @@ module _ (l : Limits) (w : List WorldEvent) (k : is_legal_world l w ≡ true) (b
     live_pass : (t n : ℕ) → IsLiveOn t n (going ∷ w) → IsLiveOn t n w
     live_pass t n a = live_by (m == n) t (Passed u) (phaser_past n w) (λ x. x) a
 
-    waits_pass : (t n : ℕ) → (u == t) ≡ false → waits t (phaser_past n (going ∷ w)) ≡ waits t (phaser_past n w)
-    waits_pass t n e = waits_by (m == n) t (Passed u) (phaser_past n w) (ap (λ b. cond b (waits t (phaser_past n w) + 1) (waits t (phaser_past n w))) e)
+    waits_pass : (t n : ℕ) → (u == t) ≡ false
+        → waits t (phaser_past n (going ∷ w)) ≡ waits t (phaser_past n w)
+    waits_pass t n e =
+        waits_by (m == n) t (Passed u) (phaser_past n w)
+        (ap (λ b. cond b (waits t (phaser_past n w) + 1) (waits t (phaser_past n w))) e)
 
     own_pass : (n : ℕ) → OfBorn u n (going ∷ w)
     own_pass n a b d =
@@ -65,7 +71,8 @@ module _ (l : Limits) (w : List WorldEvent) (k : is_legal_world l w ≡ true) (b
         let law : ClockLaw u n w = before.0 u n (live_pass u n a) b d in
         elim (cases_Bool (m == n)) [
           | inl e ↦
-              subst (λ v. ClockLaw u v (going ∷ w)) (eqb-true m n e) (pass_row_here u m w p.rest p.turn p.here once (subst (λ v. ClockLaw u v w) (sym (eqb-true m n e)) law))
+              subst (λ v. ClockLaw u v (going ∷ w)) (eqb-true m n e) (pass_row_here u m w p.rest p.turn p.here
+              once (subst (λ v. ClockLaw u v w) (sym (eqb-true m n e)) law))
           | inr e ↦ pass_row_there u m w p.rest p.turn p.here once n e law
         ]
 
@@ -73,7 +80,9 @@ module _ (l : Limits) (w : List WorldEvent) (k : is_legal_world l w ≡ true) (b
     pass_born t n =
         elim (cases_Bool (u == t)) [
           | inl e ↦ subst (λ v. OfBorn v n (going ∷ w)) (eqb-true u t e) (own_pass n)
-          | inr e ↦ λ a b d. moved t n going w (waits_pass t n e) refl (clock_other t going w e refl) (passed_other t n going w e) (before.0 t n (live_pass t n a) b d)
+          | inr e ↦
+              λ a b d. moved t n going w (waits_pass t n e) refl (clock_other t going w e refl)
+              (passed_other t n going w e) (before.0 t n (live_pass t n a) b d)
         ]
 
     pass_unborn : (t n : ℕ) → OfUnborn t n (going ∷ w)
@@ -81,17 +90,22 @@ module _ (l : Limits) (w : List WorldEvent) (k : is_legal_world l w ≡ true) (b
         let p = passing l w m u k h in
         let a' = live_pass t n a in
         let not_child : (u == t) ≡ false =
-        false_from_ne_true (u == t) (λ e. true≢false (sym p.turn ∙ ap begins_turn (subst (λ v. last_entry v w ≡ None) (sym (eqb-true u t e)) (unborn_none l t w k b)))) in
+        false_from_ne_true (u == t) (λ e. true≢false (sym p.turn ∙ ap begins_turn
+        (subst (λ v. last_entry v w ≡ None) (sym (eqb-true u t e)) (unborn_none l t w k b)))) in
         let not_spawner : (u == spawner t w) ≡ false =
-        false_from_ne_true (u == spawner t w) (λ e. true≢false (sym p.turn ∙ subst (λ v. begins_turn (last_entry v w) ≡ false) (sym (eqb-true u (spawner t w) e)) (spawn_no_turn t (last_entry (spawner t w) w) (spawn_of l w k t n a' b d).0))) in
-        rw (waits_pass t n not_child, clock_other (spawner t w) going w not_spawner refl) (before.1 t n a' b d)
+        false_from_ne_true (u == spawner t w) (λ e. true≢false (sym p.turn
+        ∙ subst (λ v. begins_turn (last_entry v w) ≡ false) (sym (eqb-true u (spawner t w) e))
+        (spawn_no_turn t (last_entry (spawner t w) w) (spawn_of l w k t n a' b d).0))) in
+        rw (waits_pass t n not_child, clock_other (spawner t w) going w not_spawner refl)
+        (before.1 t n a' b d)
 
     pub after_pass : Both (going ∷ w)
     after_pass = (pass_born, pass_unborn)
 
   idle_not_ending : (t : ℕ) → is_idle t w ≡ true → leads_to_end (last_entry t w) ≡ false
   idle_not_ending t i =
-      false_from_ne_true (leads_to_end (last_entry t w)) (λ s. true≢false (sym (ended_after l t w k s (nothing_due t w i).0) ∙ (nothing_due t w i).1))
+      false_from_ne_true (leads_to_end (last_entry t w))
+      (λ s. true≢false (sym (ended_after l t w k s (nothing_due t w i).0) ∙ (nothing_due t w i).1))
 
   -- an act is begun
   module _ (u : ℕ) (y : Begun) (h : is_accepted l w (Begin u y) ≡ true) where
@@ -116,9 +130,12 @@ module _ (l : Limits) (w : List WorldEvent) (k : is_legal_world l w ≡ true) (b
         rw (eq_self u)
         (elim (cases_Bool (is_turn y)) [
           | inl e ↦
-              ap (λ b. is_turn y && not (is_empty (fixed_by u y w)) && not b) (some_pass n (fixed_by u y w) (passes_fixed u n y w e ∙ once_on n a))
+              ap (λ b. is_turn y && not (is_empty (fixed_by u y w)) && not b)
+              (some_pass n (fixed_by u y w) (passes_fixed u n y w e ∙ once_on n a))
               ∙ false_at (is_turn y && not (is_empty (fixed_by u y w)))
-          | inr e ↦ ap (λ b. b && not (is_empty (fixed_by u y w)) && not (list_any (is_pass_on n) (fixed_by u y w))) e
+          | inr e ↦
+              ap (λ b. b && not (is_empty (fixed_by u y w)) && not (list_any (is_pass_on n) (fixed_by u y w)))
+              e
         ])
       where
         false_at : (b : Bool) → (b && false) ≡ false
@@ -127,7 +144,8 @@ module _ (l : Limits) (w : List WorldEvent) (k : is_legal_world l w ≡ true) (b
 
     clock_start : (n : ℕ) → IsLiveOn u n w → clock u (starting ∷ w) ≡ clock u w
     clock_start n a =
-        ap (λ b. cond ((u == u) && is_turn y && b) (clock u w + 1) (clock u w)) (not_empty_by n (phasers_of u w) (once_on n a))
+        ap (λ b. cond ((u == u) && is_turn y && b) (clock u w + 1) (clock u w))
+        (not_empty_by n (phasers_of u w) (once_on n a))
         ∙ ap (λ b. cond b (clock u w + 1) (clock u w)) (false_at ((u == u) && is_turn y))
       where
         false_at : (b : Bool) → (b && false) ≡ false
@@ -137,34 +155,43 @@ module _ (l : Limits) (w : List WorldEvent) (k : is_legal_world l w ≡ true) (b
     own_start : (n : ℕ) → OfBorn u n (starting ∷ w)
     own_start n a b d =
         let law : ClockLaw u n w = before.0 u n a b (idle_not_ending u starter_idle) in
-        moved u n starting w refl refl (clock_start n a) (passed_start n a ∙ sym (not_passed w u n (nothing_due u w starter_idle).0)) law
+        moved u n starting w refl refl (clock_start n a)
+        (passed_start n a ∙ sym (not_passed w u n (nothing_due u w starter_idle).0)) law
 
     start_born : (t n : ℕ) → OfBorn t n (starting ∷ w)
     start_born t n =
         elim (cases_Bool (u == t)) [
           | inl e ↦ subst (λ v. OfBorn v n (starting ∷ w)) (eqb-true u t e) (own_start n)
           | inr e ↦ λ a b d.
-              moved t n starting w refl refl (clock_other t starting w e refl) (passed_other t n starting w e) (before.0 t n a b (ap leads_to_end (sym (last_other t starting w e)) ∙ d))
+              moved t n starting w refl refl (clock_other t starting w e refl) (passed_other t n starting w e)
+              (before.0 t n a b (ap leads_to_end (sym (last_other t starting w e)) ∙ d))
         ]
 
     start_unborn : (t n : ℕ) → OfUnborn t n (starting ∷ w)
     start_unborn t n a b d =
-        let named = registered_named l t n w k (and_parts (is_registered t (phaser_past n w)) (not (is_dropped t (phaser_past n w))) a).0 in
+        let named =
+        registered_named l t n w k
+        (and_parts (is_registered t (phaser_past n w)) (not (is_dropped t (phaser_past n w))) a).0 in
         let same : spawner t (starting ∷ w) ≡ spawner t w = spawner_later l t starting w h named in
         let q = spawner t w in
         let not_own : (u == q) ≡ false =
         false_from_ne_true (u == q) (λ e.
         let idle : is_idle q w ≡ true = subst (λ v. is_idle v w ≡ true) (eqb-true u q e) starter_idle in
         no_idle_spawner l w k t n a b (idle_not_ending q idle) idle) in
-        let d' : leads_to_end (last_entry q w) ≡ false = ap leads_to_end (sym (last_other q starting w not_own)) ∙ subst (λ v. leads_to_end (last_entry v (starting ∷ w)) ≡ false) same d in
-        before.1 t n a b d' ∙ sym (ap (λ v. clock v (starting ∷ w)) same ∙ clock_other q starting w not_own refl)
+        let d' : leads_to_end (last_entry q w) ≡ false =
+        ap leads_to_end (sym (last_other q starting w not_own))
+        ∙ subst (λ v. leads_to_end (last_entry v (starting ∷ w)) ≡ false) same d in
+        before.1 t n a b d'
+        ∙ sym (ap (λ v. clock v (starting ∷ w)) same ∙ clock_other q starting w not_own refl)
 
     pub after_begin : Both (starting ∷ w)
     after_begin = (start_born, start_unborn)
 
   -- a task ends abruptly
-  module _ (u : ℕ) (e : WorldEvent) (by : actor w e ≡ u) (leads : leads_to_end (Some e) ≡ true) (own : is_entry u e ≡ true)
-      (past_same : (n : ℕ) → phaser_past n (e ∷ w) ≡ phaser_past n w) (base_same : (n : ℕ) → base n (e ∷ w) ≡ base n w) (spawner_same : (t : ℕ) → spawner t (e ∷ w) ≡ spawner t w)
+  module _ (u : ℕ) (e : WorldEvent) (by : actor w e ≡ u) (leads : leads_to_end (Some e) ≡ true)
+      (own : is_entry u e ≡ true)
+      (past_same : (n : ℕ) → phaser_past n (e ∷ w) ≡ phaser_past n w) (base_same : (n : ℕ)
+      → base n (e ∷ w) ≡ base n w) (spawner_same : (t : ℕ) → spawner t (e ∷ w) ≡ spawner t w)
       (births : (t : ℕ) → spawns t e ≡ false) where
     ends_now : (t : ℕ) → (u == t) ≡ true → leads_to_end (last_entry t (e ∷ w)) ≡ true
     ends_now t x = subst (λ v. leads_to_end (last_entry v (e ∷ w)) ≡ true) (eqb-true u t x) (rw own leads)
@@ -181,20 +208,27 @@ module _ (l : Limits) (w : List WorldEvent) (k : is_legal_world l w ≡ true) (b
           | inl x ↦ absurd (true≢false (sym (ends_now t x) ∙ d))
           | inr x ↦
               let o = other t x in
-              moved t n e w (ap (waits t) (past_same n)) (base_same n) (clock_other t e w o (births t)) (passed_other t n e w o)
-              (before.0 t n (subst (λ g. is_live t g ≡ true) (past_same n) a) (sym (unborn_still t) ∙ b) (ap leads_to_end (sym (last_other t e w o)) ∙ d))
+              moved t n e w (ap (waits t) (past_same n)) (base_same n) (clock_other t e w o (births t))
+              (passed_other t n e w o)
+              (before.0 t n (subst (λ g. is_live t g ≡ true) (past_same n) a) (sym (unborn_still t) ∙ b)
+              (ap leads_to_end (sym (last_other t e w o)) ∙ d))
         ]
 
     abrupt_unborn : (t n : ℕ) → OfUnborn t n (e ∷ w)
     abrupt_unborn t n a b d =
         let q = spawner t w in
-        let d1 : leads_to_end (last_entry q (e ∷ w)) ≡ false = subst (λ v. leads_to_end (last_entry v (e ∷ w)) ≡ false) (spawner_same t) d in
+        let d1 : leads_to_end (last_entry q (e ∷ w)) ≡ false =
+        subst (λ v. leads_to_end (last_entry v (e ∷ w)) ≡ false) (spawner_same t) d in
         elim (cases_Bool (u == q)) [
           | inl x ↦ absurd (true≢false (sym (ends_now q x) ∙ d1))
           | inr x ↦
               let o = other q x in
-              let law = before.1 t n (subst (λ g. is_live t g ≡ true) (past_same n) a) (sym (unborn_still t) ∙ b) (ap leads_to_end (sym (last_other q e w o)) ∙ d1) in
-              ap (λ g. waits t g + base n (e ∷ w)) (past_same n) ∙ (ap (λ x. waits t (phaser_past n w) + x) (base_same n) ∙ (law ∙ sym (ap (λ v. clock v (e ∷ w)) (spawner_same t) ∙ clock_other q e w o (births q))))
+              let law =
+              before.1 t n (subst (λ g. is_live t g ≡ true) (past_same n) a) (sym (unborn_still t) ∙ b)
+              (ap leads_to_end (sym (last_other q e w o)) ∙ d1) in
+              ap (λ g. waits t g + base n (e ∷ w)) (past_same n)
+              ∙ (ap (λ x. waits t (phaser_past n w) + x) (base_same n) ∙ (law
+              ∙ sym (ap (λ v. clock v (e ∷ w)) (spawner_same t) ∙ clock_other q e w o (births q))))
         ]
 
     pub abrupt : Both (e ∷ w)

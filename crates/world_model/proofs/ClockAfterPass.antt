@@ -47,7 +47,9 @@ module _ (t n : ℕ) (w : List WorldEvent) (ds : List WorldEvent)
   passed_before k = rw (turn, now) refl
 
   passed_after : (k : ℕ) → has_passed t k after ≡ (not (is_empty ds) && not (list_any (is_pass_on k) ds))
-  passed_after k = ap (λ d. begins_turn (last_entry t w) && not (is_empty d) && not (list_any (is_pass_on k) d)) due_after ∙ rw turn refl
+  passed_after k =
+      ap (λ d. begins_turn (last_entry t w) && not (is_empty d) && not (list_any (is_pass_on k) d)) due_after
+      ∙ rw turn refl
 
   clock_after : clock t after ≡ cond (is_empty ds) (clock t w + 1) (clock t w)
   clock_after = rw (eq_self t, now) refl
@@ -63,7 +65,8 @@ module _ (t n : ℕ) (w : List WorldEvent) (ds : List WorldEvent)
   sums x b c true k = last_here x b c k
   sums x b c false k = more_here x b c k
 
-  others : (x b c : ℕ) (e p : Bool) → (e ≡ true → p ≡ false) → x + b ≡ c + one_if (not p) → x + b ≡ cond e (c + 1) c + one_if (not e && not p)
+  others : (x b c : ℕ) (e p : Bool) → (e ≡ true → p ≡ false) → x + b ≡ c + one_if (not p)
+      → x + b ≡ cond e (c + 1) c + one_if (not e && not p)
   others x b c true true h k = absurd (true≢false (h refl))
   others x b c true false h k = last_there x b c k
   others x b c false p h k = k
@@ -75,20 +78,26 @@ module _ (t n : ℕ) (w : List WorldEvent) (ds : List WorldEvent)
   first_here : not ((n == n) || list_any (is_pass_on n) ds) ≡ false
   first_here = rw (eq_self n) refl
 
-  first_there : (k : ℕ) → (n == k) ≡ false → not ((n == k) || list_any (is_pass_on k) ds) ≡ not (list_any (is_pass_on k) ds)
+  first_there : (k : ℕ) → (n == k) ≡ false
+      → not ((n == k) || list_any (is_pass_on k) ds) ≡ not (list_any (is_pass_on k) ds)
   first_there k e = rw e refl
 
   pub pass_row_here : ClockLaw t n w → ClockLaw t n after
   pass_row_here k =
-      let before : waits t (phaser_past n w) + base n w ≡ clock t w + 0 = subst (λ b. waits t (phaser_past n w) + base n w ≡ clock t w + one_if b) (passed_before n ∙ first_here) k in
+      let before : waits t (phaser_past n w) + base n w ≡ clock t w + 0 =
+      subst (λ b. waits t (phaser_past n w) + base n w ≡ clock t w + one_if b)
+      (passed_before n ∙ first_here) k in
       let goal = sums (waits t (phaser_past n w)) (base n w) (clock t w) (is_empty ds) before in
       rw (waits_here, clock_after, passed_after n, once) goal
 
   pub pass_row_there : (k : ℕ) → (n == k) ≡ false → ClockLaw t k w → ClockLaw t k after
   pass_row_there k e law =
       let p = list_any (is_pass_on k) ds in
-      let before : waits t (phaser_past k w) + base k w ≡ clock t w + one_if (not p) = subst (λ b. waits t (phaser_past k w) + base k w ≡ clock t w + one_if b) (passed_before k ∙ first_there k e) law in
-      let goal = others (waits t (phaser_past k w)) (base k w) (clock t w) (is_empty ds) p (none_left k ds) before in
+      let before : waits t (phaser_past k w) + base k w ≡ clock t w + one_if (not p) =
+      subst (λ b. waits t (phaser_past k w) + base k w ≡ clock t w + one_if b)
+      (passed_before k ∙ first_there k e) law in
+      let goal =
+      others (waits t (phaser_past k w)) (base k w) (clock t w) (is_empty ds) p (none_left k ds) before in
       rw (waits_there k e, clock_after, passed_after k) goal
 
   -- the row of a pass: it keeps the clock law on each phaser of the task

@@ -42,17 +42,21 @@ abbrev pub OfBorn : ℕ → ℕ → List WorldEvent → Type 0
 OfBorn t n w = IsLiveOn t n w → is_born t w ≡ true → leads_to_end (last_entry t w) ≡ false → ClockLaw t n w
 
 abbrev pub OfUnborn : ℕ → ℕ → List WorldEvent → Type 0
-OfUnborn t n w = IsLiveOn t n w → is_born t w ≡ false → leads_to_end (last_entry (spawner t w) w) ≡ false → waits t (phaser_past n w) + base n w ≡ clock (spawner t w) w
+OfUnborn t n w =
+    IsLiveOn t n w → is_born t w ≡ false → leads_to_end (last_entry (spawner t w) w) ≡ false
+    → waits t (phaser_past n w) + base n w ≡ clock (spawner t w) w
 
 abbrev pub Both : List WorldEvent → Type 0
 Both w = ((t n : ℕ) → OfBorn t n w) × ((t n : ℕ) → OfUnborn t n w)
 
 -- an event that leaves a task on a phaser as it was
-pub waits_by : (b : Bool) (t : ℕ) (e : Event) (h : List Event) → waits t (e ∷ h) ≡ waits t h → waits t (cond b (e ∷ h) h) ≡ waits t h
+pub waits_by : (b : Bool) (t : ℕ) (e : Event) (h : List Event) → waits t (e ∷ h) ≡ waits t h
+    → waits t (cond b (e ∷ h) h) ≡ waits t h
 waits_by true t e h k = k
 waits_by false t e h k = refl
 
-pub live_by : (b : Bool) (t : ℕ) (e : Event) (h : List Event) → (is_live t (e ∷ h) ≡ true → is_live t h ≡ true) → is_live t (cond b (e ∷ h) h) ≡ true → is_live t h ≡ true
+pub live_by : (b : Bool) (t : ℕ) (e : Event) (h : List Event) → (is_live t (e ∷ h) ≡ true
+    → is_live t h ≡ true) → is_live t (cond b (e ∷ h) h) ≡ true → is_live t h ≡ true
 live_by true t e h k g = k g
 live_by false t e h k g = g
 
@@ -63,7 +67,12 @@ undropped false b c k = absurd cc
 
 -- where nothing is due, no phaser has been passed in a turn
 pub not_passed : (w : List WorldEvent) (t n : ℕ) → is_empty (due t w) ≡ true → has_passed t n w ≡ false
-not_passed w t n d = rw d (elim (begins_turn (last_entry t w)) as (λ b. (b && false && not (list_any (is_pass_on n) (due t w))) ≡ false) [ true ↦ refl | false ↦ refl ])
+not_passed w t n d =
+    rw d (elim (begins_turn (last_entry t w))
+    as (λ b. (b && false && not (list_any (is_pass_on n) (due t w))) ≡ false) [
+      | true ↦ refl
+      | false ↦ refl
+    ])
 
 module _ (l : Limits) (w : List WorldEvent) (k : is_legal_world l w ≡ true) (before : Both w) where
   -- an event whose own parts of the law stay, for born tasks and for others
@@ -89,8 +98,11 @@ module _ (l : Limits) (w : List WorldEvent) (k : is_legal_world l w ≡ true) (b
       λ t n a b c.
           let a' = live t n a in
           let s = same_spawner t in
-          let d : leads_to_end (last_entry (spawner t w) w) ≡ false = ap leads_to_end (sym (last_same (spawner t w))) ∙ subst (λ q. leads_to_end (last_entry q (e ∷ w)) ≡ false) s c in
-          rw (same_waits t n a', same_base n, s, same_clock (spawner t w)) (before.1 t n a' (sym (born_same t) ∙ b) d),
+          let d : leads_to_end (last_entry (spawner t w) w) ≡ false =
+          ap leads_to_end (sym (last_same (spawner t w)))
+          ∙ subst (λ q. leads_to_end (last_entry q (e ∷ w)) ≡ false) s c in
+          rw (same_waits t n a', same_base n, s, same_clock (spawner t w))
+          (before.1 t n a' (sym (born_same t) ∙ b) d),
     )
 
   abbrev added : ℕ → Step → Event
@@ -109,55 +121,74 @@ module _ (l : Limits) (w : List WorldEvent) (k : is_legal_world l w ≡ true) (b
         (λ t n g. waits_by (m == n) t (added n s) (phaser_past n w) (waits_step t n))
         plain_base clock_step (λ t. refl) passed_step
 
-  pub after_send : (m u a : ℕ) (v : ℤ) → is_accepted l w (Phaser m (Send u a v)) ≡ true → Both (Phaser m (Send u a v) ∷ w)
+  pub after_send : (m u a : ℕ) (v : ℤ) → is_accepted l w (Phaser m (Send u a v)) ≡ true
+      → Both (Phaser m (Send u a v) ∷ w)
   after_send m u a v h =
-      stepped m (Send u a v) (λ n. refl) (λ t n g. g) (λ t n. refl) (λ t. refl) (λ t n. passed_idle t n (Phaser m (Send u a v)) w refl refl (idle_in_act l w u (Sending m a v) h))
+      stepped m (Send u a v) (λ n. refl) (λ t n g. g) (λ t n. refl) (λ t. refl)
+      (λ t n. passed_idle t n (Phaser m (Send u a v)) w refl refl (idle_in_act l w u (Sending m a v) h))
 
   pub after_look : (m u a : ℕ) → is_accepted l w (Phaser m (Look u a)) ≡ true → Both (Phaser m (Look u a) ∷ w)
   after_look m u a h =
-      stepped m (Look u a) (λ n. refl) (λ t n g. g) (λ t n. refl) (λ t. refl) (λ t n. passed_idle t n (Phaser m (Look u a)) w refl refl (idle_in_act l w u (Looking m a) h))
+      stepped m (Look u a) (λ n. refl) (λ t n g. g) (λ t n. refl) (λ t. refl)
+      (λ t n. passed_idle t n (Phaser m (Look u a)) w refl refl (idle_in_act l w u (Looking m a) h))
 
   pub after_claim : (m u : ℕ) → Both (Phaser m (Claim u) ∷ w)
-  after_claim m u = stepped m (Claim u) (λ n. refl) (λ t n g. g) (λ t n. refl) (λ t. refl) (λ t n. passed_single t n (Phaser m (Claim u)) w refl refl)
+  after_claim m u =
+      stepped m (Claim u) (λ n. refl) (λ t n g. g) (λ t n. refl) (λ t. refl)
+      (λ t n. passed_single t n (Phaser m (Claim u)) w refl refl)
 
   pub after_did : (m u : ℕ) → Both (Phaser m (Did u) ∷ w)
-  after_did m u = stepped m (Did u) (λ n. refl) (λ t n g. g) (λ t n. refl) (λ t. refl) (λ t n. passed_single t n (Phaser m (Did u)) w refl refl)
+  after_did m u =
+      stepped m (Did u) (λ n. refl) (λ t n g. g) (λ t n. refl) (λ t. refl)
+      (λ t n. passed_single t n (Phaser m (Did u)) w refl refl)
 
-  pub after_sig : (m u : ℕ) (x : Option ℕ) → is_accepted l w (Phaser m (Sig u x)) ≡ true → Both (Phaser m (Sig u x) ∷ w)
-  after_sig m u x h = stepped m (Sig u x) (λ n. refl) (λ t n g. g) (λ t n. refl) (λ t. refl) (λ t n. passed_sig l t n m u x w (part_made l w (Phaser m (Sig u x)) h).0)
+  pub after_sig : (m u : ℕ) (x : Option ℕ) → is_accepted l w (Phaser m (Sig u x)) ≡ true
+      → Both (Phaser m (Sig u x) ∷ w)
+  after_sig m u x h =
+      stepped m (Sig u x) (λ n. refl) (λ t n g. g) (λ t n. refl) (λ t. refl)
+      (λ t n. passed_sig l t n m u x w (part_made l w (Phaser m (Sig u x)) h).0)
 
   pub after_drop : (m u : ℕ) → is_accepted l w (Phaser m (Drop u)) ≡ true → Both (Phaser m (Drop u) ∷ w)
   after_drop m u h =
-      stepped m (Drop u) (λ n. refl) (λ t n g. undropped (is_registered t (phaser_past n w)) (u == t) (is_dropped t (phaser_past n w)) g) (λ t n. refl) (λ t. refl)
+      stepped m (Drop u) (λ n. refl) (λ t n g. undropped (is_registered t (phaser_past n w)) (u == t)
+      (is_dropped t (phaser_past n w)) g) (λ t n. refl) (λ t. refl)
       (λ t n. passed_part l t n (Phaser m (Drop u)) w refl (part_made l w (Phaser m (Drop u)) h).0 refl)
 
   pub after_opened : (f u : ℕ) → is_accepted l w (Finish f (Opened u)) ≡ true → Both (Finish f (Opened u) ∷ w)
   after_opened f u h =
-      kept (Finish f (Opened u)) (λ t. refl) (λ t. refl) (λ t n g. g) (λ t n g. refl) (λ n. refl) (λ t. refl) (λ t. refl)
+      kept (Finish f (Opened u)) (λ t. refl) (λ t. refl) (λ t n g. g) (λ t n g. refl) (λ n. refl)
+      (λ t. refl) (λ t. refl)
       (λ t n. passed_idle t n (Finish f (Opened u)) w refl refl (idle_in_act l w u (Open f) h))
 
   pub after_ended : (f u : ℕ) → is_accepted l w (Finish f (Ended u)) ≡ true → Both (Finish f (Ended u) ∷ w)
   after_ended f u h =
-      kept (Finish f (Ended u)) (λ t. refl) (λ t. refl) (λ t n g. g) (λ t n g. refl) (λ n. refl) (λ t. refl) (λ t. refl)
+      kept (Finish f (Ended u)) (λ t. refl) (λ t. refl) (λ t n g. g) (λ t n g. refl) (λ n. refl)
+      (λ t. refl) (λ t. refl)
       (λ t n. passed_part l t n (Finish f (Ended u)) w refl (part_made l w (Finish f (Ended u)) h).0 refl)
 
   pub after_shut : (f : ℕ) → is_accepted l w (Finish f Shutting) ≡ true → Both (Finish f Shutting ∷ w)
   after_shut f h =
-      kept (Finish f Shutting) (λ t. refl) (λ t. refl) (λ t n g. g) (λ t n g. refl) (λ n. refl) (λ t. refl) (λ t. refl)
+      kept (Finish f Shutting) (λ t. refl) (λ t. refl) (λ t n g. g) (λ t n g. refl) (λ n. refl)
+      (λ t. refl) (λ t. refl)
       (λ t n. passed_part l t n (Finish f Shutting) w refl (part_made l w (Finish f Shutting) h).0 refl)
 
   -- a phaser is made
-  module _ (m u : ℕ) (mode : Mode) (ops : List Op) (h : is_accepted l w (Phaser m (Make u mode ops)) ≡ true) where
+  module _ (m u : ℕ) (mode : Mode) (ops : List Op)
+      (h : is_accepted l w (Phaser m (Make u mode ops)) ≡ true) where
     abbrev making : WorldEvent
     making = Phaser m (Make u mode ops)
 
     maker_idle : is_idle u w ≡ true
     maker_idle = idle_in_act l w u (New m mode ops) h
 
-    only_maker : (t : ℕ) (b : Bool) (g : List Event) → b ≡ true → g ≡ [] → is_live t (cond b (Made u mode ∷ g) g) ≡ true → (u == t) ≡ true
+    only_maker : (t : ℕ) (b : Bool) (g : List Event) → b ≡ true → g ≡ []
+        → is_live t (cond b (Made u mode ∷ g) g) ≡ true → (u == t) ≡ true
     only_maker t true (x ∷ g) e p a = absurd cc
     only_maker t true [] e p a =
-        elim (or_cases (u == t) false (and_parts ((u == t) || false) true a).0) [ inl x ↦ x | inr x ↦ absurd (true≢false (sym x)) ]
+        elim (or_cases (u == t) false (and_parts ((u == t) || false) true a).0) [
+          | inl x ↦ x
+          | inr x ↦ absurd (true≢false (sym x))
+        ]
     only_maker t false g e p a = absurd (true≢false (sym e))
 
     zero_law : (c : ℕ) → 0 + c ≡ c + 0
@@ -165,28 +196,42 @@ module _ (l : Limits) (w : List WorldEvent) (k : is_legal_world l w ≡ true) (b
 
     made_here : (t : ℕ) → OfBorn t m (making ∷ w)
     made_here t a b c =
-        let ut : (u == t) ≡ true = only_maker t (m == m) (phaser_past m w) (eq_self m) (new_past l w m u mode ops h) a in
+        let ut : (u == t) ≡ true =
+        only_maker t (m == m) (phaser_past m w) (eq_self m) (new_past l w m u mode ops h) a in
         let same : u ≡ t = eqb-true u t ut in
-        let none : has_passed t m (making ∷ w) ≡ false = passed_idle t m making w refl refl maker_idle ∙ not_passed w t m (subst (λ v. is_empty (due v w) ≡ true) same (nothing_due u w maker_idle).0) in
+        let none : has_passed t m (making ∷ w) ≡ false =
+        passed_idle t m making w refl refl maker_idle
+        ∙ not_passed w t m (subst (λ v. is_empty (due v w) ≡ true) same (nothing_due u w maker_idle).0) in
         rw (none, eq_self m, ut) (ap (λ v. 0 + clock v w) same ∙ zero_law (clock t w))
 
     made_there : (t n : ℕ) → (m == n) ≡ false → OfBorn t n (making ∷ w)
     made_there t n e a b c =
-        moved t n making w (ap (λ x. waits t (cond x (Made u mode ∷ phaser_past n w) (phaser_past n w))) e) (ap (λ x. cond x (clock u w) (base n w)) e) refl
+        moved t n making w (ap (λ x. waits t (cond x (Made u mode ∷ phaser_past n w) (phaser_past n w))) e)
+        (ap (λ x. cond x (clock u w) (base n w)) e) refl
         (passed_idle t n making w refl refl maker_idle)
-        (before.0 t n (subst (λ x. is_live t (cond x (Made u mode ∷ phaser_past n w) (phaser_past n w)) ≡ true) e a) b c)
+        (before.0 t n (subst (λ x.
+        is_live t (cond x (Made u mode ∷ phaser_past n w) (phaser_past n w)) ≡ true) e a) b c)
 
     unborn_there : (t n : ℕ) → (m == n) ≡ false → OfUnborn t n (making ∷ w)
     unborn_there t n e a b c =
-        rw (e) (before.1 t n (subst (λ x. is_live t (cond x (Made u mode ∷ phaser_past n w) (phaser_past n w)) ≡ true) e a) b c)
+        rw (e) (before.1 t n (subst
+        (λ x. is_live t (cond x (Made u mode ∷ phaser_past n w) (phaser_past n w)) ≡ true) e a) b c)
 
     unborn_here : (t : ℕ) → OfUnborn t m (making ∷ w)
     unborn_here t a b c =
-        let ut : (u == t) ≡ true = only_maker t (m == m) (phaser_past m w) (eq_self m) (new_past l w m u mode ops h) a in
-        absurd (true≢false (sym (subst (λ v. is_born v w ≡ true) (eqb-true u t ut) (idle_is_born u w maker_idle)) ∙ b))
+        let ut : (u == t) ≡ true =
+        only_maker t (m == m) (phaser_past m w) (eq_self m) (new_past l w m u mode ops h) a in
+        absurd (true≢false
+        (sym (subst (λ v. is_born v w ≡ true) (eqb-true u t ut) (idle_is_born u w maker_idle)) ∙ b))
 
     pub after_make : Both (making ∷ w)
     after_make = (
-      λ t n. elim (cases_Bool (m == n)) [ inl e ↦ subst (λ v. OfBorn t v (making ∷ w)) (eqb-true m n e) (made_here t) | inr e ↦ made_there t n e ],
-      λ t n. elim (cases_Bool (m == n)) [ inl e ↦ subst (λ v. OfUnborn t v (making ∷ w)) (eqb-true m n e) (unborn_here t) | inr e ↦ unborn_there t n e ],
+      λ t n. elim (cases_Bool (m == n)) [
+        | inl e ↦ subst (λ v. OfBorn t v (making ∷ w)) (eqb-true m n e) (made_here t)
+        | inr e ↦ made_there t n e
+      ],
+      λ t n. elim (cases_Bool (m == n)) [
+        | inl e ↦ subst (λ v. OfUnborn t v (making ∷ w)) (eqb-true m n e) (unborn_here t)
+        | inr e ↦ unborn_there t n e
+      ],
     )

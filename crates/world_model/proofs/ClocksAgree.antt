@@ -19,7 +19,8 @@ both l (e ∷ w) k =
     let a = last_accepted l e w k in
     by_event l e w a.1 (both l w a.1) a.0
   where
-    by_event : (l : Limits) (e : WorldEvent) (w : List WorldEvent) → is_legal_world l w ≡ true → Both w → is_accepted l w e ≡ true → Both (e ∷ w)
+    by_event : (l : Limits) (e : WorldEvent) (w : List WorldEvent) → is_legal_world l w ≡ true → Both w
+        → is_accepted l w e ≡ true → Both (e ∷ w)
     by_event l (Phaser m (Make u mode ops)) w k b h = after_make l w k b m u mode ops h
     by_event l (Phaser m (Reg q c mode)) w k b h = after_reg l w k b m q c mode h
     by_event l (Phaser m (Sig u x)) w k b h = after_sig l w k b m u x h
@@ -34,8 +35,12 @@ both l (e ∷ w) k =
     by_event l (Finish f (Ended u)) w k b h = after_ended l w k b f u h
     by_event l (Finish f Shutting) w k b h = after_shut l w k b f h
     by_event l (Begin u y) w k b h = after_begin l w k b u y h
-    by_event l (Refuse u x n) w k b h = abrupt l w k b u (Refuse u x n) refl refl (eq-eqb u u refl) (λ n. refl) (λ n. refl) (λ t. refl) (λ t. refl)
-    by_event l (Fail u n) w k b h = abrupt l w k b u (Fail u n) refl refl (eq-eqb u u refl) (λ n. refl) (λ n. refl) (λ t. refl) (λ t. refl)
+    by_event l (Refuse u x n) w k b h =
+        abrupt l w k b u (Refuse u x n) refl refl (eq-eqb u u refl) (λ n. refl) (λ n. refl)
+        (λ t. refl) (λ t. refl)
+    by_event l (Fail u n) w k b h =
+        abrupt l w k b u (Fail u n) refl refl (eq-eqb u u refl) (λ n. refl) (λ n. refl)
+        (λ t. refl) (λ t. refl)
 
 -- the clock law
 pub clocks_agree : ClocksAgree

@@ -36,10 +36,15 @@ fitting l k =
 pub clocks_fit : ClocksFit
 clocks_fit l w k fits t =
     let f = fitting l fits in
-    let most : clock t w ≤ l.tasks * l.acts = trans (clock t w) (turns_begun w) (l.tasks * l.acts) (clock_within l w k t) (turns_within l w k f.some) in
+    let most : clock t w ≤ l.tasks * l.acts =
+    trans (clock t w) (turns_begun w) (l.tasks * l.acts) (clock_within l w k t)
+    (turns_within l w k f.some) in
     let tasks : l.tasks * l.acts ≤ 4096 * l.acts = mul-le-mul_right l.acts f.tasks in
-    let acts : 4096 * l.acts ≤ 268435456 = mul-le-mul_left 4096 f.acts in
-    (most, trans (clock t w) (l.tasks * l.acts) 268435456 most (trans (l.tasks * l.acts) (4096 * l.acts) 268435456 tasks acts))
+    let acts : 4096 * l.acts ≤ 268435456 = mul-le-mul_left 4096 f.acts in (
+      most,
+      trans (clock t w) (l.tasks * l.acts) 268435456 most
+          (trans (l.tasks * l.acts) (4096 * l.acts) 268435456 tasks acts),
+    )
   where
     trans : (x y z : ℕ) → x ≤ y → y ≤ z → x ≤ z
     trans x y z h k = omega (arith, h, k)

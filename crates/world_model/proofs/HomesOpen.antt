@@ -1,4 +1,5 @@
--- A task that goes on has an open home and an open innermost finish, and a child under way has a number and no place yet.
+-- A task that goes on has an open home and an open innermost finish,
+-- and a child under way has a number and no place yet.
 use Rattle.std.proofs.Common.{◌≡◌, ℕ, Bool, true, false, ◌&&◌, ◌||◌, ◌==◌, nat_lt, cond, List, [], ◌∷◌, Some, refl, sym, subst, ap, ◌∙◌, inl, inr}
 use Rattle.std.specs.List.{list_any}
 use Rattle.std.proofs.lemmas.Bool.{or_cases, or_left, or_right, or_parts, cases_Bool, eqb-true, not-true, true≢false, false≢true}
@@ -27,7 +28,8 @@ use Rattle.world_model.proofs.SpawnedAtHome.{root_home, home_begun}
 use Rattle.world_model.proofs.EndedInside.{closed_ended, ended_in, home_spawned}
 
 -- finish 0 is open until the root ends
-pub root_open : (l : Limits) (w : List WorldEvent) → is_legal_world l w ≡ true → is_ended 0 w ≡ false → is_open (finish_past 0 w) ≡ true
+pub root_open : (l : Limits) (w : List WorldEvent) → is_legal_world l w ≡ true → is_ended 0 w ≡ false
+    → is_open (finish_past 0 w) ≡ true
 root_open l [] k x = refl
 root_open l (e ∷ w) k x =
     let a = last_accepted l e w k in
@@ -42,24 +44,29 @@ root_open l (e ∷ w) k x =
         with_true false = refl
     no_shut d y = refl
 
-pub home_open : (l : Limits) (w : List WorldEvent) → is_legal_world l w ≡ true → (t : ℕ) → is_born t w ≡ true → is_ended t w ≡ false → is_open (finish_past (home t w) w) ≡ true
+pub home_open : (l : Limits) (w : List WorldEvent) → is_legal_world l w ≡ true → (t : ℕ) → is_born t w ≡ true
+    → is_ended t w ≡ false → is_open (finish_past (home t w) w) ≡ true
 home_open l w k t b x =
     elim (cases_Bool (t == 0)) [
       | inl z ↦
           let zero : t ≡ 0 = eqb-true t 0 z in
           let here : home t w ≡ 0 = ap (λ v. home v w) zero ∙ root_home l w k in
-          subst (λ f. is_open (finish_past f w) ≡ true) (sym here) (root_open l w k (subst (λ v. is_ended v w ≡ false) zero x))
+          subst (λ f. is_open (finish_past f w) ≡ true) (sym here)
+          (root_open l w k (subst (λ v. is_ended v w ≡ false) zero x))
       | inr z ↦
           elim (cases_Bool (is_open (finish_past (home t w) w))) [
             | inl o ↦ o
             | inr o ↦
                 let h = finish_past (home t w) w in
-                let gone = closed_ended l.tasks h (finishes_legal l w k (home t w)) (not-true (is_empty h) (home_begun l w k t)) o t (home_spawned l w k t b z) in
+                let gone =
+                closed_ended l.tasks h (finishes_legal l w k (home t w))
+                (not-true (is_empty h) (home_begun l w k t)) o t (home_spawned l w k t b z) in
                 absurd (true≢false (sym (ended_in t (home t w) w gone) ∙ x))
           ]
     ]
 
-pub inner_open : (l : Limits) (w : List WorldEvent) → is_legal_world l w ≡ true → (t : ℕ) → is_born t w ≡ true → is_ended t w ≡ false → is_open (finish_past (inner t w) w) ≡ true
+pub inner_open : (l : Limits) (w : List WorldEvent) → is_legal_world l w ≡ true → (t : ℕ) → is_born t w ≡ true
+    → is_ended t w ≡ false → is_open (finish_past (inner t w) w) ≡ true
 inner_open l w k t b x =
     elim (inner_is_opened l w k t) [
       | inl e ↦ subst (λ f. is_open (finish_past f w) ≡ true) (sym e) (home_open l w k t b x)
@@ -67,7 +74,8 @@ inner_open l w k t b x =
     ]
 
 -- who was spawned was born
-pub spawned_is_born : (t f : ℕ) (w : List WorldEvent) → is_spawned t (finish_past f w) ≡ true → is_born t w ≡ true
+pub spawned_is_born : (t f : ℕ) (w : List WorldEvent) → is_spawned t (finish_past f w) ≡ true
+    → is_born t w ≡ true
 spawned_is_born t f w s = or_right (t == 0) (list_any (spawns t) w) (by_spawn w s)
   where
     by_spawn : (w : List WorldEvent) → is_spawned t (finish_past f w) ≡ true → list_any (spawns t) w ≡ true
@@ -77,17 +85,38 @@ spawned_is_born t f w s = or_right (t == 0) (list_any (spawns t) w) (by_spawn w 
         never true = refl
         never false = refl
     by_spawn (Finish g (Spawned u) ∷ w) y =
-        (elim (g == f) as (λ b. is_spawned t (cond b (Spawned u ∷ finish_past f w) (finish_past f w)) ≡ true → ((u == t) || list_any (spawns t) w) ≡ true) [
-          | true ↦ λ z. elim (or_cases (u == t) (is_spawned t (finish_past f w)) z) [ inl v ↦ or_left (u == t) (list_any (spawns t) w) v | inr v ↦ or_right (u == t) (list_any (spawns t) w) (by_spawn w v) ]
+        (elim (g == f) as (λ b. is_spawned t (cond b (Spawned u ∷ finish_past f w) (finish_past f w)) ≡ true
+        → ((u == t) || list_any (spawns t) w) ≡ true) [
+          | true ↦
+              λ z. elim (or_cases (u == t) (is_spawned t (finish_past f w)) z) [
+                | inl v ↦ or_left (u == t) (list_any (spawns t) w) v
+                | inr v ↦ or_right (u == t) (list_any (spawns t) w) (by_spawn w v)
+              ]
           | false ↦ λ z. or_right (u == t) (list_any (spawns t) w) (by_spawn w z)
         ]) y
-    by_spawn (Finish g Shutting ∷ w) y = (elim (g == f) as (λ b. is_spawned t (cond b (Shutting ∷ finish_past f w) (finish_past f w)) ≡ true → list_any (spawns t) w ≡ true) [ true ↦ λ z. by_spawn w z | false ↦ λ z. by_spawn w z ]) y
-    by_spawn (Finish g (Opened u) ∷ w) y = (elim (g == f) as (λ b. is_spawned t (cond b (Opened u ∷ finish_past f w) (finish_past f w)) ≡ true → list_any (spawns t) w ≡ true) [ true ↦ λ z. by_spawn w z | false ↦ λ z. by_spawn w z ]) y
-    by_spawn (Finish g (Ended u) ∷ w) y = (elim (g == f) as (λ b. is_spawned t (cond b (Ended u ∷ finish_past f w) (finish_past f w)) ≡ true → list_any (spawns t) w ≡ true) [ true ↦ λ z. by_spawn w z | false ↦ λ z. by_spawn w z ]) y
+    by_spawn (Finish g Shutting ∷ w) y =
+        (elim (g == f) as (λ b. is_spawned t (cond b (Shutting ∷ finish_past f w) (finish_past f w)) ≡ true
+        → list_any (spawns t) w ≡ true) [
+          | true ↦ λ z. by_spawn w z
+          | false ↦ λ z. by_spawn w z
+        ]) y
+    by_spawn (Finish g (Opened u) ∷ w) y =
+        (elim (g == f) as (λ b. is_spawned t (cond b (Opened u ∷ finish_past f w) (finish_past f w)) ≡ true
+        → list_any (spawns t) w ≡ true) [
+          | true ↦ λ z. by_spawn w z
+          | false ↦ λ z. by_spawn w z
+        ]) y
+    by_spawn (Finish g (Ended u) ∷ w) y =
+        (elim (g == f) as (λ b. is_spawned t (cond b (Ended u ∷ finish_past f w) (finish_past f w)) ≡ true
+        → list_any (spawns t) w ≡ true) [
+          | true ↦ λ z. by_spawn w z
+          | false ↦ λ z. by_spawn w z
+        ]) y
     by_spawn (e ∷ w) y = by_spawn w y
 
 -- a child under way has a number below the limit
-pub spawn_fits : (l : Limits) (q c : ℕ) (w : List WorldEvent) → is_legal_world l w ≡ true → begins_spawn c (last_entry q w) ≡ true → nat_lt c l.tasks ≡ true
+pub spawn_fits : (l : Limits) (q c : ℕ) (w : List WorldEvent) → is_legal_world l w ≡ true
+    → begins_spawn c (last_entry q w) ≡ true → nat_lt c l.tasks ≡ true
 spawn_fits l q c [] k s = absurd (false≢true s)
 spawn_fits l q c (e ∷ w) k s =
     let a = last_accepted l e w k in
@@ -96,7 +125,9 @@ spawn_fits l q c (e ∷ w) k s =
       | inr n ↦ spawn_fits l q c w a.1 (subst (λ o. begins_spawn c o ≡ true) (last_plain q e w n) s)
     ]
   where
-    at_entry : (d : WorldEvent) → is_accepted l w d ≡ true → begins_spawn c (Some d) ≡ true → nat_lt c l.tasks ≡ true
+    at_entry : (d : WorldEvent) → is_accepted l w d ≡ true → begins_spawn c (Some d) ≡ true
+        → nat_lt c l.tasks ≡ true
     at_entry (Begin u (Async x ps)) h y =
-        subst (λ v. nat_lt v l.tasks ≡ true) (eqb-true x c y) (no_refusal TasksFull (nat_lt x l.tasks) (pair_conditions w u [] ps) (begin_asked l w u (Async x ps) h)).0
+        subst (λ v. nat_lt v l.tasks ≡ true) (eqb-true x c y) (no_refusal TasksFull (nat_lt x l.tasks)
+        (pair_conditions w u [] ps) (begin_asked l w u (Async x ps) h)).0
     at_entry d h y = absurd cc

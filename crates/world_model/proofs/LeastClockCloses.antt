@@ -1,4 +1,5 @@
--- The core of going on: where each signaller of a phaser is in a turn and no clock is behind t's, the phase for which t waits is closed.
+-- The core of going on: where each signaller of a phaser is in a turn and no clock is behind t's, the phase
+-- for which t waits is closed.
 use Rattle.std.proofs.Common.{◌≡◌, ◌⊎◌, ℕ, ◌+◌, ◌<◌, ◌≤◌, Bool, true, false, not, cond, nat_lt, List, [], ◌∷◌, refl, subst, ap, inl, inr, arith}
 use Rattle.std.specs.Prelude.{filter}
 use Rattle.std.specs.List.{list_all}
@@ -19,7 +20,8 @@ use Rattle.world_model.specs.ClockLaws.{has_passed, leads_to_end}
 use Rattle.world_model.proofs.PhasersLegal.{phasers_legal}
 use Rattle.world_model.proofs.ClocksAgree.{clocks_agree}
 
-all_filter : (p q : ℕ → Bool) (xs : List ℕ) → ((x : ℕ) → q x ≡ true → p x ≡ true) → list_all p (filter q xs) ≡ true
+all_filter : (p q : ℕ → Bool) (xs : List ℕ) → ((x : ℕ) → q x ≡ true → p x ≡ true)
+    → list_all p (filter q xs) ≡ true
 all_filter p q [] k = refl
 all_filter p q (x ∷ xs) k =
     elim (cases_Bool (q x)) [
@@ -27,7 +29,8 @@ all_filter p q (x ∷ xs) k =
       | inr e ↦ rw e (all_filter p q xs k)
     ]
 
-closed_by : (p : ℕ) (h : List Event) → ((t : ℕ) → is_live t h ≡ true → is_past p h t ≡ true) → is_closed p h ≡ true
+closed_by : (p : ℕ) (h : List Event) → ((t : ℕ) → is_live t h ≡ true → is_past p h t ≡ true)
+    → is_closed p h ≡ true
 closed_by p h k = all_filter (is_past p h) (λ t. is_live t h) (registered_tasks h) k
 
 -- s can go on, is no earlier than t, and has passed phaser n or signalled on it
@@ -37,11 +40,13 @@ pub record IsAlong (t s n : ℕ) (w : List WorldEvent) : Type 0 where
   pub no_earlier : clock t w ≤ clock s w
   pub there : (has_passed s n w ≡ true) ⊎ (signals s (phaser_past n w) ≡ waits s (phaser_past n w) + 1)
 
-passed_past : (wt ws ss ct cs b : ℕ) → wt + b ≡ ct + 0 → ws + b ≡ cs + 1 → ct ≤ cs → (ss ≡ ws) ⊎ (ss ≡ ws + 1) → wt < ss
+passed_past : (wt ws ss ct cs b : ℕ) → wt + b ≡ ct + 0 → ws + b ≡ cs + 1 → ct ≤ cs
+    → (ss ≡ ws) ⊎ (ss ≡ ws + 1) → wt < ss
 passed_past wt ws ss ct cs b p q k (inl e) = omega arith
 passed_past wt ws ss ct cs b p q k (inr e) = omega arith
 
-ahead_past : (wt ws ss ct cs b : ℕ) (x : Bool) → wt + b ≡ ct + 0 → ws + b ≡ cs + cond x 1 0 → ct ≤ cs → ss ≡ ws + 1 → wt < ss
+ahead_past : (wt ws ss ct cs b : ℕ) (x : Bool) → wt + b ≡ ct + 0 → ws + b ≡ cs + cond x 1 0 → ct ≤ cs
+    → ss ≡ ws + 1 → wt < ss
 ahead_past wt ws ss ct cs b true p q k e = ahead_one wt ws ss ct cs b p q k e
   where
     ahead_one : (wt ws ss ct cs b : ℕ) → wt + b ≡ ct + 0 → ws + b ≡ cs + 1 → ct ≤ cs → ss ≡ ws + 1 → wt < ss
@@ -52,21 +57,29 @@ ahead_past wt ws ss ct cs b false p q k e = ahead_none wt ws ss ct cs b p q k e
     ahead_none wt ws ss ct cs b p q k e = omega arith
 
 module _ (l : Limits) (w : List WorldEvent) (k : is_legal_world l w ≡ true) (t n : ℕ)
-    (live : is_live t (phaser_past n w) ≡ true) (born : is_born t w ≡ true) (goes_on : leads_to_end (last_entry t w) ≡ false) (waiting : has_passed t n w ≡ false)
-    (along : (s : ℕ) → is_live s (phaser_past n w) ≡ true → has_mode can_signal s (phaser_past n w) ≡ true → IsAlong t s n w) where
+    (live : is_live t (phaser_past n w) ≡ true) (born : is_born t w ≡ true)
+    (goes_on : leads_to_end (last_entry t w) ≡ false) (waiting : has_passed t n w ≡ false)
+    (along : (s : ℕ) → is_live s (phaser_past n w) ≡ true → has_mode can_signal s (phaser_past n w) ≡ true
+    → IsAlong t s n w) where
   own : waits t (phaser_past n w) + base n w ≡ clock t w + 0
-  own = subst (λ b. waits t (phaser_past n w) + base n w ≡ clock t w + cond b 1 0) waiting (clocks_agree l w k t n live born goes_on)
+  own =
+      subst (λ b. waits t (phaser_past n w) + base n w ≡ clock t w + cond b 1 0) waiting
+      (clocks_agree l w k t n live born goes_on)
 
-  before_it : (s : ℕ) → is_live s (phaser_past n w) ≡ true → has_mode can_signal s (phaser_past n w) ≡ true → waits t (phaser_past n w) < signals s (phaser_past n w)
+  before_it : (s : ℕ) → is_live s (phaser_past n w) ≡ true → has_mode can_signal s (phaser_past n w) ≡ true
+      → waits t (phaser_past n w) < signals s (phaser_past n w)
   before_it s v m =
       let h = phaser_past n w in
       let a = along s v m in
       let law = clocks_agree l w k s n v a.born a.goes_on in
       elim a.there [
         | inl p ↦
-            passed_past (waits t h) (waits s h) (signals s h) (clock t w) (clock s w) (base n w) own (subst (λ b. waits s h + base n w ≡ clock s w + cond b 1 0) p law) a.no_earlier
+            passed_past (waits t h) (waits s h) (signals s h) (clock t w) (clock s w) (base n w) own
+            (subst (λ b. waits s h + base n w ≡ clock s w + cond b 1 0) p law) a.no_earlier
             (at_or_ahead l (ops_of n w) h (phasers_legal l w k n) s m)
-        | inr p ↦ ahead_past (waits t h) (waits s h) (signals s h) (clock t w) (clock s w) (base n w) (has_passed s n w) own law a.no_earlier p
+        | inr p ↦
+            ahead_past (waits t h) (waits s h) (signals s h) (clock t w) (clock s w) (base n w)
+            (has_passed s n w) own law a.no_earlier p
       ]
 
   -- the phase for which t waits is closed
@@ -74,6 +87,11 @@ module _ (l : Limits) (w : List WorldEvent) (k : is_legal_world l w ≡ true) (t
   phase_closed =
       closed_by (waits t (phaser_past n w)) (phaser_past n w) (λ s v.
       elim (cases_Bool (has_mode can_signal s (phaser_past n w))) [
-        | inl m ↦ or_right (not (has_mode can_signal s (phaser_past n w))) (nat_lt (waits t (phaser_past n w)) (signals s (phaser_past n w))) (lt-ltb (waits t (phaser_past n w)) (signals s (phaser_past n w)) (before_it s v m))
-        | inr m ↦ or_left (not (has_mode can_signal s (phaser_past n w))) (nat_lt (waits t (phaser_past n w)) (signals s (phaser_past n w))) (ap (λ b. not b) m)
+        | inl m ↦
+            or_right (not (has_mode can_signal s (phaser_past n w)))
+            (nat_lt (waits t (phaser_past n w)) (signals s (phaser_past n w)))
+            (lt-ltb (waits t (phaser_past n w)) (signals s (phaser_past n w)) (before_it s v m))
+        | inr m ↦
+            or_left (not (has_mode can_signal s (phaser_past n w)))
+            (nat_lt (waits t (phaser_past n w)) (signals s (phaser_past n w))) (ap (λ b. not b) m)
       ])

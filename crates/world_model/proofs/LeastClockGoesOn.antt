@@ -1,4 +1,5 @@
--- A group of tasks that all wait at a pass, and that share their phasers with nobody else, can't be: one with the least clock can go on.
+-- A group of tasks that all wait at a pass, and that share their phasers with nobody else, can't be: one with
+-- the least clock can go on.
 use Rattle.std.proofs.Common.{◌≡◌, ◌⊎◌, ℕ, ◌+◌, ◌≤◌, Bool, true, false, ◌&&◌, ◌||◌, ◌==◌, not, List, [], ◌∷◌, Option, Some, refl, sym, subst, ap, ◌∙◌, inl, inr, arith}
 use Rattle.std.specs.List.{list_any}
 use Rattle.std.proofs.lemmas.Bool.{and_parts, and_from, or_cases, or_parts, or_left, or_right, cases_Bool, cases_lt, eqb-true, eq-eqb, not-true, true≢false, false≢true, false_from_ne_true}
@@ -37,7 +38,8 @@ pub moves_no_end : (o : Option WorldEvent) → moves_act o ≡ true → leads_to
 moves_no_end (Some (Begin u b)) s = refl
 moves_no_end o s = absurd cc
 
-number_of_pass : (n m t u : ℕ) (xs ys : List WorldEvent) → Phaser n (Pass t) ∷ xs ≡ Phaser m (Pass u) ∷ ys → n ≡ m
+number_of_pass : (n m t u : ℕ) (xs ys : List WorldEvent)
+    → Phaser n (Pass t) ∷ xs ≡ Phaser m (Pass u) ∷ ys → n ≡ m
 number_of_pass n m t u xs ys h = cc
 
 module _ (l : Limits) (w : List WorldEvent) (k : is_legal_world l w ≡ true) where
@@ -49,34 +51,49 @@ module _ (l : Limits) (w : List WorldEvent) (k : is_legal_world l w ≡ true) wh
   waiter_turns t p =
       elim (cases_Bool (begins_turn (last_entry t w))) [
         | inl b ↦ b
-        | inr b ↦ absurd (true≢false (subst (λ ds. list_any is_any_pass ds ≡ false) p.is (passless l t w k (ap (λ x. not x) b))))
+        | inr b ↦
+            absurd (true≢false
+            (subst (λ ds. list_any is_any_pass ds ≡ false) p.is (passless l t w k (ap (λ x. not x) b))))
       ]
 
   -- it has no signal before it
   no_more_sigs : (t n : ℕ) → WaitsToPass l t w → list_any (is_sig_on n) (due t w) ≡ false
   no_more_sigs t n p =
-      let m : Moves t (Phaser p.on (Pass t) ∷ p.rest) = subst (λ xs. Moves t xs) p.is (moves l t w k (waiter_moves t p)) in
-      let none = not-true (list_any is_any_sig p.rest) (and_parts (not (list_any is_any_sig p.rest)) (sigs_first p.rest) m.first).0 in
-      let later : list_any (is_sig_on n) p.rest ≡ false = false_from_ne_true (list_any (is_sig_on n) p.rest) (λ y. true≢false (sym (any_sig t w p.rest n n p.rest y) ∙ none)) in
+      let m : Moves t (Phaser p.on (Pass t) ∷ p.rest) =
+      subst (λ xs. Moves t xs) p.is (moves l t w k (waiter_moves t p)) in
+      let none =
+      not-true (list_any is_any_sig p.rest)
+      (and_parts (not (list_any is_any_sig p.rest)) (sigs_first p.rest) m.first).0 in
+      let later : list_any (is_sig_on n) p.rest ≡ false =
+      false_from_ne_true (list_any (is_sig_on n) p.rest)
+      (λ y. true≢false (sym (any_sig t w p.rest n n p.rest y) ∙ none)) in
       subst (λ xs. list_any (is_sig_on n) xs ≡ false) (sym p.is) later
 
-  ahead_by_one : (t n : ℕ) → has_mode can_signal t (phaser_past n w) ≡ true → is_behind t (phaser_past n w) ≡ false → signals t (phaser_past n w) ≡ waits t (phaser_past n w) + 1
+  ahead_by_one : (t n : ℕ) → has_mode can_signal t (phaser_past n w) ≡ true
+      → is_behind t (phaser_past n w) ≡ false → signals t (phaser_past n w) ≡ waits t (phaser_past n w) + 1
   ahead_by_one t n s b =
       let h = phaser_past n w in
       elim (at_or_ahead l (ops_of n w) h (phasers_legal l w k n) t s) [
-        | inl same ↦ absurd (true≢false (sym (and_from (has_mode can_signal t h) (signals t h == waits t h) s (eq-eqb (signals t h) (waits t h) same)) ∙ b))
+        | inl same ↦
+            absurd (true≢false (sym (and_from (has_mode can_signal t h) (signals t h == waits t h) s
+            (eq-eqb (signals t h) (waits t h) same)) ∙ b))
         | inr one ↦ one
       ]
 
   -- on each of its phasers it has passed in this turn, or it has signalled
-  there : (s n : ℕ) → WaitsToPass l s w → has_mode can_signal s (phaser_past n w) ≡ true → (has_passed s n w ≡ true) ⊎ (signals s (phaser_past n w) ≡ waits s (phaser_past n w) + 1)
+  there : (s n : ℕ) → WaitsToPass l s w → has_mode can_signal s (phaser_past n w) ≡ true
+      → (has_passed s n w ≡ true) ⊎ (signals s (phaser_past n w) ≡ waits s (phaser_past n w) + 1)
   there s n p m =
       elim (cases_Bool (list_any (is_pass_on n) (due s w))) [
         | inl y ↦
             let q : Turning s w (due s w) = turning l s w k (waiter_moves s p) in
-            let ahead : is_behind s (phaser_past n w) ≡ false = false_from_ne_true (is_behind s (phaser_past n w)) (λ b. true≢false (sym ((q.passes n y).1 b) ∙ no_more_sigs s n p)) in
+            let ahead : is_behind s (phaser_past n w) ≡ false =
+            false_from_ne_true (is_behind s (phaser_past n w))
+            (λ b. true≢false (sym ((q.passes n y).1 b) ∙ no_more_sigs s n p)) in
             inr (ahead_by_one s n m ahead)
-        | inr y ↦ inl (passed (begins_turn (last_entry s w)) (is_empty (due s w)) (list_any (is_pass_on n) (due s w)) (waiter_turns s p) (ap (λ ds. is_empty ds) p.is) y)
+        | inr y ↦
+            inl (passed (begins_turn (last_entry s w)) (is_empty (due s w))
+            (list_any (is_pass_on n) (due s w)) (waiter_turns s p) (ap (λ ds. is_empty ds) p.is) y)
       ]
     where
       passed : (a b c : Bool) → a ≡ true → b ≡ false → c ≡ false → (a && not b && not c) ≡ true
@@ -92,13 +109,22 @@ module _ (l : Limits) (w : List WorldEvent) (k : is_legal_world l w ≡ true) wh
         let h = phaser_past n w in
         let legal = phasers_legal l w k n in
         let goes_on = moves_no_end (last_entry t w) (waiter_moves t p) in
-        let before : list_any (is_pass_on n) (due t w) ≡ true = subst (λ ds. list_any (is_pass_on n) ds ≡ true) (sym p.is) (or_left (n == n) (list_any (is_pass_on n) p.rest) (eq-eqb n n refl)) in
-        let waiting : has_passed t n w ≡ false = not_passed (begins_turn (last_entry t w)) (is_empty (due t w)) (list_any (is_pass_on n) (due t w)) before in
+        let before : list_any (is_pass_on n) (due t w) ≡ true =
+        subst (λ ds. list_any (is_pass_on n) ds ≡ true) (sym p.is)
+        (or_left (n == n) (list_any (is_pass_on n) p.rest) (eq-eqb n n refl)) in
+        let waiting : has_passed t n w ≡ false =
+        not_passed (begins_turn (last_entry t w)) (is_empty (due t w))
+        (list_any (is_pass_on n) (due t w)) before in
         let closed : is_closed (waits t h) h ≡ true =
         phase_closed l w k t n p.live (members t g).0 goes_on waiting (λ s v m.
         let gs = alone t s g p v in
         let q = (members s gs).1 in
-        record { born = (members s gs).0; goes_on = moves_no_end (last_entry s w) (waiter_moves s q); no_earlier = least s gs; there = there s n q m }) in
+        record {
+          born = (members s gs).0;
+          goes_on = moves_no_end (last_entry s w) (waiter_moves s q);
+          no_earlier = least s gs;
+          there = there s n q m;
+        }) in
         elim (cases_Bool (is_settled (waits t h) h)) [
           | inl settled ↦ true≢false (sym (may_pass t n p.live p.signalled closed settled) ∙ p.no_pass)
           | inr unsettled ↦ settler n (waits t h) closed unsettled (λ u v. alone t u g p v)
@@ -109,21 +135,26 @@ module _ (l : Limits) (w : List WorldEvent) (k : is_legal_world l w ≡ true) wh
         not_passed true false c x = rw x refl
         not_passed false b c x = refl
 
-        may_pass : (t n : ℕ) → is_live t (phaser_past n w) ≡ true → is_behind t (phaser_past n w) ≡ false → is_closed (waits t (phaser_past n w)) (phaser_past n w) ≡ true → is_settled (waits t (phaser_past n w)) (phaser_past n w) ≡ true
+        may_pass : (t n : ℕ) → is_live t (phaser_past n w) ≡ true → is_behind t (phaser_past n w) ≡ false
+            → is_closed (waits t (phaser_past n w)) (phaser_past n w) ≡ true
+            → is_settled (waits t (phaser_past n w)) (phaser_past n w) ≡ true
             → is_permitted l (ops_of n w) (phaser_past n w) (Passed t) ≡ true
         may_pass t n v b c s =
             let h = phaser_past n w in
-            all_three (is_live t h) (has_mode can_signal t h) (signals t h == waits t h + 1) (has_mode can_wait t h) (is_closed (waits t h) h) (is_settled (waits t h) h) v
+            all_three (is_live t h) (has_mode can_signal t h) (signals t h == waits t h + 1)
+            (has_mode can_wait t h) (is_closed (waits t h) h) (is_settled (waits t h) h) v
             (λ m. eq-eqb (signals t h) (waits t h + 1) (ahead_by_one t n m b)) c s
           where
-            all_three : (a b c d e f : Bool) → a ≡ true → (b ≡ true → c ≡ true) → e ≡ true → f ≡ true → (a && (not b || c) && (not d || (e && f))) ≡ true
+            all_three : (a b c d e f : Bool) → a ≡ true → (b ≡ true → c ≡ true) → e ≡ true → f ≡ true
+                → (a && (not b || c) && (not d || (e && f))) ≡ true
             all_three a true c true e f x y z v = rw (x, y refl, z, v) refl
             all_three a true c false e f x y z v = rw (x, y refl) refl
             all_three a false c true e f x y z v = rw (x, z, v) refl
             all_three a false c false e f x y z v = rw x refl
 
         -- who may settle the statement waits at this very pass, and could claim or report
-        settler : (n p : ℕ) → is_closed p (phaser_past n w) ≡ true → is_settled p (phaser_past n w) ≡ false → ((u : ℕ) → is_live u (phaser_past n w) ≡ true → G u) → ⊥
+        settler : (n p : ℕ) → is_closed p (phaser_past n w) ≡ true → is_settled p (phaser_past n w) ≡ false
+            → ((u : ℕ) → is_live u (phaser_past n w) ≡ true → G u) → ⊥
         settler n p closed unsettled inside =
             let h = phaser_past n w in
             let ops = ops_of n w in
@@ -134,14 +165,21 @@ module _ (l : Limits) (w : List WorldEvent) (k : is_legal_world l w ≡ true) wh
             let q = (members u (inside u z.stands.live)).1 in
             let proposed : has_proposed u p h ≡ true =
             elim z.may [
-              | inl c ↦ subst (λ v. has_proposed u v h ≡ true) z.stands.at (claim_follows l ops h u c).proposed
-              | inr d ↦ subst (λ v. has_proposed u v h ≡ true) z.stands.at (claimed_proposed l ops h legal u (waits u h) (did_follows l ops h u d).claimed)
+              | inl c ↦
+                  subst (λ v. has_proposed u v h ≡ true) z.stands.at (claim_follows l ops h u c).proposed
+              | inr d ↦
+                  subst (λ v. has_proposed u v h ≡ true) z.stands.at
+                  (claimed_proposed l ops h legal u (waits u h) (did_follows l ops h u d).claimed)
             ] in
             let left = (owes_in_turn l w k n u p proposed undone).1 in
             let here : q.on ≡ n = number_of_pass q.on n u u q.rest [] (sym q.is ∙ left) in
             elim z.may [
-              | inl c ↦ true≢false (sym c ∙ subst (λ v. is_permitted l (ops_of v w) (phaser_past v w) (Claimed u) ≡ false) here q.no_claim)
-              | inr d ↦ true≢false (sym d ∙ subst (λ v. is_permitted l (ops_of v w) (phaser_past v w) (Done u) ≡ false) here q.no_did)
+              | inl c ↦
+                  true≢false (sym c ∙ subst (λ v.
+                  is_permitted l (ops_of v w) (phaser_past v w) (Claimed u) ≡ false) here q.no_claim)
+              | inr d ↦
+                  true≢false (sym d ∙ subst (λ v.
+                  is_permitted l (ops_of v w) (phaser_past v w) (Done u) ≡ false) here q.no_did)
             ]
 
 -- in a list with something in it, something has the least measure

@@ -32,12 +32,14 @@ use Rattle.world_model.proofs.AgentOfTask.{agent, none_first}
 use Rattle.world_model.proofs.LeavingList.{ends_act, is_drop, is_drop_of, last_of, shuts_of, tail_of, Leaving, own_covered, children_covered, ending_drops, failing_drops, covered_ending, any_append_left, any_append_right}
 use Rattle.world_model.proofs.SmallWords.{cons_parts}
 
-pub not_full : (xs : List WorldEvent) (y : WorldEvent) (ds : List WorldEvent) → ds ≡ xs ++ y ∷ [] → is_empty ds ≡ true → ⊥
+pub not_full : (xs : List WorldEvent) (y : WorldEvent) (ds : List WorldEvent) → ds ≡ xs ++ y ∷ []
+    → is_empty ds ≡ true → ⊥
 not_full [] y ds e k = true≢false (sym k ∙ ap (λ zs. is_empty zs) e)
 not_full (x ∷ xs) y ds e k = true≢false (sym k ∙ ap (λ zs. is_empty zs) e)
 
 -- who acts where nothing is due is idle
-pub acts_idle : (l : Limits) (w : List WorldEvent) (e : WorldEvent) → is_accepted l w e ≡ true → is_entry (actor w e) e ≡ false → due (actor w e) w ≡ [] → is_idle (actor w e) w ≡ true
+pub acts_idle : (l : Limits) (w : List WorldEvent) (e : WorldEvent) → is_accepted l w e ≡ true
+    → is_entry (actor w e) e ≡ false → due (actor w e) w ≡ [] → is_idle (actor w e) w ≡ true
 acts_idle l w (Phaser n (Make t m ops)) a n' d = idle_in_act l w t (New n m ops) a
 acts_idle l w (Phaser n (Send t c v)) a n' d = idle_in_act l w t (Sending n c v) a
 acts_idle l w (Phaser n (Look t c)) a n' d = idle_in_act l w t (Looking n c) a
@@ -45,11 +47,16 @@ acts_idle l w (Finish f (Opened t)) a n' d = idle_in_act l w t (Open f) a
 acts_idle l w (Begin t b) a n' d = absurd (true≢false (sym (eq-eqb t t refl) ∙ n'))
 acts_idle l w (Refuse t b n) a n' d = absurd (true≢false (sym (eq-eqb t t refl) ∙ n'))
 acts_idle l w (Fail t n) a n' d = absurd (true≢false (sym (eq-eqb t t refl) ∙ n'))
-acts_idle l w (Phaser n s) a n' d = absurd (none_first l w (Phaser n s) (due (actor w (Phaser n s)) w) d (first_due l w (Phaser n s) (part_made l w (Phaser n s) a).0))
-acts_idle l w (Finish f s) a n' d = absurd (none_first l w (Finish f s) (due (actor w (Finish f s)) w) d (first_due l w (Finish f s) (part_made l w (Finish f s) a).0))
+acts_idle l w (Phaser n s) a n' d =
+    absurd (none_first l w (Phaser n s) (due (actor w (Phaser n s)) w) d
+    (first_due l w (Phaser n s) (part_made l w (Phaser n s) a).0))
+acts_idle l w (Finish f s) a n' d =
+    absurd (none_first l w (Finish f s) (due (actor w (Finish f s)) w) d
+    (first_due l w (Finish f s) (part_made l w (Finish f s) a).0))
 
 -- an idle task has no child half spawned
-pub no_half_child : (l : Limits) (w : List WorldEvent) (q c : ℕ) → is_legal_world l w ≡ true → is_idle q w ≡ true → is_named c w ≡ true → is_born c w ≡ false → spawner c w ≡ q → ⊥
+pub no_half_child : (l : Limits) (w : List WorldEvent) (q c : ℕ) → is_legal_world l w ≡ true
+    → is_idle q w ≡ true → is_named c w ≡ true → is_born c w ≡ false → spawner c w ≡ q → ⊥
 no_half_child l w q c k i n b s =
     let idle = nothing_due (spawner c w) w (subst (λ v. is_idle v w ≡ true) (sym s) i) in
     elim (half_spawned l c w k n b) [
@@ -58,11 +65,15 @@ no_half_child l w q c k i n b s =
     ]
 
 -- who is live was registered, and so named
-pub live_named : (l : Limits) (w : List WorldEvent) (t n : ℕ) → is_legal_world l w ≡ true → is_live t (phaser_past n w) ≡ true → is_named t w ≡ true
-live_named l w t n k v = registered_named l t n w k (and_parts (is_registered t (phaser_past n w)) (not (is_dropped t (phaser_past n w))) v).0
+pub live_named : (l : Limits) (w : List WorldEvent) (t n : ℕ) → is_legal_world l w ≡ true
+    → is_live t (phaser_past n w) ≡ true → is_named t w ≡ true
+live_named l w t n k v =
+    registered_named l t n w k
+    (and_parts (is_registered t (phaser_past n w)) (not (is_dropped t (phaser_past n w))) v).0
 
 -- an agent is the task itself, or the spawner of an unborn child
-pub agent_is : (u t : ℕ) (w : List WorldEvent) → agent u w ≡ t → ((is_born u w ≡ true) × (u ≡ t)) ⊎ ((is_born u w ≡ false) × (spawner u w ≡ t))
+pub agent_is : (u t : ℕ) (w : List WorldEvent) → agent u w ≡ t
+    → ((is_born u w ≡ true) × (u ≡ t)) ⊎ ((is_born u w ≡ false) × (spawner u w ≡ t))
 agent_is u t w g =
     elim (cases_Bool (is_born u w)) [
       | inl b ↦ inl (b, sym (ap (λ x. cond x u (spawner u w)) b) ∙ g)
@@ -71,37 +82,63 @@ agent_is u t w g =
 
 module _ (l : Limits) (w : List WorldEvent) (k : is_legal_world l w ≡ true) (t : ℕ) where
   -- an idle task's own drops cover all for which it acts
-  idle_covers : is_idle t w ≡ true → (u n : ℕ) → agent u w ≡ t → is_live u (phaser_past n w) ≡ true → list_any (is_drop_of u n) (ending t w) ≡ true
+  idle_covers : is_idle t w ≡ true → (u n : ℕ) → agent u w ≡ t → is_live u (phaser_past n w) ≡ true
+      → list_any (is_drop_of u n) (ending t w) ≡ true
   idle_covers i u n g v =
       elim (agent_is u t w g) [
-        | inl b ↦ covered_ending t w u n (subst (λ x. list_any (is_drop_of u n) (drops_due x w) ≡ true) b.1 (own_covered l w k u n v))
+        | inl b ↦
+            covered_ending t w u n
+            (subst (λ x. list_any (is_drop_of u n) (drops_due x w) ≡ true) b.1 (own_covered l w k u n v))
         | inr b ↦ absurd (no_half_child l w t u k i (live_named l w u n k v) b.0 b.1)
       ]
 
-  fail_covers : (u n : ℕ) → agent u w ≡ t → is_live u (phaser_past n w) ≡ true → list_any (is_drop_of u n) (flat_map (λ c. drops_due c w) (unborn t w) ++ ending t w) ≡ true
+  fail_covers : (u n : ℕ) → agent u w ≡ t → is_live u (phaser_past n w) ≡ true
+      → list_any (is_drop_of u n) (flat_map (λ c. drops_due c w) (unborn t w) ++ ending t w) ≡ true
   fail_covers u n g v =
       let xs = flat_map (λ c. drops_due c w) (unborn t w) in
       elim (agent_is u t w g) [
-        | inl b ↦ any_append_right (is_drop_of u n) xs (ending t w) (covered_ending t w u n (subst (λ x. list_any (is_drop_of u n) (drops_due x w) ≡ true) b.1 (own_covered l w k u n v)))
+        | inl b ↦
+            any_append_right (is_drop_of u n) xs (ending t w)
+            (covered_ending t w u n (subst (λ x. list_any (is_drop_of u n) (drops_due x w) ≡ true) b.1
+            (own_covered l w k u n v)))
         | inr b ↦
             any_append_left (is_drop_of u n) xs (ending t w)
-            (subst (λ q. list_any (is_drop_of u n) (flat_map (λ c. drops_due c w) (unborn q w)) ≡ true) b.1 (children_covered l w k u n (live_named l w u n k v) b.0 v))
+            (subst (λ q. list_any (is_drop_of u n) (flat_map (λ c. drops_due c w) (unborn q w)) ≡ true) b.1
+            (children_covered l w k u n (live_named l w u n k v) b.0 v))
       ]
 
-  filled : (ds : List WorldEvent) → is_empty ds ≡ false → is_empty ds ≡ true → (is_ended t w ≡ true) × (open_finishes t w ≡ [])
+  filled : (ds : List WorldEvent) → is_empty ds ≡ false → is_empty ds ≡ true
+      → (is_ended t w ≡ true) × (open_finishes t w ≡ [])
   filled ds n e = absurd (true≢false (sym e ∙ n))
 
-pub leaving_entry : (l : Limits) (t : ℕ) (e : WorldEvent) (w : List WorldEvent) → is_legal_world l w ≡ true → is_accepted l w e ≡ true → is_entry t e ≡ true → ends_act (Some e) ≡ true → Leaving t (e ∷ w) (fixed e w)
+pub leaving_entry : (l : Limits) (t : ℕ) (e : WorldEvent) (w : List WorldEvent) → is_legal_world l w ≡ true
+    → is_accepted l w e ≡ true → is_entry t e ≡ true → ends_act (Some e) ≡ true
+    → Leaving t (e ∷ w) (fixed e w)
 leaving_entry l t (Begin u End) w k a n q =
     subst (λ v. Leaving v (Begin u End ∷ w) (ending u w)) (eqb-true u t n)
-    (record { form = λ some. ending_drops u w; covers = λ x m g v. idle_covers l w k u (idle_in_act l w u (Beginning End) a) x m g v; over = λ e. filled l w k u (ending u w) (ending_full u w) e })
+    (record {
+      form = λ some. ending_drops u w;
+      covers = λ x m g v. idle_covers l w k u (idle_in_act l w u
+          (Beginning End) a) x m g v;
+      over = λ e. filled l w k u (ending u w) (ending_full u w) e;
+    })
 leaving_entry l t (Refuse u b x) w k a n q =
     subst (λ v. Leaving v (Refuse u b x ∷ w) (ending u w)) (eqb-true u t n)
-    (record { form = λ some. ending_drops u w; covers = λ y m g v. idle_covers l w k u (refuse_idle l w u b x (made_done_where _ a)) y m g v; over = λ e. filled l w k u (ending u w) (ending_full u w) e })
+    (record {
+      form = λ some. ending_drops u w;
+      covers = λ y m g v. idle_covers l w k u (refuse_idle l w u b x
+          (made_done_where _ a)) y m g v;
+      over = λ e. filled l w k u (ending u w) (ending_full u w) e;
+    })
 leaving_entry l t (Fail u x) w k a n q =
     let xs = flat_map (λ c. drops_due c w) (unborn u w) in
     subst (λ v. Leaving v (Fail u x ∷ w) (xs ++ ending u w)) (eqb-true u t n)
-    (record { form = λ some. failing_drops u w; covers = λ y m g v. fail_covers l w k u y m g v; over = λ e. filled l w k u (xs ++ ending u w) (full_before xs (ending u w) (ending_full u w)) e })
+    (record {
+      form = λ some. failing_drops u w;
+      covers = λ y m g v. fail_covers l w k u y m g v;
+      over = λ e.
+          filled l w k u (xs ++ ending u w) (full_before xs (ending u w) (ending_full u w)) e;
+    })
 leaving_entry l t (Begin u Signal) w k a n q = absurd (false≢true q)
 leaving_entry l t (Begin u Wait) w k a n q = absurd (false≢true q)
 leaving_entry l t (Begin u Next) w k a n q = absurd (false≢true q)
@@ -112,10 +149,13 @@ leaving_entry l t (Phaser m s) w k a n q = absurd (false≢true n)
 leaving_entry l t (Finish f s) w k a n q = absurd (false≢true n)
 
 -- what is first after the drops
-pub tail_first : (e last : WorldEvent) (ds : List WorldEvent) (fs : List ℕ) → e ∷ ds ≡ shuts_of fs ++ last ∷ []
-    → ((fs ≡ []) × (e ≡ last) × (ds ≡ [])) ⊎ ((f : ℕ) × (gs : List ℕ) × (fs ≡ f ∷ gs) × (e ≡ Finish f Shutting) × (ds ≡ shuts_of gs ++ last ∷ []))
+pub tail_first : (e last : WorldEvent) (ds : List WorldEvent) (fs : List ℕ)
+    → e ∷ ds ≡ shuts_of fs ++ last ∷ []
+    → ((fs ≡ []) × (e ≡ last) × (ds ≡ [])) ⊎ ((f : ℕ) × (gs : List ℕ) × (fs ≡ f ∷ gs)
+    × (e ≡ Finish f Shutting) × (ds ≡ shuts_of gs ++ last ∷ []))
 tail_first e last ds [] h = let p = cons_parts e last ds [] h in inl (refl, p.0, p.1)
-tail_first e last ds (f ∷ fs) h = let p = cons_parts e (Finish f Shutting) ds (shuts_of fs ++ last ∷ []) h in inr (f, fs, refl, p.0, p.1)
+tail_first e last ds (f ∷ fs) h =
+    let p = cons_parts e (Finish f Shutting) ds (shuts_of fs ++ last ∷ []) h in inr (f, fs, refl, p.0, p.1)
 
 last_ends : (t : ℕ) (w : List WorldEvent) → ends t (last_of t w) ≡ true
 last_ends t w = by (t == 0) refl
@@ -127,41 +167,53 @@ last_ends t w = by (t == 0) refl
 module _ (l : Limits) (t : ℕ) (w : List WorldEvent) (k : is_legal_world l w ≡ true) where
   -- after t's last event it has no open finish still
   nothing_open : open_finishes t w ≡ [] → open_finishes t (last_of t w ∷ w) ≡ []
-  nothing_open o = opens_same l w k t (last_of t w) (not_opening (t == 0)) (λ f h. not_shutting f (t == 0) h) ∙ o
+  nothing_open o =
+      opens_same l w k t (last_of t w) (not_opening (t == 0)) (λ f h. not_shutting f (t == 0) h) ∙ o
     where
       not_opening : (b : Bool) → opened_by t (cond b (Finish 0 Shutting) (Finish (home t w) (Ended t))) ≡ None
       not_opening true = refl
       not_opening false = refl
 
-      not_shutting : (f : ℕ) (b : Bool) → has f (opened t w) ≡ true → shuts_finish f (cond b (Finish 0 Shutting) (Finish (home t w) (Ended t))) ≡ false
+      not_shutting : (f : ℕ) (b : Bool) → has f (opened t w) ≡ true
+          → shuts_finish f (cond b (Finish 0 Shutting) (Finish (home t w) (Ended t))) ≡ false
       not_shutting f true h = never_root l w k t f h
       not_shutting f false h = refl
 
   -- a drop leaves fewer to cover
   pub drop_covers : (m v : ℕ) (ds : List WorldEvent) → Leaving t w (Phaser m (Drop v) ∷ ds)
-      → (u n : ℕ) → agent u w ≡ t → is_live u (phaser_past n (Phaser m (Drop v) ∷ w)) ≡ true → list_any (is_drop_of u n) ds ≡ true
+      → (u n : ℕ) → agent u w ≡ t → is_live u (phaser_past n (Phaser m (Drop v) ∷ w)) ≡ true
+      → list_any (is_drop_of u n) ds ≡ true
   drop_covers m v ds p u n g live = elim (cases_Bool (m == n)) [ inl x ↦ here x | inr x ↦ there x ]
     where
       h : List Event
       h = phaser_past n w
 
-      covered : is_live u (phaser_past n w) ≡ true → ((m == n && v == u) || list_any (is_drop_of u n) ds) ≡ true
+      covered : is_live u (phaser_past n w) ≡ true
+          → ((m == n && v == u) || list_any (is_drop_of u n) ds) ≡ true
       covered y = p.covers u n g y
 
-      later : (b : Bool) → b ≡ false → (b || list_any (is_drop_of u n) ds) ≡ true → list_any (is_drop_of u n) ds ≡ true
+      later : (b : Bool) → b ≡ false → (b || list_any (is_drop_of u n) ds) ≡ true
+          → list_any (is_drop_of u n) ds ≡ true
       later true b y = absurd (true≢false b)
       later false b y = y
 
       there : (m == n) ≡ false → list_any (is_drop_of u n) ds ≡ true
-      there x = later (m == n && v == u) (rw x refl) (covered (subst (λ b. is_live u (cond b (Dropped v ∷ phaser_past n w) (phaser_past n w)) ≡ true) x live))
+      there x =
+          later (m == n && v == u) (rw x refl) (covered (subst
+          (λ b. is_live u (cond b (Dropped v ∷ phaser_past n w) (phaser_past n w)) ≡ true) x live))
 
       here : (m == n) ≡ true → list_any (is_drop_of u n) ds ≡ true
       here x =
-          let now : (is_registered u (phaser_past n w) && not ((v == u) || is_dropped u (phaser_past n w))) ≡ true = subst (λ b. is_live u (cond b (Dropped v ∷ phaser_past n w) (phaser_past n w)) ≡ true) x live in
+          let now : (is_registered u (phaser_past n w) && not ((v == u) || is_dropped u (phaser_past n w)))
+          ≡ true =
+          subst (λ b. is_live u (cond b (Dropped v ∷ phaser_past n w) (phaser_past n w)) ≡ true) x live in
           elim (cases_Bool (v == u)) [
-            | inl y ↦ absurd (gone (is_registered u (phaser_past n w)) (v == u) (is_dropped u (phaser_past n w)) y now)
+            | inl y ↦
+                absurd
+                (gone (is_registered u (phaser_past n w)) (v == u) (is_dropped u (phaser_past n w)) y now)
             | inr y ↦
-                later (m == n && v == u) (rw (x, y) refl) (covered (subst (λ b. (is_registered u (phaser_past n w) && not (b || is_dropped u (phaser_past n w))) ≡ true) y now))
+                later (m == n && v == u) (rw (x, y) refl) (covered (subst (λ b. (is_registered u
+                (phaser_past n w) && not (b || is_dropped u (phaser_past n w))) ≡ true) y now))
           ]
         where
           gone : (a b c : Bool) → b ≡ true → (a && not (b || c)) ≡ true → ⊥
@@ -172,23 +224,33 @@ module _ (l : Limits) (t : ℕ) (w : List WorldEvent) (k : is_legal_world l w �
   pub own_leaves : (e : WorldEvent) (ds : List WorldEvent) → Leaving t w (e ∷ ds) → Leaving t (e ∷ w) ds
   own_leaves e ds p = by_drops (p.form refl).drops (p.form refl).all_drops (p.form refl).is
     where
-      after_drop : (d : WorldEvent) (drops : List WorldEvent) → is_drop d ≡ true → list_all is_drop drops ≡ true → e ≡ d → ds ≡ drops ++ tail_of t w → Leaving t (e ∷ w) ds
+      after_drop : (d : WorldEvent) (drops : List WorldEvent) → is_drop d ≡ true
+          → list_all is_drop drops ≡ true → e ≡ d → ds ≡ drops ++ tail_of t w → Leaving t (e ∷ w) ds
       after_drop (Phaser m (Drop v)) drops x y same is =
           subst (λ c. Leaving t (c ∷ w) ds) (sym same)
           (record {
             form = λ some. record { drops = drops; all_drops = y; is = is };
             covers = λ u n g live. drop_covers m v ds (subst (λ c. Leaving t w (c ∷ ds)) same p) u n g live;
-            over = λ none. absurd (not_full (drops ++ shuts_of (open_finishes t w)) (last_of t w) ds (is ∙ sym (append_assoc drops (shuts_of (open_finishes t w)) (last_of t w ∷ []))) none);
+            over =
+                λ none. absurd (not_full (drops ++ shuts_of (open_finishes t w)) (last_of t w) ds
+                (is ∙ sym (append_assoc drops (shuts_of (open_finishes t w)) (last_of t w ∷ []))) none);
           })
       after_drop d drops x y same is = absurd (false≢true x)
 
-      after_shut : (f : ℕ) (gs : List ℕ) → open_finishes t w ≡ f ∷ gs → e ≡ Finish f Shutting → ds ≡ shuts_of gs ++ last_of t w ∷ [] → Leaving t (e ∷ w) ds
+      after_shut : (f : ℕ) (gs : List ℕ) → open_finishes t w ≡ f ∷ gs → e ≡ Finish f Shutting
+          → ds ≡ shuts_of gs ++ last_of t w ∷ [] → Leaving t (e ∷ w) ds
       after_shut f gs here same is =
           let q : Leaving t w (Finish f Shutting ∷ ds) = subst (λ c. Leaving t w (c ∷ ds)) same p in
           let rest : open_finishes t (Finish f Shutting ∷ w) ≡ gs = shut_takes l w k t f gs here in
           subst (λ c. Leaving t (c ∷ w) ds) (sym same)
           (record {
-            form = λ some. record { drops = []; all_drops = refl; is = is ∙ ap (λ fs. shuts_of fs ++ last_of t w ∷ []) (sym rest) };
+            form =
+                λ some. record {
+                  drops = [];
+                  all_drops = refl;
+                  is = is
+                      ∙ ap (λ fs. shuts_of fs ++ last_of t w ∷ []) (sym rest);
+                };
             covers = λ u n g live. q.covers u n g live;
             over = λ none. absurd (not_full (shuts_of gs) (last_of t w) ds is none);
           })
@@ -206,20 +268,25 @@ module _ (l : Limits) (t : ℕ) (w : List WorldEvent) (k : is_legal_world l w �
           q : Leaving t w (last_of t w ∷ [])
           q = subst (λ xs. Leaving t w (last_of t w ∷ xs)) none (subst (λ c. Leaving t w (c ∷ ds)) same p)
 
-          last_covers : (u n : ℕ) (b : Bool) → agent u (cond b (Finish 0 Shutting) (Finish (home t w) (Ended t)) ∷ w) ≡ t
-              → is_live u (phaser_past n (cond b (Finish 0 Shutting) (Finish (home t w) (Ended t)) ∷ w)) ≡ true → list_any (is_drop_of u n) [] ≡ true
+          last_covers : (u n : ℕ) (b : Bool)
+              → agent u (cond b (Finish 0 Shutting) (Finish (home t w) (Ended t)) ∷ w) ≡ t
+              → is_live u (phaser_past n (cond b (Finish 0 Shutting) (Finish (home t w) (Ended t)) ∷ w))
+              ≡ true → list_any (is_drop_of u n) [] ≡ true
           last_covers u n true g live = no_drop (t == 0) (q.covers u n g live)
             where
-              no_drop : (b : Bool) → (is_drop_of u n (cond b (Finish 0 Shutting) (Finish (home t w) (Ended t))) || false) ≡ true → false ≡ true
+              no_drop : (b : Bool) → (is_drop_of u n
+                  (cond b (Finish 0 Shutting) (Finish (home t w) (Ended t))) || false) ≡ true → false ≡ true
               no_drop true z = z
               no_drop false z = z
           last_covers u n false g live = no_drop (t == 0) (q.covers u n g live)
             where
-              no_drop : (b : Bool) → (is_drop_of u n (cond b (Finish 0 Shutting) (Finish (home t w) (Ended t))) || false) ≡ true → false ≡ true
+              no_drop : (b : Bool) → (is_drop_of u n
+                  (cond b (Finish 0 Shutting) (Finish (home t w) (Ended t))) || false) ≡ true → false ≡ true
               no_drop true z = z
               no_drop false z = z
 
-      by_drops : (drops : List WorldEvent) → list_all is_drop drops ≡ true → e ∷ ds ≡ drops ++ tail_of t w → Leaving t (e ∷ w) ds
+      by_drops : (drops : List WorldEvent) → list_all is_drop drops ≡ true → e ∷ ds ≡ drops ++ tail_of t w
+          → Leaving t (e ∷ w) ds
       by_drops [] x is =
           elim (tail_first e (last_of t w) ds (open_finishes t w) is) [
             | inl z ↦ after_last z.0 z.1 z.2

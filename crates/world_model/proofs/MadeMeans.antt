@@ -28,10 +28,12 @@ use Rattle.world_model.specs.Acts.{unless, act_conditions, act_done, act_reply, 
 use Rattle.world_model.specs.Continuing.{same_event, next_done, next_reply}
 
 -- the last event of a legal world was accepted, and what came before it is legal
-pub last_accepted : (l : Limits) (e : WorldEvent) (w : List WorldEvent) → is_legal_world l (e ∷ w) ≡ true → (is_accepted l w e ≡ true) × (is_legal_world l w ≡ true)
+pub last_accepted : (l : Limits) (e : WorldEvent) (w : List WorldEvent) → is_legal_world l (e ∷ w) ≡ true
+    → (is_accepted l w e ≡ true) × (is_legal_world l w ≡ true)
 last_accepted l e w k = and_parts (is_accepted l w e) (is_legal_world l w) k
 
-told_done : (h : List Event) (r : phaser.Reply) → is_made (returned h r) ≡ true → (e : Event) × (r ≡ phaser.done e)
+told_done : (h : List Event) (r : phaser.Reply) → is_made (returned h r) ≡ true
+    → (e : Event) × (r ≡ phaser.done e)
 told_done h (phaser.refused r) k = absurd cc
 told_done h phaser.not_yet k = absurd cc
 told_done h (phaser.done e) k = (e, refl)
@@ -42,10 +44,13 @@ pub call_allowed : (s : Story) (c : Call) → is_made (returned s.past (phaser.r
 call_allowed s c k =
     let m = told_done s.past (phaser.reply s c) k in
     let f = phaser.event_for s.limits s.ops s.past c in
-    let d = settled_done (first_refusal (conditions s.limits s.ops s.past c)) (phaser.must_wait s.limits s.ops s.past c) (has_room s.limits (f ∷ s.past)) f m.0 m.1 in
+    let d =
+    settled_done (first_refusal (conditions s.limits s.ops s.past c))
+    (phaser.must_wait s.limits s.ops s.past c) (has_room s.limits (f ∷ s.past)) f m.0 m.1 in
     subst (λ g. is_allowed s.limits s.ops s.past g ≡ true) (sym d.1) (done_is_allowed s c m.0 m.1)
 
-unless_made : (o : Option Refusal) (r : Result Reply Refusal) → is_made (unless o r) ≡ true → (o ≡ None) × (is_made r ≡ true)
+unless_made : (o : Option Refusal) (r : Result Reply Refusal) → is_made (unless o r) ≡ true
+    → (o ≡ None) × (is_made r ≡ true)
 unless_made None r k = (refl, k)
 unless_made (Some x) r k = absurd cc
 
@@ -55,20 +60,24 @@ pub act_made : (l : Limits) (w : List WorldEvent) (t : ℕ) (a : Tried) → is_m
 act_made l w t a k = unless_made (first_refusal (act_conditions l w t a)) (act_done l w t a) k
 
 -- where nothing is refused, each condition is met
-pub no_refusal : (r : Refusal) (b : Bool) (cs : List (Refusal × Bool)) → first_refusal ((r, b) ∷ cs) ≡ None → (b ≡ true) × (first_refusal cs ≡ None)
+pub no_refusal : (r : Refusal) (b : Bool) (cs : List (Refusal × Bool)) → first_refusal ((r, b) ∷ cs) ≡ None
+    → (b ≡ true) × (first_refusal cs ≡ None)
 no_refusal r true cs k = (refl, k)
 no_refusal r false cs k = absurd cc
 
 -- an accepted act met none of its own refusals
-pub begin_asked : (l : Limits) (w : List WorldEvent) (t : ℕ) (b : Begun) → is_accepted l w (Begin t b) ≡ true → first_refusal (begin_conditions l w t b) ≡ None
+pub begin_asked : (l : Limits) (w : List WorldEvent) (t : ℕ) (b : Begun) → is_accepted l w (Begin t b) ≡ true
+    → first_refusal (begin_conditions l w t b) ≡ None
 begin_asked l w t b a =
     let counted : Refusal × Bool = (ActsFull, not (is_counted (Beginning b)) || nat_lt (acts t w) l.acts) in
     let free : Refusal × Bool = (NotNow, not (is_number_used w (Beginning b))) in
     (no_refusal ActsFull counted.1 (begin_conditions l w t b)
     (no_refusal NotNow free.1 (counted ∷ begin_conditions l w t b)
-    (no_refusal NotNow (is_idle t w) (free ∷ counted ∷ begin_conditions l w t b) (act_made l w t (Beginning b) a).0).1).1).1
+    (no_refusal NotNow (is_idle t w) (free ∷ counted ∷ begin_conditions l w t b)
+    (act_made l w t (Beginning b) a).0).1).1).1
 
-made_where : (b : Bool) (r : Result Reply Refusal) → is_made (cond b r (Err NotNow)) ≡ true → (b ≡ true) × (is_made r ≡ true)
+made_where : (b : Bool) (r : Result Reply Refusal) → is_made (cond b r (Err NotNow)) ≡ true
+    → (b ≡ true) × (is_made r ≡ true)
 made_where true r k = (refl, k)
 made_where false r k = absurd cc
 
@@ -77,5 +86,7 @@ abbrev pub IsNext : Limits → List WorldEvent → WorldEvent → Type 0
 IsNext l w e = option_map_or (λ d. same_event d e) (next_event l (actor w e) w) false ≡ true
 
 -- an event that continues an act was the one to come
-pub part_made : (l : Limits) (w : List WorldEvent) (e : WorldEvent) → is_made (next_reply l w e) ≡ true → IsNext l w e × (is_made (next_done l w e) ≡ true)
-part_made l w e k = made_where (option_map_or (λ d. same_event d e) (next_event l (actor w e) w) false) (next_done l w e) k
+pub part_made : (l : Limits) (w : List WorldEvent) (e : WorldEvent) → is_made (next_reply l w e) ≡ true
+    → IsNext l w e × (is_made (next_done l w e) ≡ true)
+part_made l w e k =
+    made_where (option_map_or (λ d. same_event d e) (next_event l (actor w e) w) false) (next_done l w e) k

@@ -1,4 +1,5 @@
--- Tasks that go on and aren't able: how they wait, and that a list of them that waits for itself alone is empty.
+-- Tasks that go on and aren't able: how they wait,
+-- and that a list of them that waits for itself alone is empty.
 use Rattle.std.proofs.Common.{◌≡◌, ◌⊎◌, ℕ, Bool, true, false, ◌&&◌, ◌||◌, ◌==◌, not, cond, List, [], ◌∷◌, Option, Some, refl, sym, subst, ap, ◌∙◌, inl, inr}
 use Rattle.std.specs.Prelude.{filter, filter_map}
 use Rattle.std.specs.List.{list_any, list_all}
@@ -52,12 +53,15 @@ born_tasks t w b =
     ]
 
 -- one that fails
-pub fails_at : (p : ℕ → Bool) (xs : List ℕ) → list_all p xs ≡ false → (x : ℕ) × (has x xs ≡ true) × (p x ≡ false)
+pub fails_at : (p : ℕ → Bool) (xs : List ℕ) → list_all p xs ≡ false
+    → (x : ℕ) × (has x xs ≡ true) × (p x ≡ false)
 fails_at p [] k = absurd (true≢false k)
 fails_at p (x ∷ xs) k =
     elim (cases_Bool (p x)) [
       | inr n ↦ (x, or_left (x == x) (has x xs) (eq-eqb x x refl), n)
-      | inl y ↦ let r = fails_at p xs (subst (λ b. (b && list_all p xs) ≡ false) y k) in (r.0, or_right (x == r.0) (has r.0 xs) r.1, r.2)
+      | inl y ↦
+          let r = fails_at p xs (subst (λ b. (b && list_all p xs) ≡ false) y k) in
+          (r.0, or_right (x == r.0) (has r.0 xs) r.1, r.2)
     ]
 
 -- a turn is no spawn
@@ -66,7 +70,8 @@ turn_no_spawn c (Some (Begin u (Async x ps))) s b = false≢true s
 turn_no_spawn c o s b = absurd cc
 
 -- one that passes
-pub found_in : (p : ℕ → Bool) (xs : List ℕ) → list_any p xs ≡ true → (x : ℕ) × (has x xs ≡ true) × (p x ≡ true)
+pub found_in : (p : ℕ → Bool) (xs : List ℕ) → list_any p xs ≡ true
+    → (x : ℕ) × (has x xs ≡ true) × (p x ≡ true)
 found_in p [] h = absurd (false≢true h)
 found_in p (x ∷ xs) h =
     elim (or_cases (p x) (list_any p xs) h) [
@@ -79,32 +84,45 @@ module _ (w : List WorldEvent) where
   abbrev pub going_on : (ℕ → Bool) → List ℕ
   going_on p = filter (λ s. not (is_ended s w) && p s) (tasks w)
 
-  pub listed : (p : ℕ → Bool) (s : ℕ) → is_born s w ≡ true → is_ended s w ≡ false → p s ≡ true → has s (going_on p) ≡ true
-  listed p s b g y = has-filter (λ x. not (is_ended x w) && p x) s (tasks w) ∙ and_from (not (is_ended s w) && p s) (has s (tasks w)) (and_from (not (is_ended s w)) (p s) (ap (λ x. not x) g) y) (born_tasks s w b)
+  pub listed : (p : ℕ → Bool) (s : ℕ) → is_born s w ≡ true → is_ended s w ≡ false → p s ≡ true
+      → has s (going_on p) ≡ true
+  listed p s b g y =
+      has-filter (λ x. not (is_ended x w) && p x) s (tasks w) ∙ and_from (not (is_ended s w) && p s)
+      (has s (tasks w)) (and_from (not (is_ended s w)) (p s) (ap (λ x. not x) g) y) (born_tasks s w b)
 
-  pub goes : (p : ℕ → Bool) (s : ℕ) → has s (going_on p) ≡ true → (is_born s w ≡ true) × (is_ended s w ≡ false) × (p s ≡ true)
+  pub goes : (p : ℕ → Bool) (s : ℕ) → has s (going_on p) ≡ true
+      → (is_born s w ≡ true) × (is_ended s w ≡ false) × (p s ≡ true)
   goes p s h =
-      let a = and_parts (not (is_ended s w) && p s) (has s (tasks w)) (sym (has-filter (λ x. not (is_ended x w) && p x) s (tasks w)) ∙ h) in
+      let a =
+      and_parts (not (is_ended s w) && p s) (has s (tasks w))
+      (sym (has-filter (λ x. not (is_ended x w) && p x) s (tasks w)) ∙ h) in
       let b = and_parts (not (is_ended s w)) (p s) a.0 in
       (tasks_born s w a.1, not-true (is_ended s w) b.0, b.1)
 
 module _ (l : Limits) (w : List WorldEvent) (k : is_legal_world l w ≡ true) where
   -- a list of tasks that all wait at a pass, and share their phasers with nobody else, is empty
-  pub none_alone : (xs : List ℕ) → ((x : ℕ) → has x xs ≡ true → is_born x w ≡ true) → ((x : ℕ) → has x xs ≡ true → WaitsToPass l x w)
-      → ((t s : ℕ) → has t xs ≡ true → (p : WaitsToPass l t w) → is_live s (phaser_past p.on w) ≡ true → has s xs ≡ true) → (x : ℕ) → has x xs ≡ true → ⊥
+  pub none_alone : (xs : List ℕ) → ((x : ℕ) → has x xs ≡ true → is_born x w ≡ true)
+      → ((x : ℕ) → has x xs ≡ true → WaitsToPass l x w)
+      → ((t s : ℕ) → has t xs ≡ true → (p : WaitsToPass l t w) → is_live s (phaser_past p.on w) ≡ true
+      → has s xs ≡ true) → (x : ℕ) → has x xs ≡ true → ⊥
   none_alone [] born pass alone x h = false≢true h
   none_alone (y ∷ ys) born pass alone x h =
       let m : Least (λ t. clock t w) (y ∷ ys) = least_of (λ t. clock t w) y ys in
-      group_goes_on l w k (λ s. has s (y ∷ ys) ≡ true) (λ s g. (born s g, pass s g)) alone m.at m.listed m.least
+      group_goes_on l w k (λ s. has s (y ∷ ys) ≡ true)
+      (λ s g. (born s g, pass s g)) alone m.at m.listed m.least
 
   -- who acts for a task that holds something goes on
-  pub holder : (s n : ℕ) → is_live s (phaser_past n w) ≡ true → (is_born (agent s w) w ≡ true) × (is_ended (agent s w) w ≡ false)
+  pub holder : (s n : ℕ) → is_live s (phaser_past n w) ≡ true
+      → (is_born (agent s w) w ≡ true) × (is_ended (agent s w) w ≡ false)
   holder s n v = (
     elim (cases_Bool (is_born s w)) [
       | inl b ↦ subst (λ q. is_born q w ≡ true) (sym (ap (λ x. cond x s (spawner s w)) b)) b
-      | inr b ↦ subst (λ q. is_born q w ≡ true) (sym (ap (λ x. cond x s (spawner s w)) b)) (spawner_is_born l w k s (live_named l w s n k v))
+      | inr b ↦
+          subst (λ q. is_born q w ≡ true) (sym (ap (λ x. cond x s (spawner s w)) b))
+          (spawner_is_born l w k s (live_named l w s n k v))
     ],
-    false_from_ne_true (is_ended (agent s w) w) (λ x. true≢false (sym v ∙ ended_holds_nothing l w k (agent s w) s n x refl)),
+    false_from_ne_true (is_ended (agent s w) w)
+        (λ x. true≢false (sym v ∙ ended_holds_nothing l w k (agent s w) s n x refl)),
   )
 
   -- and if it waits at a pass, it is the task itself
@@ -115,8 +133,12 @@ module _ (l : Limits) (w : List WorldEvent) (k : is_legal_world l w ≡ true) wh
         | inl b ↦ sym b.1
         | inr b ↦
             elim (half_spawned l s w k (live_named l w s n k v) b.0) [
-              | inl x ↦ absurd (turn_no_spawn s (last_entry (agent s w) w) turns (subst (λ q. begins_spawn s (last_entry q w) ≡ true) b.1 x.0))
-              | inr x ↦ absurd (true≢false (sym (subst (λ q. leads_to_end (last_entry q w) ≡ true) b.1 x) ∙ moves_no_end (last_entry (agent s w) w) turns))
+              | inl x ↦
+                  absurd (turn_no_spawn s (last_entry (agent s w) w) turns
+                  (subst (λ q. begins_spawn s (last_entry q w) ≡ true) b.1 x.0))
+              | inr x ↦
+                  absurd (true≢false (sym (subst (λ q. leads_to_end (last_entry q w) ≡ true) b.1 x)
+                  ∙ moves_no_end (last_entry (agent s w) w) turns))
             ]
       ]
 
@@ -138,6 +160,10 @@ module _ (l : Limits) (w : List WorldEvent) (k : is_legal_world l w ≡ true)
         | inl p ↦
             elim (sorted xs (λ y h. go y (or_right (x == y) (has y xs) h))) [
               | inr r ↦ inr (r.0, or_right (x == r.0) (has r.0 xs) r.1, r.2)
-              | inl f ↦ inl (λ y h. elim (or_cases (x == y) (has y xs) h) [ inl e ↦ subst (λ v. WaitsToPass l v w) (eqb-true x y e) p | inr e ↦ f y e ])
+              | inl f ↦
+                  inl (λ y h. elim (or_cases (x == y) (has y xs) h) [
+                    | inl e ↦ subst (λ v. WaitsToPass l v w) (eqb-true x y e) p
+                    | inr e ↦ f y e
+                  ])
             ]
       ]

@@ -19,22 +19,27 @@ entry_other t (Fail u n) w k = k
 entry_other t (Phaser n s) w k = refl
 entry_other t (Finish f e) w k = refl
 
-pub due_other : (t : ℕ) (e : WorldEvent) (w : List WorldEvent) → (actor w e == t) ≡ false → due t (e ∷ w) ≡ due t w
+pub due_other : (t : ℕ) (e : WorldEvent) (w : List WorldEvent) → (actor w e == t) ≡ false
+    → due t (e ∷ w) ≡ due t w
 due_other t e w k = rw (entry_other t e w k, k) refl
 
-pub last_other : (t : ℕ) (e : WorldEvent) (w : List WorldEvent) → (actor w e == t) ≡ false → last_entry t (e ∷ w) ≡ last_entry t w
+pub last_other : (t : ℕ) (e : WorldEvent) (w : List WorldEvent) → (actor w e == t) ≡ false
+    → last_entry t (e ∷ w) ≡ last_entry t w
 last_other t e w k = rw (entry_other t e w k) refl
 
 -- the same of an event that is no entry and part of no act that is due
-pub last_plain : (t : ℕ) (e : WorldEvent) (w : List WorldEvent) → is_entry t e ≡ false → last_entry t (e ∷ w) ≡ last_entry t w
+pub last_plain : (t : ℕ) (e : WorldEvent) (w : List WorldEvent) → is_entry t e ≡ false
+    → last_entry t (e ∷ w) ≡ last_entry t w
 last_plain t e w k = rw k refl
 
 -- what t makes of its act is due no more
-pub due_own : (t : ℕ) (e : WorldEvent) (w : List WorldEvent) → is_entry t e ≡ false → (actor w e == t) ≡ true → is_of_single e ≡ false → due t (e ∷ w) ≡ drop 1 (due t w)
+pub due_own : (t : ℕ) (e : WorldEvent) (w : List WorldEvent) → is_entry t e ≡ false → (actor w e == t) ≡ true
+    → is_of_single e ≡ false → due t (e ∷ w) ≡ drop 1 (due t w)
 due_own t e w a b c = rw (a, b, c) refl
 
 -- the clock moves with t's birth, its passes and its entries alone
-pub clock_other : (t : ℕ) (e : WorldEvent) (w : List WorldEvent) → (actor w e == t) ≡ false → spawns t e ≡ false → clock t (e ∷ w) ≡ clock t w
+pub clock_other : (t : ℕ) (e : WorldEvent) (w : List WorldEvent) → (actor w e == t) ≡ false
+    → spawns t e ≡ false → clock t (e ∷ w) ≡ clock t w
 clock_other t (Phaser n (Pass u)) w k s = rw k refl
 clock_other t (Begin u b) w k s = rw k refl
 clock_other t (Finish f (Spawned u)) w k s = rw s refl

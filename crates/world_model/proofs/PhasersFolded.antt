@@ -39,17 +39,20 @@ not_of : (b c : Bool) (v : ℤ) (vs : List ℤ) → c ≡ false → cond (b && c
 not_of true c v vs k = rw k refl
 not_of false c v vs k = refl
 
-sent_stays : (l : Limits) (ops : List Op) (p a : ℕ) (e : Event) (h : List Event) → is_legal l ops (e ∷ h) ≡ true → HaveSignalled (p + 1) h → sent a p (e ∷ h) ≡ sent a p h
+sent_stays : (l : Limits) (ops : List Op) (p a : ℕ) (e : Event) (h : List Event)
+    → is_legal l ops (e ∷ h) ≡ true → HaveSignalled (p + 1) h → sent a p (e ∷ h) ≡ sent a p h
 sent_stays l ops p a (Send u b v) h k s =
     let f = (last_follows l ops h (Send u b v) k).permitted in
     let c = and_parts (is_live u h && has_mode can_signal u h) (nat_lt b (length ops)) f in
     let d = and_parts (is_live u h) (has_mode can_signal u h) c.0 in
     let ahead : p + 1 ≤ signals u h = s u d.0 d.1 in
-    not_of (b == a) (signals u h == p) v (sent a p h) (ne_eqb (signals u h) p (λ e. absurd (omega (arith, ahead, e))))
+    not_of (b == a) (signals u h == p) v (sent a p h)
+    (ne_eqb (signals u h) p (λ e. absurd (omega (arith, ahead, e))))
 sent_stays l ops p a e h k s = refl
 
 -- a closed phase is closed later, and its values are the same
-closed_stays : (l : Limits) (ops : List Op) (later before : List Event) (p a : ℕ) → is_legal l ops (later ++ before) ≡ true → is_empty before ≡ false → HaveSignalled (p + 1) before
+closed_stays : (l : Limits) (ops : List Op) (later before : List Event) (p a : ℕ)
+    → is_legal l ops (later ++ before) ≡ true → is_empty before ≡ false → HaveSignalled (p + 1) before
     → HaveSignalled (p + 1) (later ++ before) × (sent a p (later ++ before) ≡ sent a p before)
 closed_stays l ops [] before p a k some s = (s, refl)
 closed_stays l ops (e ∷ later) before p a k some s =
@@ -70,33 +73,54 @@ record Saw (ops : List Op) (h : List Event) (t a : ℕ) (x : Look) : Type 0 wher
   pub turned : 0 < waits t h
   pub value : x ≡ look_of ops a (waits t h) h
 
-saw : (l : Limits) (ops : List Op) (h : List Event) (t a : ℕ) (x : Look) → is_legal l ops (Looked t a x ∷ h) ≡ true → Saw ops h t a x
+saw : (l : Limits) (ops : List Op) (h : List Event) (t a : ℕ) (x : Look)
+    → is_legal l ops (Looked t a x ∷ h) ≡ true → Saw ops h t a x
 saw l ops h t a x k =
     let f = (last_follows l ops h (Looked t a x) k).permitted in
     let same = same_look x (look_of ops a (waits t h) h) in
-    let b = and_parts (is_live t h && has_mode can_wait t h && nat_lt a (length ops) && nat_lt 0 (waits t h)) same f in
-    let c = and_parts (is_live t h && has_mode can_wait t h && nat_lt a (length ops)) (nat_lt 0 (waits t h)) b.0 in
+    let b =
+    and_parts (is_live t h && has_mode can_wait t h && nat_lt a (length ops) && nat_lt 0 (waits t h)) same
+    f in
+    let c =
+    and_parts (is_live t h && has_mode can_wait t h && nat_lt a (length ops))
+    (nat_lt 0 (waits t h)) b.0 in
     let d = and_parts (is_live t h && has_mode can_wait t h) (nat_lt a (length ops)) c.0 in
     let e = and_parts (is_live t h) (has_mode can_wait t h) d.0 in
-    record { waiter = e.1; some = some_live t h e.0; turned = ltb-true 0 (waits t h) c.1; value = same_looks x (look_of ops a (waits t h) h) b.1 }
+    record {
+      waiter = e.1;
+      some = some_live t h e.0;
+      turned = ltb-true 0 (waits t h) c.1;
+      value = same_looks x (look_of ops a (waits t h) h) b.1;
+    }
 
 pub legal_is_folded : (l : Limits) (ops : List Op) (h : List Event) → is_legal l ops h ≡ true → IsFolded ops h
 legal_is_folded l ops h k =
     record {
       stays = λ later before p a is some c.
-          let here : is_legal l ops (later ++ before) ≡ true = subst (λ (g : List Event). is_legal l ops g ≡ true) is k in
-          let r = closed_stays l ops later before p a here some (as_signalled p before c) in
-          (subst (λ (g : List Event). IsClosed p g) (sym is) (as_closed p (later ++ before) r.0), subst (λ (g : List Event). sent a p g ≡ sent a p before) (sym is) r.1);
+          let here : is_legal l ops (later ++ before) ≡ true =
+          subst (λ (g : List Event). is_legal l ops g ≡ true) is k in
+          let r = closed_stays l ops later before p a here some (as_signalled p before c) in (
+            subst (λ (g : List Event). IsClosed p g) (sym is) (as_closed p (later ++ before) r.0),
+            subst (λ (g : List Event). sent a p g ≡ sent a p before) (sym is) r.1,
+          );
       seen = λ later before t a x is.
-          let here : is_legal l ops (later ++ Looked t a x ∷ before) ≡ true = subst (λ (g : List Event). is_legal l ops g ≡ true) is k in
-          let look : is_legal l ops (Looked t a x ∷ before) ≡ true = is_legal-rest l ops later (Looked t a x ∷ before) here in
+          let here : is_legal l ops (later ++ Looked t a x ∷ before) ≡ true =
+          subst (λ (g : List Event). is_legal l ops g ≡ true) is k in
+          let look : is_legal l ops (Looked t a x ∷ before) ≡ true =
+          is_legal-rest l ops later (Looked t a x ∷ before) here in
           let s = saw l ops before t a x look in
           let p = waits t before - 1 in
           let less : p < waits t before = omega (arith, s.turned) in
-          let over = (over_behind l ops before (last_follows l ops before (Looked t a x) look).before t p s.waiter less).closed in
+          let over =
+          (over_behind l ops before
+          (last_follows l ops before (Looked t a x) look).before t p s.waiter less).closed in
           let r = closed_stays l ops later (Looked t a x ∷ before) p a here refl over in
-          let values : sent a p h ≡ sent a p before = subst (λ (g : List Event). sent a p g ≡ sent a p before) (sym is) r.1 in
-          (as_closed p before over, s.value ∙ sym (ap (λ vs. option_map_or (λ op. fold op vs) (slice_get ops a) Nothing) values));
+          let values : sent a p h ≡ sent a p before =
+          subst (λ (g : List Event). sent a p g ≡ sent a p before) (sym is) r.1 in (
+            as_closed p before over,
+            s.value
+                ∙ sym (ap (λ vs. option_map_or (λ op. fold op vs) (slice_get ops a) Nothing) values),
+          );
     }
 
 pub phasers_folded : PhasersAreFolded

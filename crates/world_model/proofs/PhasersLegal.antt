@@ -30,7 +30,8 @@ false_is_not : false ≡ true → ⊥
 false_is_not h = absurd cc
 
 -- what is next on phaser n: the claim where it is permitted, the report next, the pass else
-claim_by : (b c : Bool) (m u n t : ℕ) → same_event (cond b (Phaser m (Claim u)) (cond c (Phaser m (Did u)) (Phaser m (Pass u)))) (Phaser n (Claim t)) ≡ true
+claim_by : (b c : Bool) (m u n t : ℕ) → same_event
+    (cond b (Phaser m (Claim u)) (cond c (Phaser m (Did u)) (Phaser m (Pass u)))) (Phaser n (Claim t)) ≡ true
     → (b ≡ true) × (m ≡ n) × (u ≡ t)
 claim_by true c m u n t k =
     let a = and_parts (m == n) (u == t) k in
@@ -38,7 +39,8 @@ claim_by true c m u n t k =
 claim_by false true m u n t k = absurd (false_is_not (and_parts (m == n) false k).1)
 claim_by false false m u n t k = absurd (false_is_not (and_parts (m == n) false k).1)
 
-pass_by : (b c : Bool) (m u n t : ℕ) → same_event (cond b (Phaser m (Claim u)) (cond c (Phaser m (Did u)) (Phaser m (Pass u)))) (Phaser n (Pass t)) ≡ true
+pass_by : (b c : Bool) (m u n t : ℕ) → same_event
+    (cond b (Phaser m (Claim u)) (cond c (Phaser m (Did u)) (Phaser m (Pass u)))) (Phaser n (Pass t)) ≡ true
     → (b ≡ false) × (m ≡ n) × (u ≡ t)
 pass_by false false m u n t k =
     let a = and_parts (m == n) (u == t) k in
@@ -53,20 +55,24 @@ may_claim l w n t = is_permitted l (ops_of n w) (phaser_past n w) (Claimed t)
 module _ (l : Limits) (w : List WorldEvent) (n t : ℕ) where
   -- a claim that is next is permitted
   claim_from : (o : Option WorldEvent) → ((d : WorldEvent) → o ≡ Some d → is_plain d ≡ true)
-      → option_map_or (λ d. same_event d (Phaser n (Claim t))) (option_map (or_single l w) o) false ≡ true → may_claim l w n t ≡ true
+      → option_map_or (λ d. same_event d (Phaser n (Claim t))) (option_map (or_single l w) o) false ≡ true
+      → may_claim l w n t ≡ true
   claim_from None p k = absurd cc
   claim_from (Some (Phaser m (Pass u))) p k =
-      let a = claim_by (may_claim l w m u) (is_permitted l (ops_of m w) (phaser_past m w) (Done u)) m u n t k in
+      let a =
+      claim_by (may_claim l w m u) (is_permitted l (ops_of m w) (phaser_past m w) (Done u)) m u n t k in
       subst (λ v. may_claim l w n v ≡ true) a.2 (subst (λ v. may_claim l w v u ≡ true) a.1 a.0)
   claim_from (Some (Phaser m (Claim u))) p k = absurd (false_is_not (p (Phaser m (Claim u)) refl))
   claim_from (Some (Phaser m s)) p k = absurd (false_is_not (and_parts (m == n) false k).1)
   claim_from (Some d) p k = absurd cc
 
   -- a pass that is next comes where no claim is permitted
-  pass_from : (o : Option WorldEvent) → option_map_or (λ d. same_event d (Phaser n (Pass t))) (option_map (or_single l w) o) false ≡ true → may_claim l w n t ≡ false
+  pass_from : (o : Option WorldEvent) → option_map_or (λ d. same_event d (Phaser n (Pass t)))
+      (option_map (or_single l w) o) false ≡ true → may_claim l w n t ≡ false
   pass_from None k = absurd cc
   pass_from (Some (Phaser m (Pass u))) k =
-      let a = pass_by (may_claim l w m u) (is_permitted l (ops_of m w) (phaser_past m w) (Done u)) m u n t k in
+      let a =
+      pass_by (may_claim l w m u) (is_permitted l (ops_of m w) (phaser_past m w) (Done u)) m u n t k in
       subst (λ v. may_claim l w n v ≡ false) a.2 (subst (λ v. may_claim l w v u ≡ false) a.1 a.0)
   pass_from (Some (Phaser m s)) k = absurd (false_is_not (and_parts (m == n) false k).1)
   pass_from (Some d) k = absurd cc
@@ -85,10 +91,12 @@ abbrev pub IsAllowedStep : Limits → List WorldEvent → ℕ → Step → Type 
 IsAllowedStep l w n s = is_allowed l (ops_of n w) (phaser_past n w) (event_of n w s) ≡ true
 
 module _ (l : Limits) (w : List WorldEvent) (n : ℕ) where
-  acted : (s : Step) → is_made (phaser_reply l w n s) ≡ true → is_allowed l (ops_of n w) (phaser_past n w) (phaser.event_for l (ops_of n w) (phaser_past n w) (call_for s)) ≡ true
+  acted : (s : Step) → is_made (phaser_reply l w n s) ≡ true → is_allowed l (ops_of n w) (phaser_past n w)
+      (phaser.event_for l (ops_of n w) (phaser_past n w) (call_for s)) ≡ true
   acted s k = call_allowed (story_of l n w) (call_for s) k
 
-  part_acted : (s : Step) → is_made (next_reply l w (Phaser n s)) ≡ true → is_allowed l (ops_of n w) (phaser_past n w) (phaser.event_for l (ops_of n w) (phaser_past n w) (call_for s)) ≡ true
+  part_acted : (s : Step) → is_made (next_reply l w (Phaser n s)) ≡ true → is_allowed l (ops_of n w)
+      (phaser_past n w) (phaser.event_for l (ops_of n w) (phaser_past n w) (call_for s)) ≡ true
   part_acted s k = acted s (part_made l w (Phaser n s) k).1
 
   -- an accepted step is one that the phaser's history allows
@@ -112,17 +120,22 @@ no_events [] e = refl
 no_events (x ∷ h) e = absurd cc
 
 -- a phaser that is made was not there before
-pub new_past : (l : Limits) (w : List WorldEvent) (n t : ℕ) (m : Mode) (ops : List Op) → is_accepted l w (Phaser n (Make t m ops)) ≡ true → phaser_past n w ≡ []
+pub new_past : (l : Limits) (w : List WorldEvent) (n t : ℕ) (m : Mode) (ops : List Op)
+    → is_accepted l w (Phaser n (Make t m ops)) ≡ true → phaser_past n w ≡ []
 new_past l w n t m ops k =
     let h = phaser_past n w in
-    let a = and_parts (is_permitted l (ops_of n w) h (Made t m)) (phase_room l (Made t m ∷ h)) (step_allowed l w n (Make t m ops) k) in
+    let a =
+    and_parts (is_permitted l (ops_of n w) h (Made t m)) (phase_room l (Made t m ∷ h))
+    (step_allowed l w n (Make t m ops) k) in
     no_events h (and_parts (is_empty h) (nat_lt t l.tasks) a.0).0
 
 -- a made phaser's first event stays allowed under its own operators
-make_alone : (l : Limits) (o ops : List Op) (h : List Event) (t : ℕ) (m : Mode) → h ≡ [] → is_allowed l o h (Made t m) ≡ true → is_legal l ops (Made t m ∷ h) ≡ true
+make_alone : (l : Limits) (o ops : List Op) (h : List Event) (t : ℕ) (m : Mode) → h ≡ []
+    → is_allowed l o h (Made t m) ≡ true → is_legal l ops (Made t m ∷ h) ≡ true
 make_alone l o ops h t m e k =
     subst (λ g. is_legal l ops (Made t m ∷ g) ≡ true) (sym e)
-    (and_from (is_allowed l ops [] (Made t m)) true (subst (λ g. is_allowed l o g (Made t m) ≡ true) e k) refl)
+    (and_from (is_allowed l ops [] (Made t m)) true
+    (subst (λ g. is_allowed l o g (Made t m) ≡ true) e k) refl)
 
 abbrev pub PhaserLegal : Limits → ℕ → List WorldEvent → Type 0
 PhaserLegal l n w = is_legal l (ops_of n w) (phaser_past n w) ≡ true
@@ -134,31 +147,38 @@ module _ (l : Limits) (w : List WorldEvent) (n : ℕ) where
   stepped m s p k =
       elim (cases_Bool (m == n)) [
         | inl e ↦
-            rw e (and_from (is_allowed l (ops_of n w) (phaser_past n w) (event_of n w s)) (is_legal l (ops_of n w) (phaser_past n w))
-            (subst (λ v. is_allowed l (ops_of v w) (phaser_past v w) (event_of v w s) ≡ true) (eqb-true m n e) k) p)
+            rw e (and_from (is_allowed l (ops_of n w) (phaser_past n w) (event_of n w s))
+            (is_legal l (ops_of n w) (phaser_past n w))
+            (subst (λ v. is_allowed l (ops_of v w) (phaser_past v w) (event_of v w s) ≡ true)
+            (eqb-true m n e) k) p)
         | inr e ↦ rw e p
       ]
 
-  made : (m t : ℕ) (mode : Mode) (ops : List Op) → PhaserLegal l n w → IsAllowedStep l w m (Make t mode ops) → phaser_past m w ≡ []
+  made : (m t : ℕ) (mode : Mode) (ops : List Op) → PhaserLegal l n w → IsAllowedStep l w m (Make t mode ops)
+      → phaser_past m w ≡ []
       → PhaserLegal l n (Phaser m (Make t mode ops) ∷ w)
   made m t mode ops p k e =
       elim (cases_Bool (m == n)) [
         | inl same ↦
             let here : m ≡ n = eqb-true m n same in
-            rw same (make_alone l (ops_of n w) ops (phaser_past n w) t mode (subst (λ v. phaser_past v w ≡ []) here e)
+            rw same (make_alone l (ops_of n w) ops (phaser_past n w) t mode
+            (subst (λ v. phaser_past v w ≡ []) here e)
             (subst (λ v. is_allowed l (ops_of v w) (phaser_past v w) (Made t mode) ≡ true) here k))
         | inr other ↦ rw other p
       ]
 
-pub phasers_legal : (l : Limits) (w : List WorldEvent) → is_legal_world l w ≡ true → (n : ℕ) → PhaserLegal l n w
+pub phasers_legal : (l : Limits) (w : List WorldEvent) → is_legal_world l w ≡ true → (n : ℕ)
+    → PhaserLegal l n w
 phasers_legal l [] k n = refl
 phasers_legal l (Phaser m (Make t mode ops) ∷ w) k n =
     let a = last_accepted l (Phaser m (Make t mode ops)) w k in
-    made l w n m t mode ops (phasers_legal l w a.1 n) (step_allowed l w m (Make t mode ops) a.0) (new_past l w m t mode ops a.0)
+    made l w n m t mode ops (phasers_legal l w a.1 n) (step_allowed l w m (Make t mode ops) a.0)
+    (new_past l w m t mode ops a.0)
 phasers_legal l (Phaser m s ∷ w) k n =
     let a = last_accepted l (Phaser m s) w k in
     stepped l w n m s (phasers_legal l w a.1 n) (step_allowed l w m s a.0)
 phasers_legal l (e ∷ w) k n = phasers_legal l w (last_accepted l e w k).1 n
 
-pub phasers_ordered : (l : Limits) (w : List WorldEvent) → is_legal_world l w ≡ true → (n : ℕ) → IsOrdered (phaser_past n w)
+pub phasers_ordered : (l : Limits) (w : List WorldEvent) → is_legal_world l w ≡ true → (n : ℕ)
+    → IsOrdered (phaser_past n w)
 phasers_ordered l w k n = legal_is_ordered l (ops_of n w) (phaser_past n w) (phasers_legal l w k n)

@@ -76,7 +76,9 @@ pass_moves t (n ∷ ns) =
     let p = pass_moves t ns in
     record {
       own = and_from (t == t) (list_all (is_move t) (passes_of t ns)) (eq-eqb t t refl) p.own;
-      first = and_from (not (list_any is_any_sig (passes_of t ns))) (sigs_first (passes_of t ns)) (ap (λ b. not b) (no_sigs t ns)) p.first;
+      first =
+          and_from (not (list_any is_any_sig (passes_of t ns))) (sigs_first (passes_of t ns))
+          (ap (λ b. not b) (no_sigs t ns)) p.first;
       lone = p.lone;
     }
 
@@ -84,21 +86,36 @@ plain_moves : (t : ℕ) (ns ms : List ℕ) → Moves t (sigs_of t None ns ++ pas
 plain_moves t [] ms = pass_moves t ms
 plain_moves t (n ∷ ns) ms =
     let p = plain_moves t ns ms in
-    record { own = and_from (t == t) (list_all (is_move t) (sigs_of t None ns ++ passes_of t ms)) (eq-eqb t t refl) p.own; first = p.first; lone = p.lone }
+    record {
+      own = and_from (t == t) (list_all (is_move t) (sigs_of t None ns ++ passes_of t ms))
+          (eq-eqb t t refl) p.own;
+      first = p.first;
+      lone = p.lone;
+    }
 
 sig_moves : (t : ℕ) (ns : List ℕ) → Moves t (sigs_of t None ns)
 sig_moves t [] = record { own = refl; first = refl; lone = refl }
 sig_moves t (n ∷ ns) =
     let p = sig_moves t ns in
-    record { own = and_from (t == t) (list_all (is_move t) (sigs_of t None ns)) (eq-eqb t t refl) p.own; first = p.first; lone = p.lone }
+    record {
+      own = and_from (t == t) (list_all (is_move t) (sigs_of t None ns)) (eq-eqb t t refl) p.own;
+      first = p.first;
+      lone = p.lone;
+    }
 
-single_moves : (t x : ℕ) (p : ℕ → Bool) (ns : List ℕ) → is_one ns ≡ true → Moves t (sigs_of t (Some x) (filter p ns) ++ passes_of t ns)
+single_moves : (t x : ℕ) (p : ℕ → Bool) (ns : List ℕ) → is_one ns ≡ true
+    → Moves t (sigs_of t (Some x) (filter p ns) ++ passes_of t ns)
 single_moves t x p [] k = absurd (false≢true k)
 single_moves t x p (n ∷ m ∷ ns) k = absurd (false≢true k)
 single_moves t x p (n ∷ []) k =
     let self : (t == t) ≡ true = eq-eqb t t refl in
     elim (p n) as (λ b. Moves t (sigs_of t (Some x) (cond b (n ∷ []) []) ++ passes_of t (n ∷ []))) [
-      | true ↦ record { own = rw self refl; first = refl; lone = and_from (n == n) (t == t) (eq-eqb n n refl) self }
+      | true ↦
+          record {
+            own = rw self refl;
+            first = refl;
+            lone = and_from (n == n) (t == t) (eq-eqb n n refl) self;
+          }
       | false ↦ pass_moves t (n ∷ [])
     ]
 
@@ -107,12 +124,15 @@ pub record SingleAsked (t : ℕ) (w : List WorldEvent) : Type 0 where
   pub one : is_one (phasers_of t w) ≡ true
   pub single : list_any (λ n. not (has_mode can_single t (phaser_past n w))) (phasers_of t w) ≡ false
 
-pub single_asked : (l : Limits) (w : List WorldEvent) (t x : ℕ) → is_accepted l w (Begin t (NextSingle x)) ≡ true → SingleAsked t w
+pub single_asked : (l : Limits) (w : List WorldEvent) (t x : ℕ)
+    → is_accepted l w (Begin t (NextSingle x)) ≡ true → SingleAsked t w
 single_asked l w t x a =
     let ns = phasers_of t w in
     let single = list_all (λ n. has_mode can_single t (phaser_past n w)) ns in
     let ahead : Refusal × Bool = (AlreadySignalled, not (list_any (λ n. is_ahead t (phaser_past n w)) ns)) in
-    let c = no_refusal OnePhaserOnly (is_one ns) ((NoSingle, single) ∷ ahead ∷ []) (begin_asked l w t (NextSingle x) a) in
+    let c =
+    no_refusal OnePhaserOnly (is_one ns) ((NoSingle, single) ∷ ahead ∷ [])
+    (begin_asked l w t (NextSingle x) a) in
     let d = no_refusal NoSingle single (ahead ∷ []) c.1 in
     record { one = c.0; single = none_fails (λ n. has_mode can_single t (phaser_past n w)) ns d.0 }
   where
@@ -141,18 +161,25 @@ less_moves t (d ∷ ds) p =
     after_pass n (Phaser m (Pass u) ∷ []) k = refl
     after_pass n ds k = absurd cc
 
-    later_lone : (d : WorldEvent) (ds : List WorldEvent) → lone_single t (d ∷ ds) ≡ true → lone_single t ds ≡ true
+    later_lone : (d : WorldEvent) (ds : List WorldEvent) → lone_single t (d ∷ ds) ≡ true
+        → lone_single t ds ≡ true
     later_lone (Phaser n (Sig u (Some x))) ds k = after_pass n ds k
     later_lone d ds k = k
 
-entry_moves : (l : Limits) (t : ℕ) (e : WorldEvent) (w : List WorldEvent) → is_legal_world l (e ∷ w) ≡ true → is_entry t e ≡ true → moves_act (Some e) ≡ true → Moves t (fixed e w)
-entry_moves l t (Begin u Signal) w k n q = subst (λ v. Moves v (sigs_of u None (filter (λ m. is_behind u (phaser_past m w)) (phasers_of u w)))) (eqb-true u t n) (sig_moves u (filter (λ m. is_behind u (phaser_past m w)) (phasers_of u w)))
-entry_moves l t (Begin u Wait) w k n q = subst (λ v. Moves v (passes_of u (phasers_of u w))) (eqb-true u t n) (pass_moves u (phasers_of u w))
+entry_moves : (l : Limits) (t : ℕ) (e : WorldEvent) (w : List WorldEvent) → is_legal_world l (e ∷ w) ≡ true
+    → is_entry t e ≡ true → moves_act (Some e) ≡ true → Moves t (fixed e w)
+entry_moves l t (Begin u Signal) w k n q =
+    subst (λ v. Moves v (sigs_of u None (filter (λ m. is_behind u (phaser_past m w)) (phasers_of u w))))
+    (eqb-true u t n) (sig_moves u (filter (λ m. is_behind u (phaser_past m w)) (phasers_of u w)))
+entry_moves l t (Begin u Wait) w k n q =
+    subst (λ v. Moves v (passes_of u (phasers_of u w))) (eqb-true u t n) (pass_moves u (phasers_of u w))
 entry_moves l t (Begin u Next) w k n q =
-    subst (λ v. Moves v (fixed_by u Next w)) (eqb-true u t n) (plain_moves u (filter (λ m. is_behind u (phaser_past m w)) (phasers_of u w)) (phasers_of u w))
+    subst (λ v. Moves v (fixed_by u Next w)) (eqb-true u t n)
+    (plain_moves u (filter (λ m. is_behind u (phaser_past m w)) (phasers_of u w)) (phasers_of u w))
 entry_moves l t (Begin u (NextSingle x)) w k n q =
     subst (λ v. Moves v (fixed_by u (NextSingle x) w)) (eqb-true u t n)
-    (single_moves u x (λ m. is_behind u (phaser_past m w)) (phasers_of u w) (single_asked l w u x (last_accepted l (Begin u (NextSingle x)) w k).0).one)
+    (single_moves u x (λ m. is_behind u (phaser_past m w)) (phasers_of u w)
+    (single_asked l w u x (last_accepted l (Begin u (NextSingle x)) w k).0).one)
 entry_moves l t (Begin u Shut) w k n q = absurd (false≢true q)
 entry_moves l t (Begin u End) w k n q = absurd (false≢true q)
 entry_moves l t (Begin u (Async c ps)) w k n q = absurd (false≢true q)
@@ -162,5 +189,8 @@ entry_moves l t (Phaser m s) w k n q = absurd (false≢true n)
 entry_moves l t (Finish f s) w k n q = absurd (false≢true n)
 
 -- what is due to a task that signals or turns
-pub moves : (l : Limits) (t : ℕ) (w : List WorldEvent) → is_legal_world l w ≡ true → moves_act (last_entry t w) ≡ true → Moves t (due t w)
-moves l t w k q = due_has l t moves_act (Moves t) (record { own = refl; first = refl; lone = refl }) (less_moves t) (λ e v h x y. entry_moves l t e v h x y) w k q
+pub moves : (l : Limits) (t : ℕ) (w : List WorldEvent) → is_legal_world l w ≡ true
+    → moves_act (last_entry t w) ≡ true → Moves t (due t w)
+moves l t w k q =
+    due_has l t moves_act (Moves t) (record { own = refl; first = refl; lone = refl }) (less_moves t)
+    (λ e v h x y. entry_moves l t e v h x y) w k q

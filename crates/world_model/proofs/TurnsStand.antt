@@ -1,4 +1,5 @@
--- While a task signals or turns, it stands on each phaser where the signals and passes that are due say that it stands.
+-- While a task signals or turns,
+-- it stands on each phaser where the signals and passes that are due say that it stands.
 use Rattle.std.proofs.Common.{◌≡◌, ℕ, ◌+◌, ◌≤◌, Bool, true, false, ◌||◌, ◌==◌, cond, List, [], ◌∷◌, ◌++◌, Option, Some, None, refl, sym, subst, ap, ◌∙◌, inl, inr, arith}
 use Rattle.std.specs.Prelude.{filter}
 use Rattle.std.specs.List.{list_any}
@@ -32,17 +33,28 @@ how_many p [] = 0
 how_many p (d ∷ ds) = cond (p d) (how_many p ds + 1) (how_many p ds)
 
 pub record Turning (t : ℕ) (w ds : List WorldEvent) : Type 0 where
-  pub sigs : (n : ℕ) → list_any (is_sig_on n) ds ≡ true → (is_live t (phaser_past n w) ≡ true) × (is_behind t (phaser_past n w) ≡ true)
+  pub sigs : (n : ℕ) → list_any (is_sig_on n) ds ≡ true
+      → (is_live t (phaser_past n w) ≡ true) × (is_behind t (phaser_past n w) ≡ true)
   pub once : (n : ℕ) → how_many (is_sig_on n) ds ≤ 1
-  pub passes : (n : ℕ) → list_any (is_pass_on n) ds ≡ true → (is_live t (phaser_past n w) ≡ true) × (is_behind t (phaser_past n w) ≡ true → list_any (is_sig_on n) ds ≡ true)
+  pub passes : (n : ℕ) → list_any (is_pass_on n) ds ≡ true → (is_live t (phaser_past n w) ≡ true)
+      × (is_behind t (phaser_past n w) ≡ true → list_any (is_sig_on n) ds ≡ true)
   pub singles : (n : ℕ) → list_any (is_single_on n) ds ≡ true → has_mode can_single t (phaser_past n w) ≡ true
 
 pub nothing_turns : (t : ℕ) (w : List WorldEvent) → Turning t w []
-nothing_turns t w = record { sigs = λ n h. absurd (false≢true h); once = λ n. omega arith; passes = λ n h. absurd (false≢true h); singles = λ n h. absurd (false≢true h) }
+nothing_turns t w =
+    record {
+      sigs = λ n h. absurd (false≢true h);
+      once = λ n. omega arith;
+      passes = λ n h.
+          absurd (false≢true h);
+      singles = λ n h. absurd (false≢true h);
+    }
 
 -- what is counted at most once, and stands first, isn't there again
-pub first_is_last : (p : WorldEvent → Bool) (d : WorldEvent) (ds : List WorldEvent) → how_many p (d ∷ ds) ≤ 1 → p d ≡ true → list_any p ds ≡ false
-first_is_last p d ds k h = none p ds (less (how_many p ds) (subst (λ b. cond b (how_many p ds + 1) (how_many p ds) ≤ 1) h k))
+pub first_is_last : (p : WorldEvent → Bool) (d : WorldEvent) (ds : List WorldEvent) → how_many p (d ∷ ds) ≤ 1
+    → p d ≡ true → list_any p ds ≡ false
+first_is_last p d ds k h =
+    none p ds (less (how_many p ds) (subst (λ b. cond b (how_many p ds + 1) (how_many p ds) ≤ 1) h k))
   where
     less : (x : ℕ) → x + 1 ≤ 1 → x ≤ 0
     less x y = omega arith
@@ -58,9 +70,13 @@ first_is_last p d ds k h = none p ds (less (how_many p ds) (subst (λ b. cond b 
         too_many : (x : ℕ) → x + 1 ≤ 0 → ⊥
         too_many x h = omega arith
 
-pub fewer : (p : WorldEvent → Bool) (d : WorldEvent) (ds : List WorldEvent) → how_many p (d ∷ ds) ≤ 1 → how_many p ds ≤ 1
+pub fewer : (p : WorldEvent → Bool) (d : WorldEvent) (ds : List WorldEvent) → how_many p (d ∷ ds) ≤ 1
+    → how_many p ds ≤ 1
 fewer p d ds k =
-    (elim (p d) as (λ b. cond b (how_many p ds + 1) (how_many p ds) ≤ 1 → how_many p ds ≤ 1) [ true ↦ λ h. less (how_many p ds) h | false ↦ λ h. h ]) k
+    (elim (p d) as (λ b. cond b (how_many p ds + 1) (how_many p ds) ≤ 1 → how_many p ds ≤ 1) [
+      | true ↦ λ h. less (how_many p ds) h
+      | false ↦ λ h. h
+    ]) k
   where
     less : (x : ℕ) → x + 1 ≤ 1 → x ≤ 1
     less x h = omega arith
@@ -86,7 +102,8 @@ pub singles_not : (t n : ℕ) (ns : List ℕ) → list_any (is_single_on n) (pas
 singles_not t n [] = refl
 singles_not t n (m ∷ ms) = singles_not t n ms
 
-pub plain_not : (t n : ℕ) (ns ms : List ℕ) → list_any (is_single_on n) (sigs_of t None ns ++ passes_of t ms) ≡ false
+pub plain_not : (t n : ℕ) (ns ms : List ℕ)
+    → list_any (is_single_on n) (sigs_of t None ns ++ passes_of t ms) ≡ false
 plain_not t n [] ms = singles_not t n ms
 plain_not t n (y ∷ ns) ms = plain_not t n ns ms
 
@@ -94,7 +111,8 @@ pub singles_there : (t n x : ℕ) (ns : List ℕ) → list_any (is_single_on n) 
 singles_there t n x [] = refl
 singles_there t n x (m ∷ ms) = ap (λ b. (m == n) || b) (singles_there t n x ms)
 
-counted : (t n : ℕ) (x : Option ℕ) (ns ms : List ℕ) → how_many (is_sig_on n) (sigs_of t x ns ++ passes_of t ms) ≡ times n ns
+counted : (t n : ℕ) (x : Option ℕ) (ns ms : List ℕ)
+    → how_many (is_sig_on n) (sigs_of t x ns ++ passes_of t ms) ≡ times n ns
 counted t n x [] [] = refl
 counted t n x [] (m ∷ ms) = counted t n x [] ms
 counted t n x (y ∷ ns) ms = ap (λ r. cond (y == n) (r + 1) r) (counted t n x ns ms)
@@ -133,45 +151,63 @@ module _ (l : Limits) (t : ℕ) (w : List WorldEvent) (k : is_legal_world l w �
   abbrev pub behinds : List ℕ
   behinds = filter (λ m. is_behind t (phaser_past m w)) (phasers_of t w)
 
-  pub behinds_are : (n : ℕ) → has n behinds ≡ true → (is_live t (phaser_past n w) ≡ true) × (is_behind t (phaser_past n w) ≡ true)
+  pub behinds_are : (n : ℕ) → has n behinds ≡ true
+      → (is_live t (phaser_past n w) ≡ true) × (is_behind t (phaser_past n w) ≡ true)
   behinds_are n h =
-      let p = and_parts (is_behind t (phaser_past n w)) (has n (phasers_of t w)) (sym (has-filter (λ m. is_behind t (phaser_past m w)) n (phasers_of t w)) ∙ h) in
+      let p =
+      and_parts (is_behind t (phaser_past n w)) (has n (phasers_of t w))
+      (sym (has-filter (λ m. is_behind t (phaser_past m w)) n (phasers_of t w)) ∙ h) in
       (listed_live n p.1, p.0)
 
   -- signals where it is behind, and perhaps a pass everywhere
   pub both_turn : (x : Option ℕ) (ms : List ℕ) → ((n : ℕ) → has n ms ≡ true → has n (phasers_of t w) ≡ true)
-      → ((n : ℕ) → list_any (is_single_on n) (sigs_of t x behinds ++ passes_of t ms) ≡ true → has_mode can_single t (phaser_past n w) ≡ true)
+      → ((n : ℕ) → list_any (is_single_on n) (sigs_of t x behinds ++ passes_of t ms) ≡ true
+      → has_mode can_single t (phaser_past n w) ≡ true)
       → Turning t w (sigs_of t x behinds ++ passes_of t ms)
   both_turn x ms among singles =
       record {
         sigs = λ n h. behinds_are n (
-            elim (or_cases (list_any (is_sig_on n) (sigs_of t x behinds)) (list_any (is_sig_on n) (passes_of t ms)) (sym (list_any-append (is_sig_on n) (sigs_of t x behinds) (passes_of t ms)) ∙ h)) [
+            elim (or_cases (list_any (is_sig_on n) (sigs_of t x behinds))
+            (list_any (is_sig_on n) (passes_of t ms))
+            (sym (list_any-append (is_sig_on n) (sigs_of t x behinds) (passes_of t ms)) ∙ h)) [
               | inl y ↦ sym (sigs_there t n x behinds) ∙ y
               | inr y ↦ absurd (true≢false (sym y ∙ sigs_not t n ms))
             ]);
-        once = λ n. subst (λ r. r ≤ 1) (sym (counted t n x behinds ms ∙ times-filter (λ m. is_behind t (phaser_past m w)) n (phasers_of t w))) (at_most (is_behind t (phaser_past n w)) (times n (phasers_of t w)) (live_once n));
+        once =
+            λ n. subst (λ r. r ≤ 1) (sym (counted t n x behinds ms
+            ∙ times-filter (λ m. is_behind t (phaser_past m w)) n (phasers_of t w)))
+            (at_most (is_behind t (phaser_past n w)) (times n (phasers_of t w)) (live_once n));
         passes = λ n h.
-            elim (or_cases (list_any (is_pass_on n) (sigs_of t x behinds)) (list_any (is_pass_on n) (passes_of t ms)) (sym (list_any-append (is_pass_on n) (sigs_of t x behinds) (passes_of t ms)) ∙ h)) [
+            elim (or_cases (list_any (is_pass_on n) (sigs_of t x behinds))
+            (list_any (is_pass_on n) (passes_of t ms))
+            (sym (list_any-append (is_pass_on n) (sigs_of t x behinds) (passes_of t ms)) ∙ h)) [
               | inl y ↦ absurd (true≢false (sym y ∙ passes_not t n x behinds))
               | inr y ↦
                   let listed = among n (sym (passes_there t n ms) ∙ y) in (
                     listed_live n listed,
                     λ b.
                         list_any-append (is_sig_on n) (sigs_of t x behinds) (passes_of t ms)
-                        ∙ or_left (list_any (is_sig_on n) (sigs_of t x behinds)) (list_any (is_sig_on n) (passes_of t ms))
-                        (sigs_there t n x behinds ∙ (has-filter (λ m. is_behind t (phaser_past m w)) n (phasers_of t w) ∙ and_from (is_behind t (phaser_past n w)) (has n (phasers_of t w)) b listed)),
+                        ∙ or_left (list_any (is_sig_on n) (sigs_of t x behinds))
+                        (list_any (is_sig_on n) (passes_of t ms))
+                        (sigs_there t n x behinds
+                        ∙ (has-filter (λ m. is_behind t (phaser_past m w)) n (phasers_of t w) ∙ and_from
+                        (is_behind t (phaser_past n w)) (has n (phasers_of t w)) b listed)),
                   )
             ];
         singles = singles;
       }
 
   -- where none is behind, the passes alone
-  pub wait_turn : ((n : ℕ) → has n (phasers_of t w) ≡ true → is_behind t (phaser_past n w) ≡ false) → Turning t w (passes_of t (phasers_of t w))
+  pub wait_turn : ((n : ℕ) → has n (phasers_of t w) ≡ true → is_behind t (phaser_past n w) ≡ false)
+      → Turning t w (passes_of t (phasers_of t w))
   wait_turn none =
       record {
         sigs = λ n h. absurd (true≢false (sym h ∙ sigs_not t n (phasers_of t w)));
         once = λ n. subst (λ r. r ≤ 1) (sym (counted t n None [] (phasers_of t w))) (omega arith);
-        passes = λ n h. let listed = sym (passes_there t n (phasers_of t w)) ∙ h in (listed_live n listed, λ b. absurd (true≢false (sym b ∙ none n listed)));
+        passes =
+            λ n h. let listed =
+            sym (passes_there t n (phasers_of t w)) ∙ h in
+            (listed_live n listed, λ b. absurd (true≢false (sym b ∙ none n listed)));
         singles = λ n h. absurd (true≢false (sym h ∙ singles_not t n (phasers_of t w)));
       }
 
@@ -180,4 +216,7 @@ pub none_at : (p : ℕ → Bool) (ns : List ℕ) (n : ℕ) → list_any p ns ≡
 none_at p [] n k h = absurd (false≢true h)
 none_at p (m ∷ ms) n k h =
     let a = or_parts (p m) (list_any p ms) k in
-    elim (or_cases (m == n) (has n ms) h) [ inl e ↦ subst (λ v. p v ≡ false) (eqb-true m n e) a.0 | inr e ↦ none_at p ms n a.1 e ]
+    elim (or_cases (m == n) (has n ms) h) [
+      | inl e ↦ subst (λ v. p v ≡ false) (eqb-true m n e) a.0
+      | inr e ↦ none_at p ms n a.1 e
+    ]

@@ -27,32 +27,61 @@ pub alike_same : (t : ℕ) (h : List Event) → IsAlike t h h
 alike_same t h = record { registered = refl; live = refl; mode = refl; waited = refl; signalled = refl }
 
 -- the step of another task
-alike_step : (t n : ℕ) (s : Step) (w : List WorldEvent) (h : List Event) → is_about t s ≡ false → IsAlike t (event_for (ops_of n w) (phaser_past n w) s ∷ h) h
-alike_step t n (Make u m ops) w h k = record { registered = rw k refl; live = rw k refl; mode = rw k refl; waited = rw k refl; signalled = rw k refl }
-alike_step t n (Reg q u m) w h k = record { registered = rw k refl; live = rw k refl; mode = rw k refl; waited = rw k refl; signalled = rw k refl }
-alike_step t n (Sig u x) w h k = record { registered = refl; live = refl; mode = refl; waited = refl; signalled = rw k refl }
-alike_step t n (Pass u) w h k = record { registered = refl; live = refl; mode = refl; waited = rw k refl; signalled = refl }
-alike_step t n (Drop u) w h k = record { registered = refl; live = rw k refl; mode = refl; waited = refl; signalled = refl }
-alike_step t n s w h k = record { registered = refl; live = refl; mode = refl; waited = refl; signalled = refl }
+alike_step : (t n : ℕ) (s : Step) (w : List WorldEvent) (h : List Event) → is_about t s ≡ false
+    → IsAlike t (event_for (ops_of n w) (phaser_past n w) s ∷ h) h
+alike_step t n (Make u m ops) w h k =
+    record {
+      registered = rw k refl;
+      live = rw k refl;
+      mode = rw k refl;
+      waited = rw k refl;
+      signalled = rw k refl;
+    }
+alike_step t n (Reg q u m) w h k =
+    record {
+      registered = rw k refl;
+      live = rw k refl;
+      mode = rw k refl;
+      waited = rw k refl;
+      signalled = rw k refl;
+    }
+alike_step t n (Sig u x) w h k =
+    record { registered = refl; live = refl; mode = refl; waited = refl; signalled = rw k refl }
+alike_step t n (Pass u) w h k =
+    record { registered = refl; live = refl; mode = refl; waited = rw k refl; signalled = refl }
+alike_step t n (Drop u) w h k =
+    record { registered = refl; live = rw k refl; mode = refl; waited = refl; signalled = refl }
+alike_step t n s w h k =
+    record { registered = refl; live = refl; mode = refl; waited = refl; signalled = refl }
 
-alike_by : (b : Bool) (t : ℕ) (e : Event) (h : List Event) → IsAlike t (e ∷ h) h → IsAlike t (cond b (e ∷ h) h) h
+alike_by : (b : Bool) (t : ℕ) (e : Event) (h : List Event) → IsAlike t (e ∷ h) h
+    → IsAlike t (cond b (e ∷ h) h) h
 alike_by true t e h k = k
 alike_by false t e h k = alike_same t h
 
-pub alike : (t n : ℕ) (e : WorldEvent) (w : List WorldEvent) → touches t e ≡ false → IsAlike t (phaser_past n (e ∷ w)) (phaser_past n w)
-alike t n (Phaser m s) w k = alike_by (m == n) t (event_for (ops_of n w) (phaser_past n w) s) (phaser_past n w) (alike_step t n s w (phaser_past n w) k)
+pub alike : (t n : ℕ) (e : WorldEvent) (w : List WorldEvent) → touches t e ≡ false
+    → IsAlike t (phaser_past n (e ∷ w)) (phaser_past n w)
+alike t n (Phaser m s) w k =
+    alike_by (m == n) t (event_for (ops_of n w) (phaser_past n w) s) (phaser_past n w)
+    (alike_step t n s w (phaser_past n w) k)
 alike t n (Finish f e) w k = alike_same t (phaser_past n w)
 alike t n (Begin u b) w k = alike_same t (phaser_past n w)
 alike t n (Refuse u a x) w k = alike_same t (phaser_past n w)
 alike t n (Fail u x) w k = alike_same t (phaser_past n w)
 
 -- a claim or a report leaves every task
-pub alike_single : (t n : ℕ) (e : WorldEvent) (w : List WorldEvent) → is_of_single e ≡ true → IsAlike t (phaser_past n (e ∷ w)) (phaser_past n w)
-alike_single t n (Phaser m (Claim u)) w k = alike_by (m == n) t (Claimed u) (phaser_past n w) (record { registered = refl; live = refl; mode = refl; waited = refl; signalled = refl })
-alike_single t n (Phaser m (Did u)) w k = alike_by (m == n) t (Done u) (phaser_past n w) (record { registered = refl; live = refl; mode = refl; waited = refl; signalled = refl })
+pub alike_single : (t n : ℕ) (e : WorldEvent) (w : List WorldEvent) → is_of_single e ≡ true
+    → IsAlike t (phaser_past n (e ∷ w)) (phaser_past n w)
+alike_single t n (Phaser m (Claim u)) w k =
+    alike_by (m == n) t (Claimed u) (phaser_past n w)
+    (record { registered = refl; live = refl; mode = refl; waited = refl; signalled = refl })
+alike_single t n (Phaser m (Did u)) w k =
+    alike_by (m == n) t (Done u) (phaser_past n w)
+    (record { registered = refl; live = refl; mode = refl; waited = refl; signalled = refl })
 alike_single t n e w k = absurd cc
 
-pub same_mode_test : (test : Mode → Bool) (t : ℕ) (g h : List Event) → IsAlike t g h → has_mode test t g ≡ has_mode test t h
+pub same_mode_test : (test : Mode → Bool) (t : ℕ) (g h : List Event) → IsAlike t g h
+    → has_mode test t g ≡ has_mode test t h
 same_mode_test test t g h a = rw a.mode refl
 
 not_joined : (t : ℕ) (e : WorldEvent) → touches t e ≡ false → joined_by t e ≡ None
@@ -62,10 +91,14 @@ not_joined t e k = refl
 
 filter_alike : (p q : ℕ → Bool) (xs : List ℕ) → ((x : ℕ) → p x ≡ q x) → filter p xs ≡ filter q xs
 filter_alike p q [] k = refl
-filter_alike p q (x ∷ xs) k = ap (λ b. cond b (x ∷ filter p xs) (filter p xs)) (k x) ∙ ap (λ ys. cond (q x) (x ∷ ys) ys) (filter_alike p q xs k)
+filter_alike p q (x ∷ xs) k =
+    ap (λ b. cond b (x ∷ filter p xs) (filter p xs)) (k x)
+    ∙ ap (λ ys. cond (q x) (x ∷ ys) ys) (filter_alike p q xs k)
 
 -- the task's phasers
-pub phasers_same : (t : ℕ) (e : WorldEvent) (w : List WorldEvent) → touches t e ≡ false → phasers_of t (e ∷ w) ≡ phasers_of t w
+pub phasers_same : (t : ℕ) (e : WorldEvent) (w : List WorldEvent) → touches t e ≡ false
+    → phasers_of t (e ∷ w) ≡ phasers_of t w
 phasers_same t e w k =
     rw (not_joined t e k)
-    (filter_alike (λ n. is_live t (phaser_past n (e ∷ w))) (λ n. is_live t (phaser_past n w)) (reverse (filter_map (joined_by t) w)) (λ n. (alike t n e w k).live))
+    (filter_alike (λ n. is_live t (phaser_past n (e ∷ w))) (λ n. is_live t (phaser_past n w))
+    (reverse (filter_map (joined_by t) w)) (λ n. (alike t n e w k).live))

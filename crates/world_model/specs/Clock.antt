@@ -17,7 +17,8 @@ is_turn Next = true
 is_turn (NextSingle n) = true
 is_turn _ = false
 
--- a child's clock is its spawner's when it is spawned; a turn is complete with its last pass, without phasers as soon as it is begun
+-- a child's clock is its spawner's when it is spawned;
+-- a turn is complete with its last pass, without phasers as soon as it is begun
 abbrev pub clock : ℕ → List WorldEvent → ℕ
 clock t [] = 0
 clock t (Finish f (Spawned u) ∷ w) = if u == t then clock (spawner t w) w else clock t w

@@ -40,13 +40,16 @@ leads_to_end _ = false
 abbrev pub clock_here : ℕ → ℕ → List WorldEvent → ℕ
 clock_here t n w = clock t w + (if has_passed t n w then 1 else 0)
 
--- on a phaser, a task that goes on has ended as many turns as its clock was raised since the phaser was made, and one more where it has passed in the turn under way; a task that was refused or failed stays where it was
+-- on a phaser, a task that goes on has ended as many turns as its clock was raised since the phaser was made,
+-- and one more where it has passed in the turn under way;
+-- a task that was refused or failed stays where it was
 abbrev pub ClocksAgree : Type 0
 ClocksAgree = OfEachWorld (λ l w. (t n : ℕ)
     → is_live t (phaser_past n w) ≡ true → is_born t w ≡ true → leads_to_end (last_entry t w) ≡ false
     → waits t (phaser_past n w) + base n w ≡ clock_here t n w)
 
--- each turn is an act that is counted, and a child goes on from its spawner's clock: so no clock passes the acts that all tasks may begin, 2^28 at most, far below what 32 bits hold
+-- each turn is an act that is counted, and a child goes on from its spawner's clock: so no clock passes the
+-- acts that all tasks may begin, 2^28 at most, far below what 32 bits hold
 abbrev pub ClocksFit : Type 0
 ClocksFit = OfEachWorld (λ l w. limits_fit l ≡ true
     → (t : ℕ) → (clock t w ≤ l.tasks * l.acts) × (clock t w ≤ 268435456))

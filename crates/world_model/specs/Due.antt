@@ -27,7 +27,8 @@ is_ahead t h = has_mode can_signal t h && not (signals t h == waits t h)
 abbrev pub is_behind : ℕ → List Event → Bool
 is_behind t h = has_mode can_signal t h && signals t h == waits t h
 
--- a signal wherever t can signal and hasn't, a pass and a drop on each phaser of t, in the order of its registrations
+-- a signal wherever t can signal and hasn't,
+-- a pass and a drop on each phaser of t, in the order of its registrations
 abbrev pub signals_due : ℕ → Option ℕ → List WorldEvent → List WorldEvent
 signals_due t x w =
     map (λ n. Phaser n (Sig t x)) (filter (λ n. is_behind t (phaser_past n w)) (phasers_of t w))
@@ -38,7 +39,8 @@ passes_due t w = map (λ n. Phaser n (Pass t)) (phasers_of t w)
 abbrev pub drops_due : ℕ → List WorldEvent → List WorldEvent
 drops_due t w = map (λ n. Phaser n (Drop t)) (phasers_of t w)
 
--- what leads to t's end: it leaves its phasers, shuts its open finishes, the innermost first, and ends; the shut of finish 0 is the root's end
+-- what leads to t's end: it leaves its phasers, shuts its open finishes, the innermost first, and ends; the
+-- shut of finish 0 is the root's end
 abbrev pub ending : ℕ → List WorldEvent → List WorldEvent
 ending t w =
     drops_due t w
@@ -67,7 +69,8 @@ fixed_by t Shut w =
     ++ Finish (inner t w) Shutting ∷ []
 fixed_by t End w = ending t w
 
--- what an entry of a task's log fixes: a refusal and a failure lead to the task's end, and a child that is half spawned leaves its phasers first
+-- what an entry of a task's log fixes: a refusal and a failure lead to the task's end, and a child that is
+-- half spawned leaves its phasers first
 abbrev pub fixed : WorldEvent → List WorldEvent → List WorldEvent
 fixed (Begin t b) w = fixed_by t b w
 fixed (Refuse t a n) w = ending t w

@@ -1,4 +1,5 @@
--- Worked examples of finishes: the events handed to a world, the reply to each, and what is reported at the end.
+-- Worked examples of finishes: the events handed to a world,
+-- the reply to each, and what is reported at the end.
 use Rattle.std.specs.Prelude.{◌≡◌, List, [], ◌∷◌, reverse, Ok, Err}
 use Rattle.phase_modes.specs.declared.refusal.Refusal.TheVariants.{OutsideScope, NotNow}
 use Rattle.phase_modes.specs.declared.mode.Mode.TheVariants.{Sig as OnlySig, Wait as OnlyWait, SigWait}
@@ -19,7 +20,8 @@ NothingToDo =
     (ok ∷ ok ∷ [])
     (no_phasers (ended 0 ∷ []) (tasks_in 0 0 ∷ []))
 
--- a child may not have a phaser of an outer finish: the spawn is refused, and so the task ends; that it is outside its scope may be noted, and no other number
+-- a child may not have a phaser of an outer finish: the spawn is refused, and so the task ends; that it is
+-- outside its scope may be noted, and no other number
 abbrev pub outside_scope : List WorldEvent
 outside_scope =
     Phaser 0 (Make 0 SigWait [])
@@ -74,7 +76,8 @@ abbrev pub NestedFinishActors : Type 0
 NestedFinishActors =
     actors limits [] nested_finish ≡ 0 ∷ 0 ∷ 0 ∷ 1 ∷ 1 ∷ 1 ∷ 1 ∷ 0 ∷ 0 ∷ 2 ∷ 2 ∷ 2 ∷ 0 ∷ 0 ∷ 0 ∷ []
 
--- fourteen events were made: the seventh is the end of task 1, the eleventh that of task 2, the twelfth the shut of finish 1, the last that of finish 0
+-- fourteen events were made: the seventh is the end of task 1, the eleventh that of task 2, the twelfth the
+-- shut of finish 1, the last that of finish 0
 abbrev pub NestedFinishTrace : Type 0
 NestedFinishTrace = reverse (played limits [] nested_finish) ≡
     Finish 1 (Opened 0)

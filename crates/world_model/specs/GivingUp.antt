@@ -25,14 +25,17 @@ abbrev pub is_reg : WorldEvent → Bool
 is_reg (Phaser n (Reg q t m)) = true
 is_reg _ = false
 
--- t may give up by this number: of another single's number or a full history where the event that continues its act is now refused by it, of full registrations while it still has one to make, of memory where it is idle
+-- t may give up by this number: of another single's number or a full history where the event that
+-- continues its act is now refused by it, of full registrations while it still has one to make, of memory
+-- where it is idle
 abbrev pub may_fail : Limits → List WorldEvent → ℕ → ℕ → Bool
 may_fail l w t n =
     ((n == 7 || n == 15) && option_map_or (λ e. is_refused_by n (next_done l w e)) (next_event l t w) false)
     || (n == 14 && option_map_or is_reg (next_event l t w) false)
     || (n == 23 && is_idle t w)
 
--- t may note that the act is refused by this number: it is, now; a wrong moment and want of memory are never noted
+-- t may note that the act is refused by this number: it is, now;
+-- a wrong moment and want of memory are never noted
 abbrev pub may_refuse : Limits → List WorldEvent → ℕ → Tried → ℕ → Bool
 may_refuse l w t a n = is_refused_by n (act_reply l w t a) && not (n == 22) && not (n == 23)
 

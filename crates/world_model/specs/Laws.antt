@@ -27,7 +27,8 @@ PhasersAreLegal = OfEachWorld (λ l w. (n : ℕ) → is_legal l (ops_of n w) (ph
 abbrev pub PhasersAreOrdered : Type 0
 PhasersAreOrdered = OfEachWorld (λ l w. (n : ℕ) → IsOrdered (phaser_past n w))
 
--- once the phaser was made, no value is sent for a phase that is closed, so the folds of a closed phase stay; and what a look saw is such a fold: of a phase that was closed, over all values that were ever sent for it
+-- once the phaser was made, no value is sent for a phase that is closed, so the folds of a closed phase stay;
+-- and what a look saw is such a fold: of a phase that was closed, over all values that were ever sent for it
 pub record IsFolded (ops : List Op) (h : List Event) : Type 0 where
   pub stays : (later before : List Event) (p a : ℕ) → h ≡ later ++ before
       → is_empty before ≡ false → IsClosed p before → IsClosed p h × (sent a p h ≡ sent a p before)

@@ -1,4 +1,5 @@
--- Worked examples of limits and of refused acts: the events handed to a world, the reply to each, and what is reported at the end.
+-- Worked examples of limits and of refused acts: the events handed to a world,
+-- the reply to each, and what is reported at the end.
 use Rattle.std.specs.Prelude.{List, [], ◌∷◌, None, Ok, Err, pos}
 use Rattle.phase_modes.specs.declared.refusal.Refusal.TheVariants.{NotRegistered, OnePhaserOnly, RegsFull, HistoryFull, PhasersFull, TasksFull, FinishesFull, ActsFull, FinishOpen, NoFinish, NotNow}
 use Rattle.phase_modes.specs.declared.limits.Limits.{Limits}

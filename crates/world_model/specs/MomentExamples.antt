@@ -1,4 +1,5 @@
--- Worked examples of single moments: the reply that each of several events would have there, what comes next, and what each task is about.
+-- Worked examples of single moments: the reply that each of several events would have there, what comes next,
+-- and what each task is about.
 use Rattle.std.specs.Prelude.{◌≡◌, List, [], ◌∷◌, map, Some, None, Ok, Err, pos, take}
 use Rattle.phase_modes.specs.declared.refusal.Refusal.TheVariants.{NotRegistered, NoSignal, NoWait, NotSignalled, OnePhaserOnly, NoAccumulator, MoreThanParent, RegisteredTwice, PhasersFull, TasksFull, FinishesFull, NoFinish, NotNow}
 use Rattle.phase_modes.specs.declared.mode.Mode.TheVariants.{Sig as OnlySig, SigWait, Wait as OnlyWait}

@@ -1,6 +1,7 @@
 -- A world's history, and what of it is one phaser's and one finish's.
 --
--- The history is a list of events with the newest first: in `e ∷ w` the event e came after all of w, so w is what was there when e was made.
+-- The history is a list of events with the newest first: in `e ∷ w` the event e came after all of w, so w is
+-- what was there when e was made.
 use Rattle.std.specs.Prelude.{ℕ, ◌==◌, if◌then◌else◌, List, [], ◌∷◌}
 use Rattle.phase_modes.specs.declared.limits.Limits.{Limits}
 use Rattle.phase_model.specs.declared.event.Event.{Event}

@@ -16,7 +16,8 @@ use Rattle.world_model.specs.Due.{next_event}
 abbrev pub AbleIsComputed : Type 0
 AbleIsComputed = (l : Limits) (w : List WorldEvent) (t : ℕ) → (is_able l w t ≡ true) ↔ IsAble l w t
 
--- a reply to an event that continues an act: it is made or has to wait, or it is refused because another number stands, registrations are at the limit, or the history is full
+-- a reply to an event that continues an act: it is made or has to wait, or it is refused because another
+-- number stands, registrations are at the limit, or the history is full
 abbrev pub is_expected : Result Reply Refusal → Bool
 is_expected (Ok x) = true
 is_expected (Err SingleMismatch) = true
@@ -24,7 +25,8 @@ is_expected (Err RegsFull) = true
 is_expected (Err HistoryFull) = true
 is_expected (Err _) = false
 
--- what continues the act of a task that hasn't ended is the task's own event, and is refused for no other reason
+-- what continues the act of a task that hasn't ended is the task's own event,
+-- and is refused for no other reason
 abbrev pub NextsAreExpected : Type 0
 NextsAreExpected = OfEachWorld (λ l w. (t : ℕ) (e : WorldEvent)
     → is_ended t w ≡ false → next_event l t w ≡ Some e

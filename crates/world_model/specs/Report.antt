@@ -101,7 +101,8 @@ pub record Report : Type 0 where
   pub finishes : List FinishLine
   pub totals : TotalsLine
 
--- the report: the phasers that were made, the root and the tasks that were spawned, and the finishes that were opened, each by rising number
+-- the report: the phasers that were made, the root and the tasks that were spawned, and the finishes that
+-- were opened, each by rising number
 abbrev pub report_of : Limits → List WorldEvent → Report
 report_of l w =
     let made = filter (λ n. is_phaser n w) (below l.phasers) in

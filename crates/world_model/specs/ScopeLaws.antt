@@ -14,7 +14,8 @@ use Rattle.world_model.specs.Parts.{phaser_past, finish_past}
 use Rattle.world_model.specs.Tasks.{is_ended}
 use Rattle.world_model.specs.Numbers.{is_finish}
 
--- a child gets no capability that its spawner lacks, and comes only to phasers that its spawner's innermost finish encloses
+-- a child gets no capability that its spawner lacks,
+-- and comes only to phasers that its spawner's innermost finish encloses
 abbrev pub RegistrationsAreWithin : Type 0
 RegistrationsAreWithin = OfEachWorld (λ l w.
     (later before : List WorldEvent) (n q t : ℕ) (m : Mode) → w ≡ later ++ Phaser n (Reg q t m) ∷ before

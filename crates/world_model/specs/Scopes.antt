@@ -17,7 +17,8 @@ opened_by t _ = None
 abbrev pub open_finishes : ℕ → List WorldEvent → List ℕ
 open_finishes t w = filter (λ f. is_open (finish_past f w)) (filter_map (opened_by t) w)
 
--- the innermost finish of t: the last that it opened and that isn't shut, else the one in which it was spawned
+-- the innermost finish of t: the last that it opened and that isn't shut,
+-- else the one in which it was spawned
 abbrev pub inner : ℕ → List WorldEvent → ℕ
 inner t w = slice_index_or (open_finishes t w) 0 (home t w)
 

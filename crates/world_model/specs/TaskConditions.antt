@@ -19,7 +19,8 @@ abbrev pub condition_in_turn : WorldEvent → Condition
 condition_in_turn (Phaser n (Sig t x)) = condition.Signalling
 condition_in_turn _ = condition.Turning
 
--- the condition of a task after this entry, with this event due next; after a refusal and after a failure it ends
+-- the condition of a task after this entry, with this event due next;
+-- after a refusal and after a failure it ends
 abbrev pub condition_in : Option WorldEvent → WorldEvent → Condition
 condition_in (Some (Begin t (Async c pairs))) d = condition.Spawning
 condition_in (Some (Begin t Signal)) d = condition.Signalling

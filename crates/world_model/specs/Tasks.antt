@@ -1,4 +1,5 @@
--- The tasks of a world: who spawned each and where, whether it has ended, which phasers it is on, and how many acts it has used up.
+-- The tasks of a world: who spawned each and where, whether it has ended, which phasers it is on, and how
+-- many acts it has used up.
 use Rattle.std.specs.Prelude.{ℕ, Bool, false, ◌&&◌, ◌||◌, ◌==◌, if◌then◌else◌, List, [], ◌∷◌, reverse, filter, filter_map, count_by, Option, Some, None}
 use Rattle.std.specs.List.{list_any}
 use Rattle.phase_model.specs.Tasks.{is_live}

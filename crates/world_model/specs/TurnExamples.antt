@@ -166,7 +166,8 @@ TwoSenders =
       totals = in_all 3 4 4 3 4 33 0;
     })
 
--- one statement for two proposers and a plain waiter, so far: another number makes its task fail, the first proposer claims, and the others wait for its report
+-- one statement for two proposers and a plain waiter, so far: another number makes its task fail, the first
+-- proposer claims, and the others wait for its report
 abbrev pub one_single : List WorldEvent
 one_single =
     Phaser 0 (Make 0 Single [])

@@ -23,7 +23,8 @@ ones bits = count_by (λ b. b) bits
 
 -- the bits of each task number say whether it was spawned and whether it has ended, the count says how many
 -- tasks have not ended, and the history is as long as they say
-pub record IsFinishState (tasks : ℕ) (stage : Stage) (spawned ended : List Bool) (running : ℕ) (past : List FinishEvent) : Type 0 where
+pub record IsFinishState (tasks : ℕ) (stage : Stage) (spawned ended : List Bool) (running : ℕ)
+    (past : List FinishEvent) : Type 0 where
   pub least : 1 ≤ tasks
   pub most : tasks ≤ 4096
   pub legal : is_legal_finish tasks past ≡ true

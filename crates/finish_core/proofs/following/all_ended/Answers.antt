@@ -13,5 +13,6 @@ returns c =
     let xs = c.args.events.now in
     let h = reverse xs in
     let test : FinishEvent → Bool = λ e. option_map_or (λ t. has_ended t h) (spawned_by e) true in
-    all_from_yields_List test _ _ c.all.result c.all.ensures.ran (YieldsList-from_slice xs cc) (λ x b q k. search (rules, tests))
+    all_from_yields_List test _ _ c.all.result c.all.ensures.ran (YieldsList-from_slice xs cc)
+    (λ x b q k. search (rules, tests))
     ∙ (sym (list_all-reverse test xs) ∙ sym (list_all-filter_map (λ t. has_ended t h) spawned_by h))

@@ -10,5 +10,6 @@ pub returns : goal.returns
 returns c =
     let xs = c.args.events.now in
     let test = ends c.args.task in
-    any_from_yields_List test _ _ c.any.result c.any.ensures.ran (YieldsList-from_slice xs cc) (λ x b q k. search (rules, tests))
+    any_from_yields_List test _ _ c.any.result c.any.ensures.ran (YieldsList-from_slice xs cc)
+    (λ x b q k. search (rules, tests))
     ∙ sym (list_any-reverse test xs)

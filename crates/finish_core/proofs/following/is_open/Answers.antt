@@ -18,7 +18,9 @@ open_with_events (e ∷ h) some = refl
 pub returns-then-not-is_empty : goal.returns-then-not-is_empty
 returns-then-not-is_empty c =
     let xs = c.args.events.now in
-    let found = any_from_yields_List shuts _ _ c.any.result c.any.ensures.ran (YieldsList-from_slice xs cc) (λ x b q k. search (rules, tests)) in
+    let found =
+    any_from_yields_List shuts _ _ c.any.result c.any.ensures.ran (YieldsList-from_slice xs cc)
+    (λ x b q k. search (rules, tests)) in
     let some = eqb-false (length xs) 0 (sym c.if-not-is_empty.ensures) in
     let whole = open_with_events (reverse xs) (λ e. some (sym (length-reverse xs) ∙ e)) in
     ap not (found ∙ sym (list_any-reverse shuts xs)) ∙ sym whole

@@ -12,5 +12,7 @@ pub returns : goal.returns
 returns c =
     let xs = c.args.events.now in
     let test : FinishEvent → Bool = λ e. option_map_or (λ u. u == c.args.task) (spawned_by e) false in
-    any_from_yields_List test _ _ c.any.result c.any.ensures.ran (YieldsList-from_slice xs cc) (λ x b q k. search (rules, tests))
-    ∙ (sym (list_any-reverse test xs) ∙ sym (list_any-filter_map (λ u. u == c.args.task) spawned_by (reverse xs)))
+    any_from_yields_List test _ _ c.any.result c.any.ensures.ran (YieldsList-from_slice xs cc)
+    (λ x b q k. search (rules, tests))
+    ∙ (sym (list_any-reverse test xs)
+    ∙ sym (list_any-filter_map (λ u. u == c.args.task) spawned_by (reverse xs)))

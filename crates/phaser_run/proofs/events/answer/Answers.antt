@@ -9,4 +9,5 @@ returns-in-Ok-clause-done g c =
     (form_view c.in_ok-file.file, within c.args.input.now (search rules) ∙ c.in_ok-file.ensures, search rules)
 
 pub returns-clause-failure : goal.returns-clause-failure
-returns-clause-failure g c = (form_view c.in_ok-file.file, within c.args.input.now (search rules) ∙ c.in_ok-file.ensures)
+returns-clause-failure g c =
+    (form_view c.in_ok-file.file, within c.args.input.now (search rules) ∙ c.in_ok-file.ensures)

@@ -5,5 +5,6 @@ use Rattle.phaser_run.proofs.failure.write_text.Given as goal
 abbrev pub invariant-loop : goal.invariant-loop
 invariant-loop g l = record {
   within : l.written ≤ length l.bytes;
-  front : Appends (g.F.Write.contents l.initial.faults) (g.F.Write.contents l.faults) (take l.written l.bytes);
+  front : Appends (g.F.Write.contents l.initial.faults) (g.F.Write.contents l.faults)
+      (take l.written l.bytes);
 }

@@ -1,4 +1,5 @@
--- There is room for the end, the task has a bit, some task is counted, and the fields stand for the history afterwards.
+-- There is room for the end, the task has a bit, some task is counted,
+-- and the fields stand for the history afterwards.
 use Rattle.std.proofs.Common.{reverse, arith}
 use Rattle.std.proofs.lemmas.List.{length-reverse}
 use Rattle.finish_core.specs.declared.event.FinishEvent.TheVariants.{Ended}
@@ -36,5 +37,7 @@ invariant_of-self c =
     let f = c.self.inside in
     let h = reverse f.events.items in
     let allowed = allowed_in (Ended c.args.child) c.self.view_is c.in_ok-may_end.ensures in
-    rw (c.push_reserved.ensures.items, reverse_push f.events.items (Ended c.args.child))
-    (stands_ended c.self.invariant.0 c.args.child allowed, omega (arith, c.push_reserved.ensures.capacity, c.self.invariant.1))
+    rw (c.push_reserved.ensures.items, reverse_push f.events.items (Ended c.args.child)) (
+      stands_ended c.self.invariant.0 c.args.child allowed,
+      omega (arith, c.push_reserved.ensures.capacity, c.self.invariant.1),
+    )

@@ -28,5 +28,7 @@ invariant_of-self c =
     let f = c.self.inside in
     let h = reverse f.events.items in
     let allowed = allowed_in (Spawned c.args.child) c.self.view_is c.in_ok-may_spawn.ensures in
-    rw (c.push_reserved.ensures.items, reverse_push f.events.items (Spawned c.args.child))
-    (stands_spawned c.self.invariant.0 c.args.child allowed, omega (arith, c.push_reserved.ensures.capacity, c.self.invariant.1))
+    rw (c.push_reserved.ensures.items, reverse_push f.events.items (Spawned c.args.child)) (
+      stands_spawned c.self.invariant.0 c.args.child allowed,
+      omega (arith, c.push_reserved.ensures.capacity, c.self.invariant.1),
+    )

@@ -12,7 +12,8 @@ returns-in-Ok-clause-told g c =
       Refused c.in-Refused.refusal,
       sym c.tell.ensures.status,
       inl (sym c.in-Refused.is),
-      subst (λ (text : List ℕ). AppendsFront c.tell.result.told (g.F.Write.contents c.args.faults.now) (g.F.Write.contents c.tell.new.faults) text) line c.tell.ensures.line,
+      subst (λ (text : List ℕ). AppendsFront c.tell.result.told (g.F.Write.contents c.args.faults.now)
+          (g.F.Write.contents c.tell.new.faults) text) line c.tell.ensures.line,
     )
 
 pub returns-in-Err-clause-told : goal.returns-in-Err-clause-told
@@ -20,5 +21,6 @@ returns-in-Err-clause-told g c = (
   Refused Memory,
   sym c.tell-in-Err.ensures.status,
   inr refl,
-  subst (λ (text : List ℕ). AppendsFront c.tell-in-Err.result.told (g.F.Write.contents c.args.faults.now) (g.F.Write.contents c.tell-in-Err.new.faults) text) memory_line c.tell-in-Err.ensures.line,
+  subst (λ (text : List ℕ). AppendsFront c.tell-in-Err.result.told (g.F.Write.contents c.args.faults.now)
+      (g.F.Write.contents c.tell-in-Err.new.faults) text) memory_line c.tell-in-Err.ensures.line,
 )
