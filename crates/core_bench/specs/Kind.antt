@@ -1,4 +1,4 @@
--- The kinds of calls, as the words name them.
+-- The kinds of calls, as the arguments name them.
 use Rattle.std.specs.Prelude.{ℕ, List, codes}
 use Rattle.core_bench.specs.declared.kind.Kind.{Kind}
 use Rattle.core_bench.specs.declared.kind.Kind.TheVariants.{Nothing, Turn, Send, Look, Drop}

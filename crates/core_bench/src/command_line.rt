@@ -1,27 +1,27 @@
-//! The words of the command line, as a job.
+//! The arguments of the command line, as a job.
 ghost use Rattle.std.specs.Prelude.{map, SomeIff, MatchOption};
-ghost use Rattle.core_bench.specs.Words.{IsNumberUpTo, number_in, Names};
+ghost use Rattle.core_bench.specs.CommandLine.{IsNumberUpTo, number_in, Names};
 
 use crate::job::Job;
 use crate::kind::Kind;
 
-/// The number that the word spells, where it is 1 or more, and at most so many.
-fn number_of(word: &str, most: u32) -> Option<u32>
-    ensures { SomeIff result (IsNumberUpTo most word.now) (number_in word.now) }
+/// The number that the argument spells, where it is 1 or more, and at most so many.
+fn number_of(argument: &str, most: u32) -> Option<u32>
+    ensures { SomeIff result (IsNumberUpTo most argument.now) (number_in argument.now) }
 {
-    match word.parse::<u32>() {
+    match argument.parse::<u32>() {
         Ok(number) if 1 <= number && number <= most => Some(number),
         _ => None,
     }
 }
 
-/// The job that the words `KIND TASKS PHASERS` name; the first word is the program's own name.
-pub fn job_of(words: &[&str]) -> Option<Job>
+/// The job that the arguments `KIND TASKS PHASERS` name; the first is the program's own name.
+pub fn job_of(arguments: &[&str]) -> Option<Job>
     ensures { MatchOption result
-        ((job : _) → ¬ (Names job (map (λ w. w.now) words.now)))
-        (λ job. Names job (map (λ w. w.now) words.now)) }
+        ((job : _) → ¬ (Names job (map (λ w. w.now) arguments.now)))
+        (λ job. Names job (map (λ w. w.now) arguments.now)) }
 {
-    let [_program, kind, tasks, phasers] = words else {
+    let [_program, kind, tasks, phasers] = arguments else {
         return None;
     };
     Some(Job {

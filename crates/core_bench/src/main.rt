@@ -11,7 +11,7 @@ use command_line::job_of;
 use std::env;
 use std::process::ExitCode;
 
-/// What is printed where the words are bad.
+/// What is printed where the arguments are bad.
 const USAGE: &str = "usage: core_bench none|turn|send|look|drop TASKS PHASERS \
                      (1 to 256 tasks, 1 to 1000 phasers)\n";
 
@@ -19,25 +19,25 @@ fn main(rt: HostRuntime) -> ExitCode {
     ExitCode::from(run(&rt))
 }
 
-/// Reads the words, and does the job that they name. Returns the exit status: 0 done, 1 out of
-/// memory, 2 bad words, 3 a write failed.
+/// Reads the arguments, and does the job that they name. Returns the exit status: 0 done, 1 out of
+/// memory, 2 bad arguments, 3 a write failed.
 fn run(rt: &HostRuntime) -> u8 {
     let Ok(args) = env::args(rt) else {
-        return bad_words(rt);
+        return print_usage(rt);
     };
-    let words: Vec<String> = match args.collect(rt.alloc()) {
-        Ok(words) => words,
+    let arguments: Vec<String> = match args.collect(rt.alloc()) {
+        Ok(arguments) => arguments,
         Err(_) => return 1,
     };
     let mut borrowed: Vec<&str> = Vec::new(rt.alloc());
-    for word in &words {
-        if borrowed.push(word.as_str()).is_err() {
+    for argument in &arguments {
+        if borrowed.push(argument.as_str()).is_err() {
             return 1;
         }
     }
     match job_of(borrowed.as_slice()) {
         Some(job) => report(rt, calls_on_all(rt.alloc(), job).ok()),
-        None => bad_words(rt),
+        None => print_usage(rt),
     }
 }
 
@@ -52,7 +52,7 @@ fn report(rt: &HostRuntime, calls: Option<u64>) -> u8 {
     }
 }
 
-fn bad_words(rt: &HostRuntime) -> u8 {
+fn print_usage(rt: &HostRuntime) -> u8 {
     let _ = rt.eprint(USAGE);
     2
 }

@@ -1,4 +1,4 @@
-//! The words, and how many calls a history has room for.
+//! The arguments, and how many calls a history has room for.
 use super::*;
 use crate::kind::Kind;
 use std::test::Fail;

@@ -3,4 +3,4 @@ pub mod Fronts
 pub mod Named
 pub mod Plain
 pub mod Spelled
-pub mod Told
+pub mod Reported

@@ -1,4 +1,4 @@
--- The file that the matches of the subcommand have is the one that the words name.
+-- The file that the matches of the subcommand have is the one that the arguments name.
 use Rattle.std.proofs.Common.{◌≡◌, Bool, true, false, List, [], ◌∷◌, Option, None, Some, Box, if◌then◌else◌, option_map, codes, refl, sym, ap, ◌∙◌, inl, inr}
 use Rattle.std.specs.Str.{bytes_eq}
 use Rattle.std.specs.Prelude.{option_and_then}
@@ -31,28 +31,28 @@ pair_of (Some p) name rows named entered =
     let same_rows : rows ≡ p.1 = cc in
     rw (same_name, same_rows) refl
 
--- the matches of the program's command are those of its words
-pub entered_at : (words : List Text) (command : Command) (m : ArgMatches) → app_of command ≡ program_app
-    → HasMatchesOf (app_of command) words m → subcommand_rows_of m ≡ subcommand_of program_app words
-entered_at words command m app matches =
-    (matches (ap is_simple app)).1 ∙ ap (λ (a : App). subcommand_of a words) app
+-- the matches of the program's command are those of its arguments
+pub entered_at : (arguments : List Text) (command : Command) (m : ArgMatches) → app_of command ≡ program_app
+    → HasMatchesOf (app_of command) arguments m → subcommand_rows_of m ≡ subcommand_of program_app arguments
+entered_at arguments command m app matches =
+    (matches (ap is_simple app)).1 ∙ ap (λ (a : App). subcommand_of a arguments) app
 
--- what the words name, where a subcommand was entered
-pub entered_file : (words : List Text) (m found : ArgMatches) (name : Text)
-    → subcommand_rows_of m ≡ subcommand_of program_app words → Some name ≡ subcommand_name_of m
+-- what the arguments name, where a subcommand was entered
+pub entered_file : (arguments : List Text) (m found : ArgMatches) (name : Text)
+    → subcommand_rows_of m ≡ subcommand_of program_app arguments → Some name ≡ subcommand_name_of m
     → Some (rows_of (found_of found)) ≡ option_map (λ p. p.1) (subcommand_rows_of m)
-    → file_in words ≡ file_among (name, rows_of (found_of found))
+    → file_in arguments ≡ file_among (name, rows_of (found_of found))
 unfolding file_in
-entered_file words m found name entered named rows =
-    pair_of (subcommand_of program_app words) name (rows_of (found_of found))
+entered_file arguments m found name entered named rows =
+    pair_of (subcommand_of program_app arguments) name (rows_of (found_of found))
     (named ∙ sym (name_of_rows (out-ArgMatches m).subcommand) ∙ ap (option_map (λ p. p.0)) entered)
     (rows ∙ ap (option_map (λ p. p.1)) entered)
 
 -- of `events` it is the value of FILE
-pub events_file : (words : List Text) (found : ArgMatches) (name : Text) (value : Option Text)
-    → file_in words ≡ file_among (name, rows_of (found_of found)) → name ≡ codes "events"
-    → value ≡ first_value (found_of found) (codes "file") → file_in words ≡ value
-events_file words found name value named events is =
+pub events_file : (arguments : List Text) (found : ArgMatches) (name : Text) (value : Option Text)
+    → file_in arguments ≡ file_among (name, rows_of (found_of found)) → name ≡ codes "events"
+    → value ≡ first_value (found_of found) (codes "file") → file_in arguments ≡ value
+events_file arguments found name value named events is =
     let first = first_value-rows (found_of found) (codes "file") in
     named ∙ ap (λ (n : Text). file_among (n, rows_of (found_of found))) events ∙ sym first ∙ sym is
 
@@ -66,34 +66,36 @@ pub other_file : (name : Text) (rows : List Row) → (name ≡ codes "events" �
     → file_among (name, rows) ≡ None
 other_file name rows other = without_file (bytes_eq name (codes "events")) name rows refl other
 
--- words that name a job have no fault, and name its file
+-- arguments that name a job have no fault, and name its file
 faultless_of : (faults : Kinds) (named : Option Text) (file : Text)
     → (if is_empty faults then named else None) ≡ Some file → (faults ≡ []) × (named ≡ Some file)
 faultless_of [] named file e = (refl, e)
 faultless_of (k ∷ ks) named file e = cc
 
-pub job_named : (words : List Text) (file : Text) → job_in words ≡ Some file
-    → (fault_of program_app words ≡ []) × (file_in words ≡ Some file)
+pub job_named : (arguments : List Text) (file : Text) → job_in arguments ≡ Some file
+    → (fault_of program_app arguments ≡ []) × (file_in arguments ≡ Some file)
 unfolding job_in
-job_named words file e = faultless_of (fault_of program_app words) (file_in words) file e
+job_named arguments file e = faultless_of (fault_of program_app arguments) (file_in arguments) file e
 
--- words without a fault name the job of their file
-pub named_job : (words : List Text) → fault_of program_app words ≡ [] → job_in words ≡ file_in words
+-- arguments without a fault name the job of their file
+pub named_job : (arguments : List Text) → fault_of program_app arguments ≡ []
+    → job_in arguments ≡ file_in arguments
 unfolding job_in
-named_job words e = ap (λ faults. if is_empty faults then file_in words else None) e
+named_job arguments e = ap (λ faults. if is_empty faults then file_in arguments else None) e
 
--- an error where no word is at fault is want of memory
+-- an error where no argument is at fault is want of memory
 none_at_fault : (faults : Kinds) (e : Error) → faults ≡ [] → HasKind faults e → kind_of e ≡ OutOfMemory
 none_at_fault [] e none (inl memory) = memory
 none_at_fault [] e none (inr among) = absurd among
 none_at_fault (k ∷ ks) e none h = cc
 
 -- the program's command is simple, so its faults are known
-pub fault_at : (words : List Text) (command : Command) → app_of command ≡ program_app
-    → fault_of (app_of command) words ≡ fault_of program_app words
-fault_at words command app = ap (λ (a : App). fault_of a words) app
+pub fault_at : (arguments : List Text) (command : Command) → app_of command ≡ program_app
+    → fault_of (app_of command) arguments ≡ fault_of program_app arguments
+fault_at arguments command app = ap (λ (a : App). fault_of a arguments) app
 
-pub memory_alone : (words : List Text) (command : Command) (e : Error) → app_of command ≡ program_app
-    → fault_of program_app words ≡ [] → HasKind (fault_of (app_of command) words) e → kind_of e ≡ OutOfMemory
-memory_alone words command e app none h =
-    none_at_fault (fault_of (app_of command) words) e (fault_at words command app ∙ none) h
+pub memory_alone : (arguments : List Text) (command : Command) (e : Error) → app_of command ≡ program_app
+    → fault_of program_app arguments ≡ [] → HasKind (fault_of (app_of command) arguments) e
+    → kind_of e ≡ OutOfMemory
+memory_alone arguments command e app none h =
+    none_at_fault (fault_of (app_of command) arguments) e (fault_at arguments command app ∙ none) h

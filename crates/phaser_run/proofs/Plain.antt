@@ -1,4 +1,4 @@
--- The words of a plain job: the program's name, `events` and a file.
+-- The arguments of a plain job: the program's name, `events` and a file.
 use Rattle.std.proofs.Common.{◌≡◌, ◌==◌, ◌||◌, not, ℕ, [], ◌∷◌, Bool, true, false, Some, codes, refl}
 use Rattle.std.proofs.lemmas.Bool.{eqb-true}
 use Rattle.clap.specs.Words.{Text}

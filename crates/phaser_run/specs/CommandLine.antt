@@ -1,4 +1,4 @@
--- The words that the program takes, by what `clap` says of a command and of words.
+-- The arguments that the program takes, by what `clap` says of a command and of arguments.
 use Rattle.std.specs.Prelude.{List, [], ◌∷◌, Bool, true, not, ◌||◌, ◌==◌, if◌then◌else◌, Option, None, option_and_then, codes}
 use Rattle.std.specs.Str.{bytes_eq}
 use Rattle.phase_modes.specs.Lists.{is_empty}
@@ -8,7 +8,7 @@ use Rattle.phaser_run.specs.declared.failure.Status.TheVariants as statuses
 use Rattle.phaser_run.specs.declared.command_line.Job.{Job}
 use Rattle.phaser_run.specs.declared.command_line.Job.TheVariants.{Events}
 use Rattle.phaser_run.specs.declared.command_line.NoJob.{NoJob}
-use Rattle.phaser_run.specs.declared.command_line.NoJob.TheVariants.{Words, Missing, Memory}
+use Rattle.phaser_run.specs.declared.command_line.NoJob.TheVariants.{Arguments, Missing, Memory}
 
 -- FILE, which has to be there
 abbrev pub file_rule : Rule
@@ -35,13 +35,13 @@ program_app = with_subcommand bare_app events_app.top
 abbrev pub file_among : Text × List Row → Option Text
 file_among p = if bytes_eq p.0 (codes "events") then first_of (codes "file") p.1 else None
 
--- FILE in the words
+-- FILE in the arguments
 unfoldable pub file_in : List Text → Option Text
-file_in words = option_and_then file_among (subcommand_of program_app words)
+file_in arguments = option_and_then file_among (subcommand_of program_app arguments)
 
--- FILE in words that are the command's and no more: no step of their reading is at fault
+-- FILE in arguments that are the command's and no more: no step of their reading is at fault
 unfoldable pub job_in : List Text → Option Text
-job_in words = if is_empty (fault_of program_app words) then file_in words else None
+job_in arguments = if is_empty (fault_of program_app arguments) then file_in arguments else None
 
 -- it is `-`, or does not begin with a hyphen
 abbrev pub is_plain : Text → Bool
@@ -52,8 +52,8 @@ is_plain (c ∷ cs) = not (c == 45) || is_empty cs
 abbrev pub file_of : Job → Text
 file_of (Events file) = file.now
 
--- bad words and help end with 2, want of memory with 1
+-- bad arguments and help end with 2, want of memory with 1
 abbrev pub no_job_status : NoJob → Status
-no_job_status (Words e) = statuses.BadWords
-no_job_status Missing = statuses.BadWords
+no_job_status (Arguments e) = statuses.Usage
+no_job_status Missing = statuses.Usage
 no_job_status Memory = statuses.Refused

@@ -29,20 +29,21 @@ AppendsFront all old new text =
     ((n : ℕ) × Appends old new (take n text)) × (all ≡ true → Appends old new text)
 
 -- some failure has this status, and this is known of it; what was appended is its line, or where that was not
--- told, a beginning of it
-abbrev pub Tells : (Failure → Type 0) → Ending → Option (List ℕ) → Option (List ℕ) → Type 0
-Tells Known e old new =
-    (f : Failure) × (status_of f ≡ e.status) × Known f × AppendsFront e.told old new (failure_line f)
+-- reported, a beginning of it
+abbrev pub Reports : (Failure → Type 0) → Ending → Option (List ℕ) → Option (List ℕ) → Type 0
+Reports Known e old new =
+    (f : Failure) × (status_of f ≡ e.status) × Known f × AppendsFront e.reported old new (failure_line f)
 
--- the same of a status alone, which doesn't say whether the line was told
-abbrev pub TellsStatus : (Failure → Type 0) → Status → Option (List ℕ) → Option (List ℕ) → Type 0
-TellsStatus Known s old new = (told : Bool) × Tells Known (record { status = s; told = told }) old new
+-- the same of a status alone, which doesn't say whether the line was reported
+abbrev pub ReportsStatus : (Failure → Type 0) → Status → Option (List ℕ) → Option (List ℕ) → Type 0
+ReportsStatus Known s old new =
+    (reported : Bool) × Reports Known (record { status = s; reported = reported }) old new
 
 -- the exit status of the process
 abbrev pub code_of : Status → ℕ
 code_of statuses.Done = 0
 code_of statuses.Refused = 1
-code_of statuses.BadWords = 2
+code_of statuses.Usage = 2
 code_of statuses.Fault = 3
 
 -- answering these bytes fails for want of memory,

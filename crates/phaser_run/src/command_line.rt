@@ -1,4 +1,4 @@
-//! The words of the command line, as a job.
+//! The arguments of the command line, as a job.
 ghost use Rattle.std.specs.Prelude.{◌≡◌, ℕ, List, [], ◌∷◌, Some, codes, map, true, false, IfOk, MatchResult};
 ghost use Rattle.clap.specs.Words.{app_of, kind_of};
 ghost use Rattle.clap.specs.declared.builder.command.Command.TheViews.{out-Command as fields_of};
@@ -20,10 +20,10 @@ pub enum Job<'a> {
 /// Why there is no job.
 #[derive(Debug, Drop, Error)]
 pub enum NoJob {
-    /// The words are bad, or ask for help or the version. The message is `clap`'s.
+    /// The arguments are bad, or ask for help or the version. The message is `clap`'s.
     #[error("{0}")]
-    Words(clap::Error),
-    /// A required word is missing.
+    Arguments(clap::Error),
+    /// A required argument is missing.
     #[error("error: a required word is missing\n")]
     Missing,
     /// Memory ran out.
@@ -37,7 +37,7 @@ impl NoJob {
         ensures { result ≡ no_job_status self.now }
     {
         match self {
-            NoJob::Words(_) | NoJob::Missing => Status::BadWords,
+            NoJob::Arguments(_) | NoJob::Missing => Status::Usage,
             NoJob::Memory => Status::Refused,
         }
     }
@@ -54,13 +54,13 @@ impl From<AllocError> for NoJob {
     }
 }
 
-/// What an error of the reading of words comes to.
+/// What an error of the reading of arguments comes to.
 fn no_job_for(error: clap::Error) -> NoJob
     ensures { kind_of error ≡ ErrorKind.OutOfMemory → result ≡ NoJob.Memory }
 {
     match error.kind() {
         ErrorKind::OutOfMemory => NoJob::Memory,
-        _ => NoJob::Words(error),
+        _ => NoJob::Arguments(error),
     }
 }
 
@@ -112,19 +112,19 @@ fn command<'a>(alloc: Global) -> Result<Command<'a>, AllocError>
         .subcommand(events_command(alloc)?)
 }
 
-/// The job that the words name. The first word is the program's own name.
-pub fn job_of<'a>(alloc: Global, words: &'a [&'a str]) -> Result<Job<'a>, NoJob>
-    // The words are those of the job's command and no more.
-    ensures file { IfOk result (λ job. job_in (map (λ w. w.now) words.entry.now) ≡ Some (file_of job)) }
+/// The job that the arguments name. The first is the program's own name.
+pub fn job_of<'a>(alloc: Global, arguments: &'a [&'a str]) -> Result<Job<'a>, NoJob>
+    // The arguments are those of the job's command and no more.
+    ensures file { IfOk result (λ job. job_in (map (λ w. w.now) arguments.entry.now) ≡ Some (file_of job)) }
     // Words that name a job are refused for want of memory alone.
-    ensures named { (file : List ℕ) → job_in (map (λ w. w.now) words.entry.now) ≡ Some file
+    ensures named { (file : List ℕ) → job_in (map (λ w. w.now) arguments.entry.now) ≡ Some file
         → MatchResult result (λ job. file_of job ≡ file) (λ e. e ≡ NoJob.Memory) }
     // So `events FILE` names that file, where FILE doesn't look like an option.
     ensures plain { (program file : List ℕ)
-        → map (λ w. w.now) words.entry.now ≡ program ∷ codes "events" ∷ file ∷ []
+        → map (λ w. w.now) arguments.entry.now ≡ program ∷ codes "events" ∷ file ∷ []
         → is_plain file ≡ true → MatchResult result (λ job. file_of job ≡ file) (λ e. e ≡ NoJob.Memory) }
 {
-    let matches = match command(alloc)?.try_get_matches_from(words) {
+    let matches = match command(alloc)?.try_get_matches_from(arguments) {
         Ok(matches) => matches,
         Err(error) => return Err(no_job_for(error)),
     };

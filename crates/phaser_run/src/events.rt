@@ -4,7 +4,7 @@ ghost use Rattle.std.specs.Io.KnownBytes.{Appends, Keeps};
 ghost use Rattle.phase_model.specs.Replies.{replies};
 ghost use Rattle.events_text.specs.Form.{Form};
 ghost use Rattle.events_text.specs.Lines.{text_of, text_for};
-ghost use Rattle.phaser_run.specs.Ends.{status_of, IsOfAnswer, IsOfJob, IsOfReading, Tells, TellsStatus};
+ghost use Rattle.phaser_run.specs.Ends.{status_of, IsOfAnswer, IsOfJob, IsOfReading, Reports, ReportsStatus};
 ghost use Rattle.phaser_run.specs.File.{file_spelled};
 ghost use Rattle.phaser_run.specs.Input.{IsFresh};
 
@@ -76,15 +76,15 @@ pub fn ending_on<W: Write, F: Write>(
     ensures quiet { result.status ≡ Status.Done → Keeps (F.contents faults.old) (F.contents faults.new) }
     ensures refused { result.status ≡ Status.Refused → Keeps (W.contents out.old) (W.contents out.new) }
     ensures fault { result.status ≡ Status.Fault → (file : Form) × (file_spelled input.now ≡ Ok file) }
-    // What is told is the line of a failure of these bytes with this status.
-    ensures told { result.status ≢ Status.Done → Tells (IsOfAnswer input.now) result
+    // What is reported is the line of a failure of these bytes with this status.
+    ensures reported { result.status ≢ Status.Done → Reports (IsOfAnswer input.now) result
         (F.contents faults.old) (F.contents faults.new) }
-    ensures words { result.status ≢ Status.BadWords }
+    ensures usage { result.status ≢ Status.Usage }
 {
     match answer(alloc, input, out) {
         Ok(()) => Ending {
             status: Status::Done,
-            told: false,
+            reported: false,
         },
         Err(failure) => failure.end(alloc, faults),
     }
@@ -102,9 +102,9 @@ pub fn events_on<W: Write, F: Write>(
     ensures quiet { result ≡ Status.Done → Keeps (F.contents faults.old) (F.contents faults.new) }
     ensures refused { result ≡ Status.Refused → Keeps (W.contents out.old) (W.contents out.new) }
     ensures fault { result ≡ Status.Fault → (file : Form) × (file_spelled input.now ≡ Ok file) }
-    ensures told { result ≢ Status.Done → TellsStatus (IsOfAnswer input.now) result
+    ensures reported { result ≢ Status.Done → ReportsStatus (IsOfAnswer input.now) result
         (F.contents faults.old) (F.contents faults.new) }
-    ensures words { result ≢ Status.BadWords }
+    ensures usage { result ≢ Status.Usage }
 {
     ending_on(alloc, input, out, faults).status
 }
@@ -140,10 +140,10 @@ pub fn ending_from<R: Read, W: Write, F: Write>(
     ensures refused { result.status ≡ Status.Refused → Keeps (W.contents out.old) (W.contents out.new) }
     // A failed read ends in a fault.
     ensures failed { reads.new.failed ≡ true → result.status ≡ Status.Fault }
-    // What is told is the line of a failure of reading, or of the bytes, with this status.
-    ensures told { result.status ≢ Status.Done → Tells (IsOfJob (R.remaining reader.old)) result
+    // What is reported is the line of a failure of reading, or of the bytes, with this status.
+    ensures reported { result.status ≢ Status.Done → Reports (IsOfJob (R.remaining reader.old)) result
         (F.contents faults.old) (F.contents faults.new) }
-    ensures words { result.status ≢ Status.BadWords }
+    ensures usage { result.status ≢ Status.Usage }
 {
     match bytes_of(alloc, reader, reads) {
         Ok(bytes) => ending_on(alloc, &bytes, out, faults),
@@ -163,9 +163,9 @@ pub fn events_from<R: Read, W: Write, F: Write>(
         × Appends (W.contents out.old) (W.contents out.new) (text_for file)) }
     ensures quiet { result ≡ Status.Done → Keeps (F.contents faults.old) (F.contents faults.new) }
     ensures refused { result ≡ Status.Refused → Keeps (W.contents out.old) (W.contents out.new) }
-    ensures told { result ≢ Status.Done → TellsStatus (IsOfJob (R.remaining reader.old)) result
+    ensures reported { result ≢ Status.Done → ReportsStatus (IsOfJob (R.remaining reader.old)) result
         (F.contents faults.old) (F.contents faults.new) }
-    ensures words { result ≢ Status.BadWords }
+    ensures usage { result ≢ Status.Usage }
 {
     let mut reads = Reads::none();
     ending_from(alloc, reader, &mut reads, out, faults).status

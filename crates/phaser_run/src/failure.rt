@@ -1,6 +1,6 @@
 //! Why a job was not done, the line that tells it, and the exit statuses.
 ghost use Rattle.std.specs.Prelude.{◌≡◌, ◌⊎◌};
-ghost use Rattle.phaser_run.specs.Ends.{AppendsFront, Tells, code_of, status_of};
+ghost use Rattle.phaser_run.specs.Ends.{AppendsFront, Reports, code_of, status_of};
 
 use phase_modes::Refusal;
 use std::alloc::Global;
@@ -13,8 +13,8 @@ pub enum Status {
     Done,
     /// The text was refused, or memory ran out.
     Refused,
-    /// The words were bad, or asked for help or the version.
-    BadWords,
+    /// The arguments were bad, or asked for help or the version.
+    Usage,
     /// A read or a write failed.
     Fault,
 }
@@ -27,7 +27,7 @@ impl Status {
         match self {
             Status::Done => 0,
             Status::Refused => 1,
-            Status::BadWords => 2,
+            Status::Usage => 2,
             Status::Fault => 3,
         }
     }
@@ -39,7 +39,7 @@ pub struct Ending {
     /// How the program ends.
     pub status: Status,
     /// Whether the line of a failure was written whole.
-    pub told: bool,
+    pub reported: bool,
 }
 
 /// Why a job was not done.
@@ -69,28 +69,28 @@ impl Failure {
     /// `fault read`, `fault write`. Where the line can't be written, the status stays what it is.
     pub fn end<F: Write>(self, alloc: Global, faults: &mut F) -> Ending
         ensures status { result.status ≡ status_of self }
-        // A refusal whose line gets no memory is told as want of memory.
-        ensures told { Tells (λ f. (f ≡ self) ⊎ (f ≡ Failure.Refused Refusal.Memory)) result
+        // A refusal whose line gets no memory is reported as want of memory.
+        ensures reported { Reports (λ f. (f ≡ self) ⊎ (f ≡ Failure.Refused Refusal.Memory)) result
             (F.contents faults.old) (F.contents faults.new) }
     {
         match self {
             Failure::Refused(refusal) => match format!(in alloc; "{refusal}\n") {
-                Ok(line) => tell(Status::Refused, line.as_str(), faults),
-                Err(_) => tell(Status::Refused, "refused 23 Memory\n", faults),
+                Ok(line) => report(Status::Refused, line.as_str(), faults),
+                Err(_) => report(Status::Refused, "refused 23 Memory\n", faults),
             },
-            Failure::Read => tell(Status::Fault, "fault read\n", faults),
-            Failure::Write => tell(Status::Fault, "fault write\n", faults),
+            Failure::Read => report(Status::Fault, "fault read\n", faults),
+            Failure::Write => report(Status::Fault, "fault write\n", faults),
         }
     }
 }
 
 /// The ending with this status, whose line this is.
-fn tell<F: Write>(status: Status, line: &str, faults: &mut F) -> Ending
+fn report<F: Write>(status: Status, line: &str, faults: &mut F) -> Ending
     ensures status { result.status ≡ status }
-    ensures line { AppendsFront result.told (F.contents faults.old) (F.contents faults.new) line.now }
+    ensures line { AppendsFront result.reported (F.contents faults.old) (F.contents faults.new) line.now }
 {
-    let told = write_text(faults, line);
-    Ending { status, told }
+    let reported = write_text(faults, line);
+    Ending { status, reported }
 }
 
 /// How many writes are tried for one text.

@@ -1,4 +1,4 @@
-//! The program: the words of the command line to a job, the job's file to lines.
+//! The program: the arguments of the command line to a job, the job's file to lines.
 #![tactic(auto)]
 
 ghost use Rattle.std.specs.Prelude.{◌≡◌, ◌≢◌, ◌⊎◌, IfSome, Ok};
@@ -25,30 +25,30 @@ fn main(rt: HostRuntime) -> ExitCode {
     ExitCode::from(run(&rt).code())
 }
 
-/// Reads the words, and does the job that they name.
+/// Reads the arguments, and does the job that they name.
 fn run(rt: &HostRuntime) -> Status {
-    let words: Vec<String> = match env::args(rt) {
+    let arguments: Vec<String> = match env::args(rt) {
         Ok(args) => match args.collect(rt.alloc()) {
-            Ok(words) => words,
+            Ok(arguments) => arguments,
             Err(_) => return out_of_memory(rt),
         },
         Err(error) if error.kind() == ErrorKind::OutOfMemory => return out_of_memory(rt),
-        Err(_) => return bad_words(rt, "error: the words are not text\n"),
+        Err(_) => return print_usage(rt, "error: the words are not text\n"),
     };
     let mut borrowed: Vec<&str> = Vec::new(rt.alloc());
-    for word in &words {
-        if borrowed.push(word.as_str()).is_err() {
+    for argument in &arguments {
+        if borrowed.push(argument.as_str()).is_err() {
             return out_of_memory(rt);
         }
     }
     match job_of(rt.alloc(), borrowed.as_slice()) {
         Ok(Job::Events { file }) => answer_file(rt, file),
-        Err(no_job) => no_words(rt, &no_job),
+        Err(no_job) => print_no_job(rt, &no_job),
     }
 }
 
 /// Prints why there is no job, as one text.
-fn no_words(rt: &HostRuntime, no_job: &NoJob) -> Status
+fn print_no_job(rt: &HostRuntime, no_job: &NoJob) -> Status
     ensures { (result ≡ no_job_status no_job.now) ⊎ (result ≡ Status.Refused) }
 {
     match no_job.to_string(rt.alloc()) {
@@ -61,14 +61,14 @@ fn no_words(rt: &HostRuntime, no_job: &NoJob) -> Status
 }
 
 /// Prints the text to standard error. A text that can't be written changes no status.
-fn bad_words(rt: &HostRuntime, text: &str) -> Status
-    ensures { result ≡ Status.BadWords }
+fn print_usage(rt: &HostRuntime, text: &str) -> Status
+    ensures { result ≡ Status.Usage }
 {
     write_text(&mut rt.stderr(), text);
-    Status::BadWords
+    Status::Usage
 }
 
-/// Tells the failure on standard error.
+/// Reports the failure on standard error.
 fn failed(rt: &HostRuntime, failure: Failure) -> Status
     ensures { result ≡ status_of failure }
 {
@@ -83,7 +83,7 @@ fn out_of_memory(rt: &HostRuntime) -> Status
 
 /// Answers the events file of that name, or standard input for `-`.
 fn answer_file(rt: &HostRuntime, file: &str) -> Status
-    ensures { result ≢ Status.BadWords }
+    ensures { result ≢ Status.Usage }
 {
     if file == "-" {
         return answer_from(rt, &mut rt.stdin());
@@ -98,7 +98,7 @@ fn answer_file(rt: &HostRuntime, file: &str) -> Status
 fn answer_from<R: Read>(rt: &HostRuntime, reader: &mut R) -> Status
     ensures done { result ≡ Status.Done → IfSome (R.remaining reader.old) (λ all.
         (file : Form) × (file_spelled all ≡ Ok file)) }
-    ensures words { result ≢ Status.BadWords }
+    ensures usage { result ≢ Status.Usage }
 {
     let Ok(mut out) = BufWriter::new(rt.alloc(), rt.stdout()) else {
         return out_of_memory(rt);

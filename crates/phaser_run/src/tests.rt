@@ -1,20 +1,20 @@
 //! The worked examples, each with the lines that it is to print.
+mod argument_cases;
 mod edges;
-mod word_cases;
 
 use crate::events::events_on;
 use crate::failure::Status;
 use std::alloc::Global;
 use std::process::Abort;
 
-/// Answers the text, and compares how that ends, the lines, and what is told of failures.
+/// Answers the text, and compares how that ends, the lines, and what is reported of failures.
 fn check(rt: &impl Abort, alloc: Global, text: &str, status: Status, lines: &str, faults: &str) {
     let mut out = Vec::new(alloc);
-    let mut told = Vec::new(alloc);
-    let ended = events_on(alloc, text.as_bytes(), &mut out, &mut told);
+    let mut reported = Vec::new(alloc);
+    let ended = events_on(alloc, text.as_bytes(), &mut out, &mut reported);
     assert_eq!(rt; ended, status, "{text}");
     assert_eq!(rt; out.as_slice(), lines.as_bytes(), "{text}");
-    assert_eq!(rt; told.as_slice(), faults.as_bytes(), "{text}");
+    assert_eq!(rt; reported.as_slice(), faults.as_bytes(), "{text}");
 }
 
 /// The text is answered by these lines.

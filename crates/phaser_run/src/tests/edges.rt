@@ -187,12 +187,12 @@ fn no_read_after_a_fault(rt: HostRuntime) {
     let mut out = Vec::new(rt.alloc());
     let mut faults = Vec::new(rt.alloc());
     let ended = ending_from(rt.alloc(), &mut reader, &mut reads, &mut out, &mut faults);
-    let told = true;
+    let reported = true;
     assert_eq!(rt;
         ended,
         Ending {
             status: Status::Fault,
-            told
+            reported
         }
     );
     assert_eq!(rt; reader.calls, 9);
@@ -215,12 +215,12 @@ fn one_write_a_line(rt: HostRuntime) {
     for (failure, line) in lines {
         let mut faults = CountsWrites { taken: 0, calls: 0 };
         let ended = failure.end(rt.alloc(), &mut faults);
-        assert!(rt; ended.told, "{line}");
+        assert!(rt; ended.reported, "{line}");
         assert_eq!(rt; faults.calls, 1, "{line}");
         assert_eq!(rt; faults.taken, line.len());
         let mut text = Vec::new(rt.alloc());
         let ended = failure.end(rt.alloc(), &mut text);
-        assert!(rt; ended.told, "{line}");
+        assert!(rt; ended.reported, "{line}");
         assert_eq!(rt; text.as_slice(), line.as_bytes());
     }
 }
@@ -234,7 +234,7 @@ fn line_not_told(rt: HostRuntime) {
         let mut faults = FailsAfter { calls };
         let ended = ending_on(rt.alloc(), b"7", &mut out, &mut faults);
         assert_eq!(rt; ended.status, Status::Refused);
-        assert_eq!(rt; ended.told, calls == line.len(), "{calls}");
+        assert_eq!(rt; ended.reported, calls == line.len(), "{calls}");
     }
 }
 

@@ -1,15 +1,15 @@
--- What is told of a failure, where more failures may be the one.
+-- What is reported of a failure, where more failures may be the one.
 use Rattle.std.proofs.Common.{◌≡◌, ◌⊎◌, ℕ, List, Option, codes, inl, inr, refl, sym, subst}
 use Rattle.std.specs.Fmt.{digits}
 use Rattle.phase_modes.specs.declared.refusal.Refusal.TheVariants.{Memory}
 use Rattle.phaser_run.specs.declared.failure.Ending.{Ending}
 use Rattle.phaser_run.specs.declared.failure.Failure.{Failure}
 use Rattle.phaser_run.specs.declared.failure.Failure.TheVariants.{Refused}
-use Rattle.phaser_run.specs.Ends.{Tells, failure_line}
+use Rattle.phaser_run.specs.Ends.{Reports, failure_line}
 
-pub tells_more : (Known More : Failure → Type 0) (e : Ending) (old new : Option (List ℕ))
-    → ((f : Failure) → Known f → More f) → Tells Known e old new → Tells More e old new
-tells_more Known More e old new more t = (t.0, t.1, more t.0 t.2, t.3)
+pub reports_more : (Known More : Failure → Type 0) (e : Ending) (old new : Option (List ℕ))
+    → ((f : Failure) → Known f → More f) → Reports Known e old new → Reports More e old new
+reports_more Known More e old new more t = (t.0, t.1, more t.0 t.2, t.3)
 
 -- this failure, or want of memory
 either : (More : Failure → Type 0) (self f : Failure) → More self → More (Refused Memory)
@@ -17,9 +17,12 @@ either : (More : Failure → Type 0) (self f : Failure) → More self → More (
 either More self f own memory (inl e) = subst More (sym e) own
 either More self f own memory (inr e) = subst More (sym e) memory
 
-pub tells_of : (More : Failure → Type 0) (self : Failure) (e : Ending) (old new : Option (List ℕ)) → More self
-    → More (Refused Memory) → Tells (λ f. (f ≡ self) ⊎ (f ≡ Refused Memory)) e old new → Tells More e old new
-tells_of More self e old new own memory t = tells_more _ More e old new (λ f. either More self f own memory) t
+pub reports_of : (More : Failure → Type 0) (self : Failure) (e : Ending) (old new : Option (List ℕ))
+    → More self
+    → More (Refused Memory) → Reports (λ f. (f ≡ self) ⊎ (f ≡ Refused Memory)) e old new
+    → Reports More e old new
+reports_of More self e old new own memory t =
+    reports_more _ More e old new (λ f. either More self f own memory) t
 
 -- the fixed line of want of memory
 pub memory_line : codes "refused 23 Memory\n" ≡ failure_line (Refused Memory)

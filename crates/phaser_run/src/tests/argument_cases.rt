@@ -1,4 +1,4 @@
-//! Words that name a job, and words that name none.
+//! Arguments that name a job, and arguments that name none.
 use crate::command_line::{Job, job_of};
 use crate::failure::Status;
 use std::alloc::Global;
@@ -6,7 +6,7 @@ use std::process::Abort;
 use std::test::Fail;
 
 #[test]
-fn good_words(rt: HostRuntime) -> Result<(), Fail> {
+fn good_arguments(rt: HostRuntime) -> Result<(), Fail> {
     let good: [(&[&str], &str); 6] = [
         (&["phaser_run", "events", "-"], "-"),
         (&["phaser_run", "events", "x.json"], "x.json"),
@@ -15,34 +15,34 @@ fn good_words(rt: HostRuntime) -> Result<(), Fail> {
         (&["phaser_run", "events", "help"], "help"),
         (&["", "events", ""], ""),
     ];
-    for (words, file) in good {
-        let job = job_of(rt.alloc(), words).ok().ok_or("a job")?;
-        assert_eq!(rt; job, Job::Events { file }, "{words:?}");
+    for (arguments, file) in good {
+        let job = job_of(rt.alloc(), arguments).ok().ok_or("a job")?;
+        assert_eq!(rt; job, Job::Events { file }, "{arguments:?}");
     }
     Ok(())
 }
 
-/// The words name no job; the message has this part.
+/// The arguments name no job; the message has this part.
 fn is_bad<'a>(
     rt: &impl Abort,
     alloc: Global,
-    words: &'a [&'a str],
+    arguments: &'a [&'a str],
     part: &str,
 ) -> Result<(), Fail> {
-    match job_of(alloc, words) {
-        Ok(_) => panic!(rt; "a job: {words:?}"),
+    match job_of(alloc, arguments) {
+        Ok(_) => panic!(rt; "a job: {arguments:?}"),
         Err(no_job) => {
-            assert_eq!(rt; no_job.status(), Status::BadWords, "{words:?}");
+            assert_eq!(rt; no_job.status(), Status::Usage, "{arguments:?}");
             let text = no_job.to_string(alloc)?;
-            assert!(rt; text.as_str().contains(part), "{words:?}: {text}");
-            assert!(rt; text.as_str().ends_with("\n"), "{words:?}: {text}");
+            assert!(rt; text.as_str().contains(part), "{arguments:?}: {text}");
+            assert!(rt; text.as_str().ends_with("\n"), "{arguments:?}: {text}");
         }
     }
     Ok(())
 }
 
 #[test]
-fn bad_words(rt: HostRuntime) -> Result<(), Fail> {
+fn bad_arguments(rt: HostRuntime) -> Result<(), Fail> {
     let alloc = rt.alloc();
     is_bad(&rt, alloc, &[], "Usage: phaser_run <COMMAND>")?;
     is_bad(&rt, alloc, &["phaser_run"], "Usage: phaser_run <COMMAND>")?;
