@@ -20,6 +20,7 @@ use Rattle.world_model.proofs.AbleComputed.{idle_in_act, refuse_idle, made_done_
 use Rattle.world_model.proofs.SpawnUnderWay.{begins_spawn, named_later, spawner_later}
 use Rattle.world_model.proofs.BornWhereNamed.{unborn_child}
 use Rattle.world_model.proofs.LeavingAlways.{no_half_child}
+use Rattle.world_model.proofs.SmallWords.{eq_self}
 
 -- a task is the spawner of each child that it named
 abbrev IsOwnChild : ℕ → List WorldEvent → ℕ → Type 0
@@ -45,10 +46,7 @@ named_is_own l t c (e ∷ w) k h = let a = last_accepted l e w k in own_later l 
 none_kept : (p : ℕ → Bool) (xs : List ℕ) → ((x : ℕ) → has x xs ≡ true → p x ≡ false) → filter p xs ≡ []
 none_kept p [] e = refl
 none_kept p (x ∷ xs) e =
-    rw (e x (or_left (x == x) (has x xs) (eqb_self x))) (none_kept p xs (λ y h. e y (or_right (x == y) (has y xs) h)))
-  where
-    eqb_self : (n : ℕ) → (n == n) ≡ true
-    eqb_self n = grind
+    rw (e x (or_left (x == x) (has x xs) (eq_self x))) (none_kept p xs (λ y h. e y (or_right (x == y) (has y xs) h)))
 
 -- an idle task has none
 pub idle_unborn : (l : Limits) (t : ℕ) (w : List WorldEvent) → is_legal_world l w ≡ true → is_idle t w ≡ true → unborn t w ≡ []
