@@ -5,7 +5,6 @@ pub mod Ready
 pub mod Entries
 pub mod Owed
 pub mod Standing
-pub mod NextBegun
 pub mod Calls
 pub mod Quiet
 pub mod Called

@@ -3,9 +3,9 @@ ghost use Rattle.std.specs.Prelude.{◌≡◌, ◌≤◌, ◌&&◌, not, length,
 ghost use Rattle.world_core.specs.Kept.{blank_task, is_idle_plan, past_in};
 ghost use Rattle.world_core.specs.inner.Steps.{owes, turn_begun, passing, is_to_signal, signal_noted, is_to_pass, pass_noted, opening};
 
+use crate::phaser::KeptPhaser;
 use crate::plan::Plan;
 use phase_modes::Refusal;
-use crate::phaser::KeptPhaser;
 use std::alloc::Global;
 use std::marker::Model;
 

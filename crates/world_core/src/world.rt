@@ -3,22 +3,18 @@ ghost use Rattle.std.specs.Prelude.{◌≡◌, ◌<◌, not, nat_lt, length, IfO
 ghost use Rattle.phase_modes.specs.Limits.{limits_fit};
 ghost use Rattle.phase_modes.specs.Refusal.{first_refusal};
 ghost use Rattle.finish_core.specs.Finish.{fresh};
-ghost use Rattle.world_core.specs.Kept.{blank_task, blank_story, first_state, task_at, story_at, finish_at, is_ready};
-ghost use Rattle.phase_modes.specs.Lists.{is_empty};
-ghost use Rattle.world_core.specs.inner.Steps.{first_conditions, free_unless, next_answer, next_state, phaser_called, is_to_signal, signal_answer, signal_state, is_to_pass, may_claim, may_report, passed_on, pass_answer, pass_state, open_conditions, open_answer, open_state, claim_answer, claim_state, report_answer, report_state};
-ghost use Rattle.phase_model.specs.Replies.{reply, done_result};
-ghost use Rattle.phase_model.specs.declared.call.Call.TheVariants.{Signal as signal, Pass as pass, SingleDone as single_done};
-ghost use Rattle.world_core.specs.StandsFor.{StandsFor, IsStep};
+ghost use Rattle.world_core.specs.Kept.{blank_task, blank_story, first_state, task_at, is_ready};
+ghost use Rattle.world_core.specs.inner.Steps.{first_conditions, free_unless};
+ghost use Rattle.world_core.specs.StandsFor.{StandsFor};
 
-use world_model::{Begun, Step, WorldEvent};
-use world_model::Reply;
-use crate::task::Task;
-use finish_core::{FinishEvent, FinishState};
-use phase_modes::{Limits, Refusal};
 use crate::phaser::KeptPhaser;
-use phaser_core::Passing;
+use crate::task::Task;
+use finish_core::FinishState;
+use phase_modes::{Limits, Refusal};
 use std::alloc::Global;
 use std::marker::Model;
+
+mod turns;
 
 /// Many phasers, finishes and tasks at once.
 #[derive(Drop)]
@@ -181,78 +177,5 @@ impl World {
             return Err(Refusal::ActsFull);
         }
         Ok(())
-    }
-
-    /// Begins a `next`.
-    fn begin_next(&mut self, task: u32) -> Result<Reply, Refusal>
-        ensures answer { result ≡ next_answer self.old task }
-        ensures state { self.new ≡ next_state self.old task }
-    {
-        self.may_act(task, false, true)?;
-        let line = &mut self.tasks[task as usize];
-        line.owe(task, &self.phasers);
-        line.begin_turn(None);
-        Ok(Reply::Done)
-    }
-
-    /// The step that begins a `next`.
-    pub fn step_next(&mut self, task: u32) -> Result<Reply, Refusal>
-        ensures { IsStep (WorldEvent.Begin task Begun.Next) self.old self.new result }
-    {
-        self.begin_next(task)
-    }
-
-    #[tactic(auto, using(crate::proofs::Calls::kept))]
-    /// Signals on a phaser for a task. A number without a phaser knows no task.
-    fn signal_on(&mut self, phaser: u32, task: u32, number: Option<u32>) -> Result<(), Refusal>
-        ensures reply { result ≡ done_result (reply (story_at self.old phaser) (signal task number)) }
-        ensures state { IfOk result (λ _. self.new ≡ phaser_called self.old phaser (signal task number)) }
-        ensures place { IfOk result (λ _. phaser < length self.old.phasers) }
-        ensures kept { IfErr result (λ _. self.new ≡ self.old) }
-    {
-        if phaser as usize >= self.phasers.len() {
-            return Err(Refusal::NotRegistered);
-        }
-        let state = &mut self.phasers[phaser as usize];
-        state.signal(task, number)?;
-        Ok(())
-    }
-
-    /// Whether the task's next event is to signal with this number on this phaser.
-    fn is_to_signal(&self, task: u32, phaser: u32, number: Option<u32>) -> bool
-        ensures to { result ≡ is_to_signal (task_at self.now task) phaser number }
-        ensures place { result ≡ true → task < length self.now.tasks }
-    {
-        if task as usize >= self.tasks.len() {
-            return false;
-        }
-        let line = &self.tasks[task as usize];
-        line.is_to_signal(phaser, number)
-    }
-
-    /// A signal of an act under way.
-    fn signal_due(&mut self, phaser: u32, task: u32, number: Option<u32>) -> Result<Reply, Refusal>
-        ensures answer { result ≡ signal_answer self.old phaser task number }
-        ensures state { self.new ≡ signal_state self.old phaser task number }
-    {
-        if !self.is_to_signal(task, phaser, number) {
-            return Err(Refusal::NotNow);
-        }
-        self.signal_on(phaser, task, number)?;
-        let line = &mut self.tasks[task as usize];
-        line.note_signal();
-        Ok(Reply::Done)
-    }
-
-    /// The step that makes a signal of an act under way.
-    pub fn step_signal(
-        &mut self,
-        phaser: u32,
-        task: u32,
-        number: Option<u32>,
-    ) -> Result<Reply, Refusal>
-        ensures { IsStep (WorldEvent.Phaser phaser (Step.Sig task number)) self.old self.new result }
-    {
-        self.signal_due(phaser, task, number)
     }
 }

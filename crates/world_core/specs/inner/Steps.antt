@@ -75,13 +75,6 @@ owing s t = record (task_at s t) { left = filter (λ n. owes t (past_in s.phaser
 abbrev pub with_task : WorldState → ℕ → TaskState → WorldState
 with_task s t k = record s { tasks = set s.tasks t k }
 
--- a `next`
-abbrev pub next_answer : WorldState → ℕ → Result Reply Refusal
-next_answer s t = done_unless (first_refusal (first_conditions s t false true))
-
-abbrev pub next_state : WorldState → ℕ → WorldState
-next_state s t = unless_refused (first_refusal (first_conditions s t false true)) s (with_task s t (turn_begun None (owing s t)))
-
 -- the state after a call that phaser n has done
 abbrev pub phaser_called : WorldState → ℕ → Call → WorldState
 phaser_called s n c = record s { phasers = set s.phasers n (after (story_at s n) (phaser.reply (story_at s n) c)) }
