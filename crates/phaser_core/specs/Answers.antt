@@ -1,5 +1,5 @@
 -- What the calls return that have an answer of their own.
-use Rattle.std.specs.Prelude.{List, Result, Ok, Err, unwrap_or}
+use Rattle.std.specs.Prelude.{List, ◌∷◌, Result, Ok, Err, unwrap_or}
 use Rattle.phase_modes.specs.declared.refusal.Refusal.{Refusal}
 use Rattle.phase_modes.specs.declared.refusal.Refusal.TheVariants.{NotNow}
 use Rattle.phase_model.specs.declared.event.Event.{Event}
@@ -7,6 +7,8 @@ use Rattle.phase_model.specs.declared.event.Event.TheVariants.{Pass, Claim, Look
 use Rattle.phase_model.specs.declared.op.Look.{Look}
 use Rattle.phase_model.specs.Phases.{waits}
 use Rattle.phase_model.specs.Singles.{number_of}
+use Rattle.phase_model.specs.declared.op.Op.{Op}
+use Rattle.phase_model.specs.Rules.{Story}
 use Rattle.phase_model.specs.Replies.{Reply, refused, not_yet, done}
 use Rattle.phaser_core.specs.declared.state.Passing.{Passing}
 use Rattle.phaser_core.specs.declared.state.Passing.TheVariants.{Passed, Claimed, NotYet}
@@ -33,3 +35,9 @@ abbrev pub look_result : Reply → Result Look Refusal
 look_result (refused r) = Err r
 look_result not_yet = Err NotNow
 look_result (done e) = seen e
+
+-- the story after a phaser was asked to be made with these operators
+abbrev pub made_with : Story → List Op → Reply → Story
+made_with s ops (refused r) = s
+made_with s ops not_yet = s
+made_with s ops (done e) = record { limits = s.limits; ops = ops; past = e ∷ s.past }

@@ -7,6 +7,8 @@ use Rattle.phase_model.specs.declared.reply.Reply.TheVariants.{Done, Phase, Clai
 use Rattle.phaser_core.specs.declared.state.Passing.{Passing}
 use Rattle.phaser_core.specs.declared.state.Passing.TheVariants.{Passed, Claimed}
 use Rattle.phaser_core.specs.declared.state.Passing.TheVariants as passings
+use Rattle.phaser_core.specs.declared.turn.Turn.{Turn}
+use Rattle.phaser_core.specs.declared.turn.Turn.TheVariants.{Passes, Claims, Waits}
 
 -- of a call without a result of its own
 abbrev pub done_reply : Result (Unit {0}) Refusal → Reply
@@ -24,3 +26,10 @@ pass_reply (Err r) = Refused r
 abbrev pub look_reply : Result Look Refusal → Reply
 look_reply (Ok x) = Saw x
 look_reply (Err r) = Refused r
+
+-- of a `pass` that would go on like this
+abbrev pub turn_reply : Result Turn Refusal → Reply
+turn_reply (Ok (Passes i p)) = Phase p
+turn_reply (Ok (Claims o n)) = Claim n
+turn_reply (Ok Waits) = NotYet
+turn_reply (Err r) = Refused r

@@ -38,7 +38,7 @@ comm_under : (b : Bool) (x : ℕ) → x + cond b (0 + 1) 0 ≡ cond b (x + 1) x
 comm_under true x = omega arith
 comm_under false x = omega arith
 
-times-reverse : (n : ℕ) (xs : List ℕ) → times n (reverse xs) ≡ times n xs
+pub times-reverse : (n : ℕ) (xs : List ℕ) → times n (reverse xs) ≡ times n xs
 times-reverse n [] = refl
 times-reverse n (x ∷ xs) =
     ap (times n) (reverse-append (x ∷ []) xs)

@@ -49,7 +49,8 @@ enclosing_later l n (Phaser m (Make u mode ops)) w a k =
     ]
 enclosing_later l n e w a k = refl
 
-unregistered : (l : Limits) (w : List WorldEvent) (u x : ℕ) (ps : List Pair) → is_legal_world l w ≡ true
+-- whom a spawn names was never registered
+pub unregistered : (l : Limits) (w : List WorldEvent) (u x : ℕ) (ps : List Pair) → is_legal_world l w ≡ true
     → is_accepted l w (Begin u (Async x ps)) ≡ true → (n : ℕ) → is_registered x (phaser_past n w) ≡ false
 unregistered l w u x ps k a n =
     false_from_ne_true (is_registered x (phaser_past n w))
@@ -190,7 +191,8 @@ module _ (l : Limits) (q c : ℕ) where
   inner_single (Phaser m (Did u)) w s = refl
   inner_single e w s = absurd (false≢true s)
 
-  spawner_born : (w : List WorldEvent) → is_legal_world l w ≡ true → begins_spawn c (last_entry q w) ≡ true
+  -- who spawns was born
+  pub spawner_born : (w : List WorldEvent) → is_legal_world l w ≡ true → begins_spawn c (last_entry q w) ≡ true
       → is_born q w ≡ true
   spawner_born w k s =
       elim (cases_Bool (is_born q w)) [

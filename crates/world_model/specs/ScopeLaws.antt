@@ -1,5 +1,5 @@
--- Laws of finishes and tasks: what a child may get, and who is left where a finish is shut.
-use Rattle.std.specs.Prelude.{ℕ, ◌≡◌, true, false, List, ◌∷◌, ◌++◌}
+-- Laws of finishes and tasks: what a child may get, how many phasers a task is on, and who is left where a finish is shut.
+use Rattle.std.specs.Prelude.{ℕ, ◌≤◌, ◌≡◌, true, false, List, ◌∷◌, ◌++◌, length}
 use Rattle.phase_modes.specs.declared.mode.Mode.{Mode}
 use Rattle.phase_model.specs.Tasks.{is_live}
 use Rattle.phase_model.specs.Conditions.{is_within_task}
@@ -11,7 +11,8 @@ use Rattle.world_model.specs.declared.event.WorldEvent.TheVariants.{Phaser, Fini
 use Rattle.world_model.specs.Laws.{OfEachWorld}
 use Rattle.world_model.specs.Scopes.{inner, owner, enclosing}
 use Rattle.world_model.specs.Parts.{phaser_past, finish_past}
-use Rattle.world_model.specs.Tasks.{is_ended}
+use Rattle.world_model.specs.Tasks.{is_ended, phasers_of}
+use Rattle.world_model.specs.Acts.{most_phasers_held}
 use Rattle.world_model.specs.Numbers.{is_finish}
 
 -- a child gets no capability that its spawner lacks,
@@ -20,6 +21,10 @@ abbrev pub RegistrationsAreWithin : Type 0
 RegistrationsAreWithin = OfEachWorld (λ l w.
     (later before : List WorldEvent) (n q t : ℕ) (m : Mode) → w ≡ later ++ Phaser n (Reg q t m) ∷ before
     → (is_within_task m q (phaser_past n before) ≡ true) × (inner q before ≡ enclosing n before))
+
+-- a task, a child that is being spawned too, is never on more than 16 phasers
+abbrev pub PhasersHeldAreFew : Type 0
+PhasersHeldAreFew = OfEachWorld (λ l w. (t : ℕ) → length (phasers_of t w) ≤ most_phasers_held)
 
 -- t was spawned in f, or in a finish that a task opened that is itself inside f
 pub data Inside (w : List WorldEvent) (f : ℕ) : ℕ → Type 0 where

@@ -3,7 +3,7 @@
 ghost use Rattle.world_model.specs.ClockLaws.{ClocksAgree, ClocksFit};
 ghost use Rattle.world_model.specs.Laws.{FinishesAreLegal, PhasersAreFolded, PhasersAreLegal, PhasersAreOrdered};
 ghost use Rattle.world_model.specs.ProgressLaws.{AbleIsComputed, NextsAreExpected, NobodyIsStuck};
-ghost use Rattle.world_model.specs.ScopeLaws.{RegistrationsAreWithin, ShutsLeaveNobody};
+ghost use Rattle.world_model.specs.ScopeLaws.{PhasersHeldAreFew, RegistrationsAreWithin, ShutsLeaveNobody};
 
 /// The history of each phaser is legal.
 pub fn phasers_are_legal()
@@ -31,6 +31,12 @@ pub fn finishes_are_legal()
 /// innermost finish encloses.
 pub fn registrations_are_within()
     ensures { RegistrationsAreWithin }
+{}
+
+/// A task is never on more than 16 phasers; nor is a child that is being spawned, since it comes to
+/// its spawner's alone.
+pub fn phasers_held_are_few()
+    ensures { PhasersHeldAreFew }
 {}
 
 /// Where a finish is shut, each task inside it has ended, and nobody is left on a phaser that it

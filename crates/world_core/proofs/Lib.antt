@@ -1,0 +1,11 @@
+pub mod Fits
+pub mod Tables
+pub mod First
+pub mod Ready
+pub mod Entries
+pub mod Owed
+pub mod Standing
+pub mod Calls
+pub mod Quiet
+pub mod Called
+pub mod SignalMade

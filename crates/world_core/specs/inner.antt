@@ -1,0 +1,3 @@
+-- What the code's own functions say, by the state alone: no public contract cites it.
+pub mod Sizes
+pub mod Steps

@@ -1,0 +1,146 @@
+//! A phaser as a world keeps it: contracts see its story alone, and each has room for four
+//! accumulators, whatever it will be made with.
+ghost use Rattle.std.specs.Prelude.{◌≡◌, [], length, true, IfOk, IfErr};
+ghost use Rattle.phase_modes.specs.Limits.{limits_fit};
+ghost use Rattle.phase_model.specs.Rules.{is_legal, is_permitted};
+ghost use Rattle.phase_model.specs.declared.call.Call.TheVariants.{Make as make, Register as register, Signal as signal, Pass as pass, SingleDone as single_done, Send as send, Look as look, Drop as drop_task};
+ghost use Rattle.phase_model.specs.Replies.{reply, returned, after, done_result};
+ghost use Rattle.phaser_core.specs.Answers.{pass_result, look_result, made_with};
+ghost use Rattle.phaser_core.specs.Table.{registration};
+ghost use Rattle.world_core.specs.Kept.{blank_story};
+
+use phase_model::{Call, Event, History, Look, Ops, Reply};
+use phase_modes::{Limits, Mode, Refusal, Reg};
+use phaser_core::{Passing, PhaserState};
+use std::alloc::Global;
+use std::marker::Model;
+
+/// A phaser of a world.
+#[derive(Drop)]
+pub struct KeptPhaser {
+    state: PhaserState,
+}
+
+impl Model for KeptPhaser {
+    ghost use Rattle.std.specs.Prelude.{◌≡◌};
+    ghost use Rattle.phase_model.specs.Rules.{Story};
+
+    ghost Value = { Story };
+
+    ghost view = { λ p. p.state.story };
+
+    ghost invariant = { λ p. p.state.room ≡ 4 };
+}
+
+impl KeptPhaser {
+    /// A phaser that nobody has made yet.
+    pub fn blank(alloc: Global, limits: Limits) -> Result<KeptPhaser, Refusal>
+        requires { limits_fit limits ≡ true }
+        ensures blank { IfOk result (λ p. p ≡ blank_story limits) }
+        ensures memory { IfErr result (λ r. r ≡ Refusal.Memory) }
+    {
+        let state = PhaserState::blank(alloc, limits)?;
+        Ok(KeptPhaser { state })
+    }
+
+    /// Makes it with these operators, and registers its maker.
+    pub fn make_with(&mut self, task: u32, mode: Mode, ops: Ops) -> Result<(), Refusal>
+        ensures reply { result ≡ done_result (reply self.old (make task mode)) }
+        ensures history { self.new ≡ made_with self.old ops (reply self.old (make task mode)) }
+    {
+        let _four_at_most = ops.len();
+        self.state.make_with(task, mode, ops)
+    }
+
+    /// Registers a child where its parent stands.
+    pub fn register(&mut self, parent: u32, child: u32, mode: Mode) -> Result<(), Refusal>
+        ensures reply { result ≡ done_result (reply self.old (register parent child mode)) }
+        ensures history { self.new ≡ after self.old (reply self.old (register parent child mode)) }
+    {
+        self.state.register(parent, child, mode)
+    }
+
+    /// Signals the task's phase.
+    pub fn signal(&mut self, task: u32, number: Option<u32>) -> Result<(), Refusal>
+        ensures reply { result ≡ done_result (reply self.old (signal task number)) }
+        ensures history { self.new ≡ after self.old (reply self.old (signal task number)) }
+    {
+        self.state.signal(task, number)
+    }
+
+    /// Asks to end the task's turn.
+    pub fn pass(&mut self, task: u32) -> Result<Passing, Refusal>
+        ensures reply { result ≡ pass_result self.old.past (reply self.old (pass task)) }
+        ensures history { self.new ≡ after self.old (reply self.old (pass task)) }
+    {
+        self.state.pass(task)
+    }
+
+    /// Reports the single done that the task had claimed.
+    pub fn single_done(&mut self, task: u32) -> Result<(), Refusal>
+        ensures reply { result ≡ done_result (reply self.old (single_done task)) }
+        ensures history { self.new ≡ after self.old (reply self.old (single_done task)) }
+    {
+        self.state.single_done(task)
+    }
+
+    /// Sends a value to an accumulator.
+    pub fn send(&mut self, task: u32, accumulator: u8, value: i32) -> Result<(), Refusal>
+        ensures reply { result ≡ done_result (reply self.old (send task accumulator value)) }
+        ensures history { self.new ≡ after self.old (reply self.old (send task accumulator value)) }
+    {
+        self.state.send(task, accumulator, value)
+    }
+
+    /// What an accumulator holds for the task.
+    pub fn look(&mut self, task: u32, accumulator: u8) -> Result<Look, Refusal>
+        ensures reply { result ≡ look_result (reply self.old (look task accumulator)) }
+        ensures history { self.new ≡ after self.old (reply self.old (look task accumulator)) }
+    {
+        self.state.look(task, accumulator)
+    }
+
+    /// Drops the task.
+    pub fn drop_task(&mut self, task: u32) -> Result<(), Refusal>
+        ensures reply { result ≡ done_result (reply self.old (drop_task task)) }
+        ensures history { self.new ≡ after self.old (reply self.old (drop_task task)) }
+    {
+        self.state.drop_task(task)
+    }
+
+    /// What a call would be answered now.
+    pub fn reply_to(&self, call: Call) -> Reply
+        ensures { result ≡ returned self.now.past (reply self.now call) }
+    {
+        self.state.reply_to(call)
+    }
+
+    /// How the task is registered now.
+    pub fn registration(&self, task: u32) -> Option<Reg>
+        ensures { result ≡ registration task self.now.past }
+    {
+        self.state.registration(task)
+    }
+
+    /// Whether the task may claim the single of its phase.
+    pub fn may_claim(&self, task: u32) -> bool
+        ensures { result ≡ is_permitted self.now.limits self.now.ops self.now.past (Event.Claim task) }
+    {
+        self.state.may_claim(task)
+    }
+
+    /// Whether the task may report the single done that it claimed.
+    pub fn may_report(&self, task: u32) -> bool
+        ensures { result ≡ is_permitted self.now.limits self.now.ops self.now.past (Event.Did task) }
+    {
+        self.state.may_report(task)
+    }
+
+    /// All that was done on it.
+    pub fn history(&self) -> &History
+        ensures history { result.now ≡ self.now }
+        ensures legal { is_legal self.now.limits self.now.ops self.now.past ≡ true }
+    {
+        self.state.history()
+    }
+}
