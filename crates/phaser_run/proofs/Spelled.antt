@@ -1,6 +1,7 @@
 -- The file that bytes spell, where there are no more than the limit.
 use Rattle.std.proofs.Common.{◌≡◌, ℕ, List, length, nat_le, true, refl}
-use Rattle.events_text.specs.Form.{form_of, reading}
+use Rattle.text_words.specs.Reading.{reading}
+use Rattle.events_text.specs.Form.{form_of}
 use Rattle.phaser_run.specs.File.{file_spelled}
 use Rattle.phaser_run.specs.declared.events.TheConstants.{MOST_BYTES}
 

@@ -1,6 +1,7 @@
 -- The events file that bytes spell, within the limit of their number.
 use Rattle.std.specs.Prelude.{ℕ, List, length, nat_le, if◌then◌else◌, Result, Err}
-use Rattle.events_text.specs.Form.{Form, form_of, reading}
+use Rattle.text_words.specs.Reading.{reading}
+use Rattle.events_text.specs.Form.{Form, form_of}
 use Rattle.phaser_run.specs.declared.events.TheConstants.{MOST_BYTES}
 
 -- the file, or the place of the first fault; more bytes than an events file may have are at fault at 0

@@ -1,8 +1,8 @@
 use Rattle.std.proofs.Common.{◌≡◌, ◌∙◌, Some, rules}
 use Rattle.serde_json.specs.Find.{as_object}
 use Rattle.serde_json.specs.View.{view, members_view}
-use Rattle.events_text.proofs.Keys.{only_keys_entries}
-use Rattle.events_text.proofs.reading.has_only_keys.Goals as goal
+use Rattle.text_words.proofs.Keys.{only_keys_entries}
+use Rattle.text_words.proofs.objects.has_only_keys.Goals as goal
 
 pub returns-in-Some : goal.returns-in-Some
 returns-in-Some c =

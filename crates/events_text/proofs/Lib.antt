@@ -1,4 +1,0 @@
-pub mod Keys
-pub mod Loop
-pub mod OpsLoop
-pub mod Utf8

@@ -1,0 +1,124 @@
+//! The items of a list: numbers, values, words, modes, operators. None where an item is absent, of
+//! another kind or out of its range.
+ghost use Rattle.std.specs.Prelude.{◌≡◌, option_map};
+ghost use Rattle.serde_json.specs.View.{view, items_view};
+ghost use Rattle.text_words.specs.Words.{number_in, value_in, mode_in, op_in, word_at, number_at, accumulator_at, value_at, mode_at, all_in, at_most, ops_in, ops_at};
+
+use phase_model::{Op, Ops};
+use phase_modes::Mode;
+use serde_json::Value;
+
+// ---- numbers
+
+/// A whole number that is at most `most`. As JSON is read, `-0`, `1.0` and `1e0` are no whole
+/// numbers.
+pub fn number_of(value: &Value, most: u32) -> Option<u32>
+    ensures { result ≡ number_in most (view value.now) }
+{
+    let number = value.as_u64()?;
+    if number <= u64::from(most) {
+        Some(number as u32)
+    } else {
+        None
+    }
+}
+
+/// The number of a task, a phaser, a finish or a single at an index of a list: 0 to 4,294,967,295.
+pub fn number_at(list: &Value, index: usize) -> Option<u32>
+    ensures { result ≡ number_at index (view list.now) }
+{
+    number_of(list.get(index)?, u32::MAX)
+}
+
+/// The accumulator's index at an index of a list: 0 to 255.
+pub fn accumulator_at(list: &Value, index: usize) -> Option<u8>
+    ensures { result ≡ accumulator_at index (view list.now) }
+{
+    let number = number_of(list.get(index)?, 255)?;
+    Some(number as u8)
+}
+
+fn value_of(value: &Value) -> Option<i32>
+    ensures { result ≡ value_in (view value.now) }
+{
+    let number = value.as_i64()?;
+    if number < i32::MIN as i64 || (i32::MAX as i64) < number {
+        return None;
+    }
+    Some(number as i32)
+}
+
+/// The value at an index of a list: a whole number of 32 bits with a sign.
+pub fn value_at(list: &Value, index: usize) -> Option<i32>
+    ensures { result ≡ value_at index (view list.now) }
+{
+    value_of(list.get(index)?)
+}
+
+// ---- words
+
+/// The word at an index of a list.
+pub fn word_at(list: &Value, index: usize) -> Option<&str>
+    ensures { option_map (λ word. word.now) result ≡ word_at index (view list.now) }
+{
+    list.get(index)?.as_str()
+}
+
+#[tactic(auto, unfolding(crate::specs::Words::mode_in))]
+fn mode_of(value: &Value) -> Option<Mode>
+    ensures { result ≡ mode_in (view value.now) }
+{
+    let name = value.as_str()?;
+    Mode::of_name(name)
+}
+
+/// The mode that is named at an index of a list.
+pub fn mode_at(list: &Value, index: usize) -> Option<Mode>
+    ensures { result ≡ mode_at index (view list.now) }
+{
+    mode_of(list.get(index)?)
+}
+
+// ---- operators
+
+#[tactic(auto, unfolding(crate::specs::Words::op_in))]
+fn op_of(value: &Value) -> Option<Op>
+    ensures { result ≡ op_in (view value.now) }
+{
+    let name = value.as_str()?;
+    Op::of_name(name)
+}
+
+/// The operators, if each item is the name of one and there are at most four.
+fn ops_named(items: &[Value]) -> Option<Ops>
+    ensures { result ≡ at_most 4 (all_in op_in (items_view items.now)) }
+{
+    let mut ops = Ops::none();
+    for item in items {
+        match op_of(item) {
+            None => return None,
+            Some(op) => {
+                if ops.len() >= 4 {
+                    return None;
+                }
+                ops.push(op);
+            }
+        }
+    }
+    Some(ops)
+}
+
+/// The operators that a list names, at most four.
+pub fn ops_of(list: &Value) -> Option<Ops>
+    ensures { result ≡ ops_in (view list.now) }
+{
+    let items = list.as_array()?;
+    ops_named(items)
+}
+
+/// The operators that the list at an index of a list names, at most four.
+pub fn ops_at(list: &Value, index: usize) -> Option<Ops>
+    ensures { result ≡ ops_at index (view list.now) }
+{
+    ops_of(list.get(index)?)
+}
