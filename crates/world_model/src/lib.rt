@@ -8,6 +8,7 @@ mod examples;
 mod laws;
 mod reply;
 mod report;
+mod report_lines;
 
 pub use condition::Condition;
 pub use event::{Begun, Step, Tried, WorldEvent};

@@ -61,3 +61,66 @@ fn reports_are_lists_of_lines(rt: HostRuntime) -> Result<(), Fail> {
     assert_eq!(rt; report.totals.up, 3);
     Ok(())
 }
+
+#[test]
+fn a_report_is_printed_line_by_line(rt: HostRuntime) -> Result<(), Fail> {
+    let mut folds = Vec::with_capacity(rt.alloc(), 2)?;
+    folds.push(FoldLine {
+        phase: 0,
+        acc: 0,
+        value: Look::Value(-3),
+    })?;
+    folds.push(FoldLine {
+        phase: 1,
+        acc: 0,
+        value: Look::Nothing,
+    })?;
+    let mut phasers = Vec::with_capacity(rt.alloc(), 1)?;
+    phasers.push(PhaserLines {
+        phaser: 4,
+        phases: 2,
+        folds,
+    })?;
+    let mut tasks = Vec::with_capacity(rt.alloc(), 2)?;
+    tasks.push(TaskLine {
+        task: 0,
+        refused: None,
+    })?;
+    tasks.push(TaskLine {
+        task: 7,
+        refused: Some(12),
+    })?;
+    let mut finishes = Vec::with_capacity(rt.alloc(), 1)?;
+    finishes.push(FinishLine {
+        finish: 0,
+        tasks: 1,
+    })?;
+    let report = WorldReport {
+        phasers,
+        tasks,
+        finishes,
+        totals: TotalsLine {
+            registered: 2,
+            signals: 3,
+            passes: 4,
+            drops: 5,
+            sends: 6,
+            up: 0,
+            down: 3,
+        },
+    };
+    let printed = report.to_string(rt.alloc())?;
+    assert_eq!(rt;
+        printed.as_str(),
+        concat!(
+            "phaser 4 phases 2\n",
+            "phaser 4 phase 0 acc 0 value -3\n",
+            "phaser 4 phase 1 acc 0 none\n",
+            "task 0 ended\n",
+            "task 7 refused 12 OutsideScope\n",
+            "finish 0 tasks 1\n",
+            "totals registered 2 signals 3 passes 4 drops 5 sends 6 up 0 down 3\n"
+        )
+    );
+    Ok(())
+}
