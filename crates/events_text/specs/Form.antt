@@ -55,8 +55,7 @@ accumulator_at i d = at i d >>= number_in 255
 
 -- a whole number of 32 bits with a sign
 abbrev pub signed_in : Data → Option ℤ
-signed_in d = option_and_then as_i64 (as_number d) >>= λ z.
-    if int_lt z (negsuc (2 ^ 31 - 1)) || int_lt (pos (2 ^ 31 - 1)) z then None else Some z
+signed_in d = option_and_then as_i64 (as_number d) >>= λ z. if int_lt z (negsuc (2 ^ 31 - 1)) || int_lt (pos (2 ^ 31 - 1)) z then None else Some z
 
 -- the value at an index of a list
 abbrev pub value_at : ℕ → Data → Option ℤ
@@ -82,8 +81,7 @@ register_in d =
 unfoldable pub signal_in : Data → Option Call
 signal_in d =
     if not (ends_at 3 d) then None
-    else (task_at 1 d >>= λ t.
-    if ends_at 2 d then Some (signal t None) else (task_at 2 d >>= λ n. Some (signal t (Some n))))
+    else (task_at 1 d >>= λ t. if ends_at 2 d then Some (signal t None) else (task_at 2 d >>= λ n. Some (signal t (Some n))))
 
 -- ["pass", t]
 unfoldable pub pass_in : Data → Option Call
@@ -101,8 +99,7 @@ send_in d =
 
 -- ["look", t, a]
 unfoldable pub look_in : Data → Option Call
-look_in d =
-    if not (ends_at 3 d) then None else (task_at 1 d >>= λ t. accumulator_at 2 d >>= λ a. Some (look t a))
+look_in d = if not (ends_at 3 d) then None else (task_at 1 d >>= λ t. accumulator_at 2 d >>= λ a. Some (look t a))
 
 -- ["drop", t]
 unfoldable pub drop_in : Data → Option Call
@@ -165,14 +162,7 @@ named_limits_in d =
     limit_at (codes "phasers") default_limits.phasers d >>= λ phasers.
     limit_at (codes "regs") default_limits.regs d >>= λ regs.
     limit_at (codes "tasks") default_limits.tasks d >>= λ tasks.
-    if_fit (record {
-      acts = acts;
-      finishes = finishes;
-      history = history;
-      phasers = phasers;
-      regs = regs;
-      tasks = tasks;
-    })
+    if_fit (record { acts = acts; finishes = finishes; history = history; phasers = phasers; regs = regs; tasks = tasks })
 
 -- the keys of the limits
 abbrev pub limit_keys : List (List ℕ)
