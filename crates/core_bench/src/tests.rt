@@ -13,7 +13,7 @@ fn words_name_a_job(rt: HostRuntime) -> Result<(), Fail> {
 }
 
 #[test]
-fn bad_words_name_none(rt: HostRuntime) -> Result<(), Fail> {
+fn bad_arguments_name_none(rt: HostRuntime) -> Result<(), Fail> {
     assert_eq!(rt; Kind::of_name("turns"), None);
     assert_eq!(rt; job_of(&["core_bench", "turn", "256"]), None);
     assert_eq!(rt; job_of(&["core_bench", "turn", "0", "1"]), None);

@@ -9,13 +9,13 @@ use Rattle.phase_model.specs.declared.call.Call.TheVariants.{Pass as pass}
 use Rattle.phase_model.specs.Replies.{Reply, refused, not_yet, done, reply}
 use Rattle.phase_model.specs.Laws.{IsLegal}
 
--- the reply says that the task has to come again
+-- the reply is: not yet
 abbrev pub is_not_yet : Reply → Bool
 is_not_yet (refused r) = false
 is_not_yet not_yet = true
 is_not_yet (done e) = false
 
--- a pass of t would be answered so: t waits
+-- a pass of t would be answered not yet: t waits
 abbrev pub would_wait : Story → ℕ → Bool
 would_wait s t = is_not_yet (reply s (pass t))
 

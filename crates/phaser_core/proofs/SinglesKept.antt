@@ -1,4 +1,4 @@
--- What the kept single tells of the history.
+-- What the kept single says of the history.
 use Rattle.std.proofs.Common.{◌≡◌, ◌⊎◌, ℕ, ◌≤◌, ◌<◌, ◌==◌, Bool, true, false, ◌||◌, ◌&&◌, not, cond, List, [], ◌∷◌, Option, Some, None, refl, sym, ap, ◌∙◌, arith, inl, inr, subst}
 use Rattle.std.specs.List.{list_any, find}
 use Rattle.std.specs.Option.{option_map}
@@ -63,7 +63,7 @@ module _ (l : Limits) (ops : List Op) (h : List Event) (legal : is_legal l ops h
   pub last_is_proposed : (x : Statement) → IsLast x h → is_proposed x.phase h ≡ true
   last_is_proposed x k = proposed_with x.phase x.number (proposals h) k.number
 
-  -- the stage tells whether the single was claimed, and whether it is done
+  -- the stage says whether the single was claimed, and whether it is done
   pub stage_claimed : (s : Stage) (p : ℕ) → IsAtStage s p h → is_claimed p h ≡ not (is_unclaimed s)
   stage_claimed Proposed p k = k
   stage_claimed (Claimed t) p k = claimer_claims t p h k.0

@@ -1,4 +1,4 @@
--- The window of cells after each event, and what it tells of the phases that may still be read.
+-- The window of cells after each event, and what it says of the phases that may still be read.
 use Rattle.std.proofs.Common.{◌≡◌, ℕ, ◌+◌, ◌-◌, ◌<◌, ◌≤◌, ◌==◌, nat_lt, nat_le, max, Bool, true, false, ◌||◌, not, List, [], ◌∷◌, Option, refl, ap, sym, ◌∙◌, subst, arith, inl, inr}
 use Rattle.std.specs.List.{list_any, list_all}
 use Rattle.phase_modes.specs.Lists.{is_empty}

@@ -25,7 +25,7 @@ pass_result h (refused r) = Err r
 pass_result h not_yet = Ok NotYet
 pass_result h (done e) = passing h e
 
--- the answer that the event tells; no other event answers a look
+-- the answer that the event holds; no other event answers a look
 abbrev pub seen : Event → Result Look Refusal
 seen (Looked t a x) = Ok x
 seen _ = Err NotNow

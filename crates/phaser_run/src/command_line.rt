@@ -112,7 +112,8 @@ fn command<'a>(alloc: Global) -> Result<Command<'a>, AllocError>
         .subcommand(events_command(alloc)?)
 }
 
-/// The job that the arguments name. The first is the program's own name.
+/// The job that the arguments name; the first is the program's own name. `Arguments` where they name
+/// none, with `clap`'s message, the help or the version; `Memory` where it ran out.
 pub fn job_of<'a>(alloc: Global, arguments: &'a [&'a str]) -> Result<Job<'a>, NoJob>
     // The arguments are those of the job's command and no more.
     ensures file { IfOk result (λ job. job_in (map (λ w. w.now) arguments.entry.now) ≡ Some (file_of job)) }

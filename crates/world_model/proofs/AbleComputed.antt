@@ -185,7 +185,7 @@ pub made_done_where : (b : Bool) → is_made (done_where b) ≡ true → b ≡ t
 made_done_where true k = refl
 made_done_where false k = absurd cc
 
--- a refusal is told in an idle moment
+-- a refusal is noted in an idle moment
 pub refuse_idle : (l : Limits) (w : List WorldEvent) (t : ℕ) (a : Tried) (n : ℕ) → may_refuse l w t a n ≡ true
     → is_idle t w ≡ true
 refuse_idle l w t a n k =

@@ -6,7 +6,6 @@ use Rattle.events_text.proofs.reading.ops_named.Given as goal
 
 abbrev pub invariant-loop-item : goal.invariant-loop-item
 invariant-loop-item l = record {
-  so_far : front_with l.ops (ops_from (items_view (drop l.item-index l.items)))
-      ≡ ops_from (items_view l.items);
+  so_far : front_with l.ops (ops_from (items_view (drop l.item-index l.items))) ≡ ops_from (items_view l.items);
   few : length l.ops ≤ 4;
 }

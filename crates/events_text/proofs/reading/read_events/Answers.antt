@@ -9,8 +9,7 @@ use Rattle.events_text.proofs.reading.read_events.Goals as goal
 pub returns-in-Ok : goal.returns-in-Ok
 returns-in-Ok c =
     let e = is_read c.args.bytes.now _ c.in-Ok.ensures.ok.0 c.in-Ok.ensures.ok.1 in
-    subst (λ (d : Option Data). Gives form_view c.form_of_value.result (form_of d))
-    (sym e) c.form_of_value.ensures
+    subst (λ (d : Option Data). Gives form_view c.form_of_value.result (form_of d)) (sym e) c.form_of_value.ensures
 
 pub returns-else-is_memory : goal.returns-else-is_memory
 returns-else-is_memory c =

@@ -1,4 +1,4 @@
--- A task that has a line is registered, and the line tells its phase.
+-- A task that has a line is registered, and the line has its phase.
 use Rattle.std.proofs.Common.{◌≡◌, ◌&&◌, false, not, ap, sym, ◌∙◌, subst}
 use Rattle.phase_model.specs.Phases.{waits, is_closed}
 use Rattle.phase_model.specs.Waiting.{is_in_open_phase}
