@@ -23,6 +23,11 @@ regroup : {A : Type 0} (front : List A) (x : A) (r : Option (List A)) → front_
 regroup front x None = refl
 regroup front x (Some xs) = ap Some (simp append_assoc)
 
+-- nothing was read before
+pub none_before : {A : Type 0} (r : Option (List A)) → front_with [] r ≡ r
+none_before None = refl
+none_before (Some xs) = refl
+
 renumber : {A : Type 0} (front : List A) (n : ℕ) (x : A) (r : Result (List A) ℕ) → front_then front (numbered_then n (Some x) r) ≡ front_then (front ++ x ∷ []) r
 renumber front n x (Ok xs) = ap Ok (simp append_assoc)
 renumber front n x (Err p) = refl

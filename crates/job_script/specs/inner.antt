@@ -1,0 +1,7 @@
+pub mod ActsCode
+pub mod ActsFall
+pub mod ProgramCode
+pub mod ReadViews
+pub mod SaidViews
+pub mod StepsCode
+pub mod Views
