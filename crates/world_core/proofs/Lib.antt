@@ -20,3 +20,5 @@ pub mod HeadsOf
 pub mod EndMade
 pub mod Owners
 pub mod ShutMade
+pub mod AbleRead
+pub mod ClockRead

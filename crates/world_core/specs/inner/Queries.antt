@@ -1,6 +1,8 @@
 -- What a world tells of a task, by its state alone. That this is what the history says is proved apart, in proofs/.
-use Rattle.std.specs.Prelude.{ℕ, if◌then◌else◌, Option, Some, None, option_map, slice_get}
+use Rattle.std.specs.Prelude.{ℕ, Bool, false, ◌&&◌, not, if◌then◌else◌, Option, Some, None, option_map, slice_get}
 use Rattle.phase_modes.specs.declared.phased.Pair.{Pair}
+use Rattle.phase_model.specs.Waiting.{would_wait}
+use Rattle.finish_core.specs.Finish.{all_ended}
 use Rattle.finish_core.specs.declared.event.FinishEvent.TheVariants.{Spawned, Shut as Shutting}
 use Rattle.world_model.specs.declared.event.Step.TheVariants.{Reg, Sig, Claim, Did, Pass, Drop}
 use Rattle.world_model.specs.declared.event.WorldEvent.{WorldEvent}
@@ -11,7 +13,7 @@ use Rattle.world_model.specs.declared.condition.Condition.{Condition}
 use Rattle.world_model.specs.declared.condition.Condition.TheVariants as condition
 use Rattle.world_core.specs.TaskState.{TaskState}
 use Rattle.world_core.specs.WorldState.{WorldState}
-use Rattle.world_core.specs.Kept.{task_at, story_at, inner_at}
+use Rattle.world_core.specs.Kept.{task_at, story_at, finish_at, inner_at}
 use Rattle.world_core.specs.inner.Steps.{may_claim, may_report}
 use Rattle.world_core.specs.StandsFor.{end_of}
 
@@ -61,3 +63,13 @@ kept_condition k =
     if k.is_ended then Some condition.Ended
     else (if k.is_born then Some (condition_by k.plan)
     else None)
+
+-- what comes next has to wait: a pass of a phase that is open, or whose single is, and a shut of a finish with a task inside that hasn't ended
+abbrev pub waits_at : WorldState → Option WorldEvent → Bool
+waits_at s (Some (Phaser n (Pass t))) = would_wait (story_at s n) t
+waits_at s (Some (Finish f Shutting)) = not (all_ended (finish_at s f).past)
+waits_at s _ = false
+
+-- the task goes on, and what it does next doesn't have to wait
+abbrev pub able_at : WorldState → ℕ → Bool
+able_at s t = (task_at s t).is_born && not (task_at s t).is_ended && not (waits_at s (kept_next s t))

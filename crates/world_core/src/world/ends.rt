@@ -117,7 +117,7 @@ impl World {
     }
 
     /// Whether each task in the finish has ended.
-    fn all_ended(&self, finish: u32) -> bool
+    pub(super) fn all_ended(&self, finish: u32) -> bool
         ensures { result ≡ all_ended (finish_at self.now finish).past }
     {
         if finish as usize >= self.finishes.len() {

@@ -1,11 +1,13 @@
 //! What a world tells of a task.
-ghost use Rattle.std.specs.Prelude.{◌≡◌, ◌==◌, ℕ, List, min, slice_get};
+ghost use Rattle.std.specs.Prelude.{◌≡◌, ◌&&◌, not, List, slice_get};
 ghost use Rattle.world_model.specs.declared.event.WorldEvent.{WorldEvent as Event};
 ghost use Rattle.world_model.specs.TaskConditions.{condition_of};
 ghost use Rattle.world_model.specs.Clock.{clock};
 ghost use Rattle.world_model.specs.Due.{next_event};
-ghost use Rattle.world_core.specs.Kept.{task_at, inner_at};
-ghost use Rattle.world_core.specs.inner.Queries.{turn_event, drop_or, shut_or, kept_next, kept_condition};
+ghost use Rattle.world_model.specs.Able.{is_able};
+ghost use Rattle.phase_model.specs.Waiting.{would_wait};
+ghost use Rattle.world_core.specs.Kept.{task_at, story_at, inner_at};
+ghost use Rattle.world_core.specs.inner.Queries.{turn_event, drop_or, shut_or, kept_next, kept_condition, waits_at, able_at};
 ghost use Rattle.world_core.specs.StandsFor.{StandsFor, end_of};
 
 use super::World;
@@ -33,6 +35,13 @@ impl Task {
             Plan::Shutting => Condition::Shutting,
             Plan::Ending(_) => Condition::Ending,
         })
+    }
+
+    /// Whether it was spawned, or is the root, and hasn't ended.
+    fn goes_on(&self) -> bool
+        ensures { result ≡ (self.now.is_born && not self.now.is_ended) }
+    {
+        self.born && !self.ended
     }
 
     /// The event with which it ends.
@@ -83,7 +92,7 @@ impl World {
 
     /// How many turns the task has completed, those of its spawner at the spawn among them.
     pub fn clock(&self, task: u32) -> u32
-        ensures { (w : List Event) → StandsFor w self.now → result ≡ min (clock task w) 4294967295 }
+        ensures { (w : List Event) → StandsFor w self.now → result ≡ clock task w }
     {
         self.kept_clock(task)
     }
@@ -103,6 +112,46 @@ impl World {
         ensures { (w : List Event) → StandsFor w self.now → result ≡ next_event self.now.limits task w }
     {
         self.kept_next(task)
+    }
+
+    /// Whether the task can go on now: some event of its own would be made. It can't where it has
+    /// to wait for others, and where it has ended or was never spawned.
+    pub fn able(&self, task: u32) -> bool
+        ensures { (w : List Event) → StandsFor w self.now → result ≡ is_able self.now.limits w task }
+    {
+        self.kept_able(task)
+    }
+
+    fn kept_able(&self, task: u32) -> bool
+        ensures { result ≡ able_at self.now task }
+    {
+        if task as usize >= self.tasks.len() {
+            return false;
+        }
+        let line = &self.tasks[task as usize];
+        line.goes_on() && !self.waits(self.kept_next(task))
+    }
+
+    /// Whether an event that comes next has to wait for others.
+    fn waits(&self, next: Option<WorldEvent>) -> bool
+        ensures { result ≡ waits_at self.now next }
+    {
+        match next {
+            Some(WorldEvent::Phaser(phaser, Step::Pass(task))) => self.would_wait(phaser, task),
+            Some(WorldEvent::Finish(finish, FinishEvent::Shut)) => !self.all_ended(finish),
+            _ => false,
+        }
+    }
+
+    /// Whether a pass of the task would be answered not yet. A number without a phaser refuses it.
+    fn would_wait(&self, phaser: u32, task: u32) -> bool
+        ensures { result ≡ would_wait (story_at self.now phaser) task }
+    {
+        if phaser as usize >= self.phasers.len() {
+            return false;
+        }
+        let state = &self.phasers[phaser as usize];
+        state.would_wait(task)
     }
 
     /// What comes where a pass is due: the single may come first.
