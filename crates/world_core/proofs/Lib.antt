@@ -9,3 +9,16 @@ pub mod Calls
 pub mod Quiet
 pub mod Called
 pub mod SignalMade
+pub mod Chains
+pub mod OpenMade
+pub mod SpawnKept
+pub mod SpawnMade
+pub mod NextRead
+pub mod FinishCalls
+pub mod FinishMoves
+pub mod HeadsOf
+pub mod EndMade
+pub mod Owners
+pub mod ShutMade
+pub mod AbleRead
+pub mod ClockRead

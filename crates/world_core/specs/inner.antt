@@ -1,3 +1,6 @@
 -- What the code's own functions say, by the state alone: no public contract cites it.
 pub mod Sizes
 pub mod Steps
+pub mod SpawnSteps
+pub mod Queries
+pub mod FinishSteps

@@ -5,6 +5,7 @@ ghost use Rattle.phase_modes.specs.Limits.{limits_fit};
 ghost use Rattle.phase_model.specs.Rules.{is_legal, is_permitted};
 ghost use Rattle.phase_model.specs.declared.call.Call.TheVariants.{Make as make, Register as register, Signal as signal, Pass as pass, SingleDone as single_done, Send as send, Look as look, Drop as drop_task};
 ghost use Rattle.phase_model.specs.Replies.{reply, returned, after, done_result};
+ghost use Rattle.phase_model.specs.Waiting.{would_wait};
 ghost use Rattle.phaser_core.specs.Answers.{pass_result, look_result, made_with};
 ghost use Rattle.phaser_core.specs.Table.{registration};
 ghost use Rattle.world_core.specs.Kept.{blank_story};
@@ -113,6 +114,13 @@ impl KeptPhaser {
         ensures { result ≡ returned self.now.past (reply self.now call) }
     {
         self.state.reply_to(call)
+    }
+
+    /// Whether a pass of the task would be answered not yet.
+    pub fn would_wait(&self, task: u32) -> bool
+        ensures { result ≡ would_wait self.now task }
+    {
+        self.state.would_wait(task)
     }
 
     /// How the task is registered now.

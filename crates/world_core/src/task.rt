@@ -1,6 +1,6 @@
 //! What a world keeps of one task.
 ghost use Rattle.std.specs.Prelude.{◌≡◌, ◌≤◌, ◌&&◌, not, length, filter, vec_capacity, IfOk, IfErr, true};
-ghost use Rattle.world_core.specs.Kept.{blank_task, is_idle_plan, past_in};
+ghost use Rattle.world_core.specs.Kept.{blank_task, inner_at, is_idle_plan, past_in};
 ghost use Rattle.world_core.specs.inner.Steps.{owes, turn_begun, passing, is_to_signal, signal_noted, is_to_pass, pass_noted, opening};
 
 use crate::phaser::KeptPhaser;
@@ -8,6 +8,8 @@ use crate::plan::Plan;
 use phase_modes::Refusal;
 use std::alloc::Global;
 use std::marker::Model;
+
+mod spawning;
 
 /// How many phasers a task is on at once, at most.
 pub const MOST_PHASERS: usize = 16;
@@ -145,6 +147,13 @@ impl Task {
         ensures { result ≡ self.now.innermost }
     {
         self.innermost
+    }
+
+    /// Its innermost open finish: the one that it was spawned in, where it has none of its own.
+    pub fn inner(&self) -> u32
+        ensures { result ≡ inner_at self.now }
+    {
+        self.innermost.unwrap_or(self.home)
     }
 
     /// Notes that it opened this finish.

@@ -14,6 +14,10 @@ use phase_modes::{Limits, Refusal};
 use std::alloc::Global;
 use std::marker::Model;
 
+mod ends;
+mod opening;
+mod queries;
+mod spawning;
 mod turns;
 
 /// Many phasers, finishes and tasks at once.
