@@ -24,18 +24,37 @@ use std::sync::{Mutex, MutexGuard, Wait};
 /// The phasers of a run, numbered from 0, and its books.
 #[derive(Drop)]
 pub struct PhaserTable<T, K: Ledgers> {
-    /// How many phasers there are.
+    /// How many phasers there are, at most 64.
     pub phasers: usize,
     cells: Vec<Mutex<PhaserCell<T, K>>>,
     books: Mutex<Books<K>>,
-    /// Room for what `into_parts` gives.
-    states: Vec<PhaserState>,
-    of_phasers: Vec<PhaserBook<K>>,
+    /// Behind a lock, since tokens of a ledger are lent to no second thread.
+    parts: Mutex<Room<K>>,
     ghost all: { vec_len cells ≡ phasers },
+    ghost few: { phasers ≤ 64 },
+}
+
+/// Room for what `into_parts` gives.
+#[derive(Drop)]
+struct Room<K: Ledgers> {
+    states: Vec<PhaserState>,
+    phasers: Vec<PhaserBook<K>>,
     ghost no_states: { states.items ≡ [] },
-    ghost no_books: { of_phasers.items ≡ [] },
-    ghost room_for_states: { phasers ≤ vec_capacity states },
-    ghost room_for_books: { phasers ≤ vec_capacity of_phasers },
+    ghost no_books: { phasers.items ≡ [] },
+    ghost room_for_states: { 64 ≤ vec_capacity states },
+    ghost room_for_books: { 64 ≤ vec_capacity phasers },
+}
+
+impl<K: Ledgers> Room<K> {
+    /// Room for as many phasers as a run has at most; `Memory` where that is refused.
+    fn new(alloc: Global) -> Result<Room<K>, Refusal>
+        ensures memory { IfErr result (λ r. r ≡ Refusal.Memory) }
+    {
+        Ok(Room {
+            states: Vec::with_capacity(alloc, 64)?,
+            phasers: Vec::with_capacity(alloc, 64)?,
+        })
+    }
 }
 
 /// What a table of phasers held, phaser by phaser in order: the states with their histories, the
@@ -45,6 +64,26 @@ pub struct PhaserParts<K: Ledgers> {
     pub states: Vec<PhaserState>,
     pub phasers: Vec<PhaserBook<K>>,
     pub books: Books<K>,
+}
+
+/// For each of the books a phaser that nobody has made yet, behind a lock of its own.
+fn locked_cells<T: Drop, K: Ledgers>(
+    alloc: Global,
+    limits: Limits,
+    ops: Ops,
+    books: Vec<PhaserBook<K>>,
+) -> Result<Vec<Mutex<PhaserCell<T, K>>>, Refusal>
+    requires limits { limits_fit limits ≡ true }
+    requires fresh { All (λ b. (b.totals ≡ nothing) × (b.room ≡ 65536)) books.items }
+    ensures cells { IfOk result (λ v. vec_len v ≡ vec_len books) }
+    ensures memory { IfErr result (λ r. r ≡ Refusal.Memory) }
+{
+    let mut cells = Vec::new(alloc);
+    for book in books {
+        let cell = Mutex::new(PhaserCell::new(alloc, limits, ops, book)?);
+        cells.push(cell)?;
+    }
+    Ok(cells)
 }
 
 /// Adds a cell's state and book to those of the phasers before it.
@@ -75,8 +114,8 @@ fn take_apart<T: Drop, K: Ledgers>(
 
 impl<T: Drop, K: Ledgers> PhaserTable<T, K> {
     /// As many phasers as there are books of phasers, each with these limits and operators, and made by
-    /// nobody yet. The phasers' books are those of one `open`, in order. All memory that the table will
-    /// ever need is taken here; `Memory` where that is refused.
+    /// nobody yet. The phasers' books are those of one `open`, in order, so at most 64. All memory that
+    /// the table will ever need is taken here; `Memory` where that is refused.
     pub fn new(
         alloc: Global,
         limits: Limits,
@@ -85,24 +124,17 @@ impl<T: Drop, K: Ledgers> PhaserTable<T, K> {
         phasers: Vec<PhaserBook<K>>,
     ) -> Result<PhaserTable<T, K>, Refusal>
         requires limits { limits_fit limits ≡ true }
+        requires few { vec_len phasers ≤ 64 }
         requires fresh { All (λ b. (b.totals ≡ nothing) × (b.room ≡ 65536)) phasers.items }
         ensures phasers { IfOk result (λ t. t.phasers ≡ vec_len phasers) }
         ensures memory { IfErr result (λ r. r ≡ Refusal.Memory) }
     {
-        let mut cells = Vec::new(alloc);
-        for book in phasers {
-            let cell = Mutex::new(PhaserCell::new(alloc, limits, ops, book)?);
-            cells.push(cell)?;
-        }
-        let count = cells.len();
-        let states = Vec::with_capacity(alloc, count)?;
-        let of_phasers = Vec::with_capacity(alloc, count)?;
+        let cells = locked_cells(alloc, limits, ops, phasers)?;
         Ok(PhaserTable {
-            phasers: count,
+            phasers: cells.len(),
             cells,
             books: Mutex::new(books),
-            states,
-            of_phasers,
+            parts: Mutex::new(Room::new(alloc)?),
         })
     }
 
@@ -118,15 +150,18 @@ impl<T: Drop, K: Ledgers> PhaserTable<T, K> {
             phasers: _,
             cells,
             books,
-            mut states,
-            mut of_phasers,
+            parts,
         } = self;
+        let Room {
+            mut states,
+            mut phasers,
+        } = parts.into_inner();
         for cell in cells {
-            take_apart(cell.into_inner(), &mut states, &mut of_phasers);
+            take_apart(cell.into_inner(), &mut states, &mut phasers);
         }
         PhaserParts {
             states,
-            phasers: of_phasers,
+            phasers,
             books: books.into_inner(),
         }
     }
