@@ -20,6 +20,3 @@ pub use out::Out;
 pub use parking::Parked;
 pub use phasers::{PhaserParts, PhaserTable};
 pub use posting::Post;
-
-#[cfg(test)]
-mod tests;

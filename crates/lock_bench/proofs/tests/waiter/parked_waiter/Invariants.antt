@@ -1,4 +1,4 @@
-use Rattle.scope_locks.proofs.tests.waiter.parked_waiter.Given as goal
+use Rattle.lock_bench.proofs.tests.waiter.parked_waiter.Given as goal
 
 abbrev pub ghosts-named_wait-A-Ledger : goal.ghosts-named_wait-A-Ledger
 ghosts-named_wait-A-Ledger g a = record { name = a.blanks.events_by_phaser.name; parts = a.blanks.events_by_phaser.parts }

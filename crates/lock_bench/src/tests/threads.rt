@@ -128,18 +128,6 @@ const TURNS: u32 = 6;
 
 const RUNS: u32 = 130;
 
-/// Takes out all items. Whether none is left.
-fn is_drained(out: &mut Out<u32>) -> bool
-    ensures { result ≡ true → out.new ≡ [] }
-{
-    for _item in 0..257 {
-        if out.take().is_none() {
-            return true;
-        }
-    }
-    false
-}
-
 /// One worker's part: on each phaser in turn it signals, asks to pass, sends and looks, as the task of
 /// its number.
 fn work<K: Ledgers, R: Wait>(
@@ -185,20 +173,6 @@ fn set_up<K: Ledgers, R: Wait>(
         }
     }
     Ok(())
-}
-
-/// The workers' shares, each with the number of its worker.
-fn numbered<K: Ledgers>(
-    alloc: Global,
-    shares: Vec<Shares<K>>,
-) -> Result<Vec<(u32, Shares<K>)>, Refusal> {
-    let mut staff = Vec::new(alloc);
-    let mut number = 0u32;
-    for mine in shares {
-        staff.push((number, mine))?;
-        number = number.saturating_add(1);
-    }
-    Ok(staff)
 }
 
 /// Of the phasers' events, how many each history has; each history is explained.

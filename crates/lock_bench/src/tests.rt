@@ -3,9 +3,13 @@
 ghost use Rattle.std.specs.Prelude.{◌≡◌, [], ◌<◌, ◌≤◌, true};
 ghost use Rattle.share_book.specs.Opening.{IsNamed, IsParted};
 
-use super::*;
+use crate::calls::is_drained;
+use crate::command_line::job_of;
+use crate::kind::Kind;
+use crate::threads::{events_of, numbered};
 use phase_model::{Call, Look, Op, Ops, Reply, explain};
 use phase_modes::{Limits, Mode, Refusal};
+use scope_locks::{FinishTable, Out, PassAnswer, PhaserCell, PhaserParts, PhaserTable, ShutAnswer};
 use share_book::{Blanks, Ledgers, Seven, Shares, Totals, gather, open};
 use std::alloc::Global;
 use std::marker::Brand;
@@ -237,5 +241,31 @@ fn examples_on_table(rt: HostRuntime) -> Result<(), Fail> {
         none,
         ROOM_FOR_A_SINGLE_AND_ITS_END.as_slice(),
     )?;
+    Ok(())
+}
+
+#[test]
+fn words_name_a_job(rt: HostRuntime) -> Result<(), Fail> {
+    let job = job_of(&["lock_bench", "turn", "256", "32768", "32", "2"]).ok_or("no job")?;
+    assert_eq!(rt; job.kind, Kind::Turn);
+    assert_eq!(rt; job.tasks, 256);
+    assert_eq!(rt; job.phases, 32_768);
+    assert_eq!(rt; job.phasers, 32);
+    assert_eq!(rt; job.threads, 2);
+    assert_eq!(rt; Kind::of_name("turns"), None);
+    assert_eq!(rt; job_of(&["lock_bench", "turn", "256", "1", "1"]), None);
+    assert_eq!(rt; job_of(&["lock_bench", "turn", "257", "1", "1", "1"]), None);
+    assert_eq!(rt; job_of(&["lock_bench", "turn", "1", "1", "1", "0"]), None);
+    Ok(())
+}
+
+// Ahead: 1 making, 3 registrations, and a signal and a pass in each of 5 phases. Free: the same 4, and
+// in each phase a signal and 4 passes.
+#[test]
+fn events_of_jobs(rt: HostRuntime) -> Result<(), Fail> {
+    let ahead = job_of(&["lock_bench", "ahead", "4", "5", "1", "1"]).ok_or("no job")?;
+    assert_eq!(rt; events_of(&rt, rt.alloc(), ahead), Ok(14));
+    let free = job_of(&["lock_bench", "free", "4", "5", "1", "1"]).ok_or("no job")?;
+    assert_eq!(rt; events_of(&rt, rt.alloc(), free), Ok(29));
     Ok(())
 }

@@ -1,4 +1,4 @@
-use Rattle.scope_locks.proofs.tests.threads.four_threads_on_eight_phasers.Given as goal
+use Rattle.lock_bench.proofs.tests.threads.four_threads_on_eight_phasers.Given as goal
 
 abbrev pub ghosts-named_crowd-A-Ledger : goal.ghosts-named_crowd-A-Ledger
 ghosts-named_crowd-A-Ledger g a = record { name = a.blanks.events_by_phaser.name; parts = a.blanks.events_by_phaser.parts }
