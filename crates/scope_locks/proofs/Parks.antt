@@ -1,0 +1,178 @@
+-- The list of parked tasks: each stands there once, all are live and wait, and so they are no more than may be registered.
+use Rattle.std.proofs.Common.{◌≡◌, ℕ, suc, ◌+◌, ◌≤◌, ◌<◌, ◌==◌, nat_lt, nat_le, Bool, true, false, ◌||◌, ◌&&◌, not, cond, List, [], ◌∷◌, ◌++◌, length, filter, map, refl, ap, sym, ◌∙◌, arith}
+use Rattle.std.specs.List.{list_all}
+use Rattle.std.proofs.lemmas.Bool.{eq-eqb, ne_eqb, leb-true, and_parts, and_from, or_parts, or_from, not-true, false≢true}
+use Rattle.phase_modes.specs.declared.limits.Limits.{Limits}
+use Rattle.phase_modes.specs.Limits.{is_between, limits_fit}
+use Rattle.phase_modes.specs.Lists.{is_empty}
+use Rattle.phase_model.specs.declared.event.Event.{Event}
+use Rattle.phase_model.specs.declared.event.Event.TheVariants.{Make, Reg, Drop}
+use Rattle.phase_model.specs.declared.op.Op.{Op}
+use Rattle.phase_model.specs.Tasks.{is_live, live_tasks, live_count}
+use Rattle.phase_model.specs.Rules.{Story, with_event, is_legal}
+use Rattle.phase_model.proofs.Legal.{last_follows, reg_follows}
+use Rattle.phase_model.proofs.LiveTasks.{has, has-filter, has-live_tasks, empty_is, live_tasks-reg, live_tasks-drop}
+use Rattle.phase_model.specs.Waiting.{would_wait, can_free}
+use Rattle.scope_locks.specs.declared.parking.Parked.{Parked}
+use Rattle.scope_locks.specs.Parking.{is_parked, are_parked_once, all_wait, waiting, freed}
+use Rattle.scope_locks.proofs.Turns.{all_filter}
+use Rattle.phase_model.proofs.Waiting.{stays, held}
+
+-- an event that frees nobody leaves all waiting
+pub all_stay : {T : Type 0} (s : Story) (e : Event) (ps : List (Parked T)) → can_free e ≡ false → is_legal s.limits s.ops (e ∷ s.past) ≡ true → all_wait s ps ≡ true → all_wait (with_event s e) ps ≡ true
+all_stay s e [] k legal w = refl
+all_stay s e (p ∷ ps) k legal w =
+    let parts = and_parts (would_wait s p.task) (all_wait s ps) w in
+    and_from (would_wait (with_event s e) p.task) (all_wait (with_event s e) ps) (stays s p.task parts.0 e k legal) (all_stay s e ps k legal parts.1)
+
+-- where all wait, all are kept and none is freed
+pub all_kept : {T : Type 0} (s : Story) (ps : List (Parked T)) → all_wait s ps ≡ true → waiting s ps ≡ ps
+all_kept s [] w = refl
+all_kept s (p ∷ ps) w =
+    let parts = and_parts (would_wait s p.task) (all_wait s ps) w in
+    ap (λ b. cond b (p ∷ waiting s ps) (waiting s ps)) parts.0 ∙ ap (λ l. p ∷ l) (all_kept s ps parts.1)
+
+pub none_freed : {T : Type 0} (s : Story) (ps : List (Parked T)) → all_wait s ps ≡ true → freed s ps ≡ []
+none_freed s [] w = refl
+none_freed s (p ∷ ps) w =
+    let parts = and_parts (would_wait s p.task) (all_wait s ps) w in
+    ap (λ b. map (λ q. q.item) (cond (not b) (p ∷ filter (λ q. not (would_wait s q.task)) ps) (filter (λ q. not (would_wait s q.task)) ps))) parts.0 ∙ none_freed s ps parts.1
+
+-- no task is parked twice
+abbrev ParkedOnce : {T : Type 0} → List (Parked T) → Type 0
+ParkedOnce [] = Unit {0}
+ParkedOnce (p ∷ ps) = (is_parked p.task ps ≡ false) × ParkedOnce ps
+
+once_of : {T : Type 0} (ps : List (Parked T)) → are_parked_once ps ≡ true → ParkedOnce ps
+once_of [] k = tt
+once_of (p ∷ ps) k =
+    let parts = and_parts (not (is_parked p.task ps)) (are_parked_once ps) k in
+    (not-true (is_parked p.task ps) parts.0, once_of ps parts.1)
+
+once_to : {T : Type 0} (ps : List (Parked T)) → ParkedOnce ps → are_parked_once ps ≡ true
+once_to [] k = refl
+once_to (p ∷ ps) k = and_from (not (is_parked p.task ps)) (are_parked_once ps) (ap (λ b. not b) k.0) (once_to ps k.1)
+
+not_parked_filter : {T : Type 0} (w : Parked T → Bool) (t : ℕ) (ps : List (Parked T)) → is_parked t ps ≡ false → is_parked t (filter w ps) ≡ false
+not_parked_filter w t [] k = refl
+not_parked_filter w t (p ∷ ps) k =
+    let parts = or_parts (p.task == t) (is_parked t ps) k in
+    let rest : is_parked t (filter w ps) ≡ false = not_parked_filter w t ps parts.1 in
+    elim (w p) as (λ b. is_parked t (cond b (p ∷ filter w ps) (filter w ps)) ≡ false) [ true ↦ or_from (p.task == t) (is_parked t (filter w ps)) parts.0 rest | false ↦ rest ]
+
+once_filter : {T : Type 0} (w : Parked T → Bool) (ps : List (Parked T)) → ParkedOnce ps → ParkedOnce (filter w ps)
+once_filter w [] a = tt
+once_filter w (p ∷ ps) a =
+    let rest : ParkedOnce (filter w ps) = once_filter w ps a.1 in
+    let lone : is_parked p.task (filter w ps) ≡ false = not_parked_filter w p.task ps a.0 in
+    elim (w p) as (λ b. ParkedOnce (cond b (p ∷ filter w ps) (filter w ps))) [ true ↦ (lone, rest) | false ↦ rest ]
+
+pub once_waiting : {T : Type 0} (s : Story) (ps qs : List (Parked T)) → are_parked_once ps ≡ true → qs ≡ waiting s ps → are_parked_once qs ≡ true
+once_waiting s ps qs a e = ap (λ (l : List (Parked _)). are_parked_once l) e ∙ once_to (waiting s ps) (once_filter (λ p. would_wait s p.task) ps (once_of ps a))
+
+-- those who are kept all wait
+pub all_waiting : {T : Type 0} (s : Story) (ps qs : List (Parked T)) → qs ≡ waiting s ps → all_wait s qs ≡ true
+all_waiting s ps qs e = ap (λ (l : List (Parked _)). all_wait s l) e ∙ all_filter (λ p. would_wait s p.task) ps
+
+not_parked_push : {T : Type 0} (t : ℕ) (ps : List (Parked T)) (p : Parked T) → is_parked t ps ≡ false → (p.task == t) ≡ false → is_parked t (ps ++ p ∷ []) ≡ false
+not_parked_push t [] p k n = or_from (p.task == t) false n refl
+not_parked_push t (q ∷ qs) p k n =
+    let parts = or_parts (q.task == t) (is_parked t qs) k in
+    or_from (q.task == t) (is_parked t (qs ++ p ∷ [])) parts.0 (not_parked_push t qs p parts.1 n)
+
+pushed_once : {T : Type 0} (ps : List (Parked T)) (p : Parked T) → ParkedOnce ps → is_parked p.task ps ≡ false → ParkedOnce (ps ++ p ∷ [])
+pushed_once [] p a k = (refl, tt)
+pushed_once (q ∷ qs) p a k =
+    let parts = or_parts (q.task == p.task) (is_parked p.task qs) k in
+    let other : (p.task == q.task) ≡ false = ne_eqb p.task q.task (λ e. false≢true (sym parts.0 ∙ eq-eqb q.task p.task (sym e))) in
+    (not_parked_push q.task qs p a.0 other, pushed_once qs p a.1 parts.1)
+
+pub once_push : {T : Type 0} (ps : List (Parked T)) (p : Parked T) → are_parked_once ps ≡ true → is_parked p.task ps ≡ false → are_parked_once (ps ++ p ∷ []) ≡ true
+once_push ps p a k = once_to (ps ++ p ∷ []) (pushed_once ps p (once_of ps a) k)
+
+pub all_push : {T : Type 0} (s : Story) (ps : List (Parked T)) (p : Parked T) → all_wait s ps ≡ true → would_wait s p.task ≡ true → all_wait s (ps ++ p ∷ []) ≡ true
+all_push s [] p a k = and_from (would_wait s p.task) true k refl
+all_push s (q ∷ qs) p a k =
+    let parts = and_parts (would_wait s q.task) (all_wait s qs) a in
+    and_from (would_wait s q.task) (all_wait s (qs ++ p ∷ [])) parts.0 (all_push s qs p parts.1 k)
+
+-- a list without one of its numbers
+abbrev without : ℕ → List ℕ → List ℕ
+without x ts = filter (λ u. not (u == x)) ts
+
+filter_no_longer : (p : ℕ → Bool) (ts : List ℕ) → length (filter p ts) ≤ length ts
+filter_no_longer p [] = omega arith
+filter_no_longer p (t ∷ ts) =
+    let rest = filter_no_longer p ts in
+    elim (p t) as (λ b. length (cond b (t ∷ filter p ts) (filter p ts)) ≤ suc (length ts)) [ true ↦ omega (arith, rest) | false ↦ omega (arith, rest) ]
+
+shorter : (x : ℕ) (ts : List ℕ) → has x ts ≡ true → length (without x ts) + 1 ≤ length ts
+shorter x [] k = absurd cc
+shorter x (t ∷ ts) k = go (t == x) k (λ e. shorter x ts e)
+  where
+    go : (b : Bool) → (b || has x ts) ≡ true → (has x ts ≡ true → length (without x ts) + 1 ≤ length ts) → length (cond (not b) (t ∷ without x ts) (without x ts)) + 1 ≤ suc (length ts)
+    go true e rest = omega (arith, filter_no_longer (λ u. not (u == x)) ts)
+    go false e rest = omega (arith, rest e)
+
+abbrev all_in : {T : Type 0} → List ℕ → List (Parked T) → Bool
+all_in ts ps = list_all (λ p. has p.task ts) ps
+
+all_without : {T : Type 0} (x : ℕ) (ts : List ℕ) (ps : List (Parked T)) → is_parked x ps ≡ false → all_in ts ps ≡ true → all_in (without x ts) ps ≡ true
+all_without x ts [] k a = refl
+all_without x ts (p ∷ ps) k a =
+    let n = or_parts (p.task == x) (is_parked x ps) k in
+    let m = and_parts (has p.task ts) (all_in ts ps) a in
+    and_from (has p.task (without x ts)) (all_in (without x ts) ps)
+    (has-filter (λ u. not (u == x)) p.task ts ∙ and_from (not (p.task == x)) (has p.task ts) (ap (λ b. not b) n.0) m.0)
+    (all_without x ts ps n.1 m.1)
+
+no_more : {T : Type 0} (ts : List ℕ) (ps : List (Parked T)) → ParkedOnce ps → all_in ts ps ≡ true → length ps ≤ length ts
+no_more ts [] once a = omega arith
+no_more ts (p ∷ ps) once a =
+    let m = and_parts (has p.task ts) (all_in ts ps) a in
+    omega (arith, shorter p.task ts m.0, no_more (without p.task ts) ps once.1 (all_without p.task ts ps once.0 m.1))
+
+all_live : {T : Type 0} (s : Story) (ps : List (Parked T)) → all_wait s ps ≡ true → all_in (live_tasks s.past) ps ≡ true
+all_live s [] w = refl
+all_live s (p ∷ ps) w =
+    let parts = and_parts (would_wait s p.task) (all_wait s ps) w in
+    and_from (has p.task (live_tasks s.past)) (all_in (live_tasks s.past) ps) (has-live_tasks p.task s.past ∙ (held s p.task parts.0).live) (all_live s ps parts.1)
+
+-- no more tasks are live than may be registered
+few_live : (l : Limits) (ops : List Op) (h : List Event) → 1 ≤ l.regs → is_legal l ops h ≡ true → live_count h ≤ l.regs
+few_live l ops [] one k = omega arith
+few_live l ops (Make t m ∷ h) one k =
+    let f = last_follows l ops h (Make t m) k in
+    let empty : h ≡ [] = empty_is h (and_parts (is_empty h) (nat_lt t l.tasks) f.permitted).0 in
+    omega (arith, one, ap (λ (g : List Event). live_count (Make t m ∷ g)) empty, filter_no_longer (λ u. is_live u (Make t m ∷ [])) (t ∷ []))
+few_live l ops (Reg q t m ∷ h) one k =
+    let f = last_follows l ops h (Reg q t m) k in
+    let r = reg_follows l ops h q t m f.permitted in
+    omega (arith, r.regs_fit, ap (λ (ts : List ℕ). length ts) (live_tasks-reg l ops h q t m f.before r.unknown))
+few_live l ops (Drop t ∷ h) one k =
+    omega (arith, few_live l ops h one (last_follows l ops h (Drop t) k).before, ap (λ (ts : List ℕ). length ts) (live_tasks-drop h t), filter_no_longer (λ u. not (t == u)) (live_tasks h))
+few_live l ops (e ∷ h) one k = few_live l ops h one (last_follows l ops h e k).before
+
+-- a phaser has at most 256 registrations at once
+regs_fit : (l : Limits) → limits_fit l ≡ true → (1 ≤ l.regs) × (l.regs ≤ 256)
+regs_fit l k =
+    let a = is_between 1 l.acts 65536 in
+    let b = is_between 1 l.finishes 1024 in
+    let c = is_between 4 l.history 65536 in
+    let d = is_between 1 l.phasers 64 in
+    let e = is_between 1 l.regs 256 in
+    let f = is_between 1 l.tasks 4096 in
+    let k5 = and_parts (a && b && c && d && e) f k in
+    let k4 = and_parts (a && b && c && d) e k5.0 in
+    let r = and_parts (nat_le 1 l.regs) (nat_le l.regs 256) k4.1 in
+    (leb-true 1 l.regs r.0, leb-true l.regs 256 r.1)
+
+-- so there is a place for each waiting task, and one more for a task that isn't parked yet
+pub places : {T : Type 0} (s : Story) (ps : List (Parked T)) → limits_fit s.limits ≡ true → is_legal s.limits s.ops s.past ≡ true → all_wait s ps ≡ true → are_parked_once ps ≡ true → length ps ≤ 256
+places s ps fit legal w once =
+    let r = regs_fit s.limits fit in
+    omega (arith, r.1, few_live s.limits s.ops s.past r.0 legal, no_more (live_tasks s.past) ps (once_of ps once) (all_live s ps w))
+
+pub one_place_more : {T : Type 0} (s : Story) (ps : List (Parked T)) (p : Parked T) → limits_fit s.limits ≡ true → is_legal s.limits s.ops s.past ≡ true → all_wait s ps ≡ true → are_parked_once ps ≡ true → would_wait s p.task ≡ true → is_parked p.task ps ≡ false → length ps < 256
+one_place_more s ps p fit legal w once k n =
+    omega (arith, places s (p ∷ ps) fit legal (and_from (would_wait s p.task) (all_wait s ps) k w) (and_from (not (is_parked p.task ps)) (are_parked_once ps) (ap (λ b. not b) n) once))

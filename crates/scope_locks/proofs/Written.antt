@@ -1,0 +1,182 @@
+-- What a call leaves of the fact that a cell keeps: one step for all calls.
+use Rattle.std.proofs.Common.{◌≡◌, ℕ, ◌+◌, ◌<◌, Bool, true, false, List, [], ◌∷◌, length, Result, Ok, Err, cond, refl, ap, sym, ◌∙◌, subst, arith}
+use Rattle.std.specs.Prelude.{OnErr}
+use Rattle.std.specs.Result.{is_ok}
+use Rattle.std.proofs.lemmas.Bool.{leb-true, and_parts, and_from}
+use Rattle.phase_modes.specs.declared.refusal.Refusal.{Refusal}
+use Rattle.phase_modes.specs.Limits.{limits_fit}
+use Rattle.phase_modes.specs.Refusal.{first_refusal}
+use Rattle.phase_model.specs.declared.event.Event.{Event}
+use Rattle.phase_model.specs.declared.event.Event.TheVariants.{Make, Reg, Sig, Claim, Did, Pass, Send, Look, Drop}
+use Rattle.phase_model.specs.declared.op.Look.{Look as Seen}
+use Rattle.phase_model.specs.Amounts.{Amount, amount, plus, totals}
+use Rattle.phase_model.specs.Laws.{IsLegal}
+use Rattle.phase_model.specs.Phases.{waits}
+use Rattle.phase_model.specs.Singles.{reserve}
+use Rattle.phase_model.specs.Tasks.{live_count}
+use Rattle.phase_model.specs.Rules.{Story, is_permitted, is_legal, is_allowed, has_room, look_of}
+use Rattle.phase_model.specs.declared.call.Call.{Call}
+use Rattle.phase_model.specs.declared.call.Call.TheVariants.{Pass as pass, Look as look}
+use Rattle.phase_model.specs.Conditions.{conditions}
+use Rattle.phase_model.specs.Replies.{Reply, refused, not_yet, done, reply, after, done_result, must_wait, event_for}
+use Rattle.phase_model.specs.Waiting.{can_free}
+use Rattle.phase_model.proofs.OrderingLaw.{legal_is_ordered}
+use Rattle.phase_model.proofs.Replied.{settled_done, done_is_allowed, legal_after}
+use Rattle.phaser_core.specs.Answers.{pass_result, look_result}
+use Rattle.phaser_core.proofs.Reading.{history_fits}
+use Rattle.share_book.specs.Accounts.{Entry}
+use Rattle.scope_locks.specs.declared.parking.Parked.{Parked}
+use Rattle.scope_locks.specs.Amounts.{weight, amount_if, plus_nothing}
+use Rattle.scope_locks.specs.Cells.{IsKept}
+use Rattle.scope_locks.specs.Parking.{all_wait, are_parked_once, freed, has_gone_on}
+use Rattle.scope_locks.proofs.Parks.{all_stay, none_freed}
+
+-- the reply of a done call shows its event
+pub event_is : (s : Story) (c : Call) (e : Event) → reply s c ≡ done e → event_for s.limits s.ops s.past c ≡ e
+event_is s c e k =
+    let f = event_for s.limits s.ops s.past c in
+    (settled_done (first_refusal (conditions s.limits s.ops s.past c)) (must_wait s.limits s.ops s.past c) (has_room s.limits (f ∷ s.past)) f e k).1
+
+-- each event counts as one
+pub one_event : (e : Event) → (amount e).events ≡ 1
+one_event (Make t m) = refl
+one_event (Reg q t m) = refl
+one_event (Sig t x) = refl
+one_event (Claim t) = refl
+one_event (Did t) = refl
+one_event (Pass t) = refl
+one_event (Send t a v) = refl
+one_event (Look t a x) = refl
+one_event (Drop t) = refl
+
+zero_plus : (n : ℕ) → 0 + n ≡ n
+zero_plus n = omega arith
+
+-- the story after a reply has the reply's amount more
+pub record Moved (s s' : Story) (w : Amount) : Type 0 where
+  pub limits : s'.limits ≡ s.limits
+  pub sums : totals s'.past ≡ plus w (totals s.past)
+  pub longer : length s'.past ≡ w.events + length s.past
+
+pub moved : (s : Story) (r : Reply) → Moved s (after s r) (weight r)
+moved s (refused x) = record { limits = refl; sums = plus_nothing (totals s.past); longer = sym (zero_plus (length s.past)) }
+moved s not_yet = record { limits = refl; sums = plus_nothing (totals s.past); longer = sym (zero_plus (length s.past)) }
+moved s (done e) = record { limits = refl; sums = refl; longer = omega (arith, one_event e) }
+
+-- a history that takes one event more had room for it
+pub short : (s : Story) (c : Call) (e : Event) → limits_fit s.limits ≡ true → reply s c ≡ done e → length s.past < 65536
+short s c e fit k =
+    let allowed : is_allowed s.limits s.ops s.past e ≡ true = done_is_allowed s c e k in
+    let room : has_room s.limits (e ∷ s.past) ≡ true = (and_parts (is_permitted s.limits s.ops s.past e) (has_room s.limits (e ∷ s.past)) allowed).1 in
+    omega (arith, history_fits s.limits fit, leb-true (length (e ∷ s.past) + live_count (e ∷ s.past) + reserve (e ∷ s.past)) s.limits.history room)
+
+-- whether a call has added its event, and what that amounts to
+pub record Matches (s : Story) (c : Call) (added : Bool) (e : Event) : Type 0 where
+  pub weighs : weight (reply s c) ≡ amount_if added e
+  pub is_done : added ≡ true → reply s c ≡ done (event_for s.limits s.ops s.past c)
+
+-- by a call's plain result
+pub matches_result : (s : Story) (c : Call) (added : Bool) → added ≡ is_ok (done_result (reply s c)) → Matches s c added (event_for s.limits s.ops s.past c)
+matches_result s c added k = subst (λ b. Matches s c b (event_for s.limits s.ops s.past c)) (sym k) (go (reply s c) refl)
+  where
+    go : (r : Reply) → reply s c ≡ r → Matches s c (is_ok (done_result r)) (event_for s.limits s.ops s.past c)
+    go (refused x) e = record { weighs = ap weight e; is_done = λ n. absurd cc }
+    go not_yet e = record { weighs = ap weight e; is_done = λ n. absurd cc }
+    go (done f) e =
+        let q : reply s c ≡ done (event_for s.limits s.ops s.past c) = e ∙ ap done (sym (event_is s c f e)) in
+        record { weighs = ap weight q; is_done = λ n. q }
+
+-- by what a look saw, which its event records too
+pub matches_look : (s : Story) (t a : ℕ) (x : Seen) (added : Bool) → added ≡ is_ok (look_result (reply s (look t a))) → Matches s (look t a) added (Look t a x)
+matches_look s t a x added k = subst (λ b. Matches s (look t a) b (Look t a x)) (sym k) (go (reply s (look t a)) refl)
+  where
+    v : Seen
+    v = look_of s.ops a (waits t s.past) s.past
+
+    go : (r : Reply) → reply s (look t a) ≡ r → Matches s (look t a) (is_ok (look_result r)) (Look t a x)
+    go (refused y) e = record { weighs = ap weight e; is_done = λ n. absurd cc }
+    go not_yet e = record { weighs = ap weight e; is_done = λ n. absurd cc }
+    go (done f) e =
+        let i : Look t a v ≡ f = event_is s (look t a) f e in
+        let q : reply s (look t a) ≡ done (Look t a v) = e ∙ ap done (sym i) in
+        subst (λ g. Matches s (look t a) (is_ok (look_result (done g))) (Look t a x)) i (record { weighs = ap weight q; is_done = λ n. q })
+
+-- by the answer to a pass, whether it ended the turn or claimed
+pub matches_pass : (s : Story) (t : ℕ) (added : Bool) → added ≡ has_gone_on (pass_result s.past (reply s (pass t))) → Matches s (pass t) added (Pass t)
+matches_pass s t added k = subst (λ b. Matches s (pass t) b (Pass t)) (sym k) (go (reply s (pass t)) refl)
+  where
+    by_event : (f : Event) (b : Bool) → cond b (Claim t) (Pass t) ≡ f → reply s (pass t) ≡ done f → Matches s (pass t) (has_gone_on (pass_result s.past (done f))) (Pass t)
+    by_event f true i e =
+        let q = e ∙ ap done (sym (event_is s (pass t) f e)) in
+        subst (λ g. Matches s (pass t) (has_gone_on (pass_result s.past (done g))) (Pass t)) i (record { weighs = ap weight (e ∙ ap done (sym i)); is_done = λ n. q })
+    by_event f false i e =
+        let q = e ∙ ap done (sym (event_is s (pass t) f e)) in
+        subst (λ g. Matches s (pass t) (has_gone_on (pass_result s.past (done g))) (Pass t)) i (record { weighs = ap weight (e ∙ ap done (sym i)); is_done = λ n. q })
+
+    go : (r : Reply) → reply s (pass t) ≡ r → Matches s (pass t) (has_gone_on (pass_result s.past r)) (Pass t)
+    go (refused y) e = record { weighs = ap weight e; is_done = λ n. absurd cc }
+    go not_yet e = record { weighs = ap weight e; is_done = λ n. absurd cc }
+    go (done f) e = by_event f (is_permitted s.limits s.ops s.past (Claim t)) (event_is s (pass t) f e) e
+
+-- where a call has added its event, the phaser's book had room for it
+pub has_room_left : {T : Type 0} (s : Story) (b : Entry) (ps : List (Parked T)) (c : Call) (added : Bool) (e : Event) → IsKept s b ps → Matches s c added e → added ≡ true → 0 < b.room
+has_room_left s b ps c added e k matches n =
+    omega (arith, k.room, short s c (event_for s.limits s.ops s.past c) k.fit (matches.is_done n))
+
+-- the step of all calls: what the cell keeps, it keeps after it
+pub kept : {T : Type 0} (s s' : Story) (b b' : Entry) (ps ps' : List (Parked T)) (c : Call) (added : Bool) (e : Event)
+    → IsKept s b ps
+    → Matches s c added e
+    → s' ≡ after s (reply s c)
+    → b'.totals ≡ plus (amount_if added e) b.totals
+    → b'.room + (amount_if added e).events ≡ b.room
+    → all_wait s' ps' ≡ true
+    → are_parked_once ps' ≡ true
+    → IsKept s' b' ps'
+kept s s' b b' ps ps' c added e k matches is posted room waiting once =
+    let m = moved s (reply s c) in
+    let w = weight (reply s c) in
+    let legal : IsLegal s' = subst (λ (v : Story). IsLegal v) (sym is) (legal_after s c k.legal) in
+    record {
+      fit = ap (λ (v : Story). limits_fit v.limits) is ∙ (ap limits_fit m.limits ∙ k.fit);
+      legal = legal;
+      ordered = legal_is_ordered s'.limits s'.ops s'.past legal;
+      posted = posted ∙ (ap (λ x. plus x b.totals) (sym matches.weighs) ∙ (ap (λ x. plus w x) k.posted ∙ (sym m.sums ∙ ap (λ (v : Story). totals v.past) (sym is))));
+      room = omega (arith, room, k.room, m.longer, ap (λ x. x.events) matches.weighs, ap (λ (v : Story). length v.past) is);
+      waiting = waiting;
+      once = once;
+    }
+
+-- what is raised by the event's amount is raised by the reply's
+pub raised : (s : Story) (c : Call) (added : Bool) (e : Event) (a a' : Amount) → Matches s c added e → a' ≡ plus (amount_if added e) a → a' ≡ plus (weight (reply s c)) a
+raised s c added e a a' matches k = k ∙ ap (λ x. plus x a) (sym matches.weighs)
+
+-- a call that can free nobody leaves all waiting
+pub all_stay_after : {T : Type 0} (s : Story) (c : Call) (ps : List (Parked T)) → can_free (event_for s.limits s.ops s.past c) ≡ false → IsLegal s → all_wait s ps ≡ true → all_wait (after s (reply s c)) ps ≡ true
+all_stay_after s c ps still legal w = go (reply s c) refl
+  where
+    go : (r : Reply) → reply s c ≡ r → all_wait (after s (reply s c)) ps ≡ true
+    go (refused x) e = ap (λ r. all_wait (after s r) ps) e ∙ w
+    go not_yet e = ap (λ r. all_wait (after s r) ps) e ∙ w
+    go (done f) e =
+        let next : is_legal s.limits s.ops (f ∷ s.past) ≡ true = and_from (is_allowed s.limits s.ops s.past f) (is_legal s.limits s.ops s.past) (done_is_allowed s c f e) legal in
+        ap (λ r. all_wait (after s r) ps) e ∙ all_stay s f ps (ap can_free (sym (event_is s c f e)) ∙ still) next w
+
+-- the same after it, by another name
+pub stays_waiting : {T : Type 0} (s s' : Story) (b : Entry) (ps : List (Parked T)) (c : Call) → IsKept s b ps → s' ≡ after s (reply s c) → can_free (event_for s.limits s.ops s.past c) ≡ false → all_wait s' ps ≡ true
+stays_waiting s s' b ps c k is still = ap (λ (v : Story). all_wait v ps) is ∙ all_stay_after s c ps still k.legal k.waiting
+
+-- neither the end of a turn nor a claim frees anybody
+pub pass_frees_nobody : (s : Story) (t : ℕ) → can_free (event_for s.limits s.ops s.past (pass t)) ≡ false
+pass_frees_nobody s t = elim (is_permitted s.limits s.ops s.past (Claim t)) as (λ b. can_free (cond b (Claim t) (Pass t)) ≡ false) [ true ↦ refl | false ↦ refl ]
+
+-- a refused call frees nobody
+pub none_where_refused : {T : Type 0} (s s' : Story) (b : Entry) (ps : List (Parked T)) (c : Call) (a : Result (Unit {0}) Refusal) (out : List T)
+    → IsKept s b ps → s' ≡ after s (reply s c) → a ≡ done_result (reply s c) → out ≡ freed s' ps → OnErr a (out ≡ [])
+none_where_refused s s' b ps c (Ok u) out k is e o = tt
+none_where_refused s s' b ps c (Err x) out k is e o = o ∙ (ap (λ (v : Story). freed v ps) (is ∙ leaves (reply s c) (sym e)) ∙ none_freed s ps k.waiting)
+  where
+    leaves : (r : Reply) → done_result r ≡ Err x → after s r ≡ s
+    leaves (refused y) m = refl
+    leaves not_yet m = refl
+    leaves (done f) m = absurd cc

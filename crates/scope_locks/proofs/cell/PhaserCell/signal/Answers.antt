@@ -1,0 +1,38 @@
+use Rattle.std.proofs.Common.{◌≡◌, ◌&&◌, not, ap, sym, ◌∙◌}
+use Rattle.std.specs.Result.{is_ok}
+use Rattle.phase_model.specs.declared.call.Call.TheVariants.{Signal as signal}
+use Rattle.scope_locks.specs.Parking.{is_phase_open}
+use Rattle.scope_locks.proofs.Freeing.{signal_frees_nobody}
+use Rattle.scope_locks.proofs.Parks.{all_waiting, once_waiting}
+use Rattle.scope_locks.proofs.Written.{matches_result, kept, none_where_refused}
+use Rattle.scope_locks.proofs.cell.PhaserCell.signal.Goals as goal
+
+pub release_if-requires-clause-nobody : goal.release_if-requires-clause-nobody
+release_if-requires-clause-nobody g c = λ n.
+    let cell = c.args.self.now in
+    let s = cell.state.story in
+    let s' = c.signal-answer.new.self.story in
+    let ps = cell.parked.items in
+    let asked : c.may_leave.result ≡ (is_phase_open s ps && not (is_phase_open s' ps)) =
+    c.may_leave.ensures ∙ (ap (λ b. b && not c.is_phase_open-is_open.result) c.is_phase_open-was_open.ensures ∙ ap (λ b. is_phase_open s ps && not b) c.is_phase_open-is_open.ensures)
+    in
+    signal_frees_nobody s s' cell.book ps c.args.task c.args.number cell.kept c.signal-answer.ensures.history (sym asked ∙ n)
+
+pub invariant_of-self : goal.invariant_of-self
+invariant_of-self g c =
+    let cell = c.args.self.now in
+    let s = cell.state.story in
+    let is = c.signal-answer.ensures.history in
+    let matches = matches_result s (signal c.args.task c.args.number) c.is_ok.result (c.is_ok.ensures.value ∙ ap (λ a. is_ok a) c.signal-answer.ensures.reply) in
+    let s' = c.signal-answer.new.self.story in
+    let left = c.release_if.ensures.parked in
+    record {
+      kept = kept s _ cell.book _ cell.parked.items _ (signal c.args.task c.args.number) _ _ cell.kept matches is c.post_if.ensures.book c.post_if.ensures.room (all_waiting s' cell.parked.items _ left) (once_waiting s' cell.parked.items _ cell.kept.once left);
+      seats = c.release_if.ensures.seats;
+      seated = c.release_if.ensures.seated;
+    }
+
+pub returns-clause-refused : goal.returns-clause-refused
+returns-clause-refused g c =
+    let cell = c.args.self.now in
+    none_where_refused cell.state.story _ cell.book cell.parked.items (signal c.args.task c.args.number) _ _ cell.kept c.signal-answer.ensures.history c.signal-answer.ensures.reply c.release_if.ensures.out

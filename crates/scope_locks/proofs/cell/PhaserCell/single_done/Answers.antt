@@ -1,0 +1,34 @@
+use Rattle.std.proofs.Common.{ap, sym, ◌∙◌}
+use Rattle.std.specs.Result.{is_ok}
+use Rattle.phase_model.specs.declared.call.Call.TheVariants.{SingleDone as single_done}
+use Rattle.scope_locks.proofs.Freeing.{refused_frees_nobody}
+use Rattle.scope_locks.proofs.Parks.{all_waiting, once_waiting}
+use Rattle.scope_locks.proofs.Written.{matches_result, kept, none_where_refused}
+use Rattle.scope_locks.proofs.cell.PhaserCell.single_done.Goals as goal
+
+pub release_if-requires-clause-nobody : goal.release_if-requires-clause-nobody
+release_if-requires-clause-nobody g c =
+    let cell = c.args.self.now in
+    let s = cell.state.story in
+    let is = c.single_done-answer.ensures.history in
+    λ n. refused_frees_nobody s _ cell.book cell.parked.items c.args.task cell.kept is
+    (sym (ap (λ a. is_ok a) c.single_done-answer.ensures.reply) ∙ (sym c.is_ok-is_done.ensures.value ∙ n))
+
+pub invariant_of-self : goal.invariant_of-self
+invariant_of-self g c =
+    let cell = c.args.self.now in
+    let s = cell.state.story in
+    let is = c.single_done-answer.ensures.history in
+    let matches = matches_result s (single_done c.args.task) c.is_ok-is_done.result (c.is_ok-is_done.ensures.value ∙ ap (λ a. is_ok a) c.single_done-answer.ensures.reply) in
+    let s' = c.single_done-answer.new.self.story in
+    let left = c.release_if.ensures.parked in
+    record {
+      kept = kept s _ cell.book _ cell.parked.items _ (single_done c.args.task) _ _ cell.kept matches is c.post_if.ensures.book c.post_if.ensures.room (all_waiting s' cell.parked.items _ left) (once_waiting s' cell.parked.items _ cell.kept.once left);
+      seats = c.release_if.ensures.seats;
+      seated = c.release_if.ensures.seated;
+    }
+
+pub returns-clause-refused : goal.returns-clause-refused
+returns-clause-refused g c =
+    let cell = c.args.self.now in
+    none_where_refused cell.state.story _ cell.book cell.parked.items (single_done c.args.task) _ _ cell.kept c.single_done-answer.ensures.history c.single_done-answer.ensures.reply c.release_if.ensures.out

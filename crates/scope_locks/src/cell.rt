@@ -1,0 +1,317 @@
+//! What stands behind a phaser's lock.
+ghost use Rattle.std.specs.Prelude.{◌≡◌, Ok, ◌+◌, [], ◌<◌, ◌≤◌, true, false, IfOk, IfErr, OnErr, is_ok};
+ghost use Rattle.std.specs.VecDeque.{deque_len, deque_capacity};
+ghost use Rattle.phase_modes.specs.Limits.{limits_fit};
+ghost use Rattle.phase_model.specs.Amounts.{plus};
+ghost use Rattle.phase_model.specs.declared.call.Call.TheVariants.{Make as make, Register as register, Signal as signal, Pass as pass, SingleDone as single_done, Send as send, Look as look, Drop as drop_task};
+ghost use Rattle.phase_model.specs.Replies.{reply, after, done_result};
+ghost use Rattle.phaser_core.specs.declared.state.Passing.TheVariants.{NotYet};
+ghost use Rattle.phaser_core.specs.Answers.{pass_result, look_result};
+ghost use Rattle.share_book.specs.Accounts.{nothing};
+ghost use Rattle.scope_locks.specs.Amounts.{amount_if};
+ghost use Rattle.scope_locks.specs.Cells.{IsKept};
+ghost use Rattle.scope_locks.specs.Parking.{is_parked, waiting, freed, locked_pass, parking, has_gone_on, goes_on, answered, IsBack};
+
+use crate::answer::PassAnswer;
+use crate::out::Out;
+use crate::parking::{Parked, is_phase_open, may_leave, park, release_if};
+use crate::posting::{Post, post_if};
+use phase_model::{Event, Look, Ops};
+use phase_modes::{Limits, Mode, Refusal};
+use phaser_core::{Passing, PhaserState};
+use share_book::{Ledgers, PhaserBook, Shares};
+use std::alloc::Global;
+use std::collections::VecDeque;
+
+/// A phaser, its book, and the items of those who wait for it, at most one of each task.
+///
+/// The type keeps, at each moment that the phaser's lock is free, what the field `kept` says.
+#[derive(Drop)]
+pub struct PhaserCell<T, K: Ledgers> {
+    pub state: PhaserState,
+    pub book: PhaserBook<K>,
+    pub parked: VecDeque<Parked<T>>,
+    ghost kept: { IsKept state.story book parked.items },
+    ghost seats: { 256 ≤ deque_capacity parked },
+    ghost seated: { deque_len parked ≤ 256 },
+}
+
+/// Whether a pass has added an event. What it amounts to is the same for a turn's end and a claim.
+fn has_gone_on(answer: Result<Passing, Refusal>) -> bool
+    ensures { result ≡ has_gone_on answer }
+{
+    match answer {
+        Ok(Passing::Passed(_)) | Ok(Passing::Claimed(_)) => true,
+        Ok(Passing::NotYet) | Err(_) => false,
+    }
+}
+
+/// Hands the item back with the answer of a pass, or parks it where the task has to come again.
+fn settle<T>(
+    answer: Result<Passing, Refusal>,
+    parked: &mut VecDeque<Parked<T>>,
+    task: u32,
+    item: T,
+) -> PassAnswer<T>
+    requires seats { 256 ≤ deque_capacity parked.old }
+    requires seated { deque_len parked.old ≤ 256 }
+    requires place { answer ≡ Ok NotYet → is_parked task parked.old.items ≡ false → deque_len parked.old < 256 }
+    ensures answer { result ≡ locked_pass answer (is_parked task parked.old.items) item }
+    ensures goes_on { goes_on result ≡ has_gone_on answer }
+    ensures item { IsBack item result }
+    ensures parked { parked.new.items
+        ≡ parking answer (is_parked task parked.old.items) (record { task = task; item = item }) parked.old.items }
+    ensures seats { 256 ≤ deque_capacity parked.new }
+    ensures seated { deque_len parked.new ≤ 256 }
+{
+    match answer {
+        Ok(Passing::Passed(phase)) => PassAnswer::Passed(item, phase),
+        Ok(Passing::Claimed(number)) => PassAnswer::Claimed(item, number),
+        Ok(Passing::NotYet) => park(parked, task, item),
+        Err(refusal) => PassAnswer::Refused(item, refusal),
+    }
+}
+
+impl<T, K: Ledgers> PhaserCell<T, K> {
+    /// The phaser's `make`, with its refusals. Nobody is let go on by it.
+    pub fn make<B: Post<K>>(
+        &mut self,
+        books: &mut B,
+        mine: &mut Shares<K>,
+        task: u32,
+        mode: Mode,
+    ) -> Result<(), Refusal>
+        ensures reply { result ≡ done_result (reply self.old.state.story (make task mode)) }
+        ensures history { self.new.state.story
+            ≡ after self.old.state.story (reply self.old.state.story (make task mode)) }
+        ensures mine { mine.new ≡ plus (amount_if (is_ok result) (Event.Make task mode)) mine.old }
+        ensures books { B.rose books.old books.new (amount_if (is_ok result) (Event.Make task mode)) }
+        ensures parked { self.new.parked ≡ self.old.parked }
+    {
+        let PhaserCell { state, book, .. } = self;
+        let answer = state.make(task, mode);
+        post_if(answer.is_ok(), book, books, mine, Event::Make(task, mode));
+        answer
+    }
+
+    /// The phaser's `register`, with its refusals. Nobody is let go on by it.
+    pub fn register<B: Post<K>>(
+        &mut self,
+        books: &mut B,
+        mine: &mut Shares<K>,
+        parent: u32,
+        child: u32,
+        mode: Mode,
+    ) -> Result<(), Refusal>
+        ensures reply { result ≡ done_result (reply self.old.state.story (register parent child mode)) }
+        ensures history { self.new.state.story
+            ≡ after self.old.state.story (reply self.old.state.story (register parent child mode)) }
+        ensures mine { mine.new ≡ plus (amount_if (is_ok result) (Event.Reg parent child mode)) mine.old }
+        ensures books { B.rose books.old books.new (amount_if (is_ok result) (Event.Reg parent child mode)) }
+        ensures parked { self.new.parked ≡ self.old.parked }
+    {
+        let PhaserCell { state, book, .. } = self;
+        let answer = state.register(parent, child, mode);
+        let event = Event::Reg(parent, child, mode);
+        post_if(answer.is_ok(), book, books, mine, event);
+        answer
+    }
+
+    /// The phaser's `send`, with its refusals. Nobody is let go on by it.
+    pub fn send<B: Post<K>>(
+        &mut self,
+        books: &mut B,
+        mine: &mut Shares<K>,
+        task: u32,
+        accumulator: u8,
+        value: i32,
+    ) -> Result<(), Refusal>
+        ensures reply { result ≡ done_result (reply self.old.state.story (send task accumulator value)) }
+        ensures history { self.new.state.story
+            ≡ after self.old.state.story (reply self.old.state.story (send task accumulator value)) }
+        ensures mine { mine.new ≡ plus (amount_if (is_ok result) (Event.Send task accumulator value)) mine.old }
+        ensures books { B.rose books.old books.new (amount_if (is_ok result) (Event.Send task accumulator value)) }
+        ensures parked { self.new.parked ≡ self.old.parked }
+    {
+        let PhaserCell { state, book, .. } = self;
+        let answer = state.send(task, accumulator, value);
+        let event = Event::Send(task, accumulator, value);
+        post_if(answer.is_ok(), book, books, mine, event);
+        answer
+    }
+
+    /// The phaser's `look`, with its refusals. Nobody is let go on by it.
+    pub fn look<B: Post<K>>(
+        &mut self,
+        books: &mut B,
+        mine: &mut Shares<K>,
+        task: u32,
+        accumulator: u8,
+    ) -> Result<Look, Refusal>
+        ensures reply { result ≡ look_result (reply self.old.state.story (look task accumulator)) }
+        ensures history { self.new.state.story
+            ≡ after self.old.state.story (reply self.old.state.story (look task accumulator)) }
+        ensures mine { (x : Look) → mine.new ≡ plus (amount_if (is_ok result) (Event.Look task accumulator x)) mine.old }
+        ensures books { (x : Look) → B.rose books.old books.new (amount_if (is_ok result) (Event.Look task accumulator x)) }
+        ensures parked { self.new.parked ≡ self.old.parked }
+    {
+        let PhaserCell { state, book, .. } = self;
+        let answer = state.look(task, accumulator);
+        let seen = answer.unwrap_or(Look::Nothing);
+        let event = Event::Look(task, accumulator, seen);
+        post_if(answer.is_ok(), book, books, mine, event);
+        answer
+    }
+
+    /// The phaser's `signal`, with its refusals. The items of all whom it lets go on are put into
+    /// `out`.
+    pub fn signal<B: Post<K>>(
+        &mut self,
+        books: &mut B,
+        mine: &mut Shares<K>,
+        out: &mut Out<T>,
+        task: u32,
+        number: Option<u32>,
+    ) -> Result<(), Refusal>
+        requires { out.old ≡ [] }
+        ensures reply { result ≡ done_result (reply self.old.state.story (signal task number)) }
+        ensures history { self.new.state.story
+            ≡ after self.old.state.story (reply self.old.state.story (signal task number)) }
+        ensures mine { mine.new ≡ plus (amount_if (is_ok result) (Event.Sig task number)) mine.old }
+        ensures books { B.rose books.old books.new (amount_if (is_ok result) (Event.Sig task number)) }
+        ensures parked { self.new.parked.items ≡ waiting self.new.state.story self.old.parked.items }
+        ensures out { out.new ≡ freed self.new.state.story self.old.parked.items }
+        ensures refused { OnErr result (out.new ≡ []) }
+    {
+        let PhaserCell {
+            state,
+            book,
+            parked,
+        } = self;
+        let was_open = is_phase_open(state, parked);
+        let answer = state.signal(task, number);
+        post_if(answer.is_ok(), book, books, mine, Event::Sig(task, number));
+        let is_open = is_phase_open(state, parked);
+        release_if(may_leave(false, was_open, is_open), state, parked, out);
+        answer
+    }
+
+    /// The phaser's `drop_task`, with its refusals. The items of all whom it lets go on are put into
+    /// `out`, the dropped task's own too where it was parked.
+    pub fn drop_task<B: Post<K>>(
+        &mut self,
+        books: &mut B,
+        mine: &mut Shares<K>,
+        out: &mut Out<T>,
+        task: u32,
+    ) -> Result<(), Refusal>
+        requires { out.old ≡ [] }
+        ensures reply { result ≡ done_result (reply self.old.state.story (drop_task task)) }
+        ensures history { self.new.state.story
+            ≡ after self.old.state.story (reply self.old.state.story (drop_task task)) }
+        ensures mine { mine.new ≡ plus (amount_if (is_ok result) (Event.Drop task)) mine.old }
+        ensures books { B.rose books.old books.new (amount_if (is_ok result) (Event.Drop task)) }
+        ensures parked { self.new.parked.items ≡ waiting self.new.state.story self.old.parked.items }
+        ensures out { out.new ≡ freed self.new.state.story self.old.parked.items }
+        ensures refused { OnErr result (out.new ≡ []) }
+    {
+        let PhaserCell {
+            state,
+            book,
+            parked,
+        } = self;
+        // A task that doesn't wait isn't parked itself.
+        let waits = state.would_wait(task);
+        let was_open = is_phase_open(state, parked);
+        let answer = state.drop_task(task);
+        post_if(answer.is_ok(), book, books, mine, Event::Drop(task));
+        let is_open = is_phase_open(state, parked);
+        release_if(may_leave(waits, was_open, is_open), state, parked, out);
+        answer
+    }
+
+    /// The phaser's `single_done`, with its refusals. The items of all whom it lets go on are put into
+    /// `out`.
+    pub fn single_done<B: Post<K>>(
+        &mut self,
+        books: &mut B,
+        mine: &mut Shares<K>,
+        out: &mut Out<T>,
+        task: u32,
+    ) -> Result<(), Refusal>
+        requires { out.old ≡ [] }
+        ensures reply { result ≡ done_result (reply self.old.state.story (single_done task)) }
+        ensures history { self.new.state.story
+            ≡ after self.old.state.story (reply self.old.state.story (single_done task)) }
+        ensures mine { mine.new ≡ plus (amount_if (is_ok result) (Event.Did task)) mine.old }
+        ensures books { B.rose books.old books.new (amount_if (is_ok result) (Event.Did task)) }
+        ensures parked { self.new.parked.items ≡ waiting self.new.state.story self.old.parked.items }
+        ensures out { out.new ≡ freed self.new.state.story self.old.parked.items }
+        ensures refused { OnErr result (out.new ≡ []) }
+    {
+        let PhaserCell {
+            state,
+            book,
+            parked,
+        } = self;
+        let answer = state.single_done(task);
+        let is_done = answer.is_ok();
+        post_if(is_done, book, books, mine, Event::Did(task));
+        release_if(is_done, state, parked, out);
+        answer
+    }
+
+    /// The phaser's `pass`, with its refusals; a task that has to wait leaves its item here instead, or
+    /// has it back with `NotNow` where it is parked already. Nobody is let go on by it.
+    pub fn pass<B: Post<K>>(
+        &mut self,
+        books: &mut B,
+        mine: &mut Shares<K>,
+        task: u32,
+        item: T,
+    ) -> PassAnswer<T>
+        ensures answer { result
+            ≡ locked_pass (answered self.old.state.story task) (is_parked task self.old.parked.items) item }
+        ensures history { self.new.state.story
+            ≡ after self.old.state.story (reply self.old.state.story (pass task)) }
+        ensures mine { mine.new ≡ plus (amount_if (goes_on result) (Event.Pass task)) mine.old }
+        ensures books { B.rose books.old books.new (amount_if (goes_on result) (Event.Pass task)) }
+        ensures item { IsBack item result }
+        ensures parked { self.new.parked.items ≡ parking (answered self.old.state.story task)
+            (is_parked task self.old.parked.items) (record { task = task; item = item }) self.old.parked.items }
+    {
+        let PhaserCell {
+            state,
+            book,
+            parked,
+        } = self;
+        let answer = state.pass(task);
+        post_if(has_gone_on(answer), book, books, mine, Event::Pass(task));
+        settle(answer, parked, task, item)
+    }
+}
+
+impl<T: Drop, K: Ledgers> PhaserCell<T, K> {
+    /// A phaser that nobody has made yet, with its book, in which nothing is posted yet. All memory that
+    /// it will ever need is taken here; `Memory` where that is refused.
+    pub fn new(
+        alloc: Global,
+        limits: Limits,
+        ops: Ops,
+        book: PhaserBook<K>,
+    ) -> Result<PhaserCell<T, K>, Refusal>
+        requires limits { limits_fit limits ≡ true }
+        requires fresh { (book.totals ≡ nothing) × (book.room ≡ 65536) }
+        ensures story { IfOk result (λ c. c.state.story ≡ record { limits = limits; ops = ops; past = [] }) }
+        ensures empty { IfOk result (λ c. (c.parked.items ≡ []) × (c.book ≡ book)) }
+        ensures memory { IfErr result (λ r. r ≡ Refusal.Memory) }
+    {
+        let state = PhaserState::new(alloc, limits, ops)?;
+        let parked = VecDeque::with_capacity(alloc, 256)?;
+        Ok(PhaserCell {
+            state,
+            book,
+            parked,
+        })
+    }
+}

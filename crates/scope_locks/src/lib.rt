@@ -1,0 +1,22 @@
+//! Phasers and finishes that threads share. A cell is what stands behind one lock: the state, the
+//! books of what was done on it, and the items of those who wait for it. A table has one lock for each
+//! phaser or finish by its number.
+#![tactic(auto)]
+
+mod answer;
+mod cell;
+mod finish;
+mod finishes;
+mod out;
+mod parking;
+mod phasers;
+mod posting;
+
+pub use answer::{PassAnswer, ShutAnswer};
+pub use cell::PhaserCell;
+pub use finish::FinishCell;
+pub use finishes::{FinishParts, FinishTable};
+pub use out::Out;
+pub use parking::Parked;
+pub use phasers::{PhaserParts, PhaserTable};
+pub use posting::Post;
