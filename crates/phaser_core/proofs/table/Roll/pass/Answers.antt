@@ -30,7 +30,7 @@ invariant_of-self c =
     roll_pass r.table r.signallers r.waiters c.advance.new.self c.args.place e c.self.invariant.0 c.get.ensures is (sym c.can_wait.ensures ∙ c.if-can_wait.true) c.advance.ensures
     in (
       rw written roll,
-      record { each = omega (arith, c.self.invariant.1.each, ap (λ (xs : List Entry). length xs) written, length-set r.table c.args.place (line_passed e)); room = c.self.invariant.1.room },
+      omega (arith, c.self.invariant.1, ap (λ (xs : List Entry). length xs) written, length-set r.table c.args.place (line_passed e)),
     )
 
 pub invariant_of-self-else-can_wait : goal.invariant_of-self-else-can_wait
@@ -44,7 +44,7 @@ invariant_of-self-else-can_wait c =
     roll_pass_none r.table r.signallers r.waiters c.args.place e c.self.invariant.0 c.get.ensures is (sym c.can_wait.ensures ∙ c.if-can_wait.false)
     in (
       rw written roll,
-      record { each = omega (arith, c.self.invariant.1.each, ap (λ (xs : List Entry). length xs) written, length-set r.table c.args.place (line_passed e)); room = c.self.invariant.1.room },
+      omega (arith, c.self.invariant.1, ap (λ (xs : List Entry). length xs) written, length-set r.table c.args.place (line_passed e)),
     )
 
 pub pass-requires-clause-phase : goal.pass-requires-clause-phase

@@ -34,5 +34,5 @@ invariant_of-self c =
     roll_signal r.table r.signallers r.waiters c.advance.new.self c.args.place c.args.phase e c.args.proposes i line.1 is low c.advance.ensures
     in (
       rw written roll,
-      record { each = omega (arith, c.self.invariant.1.each, ap (λ (xs : List Entry). length xs) written, length-set r.table c.args.place (line_signalled e c.args.proposes)); room = c.self.invariant.1.room },
+      omega (arith, c.self.invariant.1, ap (λ (xs : List Entry). length xs) written, length-set r.table c.args.place (line_signalled e c.args.proposes)),
     )
