@@ -22,3 +22,13 @@ pub mod Owners
 pub mod ShutMade
 pub mod AbleRead
 pub mod ClockRead
+pub mod NextOf
+pub mod PassMade
+pub mod SingleMade
+pub mod Outcomes
+pub mod Joins
+pub mod PhasersKept
+pub mod MakeRefused
+pub mod MakeMade
+pub mod DropMade
+pub mod RegisterMade

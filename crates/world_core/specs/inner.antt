@@ -4,3 +4,6 @@ pub mod Steps
 pub mod SpawnSteps
 pub mod Queries
 pub mod FinishSteps
+pub mod Registering
+pub mod RegisterSteps
+pub mod DropSteps

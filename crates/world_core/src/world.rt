@@ -14,9 +14,12 @@ use phase_modes::{Limits, Refusal};
 use std::alloc::Global;
 use std::marker::Model;
 
+mod dropping;
 mod ends;
+mod making;
 mod opening;
 mod queries;
+mod registering;
 mod spawning;
 mod turns;
 
