@@ -20,3 +20,8 @@ pub mod HeadsOf
 pub mod EndMade
 pub mod Owners
 pub mod ShutMade
+pub mod Acts
+pub mod Handing
+pub mod BeginsAsked
+pub mod Begins
+pub mod SpawnBegun
