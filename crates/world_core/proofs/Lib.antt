@@ -32,3 +32,9 @@ pub mod MakeRefused
 pub mod MakeMade
 pub mod DropMade
 pub mod RegisterMade
+pub mod Acts
+pub mod Handing
+pub mod BeginsAsked
+pub mod Begins
+pub mod SpawnBegun
+pub mod SendMade

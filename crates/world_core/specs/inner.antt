@@ -7,3 +7,5 @@ pub mod FinishSteps
 pub mod Registering
 pub mod RegisterSteps
 pub mod DropSteps
+pub mod Begins
+pub mod Sends

@@ -9,6 +9,7 @@ use phase_modes::Refusal;
 use std::alloc::Global;
 use std::marker::Model;
 
+pub mod begins;
 mod dropping;
 mod joining;
 mod registering;
