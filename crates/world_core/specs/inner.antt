@@ -4,3 +4,4 @@ pub mod Steps
 pub mod SpawnSteps
 pub mod Queries
 pub mod FinishSteps
+pub mod Begins

@@ -14,7 +14,9 @@ use phase_modes::{Limits, Refusal};
 use std::alloc::Global;
 use std::marker::Model;
 
+mod begins;
 mod ends;
+mod handing;
 mod opening;
 mod queries;
 mod spawning;
