@@ -27,3 +27,13 @@ pub mod Handing
 pub mod BeginsAsked
 pub mod Begins
 pub mod SpawnBegun
+pub mod NextOf
+pub mod PassMade
+pub mod SingleMade
+pub mod Outcomes
+pub mod Joins
+pub mod PhasersKept
+pub mod MakeRefused
+pub mod MakeMade
+pub mod DropMade
+pub mod RegisterMade

@@ -5,3 +5,6 @@ pub mod SpawnSteps
 pub mod Queries
 pub mod FinishSteps
 pub mod Begins
+pub mod Registering
+pub mod RegisterSteps
+pub mod DropSteps

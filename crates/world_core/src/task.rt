@@ -10,6 +10,9 @@ use std::alloc::Global;
 use std::marker::Model;
 
 pub mod begins;
+mod dropping;
+mod joining;
+mod registering;
 mod spawning;
 
 /// How many phasers a task is on at once, at most.

@@ -15,10 +15,13 @@ use std::alloc::Global;
 use std::marker::Model;
 
 mod begins;
+mod dropping;
 mod ends;
 mod handing;
+mod making;
 mod opening;
 mod queries;
+mod registering;
 mod spawning;
 mod turns;
 
