@@ -22,6 +22,11 @@ pub mod Owners
 pub mod ShutMade
 pub mod AbleRead
 pub mod ClockRead
+pub mod Acts
+pub mod Handing
+pub mod BeginsAsked
+pub mod Begins
+pub mod SpawnBegun
 pub mod NextOf
 pub mod PassMade
 pub mod SingleMade
@@ -32,9 +37,4 @@ pub mod MakeRefused
 pub mod MakeMade
 pub mod DropMade
 pub mod RegisterMade
-pub mod Acts
-pub mod Handing
-pub mod BeginsAsked
-pub mod Begins
-pub mod SpawnBegun
 pub mod SendMade
