@@ -4,3 +4,8 @@ pub mod Steps
 pub mod SpawnSteps
 pub mod Queries
 pub mod FinishSteps
+pub mod Begins
+pub mod Registering
+pub mod RegisterSteps
+pub mod DropSteps
+pub mod Sends

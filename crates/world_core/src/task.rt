@@ -9,6 +9,10 @@ use phase_modes::Refusal;
 use std::alloc::Global;
 use std::marker::Model;
 
+pub mod begins;
+mod dropping;
+mod joining;
+mod registering;
 mod spawning;
 
 /// How many phasers a task is on at once, at most.

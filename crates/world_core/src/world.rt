@@ -14,9 +14,15 @@ use phase_modes::{Limits, Refusal};
 use std::alloc::Global;
 use std::marker::Model;
 
+mod begins;
+mod dropping;
 mod ends;
+mod handing;
+mod making;
 mod opening;
 mod queries;
+mod registering;
+mod sends;
 mod spawning;
 mod turns;
 

@@ -1,5 +1,5 @@
 -- A task that shuts a finish or comes to its end gives nothing up: what it has still to make is made, or has to wait.
-use Rattle.std.proofs.Common.{◌≡◌, ℕ, Bool, true, false, ◌&&◌, ◌||◌, ◌==◌, not, List, [], ◌∷◌, Option, Some, None, refl, sym, subst, ap, ◌∙◌, inl, inr}
+use Rattle.std.proofs.Common.{◌≡◌, ℕ, Bool, true, false, ◌&&◌, ◌||◌, ◌==◌, not, List, [], ◌∷◌, Some, refl, sym, subst, ap, ◌∙◌, inl, inr}
 use Rattle.std.specs.Prelude.{Result, Ok, Err, slice_get, option_map}
 use Rattle.std.specs.List.{list_all}
 use Rattle.std.specs.Option.{option_map_or}
@@ -14,10 +14,9 @@ use Rattle.finish_core.specs.declared.event.FinishEvent.TheVariants.{Opened, Spa
 use Rattle.finish_core.specs.Finish.{all_ended, is_open, is_spawned, has_ended}
 use Rattle.finish_core.specs.Replies.{done_unless}
 use Rattle.world_model.specs.declared.reply.Reply.{Reply}
-use Rattle.world_model.specs.declared.reply.Reply.TheVariants.{NotYet}
 use Rattle.world_model.specs.declared.event.Step.TheVariants.{Drop}
 use Rattle.world_model.specs.declared.event.WorldEvent.{WorldEvent}
-use Rattle.world_model.specs.declared.event.WorldEvent.TheVariants.{Phaser, Finish, Begin, Refuse, Fail}
+use Rattle.world_model.specs.declared.event.WorldEvent.TheVariants.{Phaser, Finish}
 use Rattle.world_model.specs.Parts.{finish_past}
 use Rattle.world_model.specs.Tasks.{is_born, is_ended}
 use Rattle.world_model.specs.Due.{due, or_single, is_idle, next_event}

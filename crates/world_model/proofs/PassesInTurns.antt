@@ -171,7 +171,7 @@ fail_born l w t n d k = last_part ((n == 7) || (n == 15)) (n == 14) (n == 23) (i
         only false false true false h = absurd cc
         only false false false false h = absurd cc
 
-entry_born : (l : Limits) (w : List WorldEvent) (t : ℕ) (e : WorldEvent) → is_accepted l w e ≡ true → is_entry t e ≡ true → last_entry t w ≡ None → is_born t w ≡ true
+pub entry_born : (l : Limits) (w : List WorldEvent) (t : ℕ) (e : WorldEvent) → is_accepted l w e ≡ true → is_entry t e ≡ true → last_entry t w ≡ None → is_born t w ≡ true
 entry_born l w t (Begin u b) a n s = subst (λ v. is_born v w ≡ true) (eqb-true u t n) (idle_is_born u w (idle_in_act l w u (Beginning b) a))
 entry_born l w t (Refuse u b x) a n s = subst (λ v. is_born v w ≡ true) (eqb-true u t n) (idle_is_born u w (refuse_idle l w u b x (made_done_where _ a)))
 entry_born l w t (Fail u x) a n s =
