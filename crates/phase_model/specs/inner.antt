@@ -1,3 +1,2 @@
 -- What only the code's own values need: no public contract cites it.
 pub mod Next
-pub mod Places
