@@ -1,0 +1,4 @@
+pub mod Follow
+pub mod Legal
+pub mod NoActs
+pub mod Places

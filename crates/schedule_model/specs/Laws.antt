@@ -1,0 +1,36 @@
+-- What holds of each run by picks, and of the place at which a history leaves its program.
+use Rattle.std.specs.Prelude.{ℕ, ◌≡◌, ◌+◌, suc, true, false, if◌then◌else◌, List, [], ◌∷◌, reverse, take, Option, Some, None}
+use Rattle.job_script.specs.Program.{Program}
+use Rattle.world_model.specs.declared.event.WorldEvent.{WorldEvent}
+use Rattle.world_model.specs.Replies.{is_legal_world}
+use Rattle.schedule_model.specs.Scripts.{act_of}
+use Rattle.schedule_model.specs.Follows.{is_next, follows}
+use Rattle.schedule_model.specs.Picks.{run_within}
+
+-- each event of a run is one that the world accepts
+abbrev pub RunsAreLegal : Type 0
+RunsAreLegal = (p : Program) (picks : List ℕ) (most : ℕ) → is_legal_world p.limits (run_within most p picks) ≡ true
+
+-- a run follows its program
+abbrev pub RunsFollow : Type 0
+RunsFollow = (p : Program) (picks : List ℕ) (most : ℕ) → follows p (run_within most p picks) ≡ true
+
+-- ---- where a history leaves its program, its events taken oldest first
+
+-- the place, counted on from k, of the first of the events to come that is an act and not its task's next one
+abbrev pub first_wrong : Program → List WorldEvent → ℕ → List WorldEvent → Option ℕ
+first_wrong p w k [] = None
+first_wrong p w k (e ∷ es) = if is_next p w (act_of e) then first_wrong p (e ∷ w) (k + 1) es else Some (k + 1)
+
+-- where a place is told, the events before it follow the program, and with that event they no longer do; where none
+-- is, all do
+abbrev pub TellsFirst : Program → List WorldEvent → Option ℕ → Type 0
+TellsFirst p es None = follows p (reverse es) ≡ true
+TellsFirst p es (Some n) =
+    (j : ℕ) × (n ≡ suc j)
+    × (follows p (reverse (take j es)) ≡ true)
+    × (follows p (reverse (take (suc j) es)) ≡ false)
+
+-- the place told is the first
+abbrev pub PlacesAreFirst : Type 0
+PlacesAreFirst = (p : Program) (es : List WorldEvent) → TellsFirst p es (first_wrong p [] 0 es)
