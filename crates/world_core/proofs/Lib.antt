@@ -37,3 +37,5 @@ pub mod MakeRefused
 pub mod MakeMade
 pub mod DropMade
 pub mod RegisterMade
+pub mod Least
+pub mod Drawn

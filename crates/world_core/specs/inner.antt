@@ -8,3 +8,4 @@ pub mod Begins
 pub mod Registering
 pub mod RegisterSteps
 pub mod DropSteps
+pub mod Drawings

@@ -15,6 +15,7 @@ use std::alloc::Global;
 use std::marker::Model;
 
 mod begins;
+mod drawing;
 mod dropping;
 mod ends;
 mod handing;
@@ -24,6 +25,8 @@ mod queries;
 mod registering;
 mod spawning;
 mod turns;
+
+pub use drawing::Unused;
 
 /// Many phasers, finishes and tasks at once.
 #[derive(Drop)]

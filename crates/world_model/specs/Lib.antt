@@ -17,6 +17,7 @@ pub mod Clock
 pub mod TaskConditions
 pub mod Able
 pub mod Report
+pub mod Drawing
 -- What holds of each legal world.
 pub mod Laws
 pub mod ScopeLaws
