@@ -39,3 +39,4 @@ pub mod DropMade
 pub mod RegisterMade
 pub mod Least
 pub mod Drawn
+pub mod SendMade

@@ -9,3 +9,4 @@ pub mod Registering
 pub mod RegisterSteps
 pub mod DropSteps
 pub mod Drawings
+pub mod Sends

@@ -23,6 +23,7 @@ mod making;
 mod opening;
 mod queries;
 mod registering;
+mod sends;
 mod spawning;
 mod turns;
 
