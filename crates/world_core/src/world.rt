@@ -25,6 +25,7 @@ mod queries;
 mod registering;
 mod sends;
 mod spawning;
+mod stepping;
 mod turns;
 
 pub use drawing::Unused;
