@@ -39,3 +39,7 @@ pub mod DropMade
 pub mod RegisterMade
 pub mod Least
 pub mod Drawn
+pub mod CallsAsked
+pub mod GivenUp
+pub mod RefuseMade
+pub mod FailMade

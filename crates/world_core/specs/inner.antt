@@ -9,3 +9,5 @@ pub mod Registering
 pub mod RegisterSteps
 pub mod DropSteps
 pub mod Drawings
+pub mod Refusals
+pub mod Failures
