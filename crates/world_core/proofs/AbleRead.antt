@@ -2,7 +2,7 @@
 use Rattle.std.proofs.Common.{◌≡◌, ℕ, Bool, true, false, ◌&&◌, ◌||◌, ◌==◌, not, cond, List, [], ◌∷◌, Option, Some, None, Result, Ok, Err, refl, sym, ap, subst, ◌∙◌, inl, inr}
 use Rattle.std.specs.Prelude.{option_to_list, slice_get}
 use Rattle.std.specs.List.{list_any}
-use Rattle.std.specs.Option.{option_map, option_map_or}
+use Rattle.std.specs.Option.{option_map}
 use Rattle.std.proofs.lemmas.Bool.{cases_Bool, true≢false}
 use Rattle.phase_modes.specs.Lists.{is_empty}
 use Rattle.phase_modes.specs.declared.limits.Limits.{Limits}
@@ -32,7 +32,7 @@ use Rattle.world_model.specs.Actors.{actor}
 use Rattle.world_model.specs.Due.{due, is_idle, next_event, or_single}
 use Rattle.world_model.specs.PartReplies.{returned}
 use Rattle.world_model.specs.Continuing.{next_done, next_reply}
-use Rattle.world_model.specs.GivingUp.{may_fail, is_reg, is_refused_by}
+use Rattle.world_model.specs.GivingUp.{may_fail, is_reg}
 use Rattle.world_model.specs.Replies.{reply, is_made, is_accepted, is_legal_world}
 use Rattle.world_model.specs.Able.{is_able}
 use Rattle.world_model.proofs.AgentOfTask.{unborn_idle}
@@ -40,7 +40,6 @@ use Rattle.world_model.proofs.AbleOrWaits.{WaitsToPass, WaitsToShut, pass_causel
 use Rattle.world_model.proofs.MadeOrGivesUp.{next_is as next_due}
 use Rattle.world_model.proofs.OutcomeOfEach.{outcome}
 use Rattle.world_core.specs.WorldState.{WorldState}
-use Rattle.world_core.specs.Kept.{task_at}
 use Rattle.world_core.specs.inner.Queries.{kept_next, waits_at, able_at}
 use Rattle.world_core.specs.StandsFor.{StandsFor}
 use Rattle.world_core.proofs.NextRead.{next_is}

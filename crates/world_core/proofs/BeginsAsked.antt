@@ -11,7 +11,7 @@ use Rattle.phase_modes.specs.declared.mode.Mode.{Mode}
 use Rattle.phase_modes.specs.declared.mode.Mode.TheVariants.{Wait as Waiting}
 use Rattle.phase_modes.specs.declared.phased.Pair.{Pair}
 use Rattle.phase_modes.specs.declared.refusal.Refusal.{Refusal}
-use Rattle.phase_modes.specs.declared.refusal.Refusal.TheVariants.{NotRegistered, NoSingle, AlreadySignalled, NotSignalled, OnePhaserOnly, MoreThanParent, OutsideScope, RegisteredTwice, TasksFull, ActsFull, FinishOpen, NoFinish, NotNow}
+use Rattle.phase_modes.specs.declared.refusal.Refusal.TheVariants.{NotRegistered, AlreadySignalled, NotSignalled, MoreThanParent, OutsideScope, RegisteredTwice, TasksFull, FinishOpen, NoFinish}
 use Rattle.phase_modes.specs.Refusal.{first_refusal}
 use Rattle.phase_model.specs.declared.event.Event.{Event}
 use Rattle.phase_model.specs.Tasks.{is_live, mode_of, has_mode}
@@ -25,18 +25,18 @@ use Rattle.world_model.specs.declared.event.WorldEvent.{WorldEvent}
 use Rattle.world_model.specs.declared.event.WorldEvent.TheVariants.{Begin}
 use Rattle.world_model.specs.declared.reply.Reply.TheVariants.{Done}
 use Rattle.world_model.specs.Parts.{phaser_past}
-use Rattle.world_model.specs.Tasks.{phasers_of, acts}
+use Rattle.world_model.specs.Tasks.{phasers_of}
 use Rattle.world_model.specs.Scopes.{open_finishes, inner, enclosing}
-use Rattle.world_model.specs.Due.{is_idle, is_ahead, is_behind}
+use Rattle.world_model.specs.Due.{is_ahead, is_behind}
 use Rattle.world_model.specs.Acts as history
 use Rattle.world_model.specs.Acts.{act_conditions, is_number_used, is_counted, unless}
 use Rattle.world_model.specs.Replies.{reply}
 use Rattle.world_core.specs.TaskState.{TaskState}
 use Rattle.world_core.specs.WorldState.{WorldState}
-use Rattle.world_core.specs.Kept.{task_at, inner_at, is_ready, past_in}
+use Rattle.world_core.specs.Kept.{task_at, inner_at, past_in}
 use Rattle.world_core.specs.StandsFor.{TaskStands, StandsFor, IsChain}
 use Rattle.world_core.specs.inner.Steps.{done_unless, owes}
-use Rattle.world_core.specs.inner.Begins.{leads, has_single, may_give, any_leads, any_lacks, is_on, hand_conditions, pair_conditions, is_child_named, own_conditions, begin_conditions, begin_refusal, begin_answer}
+use Rattle.world_core.specs.inner.Begins.{leads, has_single, may_give, any_leads, any_lacks, is_on, pair_conditions, is_child_named, own_conditions, begin_refusal, begin_answer}
 use Rattle.world_core.proofs.Ready.{ready_is_idle}
 use Rattle.world_core.proofs.Owed.{owes_is_behind, past_stands}
 

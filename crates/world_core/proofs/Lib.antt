@@ -43,3 +43,4 @@ pub mod CallsAsked
 pub mod GivenUp
 pub mod RefuseMade
 pub mod FailMade
+pub mod SendMade

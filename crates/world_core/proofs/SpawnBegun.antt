@@ -1,5 +1,5 @@
 -- The beginning of any act: the answer is the history's, and the world stands for what follows. A spawn changes the line of its child too.
-use Rattle.std.proofs.Common.{◌≡◌, ℕ, zero, suc, ◌+◌, ◌<◌, ◌==◌, Bool, true, false, ◌||◌, not, nat_lt, min, cond, List, [], ◌∷◌, ◌++◌, map, Option, Some, None, length, get_or, set, refl, sym, ap, subst, ◌∙◌, arith, inl, inr}
+use Rattle.std.proofs.Common.{◌≡◌, ℕ, ◌+◌, ◌<◌, ◌==◌, Bool, true, false, ◌||◌, not, nat_lt, min, cond, List, [], ◌∷◌, ◌++◌, map, Option, Some, None, length, get_or, set, refl, sym, ap, subst, ◌∙◌, arith, inl, inr}
 use Rattle.std.specs.Prelude.{slice_index_or}
 use Rattle.std.proofs.lemmas.Bool.{cases_Bool, and_from, eq-eqb, eqb-true, ltb-true, true≢false}
 use Rattle.std.proofs.lemmas.List.{length-set}
@@ -32,12 +32,11 @@ use Rattle.world_core.specs.TaskState.{TaskState}
 use Rattle.world_core.specs.WorldState.{WorldState}
 use Rattle.world_core.specs.Kept.{blank_task, task_at, is_ready}
 use Rattle.world_core.specs.StandsFor.{TaskStands, StandsFor, IsStep, due_by, inner_of}
-use Rattle.world_core.specs.inner.Steps.{done_unless, unless_refused, with_task}
-use Rattle.world_core.specs.inner.Begins.{is_child_named, pair_conditions, own_conditions, begin_refusal, counted, spawn_begun, named_for, line_begun, entered, begin_answer, begin_state}
+use Rattle.world_core.specs.inner.Steps.{done_unless, unless_refused}
+use Rattle.world_core.specs.inner.Begins.{is_child_named, pair_conditions, own_conditions, begin_refusal, spawn_begun, named_for, line_begun, entered, begin_answer, begin_state}
 use Rattle.world_core.proofs.Fits.{fitting}
 use Rattle.world_core.proofs.Tables.{read_set}
 use Rattle.world_core.proofs.Ready.{ready_is_idle, ready_within}
-use Rattle.world_core.proofs.Entries.{IsPlain}
 use Rattle.world_core.proofs.Standing.{entry_stands}
 use Rattle.world_core.proofs.BeginsAsked.{begin_answers}
 use Rattle.world_core.proofs.Begins.{line_stands}

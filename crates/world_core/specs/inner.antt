@@ -11,3 +11,4 @@ pub mod DropSteps
 pub mod Drawings
 pub mod Refusals
 pub mod Failures
+pub mod Sends

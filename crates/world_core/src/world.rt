@@ -25,6 +25,7 @@ mod opening;
 mod queries;
 mod refusals;
 mod registering;
+mod sends;
 mod spawning;
 mod turns;
 
