@@ -9,4 +9,6 @@ pub mod Registering
 pub mod RegisterSteps
 pub mod DropSteps
 pub mod Drawings
+pub mod Refusals
+pub mod Failures
 pub mod Sends
