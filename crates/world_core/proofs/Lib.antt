@@ -37,4 +37,10 @@ pub mod MakeRefused
 pub mod MakeMade
 pub mod DropMade
 pub mod RegisterMade
+pub mod Least
+pub mod Drawn
+pub mod CallsAsked
+pub mod GivenUp
+pub mod RefuseMade
+pub mod FailMade
 pub mod SendMade

@@ -45,7 +45,7 @@ use Rattle.world_model.proofs.UntouchedStays.{phasers_same}
 use Rattle.world_core.proofs.Outcomes.{idle_plan, made_ok, unchanged_by, settled_as, done_as}
 use Rattle.world_core.proofs.Joins.{other_stands, inner_is}
 
-conditions_are : (s : WorldState) (w : List WorldEvent) (n t : ℕ) (m : Mode) (ops : List Op) → StandsFor w s → first_refusal (make_conditions s n t) ≡ first_refusal (act_conditions s.limits w t (New n m ops))
+pub conditions_are : (s : WorldState) (w : List WorldEvent) (n t : ℕ) (m : Mode) (ops : List Op) → StandsFor w s → first_refusal (make_conditions s n t) ≡ first_refusal (act_conditions s.limits w t (New n m ops))
 conditions_are s w n t m ops st =
     let past : (story_at s n).past ≡ phaser_past n w = ap (λ (y : Story). y.past) (st.phasers n).story in
     rw (ready_is_idle s.outers w t (task_at s t) (st.tasks t), (st.tasks t).acts, past, (st.tasks t).phasers) refl

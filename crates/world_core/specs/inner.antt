@@ -8,4 +8,7 @@ pub mod Begins
 pub mod Registering
 pub mod RegisterSteps
 pub mod DropSteps
+pub mod Drawings
+pub mod Refusals
+pub mod Failures
 pub mod Sends

@@ -8,4 +8,4 @@ mod task;
 mod world;
 
 pub use plan::Plan;
-pub use world::World;
+pub use world::{Unused, World};

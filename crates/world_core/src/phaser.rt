@@ -2,6 +2,7 @@
 //! accumulators, whatever it will be made with.
 ghost use Rattle.std.specs.Prelude.{◌≡◌, [], length, true, IfOk, IfErr};
 ghost use Rattle.phase_modes.specs.Limits.{limits_fit};
+ghost use Rattle.phase_modes.specs.Lists.{is_empty};
 ghost use Rattle.phase_model.specs.Rules.{is_legal, is_permitted};
 ghost use Rattle.phase_model.specs.declared.call.Call.TheVariants.{Make as make, Register as register, Signal as signal, Pass as pass, SingleDone as single_done, Send as send, Look as look, Drop as drop_task};
 ghost use Rattle.phase_model.specs.Replies.{reply, returned, after, done_result};
@@ -142,6 +143,13 @@ impl KeptPhaser {
         ensures { result ≡ is_permitted self.now.limits self.now.ops self.now.past (Event.Did task) }
     {
         self.state.may_report(task)
+    }
+
+    /// Whether nobody has made it.
+    pub fn is_unmade(&self) -> bool
+        ensures { result ≡ is_empty self.now.past }
+    {
+        self.state.history().len() == 0
     }
 
     /// All that was done on it.

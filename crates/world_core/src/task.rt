@@ -11,6 +11,7 @@ use std::marker::Model;
 
 pub mod begins;
 mod dropping;
+mod giving_up;
 mod joining;
 mod registering;
 mod spawning;

@@ -15,16 +15,22 @@ use std::alloc::Global;
 use std::marker::Model;
 
 mod begins;
+mod drawing;
 mod dropping;
 mod ends;
+mod failures;
 mod handing;
 mod making;
 mod opening;
 mod queries;
+mod refusals;
 mod registering;
 mod sends;
 mod spawning;
+mod stepping;
 mod turns;
+
+pub use drawing::Unused;
 
 /// Many phasers, finishes and tasks at once.
 #[derive(Drop)]

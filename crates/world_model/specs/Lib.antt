@@ -18,6 +18,7 @@ pub mod TaskConditions
 pub mod Able
 pub mod Report
 pub mod ReportLines
+pub mod Drawing
 -- What holds of each legal world.
 pub mod Laws
 pub mod ScopeLaws

@@ -37,7 +37,7 @@ impl World {
     }
 
     /// What the making of a phaser is refused by before the phaser is asked.
-    fn may_make(&self, phaser: u32, task: u32) -> Result<(), Refusal>
+    pub(super) fn may_make(&self, phaser: u32, task: u32) -> Result<(), Refusal>
         ensures answer { result ≡ free_unless (first_refusal (make_conditions self.now phaser task)) }
         ensures free { IfOk result (λ _. first_refusal (make_conditions self.now phaser task) ≡ None) }
         ensures refused { IfErr result (λ r. first_refusal (make_conditions self.now phaser task) ≡ Some r) }
