@@ -17,6 +17,7 @@ pub mod Clock
 pub mod TaskConditions
 pub mod Able
 pub mod Report
+pub mod Drawing
 -- What holds of each legal world.
 pub mod Laws
 pub mod ScopeLaws
@@ -26,6 +27,5 @@ pub mod ProgressLaws
 pub mod ExampleWords
 pub mod FinishExamples
 pub mod TurnExamples
-pub mod Unused
 pub mod LimitExamples
 pub mod MomentExamples
