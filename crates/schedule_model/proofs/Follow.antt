@@ -24,10 +24,10 @@ use Rattle.world_model.specs.Continuing.{same_mode}
 use Rattle.world_model.specs.Numbers.{is_named}
 use Rattle.world_model.specs.Replies.{reply, is_made}
 use Rattle.world_model.specs.Tasks.{is_born, is_ended}
-use Rattle.world_model.specs.Unused.{Numbers, own_pairs, unused}
-use Rattle.schedule_model.specs.Scripts.{act_of, meanings, next_act, tried_as, tried_next, tried}
+use Rattle.world_model.specs.Drawing.{own_pairs}
+use Rattle.schedule_model.specs.Scripts.{Numbers, act_of, meanings, next_act, tried_as, tried_next, tried}
 use Rattle.schedule_model.specs.Follows.{same_op, same_ops, same_pairs, same_act, drawn, is_next, follows}
-use Rattle.schedule_model.specs.Picks.{Asked, event_of, going_on, asked, told_or, made, pick, picked, round_from, rounds, run_within}
+use Rattle.schedule_model.specs.Picks.{Asked, unused, event_of, going_on, asked, told_or, made, pick, picked, round_from, rounds, run_within}
 use Rattle.schedule_model.proofs.NoActs.{next-continues}
 
 -- ---- an act is the same as itself
@@ -59,7 +59,7 @@ pairs_self (p ∷ ps) = and_from _ _ (and_from _ _ (eq_self p.phaser) (mode_self
 head_self : (w : List WorldEvent) (t : ℕ) (ms : List ℕ) (new : Numbers) (h : Head) → same_act (tried_as w t ms new h) (tried_as w t ms (drawn (tried_as w t ms new h)) h) ≡ true
 head_self w t ms new (acts.New name m ops) = and_from _ _ (and_from _ _ (eq_self new.phaser) (mode_self m)) (ops_self ops)
 head_self w t ms new (acts.Async xs) = and_from _ _ (eq_self new.task) (pairs_self (map (pair_for ms) xs))
-head_self w t ms new acts.AsyncAll = and_from _ _ (eq_self new.task) (pairs_self (own_pairs w t))
+head_self w t ms new acts.AsyncAll = and_from _ _ (eq_self new.task) (pairs_self (own_pairs t w))
 head_self w t ms new acts.OpenFinish = eq_self new.finish
 head_self w t ms new acts.ShutFinish = refl
 head_self w t ms new acts.Signal = refl

@@ -11,8 +11,7 @@ use Rattle.world_model.specs.declared.event.Tried.{Tried}
 use Rattle.world_model.specs.declared.event.Tried.TheVariants.{Begun as Beginning, New, Open, Send as Sending, Look as Looking}
 use Rattle.world_model.specs.declared.event.WorldEvent.{WorldEvent}
 use Rattle.world_model.specs.Continuing.{same_mode}
-use Rattle.world_model.specs.Unused.{Numbers}
-use Rattle.schedule_model.specs.Scripts.{Made, act_of, tried}
+use Rattle.schedule_model.specs.Scripts.{Made, Numbers, act_of, tried}
 
 -- ---- two acts are the same
 

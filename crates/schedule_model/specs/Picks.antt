@@ -13,10 +13,20 @@ use Rattle.world_model.specs.declared.event.WorldEvent.TheVariants.{Phaser, Fini
 use Rattle.world_model.specs.declared.reply.Reply.{Reply}
 use Rattle.world_model.specs.Due.{next_event, is_idle}
 use Rattle.world_model.specs.Replies.{after, reply}
-use Rattle.world_model.specs.Numbers.{is_named}
+use Rattle.world_model.specs.Drawing.{least_unused}
+use Rattle.world_model.specs.Numbers.{is_phaser, is_finish, is_named}
 use Rattle.world_model.specs.Tasks.{is_born, is_ended}
-use Rattle.world_model.specs.Unused.{unused}
-use Rattle.schedule_model.specs.Scripts.{tried}
+use Rattle.schedule_model.specs.Scripts.{Numbers, tried}
+
+-- ---- numbers
+
+-- the least numbers that are not in use
+abbrev pub unused : Limits → List WorldEvent → Numbers
+unused l w = record {
+  phaser = least_unused (λ n. is_phaser n w) l.phasers;
+  task = least_unused (λ t. is_named t w) l.tasks;
+  finish = least_unused (λ f. is_finish f w) l.finishes;
+}
 
 -- ---- one pick
 

@@ -1,5 +1,5 @@
 -- Worked examples of runs in which a task is refused: limits that are met, acts that may not be made.
-use Rattle.std.specs.Prelude.{[], ◌∷◌, Some, None, pos}
+use Rattle.std.specs.Prelude.{[], ◌∷◌, Some, pos}
 use Rattle.phase_modes.specs.Limits.{default_limits}
 use Rattle.phase_modes.specs.declared.limits.Limits.{Limits}
 use Rattle.phase_modes.specs.declared.mode.Mode.TheVariants.{Sig as OnlySig, Wait as OnlyWait, SigWait}

@@ -12,7 +12,7 @@ use Rattle.world_model.specs.declared.event.Tried.{Tried}
 use Rattle.world_model.specs.declared.event.Tried.TheVariants.{Begun as Beginning, New, Open, Send as Sending, Look as Looking}
 use Rattle.world_model.specs.declared.event.WorldEvent.{WorldEvent}
 use Rattle.world_model.specs.declared.event.WorldEvent.TheVariants.{Phaser, Finish, Begin, Refuse}
-use Rattle.world_model.specs.Unused.{Numbers, own_pairs}
+use Rattle.world_model.specs.Drawing.{own_pairs}
 
 -- ---- the acts in a history
 
@@ -80,11 +80,17 @@ meanings p (e ∷ w) t = meant_after p w t e (parent_by t e) (meanings p w)
 
 -- ---- the act that comes next
 
+-- the numbers that a `new`, a spawn and an `open` draw
+pub record Numbers : Type 0 where
+  pub phaser : ℕ
+  pub task : ℕ
+  pub finish : ℕ
+
 -- the act as the world knows it, where these numbers are drawn for it; a repeat is in no flat list
 abbrev pub tried_as : List WorldEvent → ℕ → List ℕ → Numbers → Head → Tried
 tried_as w t ms new (acts.New name m ops) = New new.phaser m ops
 tried_as w t ms new (acts.Async xs) = Beginning (Async new.task (map (pair_for ms) xs))
-tried_as w t ms new acts.AsyncAll = Beginning (Async new.task (own_pairs w t))
+tried_as w t ms new acts.AsyncAll = Beginning (Async new.task (own_pairs t w))
 tried_as w t ms new acts.OpenFinish = Open new.finish
 tried_as w t ms new acts.ShutFinish = Beginning Shut
 tried_as w t ms new acts.Signal = Beginning Signal

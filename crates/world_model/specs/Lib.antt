@@ -28,6 +28,5 @@ pub mod ProgressLaws
 pub mod ExampleWords
 pub mod FinishExamples
 pub mod TurnExamples
-pub mod Unused
 pub mod LimitExamples
 pub mod MomentExamples
