@@ -8,6 +8,19 @@ use phase_modes::Refusal;
 use world_model::{Reply, Step, WorldEvent};
 
 impl World {
+    /// One event: it is made, has to wait, or is refused, and then changes nothing.
+    pub fn step(&mut self, event: &WorldEvent) -> Result<Reply, Refusal>
+        ensures { IsStep event.now self.old self.new result }
+    {
+        match *event {
+            WorldEvent::Phaser(phaser, step) => self.step_on_phaser(phaser, step),
+            WorldEvent::Finish(finish, step) => self.step_in_finish(finish, step),
+            WorldEvent::Begin(task, begun) => self.step_begin(task, begun),
+            WorldEvent::Refuse(task, tried, number) => self.step_refuse(task, tried, number),
+            WorldEvent::Fail(task, number) => self.step_fail(task, number),
+        }
+    }
+
     fn step_on_phaser(&mut self, phaser: u32, step: Step) -> Result<Reply, Refusal>
         ensures { IsStep (WorldEvent.Phaser phaser step) self.old self.new result }
     {
