@@ -1,0 +1,16 @@
+//! Traces of runs: the events of a world with their tickets, each look with what it saw, and which
+//! traces a world explains. The definitions stand in `specs/`. It reads and replays nothing.
+#![tactic(auto)]
+
+mod event;
+mod laws;
+mod part;
+mod trace;
+
+pub use event::{TracedEvent, TracedStep};
+pub use laws::{explained_is_legal, faultless_is_explained, worked_traces};
+pub use part::Part;
+pub use trace::Trace;
+
+#[cfg(test)]
+mod tests;

@@ -1,0 +1,161 @@
+-- An event that has a form is the form of its JSON.
+use Rattle.std.proofs.Common.{◌≡◌, ℕ, ℤ, pos, negsuc, ◌-◌, ◌^◌, ◌&&◌, true, nat_le, nat_lt, List, [], ◌∷◌, map, length, Some, None, codes, option_map, refl, ap, ◌∙◌, arith}
+use Rattle.std.proofs.lemmas.Bool.{and_parts, ltb-false, lt-ltb, not-true}
+use Rattle.std.specs.List.{list_all}
+use Rattle.serde_json.specs.Data.{string}
+use Rattle.serde_json.specs.View.{items_of}
+use Rattle.phase_modes.specs.declared.mode.Mode.{Mode}
+use Rattle.phase_modes.specs.declared.mode.Mode.TheVariants.{Sig, Wait, SigWait, Single}
+use Rattle.phase_modes.specs.declared.phased.Pair.{Pair}
+use Rattle.phase_model.specs.declared.op.Op.{Op}
+use Rattle.phase_model.specs.declared.op.Op.TheVariants.{Sum, Least, Greatest}
+use Rattle.phase_model.specs.declared.op.Look.{Look}
+use Rattle.phase_model.specs.declared.op.Look.TheVariants.{Value, Nothing}
+use Rattle.finish_core.specs.declared.event.FinishEvent.{FinishEvent}
+use Rattle.finish_core.specs.declared.event.FinishEvent.TheVariants.{Opened, Spawned, Ended, Shut}
+use Rattle.world_model.specs.declared.event.Begun.{Begun}
+use Rattle.world_model.specs.declared.event.Begun.TheVariants as begun
+use Rattle.world_model.specs.declared.event.Tried.{Tried}
+use Rattle.world_model.specs.declared.event.Tried.TheVariants as tried
+use Rattle.trace_model.specs.declared.event.TracedStep.{TracedStep}
+use Rattle.trace_model.specs.declared.event.TracedStep.TheVariants as step
+use Rattle.trace_model.specs.declared.event.TracedEvent.{TracedEvent}
+use Rattle.trace_model.specs.declared.event.TracedEvent.TheVariants.{Phaser, Finish, Begin, Refuse, Fail}
+use Rattle.text_words.specs.Words.{◌>>=◌, signed_in, value_in, mode_in, op_in, all_in, ops_in, at_most}
+use Rattle.trace_text.specs.Form.{is_refusal, make_in, reg_in, sig_in, task_step_in, send_in, seen_in, look_in, step_in, finish_event_in, pair_in, pairs_in, async_in, single_in, bare_act_in, begun_in, new_in, open_in, send_act_in, look_act_in, tried_in, begin_in, refuse_in, fail_in, log_entry_in, event_in, entry_in}
+use Rattle.trace_text.specs.Text.{list, whole, signed, mode_data, op_data, ops_data, seen_data, step_items, finish_items, pair_data, pairs_data, begun_items, tried_items, event_items, entry_data, is_wide, is_value, is_number, is_index, seen_has_form, step_has_form, finish_has_form, begun_has_form, tried_has_form, event_has_form, entry_has_form}
+
+-- ---- words and numbers
+
+mode_back : (m : Mode) → mode_in (mode_data m) ≡ Some m
+unfolding mode_in
+mode_back Sig = refl
+mode_back Wait = refl
+mode_back SigWait = refl
+mode_back Single = refl
+
+op_back : (op : Op) → op_in (op_data op) ≡ Some op
+unfolding op_in
+op_back Sum = refl
+op_back Least = refl
+op_back Greatest = refl
+
+ops_from_back : (ops : List Op) → all_in op_in (items_of (map op_data ops)) ≡ Some ops
+unfolding all_in
+ops_from_back [] = refl
+ops_from_back (op ∷ ops) = rw (op_back op, ops_from_back ops) refl
+
+ops_back : (ops : List Op) → nat_le (length ops) 4 ≡ true → ops_in (ops_data ops) ≡ Some ops
+ops_back ops few = ap (at_most 4) (ops_from_back ops) ∙ rw few refl
+
+wide_back : (z : ℤ) → is_wide z ≡ true → signed_in (signed z) ≡ Some z
+wide_back (pos n) h = rw h refl
+wide_back (negsuc n) h = refl
+
+pub value_is_wide : (z : ℤ) → is_value z ≡ true → is_wide z ≡ true
+value_is_wide (pos n) h = lt-ltb n (2 ^ 63) (omega (arith, ltb-false (2 ^ 31 - 1) n (not-true _ h)))
+value_is_wide (negsuc n) h = lt-ltb n (2 ^ 63) (grind (arith, h))
+
+value_back : (z : ℤ) → is_value z ≡ true → value_in (signed z) ≡ Some z
+value_back z h = rw (wide_back z (value_is_wide z h), not-true _ h) refl
+
+seen_back : (x : Look) → seen_has_form x ≡ true → seen_in (seen_data x) ≡ Some x
+seen_back Nothing h = refl
+seen_back (Value z) h = ap (option_map Value) (wide_back z h)
+
+-- ---- steps on a phaser
+
+pub step_back : (ticket ph : ℕ) (s : TracedStep) → step_has_form s ≡ true → step_in (list (whole ticket ∷ string (codes "p") ∷ whole ph ∷ step_items s)) ≡ Some s
+unfolding step_in make_in reg_in sig_in task_step_in send_in look_in
+step_back ticket ph (step.Make t m ops) h = let p = and_parts (is_number t) (nat_le (length ops) 4) h in rw (p.0, mode_back m, ops_back ops p.1) refl
+step_back ticket ph (step.Reg q t m) h = let p = and_parts (is_number q) (is_number t) h in rw (p.0, p.1, mode_back m) refl
+step_back ticket ph (step.Sig t None) h = rw h refl
+step_back ticket ph (step.Sig t (Some n)) h = let p = and_parts (is_number t) (is_number n) h in rw (p.0, p.1) refl
+step_back ticket ph (step.Claim t) h = rw h refl
+step_back ticket ph (step.Did t) h = rw h refl
+step_back ticket ph (step.Pass t) h = rw h refl
+step_back ticket ph (step.Send t a v) h =
+    let p = and_parts (is_number t && is_index a) (is_value v) h in
+    let q = and_parts (is_number t) (is_index a) p.0 in
+    rw (q.0, q.1, value_back v p.1) refl
+step_back ticket ph (step.Look t a x) h =
+    let p = and_parts (is_number t && is_index a) (seen_has_form x) h in
+    let q = and_parts (is_number t) (is_index a) p.0 in
+    rw (q.0, q.1, seen_back x p.1) refl
+step_back ticket ph (step.Drop t) h = rw h refl
+
+-- ---- events of a finish
+
+pub finish_back : (ticket f : ℕ) (e : FinishEvent) → finish_has_form e ≡ true → finish_event_in (list (whole ticket ∷ string (codes "f") ∷ whole f ∷ finish_items e)) ≡ Some e
+unfolding finish_event_in
+finish_back ticket f (Opened t) h = rw h refl
+finish_back ticket f (Spawned t) h = rw h refl
+finish_back ticket f (Ended t) h = rw h refl
+finish_back ticket f Shut h = refl
+
+-- ---- acts
+
+pair_back : (p : Pair) → is_number p.phaser ≡ true → pair_in (pair_data p) ≡ Some p
+unfolding pair_in
+pair_back p h = rw (h, mode_back p.mode) refl
+
+pairs_from_back : (ps : List Pair) → list_all (λ p. is_number p.phaser) ps ≡ true → all_in pair_in (items_of (map pair_data ps)) ≡ Some ps
+unfolding all_in
+pairs_from_back [] h = refl
+pairs_from_back (p ∷ ps) h =
+    let q = and_parts (is_number p.phaser) (list_all (λ r. is_number r.phaser) ps) h in
+    rw (pair_back p q.0, pairs_from_back ps q.1) refl
+
+pairs_back : (ps : List Pair) → nat_le (length ps) 16 ≡ true → list_all (λ p. is_number p.phaser) ps ≡ true → pairs_in (pairs_data ps) ≡ Some ps
+pairs_back ps few h = ap (at_most 16) (pairs_from_back ps h) ∙ rw few refl
+
+begun_back : (act : Begun) → begun_has_form act ≡ true → begun_in (list (begun_items act)) ≡ Some act
+unfolding begun_in async_in single_in bare_act_in
+begun_back (begun.Async child pairs) h =
+    let p = and_parts (is_number child && nat_le (length pairs) 16) (list_all (λ r. is_number r.phaser) pairs) h in
+    let q = and_parts (is_number child) (nat_le (length pairs) 16) p.0 in
+    rw (q.0, pairs_back pairs q.1 p.1) refl
+begun_back begun.Signal h = refl
+begun_back begun.Wait h = refl
+begun_back begun.Next h = refl
+begun_back (begun.NextSingle n) h = rw h refl
+begun_back begun.Shut h = refl
+begun_back begun.End h = refl
+
+-- no act that begins has the name of one of the others
+begun_is_tried : (act : Begun) → tried_in (list (begun_items act)) ≡ (begun_in (list (begun_items act)) >>= λ a. Some (tried.Begun a))
+unfolding tried_in
+begun_is_tried (begun.Async child pairs) = refl
+begun_is_tried begun.Signal = refl
+begun_is_tried begun.Wait = refl
+begun_is_tried begun.Next = refl
+begun_is_tried (begun.NextSingle n) = refl
+begun_is_tried begun.Shut = refl
+begun_is_tried begun.End = refl
+
+tried_back : (act : Tried) → tried_has_form act ≡ true → tried_in (list (tried_items act)) ≡ Some act
+unfolding tried_in new_in open_in send_act_in look_act_in
+tried_back (tried.Begun act) h = begun_is_tried act ∙ ap (λ o. o >>= λ a. Some (tried.Begun a)) (begun_back act h)
+tried_back (tried.New ph m ops) h = let p = and_parts (is_number ph) (nat_le (length ops) 4) h in rw (p.0, mode_back m, ops_back ops p.1) refl
+tried_back (tried.Open f) h = rw h refl
+tried_back (tried.Send ph a v) h =
+    let p = and_parts (is_number ph && is_index a) (is_value v) h in
+    let q = and_parts (is_number ph) (is_index a) p.0 in
+    rw (q.0, q.1, value_back v p.1) refl
+tried_back (tried.Look ph a) h = let p = and_parts (is_number ph) (is_index a) h in rw (p.0, p.1) refl
+
+-- ---- events
+
+event_back : (ticket : ℕ) (e : TracedEvent) → event_has_form e ≡ true → event_in (list (whole ticket ∷ event_items e)) ≡ Some e
+unfolding event_in log_entry_in begin_in refuse_in fail_in
+event_back ticket (Phaser ph s) h = let p = and_parts (is_number ph) (step_has_form s) h in rw (p.0, step_back ticket ph s p.1) refl
+event_back ticket (Finish f e) h = let p = and_parts (is_number f) (finish_has_form e) h in rw (p.0, finish_back ticket f e p.1) refl
+event_back ticket (Begin t act) h = let p = and_parts (is_number t) (begun_has_form act) h in rw (p.0, begun_back act p.1) refl
+event_back ticket (Refuse t act n) h =
+    let p = and_parts (is_number t && tried_has_form act) (is_refusal n) h in
+    let q = and_parts (is_number t) (tried_has_form act) p.0 in
+    rw (q.0, tried_back act q.1, p.1) refl
+event_back ticket (Fail t n) h = let p = and_parts (is_number t) (is_refusal n) h in rw (p.0, p.1) refl
+
+pub entry_back : (e : ℕ × TracedEvent) → entry_has_form e ≡ true → entry_in (entry_data e) ≡ Some e
+entry_back e h = rw (event_back e.0 e.1 (and_parts (nat_lt e.0 (2 ^ 64)) (event_has_form e.1) h).1) refl

@@ -1,0 +1,288 @@
+//! The text of the smallest trace, every form of an event there and back, and where damaged texts
+//! are refused.
+use super::*;
+use finish_core::FinishEvent;
+use phase_model::{Look, Op, Ops};
+use phase_modes::{Limits, Mode, Pair, Phased, Refusal};
+use std::test::Fail;
+use trace_model::{Trace, TracedEvent, TracedStep};
+use world_model::{Begun, Tried};
+
+const SMALLEST: &str =
+    r#"{"events":[[1,"p",0,"make",0,"SIG_WAIT",[]],[2,"t",0,"begin",["next"]],[3,"p",0,"sig",0],[4,"p",0,"pass",0],[5,"t",0,"begin",["end"]],[6,"p",0,"drop",0],[7,"f",0,"shut"]],"limits":{"acts":4096,"finishes":64,"history":4096,"phasers":64,"regs":256,"tasks":256},"version":1}"#;
+
+/// The place of the text's first fault; none where it is of the form.
+fn place_of(rt: &HostRuntime, text: &str) -> Result<Option<u64>, Fail> {
+    match from_json(rt.alloc(), text.as_bytes()) {
+        Ok(_) => Ok(None),
+        Err(Refusal::BadText(place)) => Ok(Some(place)),
+        Err(_) => Err(Fail::from("memory")),
+    }
+}
+
+fn read(rt: &HostRuntime, text: &str) -> Result<Trace, Fail> {
+    from_json(rt.alloc(), text.as_bytes()).map_err(|_| Fail::from("not read"))
+}
+
+fn written(rt: &HostRuntime, trace: &Trace) -> Result<String, Fail> {
+    to_json(rt.alloc(), trace).map_err(|_| Fail::from("not written"))
+}
+
+#[test]
+fn smallest_trace(rt: HostRuntime) -> Result<(), Fail> {
+    let events = [
+        TracedEvent::Phaser(0, TracedStep::Make(0, Mode::SigWait, Ops::none())),
+        TracedEvent::Begin(0, Begun::Next),
+        TracedEvent::Phaser(0, TracedStep::Sig(0, None)),
+        TracedEvent::Phaser(0, TracedStep::Pass(0)),
+        TracedEvent::Begin(0, Begun::End),
+        TracedEvent::Phaser(0, TracedStep::Drop(0)),
+        TracedEvent::Finish(0, FinishEvent::Shut),
+    ];
+    let mut trace = Trace::new(rt.alloc(), Limits::default());
+    for (index, event) in events.iter().enumerate() {
+        let ticket = index as u64 + 1;
+        trace
+            .push(ticket, *event)
+            .map_err(|_| Fail::from("memory"))?;
+    }
+    assert_eq!(rt; written(&rt, &trace)?.as_str(), SMALLEST);
+    let again = read(&rt, SMALLEST)?;
+    assert_eq!(rt; again.limits(), Limits::default());
+    assert!(rt; again.events() == trace.events());
+    Ok(())
+}
+
+/// Events in their forms, each to be read and written again as it is.
+const EVENTS: [&str; 38] = [
+    r#"[0,"p",0,"make",0,"SIG",[]]"#,
+    r#"[18446744073709551615,"p",4294967295,"make",4294967295,"WAIT",["sum","least","greatest","sum"]]"#,
+    r#"[1,"p",0,"reg",0,4294967295,"SINGLE"]"#,
+    r#"[1,"p",0,"reg",4294967295,0,"SIG_WAIT"]"#,
+    r#"[1,"p",0,"sig",7]"#,
+    r#"[1,"p",0,"sig",7,0]"#,
+    r#"[1,"p",0,"sig",7,4294967295]"#,
+    r#"[1,"p",0,"claim",7]"#,
+    r#"[1,"p",0,"did",7]"#,
+    r#"[1,"p",0,"pass",7]"#,
+    r#"[1,"p",0,"send",7,0,-2147483648]"#,
+    r#"[1,"p",0,"send",7,255,2147483647]"#,
+    r#"[1,"p",0,"look",7,0,null]"#,
+    r#"[1,"p",0,"look",7,0,0]"#,
+    r#"[1,"p",0,"look",7,255,-9223372036854775808]"#,
+    r#"[1,"p",0,"look",7,0,9223372036854775807]"#,
+    r#"[1,"p",0,"drop",7]"#,
+    r#"[1,"f",0,"opened",0]"#,
+    r#"[1,"f",4294967295,"spawned",4294967295]"#,
+    r#"[1,"f",1,"ended",7]"#,
+    r#"[1,"f",1,"shut"]"#,
+    r#"[1,"t",0,"begin",["async",7,[]]]"#,
+    r#"[1,"t",0,"begin",["async",7,[[0,"SIG"],[4294967295,"WAIT"]]]]"#,
+    r#"[1,"t",4294967295,"begin",["signal"]]"#,
+    r#"[1,"t",0,"begin",["wait"]]"#,
+    r#"[1,"t",0,"begin",["next"]]"#,
+    r#"[1,"t",0,"begin",["single",4294967295]]"#,
+    r#"[1,"t",0,"begin",["shut"]]"#,
+    r#"[1,"t",0,"begin",["end"]]"#,
+    r#"[1,"t",0,"refuse",["end"],1]"#,
+    r#"[1,"t",0,"refuse",["async",7,[[0,"SINGLE"]]],26]"#,
+    r#"[1,"t",0,"refuse",["new",64,"SIG",[]],16]"#,
+    r#"[1,"t",0,"refuse",["new",4294967295,"SINGLE",["greatest"]],16]"#,
+    r#"[1,"t",0,"refuse",["open",64],18]"#,
+    r#"[1,"t",0,"refuse",["send",0,1,-1],9]"#,
+    r#"[1,"t",0,"refuse",["look",0,1],10]"#,
+    r#"[1,"t",0,"fail",1]"#,
+    r#"[1,"t",0,"fail",26]"#,
+];
+
+const LIMITS: &str =
+    r#""limits":{"acts":1,"finishes":2,"history":5,"phasers":3,"regs":4,"tasks":6}"#;
+
+#[test]
+fn every_form_there_and_back(rt: HostRuntime) -> Result<(), Fail> {
+    for event in EVENTS {
+        let text = format!(in rt.alloc(); "{{\"events\":[{event}],{LIMITS},\"version\":1}}")?;
+        let trace = read(&rt, text.as_str())?;
+        assert_eq!(rt; written(&rt, &trace)?.as_str(), text.as_str(), "{event}");
+    }
+    Ok(())
+}
+
+#[test]
+fn numbers_of_refusals_without_a_form(rt: HostRuntime) -> Result<(), Fail> {
+    let mut trace = Trace::new(rt.alloc(), Limits::default());
+    trace
+        .push(1, TracedEvent::Fail(0, 27))
+        .map_err(|_| Fail::from("memory"))?;
+    let text = written(&rt, &trace)?;
+    assert_eq!(rt; place_of(&rt, text.as_str())?, Some(1));
+    Ok(())
+}
+
+#[test]
+fn most_pairs(rt: HostRuntime) -> Result<(), Fail> {
+    let mut pairs = Phased::none();
+    for phaser in 0..20 {
+        if pairs.len() < 16 {
+            pairs.push(Pair {
+                phaser,
+                mode: Mode::Wait,
+            });
+        }
+    }
+    assert_eq!(rt; pairs.len(), 16);
+    let mut ops = Ops::none();
+    ops.push(Op::Least);
+    let mut trace = Trace::new(rt.alloc(), Limits::default());
+    trace
+        .push(
+            9,
+            TracedEvent::Refuse(3, Tried::Begun(Begun::Async(1, pairs)), 12),
+        )
+        .map_err(|_| Fail::from("memory"))?;
+    trace
+        .push(2, TracedEvent::Refuse(3, Tried::New(5, Mode::Sig, ops), 16))
+        .map_err(|_| Fail::from("memory"))?;
+    trace
+        .push(
+            2,
+            TracedEvent::Phaser(1, TracedStep::Look(1, 2, Look::Value(-5))),
+        )
+        .map_err(|_| Fail::from("memory"))?;
+    let text = written(&rt, &trace)?;
+    let again = read(&rt, text.as_str())?;
+    assert!(rt; again.events() == trace.events());
+    Ok(())
+}
+
+#[test]
+fn outer_object(rt: HostRuntime) -> Result<(), Fail> {
+    let good = [
+        r#"{"events":[],"version":1}"#,
+        " \n{ \"version\" : 1 ,\t\"events\" : [ ] }\r\n",
+        r#"{"version":1,"limits":{},"events":[]}"#,
+        r#"{"version":1,"limits":{"tasks":4096},"events":[]}"#,
+    ];
+    for text in good {
+        assert_eq!(rt; place_of(&rt, text)?, None, "{text}");
+    }
+    let bad = [
+        "",
+        "{",
+        "[]",
+        "null",
+        "{}",
+        r#"{"events":[]}"#,
+        r#"{"version":1}"#,
+        r#"{"events":[],"version":2}"#,
+        r#"{"events":[],"version":0}"#,
+        r#"{"events":[],"version":1.0}"#,
+        r#"{"events":[],"version":"1"}"#,
+        r#"{"events":[],"version":null}"#,
+        r#"{"events":null,"version":1}"#,
+        r#"{"events":{},"version":1}"#,
+        r#"{"events":[7],"version":3}"#,
+        r#"{"events":[],"version":1,"limits":null}"#,
+        r#"{"events":[7],"version":1,"limits":{"tasks":4097}}"#,
+        r#"{"events":[],"version":1,"limits":{"workers":1}}"#,
+        r#"{"events":[],"version":1,"accs":[]}"#,
+        r#"{"events":[],"version":1} x"#,
+        r#"{"events":[[1,"p",0,"sig",1e400]],"version":1}"#,
+    ];
+    for text in bad {
+        assert_eq!(rt; place_of(&rt, text)?, Some(0), "{text}");
+    }
+    Ok(())
+}
+
+#[test]
+fn events_without_a_form(rt: HostRuntime) -> Result<(), Fail> {
+    let bad = [
+        "7",
+        "null",
+        "{}",
+        "[]",
+        "[1]",
+        r#"["p",0,"sig",0]"#,
+        r#"[-1,"p",0,"sig",0]"#,
+        r#"[18446744073709551616,"p",0,"sig",0]"#,
+        r#"[1.0,"p",0,"sig",0]"#,
+        r#"[1,"q",0,"sig",0]"#,
+        r#"[1,"p",4294967296,"sig",0]"#,
+        r#"[1,"p",-1,"sig",0]"#,
+        r#"[1,"p",0,"signal",0]"#,
+        r#"[1,"p",0,"sig"]"#,
+        r#"[1,"p",0,"sig",0,1,2]"#,
+        r#"[1,"p",0,"sig",0,null]"#,
+        r#"[1,"p",0,"make",0,"SIG"]"#,
+        r#"[1,"p",0,"make",0,"SIG",[],null]"#,
+        r#"[1,"p",0,"make",0,"sig",[]]"#,
+        r#"[1,"p",0,"make",0,"SIG",["product"]]"#,
+        r#"[1,"p",0,"make",0,"SIG",["sum","sum","sum","sum","sum"]]"#,
+        r#"[1,"p",0,"reg",0,"SIG"]"#,
+        r#"[1,"p",0,"pass",0,0]"#,
+        r#"[1,"p",0,"send",0,256,1]"#,
+        r#"[1,"p",0,"send",0,0,2147483648]"#,
+        r#"[1,"p",0,"send",0,0,-2147483649]"#,
+        r#"[1,"p",0,"look",0,0]"#,
+        r#"[1,"p",0,"look",0,0,9223372036854775808]"#,
+        r#"[1,"p",0,"look",0,0,-9223372036854775809]"#,
+        r#"[1,"p",0,"look",0,0,"none"]"#,
+        r#"[1,"p",0,"opened",0]"#,
+        r#"[1,"f",0,"sig",0]"#,
+        r#"[1,"f",0,"shut",0]"#,
+        r#"[1,"f",0,"opened"]"#,
+        r#"[1,"f",0,"ended",0,0]"#,
+        r#"[1,"t",0,"begin"]"#,
+        r#"[1,"t",0,"begin","next"]"#,
+        r#"[1,"t",0,"begin",["next",1]]"#,
+        r#"[1,"t",0,"begin",["next"],1]"#,
+        r#"[1,"t",0,"begin",["single"]]"#,
+        r#"[1,"t",0,"begin",["new",0,"SIG",[]]]"#,
+        r#"[1,"t",0,"begin",["open",0]]"#,
+        r#"[1,"t",0,"begin",["async",1]]"#,
+        r#"[1,"t",0,"begin",["async",1,[[0]]]]"#,
+        r#"[1,"t",0,"begin",["async",1,[[0,"SIG",0]]]]"#,
+        r#"[1,"t",0,"begin",["async",1,[[0,"SIG"],[0,"SIG"],[0,"SIG"],[0,"SIG"],[0,"SIG"],[0,"SIG"],[0,"SIG"],[0,"SIG"],[0,"SIG"],[0,"SIG"],[0,"SIG"],[0,"SIG"],[0,"SIG"],[0,"SIG"],[0,"SIG"],[0,"SIG"],[0,"SIG"]]]]"#,
+        r#"[1,"t",0,"refuse",["next"]]"#,
+        r#"[1,"t",0,"refuse",["next"],0]"#,
+        r#"[1,"t",0,"refuse",["next"],27]"#,
+        r#"[1,"t",0,"refuse",["look",0,1,null],10]"#,
+        r#"[1,"t",0,"fail"]"#,
+        r#"[1,"t",0,"fail",0]"#,
+        r#"[1,"t",0,"fail",27]"#,
+    ];
+    for event in bad {
+        let text = format!(in rt.alloc();
+            "{{\"events\":[[1,\"f\",1,\"shut\"],[1,\"f\",1,\"shut\"],{event},7],\"version\":1}}"
+        )?;
+        assert_eq!(rt; place_of(&rt, text.as_str())?, Some(3), "{event}");
+    }
+    Ok(())
+}
+
+#[test]
+fn order_of_tickets_is_no_matter_of_the_text(rt: HostRuntime) -> Result<(), Fail> {
+    let text = r#"{"events":[[9,"f",1,"shut"],[3,"f",1,"shut"],[3,"f",0,"opened",0]],"version":1}"#;
+    assert_eq!(rt; place_of(&rt, text)?, None);
+    Ok(())
+}
+
+#[test]
+fn every_proper_prefix_is_refused(rt: HostRuntime) -> Result<(), Fail> {
+    let bytes = SMALLEST.as_bytes();
+    for end in 0..bytes.len() {
+        match from_json(rt.alloc(), &bytes[..end]) {
+            Err(Refusal::BadText(0)) => {}
+            _ => return Err(Fail::from("a prefix was read")),
+        }
+    }
+    Ok(())
+}
+
+#[test]
+fn cut_inside_a_string(rt: HostRuntime) -> Result<(), Fail> {
+    let text = r#"{"events":[[1,"p",0,"ma"#;
+    assert_eq!(rt; place_of(&rt, text)?, Some(0));
+    Ok(())
+}

@@ -1,0 +1,277 @@
+//! Writes a trace as text, with no blank.
+ghost use Rattle.std.specs.Prelude.{◌≡◌, ◌++◌, ◌∷◌, [], map, string_bytes, nat_lt, IfOk, IfErr, true, decimal};
+ghost use Rattle.trace_model.specs.declared.event.TracedEvent.TheVariants.{Refuse};
+ghost use Rattle.serde_json.specs.Written.{compact_text, comma_if};
+ghost use Rattle.trace_text.specs.Writing.{Appends};
+ghost use Rattle.trace_text.specs.Text.{list, rest_text, mode_data, op_data, ops_data, seen_data, step_items, finish_items, pair_data, pairs_data, begun_items, tried_items, event_items, entry_data, limits_data, trace_text};
+
+use finish_core::FinishEvent;
+use phase_model::{Look, Op};
+use phase_modes::{Limits, Mode, Pair, Refusal};
+use std::alloc::{AllocError, Global};
+use trace_model::{Trace, TracedEvent, TracedStep};
+use world_model::{Begun, Tried};
+
+/// A comma, but before the first item.
+fn write_comma(out: &mut String, index: usize) -> Result<(), AllocError>
+    ensures { Appends result out.old out.new (comma_if (nat_lt 0 index)) }
+{
+    if index > 0 {
+        out.push_str(",")?;
+    }
+    Ok(())
+}
+
+#[tactic(auto, unfolding(json::specs::Print::escape_byte))]
+fn write_mode(out: &mut String, mode: Mode) -> Result<(), AllocError>
+    ensures { Appends result out.old out.new (compact_text (mode_data mode)) }
+{
+    match mode {
+        Mode::Sig => out.push_str("\"SIG\""),
+        Mode::Wait => out.push_str("\"WAIT\""),
+        Mode::SigWait => out.push_str("\"SIG_WAIT\""),
+        Mode::Single => out.push_str("\"SINGLE\""),
+    }
+}
+
+#[tactic(auto, unfolding(json::specs::Print::escape_byte))]
+fn write_op(out: &mut String, op: Op) -> Result<(), AllocError>
+    ensures { Appends result out.old out.new (compact_text (op_data op)) }
+{
+    match op {
+        Op::Sum => out.push_str("\"sum\""),
+        Op::Least => out.push_str("\"least\""),
+        Op::Greatest => out.push_str("\"greatest\""),
+    }
+}
+
+fn write_ops(out: &mut String, ops: &[Op]) -> Result<(), AllocError>
+    ensures { Appends result out.old out.new (compact_text (ops_data ops.now)) }
+{
+    out.push_str("[")?;
+    for (index, op) in ops.iter().enumerate() {
+        write_comma(out, index)?;
+        write_op(out, *op)?;
+    }
+    out.push_str("]")?;
+    Ok(())
+}
+
+/// What was seen: a number, or null for nothing.
+fn write_seen(out: &mut String, seen: Look) -> Result<(), AllocError>
+    ensures { Appends result out.old out.new (compact_text (seen_data seen)) }
+{
+    match seen {
+        Look::Value(value) => write!(out, "{value}"),
+        Look::Nothing => out.push_str("null"),
+    }
+}
+
+/// The items of a step, each after a comma, and the closing bracket.
+#[tactic(auto, unfolding(json::specs::Print::escape_byte))]
+fn write_step(out: &mut String, step: &TracedStep) -> Result<(), AllocError>
+    ensures { Appends result out.old out.new (rest_text (step_items step.now)) }
+{
+    match step {
+        TracedStep::Make(task, mode, ops) => {
+            write!(out, ",\"make\",{task},")?;
+            write_mode(out, *mode)?;
+            out.push_str(",")?;
+            write_ops(out, ops.as_slice())?;
+            out.push_str("]")
+        }
+        TracedStep::Reg(parent, child, mode) => {
+            write!(out, ",\"reg\",{parent},{child},")?;
+            write_mode(out, *mode)?;
+            out.push_str("]")
+        }
+        TracedStep::Sig(task, None) => write!(out, ",\"sig\",{task}]"),
+        TracedStep::Sig(task, Some(number)) => write!(out, ",\"sig\",{task},{number}]"),
+        TracedStep::Claim(task) => write!(out, ",\"claim\",{task}]"),
+        TracedStep::Did(task) => write!(out, ",\"did\",{task}]"),
+        TracedStep::Pass(task) => write!(out, ",\"pass\",{task}]"),
+        TracedStep::Send(task, accumulator, value) => {
+            write!(out, ",\"send\",{task},{accumulator},{value}]")
+        }
+        TracedStep::Look(task, accumulator, seen) => {
+            write!(out, ",\"look\",{task},{accumulator},")?;
+            write_seen(out, *seen)?;
+            out.push_str("]")
+        }
+        TracedStep::Drop(task) => write!(out, ",\"drop\",{task}]"),
+    }
+}
+
+/// The items of a finish's event, each after a comma, and the closing bracket.
+#[tactic(auto, unfolding(json::specs::Print::escape_byte))]
+fn write_finish_event(out: &mut String, event: FinishEvent) -> Result<(), AllocError>
+    ensures { Appends result out.old out.new (rest_text (finish_items event)) }
+{
+    match event {
+        FinishEvent::Opened(task) => write!(out, ",\"opened\",{task}]"),
+        FinishEvent::Spawned(task) => write!(out, ",\"spawned\",{task}]"),
+        FinishEvent::Ended(task) => write!(out, ",\"ended\",{task}]"),
+        FinishEvent::Shut => out.push_str(",\"shut\"]"),
+    }
+}
+
+fn write_pair(out: &mut String, pair: &Pair) -> Result<(), AllocError>
+    ensures { Appends result out.old out.new (compact_text (pair_data pair.now)) }
+{
+    let phaser = pair.phaser;
+    write!(out, "[{phaser},")?;
+    write_mode(out, pair.mode)?;
+    out.push_str("]")
+}
+
+fn write_pairs(out: &mut String, pairs: &[Pair]) -> Result<(), AllocError>
+    ensures { Appends result out.old out.new (compact_text (pairs_data pairs.now)) }
+{
+    out.push_str("[")?;
+    for (index, pair) in pairs.iter().enumerate() {
+        write_comma(out, index)?;
+        write_pair(out, pair)?;
+    }
+    out.push_str("]")?;
+    Ok(())
+}
+
+/// An act that takes more than one event.
+#[tactic(auto, unfolding(json::specs::Print::escape_byte))]
+fn write_begun(out: &mut String, act: &Begun) -> Result<(), AllocError>
+    ensures { Appends result out.old out.new (compact_text (list (begun_items act.now))) }
+{
+    match act {
+        Begun::Async(child, pairs) => {
+            write!(out, "[\"async\",{child},")?;
+            write_pairs(out, pairs.as_slice())?;
+            out.push_str("]")
+        }
+        Begun::Signal => out.push_str("[\"signal\"]"),
+        Begun::Wait => out.push_str("[\"wait\"]"),
+        Begun::Next => out.push_str("[\"next\"]"),
+        Begun::NextSingle(number) => write!(out, "[\"single\",{number}]"),
+        Begun::Shut => out.push_str("[\"shut\"]"),
+        Begun::End => out.push_str("[\"end\"]"),
+    }
+}
+
+/// Any act.
+#[tactic(auto, unfolding(json::specs::Print::escape_byte))]
+fn write_tried(out: &mut String, act: &Tried) -> Result<(), AllocError>
+    ensures { Appends result out.old out.new (compact_text (list (tried_items act.now))) }
+{
+    match act {
+        Tried::Begun(act) => write_begun(out, act),
+        Tried::New(phaser, mode, ops) => {
+            write!(out, "[\"new\",{phaser},")?;
+            write_mode(out, *mode)?;
+            out.push_str(",")?;
+            write_ops(out, ops.as_slice())?;
+            out.push_str("]")
+        }
+        Tried::Open(finish) => write!(out, "[\"open\",{finish}]"),
+        Tried::Send(phaser, accumulator, value) => {
+            write!(out, "[\"send\",{phaser},{accumulator},{value}]")
+        }
+        Tried::Look(phaser, accumulator) => write!(out, "[\"look\",{phaser},{accumulator}]"),
+    }
+}
+
+/// The items of an entry that tells of a refusal, each after a comma, and the closing bracket.
+#[tactic(auto, unfolding(json::specs::Print::escape_byte))]
+fn write_refuse(out: &mut String, task: u32, act: &Tried, number: u8) -> Result<(), AllocError>
+    ensures { Appends result out.old out.new (rest_text (event_items (Refuse task act.now number))) }
+{
+    write!(out, ",\"t\",{task},\"refuse\",")?;
+    write_tried(out, act)?;
+    write!(out, ",{number}]")?;
+    Ok(())
+}
+
+/// The items of an event, each after a comma, and the closing bracket.
+#[tactic(auto, unfolding(json::specs::Print::escape_byte))]
+fn write_event(out: &mut String, event: &TracedEvent) -> Result<(), AllocError>
+    ensures { Appends result out.old out.new (rest_text (event_items event.now)) }
+{
+    match event {
+        TracedEvent::Phaser(phaser, step) => {
+            write!(out, ",\"p\",{phaser}")?;
+            write_step(out, step)
+        }
+        TracedEvent::Finish(finish, event) => {
+            write!(out, ",\"f\",{finish}")?;
+            write_finish_event(out, *event)
+        }
+        TracedEvent::Begin(task, act) => {
+            write!(out, ",\"t\",{task},\"begin\",")?;
+            write_begun(out, act)?;
+            out.push_str("]")
+        }
+        TracedEvent::Refuse(task, act, number) => write_refuse(out, *task, act, *number),
+        TracedEvent::Fail(task, number) => write!(out, ",\"t\",{task},\"fail\",{number}]"),
+    }
+}
+
+/// An event with its ticket.
+fn write_entry(out: &mut String, ticket: u64, event: &TracedEvent) -> Result<(), AllocError>
+    ensures { Appends result out.old out.new (compact_text (entry_data (ticket, event.now))) }
+{
+    write!(out, "[{ticket}")?;
+    write_event(out, event)
+}
+
+fn write_entries(out: &mut String, entries: &[(u64, TracedEvent)]) -> Result<(), AllocError>
+    ensures { Appends result out.old out.new (compact_text (list (map entry_data entries.now))) }
+{
+    out.push_str("[")?;
+    for (index, entry) in entries.iter().enumerate() {
+        write_comma(out, index)?;
+        write_entry(out, entry.0, &entry.1)?;
+    }
+    out.push_str("]")?;
+    Ok(())
+}
+
+/// A number after the text in front of it.
+fn write_number(out: &mut String, front: &str, number: u32) -> Result<(), AllocError>
+    ensures { Appends result out.old out.new (front.now ++ decimal number) }
+{
+    write!(out, "{front}{number}")
+}
+
+fn write_limits(out: &mut String, limits: Limits) -> Result<(), AllocError>
+    ensures { Appends result out.old out.new (compact_text (limits_data limits)) }
+{
+    write_number(out, "{\"acts\":", limits.acts)?;
+    write_number(out, ",\"finishes\":", limits.finishes)?;
+    write_number(out, ",\"history\":", limits.history)?;
+    write_number(out, ",\"phasers\":", limits.phasers)?;
+    write_number(out, ",\"regs\":", limits.regs)?;
+    write_number(out, ",\"tasks\":", limits.tasks)?;
+    out.push_str("}")?;
+    Ok(())
+}
+
+fn write_trace(out: &mut String, trace: &Trace) -> Result<(), AllocError>
+    ensures { Appends result out.old out.new (trace_text trace.now) }
+{
+    out.push_str("{\"events\":")?;
+    write_entries(out, trace.events())?;
+    out.push_str(",\"limits\":")?;
+    write_limits(out, trace.limits())?;
+    out.push_str(",\"version\":1}")?;
+    Ok(())
+}
+
+/// The text of the trace: version 1, no blank and no newline, all six limits. `Memory` where there is
+/// too little for it. Any trace has a text; it is read again where each number of a refusal in it is
+/// one, 1 to 26.
+pub fn to_json(alloc: Global, trace: &Trace) -> Result<String, Refusal>
+    ensures text { IfOk result (λ text. string_bytes text ≡ trace_text trace.now) }
+    ensures memory { IfErr result (λ r. r ≡ Refusal.Memory) }
+{
+    let mut text = String::new(alloc);
+    write_trace(&mut text, trace)?;
+    Ok(text)
+}
