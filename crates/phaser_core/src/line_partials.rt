@@ -101,6 +101,8 @@ impl LinePartials {
 }
 
 /// Puts an empty partial at a place before the end; the last spare one goes for it.
+#[cold]
+#[inline(never)]
 fn put_empty(all: &mut Vec<Partial>, used: usize, place: usize)
     requires are { ArePartials used all.old.items (vec_capacity all.old) }
     requires place { place < used }
