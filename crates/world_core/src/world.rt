@@ -27,6 +27,7 @@ mod refusals;
 mod registering;
 mod sends;
 mod spawning;
+mod step;
 mod turns;
 
 pub use drawing::Unused;

@@ -170,7 +170,7 @@ impl World {
     }
 
     /// The step that begins an act.
-    pub fn step_begin(&mut self, task: u32, begun: Begun) -> Result<Reply, Refusal>
+    pub(super) fn step_begin(&mut self, task: u32, begun: Begun) -> Result<Reply, Refusal>
         ensures { IsStep (WorldEvent.Begin task begun) self.old self.new result }
     {
         self.begin(task, begun)

@@ -70,7 +70,7 @@ impl World {
     }
 
     /// The step that makes a drop of an act under way.
-    pub fn step_drop(&mut self, phaser: u32, task: u32) -> Result<Reply, Refusal>
+    pub(super) fn step_drop(&mut self, phaser: u32, task: u32) -> Result<Reply, Refusal>
         ensures { IsStep (WorldEvent.Phaser phaser (Step.Drop task)) self.old self.new result }
     {
         self.drop_due(phaser, task)

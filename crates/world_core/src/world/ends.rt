@@ -85,7 +85,7 @@ impl World {
     }
 
     /// The step that ends a task.
-    pub fn step_end(&mut self, finish: u32, task: u32) -> Result<Reply, Refusal>
+    pub(super) fn step_end(&mut self, finish: u32, task: u32) -> Result<Reply, Refusal>
         ensures { IsStep (WorldEvent.Finish finish (FinishEvent.Ended task)) self.old self.new result }
     {
         self.end_due(finish, task)
@@ -162,7 +162,7 @@ impl World {
     }
 
     /// The step that shuts a finish.
-    pub fn step_shut(&mut self, finish: u32) -> Result<Reply, Refusal>
+    pub(super) fn step_shut(&mut self, finish: u32) -> Result<Reply, Refusal>
         ensures { IsStep (WorldEvent.Finish finish FinishEvent.Shut) self.old self.new result }
     {
         self.shut_due(finish)

@@ -137,7 +137,7 @@ impl World {
     }
 
     /// The step by which a task gives up.
-    pub fn step_fail(&mut self, task: u32, number: u8) -> Result<Reply, Refusal>
+    pub(super) fn step_fail(&mut self, task: u32, number: u8) -> Result<Reply, Refusal>
         ensures { IsStep (WorldEvent.Fail task number) self.old self.new result }
     {
         self.fail(task, number)

@@ -94,7 +94,7 @@ impl World {
     }
 
     /// The step that makes a phaser.
-    pub fn step_make(
+    pub(super) fn step_make(
         &mut self,
         phaser: u32,
         task: u32,

@@ -56,7 +56,7 @@ impl World {
     }
 
     /// The step that opens a finish.
-    pub fn step_open(&mut self, finish: u32, task: u32) -> Result<Reply, Refusal>
+    pub(super) fn step_open(&mut self, finish: u32, task: u32) -> Result<Reply, Refusal>
         ensures { IsStep (WorldEvent.Finish finish (FinishEvent.Opened task)) self.old self.new result }
     {
         self.open_finish(finish, task)

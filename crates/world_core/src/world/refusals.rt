@@ -92,7 +92,12 @@ impl World {
     }
 
     /// The step that notes that an act is refused.
-    pub fn step_refuse(&mut self, task: u32, tried: Tried, number: u8) -> Result<Reply, Refusal>
+    pub(super) fn step_refuse(
+        &mut self,
+        task: u32,
+        tried: Tried,
+        number: u8,
+    ) -> Result<Reply, Refusal>
         ensures { IsStep (WorldEvent.Refuse task tried number) self.old self.new result }
     {
         self.refuse(task, tried, number)

@@ -79,7 +79,7 @@ impl World {
     }
 
     /// The step that registers a child.
-    pub fn step_register(
+    pub(super) fn step_register(
         &mut self,
         phaser: u32,
         parent: u32,

@@ -81,7 +81,7 @@ impl World {
     }
 
     /// The step that sends a value.
-    pub fn step_send(
+    pub(super) fn step_send(
         &mut self,
         phaser: u32,
         task: u32,
@@ -94,7 +94,12 @@ impl World {
     }
 
     /// The step that looks at a value.
-    pub fn step_look(&mut self, phaser: u32, task: u32, accumulator: u8) -> Result<Reply, Refusal>
+    pub(super) fn step_look(
+        &mut self,
+        phaser: u32,
+        task: u32,
+        accumulator: u8,
+    ) -> Result<Reply, Refusal>
         ensures { IsStep (WorldEvent.Phaser phaser (Step.Look task accumulator)) self.old self.new result }
     {
         self.look_at(phaser, task, accumulator)

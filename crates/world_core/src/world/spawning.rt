@@ -69,7 +69,7 @@ impl World {
     }
 
     /// The step that spawns a child.
-    pub fn step_spawn(&mut self, finish: u32, child: u32) -> Result<Reply, Refusal>
+    pub(super) fn step_spawn(&mut self, finish: u32, child: u32) -> Result<Reply, Refusal>
         ensures { IsStep (WorldEvent.Finish finish (FinishEvent.Spawned child)) self.old self.new result }
     {
         self.spawn_child(finish, child)

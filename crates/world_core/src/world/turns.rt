@@ -55,7 +55,7 @@ impl World {
     }
 
     /// The step that makes a signal of an act under way.
-    pub fn step_signal(
+    pub(super) fn step_signal(
         &mut self,
         phaser: u32,
         task: u32,
@@ -139,7 +139,7 @@ impl World {
     }
 
     /// The step that makes a pass of an act under way.
-    pub fn step_pass(&mut self, phaser: u32, task: u32) -> Result<Reply, Refusal>
+    pub(super) fn step_pass(&mut self, phaser: u32, task: u32) -> Result<Reply, Refusal>
         ensures { IsStep (WorldEvent.Phaser phaser (Step.Pass task)) self.old self.new result }
     {
         self.pass_due(phaser, task)
@@ -191,14 +191,14 @@ impl World {
     }
 
     /// The step that claims a single in a turn under way.
-    pub fn step_claim(&mut self, phaser: u32, task: u32) -> Result<Reply, Refusal>
+    pub(super) fn step_claim(&mut self, phaser: u32, task: u32) -> Result<Reply, Refusal>
         ensures { IsStep (WorldEvent.Phaser phaser (Step.Claim task)) self.old self.new result }
     {
         self.claim_due(phaser, task)
     }
 
     /// The step that reports a single done in a turn under way.
-    pub fn step_report(&mut self, phaser: u32, task: u32) -> Result<Reply, Refusal>
+    pub(super) fn step_report(&mut self, phaser: u32, task: u32) -> Result<Reply, Refusal>
         ensures { IsStep (WorldEvent.Phaser phaser (Step.Did task)) self.old self.new result }
     {
         self.report_due(phaser, task)
