@@ -27,7 +27,7 @@ mod refusals;
 mod registering;
 mod sends;
 mod spawning;
-mod step;
+mod stepping;
 mod turns;
 
 pub use drawing::Unused;

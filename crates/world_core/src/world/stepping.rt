@@ -1,4 +1,5 @@
-//! One step of a world: any event, and what it is answered.
+//! Any step, by its kind.
+ghost use Rattle.std.specs.Prelude.{◌≡◌};
 ghost use Rattle.world_core.specs.StandsFor.{IsStep};
 
 use super::World;
@@ -7,7 +8,19 @@ use phase_modes::Refusal;
 use world_model::{Reply, Step, WorldEvent};
 
 impl World {
-    /// A step on a phaser.
+    /// One event: it is made, has to wait, or is refused, and then changes nothing.
+    pub fn step(&mut self, event: &WorldEvent) -> Result<Reply, Refusal>
+        ensures { IsStep event.now self.old self.new result }
+    {
+        match *event {
+            WorldEvent::Phaser(phaser, step) => self.step_on_phaser(phaser, step),
+            WorldEvent::Finish(finish, step) => self.step_in_finish(finish, step),
+            WorldEvent::Begin(task, begun) => self.step_begin(task, begun),
+            WorldEvent::Refuse(task, tried, number) => self.step_refuse(task, tried, number),
+            WorldEvent::Fail(task, number) => self.step_fail(task, number),
+        }
+    }
+
     fn step_on_phaser(&mut self, phaser: u32, step: Step) -> Result<Reply, Refusal>
         ensures { IsStep (WorldEvent.Phaser phaser step) self.old self.new result }
     {
@@ -18,40 +31,22 @@ impl World {
             Step::Claim(task) => self.step_claim(phaser, task),
             Step::Did(task) => self.step_report(phaser, task),
             Step::Pass(task) => self.step_pass(phaser, task),
-            Step::Send(task, accumulator, value) => self.step_send(
-                phaser,
-                task,
-                accumulator,
-                value,
-            ),
+            Step::Send(task, accumulator, value) => {
+                self.step_send(phaser, task, accumulator, value)
+            }
             Step::Look(task, accumulator) => self.step_look(phaser, task, accumulator),
             Step::Drop(task) => self.step_drop(phaser, task),
         }
     }
 
-    /// An event of a finish.
-    fn step_of_finish(&mut self, finish: u32, event: FinishEvent) -> Result<Reply, Refusal>
-        ensures { IsStep (WorldEvent.Finish finish event) self.old self.new result }
+    fn step_in_finish(&mut self, finish: u32, step: FinishEvent) -> Result<Reply, Refusal>
+        ensures { IsStep (WorldEvent.Finish finish step) self.old self.new result }
     {
-        match event {
+        match step {
             FinishEvent::Opened(task) => self.step_open(finish, task),
             FinishEvent::Spawned(child) => self.step_spawn(finish, child),
             FinishEvent::Ended(task) => self.step_end(finish, task),
             FinishEvent::Shut => self.step_shut(finish),
-        }
-    }
-
-    /// Makes the event where it may be made now, and says what it is answered. An event that is
-    /// refused, or has to wait (`NotYet`), changes nothing.
-    pub fn step(&mut self, event: &WorldEvent) -> Result<Reply, Refusal>
-        ensures { IsStep event.now self.old self.new result }
-    {
-        match *event {
-            WorldEvent::Phaser(phaser, step) => self.step_on_phaser(phaser, step),
-            WorldEvent::Finish(finish, event) => self.step_of_finish(finish, event),
-            WorldEvent::Begin(task, begun) => self.step_begin(task, begun),
-            WorldEvent::Refuse(task, tried, number) => self.step_refuse(task, tried, number),
-            WorldEvent::Fail(task, number) => self.step_fail(task, number),
         }
     }
 }
