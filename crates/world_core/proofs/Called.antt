@@ -15,7 +15,7 @@ use Rattle.world_model.specs.Scopes.{enclosing}
 use Rattle.world_model.specs.Actors.{actor}
 use Rattle.world_model.specs.Replies.{is_accepted, is_legal_world}
 use Rattle.world_core.specs.StandsFor.{TaskStands, StandsFor}
-use Rattle.world_core.proofs.Tables.{read_set}
+use Rattle.world_core.proofs.TableReads.{read_set}
 use Rattle.world_core.proofs.Quiet.{IsQuiet, other_step}
 
 ops_same : (n m : ℕ) (s : Step) (w : List WorldEvent) → IsQuiet s → ops_of m (Phaser n s ∷ w) ≡ ops_of m w

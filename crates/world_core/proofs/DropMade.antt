@@ -39,7 +39,7 @@ use Rattle.world_core.specs.inner.Steps.{done_by, with_task, is_first}
 use Rattle.world_core.specs.inner.DropSteps.{wants_drop, is_to_drop, dropper_at, drop_result, drop_answer, drop_state, gone_from, drop_noted, task_gone}
 use Rattle.world_core.specs.StandsFor.{TaskStands, StandsFor, IsStep, due_by, inner_of, end_of, fits_plan, has_left}
 use Rattle.world_model.proofs.OthersLeave.{due_other, due_own}
-use Rattle.world_core.proofs.Tables.{read_set}
+use Rattle.world_core.proofs.TableReads.{read_set}
 use Rattle.world_model.proofs.PhasersOnce.{times, phasers_once}
 use Rattle.world_model.proofs.UntouchedStays.{phasers_same}
 use Rattle.world_model.proofs.DropsOnce.{drops_on, drops-append, own_drops, leads_to_end, drops_once}

@@ -26,7 +26,7 @@ use Rattle.world_core.specs.inner.FinishSteps.{is_next, said, finish_called, end
 use Rattle.world_core.specs.StandsFor.{TaskStands, StandsFor, IsStep, inner_of, end_of, due_by, has_left}
 use Rattle.world_model.proofs.OthersLeave.{due_other, due_own}
 use Rattle.world_model.proofs.FinishesLegal.{event_allowed}
-use Rattle.world_core.proofs.Tables.{read_set}
+use Rattle.world_core.proofs.TableReads.{read_set}
 use Rattle.world_core.proofs.NextRead.{next_is}
 use Rattle.world_core.proofs.HeadsOf.{no_steps, alone, is_alone}
 use Rattle.world_core.proofs.FinishMoves.{finish_stands, done_ok, same_done, not_made, asked_ok, open_within, told_within, first_is}

@@ -22,7 +22,7 @@ use Rattle.world_core.specs.inner.Steps.{done_by, state_by}
 use Rattle.world_core.specs.inner.Queries.{next_by}
 use Rattle.world_core.specs.inner.FinishSteps.{is_next}
 use Rattle.world_core.specs.StandsFor.{TaskStands, StandsFor}
-use Rattle.world_core.proofs.Tables.{read_set}
+use Rattle.world_core.proofs.TableReads.{read_set}
 use Rattle.world_model.proofs.NextIsDue.{First, first_due}
 use Rattle.world_model.proofs.BornWhereNamed.{finish_due}
 

@@ -18,7 +18,7 @@ use Rattle.world_core.specs.StandsFor.{TaskStands, StandsFor, due_by}
 use Rattle.world_core.specs.inner.Steps.{with_task}
 use Rattle.world_core.specs.inner.Refusals.{given_up}
 use Rattle.world_core.specs.inner.Failures.{spawn_given_up}
-use Rattle.world_core.proofs.Tables.{read_set}
+use Rattle.world_core.proofs.TableReads.{read_set}
 use Rattle.world_core.proofs.Begins.{ending_is, ending_some}
 
 full_after : (xs ys : List WorldEvent) → is_empty ys ≡ false → is_empty (xs ++ ys) ≡ false

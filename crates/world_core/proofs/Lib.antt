@@ -1,5 +1,5 @@
 pub mod Fits
-pub mod Tables
+pub mod TableReads
 pub mod First
 pub mod Ready
 pub mod Entries
@@ -44,3 +44,4 @@ pub mod GivenUp
 pub mod RefuseMade
 pub mod FailMade
 pub mod SendMade
+pub mod Worlds

@@ -37,7 +37,7 @@ use Rattle.world_core.specs.inner.Registering.{make_conditions, make_result, mak
 use Rattle.world_core.specs.StandsFor.{TaskStands, StandsFor, IsStep, due_by}
 use Rattle.world_model.proofs.OthersLeave.{due_own}
 use Rattle.world_core.proofs.Fits.{fitting}
-use Rattle.world_core.proofs.Tables.{read_set}
+use Rattle.world_core.proofs.TableReads.{read_set}
 use Rattle.world_core.proofs.Ready.{ready_is_idle, ready_within}
 use Rattle.world_model.proofs.PhasersOnce.{joins, joined_once}
 use Rattle.world_model.proofs.NewlyJoined.{own_joined}

@@ -31,7 +31,7 @@ use Rattle.world_core.specs.inner.Steps.{open_conditions, open_answer, open_stat
 use Rattle.world_core.specs.StandsFor.{TaskStands, StandsFor, IsStep, due_by}
 use Rattle.world_model.proofs.OthersLeave.{due_other, due_own, clock_other}
 use Rattle.world_core.proofs.Fits.{fitting}
-use Rattle.world_core.proofs.Tables.{read_set}
+use Rattle.world_core.proofs.TableReads.{read_set}
 use Rattle.world_core.proofs.Ready.{ready_is_idle, ready_within}
 use Rattle.world_core.proofs.Chains.{others_open, own_open, not_open, chain_set}
 

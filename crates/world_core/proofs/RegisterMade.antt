@@ -48,7 +48,7 @@ use Rattle.world_core.specs.Kept.{blank_task, blank_story, task_at, story_at, is
 use Rattle.world_core.specs.StandsFor.{TaskStands, StandsFor, IsStep, due_by, inner_of, end_of, fits_plan}
 use Rattle.world_core.specs.inner.Steps.{done_by, with_task}
 use Rattle.world_core.specs.inner.RegisterSteps.{is_pair, wants_register, is_to_register, has_place, register_result, register_answer, register_state, joining, register_noted, to_next_pair, child_joined}
-use Rattle.world_core.proofs.Tables.{read_set}
+use Rattle.world_core.proofs.TableReads.{read_set}
 use Rattle.world_core.proofs.NextOf.{is_next}
 use Rattle.world_core.proofs.Outcomes.{idle_plan, made_ok, unchanged_by, asked_and_done, settled_as, done_as, answer_by, called_within, named_within, swapped}
 use Rattle.world_core.proofs.Joins.{other_stands}

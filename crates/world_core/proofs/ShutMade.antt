@@ -27,7 +27,7 @@ use Rattle.phase_modes.specs.declared.limits.Limits.{Limits}
 use Rattle.world_core.specs.StandsFor.{TaskStands, StandsFor, IsStep, IsChain, inner_of, end_of, due_by, fits_plan, has_left}
 use Rattle.world_model.proofs.OthersLeave.{due_other, due_own}
 use Rattle.world_model.proofs.FinishesLegal.{event_allowed}
-use Rattle.world_core.proofs.Tables.{read_set}
+use Rattle.world_core.proofs.TableReads.{read_set}
 use Rattle.world_core.proofs.NextRead.{next_is}
 use Rattle.world_core.proofs.HeadsOf.{no_steps, alone, is_alone}
 use Rattle.world_core.proofs.Owners.{root_owned, others_stay, innermost_goes, none_stays}

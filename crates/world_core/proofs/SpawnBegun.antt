@@ -35,7 +35,7 @@ use Rattle.world_core.specs.StandsFor.{TaskStands, StandsFor, IsStep, due_by, in
 use Rattle.world_core.specs.inner.Steps.{done_unless, unless_refused}
 use Rattle.world_core.specs.inner.Begins.{is_child_named, pair_conditions, own_conditions, begin_refusal, spawn_begun, named_for, line_begun, entered, begin_answer, begin_state}
 use Rattle.world_core.proofs.Fits.{fitting}
-use Rattle.world_core.proofs.Tables.{read_set}
+use Rattle.world_core.proofs.TableReads.{read_set}
 use Rattle.world_core.proofs.Ready.{ready_is_idle, ready_within}
 use Rattle.world_core.proofs.Standing.{entry_stands}
 use Rattle.world_core.proofs.BeginsAsked.{begin_answers}

@@ -10,7 +10,7 @@ use Rattle.world_core.specs.Kept.{blank_task, task_at}
 use Rattle.world_core.specs.inner.Steps.{with_task}
 use Rattle.world_core.specs.StandsFor.{TaskStands, StandsFor}
 use Rattle.world_model.specs.Replies.{is_accepted, is_legal_world}
-use Rattle.world_core.proofs.Tables.{read_set}
+use Rattle.world_core.proofs.TableReads.{read_set}
 use Rattle.world_core.proofs.Entries.{IsPlain, other_begins}
 
 -- the lines of all tasks after one was written

@@ -113,3 +113,7 @@ pub record IsStep (e : WorldEvent) (old new : WorldState) (answered : Result Rep
   pub unchanged : is_made answered ≡ false → new ≡ old
   pub answer : (w : List WorldEvent) → StandsFor w old → answered ≡ reply old.limits w e
   pub stands : (w : List WorldEvent) → StandsFor w old → is_made answered ≡ true → StandsFor (e ∷ w) new
+
+-- there is a legal history for which it stands
+abbrev pub IsWorld : WorldState → Type 0
+IsWorld s = (w : List WorldEvent) × StandsFor w s

@@ -4,8 +4,10 @@
 
 mod phaser;
 mod plan;
+mod tables;
 mod task;
 mod world;
 
 pub use plan::Plan;
-pub use world::{Unused, World};
+pub use tables::Unused;
+pub use world::World;

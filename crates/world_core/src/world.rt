@@ -1,197 +1,118 @@
 //! The world of many phasers, finishes and tasks.
-ghost use Rattle.std.specs.Prelude.{◌≡◌, ◌<◌, not, nat_lt, length, IfOk, IfErr, true, [], replicate};
+ghost use Rattle.std.specs.Prelude.{◌≡◌, false, List, [], true, IfOk, IfErr};
 ghost use Rattle.phase_modes.specs.Limits.{limits_fit};
-ghost use Rattle.phase_modes.specs.Refusal.{first_refusal};
-ghost use Rattle.finish_core.specs.Finish.{fresh};
-ghost use Rattle.world_core.specs.Kept.{blank_task, blank_story, first_state, task_at, is_ready};
-ghost use Rattle.world_core.specs.inner.Steps.{first_conditions, free_unless};
-ghost use Rattle.world_core.specs.StandsFor.{StandsFor};
+ghost use Rattle.world_model.specs.declared.event.WorldEvent.{WorldEvent as Event};
+ghost use Rattle.world_model.specs.TaskConditions.{condition_of};
+ghost use Rattle.world_model.specs.Clock.{clock};
+ghost use Rattle.world_model.specs.Due.{next_event};
+ghost use Rattle.world_model.specs.Able.{is_able, is_stuck};
+ghost use Rattle.world_model.specs.Drawing.{least_unused, own_pairs};
+ghost use Rattle.world_model.specs.Numbers.{is_phaser, is_finish, is_named};
+ghost use Rattle.world_core.specs.StandsFor.{StandsFor, IsStep};
 
-use crate::phaser::KeptPhaser;
-use crate::task::Task;
-use finish_core::FinishState;
-use phase_modes::{Limits, Refusal};
+use crate::tables::{Tables, Unused};
+use phase_modes::{Limits, Phased, Refusal};
 use std::alloc::Global;
 use std::marker::Model;
+use world_model::{Condition, Reply, WorldEvent};
 
-mod begins;
-mod drawing;
-mod dropping;
-mod ends;
-mod failures;
-mod handing;
-mod making;
-mod opening;
-mod queries;
-mod refusals;
-mod registering;
-mod sends;
-mod spawning;
-mod stepping;
-mod turns;
-
-pub use drawing::Unused;
-
-/// Many phasers, finishes and tasks at once.
+/// Many phasers, finishes and tasks at once. Contracts see what it keeps; there is always a legal
+/// history for which that stands, and what a world reports is read off each such history.
+///
+/// A step costs what the acting task's phasers cost, however many others there are, and takes no
+/// memory: all of it is taken by `new`.
 #[derive(Drop)]
 pub struct World {
-    limits: Limits,
-    phasers: Vec<KeptPhaser>,
-    enclosing: Vec<u32>,
-    finishes: Vec<FinishState>,
-    owners: Vec<u32>,
-    outers: Vec<Option<u32>>,
-    tasks: Vec<Task>,
+    tables: Tables,
 }
 
 impl Model for World {
-    ghost use Rattle.std.specs.Prelude.{◌≡◌, length};
     ghost use Rattle.world_core.specs.WorldState.{WorldState};
+    ghost use Rattle.world_core.specs.StandsFor.{IsWorld};
 
     ghost Value = { WorldState };
 
-    ghost use Rattle.world_core.specs.inner.Sizes.{IsSized};
+    ghost view = { λ a. a.tables };
 
-    ghost view = { λ a. record {
-      limits = a.limits;
-      phasers = a.phasers.items;
-      enclosing = a.enclosing.items;
-      finishes = a.finishes.items;
-      owners = a.owners.items;
-      outers = a.outers.items;
-      tasks = a.tasks.items;
-    } };
-
-    ghost invariant = { λ a. IsSized a.limits a.phasers.items a.enclosing.items a.finishes.items a.owners.items a.outers.items a.tasks.items };
-}
-
-/// A blank phaser for each number.
-fn blank_phasers(alloc: Global, limits: Limits) -> Result<Vec<KeptPhaser>, Refusal>
-    requires { limits_fit limits ≡ true }
-    ensures blank { IfOk result (λ v. v.items ≡ replicate limits.phasers (blank_story limits)) }
-    ensures memory { IfErr result (λ r. r ≡ Refusal.Memory) }
-{
-    let Ok(mut phasers) = Vec::with_capacity(alloc, limits.phasers as usize) else {
-        return Err(Refusal::Memory);
-    };
-    for _ in 0..limits.phasers {
-        phasers.push_reserved(KeptPhaser::blank(alloc, limits)?);
-    }
-    Ok(phasers)
-}
-
-/// A fresh finish for each number.
-fn fresh_finishes(alloc: Global, limits: Limits) -> Result<Vec<FinishState>, Refusal>
-    requires { limits_fit limits ≡ true }
-    ensures fresh { IfOk result (λ v. v.items ≡ replicate limits.finishes (fresh limits.tasks)) }
-    ensures memory { IfErr result (λ r. r ≡ Refusal.Memory) }
-{
-    let Ok(mut finishes) = Vec::with_capacity(alloc, limits.finishes as usize) else {
-        return Err(Refusal::Memory);
-    };
-    for _ in 0..limits.finishes {
-        finishes.push_reserved(FinishState::new(alloc, limits.tasks)?);
-    }
-    Ok(finishes)
-}
-
-/// A blank record for each task number.
-fn blank_tasks(alloc: Global, limits: Limits) -> Result<Vec<Task>, Refusal>
-    ensures blank { IfOk result (λ v. v.items ≡ replicate limits.tasks blank_task) }
-    ensures memory { IfErr result (λ r. r ≡ Refusal.Memory) }
-{
-    let Ok(mut tasks) = Vec::with_capacity(alloc, limits.tasks as usize) else {
-        return Err(Refusal::Memory);
-    };
-    for _ in 0..limits.tasks {
-        tasks.push_reserved(Task::blank(alloc)?);
-    }
-    Ok(tasks)
+    ghost invariant = { λ a. IsWorld a.tables };
 }
 
 impl World {
-    /// A world in which nothing has happened yet. All memory that its steps will ever need is taken
-    /// here; `Memory` where that is refused.
+    /// A world in which nothing has happened yet: task 0 runs, and finish 0 is open. All memory that
+    /// its steps will ever need is taken here; `Memory` where that is refused.
     pub fn new(alloc: Global, limits: Limits) -> Result<World, Refusal>
         requires { limits_fit limits ≡ true }
         ensures limits { IfOk result (λ s. s.limits ≡ limits) }
         ensures stands { IfOk result (λ s. StandsFor [] s) }
         ensures memory { IfErr result (λ r. r ≡ Refusal.Memory) }
     {
-        let world = World::first(alloc, limits)?;
-        Ok(world)
+        let tables = Tables::new(alloc, limits)?;
+        Ok(World { tables })
     }
 
-    fn first(alloc: Global, limits: Limits) -> Result<World, Refusal>
-        requires { limits_fit limits ≡ true }
-        ensures first { IfOk result (λ s. s ≡ first_state limits) }
-        ensures memory { IfErr result (λ r. r ≡ Refusal.Memory) }
+    /// One event: it is made, has to wait (`NotYet`), or is refused. Only where it is made does
+    /// anything change.
+    pub fn step(&mut self, event: &WorldEvent) -> Result<Reply, Refusal>
+        ensures { IsStep event.now self.old self.new result }
     {
-        let phasers = blank_phasers(alloc, limits)?;
-        let Ok(enclosing) = vec![in alloc; 0; limits.phasers as usize] else {
-            return Err(Refusal::Memory);
-        };
-        let mut finishes = fresh_finishes(alloc, limits)?;
-        let Ok(owners) = vec![in alloc; 0; limits.finishes as usize] else {
-            return Err(Refusal::Memory);
-        };
-        let Ok(outers) = vec![in alloc; None; limits.finishes as usize] else {
-            return Err(Refusal::Memory);
-        };
-        let mut tasks = blank_tasks(alloc, limits)?;
-        let first = &mut finishes[0];
-        let _opened = first.opened(0);
-        let root = &mut tasks[0];
-        root.become_root();
-        Ok(World {
-            limits,
-            phasers,
-            enclosing,
-            finishes,
-            owners,
-            outers,
-            tasks,
-        })
+        self.tables.step(event)
     }
 
-    /// Whether the task may begin an act.
-    fn is_ready(&self, task: u32) -> bool
-        ensures ready { result ≡ is_ready (task_at self.now task) }
-        ensures place { result ≡ true → task < length self.now.tasks }
+    /// What the task is about; `None` where it hasn't been spawned.
+    pub fn condition(&self, task: u32) -> Option<Condition>
+        ensures { (w : List Event) → StandsFor w self.now → result ≡ condition_of task w }
     {
-        if task as usize >= self.tasks.len() {
-            return false;
-        }
-        let line = &self.tasks[task as usize];
-        line.is_idle()
+        self.tables.condition(task)
     }
 
-    /// Whether the task's acts are at their limit.
-    fn is_worn(&self, task: u32) -> bool
-        ensures { result ≡ not (nat_lt (task_at self.now task).acts self.now.limits.acts) }
+    /// How many turns the task has completed, those of its spawner at the spawn among them.
+    pub fn clock(&self, task: u32) -> u32
+        ensures { (w : List Event) → StandsFor w self.now → result ≡ clock task w }
     {
-        if task as usize >= self.tasks.len() {
-            return self.limits.acts == 0;
-        }
-        let line = &self.tasks[task as usize];
-        line.acts() >= self.limits.acts
+        self.tables.clock(task)
     }
 
-    /// What an act is refused by before it is looked at for itself: `used` tells whether the number
-    /// that it wants to give is in use, `counted` whether it is a counted act.
-    fn may_act(&self, task: u32, used: bool, counted: bool) -> Result<(), Refusal>
-        ensures answer { result ≡ free_unless (first_refusal (first_conditions self.now task used counted)) }
-        ensures place { IfOk result (λ _. task < length self.now.tasks) }
+    /// Whether the task can go on now: some event of its own would be made. It can't where it has
+    /// to wait for others, and where it has ended or was never spawned.
+    pub fn able(&self, task: u32) -> bool
+        ensures { (w : List Event) → StandsFor w self.now → result ≡ is_able self.now.limits w task }
     {
-        if !self.is_ready(task) {
-            return Err(Refusal::NotNow);
-        }
-        if used {
-            return Err(Refusal::NotNow);
-        }
-        if counted && self.is_worn(task) {
-            return Err(Refusal::ActsFull);
-        }
-        Ok(())
+        self.tables.able(task)
+    }
+
+    /// The event that continues the task's act, if it is in the middle of one.
+    pub fn next_event(&self, task: u32) -> Option<WorldEvent>
+        ensures { (w : List Event) → StandsFor w self.now
+            → result ≡ next_event self.now.limits task w }
+    {
+        self.tables.next_event(task)
+    }
+
+    /// The least numbers that aren't in use.
+    pub fn unused(&self) -> Unused
+        ensures phaser { (w : List Event) → StandsFor w self.now
+            → result.phaser ≡ least_unused (λ n. is_phaser n w) self.now.limits.phasers }
+        ensures task { (w : List Event) → StandsFor w self.now
+            → result.task ≡ least_unused (λ t. is_named t w) self.now.limits.tasks }
+        ensures finish { (w : List Event) → StandsFor w self.now
+            → result.finish ≡ least_unused (λ f. is_finish f w) self.now.limits.finishes }
+    {
+        self.tables.unused()
+    }
+
+    /// All phasers of the task, in the order in which it came to them, each in its own mode: what a
+    /// spawn names that hands them all on.
+    pub fn own_pairs(&self, task: u32) -> Phased
+        ensures { (w : List Event) → StandsFor w self.now → result ≡ own_pairs task w }
+    {
+        self.tables.own_pairs(task)
+    }
+
+    /// It does nothing. Its contract is a law of each world: as long as some task hasn't ended, some
+    /// task is able.
+    pub fn some_task_goes_on(&self)
+        ensures { (w : List Event) × StandsFor w self.now × (is_stuck self.now.limits w ≡ false) }
+    {
+        let _tables = &self.tables;
     }
 }

@@ -1,5 +1,0 @@
-use Rattle.world_core.proofs.AbleRead.{able_is}
-use Rattle.world_core.proofs.world.World.able.Goals as goal
-
-pub returns : goal.returns
-returns c w st = rw c.kept_able.ensures (able_is c.args.self.now c.args.task w st)

@@ -1,5 +1,0 @@
-use Rattle.world_core.proofs.ClockRead.{clock_is}
-use Rattle.world_core.proofs.world.World.clock.Goals as goal
-
-pub returns : goal.returns
-returns c w st = rw c.kept_clock.ensures (clock_is c.args.self.now c.args.task w st)

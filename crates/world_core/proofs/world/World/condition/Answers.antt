@@ -1,5 +1,0 @@
-use Rattle.world_core.proofs.NextRead.{condition_is}
-use Rattle.world_core.proofs.world.World.condition.Goals as goal
-
-pub returns : goal.returns
-returns c w st = rw c.kept_condition.ensures (condition_is c.args.self.now c.args.task w st)

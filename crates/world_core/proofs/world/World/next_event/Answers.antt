@@ -1,5 +1,0 @@
-use Rattle.world_core.proofs.NextRead.{next_is}
-use Rattle.world_core.proofs.world.World.next_event.Goals as goal
-
-pub returns : goal.returns
-returns c w st = rw c.kept_next.ensures (next_is c.args.self.now c.args.task w st)

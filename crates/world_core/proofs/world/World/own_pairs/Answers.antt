@@ -1,5 +1,0 @@
-use Rattle.world_core.proofs.Drawn.{pairs_are}
-use Rattle.world_core.proofs.world.World.own_pairs.Goals as goal
-
-pub returns : goal.returns
-returns c w st = rw c.kept_pairs.ensures (pairs_are c.args.self.now c.args.task w st)

@@ -1,0 +1,197 @@
+//! What a world keeps, by number: its phasers, its finishes and its tasks. `world` is the public face.
+ghost use Rattle.std.specs.Prelude.{◌≡◌, ◌<◌, not, nat_lt, length, IfOk, IfErr, true, [], replicate};
+ghost use Rattle.phase_modes.specs.Limits.{limits_fit};
+ghost use Rattle.phase_modes.specs.Refusal.{first_refusal};
+ghost use Rattle.finish_core.specs.Finish.{fresh};
+ghost use Rattle.world_core.specs.Kept.{blank_task, blank_story, first_state, task_at, is_ready};
+ghost use Rattle.world_core.specs.inner.Steps.{first_conditions, free_unless};
+ghost use Rattle.world_core.specs.StandsFor.{StandsFor};
+
+use crate::phaser::KeptPhaser;
+use crate::task::Task;
+use finish_core::FinishState;
+use phase_modes::{Limits, Refusal};
+use std::alloc::Global;
+use std::marker::Model;
+
+mod begins;
+mod drawing;
+mod dropping;
+mod ends;
+mod failures;
+mod handing;
+mod making;
+mod opening;
+mod queries;
+mod refusals;
+mod registering;
+mod sends;
+mod spawning;
+mod stepping;
+mod turns;
+
+pub use drawing::Unused;
+
+/// The tables of a world, each with a line for each number.
+#[derive(Drop)]
+pub struct Tables {
+    limits: Limits,
+    phasers: Vec<KeptPhaser>,
+    enclosing: Vec<u32>,
+    finishes: Vec<FinishState>,
+    owners: Vec<u32>,
+    outers: Vec<Option<u32>>,
+    tasks: Vec<Task>,
+}
+
+impl Model for Tables {
+    ghost use Rattle.std.specs.Prelude.{◌≡◌, length};
+    ghost use Rattle.world_core.specs.WorldState.{WorldState};
+
+    ghost Value = { WorldState };
+
+    ghost use Rattle.world_core.specs.inner.Sizes.{IsSized};
+
+    ghost view = { λ a. record {
+      limits = a.limits;
+      phasers = a.phasers.items;
+      enclosing = a.enclosing.items;
+      finishes = a.finishes.items;
+      owners = a.owners.items;
+      outers = a.outers.items;
+      tasks = a.tasks.items;
+    } };
+
+    ghost invariant = { λ a. IsSized a.limits a.phasers.items a.enclosing.items a.finishes.items a.owners.items a.outers.items a.tasks.items };
+}
+
+/// A blank phaser for each number.
+fn blank_phasers(alloc: Global, limits: Limits) -> Result<Vec<KeptPhaser>, Refusal>
+    requires { limits_fit limits ≡ true }
+    ensures blank { IfOk result (λ v. v.items ≡ replicate limits.phasers (blank_story limits)) }
+    ensures memory { IfErr result (λ r. r ≡ Refusal.Memory) }
+{
+    let Ok(mut phasers) = Vec::with_capacity(alloc, limits.phasers as usize) else {
+        return Err(Refusal::Memory);
+    };
+    for _ in 0..limits.phasers {
+        phasers.push_reserved(KeptPhaser::blank(alloc, limits)?);
+    }
+    Ok(phasers)
+}
+
+/// A fresh finish for each number.
+fn fresh_finishes(alloc: Global, limits: Limits) -> Result<Vec<FinishState>, Refusal>
+    requires { limits_fit limits ≡ true }
+    ensures fresh { IfOk result (λ v. v.items ≡ replicate limits.finishes (fresh limits.tasks)) }
+    ensures memory { IfErr result (λ r. r ≡ Refusal.Memory) }
+{
+    let Ok(mut finishes) = Vec::with_capacity(alloc, limits.finishes as usize) else {
+        return Err(Refusal::Memory);
+    };
+    for _ in 0..limits.finishes {
+        finishes.push_reserved(FinishState::new(alloc, limits.tasks)?);
+    }
+    Ok(finishes)
+}
+
+/// A blank record for each task number.
+fn blank_tasks(alloc: Global, limits: Limits) -> Result<Vec<Task>, Refusal>
+    ensures blank { IfOk result (λ v. v.items ≡ replicate limits.tasks blank_task) }
+    ensures memory { IfErr result (λ r. r ≡ Refusal.Memory) }
+{
+    let Ok(mut tasks) = Vec::with_capacity(alloc, limits.tasks as usize) else {
+        return Err(Refusal::Memory);
+    };
+    for _ in 0..limits.tasks {
+        tasks.push_reserved(Task::blank(alloc)?);
+    }
+    Ok(tasks)
+}
+
+impl Tables {
+    /// A world in which nothing has happened yet. All memory that its steps will ever need is taken
+    /// here; `Memory` where that is refused.
+    pub fn new(alloc: Global, limits: Limits) -> Result<Tables, Refusal>
+        requires { limits_fit limits ≡ true }
+        ensures limits { IfOk result (λ s. s.limits ≡ limits) }
+        ensures stands { IfOk result (λ s. StandsFor [] s) }
+        ensures memory { IfErr result (λ r. r ≡ Refusal.Memory) }
+    {
+        let tables = Tables::first(alloc, limits)?;
+        Ok(tables)
+    }
+
+    fn first(alloc: Global, limits: Limits) -> Result<Tables, Refusal>
+        requires { limits_fit limits ≡ true }
+        ensures first { IfOk result (λ s. s ≡ first_state limits) }
+        ensures memory { IfErr result (λ r. r ≡ Refusal.Memory) }
+    {
+        let phasers = blank_phasers(alloc, limits)?;
+        let Ok(enclosing) = vec![in alloc; 0; limits.phasers as usize] else {
+            return Err(Refusal::Memory);
+        };
+        let mut finishes = fresh_finishes(alloc, limits)?;
+        let Ok(owners) = vec![in alloc; 0; limits.finishes as usize] else {
+            return Err(Refusal::Memory);
+        };
+        let Ok(outers) = vec![in alloc; None; limits.finishes as usize] else {
+            return Err(Refusal::Memory);
+        };
+        let mut tasks = blank_tasks(alloc, limits)?;
+        let first = &mut finishes[0];
+        let _opened = first.opened(0);
+        let root = &mut tasks[0];
+        root.become_root();
+        Ok(Tables {
+            limits,
+            phasers,
+            enclosing,
+            finishes,
+            owners,
+            outers,
+            tasks,
+        })
+    }
+
+    /// Whether the task may begin an act.
+    fn is_ready(&self, task: u32) -> bool
+        ensures ready { result ≡ is_ready (task_at self.now task) }
+        ensures place { result ≡ true → task < length self.now.tasks }
+    {
+        if task as usize >= self.tasks.len() {
+            return false;
+        }
+        let line = &self.tasks[task as usize];
+        line.is_idle()
+    }
+
+    /// Whether the task's acts are at their limit.
+    fn is_worn(&self, task: u32) -> bool
+        ensures { result ≡ not (nat_lt (task_at self.now task).acts self.now.limits.acts) }
+    {
+        if task as usize >= self.tasks.len() {
+            return self.limits.acts == 0;
+        }
+        let line = &self.tasks[task as usize];
+        line.acts() >= self.limits.acts
+    }
+
+    /// What an act is refused by before it is looked at for itself: `used` tells whether the number
+    /// that it wants to give is in use, `counted` whether it is a counted act.
+    fn may_act(&self, task: u32, used: bool, counted: bool) -> Result<(), Refusal>
+        ensures answer { result ≡ free_unless (first_refusal (first_conditions self.now task used counted)) }
+        ensures place { IfOk result (λ _. task < length self.now.tasks) }
+    {
+        if !self.is_ready(task) {
+            return Err(Refusal::NotNow);
+        }
+        if used {
+            return Err(Refusal::NotNow);
+        }
+        if counted && self.is_worn(task) {
+            return Err(Refusal::ActsFull);
+        }
+        Ok(())
+    }
+}

@@ -1,0 +1,190 @@
+//! What a world offers for a task's next act: numbers that aren't in use, and the task's phasers.
+ghost use Rattle.std.specs.Prelude.{◌≡◌, ◌≤◌, not, List, length, map, get_or};
+ghost use Rattle.phase_modes.specs.Lists.{is_empty};
+ghost use Rattle.finish_core.specs.Finish.{fresh};
+ghost use Rattle.world_model.specs.declared.event.WorldEvent.{WorldEvent as Event};
+ghost use Rattle.world_model.specs.Drawing.{least_unused, own_pairs};
+ghost use Rattle.world_model.specs.Numbers.{is_phaser, is_finish, is_named};
+ghost use Rattle.world_core.specs.Kept.{blank_task, past_in};
+ghost use Rattle.world_core.specs.inner.Drawings.{mode_at, pairs_at};
+ghost use Rattle.world_core.specs.StandsFor.{StandsFor};
+
+use super::Tables;
+use crate::phaser::KeptPhaser;
+use crate::task::Task;
+use finish_core::FinishState;
+use phase_modes::{Mode, Pair, Phased};
+
+/// The least numbers of each kind that aren't in use; where all are, the limit itself, under which
+/// an act that names it is refused.
+#[derive(Clone, Copy, Debug, PartialEq, Eq)]
+pub struct Unused {
+    pub phaser: u32,
+    pub task: u32,
+    pub finish: u32,
+}
+
+impl Tables {
+    /// All phasers of the task, in the order in which it came to them, each in its own mode: what a
+    /// spawn names that hands them all on.
+    pub fn own_pairs(&self, task: u32) -> Phased
+        ensures { (w : List Event) → StandsFor w self.now → result ≡ own_pairs task w }
+    {
+        self.kept_pairs(task)
+    }
+
+    fn kept_pairs(&self, task: u32) -> Phased
+        ensures { result ≡ pairs_at self.now task }
+    {
+        if task as usize >= self.tasks.len() {
+            return Phased::none();
+        }
+        let line = &self.tasks[task as usize];
+        line.pairs(task, &self.phasers)
+    }
+
+    /// The least numbers that aren't in use.
+    pub fn unused(&self) -> Unused
+        ensures phaser { (w : List Event) → StandsFor w self.now
+            → result.phaser ≡ least_unused (λ n. is_phaser n w) self.now.limits.phasers }
+        ensures task { (w : List Event) → StandsFor w self.now
+            → result.task ≡ least_unused (λ t. is_named t w) self.now.limits.tasks }
+        ensures finish { (w : List Event) → StandsFor w self.now
+            → result.finish ≡ least_unused (λ f. is_finish f w) self.now.limits.finishes }
+    {
+        Unused {
+            phaser: self.unmade(),
+            task: self.unnamed(),
+            finish: self.unopened(),
+        }
+    }
+
+    fn unmade(&self) -> u32
+        ensures { result ≡ least_unused (λ n. not (is_empty (past_in self.now.phasers n))) self.now.limits.phasers }
+    {
+        first_unmade(&self.phasers, self.limits.phasers)
+    }
+
+    fn unnamed(&self) -> u32
+        ensures { result ≡ least_unused (λ t. (get_or self.now.tasks t blank_task).is_named) self.now.limits.tasks }
+    {
+        first_unnamed(&self.tasks, self.limits.tasks)
+    }
+
+    fn unopened(&self) -> u32
+        ensures { result ≡ least_unused (λ f. not (is_empty (get_or self.now.finishes f (fresh 0)).past)) self.now.limits.finishes }
+    {
+        first_unopened(&self.finishes, self.limits.finishes)
+    }
+}
+
+impl Task {
+    /// Its phasers, each in its own mode.
+    fn pairs(&self, own: u32, phasers: &[KeptPhaser]) -> Phased
+        ensures { result ≡ map (λ n. record { phaser = n; mode = mode_at own (past_in phasers.now n) }) self.now.phasers }
+    {
+        list_pairs(&self.phasers, phasers, own)
+    }
+}
+
+/// The numbers, each with the task's mode on its phaser.
+fn list_pairs(own: &[u32], phasers: &[KeptPhaser], task: u32) -> Phased
+    requires { length own.now ≤ 16 }
+    ensures { result ≡ map (λ n. record { phaser = n; mode = mode_at task (past_in phasers.now n) }) own.now }
+{
+    let mut pairs = Phased::none();
+    for i in 0..own.len() {
+        pairs.push(Pair {
+            phaser: own[i],
+            mode: mode_on(phasers, own[i], task),
+        });
+    }
+    pairs
+}
+
+/// The task's mode on this phaser. On a number without a phaser it has none, and is read as a waiter.
+fn mode_on(phasers: &[KeptPhaser], phaser: u32, task: u32) -> Mode
+    ensures { result ≡ mode_at task (past_in phasers.now phaser) }
+{
+    if phaser as usize >= phasers.len() {
+        return Mode::Wait;
+    }
+    let state = &phasers[phaser as usize];
+    match state.registration(task) {
+        Some(reg) => reg.mode,
+        None => Mode::Wait,
+    }
+}
+
+#[tactic(auto, using(crate::proofs::Least::least_found, crate::proofs::Least::least_later, crate::proofs::Least::least_none))]
+/// The first phaser that nobody made.
+fn first_unmade(phasers: &[KeptPhaser], limit: u32) -> u32
+    ensures { result ≡ least_unused (λ n. not (is_empty (past_in phasers.now n))) limit }
+{
+    for number in 0..limit {
+        if !is_made(phasers, number) {
+            return number;
+        }
+    }
+    limit
+}
+
+#[tactic(auto, using(crate::proofs::Least::least_found, crate::proofs::Least::least_later, crate::proofs::Least::least_none))]
+/// The first task number that no spawn named.
+fn first_unnamed(tasks: &[Task], limit: u32) -> u32
+    ensures { result ≡ least_unused (λ t. (get_or tasks.now t blank_task).is_named) limit }
+{
+    for number in 0..limit {
+        if !is_named_in(tasks, number) {
+            return number;
+        }
+    }
+    limit
+}
+
+#[tactic(auto, using(crate::proofs::Least::least_found, crate::proofs::Least::least_later, crate::proofs::Least::least_none))]
+/// The first finish that nobody opened.
+fn first_unopened(finishes: &[FinishState], limit: u32) -> u32
+    ensures { result ≡ least_unused (λ f. not (is_empty (get_or finishes.now f (fresh 0)).past)) limit }
+{
+    for number in 0..limit {
+        if !is_begun(finishes, number) {
+            return number;
+        }
+    }
+    limit
+}
+
+/// Whether the number is a phaser's.
+fn is_made(phasers: &[KeptPhaser], number: u32) -> bool
+    ensures { result ≡ not (is_empty (past_in phasers.now number)) }
+{
+    if number as usize >= phasers.len() {
+        return false;
+    }
+    let state = &phasers[number as usize];
+    !state.is_unmade()
+}
+
+/// Whether a spawn named the number, or it is the root's.
+fn is_named_in(tasks: &[Task], number: u32) -> bool
+    ensures { result ≡ (get_or tasks.now number blank_task).is_named }
+{
+    if number as usize >= tasks.len() {
+        return false;
+    }
+    let line = &tasks[number as usize];
+    line.is_named()
+}
+
+#[tactic(auto, using(crate::proofs::Calls::none_at_all))]
+/// Whether the number is a finish's.
+fn is_begun(finishes: &[FinishState], number: u32) -> bool
+    ensures { result ≡ not (is_empty (get_or finishes.now number (fresh 0)).past) }
+{
+    if number as usize >= finishes.len() {
+        return false;
+    }
+    let state = &finishes[number as usize];
+    !state.history().is_empty()
+}

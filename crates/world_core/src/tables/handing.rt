@@ -1,0 +1,113 @@
+//! Whether a task may spawn a child on some of its phasers.
+ghost use Rattle.std.specs.Prelude.{◌≡◌, ◌<◌, get_or, length, take, [], true, IfOk};
+ghost use Rattle.std.specs.List.{list_any};
+ghost use Rattle.phase_modes.specs.Refusal.{first_refusal};
+ghost use Rattle.phaser_core.specs.Table.{registration};
+ghost use Rattle.world_core.specs.Kept.{task_at, past_in, inner_at};
+ghost use Rattle.world_core.specs.inner.Steps.{free_unless};
+ghost use Rattle.world_core.specs.inner.Begins.{begin_refusal, hand_conditions, pair_conditions, is_on};
+
+use super::Tables;
+use crate::phaser::KeptPhaser;
+use crate::task::begins::enclosing_of;
+use phase_modes::{Mode, Pair, Phased, Refusal, Reg};
+use world_model::Begun;
+
+/// How the task is registered on this phaser now. A number without a phaser knows no task.
+fn registration_on(phasers: &[KeptPhaser], phaser: u32, task: u32) -> Option<Reg>
+    ensures { result ≡ registration task (past_in phasers.now phaser) }
+{
+    if phaser as usize >= phasers.len() {
+        return None;
+    }
+    let state = &phasers[phaser as usize];
+    state.registration(task)
+}
+
+/// Whether one of the pairs is on this phaser.
+fn is_among(pairs: &[Pair], phaser: u32) -> bool
+    ensures { result ≡ list_any (is_on phaser) pairs.now }
+{
+    let mut any = false;
+    for i in 0..pairs.len() {
+        any = any || pairs[i].phaser == phaser;
+    }
+    any
+}
+
+impl Tables {
+    /// The innermost open finish of a task.
+    fn inner_of(&self, task: u32) -> u32
+        requires { task < length self.now.tasks }
+        ensures { result ≡ inner_at (task_at self.now task) }
+    {
+        let line = &self.tasks[task as usize];
+        line.inner()
+    }
+
+    /// What handing on the phaser of a pair is refused by, where the spawn has named others before.
+    fn may_hand(&self, task: u32, before: &[Pair], pair: Pair) -> Result<(), Refusal>
+        requires { task < length self.now.tasks }
+        ensures { result ≡ free_unless (first_refusal (hand_conditions self.now task before.now pair)) }
+    {
+        let Some(reg) = registration_on(&self.phasers, pair.phaser, task) else {
+            return Err(Refusal::NotRegistered);
+        };
+        if !Mode::within(pair.mode, reg.mode) {
+            return Err(Refusal::MoreThanParent);
+        }
+        if enclosing_of(&self.enclosing, pair.phaser) != self.inner_of(task) {
+            return Err(Refusal::OutsideScope);
+        }
+        if is_among(before, pair.phaser) {
+            return Err(Refusal::RegisteredTwice);
+        }
+        Ok(())
+    }
+
+    #[tactic(auto, using(crate::proofs::Handing::pair_met))]
+    /// What handing on these phasers is refused by, pair by pair.
+    fn may_hand_on(&self, task: u32, pairs: &[Pair]) -> Result<(), Refusal>
+        requires { task < length self.now.tasks }
+        ensures { result ≡ free_unless (first_refusal (pair_conditions self.now task [] pairs.now)) }
+    {
+        for i in 0..pairs.len() {
+            if let Err(refusal) = self.may_hand(task, &pairs[..i], pairs[i]) {
+                return Err(refusal);
+            }
+        }
+        Ok(())
+    }
+
+    /// Whether the number is a task's, or that of a child that was never spawned.
+    fn is_named(&self, child: u32) -> bool
+        ensures { result ≡ (task_at self.now child).is_named }
+    {
+        if child as usize >= self.tasks.len() {
+            return false;
+        }
+        let line = &self.tasks[child as usize];
+        line.is_named()
+    }
+
+    /// How many tasks there are: as many as the limits say.
+    pub(super) fn most_tasks(&self) -> u32
+        ensures most { result ≡ self.now.limits.tasks }
+        ensures tasks { length self.now.tasks ≡ result }
+    {
+        self.limits.tasks
+    }
+
+    /// What a spawn is refused by.
+    pub(super) fn may_spawn(&self, task: u32, child: u32, pairs: Phased) -> Result<(), Refusal>
+        ensures answer { result ≡ free_unless (begin_refusal self.now task (Begun.Async child pairs)) }
+        ensures place { IfOk result (λ _. task < length self.now.tasks) }
+        ensures child { IfOk result (λ _. child < length self.now.tasks) }
+    {
+        self.may_act(task, self.is_named(child), true)?;
+        if child >= self.most_tasks() {
+            return Err(Refusal::TasksFull);
+        }
+        self.may_hand_on(task, pairs.as_slice())
+    }
+}

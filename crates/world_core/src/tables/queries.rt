@@ -1,0 +1,199 @@
+//! What a world tells of a task.
+ghost use Rattle.std.specs.Prelude.{◌≡◌, ◌&&◌, not, List, slice_get};
+ghost use Rattle.world_model.specs.declared.event.WorldEvent.{WorldEvent as Event};
+ghost use Rattle.world_model.specs.TaskConditions.{condition_of};
+ghost use Rattle.world_model.specs.Clock.{clock};
+ghost use Rattle.world_model.specs.Due.{next_event};
+ghost use Rattle.world_model.specs.Able.{is_able};
+ghost use Rattle.phase_model.specs.Waiting.{would_wait};
+ghost use Rattle.world_core.specs.Kept.{task_at, story_at, inner_at};
+ghost use Rattle.world_core.specs.inner.Queries.{turn_event, drop_or, shut_or, kept_next, kept_condition, waits_at, able_at};
+ghost use Rattle.world_core.specs.StandsFor.{StandsFor, end_of};
+
+use super::Tables;
+use crate::plan::Plan;
+use crate::task::Task;
+use finish_core::FinishEvent;
+use world_model::{Condition, Step, WorldEvent};
+
+impl Task {
+    /// What it is about; a number without a task is about nothing.
+    fn condition(&self) -> Option<Condition>
+        ensures { result ≡ kept_condition self.now }
+    {
+        if self.ended {
+            return Some(Condition::Ended);
+        }
+        if !self.born {
+            return None;
+        }
+        Some(match self.plan {
+            Plan::Idle => Condition::Idle,
+            Plan::Signalling(_, _) => Condition::Signalling,
+            Plan::Turning => Condition::Turning,
+            Plan::Spawning(_, _, _) => Condition::Spawning,
+            Plan::Shutting => Condition::Shutting,
+            Plan::Ending(_) => Condition::Ending,
+        })
+    }
+
+    /// Whether it was spawned, or is the root, and hasn't ended.
+    fn goes_on(&self) -> bool
+        ensures { result ≡ (self.now.is_born && not self.now.is_ended) }
+    {
+        self.born && !self.ended
+    }
+
+    /// The event with which it ends.
+    fn end(&self, own: u32) -> WorldEvent
+        ensures { result ≡ end_of own self.now }
+    {
+        if own == 0 {
+            WorldEvent::Finish(0, FinishEvent::Shut)
+        } else {
+            WorldEvent::Finish(self.home, FinishEvent::Ended(own))
+        }
+    }
+
+    /// The next event of a task that comes to its end, where it drops this child first.
+    fn ending(&self, own: u32, child: u32) -> WorldEvent
+        ensures { result ≡ drop_or child (slice_get self.now.left 0) (drop_or own (slice_get self.now.phasers 0) (shut_or self.now.innermost (end_of own self.now))) }
+    {
+        if let Some(phaser) = self.left.first().copied() {
+            return WorldEvent::Phaser(phaser, Step::Drop(child));
+        }
+        if let Some(phaser) = self.phasers.first().copied() {
+            return WorldEvent::Phaser(phaser, Step::Drop(own));
+        }
+        match self.innermost {
+            Some(finish) => WorldEvent::Finish(finish, FinishEvent::Shut),
+            None => self.end(own),
+        }
+    }
+}
+
+impl Tables {
+    /// What the task is about; `None` where it hasn't been spawned.
+    pub fn condition(&self, task: u32) -> Option<Condition>
+        ensures { (w : List Event) → StandsFor w self.now → result ≡ condition_of task w }
+    {
+        self.kept_condition(task)
+    }
+
+    fn kept_condition(&self, task: u32) -> Option<Condition>
+        ensures { result ≡ kept_condition (task_at self.now task) }
+    {
+        if task as usize >= self.tasks.len() {
+            return None;
+        }
+        let line = &self.tasks[task as usize];
+        line.condition()
+    }
+
+    /// How many turns the task has completed, those of its spawner at the spawn among them.
+    pub fn clock(&self, task: u32) -> u32
+        ensures { (w : List Event) → StandsFor w self.now → result ≡ clock task w }
+    {
+        self.kept_clock(task)
+    }
+
+    fn kept_clock(&self, task: u32) -> u32
+        ensures { result ≡ (task_at self.now task).clock }
+    {
+        if task as usize >= self.tasks.len() {
+            return 0;
+        }
+        let line = &self.tasks[task as usize];
+        line.clock()
+    }
+
+    /// The event that continues the task's act, if it is in the middle of one.
+    pub fn next_event(&self, task: u32) -> Option<WorldEvent>
+        ensures { (w : List Event) → StandsFor w self.now → result ≡ next_event self.now.limits task w }
+    {
+        self.kept_next(task)
+    }
+
+    /// Whether the task can go on now: some event of its own would be made. It can't where it has
+    /// to wait for others, and where it has ended or was never spawned.
+    pub fn able(&self, task: u32) -> bool
+        ensures { (w : List Event) → StandsFor w self.now → result ≡ is_able self.now.limits w task }
+    {
+        self.kept_able(task)
+    }
+
+    fn kept_able(&self, task: u32) -> bool
+        ensures { result ≡ able_at self.now task }
+    {
+        if task as usize >= self.tasks.len() {
+            return false;
+        }
+        let line = &self.tasks[task as usize];
+        line.goes_on() && !self.waits(self.kept_next(task))
+    }
+
+    /// Whether an event that comes next has to wait for others.
+    fn waits(&self, next: Option<WorldEvent>) -> bool
+        ensures { result ≡ waits_at self.now next }
+    {
+        match next {
+            Some(WorldEvent::Phaser(phaser, Step::Pass(task))) => self.would_wait(phaser, task),
+            Some(WorldEvent::Finish(finish, FinishEvent::Shut)) => !self.all_ended(finish),
+            _ => false,
+        }
+    }
+
+    /// Whether a pass of the task would be answered not yet. A number without a phaser refuses it.
+    fn would_wait(&self, phaser: u32, task: u32) -> bool
+        ensures { result ≡ would_wait (story_at self.now phaser) task }
+    {
+        if phaser as usize >= self.phasers.len() {
+            return false;
+        }
+        let state = &self.phasers[phaser as usize];
+        state.would_wait(task)
+    }
+
+    /// What comes where a pass is due: the single may come first.
+    fn turn_event(&self, task: u32, phaser: u32) -> WorldEvent
+        ensures { result ≡ turn_event self.now task phaser }
+    {
+        if self.may_claim(phaser, task) {
+            WorldEvent::Phaser(phaser, Step::Claim(task))
+        } else if self.may_report(phaser, task) {
+            WorldEvent::Phaser(phaser, Step::Did(task))
+        } else {
+            WorldEvent::Phaser(phaser, Step::Pass(task))
+        }
+    }
+
+    pub(crate) fn kept_next(&self, task: u32) -> Option<WorldEvent>
+        ensures { result ≡ kept_next self.now task }
+    {
+        if task as usize >= self.tasks.len() {
+            return None;
+        }
+        let line = &self.tasks[task as usize];
+        let first = line.left.first().copied();
+        match line.plan {
+            Plan::Idle => None,
+            Plan::Signalling(number, _) => {
+                let phaser = first?;
+                Some(WorldEvent::Phaser(phaser, Step::Sig(task, number)))
+            }
+            Plan::Turning => {
+                let phaser = first?;
+                Some(self.turn_event(task, phaser))
+            }
+            Plan::Spawning(child, pairs, made) => Some(match pairs.get(made) {
+                Some(pair) => WorldEvent::Phaser(pair.phaser, Step::Reg(task, child, pair.mode)),
+                None => WorldEvent::Finish(line.inner(), FinishEvent::Spawned(child)),
+            }),
+            Plan::Shutting => Some(match first {
+                Some(phaser) => WorldEvent::Phaser(phaser, Step::Drop(task)),
+                None => WorldEvent::Finish(line.inner(), FinishEvent::Shut),
+            }),
+            Plan::Ending(child) => Some(line.ending(task, child)),
+        }
+    }
+}

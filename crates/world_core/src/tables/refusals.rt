@@ -1,0 +1,115 @@
+//! A task notes that an act of its own is refused, and comes to its end.
+ghost use Rattle.std.specs.Prelude.{◌≡◌, ◌<◌, length, true};
+ghost use Rattle.world_core.specs.Kept.{story_at};
+ghost use Rattle.world_core.specs.inner.Steps.{free_unless};
+ghost use Rattle.world_core.specs.inner.Refusals.{is_make, phaser_refusal, call_refusal, make_refusal, act_refusal, is_noted, refuse_noted, refuse_state};
+ghost use Rattle.world_model.specs.GivingUp.{done_where};
+ghost use Rattle.world_core.specs.StandsFor.{IsStep};
+
+use super::Tables;
+use phase_model::{Call, Reply as Returned};
+use phase_modes::{Mode, Refusal};
+use world_model::{Reply, Tried, WorldEvent};
+
+impl Tables {
+    #[tactic(auto, using(crate::proofs::CallsAsked::past_refused))]
+    /// What a phaser would refuse the call by. A number without a phaser knows no task.
+    pub(super) fn may_call(&self, phaser: u32, call: Call) -> Result<(), Refusal>
+        requires { is_make call ≡ true → phaser < length self.now.phasers }
+        ensures { result ≡ free_unless (phaser_refusal self.now phaser call) }
+    {
+        if phaser as usize >= self.phasers.len() {
+            return Err(Refusal::NotRegistered);
+        }
+        let state = &self.phasers[phaser as usize];
+        match state.reply_to(call) {
+            Returned::Refused(refusal) => Err(refusal),
+            _ => Ok(()),
+        }
+    }
+
+    /// What an act is refused by that asks this of a phaser, and makes none.
+    fn may_try_call(&self, task: u32, phaser: u32, call: Call) -> Result<(), Refusal>
+        requires { is_make call ≡ true → phaser < length self.now.phasers }
+        ensures { result ≡ free_unless (call_refusal self.now task phaser call) }
+    {
+        self.may_act(task, false, true)?;
+        self.may_call(phaser, call)
+    }
+
+    /// What the making of a phaser is refused by.
+    fn may_try_make(&self, task: u32, phaser: u32, mode: Mode) -> Result<(), Refusal>
+        ensures { result ≡ free_unless (make_refusal self.now task phaser mode) }
+    {
+        self.may_make(phaser, task)?;
+        self.may_call(phaser, Call::Make(task, mode))
+    }
+
+    /// What the act is refused by.
+    fn may_try(&self, task: u32, tried: &Tried) -> Result<(), Refusal>
+        ensures { result ≡ free_unless (act_refusal self.now task tried.now) }
+    {
+        match *tried {
+            Tried::Begun(begun) => self.may_begin(task, &begun),
+            Tried::New(phaser, mode, _) => self.may_try_make(task, phaser, mode),
+            Tried::Open(finish) => self.may_open(finish, task),
+            Tried::Send(phaser, accumulator, value) => self.may_try_call(
+                task,
+                phaser,
+                Call::Send(task, accumulator, value),
+            ),
+            Tried::Look(phaser, accumulator) => self.may_try_call(
+                task,
+                phaser,
+                Call::Look(task, accumulator),
+            ),
+        }
+    }
+
+    /// Ends the task by the refusal of this number, where it may be noted.
+    fn give_up(&mut self, task: u32, noted: bool, number: u8) -> Result<Reply, Refusal>
+        requires { noted ≡ true → task < length self.old.tasks }
+        ensures answer { result ≡ done_where noted }
+        ensures state { self.new ≡ refuse_state self.old task number noted }
+    {
+        if !noted {
+            return Err(Refusal::NotNow);
+        }
+        let line = &mut self.tasks[task as usize];
+        line.give_up(task, number);
+        Ok(Reply::Done)
+    }
+
+    #[tactic(auto, using(crate::proofs::RefuseMade::noted_within))]
+    /// Notes that the act is refused by this number.
+    fn refuse(&mut self, task: u32, tried: Tried, number: u8) -> Result<Reply, Refusal>
+        ensures answer { result ≡ done_where (refuse_noted self.old task tried number) }
+        ensures state { self.new ≡ refuse_state self.old task number (refuse_noted self.old task tried number) }
+    {
+        let refused = self.may_try(task, &tried);
+        let noted = is_noted_by(refused, number);
+        self.give_up(task, noted, number)
+    }
+
+    /// The step that notes that an act is refused.
+    pub(super) fn step_refuse(
+        &mut self,
+        task: u32,
+        tried: Tried,
+        number: u8,
+    ) -> Result<Reply, Refusal>
+        ensures { IsStep (WorldEvent.Refuse task tried number) self.old self.new result }
+    {
+        self.refuse(task, tried, number)
+    }
+}
+
+/// Whether the refusal has this number, and may be noted: a wrong moment and want of memory may not.
+fn is_noted_by(refused: Result<(), Refusal>, number: u8) -> bool
+    ensures { result ≡ is_noted refused number }
+{
+    match refused {
+        Ok(()) => false,
+        Err(refusal) => refusal.number() == number && number != 22 && number != 23,
+    }
+}

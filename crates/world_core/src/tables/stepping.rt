@@ -1,0 +1,52 @@
+//! Any step, by its kind.
+ghost use Rattle.std.specs.Prelude.{◌≡◌};
+ghost use Rattle.world_core.specs.StandsFor.{IsStep};
+
+use super::Tables;
+use finish_core::FinishEvent;
+use phase_modes::Refusal;
+use world_model::{Reply, Step, WorldEvent};
+
+impl Tables {
+    /// One event: it is made, has to wait, or is refused, and then changes nothing.
+    pub fn step(&mut self, event: &WorldEvent) -> Result<Reply, Refusal>
+        ensures { IsStep event.now self.old self.new result }
+    {
+        match *event {
+            WorldEvent::Phaser(phaser, step) => self.step_on_phaser(phaser, step),
+            WorldEvent::Finish(finish, step) => self.step_in_finish(finish, step),
+            WorldEvent::Begin(task, begun) => self.step_begin(task, begun),
+            WorldEvent::Refuse(task, tried, number) => self.step_refuse(task, tried, number),
+            WorldEvent::Fail(task, number) => self.step_fail(task, number),
+        }
+    }
+
+    fn step_on_phaser(&mut self, phaser: u32, step: Step) -> Result<Reply, Refusal>
+        ensures { IsStep (WorldEvent.Phaser phaser step) self.old self.new result }
+    {
+        match step {
+            Step::Make(task, mode, ops) => self.step_make(phaser, task, mode, ops),
+            Step::Reg(parent, child, mode) => self.step_register(phaser, parent, child, mode),
+            Step::Sig(task, number) => self.step_signal(phaser, task, number),
+            Step::Claim(task) => self.step_claim(phaser, task),
+            Step::Did(task) => self.step_report(phaser, task),
+            Step::Pass(task) => self.step_pass(phaser, task),
+            Step::Send(task, accumulator, value) => {
+                self.step_send(phaser, task, accumulator, value)
+            }
+            Step::Look(task, accumulator) => self.step_look(phaser, task, accumulator),
+            Step::Drop(task) => self.step_drop(phaser, task),
+        }
+    }
+
+    fn step_in_finish(&mut self, finish: u32, step: FinishEvent) -> Result<Reply, Refusal>
+        ensures { IsStep (WorldEvent.Finish finish step) self.old self.new result }
+    {
+        match step {
+            FinishEvent::Opened(task) => self.step_open(finish, task),
+            FinishEvent::Spawned(child) => self.step_spawn(finish, child),
+            FinishEvent::Ended(task) => self.step_end(finish, task),
+            FinishEvent::Shut => self.step_shut(finish),
+        }
+    }
+}
