@@ -41,6 +41,10 @@ abbrev pub failed_by : WorldState → ℕ → ℕ → Plan → TaskState → Tas
 failed_by s t n (plan.Spawning c pairs made) k = spawn_given_up c (task_at s c).phasers n k
 failed_by s t n _ k = given_up t n k
 
+-- the state after that of a spawn
+abbrev pub spawn_failed : WorldState → ℕ → ℕ → ℕ → WorldState
+spawn_failed s t c n = with_task s t (spawn_given_up c (task_at s c).phasers n (task_at s t))
+
 abbrev pub failed : WorldState → ℕ → ℕ → WorldState
 failed s t n = with_task s t (failed_by s t n (task_at s t).plan (task_at s t))
 
