@@ -9,9 +9,10 @@ use world_model::Begun;
 fn parts_of(rt: &HostRuntime, tickets: &[&[u64]]) -> Result<Vec<Part>, Fail> {
     let mut parts = Vec::new(rt.alloc());
     for (number, list) in tickets.iter().enumerate() {
+        let task = u32::try_from(number).map_err(|_| Fail::from("too many parts"))?;
         let mut part = Part::new(rt.alloc());
         for ticket in list.iter() {
-            let event = TracedEvent::Begin(number as u32, Begun::End);
+            let event = TracedEvent::Begin(task, Begun::End);
             part.push(*ticket, event).map_err(|_| Fail::from("memory"))?;
         }
         parts.push(part)?;
