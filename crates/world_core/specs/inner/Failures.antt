@@ -1,4 +1,4 @@
--- When a task may give up what it is about, and what a world becomes then: told by the state alone.
+-- When a task may give up what it is about, and what a world becomes then: by the state alone.
 use Rattle.std.specs.Prelude.{ℕ, Bool, false, ◌&&◌, ◌||◌, ◌==◌, if◌then◌else◌, List, Option, Some, None}
 use Rattle.std.specs.Option.{option_map_or}
 use Rattle.phase_modes.specs.declared.refusal.Refusal.{Refusal}
