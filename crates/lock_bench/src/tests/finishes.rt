@@ -34,37 +34,56 @@ fn two_finishes(alloc: Global) -> Result<FinishTable<u32, u32>, Refusal>
     FinishTable::new(alloc, limits)
 }
 
+/// The root's finish is open from the start; before the other is opened it can't be shut.
 #[test]
-fn parked_owner(rt: HostRuntime) -> Result<(), Fail> {
+fn finishes_at_first(rt: HostRuntime) -> Result<(), Fail> {
     let table = two_finishes(rt.alloc())?;
-    let mut out = Out::new(rt.alloc())?;
     assert_eq!(rt;
         answer_of(table.shut(&rt, 1, 100)),
         Shutting::Refused(100, Refusal::NotNow)
     );
-    assert_eq!(rt;
-        table.opened(&rt, 0, 0),
-        Err(Refusal::NotNow),
-        "it is open from the start"
-    );
-    assert_eq!(rt; table.opened(&rt, 1, 0), Ok(()));
-    assert_eq!(rt; table.spawned(&rt, 1, 1), Ok(()));
-    assert_eq!(rt; table.spawned(&rt, 1, 2), Ok(()));
-    assert_eq!(rt; table.ended(&rt, 1, 3, 33, &mut out), Err(33));
-    assert_eq!(rt; answer_of(table.shut(&rt, 1, 100)), Shutting::Parked);
-    assert_eq!(rt;
-        answer_of(table.shut(&rt, 1, 101)),
-        Shutting::Refused(101, Refusal::NotNow)
-    );
-    let mut out = Out::new(rt.alloc())?;
-    assert_eq!(rt; table.ended(&rt, 1, 2, 22, &mut out), Ok(()));
-    assert_eq!(rt; out.len(), 0);
-    let mut out = Out::new(rt.alloc())?;
-    assert_eq!(rt; table.ended(&rt, 1, 1, 11, &mut out), Ok(()));
-    assert_eq!(rt; out.take(), Some(100));
-    assert_eq!(rt; answer_of(table.shut(&rt, 1, 100)), Shutting::Done(100));
+    assert_eq!(rt; table.opened(&rt, 0, 0), Err(Refusal::NotNow));
+    assert_eq!(rt; answer_of(table.shut(&rt, 0, 100)), Shutting::Done(100));
+    Ok(())
+}
+
+/// Finish 1 with two tasks, and an owner that is parked; one that asks again has its item back.
+fn with_parked_owner<R: Wait>(rt: &R, table: &FinishTable<u32, u32>) -> Result<Shutting, Refusal>
+    requires { table.now.finishes ≡ 2 }
+{
+    table.opened(rt, 1, 0)?;
+    table.spawned(rt, 1, 1)?;
+    table.spawned(rt, 1, 2)?;
+    let _parked = answer_of(table.shut(rt, 1, 100));
+    Ok(answer_of(table.shut(rt, 1, 101)))
+}
+
+/// The task ends, and leaves this log: the owner that it let go on, if one.
+fn end<R: Wait>(
+    rt: &R,
+    alloc: Global,
+    table: &FinishTable<u32, u32>,
+    task: u32,
+    log: u32,
+) -> Result<Option<u32>, u32>
+    requires { table.now.finishes ≡ 2 }
+{
+    let Ok(mut out) = Out::new(alloc) else {
+        return Err(log);
+    };
+    table.ended(rt, 1, task, log, &mut out)?;
+    Ok(out.take())
+}
+
+#[test]
+fn parked_owner(rt: HostRuntime) -> Result<(), Fail> {
+    let table = two_finishes(rt.alloc())?;
+    let again = with_parked_owner(&rt, &table)?;
+    assert_eq!(rt; again, Shutting::Refused(101, Refusal::NotNow));
+    assert_eq!(rt; end(&rt, rt.alloc(), &table, 3, 33), Err(33));
+    assert_eq!(rt; end(&rt, rt.alloc(), &table, 2, 22), Ok(None));
+    assert_eq!(rt; end(&rt, rt.alloc(), &table, 1, 11), Ok(Some(100)));
     let parts = table.into_parts();
-    assert_eq!(rt; parts.states.len(), 2);
     let logs = parts.logs.get(1).ok_or("no second finish")?;
     assert!(rt; logs.as_slice() == [22, 11].as_slice());
     Ok(())

@@ -24,7 +24,42 @@ fn line_of(answer: PassAnswer<u32>) -> Line {
     }
 }
 
-fn wait_on<K: Ledgers>(alloc: Global, blanks: Blanks) -> Result<([Line; 5], Totals), Refusal>
+/// Two calls of a task that has to wait: the first parks its item, the second has its own back.
+fn park_twice<K: Ledgers>(
+    alloc: Global,
+    cell: &mut PhaserCell<u32, K>,
+    books: &mut Books<K>,
+    mine: &mut Shares<K>,
+) -> Result<[Line; 2], Refusal> {
+    let mut out = Out::new(alloc)?;
+    cell.make(books, mine, 0, Mode::SigWait)?;
+    cell.register(books, mine, 0, 1, Mode::SigWait)?;
+    cell.signal(books, mine, &mut out, 0, None)?;
+    let first = line_of(cell.pass(books, mine, 0, 100));
+    let again = line_of(cell.pass(books, mine, 0, 102));
+    Ok([first, again])
+}
+
+/// The other's signal lets it go on, and the other's drop nobody.
+fn let_go<K: Ledgers>(
+    alloc: Global,
+    cell: &mut PhaserCell<u32, K>,
+    books: &mut Books<K>,
+    mine: &mut Shares<K>,
+) -> Result<[Line; 3], Refusal> {
+    let mut out = Out::new(alloc)?;
+    cell.signal(books, mine, &mut out, 1, None)?;
+    let freed = Line::Freed(out.take());
+    let passed = line_of(cell.pass(books, mine, 0, 100));
+    let mut out = Out::new(alloc)?;
+    cell.drop_task(books, mine, &mut out, 1)?;
+    Ok([freed, passed, Line::Freed(out.take())])
+}
+
+fn wait_on<K: Ledgers>(
+    alloc: Global,
+    blanks: Blanks,
+) -> Result<([Line; 2], [Line; 3], Totals), Refusal>
     requires names { IsNamed blanks K.EventsByPhaser.name K.EventsByWorker.name K.UpByPhaser.name
         K.UpByWorker.name K.DownByPhaser.name K.DownByWorker.name K.Room.name }
     requires parts { IsParted blanks K.EventsByPhaser.parts K.EventsByWorker.parts K.UpByPhaser.parts
@@ -36,19 +71,8 @@ fn wait_on<K: Ledgers>(alloc: Global, blanks: Blanks) -> Result<([Line; 5], Tota
         return Err(Refusal::SharesDiffer);
     };
     let mut cell = PhaserCell::new(alloc, Limits::default(), Ops::none(), book)?;
-    let mut out = Out::new(alloc)?;
-    cell.make(&mut books, &mut mine, 0, Mode::SigWait)?;
-    cell.register(&mut books, &mut mine, 0, 1, Mode::SigWait)?;
-    cell.signal(&mut books, &mut mine, &mut out, 0, None)?;
-    let first = line_of(cell.pass(&mut books, &mut mine, 0, 100));
-    let again = line_of(cell.pass(&mut books, &mut mine, 0, 102));
-    let mut out = Out::new(alloc)?;
-    cell.signal(&mut books, &mut mine, &mut out, 1, None)?;
-    let freed = Line::Freed(out.take());
-    let passed = line_of(cell.pass(&mut books, &mut mine, 0, 100));
-    let mut out = Out::new(alloc)?;
-    cell.drop_task(&mut books, &mut mine, &mut out, 1)?;
-    let last = Line::Freed(out.take());
+    let parked = park_twice(alloc, &mut cell, &mut books, &mut mine)?;
+    let freed = let_go(alloc, &mut cell, &mut books, &mut mine)?;
     let PhaserCell {
         state: _,
         book,
@@ -58,13 +82,13 @@ fn wait_on<K: Ledgers>(alloc: Global, blanks: Blanks) -> Result<([Line; 5], Tota
         return Err(Refusal::Memory);
     }
     let totals = gather(shares, phasers, books)?;
-    Ok(([first, again, freed, passed, last], totals))
+    Ok((parked, freed, totals))
 }
 
 fn named_wait<A: Ledger, B: Ledger, C: Ledger, D: Ledger, E: Ledger, F: Ledger, G: Ledger>(
     alloc: Global,
     blanks: Blanks,
-) -> Result<([Line; 5], Totals), Refusal>
+) -> Result<([Line; 2], [Line; 3], Totals), Refusal>
     requires names { IsNamed blanks A.name B.name C.name D.name E.name F.name G.name }
     requires parts { IsParted blanks A.parts B.parts C.parts D.parts E.parts F.parts G.parts }
     requires sizes { (blanks.phasers ≡ 1) × (blanks.workers ≡ 1) }
@@ -74,18 +98,17 @@ fn named_wait<A: Ledger, B: Ledger, C: Ledger, D: Ledger, E: Ledger, F: Ledger, 
 
 #[test]
 fn parked_waiter(rt: HostRuntime) -> Result<(), Fail> {
-    let (lines, totals) = named_wait::<Brand, Brand, Brand, Brand, Brand, Brand, Brand>(
+    let (parked, freed, totals) = named_wait::<Brand, Brand, Brand, Brand, Brand, Brand, Brand>(
         rt.alloc(),
         Blanks::new(1, 1),
     )?;
+    assert_eq!(rt; parked, [Line::Parked, Line::Refused(102, Refusal::NotNow)]);
     assert_eq!(rt;
-        lines,
+        freed,
         [
-            Line::Parked,
-            Line::Refused(102, Refusal::NotNow),
             Line::Freed(Some(100)),
             Line::Passed(100, 0),
-            Line::Freed(None),
+            Line::Freed(None)
         ]
     );
     assert_eq!(rt;
