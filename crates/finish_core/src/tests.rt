@@ -26,8 +26,10 @@ fn shut_waits_for_each_task(rt: HostRuntime) -> Result<(), Fail> {
     assert_eq!(rt; finish.shut(), NOT_NOW);
     assert_eq!(rt; finish.ended(1), DONE);
     assert_eq!(rt; finish.ended(1), NOT_NOW);
+    assert!(rt; !finish.all_ended());
     assert!(rt; !finish.may_shut());
     assert_eq!(rt; finish.ended(2), DONE);
+    assert!(rt; finish.all_ended());
     assert!(rt; finish.may_shut());
     assert_eq!(rt; finish.shut(), DONE);
     assert!(rt; !finish.is_open());

@@ -18,4 +18,4 @@ abbrev pub BothMakeAlike : Type 0
 BothMakeAlike = (l : Limits) (ops : List Op) (t : ℕ) (m : Mode)
     → (reply (unmade l ops) (make t m) ≡ reply (unmade l []) (make t m))
     × ((e : Event) → reply (unmade l ops) (make t m) ≡ done e
-      → after (unmade l ops) (reply (unmade l ops) (make t m)) ≡ made_with (unmade l []) ops (reply (unmade l []) (make t m)))
+    → after (unmade l ops) (reply (unmade l ops) (make t m)) ≡ made_with (unmade l []) ops (reply (unmade l []) (make t m)))

@@ -1,6 +1,5 @@
 -- What a phaser would refuse a call by is what it refuses the step by in the history.
-use Rattle.std.proofs.Common.{◌≡◌, ℕ, zero, suc, ◌<◌, ◌≤◌, ◌==◌, Bool, true, false, ◌&&◌, not, List, [], ◌∷◌, Option, Some, None, Ok, Err, length, get_or, refl, sym, ap, subst, ◌∙◌, arith}
-use Rattle.phase_modes.specs.declared.refusal.Refusal.{Refusal}
+use Rattle.std.proofs.Common.{◌≡◌, ℕ, zero, suc, ◌<◌, ◌≤◌, Bool, true, false, List, [], ◌∷◌, Some, Err, length, get_or, refl, sym, ap, ◌∙◌, arith}
 use Rattle.phase_modes.specs.declared.refusal.Refusal.TheVariants.{NotRegistered}
 use Rattle.phase_model.specs.declared.event.Event.{Event}
 use Rattle.phase_model.specs.declared.event.Event.TheVariants.{Make as Made, Reg as Registered, Sig as Signalled, Claim as Claimed, Did as Reported, Pass as Passed, Send as Sent, Look as Looked, Drop as Dropped}

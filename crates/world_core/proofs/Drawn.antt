@@ -1,7 +1,6 @@
 -- The numbers that aren't in use, and a task's own phasers, are read off the state as they are off the history.
-use Rattle.std.proofs.Common.{◌≡◌, ℕ, zero, suc, Bool, true, false, not, cond, List, [], ◌∷◌, Option, Some, None, get_or, unwrap_or, refl, sym, ap, ◌∙◌, inl, inr}
+use Rattle.std.proofs.Common.{◌≡◌, ℕ, zero, suc, Bool, true, not, List, [], ◌∷◌, get_or, unwrap_or, refl, ap, ◌∙◌, inl, inr}
 use Rattle.std.specs.Prelude.{filter, map}
-use Rattle.std.specs.Option.{option_map_or}
 use Rattle.std.proofs.lemmas.Bool.{cases_Bool}
 use Rattle.phase_modes.specs.Lists.{is_empty}
 use Rattle.phase_modes.specs.declared.mode.Mode.{Mode}
@@ -11,8 +10,7 @@ use Rattle.phase_model.specs.declared.event.Event.{Event}
 use Rattle.phase_model.specs.Tasks.{is_live, mode_of}
 use Rattle.finish_core.specs.Finish.{FinishStory, fresh}
 use Rattle.world_model.specs.declared.event.WorldEvent.{WorldEvent}
-use Rattle.world_model.specs.Parts.{phaser_past, finish_past}
-use Rattle.world_model.specs.Tasks.{phasers_of}
+use Rattle.world_model.specs.Parts.{phaser_past}
 use Rattle.world_model.specs.Numbers.{is_phaser, is_finish, is_named}
 use Rattle.world_model.specs.Drawing.{least_unused, own_pairs}
 use Rattle.world_core.specs.WorldState.{WorldState}

@@ -1,23 +1,20 @@
 -- A task that gives up what it is about: the answer is the history's, and the world stands for what follows.
-use Rattle.std.proofs.Common.{◌≡◌, ◌⊎◌, ℕ, zero, suc, ◌<◌, ◌==◌, Bool, true, false, ◌&&◌, ◌||◌, not, cond, List, [], ◌∷◌, ◌++◌, map, Option, Some, None, length, get_or, slice_get, Err, refl, sym, ap, subst, ◌∙◌, inl, inr, arith}
+use Rattle.std.proofs.Common.{◌≡◌, ◌⊎◌, ℕ, zero, suc, ◌<◌, ◌==◌, Bool, true, false, ◌&&◌, ◌||◌, not, cond, List, [], ◌∷◌, ◌++◌, map, Option, Some, None, length, get_or, slice_get, refl, sym, ap, subst, ◌∙◌, inl, inr, arith}
 use Rattle.std.specs.Prelude.{flat_map, option_map}
 use Rattle.std.specs.Option.{option_map_or}
-use Rattle.std.proofs.lemmas.Bool.{cases_Bool, or_cases, and_parts, eq-eqb, eqb-true, true≢false, false≢true}
+use Rattle.std.proofs.lemmas.Bool.{cases_Bool, eq-eqb, eqb-true}
 use Rattle.std.proofs.lemmas.List.{append-nil}
 use Rattle.phase_modes.specs.Lists.{is_empty}
 use Rattle.phase_modes.specs.declared.phased.Pair.{Pair}
 use Rattle.phase_model.specs.Rules.{Story}
 use Rattle.phase_model.specs.Replies as phaser
-use Rattle.world_model.specs.declared.event.Step.{Step}
-use Rattle.world_model.specs.declared.event.Step.TheVariants.{Make, Reg, Sig, Claim, Did, Pass, Send, Look, Drop}
+use Rattle.world_model.specs.declared.event.Step.TheVariants.{Sig, Claim, Did, Pass, Drop}
 use Rattle.world_model.specs.declared.event.Begun.TheVariants.{Async, Signal, Wait, Next, NextSingle, Shut, End}
 use Rattle.world_model.specs.declared.event.WorldEvent.{WorldEvent}
 use Rattle.world_model.specs.declared.event.WorldEvent.TheVariants.{Phaser, Finish, Begin, Refuse, Fail}
 use Rattle.world_model.specs.Parts.{phaser_past}
-use Rattle.world_model.specs.Tasks.{phasers_of}
 use Rattle.world_model.specs.Due.{due, unborn, drops_due, ending, fixed, is_idle, next_event}
-use Rattle.world_model.specs.Clock.{is_turn}
-use Rattle.world_model.specs.PartReplies.{returned, call_for, phaser_reply}
+use Rattle.world_model.specs.PartReplies.{call_for}
 use Rattle.world_model.specs.Continuing.{next_done}
 use Rattle.world_model.specs.GivingUp.{is_refused_by, is_reg, may_fail, done_where}
 use Rattle.world_model.specs.Replies.{is_made, reply}
@@ -34,9 +31,9 @@ use Rattle.world_core.specs.Kept.{blank_task, task_at, story_at, is_ready, is_id
 use Rattle.world_core.specs.StandsFor.{StandsFor, IsStep, fits_plan, end_of}
 use Rattle.world_core.specs.inner.Steps.{with_task, may_claim, may_report}
 use Rattle.world_core.specs.inner.Queries.{turn_event, drop_or, reg_or, shut_or, next_by, kept_next}
-use Rattle.world_core.specs.inner.Refusals.{refusal_in, phaser_refusal, is_make, given_up}
-use Rattle.world_core.specs.inner.Failures.{next_refusal, has_number, may_fail_by, spawn_given_up, failed_by, failed, fail_state}
-use Rattle.world_core.proofs.Ready.{ready_is_idle, ready_within}
+use Rattle.world_core.specs.inner.Refusals.{refusal_in, is_make, given_up}
+use Rattle.world_core.specs.inner.Failures.{next_refusal, has_number, may_fail_by, failed_by, failed, fail_state}
+use Rattle.world_core.proofs.Ready.{ready_is_idle}
 use Rattle.world_core.proofs.NextRead.{next_is}
 use Rattle.world_core.proofs.CallsAsked.{same_number}
 use Rattle.world_core.proofs.GivenUp.{fail_stands}

@@ -1,5 +1,5 @@
 -- A task that notes why it gives up: where its own line stands, the world does. Nothing else changes.
-use Rattle.std.proofs.Common.{◌≡◌, ℕ, ◌<◌, ◌==◌, true, false, min, cond, List, [], ◌∷◌, ◌++◌, map, Option, Some, length, refl, sym, ap, subst, ◌∙◌, inl, inr}
+use Rattle.std.proofs.Common.{◌≡◌, ℕ, ◌<◌, ◌==◌, true, false, min, cond, List, [], ◌∷◌, ◌++◌, map, Option, length, refl, sym, ap, subst, ◌∙◌, inl, inr}
 use Rattle.std.proofs.lemmas.Bool.{and_from, cases_Bool, eq-eqb, eqb-true}
 use Rattle.phase_modes.specs.Lists.{is_empty}
 use Rattle.world_model.specs.declared.event.Tried.{Tried}

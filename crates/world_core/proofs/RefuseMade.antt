@@ -1,5 +1,5 @@
 -- An act that its task notes to be refused: the answer is the history's, and the world stands for what follows.
-use Rattle.std.proofs.Common.{◌≡◌, ℕ, ◌<◌, ◌==◌, Bool, true, false, ◌&&◌, not, cond, List, ◌∷◌, Option, Some, None, length, Ok, Err, refl, sym, ap, ◌∙◌}
+use Rattle.std.proofs.Common.{◌≡◌, ℕ, ◌<◌, ◌==◌, Bool, true, false, ◌&&◌, not, cond, List, Option, Some, None, length, Ok, refl, sym, ap, ◌∙◌}
 use Rattle.std.proofs.lemmas.Bool.{eqb-true, false≢true}
 use Rattle.phase_modes.specs.declared.refusal.Refusal.{Refusal}
 use Rattle.phase_modes.specs.declared.refusal.Refusal.TheVariants.{NotNow}
@@ -19,11 +19,9 @@ use Rattle.world_model.specs.Acts.{act_conditions, act_reply, unless}
 use Rattle.world_model.specs.GivingUp.{is_refused_by, may_refuse, done_where}
 use Rattle.world_model.specs.Replies.{is_made, reply}
 use Rattle.world_core.specs.WorldState.{WorldState}
-use Rattle.world_core.specs.Kept.{task_at, story_at, is_ready}
+use Rattle.world_core.specs.Kept.{task_at, is_ready}
 use Rattle.world_core.specs.StandsFor.{StandsFor, IsStep}
 use Rattle.world_core.specs.inner.Steps.{with_task, free_unless, done_unless, first_conditions, open_conditions}
-use Rattle.world_core.specs.inner.Begins.{begin_refusal}
-use Rattle.world_core.specs.inner.Registering.{make_conditions}
 use Rattle.world_core.specs.inner.Refusals.{refusal_in, phaser_refusal, or_then, act_refusal, is_noted, refuse_noted, given_up, where_noted, refuse_state}
 use Rattle.world_core.specs.inner.Failures.{has_number}
 use Rattle.world_core.proofs.Ready.{ready_is_idle, ready_within}

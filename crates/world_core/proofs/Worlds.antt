@@ -1,5 +1,5 @@
 -- A step leaves a world a world, and a world is never stuck.
-use Rattle.std.proofs.Common.{◌≡◌, Bool, true, false, List, ◌∷◌, Result, sym, subst, inl, inr}
+use Rattle.std.proofs.Common.{◌≡◌, false, List, ◌∷◌, Result, sym, subst, inl, inr}
 use Rattle.std.proofs.lemmas.Bool.{cases_Bool}
 use Rattle.phase_modes.specs.declared.refusal.Refusal.{Refusal}
 use Rattle.world_model.specs.declared.event.WorldEvent.{WorldEvent}

@@ -33,7 +33,7 @@ inner_of k fs = slice_index_or fs 0 k.home
 abbrev pub end_of : ℕ → TaskState → WorldEvent
 end_of t k = if t == 0 then Finish 0 Shutting else Finish k.home (Ended t)
 
--- what task t has still to make, told by its plan; fs are its own open finishes
+-- what task t has still to make, by its plan; fs are its own open finishes
 abbrev pub due_by : ℕ → TaskState → List ℕ → Plan → List WorldEvent
 due_by t k fs plan.Idle = []
 due_by t k fs (plan.Signalling x turn) =
@@ -78,7 +78,7 @@ pub record TaskStands (outers : List (Option ℕ)) (w : List WorldEvent) (t : �
   pub left : has_left k.plan k.left ≡ true
   pub chain : IsChain outers k.innermost (scope.open_finishes t w)
   pub phasers : k.phasers ≡ of.phasers_of t w
-  -- the clock is told up to its type's greatest number, which no world reaches
+  -- the clock is kept up to its type's greatest number, which no world reaches
   pub clock : k.clock ≡ min (clock t w) 4294967295
   pub acts : k.acts ≡ of.acts t w
   pub home : k.home ≡ of.home t w

@@ -177,7 +177,7 @@ impl Tables {
         line.acts() >= self.limits.acts
     }
 
-    /// What an act is refused by before it is looked at for itself: `used` tells whether the number
+    /// What an act is refused by before it is looked at for itself: `used` is whether the number
     /// that it wants to give is in use, `counted` whether it is a counted act.
     fn may_act(&self, task: u32, used: bool, counted: bool) -> Result<(), Refusal>
         ensures answer { result ≡ free_unless (first_refusal (first_conditions self.now task used counted)) }

@@ -1,4 +1,4 @@
--- What a world answers and how it changes where a task begins an act, told by its state alone.
+-- What a world answers and how it changes where a task begins an act, by its state alone.
 use Rattle.std.specs.Prelude.{ℕ, ◌+◌, Bool, true, false, ◌||◌, ◌<◌, ◌==◌, not, nat_lt, min, if◌then◌else◌, List, [], ◌∷◌, ◌++◌, length, filter, get_or, Option, Some, None, is_some, Result}
 use Rattle.std.specs.List.{list_any}
 use Rattle.std.specs.Option.{option_map_or}

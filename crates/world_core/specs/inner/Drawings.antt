@@ -1,5 +1,5 @@
 -- What a world reads for a task's next act, by its state alone.
-use Rattle.std.specs.Prelude.{ℕ, Bool, not, List, map}
+use Rattle.std.specs.Prelude.{ℕ, List, map}
 use Rattle.std.specs.Option.{option_map_or}
 use Rattle.phase_modes.specs.declared.mode.Mode.{Mode}
 use Rattle.phase_modes.specs.declared.mode.Mode.TheVariants.{Wait}

@@ -1,4 +1,4 @@
--- What a world answers to a drop of an act under way, and how it changes: told by its state alone.
+-- What a world answers to a drop of an act under way, and how it changes: by its state alone.
 use Rattle.std.specs.Prelude.{ℕ, Bool, false, ◌&&◌, ◌==◌, not, if◌then◌else◌, List, [], ◌∷◌, drop, filter, Result, Err}
 use Rattle.phase_modes.specs.declared.refusal.Refusal.{Refusal}
 use Rattle.phase_modes.specs.declared.refusal.Refusal.TheVariants.{NotNow}

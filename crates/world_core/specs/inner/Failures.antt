@@ -1,5 +1,5 @@
--- When a task may give up what it is about, and what a world becomes then: told by the state alone.
-use Rattle.std.specs.Prelude.{ℕ, Bool, true, false, ◌&&◌, ◌||◌, ◌==◌, if◌then◌else◌, List, Option, Some, None}
+-- When a task may give up what it is about, and what a world becomes then: by the state alone.
+use Rattle.std.specs.Prelude.{ℕ, Bool, false, ◌&&◌, ◌||◌, ◌==◌, if◌then◌else◌, List, Option, Some, None}
 use Rattle.std.specs.Option.{option_map_or}
 use Rattle.phase_modes.specs.declared.refusal.Refusal.{Refusal}
 use Rattle.phase_modes.specs.Refusal.{number_of}
@@ -40,6 +40,10 @@ spawn_given_up c ns n k = record k { plan = plan.Ending c; left = ns; refused = 
 abbrev pub failed_by : WorldState → ℕ → ℕ → Plan → TaskState → TaskState
 failed_by s t n (plan.Spawning c pairs made) k = spawn_given_up c (task_at s c).phasers n k
 failed_by s t n _ k = given_up t n k
+
+-- the state after that of a spawn
+abbrev pub spawn_failed : WorldState → ℕ → ℕ → ℕ → WorldState
+spawn_failed s t c n = with_task s t (spawn_given_up c (task_at s c).phasers n (task_at s t))
 
 abbrev pub failed : WorldState → ℕ → ℕ → WorldState
 failed s t n = with_task s t (failed_by s t n (task_at s t).plan (task_at s t))

@@ -1,4 +1,4 @@
--- What a world answers to the end of a task and to the shut of a finish, and how it changes, told by its state alone.
+-- What a world answers to the end of a task and to the shut of a finish, and how it changes, by its state alone.
 use Rattle.std.specs.Prelude.{ℕ, Bool, true, false, ◌&&◌, ◌||◌, ◌==◌, if◌then◌else◌, List, Option, Some, None, get_or, set, Result, Ok, Err}
 use Rattle.std.specs.Option.{option_map_or}
 use Rattle.phase_modes.specs.declared.refusal.Refusal.{Refusal}

@@ -1,4 +1,4 @@
--- What a world tells of a task, by its state alone. That this is what the history says is proved apart, in proofs/.
+-- What a world reports of a task, by its state alone. That this is what the history says is proved apart, in proofs/.
 use Rattle.std.specs.Prelude.{ℕ, Bool, false, ◌&&◌, not, if◌then◌else◌, Option, Some, None, option_map, slice_get}
 use Rattle.phase_modes.specs.declared.phased.Pair.{Pair}
 use Rattle.phase_model.specs.Waiting.{would_wait}

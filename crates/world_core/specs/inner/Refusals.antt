@@ -1,4 +1,4 @@
--- What an act of a task is refused by, and what a world becomes where the task notes it by its number: told by the state alone.
+-- What an act of a task is refused by, and what a world becomes where the task notes it by its number: by the state alone.
 use Rattle.std.specs.Prelude.{ℕ, Bool, true, false, ◌&&◌, ◌==◌, not, Option, Some, None, Result, Ok, Err}
 use Rattle.phase_modes.specs.declared.mode.Mode.{Mode}
 use Rattle.phase_modes.specs.declared.refusal.Refusal.{Refusal}
@@ -10,7 +10,6 @@ use Rattle.phase_model.specs.declared.reply.Reply.{Reply as Returned}
 use Rattle.phase_model.specs.declared.reply.Reply.TheVariants.{Refused}
 use Rattle.world_model.specs.declared.event.Tried.{Tried}
 use Rattle.world_model.specs.declared.event.Tried.TheVariants.{Begun as Beginning, New, Open, Send as Sending, Look as Looking}
-use Rattle.world_core.specs.declared.plan.Plan.TheVariants as plan
 use Rattle.world_core.specs.TaskState.{TaskState}
 use Rattle.world_core.specs.WorldState.{WorldState}
 use Rattle.world_core.specs.Kept.{task_at, story_at}

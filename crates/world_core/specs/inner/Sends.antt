@@ -1,4 +1,4 @@
--- What a world answers and how it changes where a task sends a value or looks at one, told by its state alone.
+-- What a world answers and how it changes where a task sends a value or looks at one, by its state alone.
 use Rattle.std.specs.Prelude.{ℕ, true, false, Option, Some, None, Result, Ok, Err, ℤ}
 use Rattle.phase_modes.specs.declared.refusal.Refusal.{Refusal}
 use Rattle.phase_modes.specs.Refusal.{first_refusal}

@@ -1,4 +1,4 @@
--- What a world answers to the spawn of a child, and how it changes: told by its state alone.
+-- What a world answers to the spawn of a child, and how it changes: by its state alone.
 use Rattle.std.specs.Prelude.{ℕ, Bool, true, false, ◌&&◌, ◌==◌, not, nat_lt, if◌then◌else◌, [], length, set, Result, Err}
 use Rattle.phase_modes.specs.declared.refusal.Refusal.{Refusal}
 use Rattle.phase_modes.specs.declared.refusal.Refusal.TheVariants.{NotNow}

@@ -1,4 +1,4 @@
--- What a world answers and how it changes, told by its state alone. That this is what the history asks for is proved apart, in proofs/.
+-- What a world answers and how it changes, by its state alone. That this is what the history asks for is proved apart, in proofs/.
 use Rattle.std.specs.Prelude.{ℕ, ◌+◌, Bool, true, false, ◌&&◌, ◌||◌, ◌==◌, not, nat_lt, min, if◌then◌else◌, List, [], ◌∷◌, filter, set, Option, Some, None, Result, Ok, Err}
 use Rattle.std.specs.Option.{option_map_or}
 use Rattle.phase_modes.specs.Lists.{is_empty}

@@ -1,9 +1,8 @@
 //! The beginnings of acts: what each is refused by, and what it leaves.
 ghost use Rattle.std.specs.Prelude.{◌≡◌, ◌<◌, length, IfOk};
 ghost use Rattle.phase_modes.specs.Refusal.{first_refusal};
-ghost use Rattle.world_core.specs.Kept.{task_at};
 ghost use Rattle.world_core.specs.inner.Steps.{free_unless, owing, turn_begun, with_task};
-ghost use Rattle.world_core.specs.inner.Begins.{begin_refusal, begin_answer, begin_state, entered, line_begun, child_named, spawn_begun, IsChildWithin};
+ghost use Rattle.world_core.specs.inner.Begins.{begin_refusal, begin_answer, begin_state, entered, line_begun, IsChildWithin};
 ghost use Rattle.world_core.specs.StandsFor.{IsStep};
 
 use super::Tables;
@@ -123,7 +122,7 @@ impl Tables {
     fn enter_spawn(&mut self, task: u32, child: u32, pairs: Phased)
         requires place { task < length self.old.tasks }
         requires child { child < length self.old.tasks }
-        ensures { self.new ≡ child_named (with_task self.old task (spawn_begun child pairs (task_at self.old task))) task child }
+        ensures { self.new ≡ entered self.old task (Begun.Async child pairs) }
     {
         let line = &mut self.tasks[task as usize];
         line.begin_spawn(child, pairs);

@@ -5,7 +5,7 @@ ghost use Rattle.world_model.specs.GivingUp.{done_where, is_reg};
 ghost use Rattle.world_core.specs.Kept.{task_at};
 ghost use Rattle.world_core.specs.inner.Steps.{with_task};
 ghost use Rattle.world_core.specs.inner.Refusals.{is_make};
-ghost use Rattle.world_core.specs.inner.Failures.{next_refusal, has_number, may_fail_by, spawn_given_up, failed, fail_state};
+ghost use Rattle.world_core.specs.inner.Failures.{next_refusal, has_number, may_fail_by, spawn_failed, failed, fail_state};
 ghost use Rattle.world_core.specs.StandsFor.{IsStep};
 
 use super::Tables;
@@ -103,7 +103,7 @@ impl Tables {
     /// Gives up the spawn of this child.
     fn give_up_spawn(&mut self, task: u32, child: u32, number: u8)
         requires { task < length self.old.tasks }
-        ensures { self.new ≡ with_task self.old task (spawn_given_up child (task_at self.old child).phasers number (task_at self.old task)) }
+        ensures { self.new ≡ spawn_failed self.old task child number }
     {
         let mut numbers = [0; MOST_PHASERS];
         let count = self.copy_phasers(child, &mut numbers);

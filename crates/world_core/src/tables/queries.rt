@@ -1,4 +1,4 @@
-//! What a world tells of a task.
+//! What a world reports of a task.
 ghost use Rattle.std.specs.Prelude.{◌≡◌, ◌&&◌, not, List, slice_get};
 ghost use Rattle.world_model.specs.declared.event.WorldEvent.{WorldEvent as Event};
 ghost use Rattle.world_model.specs.TaskConditions.{condition_of};

@@ -84,7 +84,8 @@ impl Tables {
     /// Notes that the act is refused by this number.
     fn refuse(&mut self, task: u32, tried: Tried, number: u8) -> Result<Reply, Refusal>
         ensures answer { result ≡ done_where (refuse_noted self.old task tried number) }
-        ensures state { self.new ≡ refuse_state self.old task number (refuse_noted self.old task tried number) }
+        ensures state { self.new
+            ≡ refuse_state self.old task number (refuse_noted self.old task tried number) }
     {
         let refused = self.may_try(task, &tried);
         let noted = is_noted_by(refused, number);

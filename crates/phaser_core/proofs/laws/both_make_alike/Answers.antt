@@ -8,6 +8,7 @@ use Rattle.std.proofs.Common.{[]}
 use Rattle.phaser_core.proofs.laws.both_make_alike.Goals as goal
 
 pub returns : goal.returns
-returns c l ops t m =
-    (refl,
-    λ e is. ap (λ (r : Reply). after (unmade l ops) r) is ∙ sym (ap (λ (r : Reply). made_with (unmade l []) ops r) is))
+returns c l ops t m = (
+  refl,
+  λ e is. ap (λ (r : Reply). after (unmade l ops) r) is ∙ sym (ap (λ (r : Reply). made_with (unmade l []) ops r) is),
+)

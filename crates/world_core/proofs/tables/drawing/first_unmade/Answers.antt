@@ -1,8 +1,7 @@
 -- A number that is in use is passed by, and the first that isn't is the least.
-use Rattle.std.proofs.Common.{ℕ, Bool, not, get_or, sym, ◌∙◌}
+use Rattle.std.proofs.Common.{ℕ, Bool, not, sym, ◌∙◌}
 use Rattle.phase_modes.specs.Lists.{is_empty}
-use Rattle.finish_core.specs.Finish.{fresh}
-use Rattle.world_core.specs.Kept.{blank_task, past_in}
+use Rattle.world_core.specs.Kept.{past_in}
 use Rattle.world_core.proofs.Least.{least_found, least_later}
 use Rattle.world_core.proofs.tables.drawing.first_unmade.Goals as goal
 

@@ -1,10 +1,8 @@
 -- Each number that was come to is in use.
-use Rattle.std.proofs.Common.{◌≡◌, List, [], not, get_or}
+use Rattle.std.proofs.Common.{◌≡◌, [], not, get_or}
 use Rattle.std.specs.Prelude.{filter}
-use Rattle.phase_modes.specs.Lists.{is_empty}
-use Rattle.finish_core.specs.Finish.{fresh}
 use Rattle.world_model.specs.Report.{below}
-use Rattle.world_core.specs.Kept.{blank_task, past_in}
+use Rattle.world_core.specs.Kept.{blank_task}
 use Rattle.world_core.proofs.tables.drawing.first_unnamed.Given as goal
 
 abbrev pub invariant-loop-number : goal.invariant-loop-number

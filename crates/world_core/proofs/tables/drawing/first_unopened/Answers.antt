@@ -2,7 +2,6 @@
 use Rattle.std.proofs.Common.{ℕ, Bool, not, get_or, sym, ◌∙◌}
 use Rattle.phase_modes.specs.Lists.{is_empty}
 use Rattle.finish_core.specs.Finish.{fresh}
-use Rattle.world_core.specs.Kept.{blank_task, past_in}
 use Rattle.world_core.proofs.Least.{least_found, least_later}
 use Rattle.world_core.proofs.tables.drawing.first_unopened.Goals as goal
 
