@@ -1,0 +1,5 @@
+pub mod Alike
+pub mod Giving
+pub mod Seats
+pub mod Standing
+pub mod Tasks
