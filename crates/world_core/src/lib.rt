@@ -11,3 +11,6 @@ mod world;
 pub use plan::Plan;
 pub use tables::Unused;
 pub use world::World;
+
+#[cfg(test)]
+mod tests;
