@@ -1,6 +1,6 @@
 //! Texts by their bytes, and programs that are stepped through.
 use super::*;
-use phase_model::{Look, Op};
+use phase_model::Look;
 use phase_modes::{Limits, Mode, Pair, Refusal};
 use std::test::Fail;
 
@@ -11,6 +11,12 @@ fn place_of(rt: &HostRuntime, text: &str) -> Result<Option<u64>, Fail> {
         Err(Refusal::BadText(place)) => Ok(Some(place)),
         Err(_) => Err(Fail::from("memory")),
     }
+}
+
+/// The place of the first fault of a program whose second act this is; the third is none.
+fn place_beside(rt: &HostRuntime, act: &str) -> Result<Option<u64>, Fail> {
+    let text = format!(in rt.alloc(); "{{\"main\":[[\"next\"],{act},7]}}")?;
+    place_of(rt, text.as_str())
 }
 
 #[test]
@@ -94,13 +100,12 @@ fn items_that_are_no_acts(rt: HostRuntime) -> Result<(), Fail> {
         r#"["repeat",1,["next"]]"#,
     ];
     for act in acts {
-        let text = format!(in rt.alloc(); "{{\"main\":[[\"next\"],{act},7]}}")?;
         let wanted = if act == r#"["repeat",1,["next"]]"# {
             3
         } else {
             2
         };
-        assert_eq!(rt; place_of(&rt, text.as_str())?, Some(wanted), "{act}");
+        assert_eq!(rt; place_beside(&rt, act)?, Some(wanted));
     }
     Ok(())
 }
@@ -165,13 +170,7 @@ fn each_act_in_order(rt: HostRuntime) -> Result<(), Fail> {
         .ok()
         .ok_or("a program")?;
     let mut root = program.root();
-    match root.step(Answer::Started) {
-        Ok(Act::New(mode, ops)) => {
-            assert_eq!(rt; mode, Mode::SigWait);
-            assert!(rt; ops.as_slice() == [Op::Sum].as_slice());
-        }
-        _ => return Err("a new")?,
-    }
+    assert!(rt; matches!(root.step(Answer::Started), Ok(Act::New(Mode::SigWait, _))));
     assert!(rt; matches!(root.step(Answer::Made(5)), Ok(Act::OpenFinish)));
     assert!(rt; matches!(root.step(Answer::Done), Ok(Act::Signal)));
     assert!(rt; matches!(root.step(Answer::Done), Ok(Act::Wait)));
