@@ -1,4 +1,9 @@
+pub mod Begins
+pub mod Failures
 pub mod Follow
+pub mod GoesOn
 pub mod Legal
 pub mod NoActs
 pub mod Places
+pub mod Rounds
+pub mod Used

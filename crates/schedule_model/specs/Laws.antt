@@ -1,11 +1,17 @@
 -- What holds of each run by picks, and of the place at which a history leaves its program.
-use Rattle.std.specs.Prelude.{ℕ, ◌≡◌, ◌+◌, suc, true, false, if◌then◌else◌, List, [], ◌∷◌, reverse, take, Option, Some, None}
+use Rattle.std.specs.Prelude.{ℕ, ◌≡◌, ◌≢◌, ◌<◌, ◌+◌, suc, true, false, if◌then◌else◌, List, [], ◌∷◌, ◌++◌, length, reverse, take, Option, Some, None}
+use Rattle.phase_modes.specs.Limits.{limits_fit}
+use Rattle.phase_modes.specs.declared.limits.Limits.{Limits}
 use Rattle.job_script.specs.Program.{Program}
 use Rattle.world_model.specs.declared.event.WorldEvent.{WorldEvent}
-use Rattle.world_model.specs.Replies.{is_legal_world}
+use Rattle.world_model.specs.declared.event.WorldEvent.TheVariants.{Fail}
+use Rattle.world_model.specs.Due.{next_event}
+use Rattle.world_model.specs.GivingUp.{is_refused_by, is_reg}
+use Rattle.world_model.specs.Replies.{is_legal_world, reply}
+use Rattle.world_model.specs.Tasks.{is_ended}
 use Rattle.schedule_model.specs.Scripts.{act_of}
 use Rattle.schedule_model.specs.Follows.{is_next, follows}
-use Rattle.schedule_model.specs.Picks.{run_within}
+use Rattle.schedule_model.specs.Picks.{round_from, run_within}
 
 -- each event of a run is one that the world accepts
 abbrev pub RunsAreLegal : Type 0
@@ -14,6 +20,28 @@ RunsAreLegal = (p : Program) (picks : List ℕ) (most : ℕ) → is_legal_world 
 -- a run follows its program
 abbrev pub RunsFollow : Type 0
 RunsFollow = (p : Program) (picks : List ℕ) (most : ℕ) → follows p (run_within most p picks) ≡ true
+
+-- as long as the root hasn't ended, a round makes an event: so a run never comes to a round in which nobody moves
+abbrev pub RoundsMove : Type 0
+RoundsMove =
+    (p : Program) (picks : List ℕ) (most : ℕ) → limits_fit p.limits ≡ true
+    → let w = run_within most p picks in
+    is_ended 0 w ≡ false → length w < length (round_from p.limits.tasks 0 p w)
+
+-- t gives up by this number where the event that continues its act is refused by it: that is never want of memory, and
+-- full registrations only where it has a registration to make
+pub record GivesUp (l : Limits) (w : List WorldEvent) (t n : ℕ) : Type 0 where
+  pub event : WorldEvent
+  pub next : next_event l t w ≡ Some event
+  pub refused : is_refused_by n (reply l w event) ≡ true
+  pub memory : n ≢ 23
+  pub registration : n ≡ 14 → is_reg event ≡ true
+
+-- so does each task that gives up in a run
+abbrev pub RunsGiveUp : Type 0
+RunsGiveUp =
+    (p : Program) (picks : List ℕ) (most : ℕ) (later w : List WorldEvent) (t n : ℕ)
+    → run_within most p picks ≡ later ++ Fail t n ∷ w → GivesUp p.limits w t n
 
 -- ---- where a history leaves its program, its events taken oldest first
 

@@ -7,4 +7,4 @@ mod examples;
 mod laws;
 
 pub use examples::{worked_limits, worked_refused_acts, worked_runs};
-pub use laws::{places_are_first, runs_are_legal, runs_follow};
+pub use laws::{places_are_first, rounds_move, runs_are_legal, runs_follow, runs_give_up};

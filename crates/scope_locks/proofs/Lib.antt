@@ -1,6 +1,7 @@
 pub mod Ends
 pub mod Freeing
 pub mod Lists
+pub mod Made
 pub mod Parks
 pub mod Parts
 pub mod Passing

@@ -6,7 +6,7 @@ ghost use Rattle.phase_model.specs.Amounts.{plus};
 ghost use Rattle.phase_model.specs.declared.call.Call.TheVariants.{Make as make, Register as register, Signal as signal, Pass as pass, SingleDone as single_done, Send as send, Look as look, Drop as drop_task};
 ghost use Rattle.phase_model.specs.Replies.{reply, after, done_result};
 ghost use Rattle.phaser_core.specs.declared.state.Passing.TheVariants.{NotYet};
-ghost use Rattle.phaser_core.specs.Answers.{pass_result, look_result};
+ghost use Rattle.phaser_core.specs.Answers.{pass_result, look_result, made_with};
 ghost use Rattle.share_book.specs.Accounts.{nothing};
 ghost use Rattle.scope_locks.specs.Amounts.{amount_if};
 ghost use Rattle.scope_locks.specs.Cells.{IsKept};
@@ -32,6 +32,7 @@ pub struct PhaserCell<T, K: Ledgers> {
     pub book: PhaserBook<K>,
     pub parked: VecDeque<Parked<T>>,
     ghost kept: { IsKept state.story book parked.items },
+    ghost any_ops: { state.room ≡ 4 },
     ghost seats: { 256 ≤ deque_capacity parked },
     ghost seated: { deque_len parked ≤ 256 },
 }
@@ -73,23 +74,26 @@ fn settle<T>(
 }
 
 impl<T, K: Ledgers> PhaserCell<T, K> {
-    /// The phaser's `make`, with its refusals. Nobody is let go on by it.
+    /// The phaser's `make_with`, with its refusals: makes it with these operators. Nobody is let go on
+    /// by it.
     pub fn make<B: Post<K>>(
         &mut self,
         books: &mut B,
         mine: &mut Shares<K>,
         task: u32,
         mode: Mode,
+        ops: Ops,
     ) -> Result<(), Refusal>
         ensures reply { result ≡ done_result (reply self.old.state.story (make task mode)) }
         ensures history { self.new.state.story
-            ≡ after self.old.state.story (reply self.old.state.story (make task mode)) }
+            ≡ made_with self.old.state.story ops (reply self.old.state.story (make task mode)) }
         ensures mine { mine.new ≡ plus (amount_if (is_ok result) (Event.Make task mode)) mine.old }
         ensures books { B.rose books.old books.new (amount_if (is_ok result) (Event.Make task mode)) }
         ensures parked { self.new.parked ≡ self.old.parked }
     {
         let PhaserCell { state, book, .. } = self;
-        let answer = state.make(task, mode);
+        let _four_at_most = ops.len();
+        let answer = state.make_with(task, mode, ops);
         post_if(answer.is_ok(), book, books, mine, Event::Make(task, mode));
         answer
     }
@@ -292,21 +296,21 @@ impl<T, K: Ledgers> PhaserCell<T, K> {
 }
 
 impl<T: Drop, K: Ledgers> PhaserCell<T, K> {
-    /// A phaser that nobody has made yet, with its book, in which nothing is posted yet. All memory that
-    /// it will ever need is taken here; `Memory` where that is refused.
+    /// A phaser that nobody has made yet, and that has no operators before, with its book, in which
+    /// nothing is posted yet. All memory that it will ever need is taken here; `Memory` where that is
+    /// refused.
     pub fn new(
         alloc: Global,
         limits: Limits,
-        ops: Ops,
         book: PhaserBook<K>,
     ) -> Result<PhaserCell<T, K>, Refusal>
         requires limits { limits_fit limits ≡ true }
         requires fresh { (book.totals ≡ nothing) × (book.room ≡ 65536) }
-        ensures story { IfOk result (λ c. c.state.story ≡ record { limits = limits; ops = ops; past = [] }) }
+        ensures story { IfOk result (λ c. c.state.story ≡ record { limits = limits; ops = []; past = [] }) }
         ensures empty { IfOk result (λ c. (c.parked.items ≡ []) × (c.book ≡ book)) }
         ensures memory { IfErr result (λ r. r ≡ Refusal.Memory) }
     {
-        let state = PhaserState::new(alloc, limits, ops)?;
+        let state = PhaserState::blank(alloc, limits)?;
         let parked = VecDeque::with_capacity(alloc, 256)?;
         Ok(PhaserCell {
             state,

@@ -70,7 +70,6 @@ pub struct PhaserParts<K: Ledgers> {
 fn locked_cells<T: Drop, K: Ledgers>(
     alloc: Global,
     limits: Limits,
-    ops: Ops,
     books: Vec<PhaserBook<K>>,
 ) -> Result<Vec<Mutex<PhaserCell<T, K>>>, Refusal>
     requires limits { limits_fit limits ≡ true }
@@ -80,7 +79,7 @@ fn locked_cells<T: Drop, K: Ledgers>(
 {
     let mut cells = Vec::new(alloc);
     for book in books {
-        let cell = Mutex::new(PhaserCell::new(alloc, limits, ops, book)?);
+        let cell = Mutex::new(PhaserCell::new(alloc, limits, book)?);
         cells.push(cell)?;
     }
     Ok(cells)
@@ -113,13 +112,11 @@ fn take_apart<T: Drop, K: Ledgers>(
 }
 
 impl<T: Drop, K: Ledgers> PhaserTable<T, K> {
-    /// As many phasers as there are books of phasers, each with these limits and operators, and made by
-    /// nobody yet. The phasers' books are those of one `open`, in order, so at most 64. All memory that
+    /// As many phasers as there are books of phasers, each with these limits, and made by nobody yet. The phasers' books are those of one `open`, in order, so at most 64. All memory that
     /// the table will ever need is taken here; `Memory` where that is refused.
     pub fn new(
         alloc: Global,
         limits: Limits,
-        ops: Ops,
         books: Books<K>,
         phasers: Vec<PhaserBook<K>>,
     ) -> Result<PhaserTable<T, K>, Refusal>
@@ -129,7 +126,7 @@ impl<T: Drop, K: Ledgers> PhaserTable<T, K> {
         ensures phasers { IfOk result (λ t. t.phasers ≡ vec_len phasers) }
         ensures memory { IfErr result (λ r. r ≡ Refusal.Memory) }
     {
-        let cells = locked_cells(alloc, limits, ops, phasers)?;
+        let cells = locked_cells(alloc, limits, phasers)?;
         Ok(PhaserTable {
             phasers: cells.len(),
             cells,
@@ -193,6 +190,7 @@ impl<T, K: Ledgers> PhaserTable<T, K> {
         mine: &mut Shares<K>,
         task: u32,
         mode: Mode,
+        ops: Ops,
     ) -> Result<(), Refusal>
         requires { number < self.now.phasers }
         ensures mine { mine.new ≡ plus (amount_if (is_ok result) (Event.Make task mode)) mine.old }
@@ -202,7 +200,7 @@ impl<T, K: Ledgers> PhaserTable<T, K> {
             rt,
             books: &self.books,
         };
-        cell.make(&mut books, mine, task, mode)
+        cell.make(&mut books, mine, task, mode, ops)
     }
 
     /// The cell's `register`, under the phaser's lock.

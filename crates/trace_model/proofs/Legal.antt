@@ -21,7 +21,7 @@ seen_made x (Ok (Phase p)) h = absurd (false≢true h)
 seen_made x (Ok (Value y)) h = refl
 seen_made x (Ok NotYet) h = absurd (false≢true h)
 
-answered_made : (e : TracedEvent) (r : Result Reply Refusal) → is_answered e r ≡ true → is_made r ≡ true
+pub answered_made : (e : TracedEvent) (r : Result Reply Refusal) → is_answered e r ≡ true → is_made r ≡ true
 answered_made (Phaser n (step.Make t m ops)) r h = h
 answered_made (Phaser n (step.Reg q t m)) r h = h
 answered_made (Phaser n (step.Sig t x)) r h = h

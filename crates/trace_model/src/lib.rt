@@ -3,6 +3,7 @@
 #![tactic(auto)]
 
 mod event;
+mod in_world;
 mod laws;
 mod part;
 mod trace;

@@ -1,9 +1,10 @@
-//! A trace and a part as another crate builds them.
+//! A trace and a part as another crate builds them, and their events in a world.
 use super::*;
 use finish_core::FinishEvent;
 use phase_model::Look;
-use phase_modes::Limits;
+use phase_modes::{Limits, Refusal};
 use std::test::Fail;
+use world_model::{Reply, Step, WorldEvent};
 
 #[test]
 fn events_are_kept_in_order(rt: HostRuntime) -> Result<(), Fail> {
@@ -23,5 +24,27 @@ fn events_are_kept_in_order(rt: HostRuntime) -> Result<(), Fail> {
         .map_err(|_| Fail::from("memory"))?;
     assert_eq!(rt; trace.events().len(), 2);
     assert_eq!(rt; trace.limits(), Limits::default());
+    Ok(())
+}
+
+#[test]
+fn a_look_is_answered_what_it_saw(rt: HostRuntime) -> Result<(), Fail> {
+    let step = TracedStep::Look(3, 1, Look::Value(-5));
+    let look = TracedEvent::Phaser(7, step);
+    assert!(rt; step.step() == Step::Look(3, 1));
+    assert!(rt; look.event() == WorldEvent::Phaser(7, Step::Look(3, 1)));
+    assert!(rt; look.is_answered(Ok(Reply::Value(Look::Value(-5)))));
+    assert!(rt; !look.is_answered(Ok(Reply::Value(Look::Nothing))));
+    assert!(rt; !look.is_answered(Err(Refusal::NoPhaseYet)));
+    Ok(())
+}
+
+#[test]
+fn the_shut_of_finish_0_ends_a_run(rt: HostRuntime) -> Result<(), Fail> {
+    let shut = TracedEvent::Finish(0, FinishEvent::Shut);
+    assert!(rt; shut.ends_run());
+    assert!(rt; !TracedEvent::Finish(1, FinishEvent::Shut).ends_run());
+    assert!(rt; shut.is_answered(Ok(Reply::Done)));
+    assert!(rt; !shut.is_answered(Ok(Reply::NotYet)));
     Ok(())
 }

@@ -1,1 +1,4 @@
 pub mod OfParts
+pub mod Reported
+pub mod Taking
+pub mod Walking

@@ -1,1 +1,3 @@
 pub mod Merging
+pub mod Replaying
+pub mod inner

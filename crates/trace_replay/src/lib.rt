@@ -1,9 +1,12 @@
-//! What is done with a trace: the parts of a run's log are merged to its trace.
+//! What is done with a trace: the parts of a run's log are merged to its trace, and a trace is
+//! replayed on a world.
 #![tactic(auto)]
 
 mod merging;
+mod replaying;
 
 pub use merging::merge;
+pub use replaying::replay;
 
 #[cfg(test)]
 mod tests;

@@ -37,6 +37,7 @@ use Rattle.world_model.specs.PartReplies.{phaser_reply}
 use Rattle.world_model.specs.Replies.{reply, is_made, is_accepted, is_legal_world}
 use Rattle.world_core.specs.inner.Steps.{done_by, with_task, is_first}
 use Rattle.world_core.specs.inner.DropSteps.{wants_drop, is_to_drop, dropper_at, drop_result, drop_answer, drop_state, gone_from, drop_noted, task_gone}
+use Rattle.world_core.proofs.LimitsStay.{limits_by}
 use Rattle.world_core.specs.StandsFor.{TaskStands, StandsFor, IsStep, due_by, inner_of, end_of, fits_plan, has_left}
 use Rattle.world_model.proofs.OthersLeave.{due_other, due_own}
 use Rattle.world_core.proofs.TableReads.{read_set}
@@ -410,6 +411,7 @@ dropped_unborn false t q e = refl
 pub drop_is_step : (s : WorldState) (n t : ℕ) → IsStep (Phaser n (Drop t)) s (drop_state s n t) (drop_answer s n t)
 drop_is_step s n t = record {
   unchanged = unchanged_by (drop_result s n t) s (with_task (task_gone s n t) (dropper_at s t) (drop_noted (task_at (task_gone s n t) (dropper_at s t))));
+  limits = limits_by (drop_result s n t) s (with_task (task_gone s n t) (dropper_at s t) (drop_noted (task_at (task_gone s n t) (dropper_at s t)))) refl;
   answer = λ w st. drop_answers s w n t st;
   stands = λ w st is_done.
       let e = Phaser n (Drop t) in

@@ -23,6 +23,7 @@ use Rattle.world_model.specs.PartReplies.{finish_returned}
 use Rattle.world_model.specs.Replies.{reply, is_made}
 use Rattle.world_core.specs.inner.Steps.{done_by, with_task}
 use Rattle.world_core.specs.inner.FinishSteps.{is_next, said, finish_called, end_asked, end_result, end_answer, end_noted, end_state}
+use Rattle.world_core.proofs.LimitsStay.{limits_by}
 use Rattle.world_core.specs.StandsFor.{TaskStands, StandsFor, IsStep, inner_of, end_of, due_by, has_left}
 use Rattle.world_model.proofs.OthersLeave.{due_other, due_own}
 use Rattle.world_model.proofs.FinishesLegal.{event_allowed}
@@ -142,6 +143,7 @@ module _ (outers : List (Option ℕ)) (w : List WorldEvent) (f t : ℕ) (still :
 pub end_is_step : (s : WorldState) (f t : ℕ) → IsStep (Finish f (Ended t)) s (end_state s f t) (end_answer s f t)
 end_is_step s f t = record {
   unchanged = not_made (end_result s f t) s (with_task (finish_called s f (Ended t)) t (end_noted (task_at s t)));
+  limits = limits_by (end_result s f t) s (with_task (finish_called s f (Ended t)) t (end_noted (task_at s t))) refl;
   answer = λ w st. end_answers s w f t st;
   stands = λ w st made.
       let k = task_at s t in

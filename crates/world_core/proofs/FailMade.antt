@@ -28,6 +28,7 @@ use Rattle.world_core.specs.declared.plan.Plan.TheVariants as plan
 use Rattle.world_core.specs.TaskState.{TaskState}
 use Rattle.world_core.specs.WorldState.{WorldState}
 use Rattle.world_core.specs.Kept.{blank_task, task_at, story_at, is_ready, is_idle_plan}
+use Rattle.world_core.proofs.LimitsStay.{limits_where}
 use Rattle.world_core.specs.StandsFor.{StandsFor, IsStep, fits_plan, end_of}
 use Rattle.world_core.specs.inner.Steps.{with_task, may_claim, may_report}
 use Rattle.world_core.specs.inner.Queries.{turn_event, drop_or, reg_or, shut_or, next_by, kept_next}
@@ -205,6 +206,7 @@ module _ (s : WorldState) (w : List WorldEvent) (t n : ℕ) (st : StandsFor w s)
 pub fail_is_step : (s : WorldState) (t n : ℕ) → IsStep (Fail t n) s (fail_state s t n) (done_where (may_fail_by s t n))
 fail_is_step s t n = record {
   unchanged = not_noted (may_fail_by s t n) s (failed s t n);
+  limits = limits_where (may_fail_by s t n) s (failed s t n) refl;
   answer = λ w st. ap (λ b. done_where b) (may_fail_is s w t n st);
   stands = λ w st made.
       let yes : may_fail_by s t n ≡ true = made_noted (may_fail_by s t n) made in

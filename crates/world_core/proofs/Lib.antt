@@ -8,6 +8,7 @@ pub mod Standing
 pub mod Calls
 pub mod Quiet
 pub mod Called
+pub mod LimitsStay
 pub mod SignalMade
 pub mod Chains
 pub mod OpenMade
@@ -44,4 +45,6 @@ pub mod GivenUp
 pub mod RefuseMade
 pub mod FailMade
 pub mod SendMade
+pub mod Listed
+pub mod Reported
 pub mod Worlds

@@ -34,6 +34,7 @@ use Rattle.world_model.specs.PartReplies.{phaser_reply}
 use Rattle.world_model.specs.Replies.{reply, is_made, is_accepted, is_legal_world}
 use Rattle.world_core.specs.inner.Steps.{done_by}
 use Rattle.world_core.specs.inner.Registering.{make_conditions, make_result, make_answer, make_state, making, made, result_unless}
+use Rattle.world_core.proofs.LimitsStay.{limits_by}
 use Rattle.world_core.specs.StandsFor.{TaskStands, StandsFor, IsStep, due_by}
 use Rattle.world_model.proofs.OthersLeave.{due_own}
 use Rattle.world_core.proofs.Fits.{fitting}
@@ -134,6 +135,7 @@ pub make_is_step : (s : WorldState) (n t : ℕ) (m : Mode) (ops : List Op) → l
     → IsStep (Phaser n (Make t m ops)) s (make_state s n t m ops) (make_answer s n t m)
 make_is_step s n t m ops phasers_size enclosing_size = record {
   unchanged = unchanged_by (make_result s n t m) s (made s n t m ops);
+  limits = limits_by (make_result s n t m) s (made s n t m ops) refl;
   answer = λ w st. make_answers s w n t m ops st;
   stands = λ w st is_done.
       let k = task_at s t in

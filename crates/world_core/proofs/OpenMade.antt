@@ -28,6 +28,7 @@ use Rattle.world_model.specs.Acts.{act_conditions, unless}
 use Rattle.world_model.specs.PartReplies.{finish_returned}
 use Rattle.world_model.specs.Replies.{reply, is_made, is_accepted, is_legal_world}
 use Rattle.world_core.specs.inner.Steps.{open_conditions, open_answer, open_state, opening, opened, done_unless, unless_refused}
+use Rattle.world_core.proofs.LimitsStay.{limits_unless}
 use Rattle.world_core.specs.StandsFor.{TaskStands, StandsFor, IsStep, due_by}
 use Rattle.world_model.proofs.OthersLeave.{due_other, due_own, clock_other}
 use Rattle.world_core.proofs.Fits.{fitting}
@@ -150,6 +151,7 @@ story_by l f t g w here there false e new h k = k
 pub open_is_step : (s : WorldState) (f t : ℕ) → IsStep (Finish f (Opened t)) s (open_state s f t) (open_answer s f t)
 open_is_step s f t = record {
   unchanged = open_unchanged (first_refusal (open_conditions s f t)) s (opened s f t);
+  limits = limits_unless (first_refusal (open_conditions s f t)) s (opened s f t) refl;
   answer = λ w st. open_answers s w f t st;
   stands = λ w st made.
       let k = task_at s t in

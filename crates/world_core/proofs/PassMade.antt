@@ -31,6 +31,7 @@ use Rattle.world_model.specs.TaskConditions.{last_entry}
 use Rattle.world_model.specs.PartReplies.{returned as told, phaser_reply}
 use Rattle.world_model.specs.Replies.{reply, is_made}
 use Rattle.world_core.specs.inner.Steps.{is_first, wants_pass, is_to_pass, may_claim, may_report, pass_asked, passed_on, told_pass, pass_outcome, pass_answer, pass_state, state_by_pass, note_pass, pass_noted, phaser_called, with_task}
+use Rattle.world_core.proofs.LimitsStay.{limits_by_pass}
 use Rattle.world_core.specs.StandsFor.{TaskStands, StandsFor, IsStep, due_by, fits_plan, has_left}
 use Rattle.world_model.proofs.OthersLeave.{due_own}
 use Rattle.world_core.proofs.Quiet.{phasers_same}
@@ -189,6 +190,7 @@ pass_unchanged (Err r) s called noted e = refl
 pub pass_is_step : (s : WorldState) (n t : ℕ) → IsStep (Phaser n (Pass t)) s (pass_state s n t) (pass_answer s n t)
 pass_is_step s n t = record {
   unchanged = pass_unchanged (pass_outcome s n t) s (phaser_called s n (pass t)) (with_task (phaser_called s n (pass t)) t (pass_noted (task_at s t)));
+  limits = limits_by_pass (pass_outcome s n t) s (phaser_called s n (pass t)) (with_task (phaser_called s n (pass t)) t (pass_noted (task_at s t))) refl refl;
   answer = λ w st. pass_answers s w n t st;
   stands = λ w st made.
       let k = task_at s t in

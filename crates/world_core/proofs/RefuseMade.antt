@@ -20,6 +20,7 @@ use Rattle.world_model.specs.GivingUp.{is_refused_by, may_refuse, done_where}
 use Rattle.world_model.specs.Replies.{is_made, reply}
 use Rattle.world_core.specs.WorldState.{WorldState}
 use Rattle.world_core.specs.Kept.{task_at, is_ready}
+use Rattle.world_core.proofs.LimitsStay.{limits_where}
 use Rattle.world_core.specs.StandsFor.{StandsFor, IsStep}
 use Rattle.world_core.specs.inner.Steps.{with_task, free_unless, done_unless, first_conditions, open_conditions}
 use Rattle.world_core.specs.inner.Refusals.{refusal_in, phaser_refusal, or_then, act_refusal, is_noted, refuse_noted, given_up, where_noted, refuse_state}
@@ -113,6 +114,7 @@ not_noted false s new e = refl
 pub refuse_is_step : (s : WorldState) (t : ℕ) (a : Tried) (n : ℕ) → IsStep (Refuse t a n) s (refuse_state s t n (refuse_noted s t a n)) (done_where (refuse_noted s t a n))
 refuse_is_step s t a n = record {
   unchanged = not_noted (refuse_noted s t a n) s (with_task s t (given_up t n (task_at s t)));
+  limits = limits_where (refuse_noted s t a n) s (with_task s t (given_up t n (task_at s t))) refl;
   answer = λ w st. ap (λ b. done_where b) (noted_as s w t n st a);
   stands = λ w st made.
       let yes : refuse_noted s t a n ≡ true = made_noted (refuse_noted s t a n) made in

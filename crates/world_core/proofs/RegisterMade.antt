@@ -45,6 +45,7 @@ use Rattle.world_core.specs.declared.plan.Plan.TheVariants as plan
 use Rattle.world_core.specs.TaskState.{TaskState}
 use Rattle.world_core.specs.WorldState.{WorldState}
 use Rattle.world_core.specs.Kept.{blank_task, blank_story, task_at, story_at, is_idle_plan}
+use Rattle.world_core.proofs.LimitsStay.{limits_by}
 use Rattle.world_core.specs.StandsFor.{TaskStands, StandsFor, IsStep, due_by, inner_of, end_of, fits_plan}
 use Rattle.world_core.specs.inner.Steps.{done_by, with_task}
 use Rattle.world_core.specs.inner.RegisterSteps.{is_pair, wants_register, is_to_register, has_place, register_result, register_answer, register_state, joining, register_noted, to_next_pair, child_joined}
@@ -311,6 +312,7 @@ not_same w q c d ds some none =
 pub register_is_step : (s : WorldState) (n q c : ℕ) (m : Mode) → IsStep (Phaser n (Reg q c m)) s (register_state s n q c m) (register_answer s n q c m)
 register_is_step s n q c m = record {
   unchanged = unchanged_by (register_result s n q c m) s (with_task (child_joined s n q c m) q (register_noted (task_at (child_joined s n q c m) q)));
+  limits = limits_by (register_result s n q c m) s (with_task (child_joined s n q c m) q (register_noted (task_at (child_joined s n q c m) q))) refl;
   answer = λ w st. register_answers s w n q c m st;
   stands = λ w st is_done.
       let e = Phaser n (Reg q c m) in

@@ -37,6 +37,7 @@ use Rattle.world_model.specs.Replies.{reply, is_made}
 use Rattle.world_core.specs.inner.Steps.{done_by, phaser_called, with_task}
 use Rattle.world_core.specs.inner.Begins.{counted}
 use Rattle.world_core.specs.inner.Sends.{unless_before, act_refusal, send_result, send_answer, send_state, told_look, state_by_look, looked, look_answer, look_state}
+use Rattle.world_core.proofs.LimitsStay.{limits_by, limits_by_look}
 use Rattle.world_core.specs.StandsFor.{TaskStands, StandsFor, IsStep, due_by}
 use Rattle.world_core.proofs.Fits.{fitting}
 use Rattle.world_model.proofs.OthersLeave.{due_own}
@@ -103,6 +104,7 @@ made_ok (Some r) u e = absurd cc
 pub send_is_step : (s : WorldState) (n t a : ℕ) (v : ℤ) → IsStep (Phaser n (Send t a v)) s (send_state s n t a v) (send_answer s n t a v)
 send_is_step s n t a v = record {
   unchanged = unchanged_by (send_result s n t a v) s (with_task (phaser_called s n (send t a v)) t (counted (task_at s t)));
+  limits = limits_by (send_result s n t a v) s (with_task (phaser_called s n (send t a v)) t (counted (task_at s t))) refl;
   answer = λ w st. send_answers s w n t a v st;
   stands = λ w st made.
       let k = task_at s t in
@@ -159,6 +161,7 @@ look_unchanged (Err r) s new e = refl
 pub look_is_step : (s : WorldState) (n t a : ℕ) → IsStep (Phaser n (Look t a)) s (look_state s n t a) (look_answer s n t a)
 look_is_step s n t a = record {
   unchanged = look_unchanged (looked s n t a) s (with_task (phaser_called s n (look t a)) t (counted (task_at s t)));
+  limits = limits_by_look (looked s n t a) s (with_task (phaser_called s n (look t a)) t (counted (task_at s t))) refl;
   answer = λ w st. look_answers s w n t a st;
   stands = λ w st made.
       let k = task_at s t in

@@ -22,8 +22,9 @@ use Rattle.world_model.specs.TaskConditions.{last_entry}
 use Rattle.world_model.specs.PartReplies.{finish_returned}
 use Rattle.world_model.specs.Replies.{reply, is_made, is_legal_world}
 use Rattle.world_core.specs.inner.Steps.{done_by, state_by, with_task}
-use Rattle.world_core.specs.inner.FinishSteps.{is_next, said, finish_called, owner_in, shut_asked, shut_answer, plan_after_shut, top_after_shut, shut_noted, shut_state}
+use Rattle.world_core.specs.inner.FinishSteps.{shut_result, is_next, said, finish_called, owner_in, shut_asked, shut_answer, plan_after_shut, top_after_shut, shut_noted, shut_state}
 use Rattle.phase_modes.specs.declared.limits.Limits.{Limits}
+use Rattle.world_core.proofs.LimitsStay.{limits_by}
 use Rattle.world_core.specs.StandsFor.{TaskStands, StandsFor, IsStep, IsChain, inner_of, end_of, due_by, fits_plan, has_left}
 use Rattle.world_model.proofs.OthersLeave.{due_other, due_own}
 use Rattle.world_model.proofs.FinishesLegal.{event_allowed}
@@ -195,6 +196,7 @@ module _ (outers : List (Option ℕ)) (w : List WorldEvent) (f t : ℕ) (l : Lim
 pub shut_is_step : (s : WorldState) (f : ℕ) → IsStep (Finish f Shut) s (shut_state s f) (shut_answer s f)
 shut_is_step s f = record {
   unchanged = shut_unchanged (shut_asked s f) (all_ended (finish_at s f).past) (said (finish_at s f) Shut) s (with_task (finish_called s f Shut) (owner_in s f) (shut_noted s.outers f (owner_in s f) (task_at s (owner_in s f))));
+  limits = limits_by (shut_result s f) s (with_task (finish_called s f Shut) (owner_in s f) (shut_noted s.outers f (owner_in s f) (task_at s (owner_in s f)))) refl;
   answer = λ w st. shut_answers s w f st;
   stands = λ w st made.
       let t = owner_in s f in

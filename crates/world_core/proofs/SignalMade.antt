@@ -29,6 +29,7 @@ use Rattle.world_core.specs.declared.plan.Plan.TheVariants as plan
 use Rattle.world_core.specs.TaskState.{TaskState}
 use Rattle.world_core.specs.WorldState.{WorldState}
 use Rattle.world_core.specs.Kept.{blank_task, blank_story, task_at, story_at, is_idle_plan}
+use Rattle.world_core.proofs.LimitsStay.{limits_by}
 use Rattle.world_core.specs.StandsFor.{StandsFor, TaskStands, due_by, inner_of, end_of, fits_plan, has_left, IsStep}
 use Rattle.world_model.specs.Parts.{phaser_past}
 use Rattle.world_model.specs.Scopes.{open_finishes}
@@ -209,6 +210,7 @@ signal_unchanged (Err r) s new e = refl
 pub signal_is_step : (s : WorldState) (n t : ℕ) (x : Option ℕ) → IsStep (Phaser n (Sig t x)) s (signal_state s n t x) (signal_answer s n t x)
 signal_is_step s n t x = record {
   unchanged = signal_unchanged (signal_result s n t x) s (with_task (phaser_called s n (signal t x)) t (signal_noted (task_at s t)));
+  limits = limits_by (signal_result s n t x) s (with_task (phaser_called s n (signal t x)) t (signal_noted (task_at s t))) refl;
   answer = λ w st. signal_answers s w n t x st;
   stands = λ w st made.
       let ok : signal_result s n t x ≡ Ok tt = made_ok (signal_result s n t x) made in

@@ -28,6 +28,7 @@ use Rattle.world_model.specs.Due.{due}
 use Rattle.world_model.specs.PartReplies.{returned as told, phaser_reply}
 use Rattle.world_model.specs.Replies.{reply, is_made}
 use Rattle.world_core.specs.inner.Steps.{is_first, wants_pass, is_to_pass, may_claim, may_report, claim_asked, report_asked, passed_on, told_pass, claim_outcome, claim_answer, claim_state, report_result, report_answer, report_state, done_by, state_by, phaser_called, with_task}
+use Rattle.world_core.proofs.LimitsStay.{limits_by_pass, limits_by}
 use Rattle.world_core.specs.StandsFor.{TaskStands, StandsFor, IsStep, due_by, has_left}
 use Rattle.world_core.proofs.Quiet.{phasers_same}
 use Rattle.world_core.proofs.Called.{step_stands}
@@ -182,6 +183,7 @@ phaser_called_by s n e = record s { phasers = set s.phasers n (with_event (story
 pub claim_is_step : (s : WorldState) (n t : ℕ) → IsStep (Phaser n (Claim t)) s (claim_state s n t) (claim_answer s n t)
 claim_is_step s n t = record {
   unchanged = pass_unchanged (claim_outcome s n t) s (phaser_called s n (pass t)) (phaser_called s n (pass t));
+  limits = limits_by_pass (claim_outcome s n t) s (phaser_called s n (pass t)) (phaser_called s n (pass t)) refl refl;
   answer = λ w st. claim_answers s w n t st;
   stands = λ w st made.
       let k = task_at s t in
@@ -216,6 +218,7 @@ report_unchanged (Err r) s new e = refl
 pub report_is_step : (s : WorldState) (n t : ℕ) → IsStep (Phaser n (Did t)) s (report_state s n t) (report_answer s n t)
 report_is_step s n t = record {
   unchanged = report_unchanged (report_result s n t) s (phaser_called s n (single_done t));
+  limits = limits_by (report_result s n t) s (phaser_called s n (single_done t)) refl;
   answer = λ w st. report_answers s w n t st;
   stands = λ w st made.
       let k = task_at s t in

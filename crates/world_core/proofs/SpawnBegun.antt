@@ -31,6 +31,7 @@ use Rattle.world_core.specs.declared.plan.Plan.TheVariants as plan
 use Rattle.world_core.specs.TaskState.{TaskState}
 use Rattle.world_core.specs.WorldState.{WorldState}
 use Rattle.world_core.specs.Kept.{blank_task, task_at, is_ready}
+use Rattle.world_core.proofs.LimitsStay.{limits_unless, entered_limits}
 use Rattle.world_core.specs.StandsFor.{TaskStands, StandsFor, IsStep, due_by, inner_of}
 use Rattle.world_core.specs.inner.Steps.{done_unless, unless_refused}
 use Rattle.world_core.specs.inner.Begins.{is_child_named, pair_conditions, own_conditions, begin_refusal, spawn_begun, named_for, line_begun, entered, begin_answer, begin_state}
@@ -236,6 +237,7 @@ entered_stands s w t End size st ready new few met accepted = entry_stands s w t
 pub begin_is_step : (s : WorldState) (t : ℕ) (b : Begun) → length s.tasks ≡ s.limits.tasks → IsStep (Begin t b) s (begin_state s t b) (begin_answer s t b)
 begin_is_step s t b size = record {
   unchanged = begin_unchanged (begin_refusal s t b) s (entered s t b);
+  limits = limits_unless (begin_refusal s t b) s (entered s t b) (entered_limits s t b);
   answer = λ w st. begin_answers s w t b st;
   stands = λ w st made.
       let k = task_at s t in

@@ -36,6 +36,7 @@ use Rattle.world_model.specs.PartReplies.{finish_returned}
 use Rattle.world_model.specs.Replies.{reply, is_made, is_accepted, is_legal_world}
 use Rattle.world_core.specs.inner.Steps.{done_by, state_by, with_task}
 use Rattle.world_core.specs.inner.SpawnSteps.{wants_spawn, is_to_spawn, spawner_at, spawn_wanted, spawn_result, spawn_answer, spawn_state, born_in, spawn_noted, child_born}
+use Rattle.world_core.proofs.LimitsStay.{limits_by}
 use Rattle.world_core.specs.StandsFor.{TaskStands, StandsFor, IsStep, due_by, inner_of, end_of, fits_plan, has_left}
 use Rattle.world_model.proofs.OthersLeave.{due_other, due_own}
 use Rattle.world_core.proofs.TableReads.{read_set}
@@ -314,6 +315,7 @@ not_same w q c d some none =
 pub spawn_is_step : (s : WorldState) (f c : ℕ) → IsStep (Finish f (Spawned c)) s (spawn_state s f c) (spawn_answer s f c)
 spawn_is_step s f c = record {
   unchanged = spawn_unchanged (spawn_result s f c) s (with_task (child_born s f c) (spawner_at s c) (spawn_noted (task_at (child_born s f c) (spawner_at s c))));
+  limits = limits_by (spawn_result s f c) s (with_task (child_born s f c) (spawner_at s c) (spawn_noted (task_at (child_born s f c) (spawner_at s c)))) refl;
   answer = λ w st. spawn_answers s w f c st;
   stands = λ w st is_done.
       let e = Finish f (Spawned c) in

@@ -3,4 +3,5 @@ pub mod TaskState
 pub mod WorldState
 pub mod Kept
 pub mod StandsFor
+pub mod TaskLog
 pub mod inner

@@ -108,8 +108,9 @@ pub record StandsFor (w : List WorldEvent) (s : WorldState) : Type 0 where
   pub finishes : (f : ℕ) → FinishStands s w f
   pub tasks : (t : ℕ) → TaskStands s.outers w t (task_at s t)
 
--- a step: what is not made changes nothing; for each history for which the world stood, the answer is the history's reply; and where the event is made, the world stands for what follows
+-- a step: the limits stay; what is not made changes nothing; for each history for which the world stood, the answer is the history's reply; and where the event is made, the world stands for what follows
 pub record IsStep (e : WorldEvent) (old new : WorldState) (answered : Result Reply Refusal) : Type 0 where
+  pub limits : new.limits ≡ old.limits
   pub unchanged : is_made answered ≡ false → new ≡ old
   pub answer : (w : List WorldEvent) → StandsFor w old → answered ≡ reply old.limits w e
   pub stands : (w : List WorldEvent) → StandsFor w old → is_made answered ≡ true → StandsFor (e ∷ w) new

@@ -12,3 +12,4 @@ pub mod Drawings
 pub mod Refusals
 pub mod Failures
 pub mod Sends
+pub mod Reports

@@ -4,12 +4,15 @@
 
 mod phaser;
 mod plan;
+mod reporting;
 mod tables;
 mod task;
+mod task_log;
 mod world;
 
 pub use plan::Plan;
 pub use tables::Unused;
+pub use task_log::Log;
 pub use world::World;
 
 #[cfg(test)]

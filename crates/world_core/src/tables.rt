@@ -25,6 +25,7 @@ mod opening;
 mod queries;
 mod refusals;
 mod registering;
+mod reporting;
 mod sends;
 mod spawning;
 mod stepping;

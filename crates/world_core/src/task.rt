@@ -14,6 +14,7 @@ mod dropping;
 mod giving_up;
 mod joining;
 mod registering;
+mod reporting;
 mod spawning;
 
 /// How many phasers a task is on at once, at most.

@@ -5,9 +5,14 @@ use phase_model::{Look, Op, Ops};
 use phase_modes::{Limits, Mode, Pair, Phased, Refusal};
 use std::alloc::Global;
 use std::process::Abort;
-use world_model::{Begun, Condition, Reply, Step, Tried, WorldEvent};
+use world_model::{
+    Begun, Condition, FinishLine, FoldLine, Reply, Step, TaskLine, TotalsLine, Tried, WorldEvent,
+    WorldReport,
+};
 
 mod limits;
+mod logs;
+mod reports;
 mod worlds;
 
 /// An event, and the reply that a world gives to it.

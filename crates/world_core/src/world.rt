@@ -7,6 +7,7 @@ ghost use Rattle.world_model.specs.Clock.{clock};
 ghost use Rattle.world_model.specs.Due.{next_event};
 ghost use Rattle.world_model.specs.Able.{is_able, is_stuck};
 ghost use Rattle.world_model.specs.Drawing.{least_unused, own_pairs};
+ghost use Rattle.world_model.specs.Report.{report_of};
 ghost use Rattle.world_model.specs.Numbers.{is_phaser, is_finish, is_named};
 ghost use Rattle.world_core.specs.StandsFor.{StandsFor, IsStep};
 
@@ -14,7 +15,7 @@ use crate::tables::{Tables, Unused};
 use phase_modes::{Limits, Phased, Refusal};
 use std::alloc::Global;
 use std::marker::Model;
-use world_model::{Condition, Reply, WorldEvent};
+use world_model::{Condition, Reply, WorldEvent, WorldReport};
 
 /// Many phasers, finishes and tasks at once. Contracts see what it keeps; there is always a legal
 /// history for which that stands, and what a world reports is read off each such history.
@@ -106,6 +107,16 @@ impl World {
         ensures { (w : List Event) → StandsFor w self.now → result ≡ own_pairs task w }
     {
         self.tables.own_pairs(task)
+    }
+
+    /// What the phasers, the tasks and the finishes came to, by rising number. Each phaser's history is
+    /// read once. The lines take memory; `Memory` where that is refused.
+    pub fn report(&self, alloc: Global) -> Result<WorldReport, Refusal>
+        ensures report { (w : List Event) → StandsFor w self.now
+            → IfOk result (λ r. r ≡ report_of self.now.limits w) }
+        ensures memory { IfErr result (λ r. r ≡ Refusal.Memory) }
+    {
+        self.tables.report(alloc)
     }
 
     /// It does nothing. Its contract is a law of each world: as long as some task hasn't ended, some

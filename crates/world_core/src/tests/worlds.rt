@@ -1,4 +1,5 @@
 //! Worked examples of finishes and turns: each event with its reply, and the report at the end.
+use super::reports::{NOTHING, ended, phasers_are, refused_with, rest_is, sum_is, tasks_in};
 use super::*;
 
 /// A spawn of task 1, as a signaller of phaser 0.
@@ -23,6 +24,16 @@ fn outside_scope(rt: HostRuntime) -> Result<(), Refusal> {
     let world = play(&rt, rt.alloc(), Limits::default(), rows.as_slice())?;
     assert_eq!(rt; world.condition(0), Some(Condition::Ended));
     assert_eq!(rt; world.next_event(0), None);
+    let report = world.report(rt.alloc())?;
+    phasers_are(&rt, &report, [(0, 0)].as_slice());
+    let tasks = [refused_with(0, 12)];
+    let finishes = [tasks_in(0, 0), tasks_in(1, 0)];
+    let totals = TotalsLine {
+        registered: 1,
+        drops: 1,
+        ..NOTHING
+    };
+    rest_is(&rt, &report, tasks.as_slice(), finishes.as_slice(), totals);
     Ok(())
 }
 
@@ -54,6 +65,11 @@ fn nested_finish(rt: HostRuntime) -> Result<(), Refusal> {
     assert!(rt; world.able(2));
     go_on(&rt, &mut world, rest.as_slice());
     assert_eq!(rt; world.condition(1), Some(Condition::Ended));
+    let report = world.report(rt.alloc())?;
+    phasers_are(&rt, &report, [].as_slice());
+    let tasks = [ended(0), ended(1), ended(2)];
+    let finishes = [tasks_in(0, 0), tasks_in(1, 2)];
+    rest_is(&rt, &report, tasks.as_slice(), finishes.as_slice(), NOTHING);
     Ok(())
 }
 
@@ -84,6 +100,17 @@ fn owner_leaves_before_shut(rt: HostRuntime) -> Result<(), Refusal> {
     let world = play(&rt, rt.alloc(), Limits::default(), rows.as_slice())?;
     assert_eq!(rt; world.clock(1), 1);
     assert_eq!(rt; world.clock(0), 0);
+    let report = world.report(rt.alloc())?;
+    phasers_are(&rt, &report, [(0, 1)].as_slice());
+    let tasks = [ended(0), ended(1)];
+    let finishes = [tasks_in(0, 0), tasks_in(1, 1)];
+    let totals = TotalsLine {
+        registered: 2,
+        passes: 1,
+        drops: 2,
+        ..NOTHING
+    };
+    rest_is(&rt, &report, tasks.as_slice(), finishes.as_slice(), totals);
     Ok(())
 }
 
@@ -165,6 +192,23 @@ fn crossed_signals(rt: HostRuntime) -> Result<(), Refusal> {
     go_on(&rt, &mut world, first_ends.as_slice());
     go_on(&rt, &mut world, last_ends().as_slice());
     assert_eq!(rt; world.condition(0), Some(Condition::Ended));
+    let report = world.report(rt.alloc())?;
+    phasers_are(&rt, &report, [(0, 3), (1, 3)].as_slice());
+    let tasks = [ended(0), ended(1), ended(2)];
+    let totals = TotalsLine {
+        registered: 6,
+        signals: 6,
+        passes: 12,
+        drops: 6,
+        ..NOTHING
+    };
+    rest_is(
+        &rt,
+        &report,
+        tasks.as_slice(),
+        [tasks_in(0, 2)].as_slice(),
+        totals,
+    );
     Ok(())
 }
 
@@ -186,6 +230,23 @@ fn crossed_signals_refused(rt: HostRuntime) -> Result<(), Refusal> {
     go_on(&rt, &mut world, last_ends().as_slice());
     assert_eq!(rt; world.clock(1), 0);
     assert_eq!(rt; world.clock(2), 3);
+    let report = world.report(rt.alloc())?;
+    phasers_are(&rt, &report, [(0, 3), (1, 3)].as_slice());
+    let tasks = [ended(0), refused_with(1, 6), ended(2)];
+    let totals = TotalsLine {
+        registered: 6,
+        signals: 3,
+        passes: 6,
+        drops: 6,
+        ..NOTHING
+    };
+    rest_is(
+        &rt,
+        &report,
+        tasks.as_slice(),
+        [tasks_in(0, 2)].as_slice(),
+        totals,
+    );
     Ok(())
 }
 
@@ -222,6 +283,23 @@ fn one_single(rt: HostRuntime) -> Result<(), Refusal> {
     let world = play(&rt, rt.alloc(), Limits::default(), rows.as_slice())?;
     assert_eq!(rt; world.clock(0), 1);
     assert_eq!(rt; world.condition(1), Some(Condition::Ending));
+    let report = world.report(rt.alloc())?;
+    phasers_are(&rt, &report, [(0, 1)].as_slice());
+    let tasks = [ended(0), refused_with(1, 7), ended(2)];
+    let totals = TotalsLine {
+        registered: 3,
+        signals: 1,
+        passes: 2,
+        drops: 1,
+        ..NOTHING
+    };
+    rest_is(
+        &rt,
+        &report,
+        tasks.as_slice(),
+        [tasks_in(0, 2)].as_slice(),
+        totals,
+    );
     Ok(())
 }
 
@@ -237,6 +315,19 @@ fn sending_turn(phase: u32, first: i32, second: i32) -> [Row; 9] {
         done(on(0, Step::Sig(2, None))),
         passed(0, 2, phase),
         passed(0, 1, phase),
+    ]
+}
+
+/// Both tasks' ends, and the root's.
+fn senders_end() -> [Row; 7] {
+    [
+        done(begin(1, Begun::End)),
+        done(on(0, Step::Drop(1))),
+        done(within(0, FinishEvent::Ended(1))),
+        done(begin(2, Begun::End)),
+        done(on(0, Step::Drop(2))),
+        done(within(0, FinishEvent::Ended(2))),
+        done(within(0, FinishEvent::Shut)),
     ]
 }
 
@@ -260,5 +351,32 @@ fn two_senders(rt: HostRuntime) -> Result<(), Refusal> {
     let seen = [(on(0, Step::Look(1, 0)), Ok(Reply::Value(Look::Value(3))))];
     go_on(&rt, &mut world, seen.as_slice());
     go_on(&rt, &mut world, sending_turn(1, 10, 20).as_slice());
+    go_on(&rt, &mut world, senders_end().as_slice());
+    let report = world.report(rt.alloc())?;
+    phasers_are(&rt, &report, [(0, 2)].as_slice());
+    let sums = [sum_is(0, 3), sum_is(1, 30)];
+    assert!(rt;
+        report
+            .phasers
+            .iter()
+            .all(|lines| lines.folds.as_slice() == sums.as_slice())
+    );
+    let tasks = [ended(0), ended(1), ended(2)];
+    let totals = TotalsLine {
+        registered: 3,
+        signals: 4,
+        passes: 4,
+        drops: 3,
+        sends: 4,
+        up: 33,
+        down: 0,
+    };
+    rest_is(
+        &rt,
+        &report,
+        tasks.as_slice(),
+        [tasks_in(0, 2)].as_slice(),
+        totals,
+    );
     Ok(())
 }

@@ -30,6 +30,7 @@ invariant_of-self g c =
       kept = kept s _ cell.book _ cell.parked.items _ (pass t) _ _ cell.kept matches is c.post_if.ensures.book c.post_if.ensures.room
           (parking_waits s _ cell.book c.pass-answer.result p cell.parked.items _ cell.kept is c.pass-answer.ensures.reply left)
           (parking_once c.pass-answer.result p cell.parked.items _ cell.kept.once left);
+      any_ops = c.pass-answer.ensures.room ∙ cell.any_ops;
       seats = c.settle.ensures.seats;
       seated = c.settle.ensures.seated;
     }

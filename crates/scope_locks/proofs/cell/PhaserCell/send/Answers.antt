@@ -15,6 +15,7 @@ invariant_of-self g c =
     let matches = matches_result s (send c.args.task c.args.accumulator c.args.value) c.is_ok.result (c.is_ok.ensures.value ∙ ap (λ a. is_ok a) reply) in
     record {
       kept = kept s _ cell.book _ cell.parked.items cell.parked.items (send c.args.task c.args.accumulator c.args.value) _ _ cell.kept matches is (rw round at c.post_if.ensures.book) (rw round at c.post_if.ensures.room) (stays_waiting s _ cell.book cell.parked.items (send c.args.task c.args.accumulator c.args.value) cell.kept is refl) cell.kept.once;
+      any_ops = c.send-answer.ensures.room ∙ cell.any_ops;
       seats = cell.seats;
       seated = cell.seated;
     }

@@ -28,6 +28,7 @@ invariant_of-self g c =
     let left = c.release_if.ensures.parked in
     record {
       kept = kept s _ cell.book _ cell.parked.items _ (signal c.args.task c.args.number) _ _ cell.kept matches is c.post_if.ensures.book c.post_if.ensures.room (all_waiting s' cell.parked.items _ left) (once_waiting s' cell.parked.items _ cell.kept.once left);
+      any_ops = c.signal-answer.ensures.room ∙ cell.any_ops;
       seats = c.release_if.ensures.seats;
       seated = c.release_if.ensures.seated;
     }

@@ -1,0 +1,54 @@
+#!/usr/bin/env python3
+"""Prints a program for the benchmark: generate_program.py KIND NUMBER..
+
+turns TASKS TURNS PHASERS   on each phaser, so many tasks that do next so often
+cells CELLS STEPS           a stencil of so many cells
+spawns TASKS ACTS           so many tasks, each with a body of so many acts, of which it makes one
+nothing                     no act at all
+"""
+import json
+import sys
+
+LIMITS = {"acts": 65536, "history": 65536}  # the others are the defaults, but for many spawns
+MOST_REPEATS = 1000  # of one repeat
+
+
+def times(count, acts):
+    """The acts so often, as repeats that each fit."""
+    whole, rest = divmod(count, MOST_REPEATS)
+    return [["repeat", MOST_REPEATS, acts]] * whole + ([["repeat", rest, acts]] if rest else [])
+
+
+def turns(tasks, count, phasers):
+    main = []
+    for phaser in range(phasers):
+        name = "p%d" % phaser
+        main.append(["new", name, "SIG_WAIT", []])
+        main += [["async", [[name, "SIG_WAIT"]], times(count, [["next"]])] for _ in range(tasks)]
+    return main
+
+
+def cells(count, steps):
+    main = [["new", "c%d" % cell, "SIG_WAIT", ["sum"]] for cell in range(count)]
+    for cell in range(count):
+        beside = [other for other in (cell - 1, cell + 1) if 0 <= other < count]
+        looks = [["look", "c%d" % other, 0] for other in beside]
+        pairs = [["c%d" % cell, "SIG_WAIT"]] + [["c%d" % other, "WAIT"] for other in beside]
+        main.append(["async", pairs, times(steps, [["send", "c%d" % cell, 0, cell], ["next"]] + looks)])
+    return main
+
+
+def spawns(tasks, acts):
+    # A look at a phaser that the task doesn't know is refused, and ends it.
+    return times(tasks, [["async", [], [["look", "unknown", 0]] + times(acts - 1, [["next"]])]])
+
+
+def main(kind, *numbers):
+    made = {"turns": turns, "cells": cells, "spawns": spawns, "nothing": lambda: []}[kind]
+    program = {"main": made(*map(int, numbers))}
+    if kind != "nothing":
+        program["limits"] = {**LIMITS, "tasks": 4096} if kind == "spawns" else LIMITS
+    print(json.dumps(program, separators=(",", ":")))
+
+
+main(*sys.argv[1:])

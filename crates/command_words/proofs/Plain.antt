@@ -1,0 +1,59 @@
+-- Words that are said plainly ask for what they say.
+use Rattle.std.proofs.Common.{◌≡◌, ◌==◌, ◌||◌, not, ℕ, [], ◌∷◌, Bool, true, false, Some, codes, refl}
+use Rattle.std.proofs.lemmas.Bool.{eqb-true}
+use Rattle.clap.specs.Words.{Text}
+use Rattle.clap.proofs.OnLiterals.{clap_on_literals}
+use Rattle.phase_modes.specs.Lists.{is_empty}
+use Rattle.command_words.specs.CommandLine.{asked_in, asked_of, events, is_plain, replay}
+
+-- a word is empty, or a hyphen alone, or begins with another byte
+cases : (P : Text → Type 0) (c : ℕ) (cs : Text) (hyphen : Bool) → (c == 45) ≡ hyphen
+    → (not hyphen || is_empty cs) ≡ true → ((c == 45) ≡ false → P (c ∷ cs)) → P (45 ∷ []) → P (c ∷ cs)
+cases P c cs false e plain other hyphen = other e
+cases P c [] true e plain other hyphen = rw (eqb-true c 45 e) hyphen
+cases P c (d ∷ ds) true e plain other hyphen = cc
+
+pub by_word : (P : Text → Type 0) (word : Text) → is_plain word ≡ true → P [] → P (45 ∷ [])
+    → ((c : ℕ) (cs : Text) → (c == 45) ≡ false → P (c ∷ cs)) → P word
+by_word P [] plain none hyphen other = none
+by_word P (c ∷ cs) plain none hyphen other = cases P c cs (c == 45) refl plain (other c cs) hyphen
+
+-- `events FILE`
+events_none : (p : Text) → asked_in (p ∷ codes "events" ∷ [] ∷ []) ≡ Some (events [])
+unfolding asked_in asked_of clap_on_literals
+events_none p = refl
+
+events_hyphen : (p : Text) → asked_in (p ∷ codes "events" ∷ (45 ∷ []) ∷ []) ≡ Some (events (45 ∷ []))
+unfolding asked_in asked_of clap_on_literals
+events_hyphen p = refl
+
+events_other : (p : Text) (c : ℕ) (cs : Text) → (c == 45) ≡ false
+    → asked_in (p ∷ codes "events" ∷ (c ∷ cs) ∷ []) ≡ Some (events (c ∷ cs))
+unfolding asked_in asked_of clap_on_literals
+events_other p c cs h = simp h
+
+pub events_plain : (p file : Text) → is_plain file ≡ true
+    → asked_in (p ∷ codes "events" ∷ file ∷ []) ≡ Some (events file)
+events_plain p file plain =
+    by_word (λ f. asked_in (p ∷ codes "events" ∷ f ∷ []) ≡ Some (events f)) file plain (events_none p)
+    (events_hyphen p) (events_other p)
+
+-- `replay FILE`
+replay_none : (p : Text) → asked_in (p ∷ codes "replay" ∷ [] ∷ []) ≡ Some (replay [])
+unfolding asked_in asked_of clap_on_literals
+replay_none p = refl
+
+replay_hyphen : (p : Text) → asked_in (p ∷ codes "replay" ∷ (45 ∷ []) ∷ []) ≡ Some (replay (45 ∷ []))
+unfolding asked_in asked_of clap_on_literals
+replay_hyphen p = refl
+
+replay_other : (p : Text) (c : ℕ) (cs : Text) → (c == 45) ≡ false
+    → asked_in (p ∷ codes "replay" ∷ (c ∷ cs) ∷ []) ≡ Some (replay (c ∷ cs))
+unfolding asked_in asked_of clap_on_literals
+replay_other p c cs h = simp h
+
+pub replay_plain : (p file : Text) → is_plain file ≡ true
+    → asked_in (p ∷ codes "replay" ∷ file ∷ []) ≡ Some (replay file)
+replay_plain p file plain =
+    by_word (λ f. asked_in (p ∷ codes "replay" ∷ f ∷ []) ≡ Some (replay f)) file plain (replay_none p)
+    (replay_hyphen p) (replay_other p)

@@ -1,0 +1,204 @@
+//! The words of the command line, as `clap` tells them.
+ghost use Rattle.std.specs.Prelude.{◌≡◌, List, Some, map, false, option_map, IfOk, MatchResult};
+ghost use Rattle.clap.specs.Words.{app_of, found_of, kind_of, rows_of, rule_of};
+ghost use Rattle.clap.specs.declared.builder.command.Command.TheViews.{out-Command as fields_of};
+ghost use Rattle.command_words.specs.CommandLine.{Asked, asked_among, asked_by, asked_in, bare_app, events_app, file_rule, option_rule, program_app, replay_app, schedule_app};
+
+use crate::command_line::NoJob;
+use clap::error::ErrorKind;
+use clap::{Arg, ArgMatches, Command};
+use std::alloc::{AllocError, Global};
+
+/// A command, with its words.
+#[derive(Clone, Copy)]
+pub enum Words<'a> {
+    Events {
+        file: &'a str,
+    },
+    Schedule {
+        file: &'a str,
+        picks: Option<&'a str>,
+        trace: Option<&'a str>,
+    },
+    Replay {
+        file: &'a str,
+    },
+}
+
+/// What an error of the reading of arguments comes to.
+fn no_job_for(error: clap::Error) -> NoJob
+    ensures { kind_of error ≡ ErrorKind.OutOfMemory → result ≡ NoJob.Memory }
+{
+    match error.kind() {
+        ErrorKind::OutOfMemory => NoJob::Memory,
+        _ => NoJob::Arguments(error),
+    }
+}
+
+/// What `--version` says after the program's name.
+const VERSION: &str = "0.1.0";
+
+/// What `events --help` says of the file and of the lines.
+const EVENTS_HELP: &str = "\
+The file is JSON: {\"limits\":{..},\"accs\":[..],\"calls\":[..]}, at most 1,048,576 bytes.
+Limits, all optional: acts, finishes, history, phasers, regs, tasks.
+Accumulators, optional: up to four of \"sum\", \"least\", \"greatest\".
+Calls, with task numbers t and q, and a mode SIG, WAIT, SIG_WAIT or SINGLE:
+  [\"make\",t,mode]   [\"reg\",q,t,mode]   [\"sig\",t]   [\"sig\",t,number]
+  [\"pass\",t]   [\"did\",t]   [\"send\",t,acc,value]   [\"look\",t,acc]   [\"drop\",t]
+Lines: ok, ok phase P, claim N, value V, none, not yet, refused NUMBER NAME.
+A file that isn't of this form is refused whole: refused 24 BadText at PLACE,
+with the number of the first bad call, or 0.";
+
+/// What `schedule --help` says of the file, the picks and the lines.
+const SCHEDULE_HELP: &str = "\
+The file is JSON: {\"limits\":{..},\"main\":[acts]}, at most 1,048,576 bytes.
+Limits, all optional: acts, finishes, history, phasers, regs, tasks.
+Acts, with a phaser's name, a mode SIG, WAIT, SIG_WAIT or SINGLE, and numbers:
+  [\"new\",name,mode,[\"sum\",\"least\",\"greatest\"]]   [\"async\",[[name,mode],..],[acts]]
+  [\"async_all\",[acts]]   [\"open\"]   [\"shut\"]   [\"signal\"]   [\"wait\"]   [\"next\"]
+  [\"single\",number]   [\"send\",name,acc,value]   [\"look\",name,acc]   [\"repeat\",times,[acts]]
+A pick is the number of a task, which makes one event, if it can. After LIST the tasks are picked
+by number, round after round, until all have ended.
+Lines: phaser N phases K, its folds, task T ended or refused, finish F tasks N, totals.
+A file that isn't of this form is refused whole: refused 24 BadText at PLACE,
+with the number of the first bad act, or 0.";
+
+/// What `schedule --help` says of LIST.
+const PICKS_HELP: &str =
+    "The tasks that are picked first: 1 to 10,000 numbers with commas between them";
+
+/// What `replay --help` says of the file and of the lines.
+const REPLAY_HELP: &str = "\
+The file is the trace of schedule, at most 67,108,864 bytes. Its events are made again one by one.
+Lines: the report of the run. A trace that no run makes is refused: refused 25 NotExplained at
+PLACE, with the number of the first event that can't be made there.";
+
+/// What `--help` says of the exit status.
+const PROGRAM_HELP: &str = "\
+Exit status: 0 done, 1 refused (bad text, or memory ran out), 2 bad words, help or version,
+3 a read or a write failed.";
+
+/// FILE, which has to be there.
+fn file_argument<'a>(alloc: Global, help: &'a str) -> Arg<'a>
+    ensures rule { rule_of result ≡ file_rule }
+    ensures local { result.global ≡ false }
+{
+    Arg::new(alloc, "file")
+        .value_name("FILE")
+        .help(help)
+        .required(true)
+}
+
+/// `--NAME VALUE`, which needn't be there.
+fn option<'a>(alloc: Global, name: &'a str, value: &'a str, help: &'a str) -> Arg<'a>
+    ensures rule { rule_of result ≡ option_rule name.now }
+    ensures local { result.global ≡ false }
+{
+    Arg::new(alloc, name)
+        .long(name)
+        .value_name(value)
+        .help(help)
+}
+
+/// `events FILE`.
+fn events_command<'a>(alloc: Global) -> Result<Command<'a>, AllocError>
+    ensures app { IfOk result (λ c. app_of c ≡ events_app) }
+    ensures local { IfOk result (λ c. (fields_of c).has_globals ≡ false) }
+{
+    let file = file_argument(alloc, "The events file; - reads standard input");
+    Command::new(alloc, "events")
+        .about("Applies the calls of an events file to one phaser, and prints a line for each")
+        .after_help(EVENTS_HELP)
+        .arg(file)
+}
+
+/// `schedule FILE [--picks LIST] [--trace OUT]`.
+fn schedule_command<'a>(alloc: Global) -> Result<Command<'a>, AllocError>
+    ensures app { IfOk result (λ c. app_of c ≡ schedule_app) }
+    ensures local { IfOk result (λ c. (fields_of c).has_globals ≡ false) }
+{
+    let file = file_argument(alloc, "The program; - reads standard input");
+    let picks = option(alloc, "picks", "LIST", PICKS_HELP);
+    let trace = option(alloc, "trace", "OUT", "Writes the trace into this file");
+    Command::new(alloc, "schedule")
+        .about("Runs a program of tasks without threads, and prints the report")
+        .after_help(SCHEDULE_HELP)
+        .arg(file)?
+        .arg(picks)?
+        .arg(trace)
+}
+
+/// `replay FILE`.
+fn replay_command<'a>(alloc: Global) -> Result<Command<'a>, AllocError>
+    ensures app { IfOk result (λ c. app_of c ≡ replay_app) }
+    ensures local { IfOk result (λ c. (fields_of c).has_globals ≡ false) }
+{
+    let file = file_argument(alloc, "The trace; - reads standard input");
+    Command::new(alloc, "replay")
+        .about("Makes the events of a trace again, and prints the report")
+        .after_help(REPLAY_HELP)
+        .arg(file)
+}
+
+/// The program, without its subcommands.
+fn bare_command<'a>(alloc: Global) -> Command<'a>
+    ensures { app_of result ≡ bare_app }
+{
+    Command::new(alloc, "phaser_run")
+        .version(VERSION)
+        .about("Runs phasers: barriers for a changing set of tasks")
+        .after_help(PROGRAM_HELP)
+        .subcommand_required(true)
+        .disable_help_subcommand(true)
+}
+
+/// The whole command line.
+fn command<'a>(alloc: Global) -> Result<Command<'a>, AllocError>
+    ensures app { IfOk result (λ c. app_of c ≡ program_app) }
+{
+    bare_command(alloc)
+        .subcommand(events_command(alloc)?)?
+        .subcommand(schedule_command(alloc)?)?
+        .subcommand(replay_command(alloc)?)
+}
+
+/// What the subcommand of this name is asked for.
+fn words_among<'a>(name: &str, found: &ArgMatches<'a>) -> Option<Words<'a>>
+    ensures { option_map asked_by result ≡ asked_among (name.now, rows_of (found_of found.now)) }
+{
+    match name {
+        "events" => Some(Words::Events {
+            file: found.get_str("file")?,
+        }),
+        "schedule" => Some(Words::Schedule {
+            file: found.get_str("file")?,
+            picks: found.get_str("picks"),
+            trace: found.get_str("trace"),
+        }),
+        "replay" => Some(Words::Replay {
+            file: found.get_str("file")?,
+        }),
+        _ => None,
+    }
+}
+
+/// The command that the words name, with its words; the first is the program's own name.
+pub fn words_of<'a>(alloc: Global, arguments: &'a [&'a str]) -> Result<Words<'a>, NoJob>
+    ensures asked { IfOk result (λ words. asked_in (map (λ w. w.now) arguments.entry.now) ≡ Some (asked_by words)) }
+    // Words that name a command with its words are refused for want of memory alone.
+    ensures named { (asked : Asked) → asked_in (map (λ w. w.now) arguments.entry.now) ≡ Some asked
+        → MatchResult result (λ words. asked_by words ≡ asked) (λ e. e ≡ NoJob.Memory) }
+{
+    let matches = match command(alloc)?.try_get_matches_from(arguments) {
+        Ok(matches) => matches,
+        Err(error) => return Err(no_job_for(error)),
+    };
+    let Some((name, found)) = matches.subcommand() else {
+        return Err(NoJob::Missing);
+    };
+    match words_among(name, found) {
+        Some(words) => Ok(words),
+        None => Err(NoJob::Missing),
+    }
+}

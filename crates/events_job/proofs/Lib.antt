@@ -1,0 +1,2 @@
+-- Lemmas on the file that bytes spell.
+pub mod Spelled

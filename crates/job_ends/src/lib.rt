@@ -1,0 +1,14 @@
+//! How a job of the program ends: its failures and the line that tells each, the exit statuses, and
+//! the bytes of a reader up to a limit. The jobs themselves stand in the crates above.
+#![tactic(auto)]
+
+mod failure;
+mod input;
+mod output;
+
+pub use failure::{Ending, Failure, Status, write_text};
+pub use input::{ReadAll, Reads, bytes_of, read_all};
+pub use output::put_text;
+
+#[cfg(test)]
+mod tests;

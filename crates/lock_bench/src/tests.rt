@@ -1,0 +1,209 @@
+//! Phasers shared through a table: the worked examples by one thread, a waiter that is let go on, and
+//! threads that call at the same time.
+ghost use Rattle.std.specs.Prelude.{◌≡◌, [], ◌<◌, ◌≤◌, true};
+ghost use Rattle.share_book.specs.Opening.{IsNamed, IsParted};
+
+use crate::calls::is_drained;
+use crate::command_line::job_of;
+use crate::kind::Kind;
+use crate::threads::{events_of, numbered};
+use phase_model::{Call, Look, Op, Ops, Reply, explain};
+use phase_modes::{Limits, Mode, Refusal};
+use scope_locks::{FinishTable, Out, PassAnswer, PhaserCell, PhaserParts, PhaserTable, ShutAnswer};
+use share_book::{Blanks, Books, Ledgers, Seven, Shares, Totals, gather, open};
+use std::alloc::Global;
+use std::marker::Brand;
+use std::process::Abort;
+use std::sync::Wait;
+use std::sync::ledger::Ledger;
+use std::test::*;
+
+mod examples_on_table;
+mod finishes;
+mod threads;
+mod waiter;
+
+fn plainly(answer: Result<(), Refusal>) -> Reply {
+    match answer {
+        Ok(()) => Reply::Done,
+        Err(refusal) => Reply::Refused(refusal),
+    }
+}
+
+fn turned(answer: PassAnswer<u32>) -> Reply {
+    match answer {
+        PassAnswer::Passed(_, phase) => Reply::Phase(phase),
+        PassAnswer::Claimed(_, number) => Reply::Claim(number),
+        PassAnswer::Parked => Reply::NotYet,
+        PassAnswer::Refused(_, refusal) => Reply::Refused(refusal),
+    }
+}
+
+fn looked(answer: Result<Look, Refusal>) -> Reply {
+    match answer {
+        Ok(seen) => Reply::Saw(seen),
+        Err(refusal) => Reply::Refused(refusal),
+    }
+}
+
+/// Makes the call on a phaser of the table, a making with these operators. The item of a task is its
+/// number.
+fn answer_to<K: Ledgers, R: Wait>(
+    rt: &R,
+    table: &PhaserTable<u32, K>,
+    number: usize,
+    mine: &mut Shares<K>,
+    out: &mut Out<u32>,
+    ops: Ops,
+    call: Call,
+) -> Reply
+    requires number { number < table.now.phasers }
+    requires empty { out.old ≡ [] }
+{
+    match call {
+        Call::Make(task, mode) => plainly(table.make(rt, number, mine, task, mode, ops)),
+        Call::Register(parent, child, mode) => {
+            plainly(table.register(rt, number, mine, parent, child, mode))
+        }
+        Call::Signal(task, proposed) => {
+            plainly(table.signal(rt, number, mine, out, task, proposed))
+        }
+        Call::Pass(task) => turned(table.pass(rt, number, mine, task, task)),
+        Call::SingleDone(task) => plainly(table.single_done(rt, number, mine, out, task)),
+        Call::Send(task, accumulator, value) => {
+            plainly(table.send(rt, number, mine, task, accumulator, value))
+        }
+        Call::Look(task, accumulator) => looked(table.look(rt, number, mine, task, accumulator)),
+        Call::Drop(task) => plainly(table.drop_task(rt, number, mine, out, task)),
+    }
+}
+
+/// The default limits, but for the events of a history and the registrations at once.
+fn limits_with(history: u32, regs: u32) -> Limits {
+    Limits {
+        history,
+        regs,
+        ..Limits::default()
+    }
+}
+
+/// The first so many of a sum, a least and a greatest.
+fn first_ops(count: usize) -> Ops {
+    let mut ops = Ops::none();
+    for op in [Op::Sum, Op::Least, Op::Greatest] {
+        if ops.len() < 4 && ops.len() < count {
+            ops.push(op);
+        }
+    }
+    ops
+}
+
+/// Names the ledgers, and plays one example.
+fn example<R: Abort + Wait>(
+    rt: &R,
+    alloc: Global,
+    limits: Limits,
+    ops: Ops,
+    rows: &[(Call, Reply)],
+) -> Result<(), Refusal> {
+    let blanks = Blanks::new(1, 1);
+    named::<R, Brand, Brand, Brand, Brand, Brand, Brand, Brand>(
+        rt, alloc, blanks, limits, ops, rows,
+    )
+}
+
+fn named<
+    R: Abort + Wait,
+    A: Ledger,
+    B: Ledger,
+    C: Ledger,
+    D: Ledger,
+    E: Ledger,
+    F: Ledger,
+    G: Ledger,
+>(
+    rt: &R,
+    alloc: Global,
+    blanks: Blanks,
+    limits: Limits,
+    ops: Ops,
+    rows: &[(Call, Reply)],
+) -> Result<(), Refusal>
+    requires names { IsNamed blanks A.name B.name C.name D.name E.name F.name G.name }
+    requires parts { IsParted blanks A.parts B.parts C.parts D.parts E.parts F.parts G.parts }
+{
+    play::<Seven<A, B, C, D, E, F, G>, R>(rt, alloc, blanks, limits, ops, rows)
+}
+
+/// Each call is answered as its row says; the history that they leave is explained, and gathered.
+fn play<K: Ledgers, R: Abort + Wait>(
+    rt: &R,
+    alloc: Global,
+    blanks: Blanks,
+    limits: Limits,
+    ops: Ops,
+    rows: &[(Call, Reply)],
+) -> Result<(), Refusal>
+    requires names { IsNamed blanks K.EventsByPhaser.name K.EventsByWorker.name K.UpByPhaser.name
+        K.UpByWorker.name K.DownByPhaser.name K.DownByWorker.name K.Room.name }
+    requires parts { IsParted blanks K.EventsByPhaser.parts K.EventsByWorker.parts K.UpByPhaser.parts
+        K.UpByWorker.parts K.DownByPhaser.parts K.DownByWorker.parts K.Room.parts }
+{
+    if !limits.fits() {
+        return Err(Refusal::NotNow);
+    }
+    let (books, phasers, mut shares) = open::<K>(alloc, blanks)?;
+    let table = PhaserTable::new(alloc, limits, books, phasers)?;
+    let mut events = 0u64;
+    for (call, expected) in rows {
+        let mut out = Out::new(alloc)?;
+        if let Some(mine) = shares.get_mut(0) {
+            if table.phasers > 0 {
+                let answer = answer_to(rt, &table, 0, mine, &mut out, ops, *call);
+                assert_eq!(rt; answer, *expected, "{call:?}");
+            }
+        }
+        match expected {
+            Reply::NotYet | Reply::Refused(_) => {}
+            _ => events = events.saturating_add(1),
+        }
+    }
+    let parts = table.into_parts();
+    for state in &parts.states {
+        assert_eq!(rt; explain(state.history()), Ok(()));
+    }
+    let totals = gather(shares, parts.phasers, parts.books)?;
+    assert_eq!(rt; totals.events, events);
+    Ok(())
+}
+
+#[test]
+fn arguments_name_a_job(rt: HostRuntime) -> Result<(), Fail> {
+    let job = job_of(&["lock_bench", "turn", "256", "32768", "32", "2"]).ok_or("no job")?;
+    assert_eq!(rt; job.kind, Kind::Turn);
+    assert_eq!(rt; job.tasks, 256);
+    assert_eq!(rt; job.phases, 32_768);
+    assert_eq!(rt; job.phasers, 32);
+    assert_eq!(rt; job.threads, 2);
+    Ok(())
+}
+
+#[test]
+fn bad_arguments_name_none(rt: HostRuntime) -> Result<(), Fail> {
+    assert_eq!(rt; Kind::of_name("turns"), None);
+    assert_eq!(rt; job_of(&["lock_bench", "turn", "256", "1", "1"]), None);
+    assert_eq!(rt; job_of(&["lock_bench", "turn", "257", "1", "1", "1"]), None);
+    assert_eq!(rt; job_of(&["lock_bench", "turn", "1", "1", "1", "0"]), None);
+    Ok(())
+}
+
+// Ahead: 1 making, 3 registrations, and a signal and a pass in each of 5 phases. Free: the same 4, and
+// in each phase a signal and 4 passes.
+#[test]
+fn events_of_jobs(rt: HostRuntime) -> Result<(), Fail> {
+    let ahead = job_of(&["lock_bench", "ahead", "4", "5", "1", "1"]).ok_or("no job")?;
+    assert_eq!(rt; events_of(&rt, rt.alloc(), ahead), Ok(14));
+    let free = job_of(&["lock_bench", "free", "4", "5", "1", "1"]).ok_or("no job")?;
+    assert_eq!(rt; events_of(&rt, rt.alloc(), free), Ok(29));
+    Ok(())
+}

@@ -1,4 +1,0 @@
-pub mod CommandLine
-pub mod Ends
-pub mod File
-pub mod Input

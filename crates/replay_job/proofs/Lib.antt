@@ -1,0 +1,2 @@
+-- Lemmas on the trace that bytes spell.
+pub mod Spelled

@@ -1,0 +1,10 @@
+pub mod Reaching
+pub mod Rows
+pub mod FoldRows
+pub mod Sums
+pub mod Spawns
+pub mod Reached
+pub mod Known
+pub mod Progressing
+pub mod Adding
+pub mod Noting

@@ -1,0 +1,4 @@
+-- What the code's own functions say: no public contract cites it.
+pub mod Folds
+pub mod Totals
+pub mod Tallied

@@ -1,0 +1,17 @@
+//! The lines of a world's report: what a phaser's history comes to, found in one pass over it, and
+//! what a finish comes to.
+#![tactic(auto)]
+
+mod finish;
+mod folds;
+mod phaser;
+mod progress;
+mod tally;
+mod totals;
+
+pub use finish::finish_line;
+pub use phaser::{PhaserSums, phaser_sums};
+pub use totals::{no_totals, plus};
+
+#[cfg(test)]
+mod tests;

@@ -1,0 +1,98 @@
+//! Each public function once, with values worked out by hand.
+use super::*;
+use finish_core::FinishEvent;
+use phase_model::{Event, History, Look, Op, Ops, explain};
+use phase_modes::{Limits, Mode, Refusal};
+use std::alloc::Global;
+use std::test::Fail;
+use world_model::{FinishLine, FoldLine, TotalsLine};
+
+/// Two tasks send for phase 0, then task 1 for phase 1, while task 0 ends its turn.
+const EVENTS: [Event; 10] = [
+    Event::Make(0, Mode::SigWait),
+    Event::Reg(0, 1, Mode::Sig),
+    Event::Send(0, 0, 3),
+    Event::Send(1, 1, -5),
+    Event::Sig(1, None),
+    Event::Send(1, 0, 4),
+    Event::Sig(0, None),
+    Event::Pass(0),
+    Event::Look(0, 0, Look::Value(3)),
+    Event::Drop(1),
+];
+
+/// A sum and a least.
+fn two_ops() -> Ops {
+    let mut ops = Ops::none();
+    for op in [Op::Sum, Op::Least] {
+        if ops.len() < 4 {
+            ops.push(op);
+        }
+    }
+    ops
+}
+
+/// The history of these events.
+fn history_of(alloc: Global, events: &[Event]) -> Result<History, Refusal> {
+    let limits = Limits::default();
+    if !limits.fits() {
+        return Err(Refusal::NotNow);
+    }
+    let mut history = History::new(alloc, limits, two_ops())?;
+    for event in events {
+        if history.len() >= history.limits().history {
+            return Err(Refusal::HistoryFull);
+        }
+        history.add(*event);
+    }
+    Ok(history)
+}
+
+fn fold(phase: u32, acc: u32, value: Look) -> FoldLine {
+    FoldLine { phase, acc, value }
+}
+
+#[test]
+fn a_phaser_is_summed(rt: HostRuntime) -> Result<(), Fail> {
+    let history = history_of(rt.alloc(), EVENTS.as_slice())?;
+    explain(&history)?;
+    let sums = phaser_sums(rt.alloc(), 7, &history)?;
+    assert_eq!(rt; sums.lines.phaser, 7);
+    assert_eq!(rt; sums.lines.phases, 2);
+    let folds = [
+        fold(0, 0, Look::Value(3)),
+        fold(0, 1, Look::Value(-5)),
+        fold(1, 0, Look::Value(4)),
+        fold(1, 1, Look::Nothing),
+    ];
+    assert!(rt; sums.lines.folds.as_slice() == folds.as_slice());
+    let totals = TotalsLine {
+        registered: 2,
+        signals: 2,
+        passes: 1,
+        drops: 1,
+        sends: 3,
+        up: 7,
+        down: 5,
+    };
+    assert_eq!(rt; sums.totals, totals);
+    assert_eq!(rt; plus(no_totals(), sums.totals), totals);
+    assert_eq!(rt; plus(totals, totals).up, 14);
+    Ok(())
+}
+
+#[test]
+fn a_finish_is_counted(rt: HostRuntime) -> Result<(), Fail> {
+    let events = [
+        FinishEvent::Opened(0),
+        FinishEvent::Spawned(1),
+        FinishEvent::Ended(1),
+        FinishEvent::Spawned(2),
+    ];
+    let line = FinishLine {
+        finish: 3,
+        tasks: 2,
+    };
+    assert_eq!(rt; finish_line(3, events.as_slice()), line);
+    Ok(())
+}

@@ -1,0 +1,2 @@
+-- Lemmas on the program that bytes spell.
+pub mod Spelled

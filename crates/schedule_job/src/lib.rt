@@ -1,0 +1,9 @@
+//! Runs a program's text by picks, and writes the trace and the report of the run.
+#![tactic(auto)]
+
+mod scheduling;
+
+pub use scheduling::{MOST_BYTES, ending_on, schedule_bytes, schedule_on};
+
+#[cfg(test)]
+mod tests;

@@ -1,0 +1,147 @@
+//! Worked examples of schedules, with the lines that they are to print.
+use crate::{ending_on, schedule_bytes, schedule_on};
+use job_ends::{Failure, Status};
+use phase_modes::Refusal;
+use std::alloc::Global;
+use std::process::Abort;
+
+/// Runs the text by the picks, and compares how that ends, the lines, and what is reported.
+fn check(
+    rt: &impl Abort,
+    alloc: Global,
+    text: &str,
+    picks: &[u32],
+    status: Status,
+    lines: &str,
+    faults: &str,
+) {
+    let mut out = Vec::new(alloc);
+    let mut reported = Vec::new(alloc);
+    let mut nowhere: Option<Vec<u8>> = None;
+    let ended = schedule_on(
+        alloc,
+        text.as_bytes(),
+        picks,
+        &mut out,
+        &mut reported,
+        &mut nowhere,
+    );
+    assert_eq!(rt; ended, status, "{text}");
+    assert_eq!(rt; out.as_slice(), lines.as_bytes(), "{text}");
+    assert_eq!(rt; reported.as_slice(), faults.as_bytes(), "{text}");
+}
+
+/// The text's run by the picks is reported by these lines.
+fn reports(rt: &impl Abort, alloc: Global, text: &str, picks: &[u32], lines: &str) {
+    check(rt, alloc, text, picks, Status::Done, lines, "");
+}
+
+#[test]
+fn nothing_to_do(rt: HostRuntime) {
+    reports(
+        &rt,
+        rt.alloc(),
+        r#"{"main":[]}"#,
+        &[],
+        "task 0 ended\nfinish 0 tasks 0\n\
+         totals registered 0 signals 0 passes 0 drops 0 sends 0 up 0 down 0\n",
+    );
+}
+
+#[test]
+fn outside_scope(rt: HostRuntime) {
+    reports(
+        &rt,
+        rt.alloc(),
+        r#"{"main":[["new","p","SIG_WAIT",[]],["open"],["async",[["p","SIG"]],[["next"]]],
+            ["shut"]]}"#,
+        &[],
+        "phaser 0 phases 0\ntask 0 refused 12 OutsideScope\nfinish 0 tasks 0\nfinish 1 tasks 0\n\
+         totals registered 1 signals 0 passes 0 drops 1 sends 0 up 0 down 0\n",
+    );
+}
+
+#[test]
+fn two_senders(rt: HostRuntime) {
+    for picks in [&[][..], &[9, 0, 0, 1, 0][..]] {
+        reports(
+            &rt,
+            rt.alloc(),
+            r#"{"main":[["new","p","SIG_WAIT",["sum"]],
+                ["async",[["p","SIG_WAIT"]],
+                    [["send","p",0,1],["next"],["send","p",0,10],["next"]]],
+                ["async",[["p","SIG_WAIT"]],
+                    [["send","p",0,2],["next"],["send","p",0,20],["next"]]]]}"#,
+            picks,
+            "phaser 0 phases 2\nphaser 0 phase 0 acc 0 value 3\nphaser 0 phase 1 acc 0 value 30\n\
+             task 0 ended\ntask 1 ended\ntask 2 ended\nfinish 0 tasks 2\n\
+             totals registered 3 signals 4 passes 4 drops 3 sends 4 up 33 down 0\n",
+        );
+    }
+}
+
+const SMALLEST: &str = r#"{"main":[["new","p","SIG_WAIT",[]],["next"]]}"#;
+
+const SMALLEST_REPORT: &str = "phaser 0 phases 1\ntask 0 ended\nfinish 0 tasks 0\n\
+    totals registered 1 signals 1 passes 1 drops 1 sends 0 up 0 down 0\n";
+
+const SMALLEST_TRACE: &str = "{\"events\":[[1,\"p\",0,\"make\",0,\"SIG_WAIT\",[]],\
+    [2,\"t\",0,\"begin\",[\"next\"]],[3,\"p\",0,\"sig\",0],[4,\"p\",0,\"pass\",0],\
+    [5,\"t\",0,\"begin\",[\"end\"]],[6,\"p\",0,\"drop\",0],[7,\"f\",0,\"shut\"]],\
+    \"limits\":{\"acts\":4096,\"finishes\":64,\"history\":4096,\"phasers\":64,\"regs\":256,\
+    \"tasks\":256},\"version\":1}\n";
+
+#[test]
+fn smallest_trace(rt: HostRuntime) {
+    let mut out = Vec::new(rt.alloc());
+    let mut trace_out = Some(Vec::new(rt.alloc()));
+    let done = schedule_bytes(
+        rt.alloc(),
+        SMALLEST.as_bytes(),
+        &[],
+        &mut out,
+        &mut trace_out,
+    );
+    assert_eq!(rt; done, Ok(()));
+    assert_eq!(rt; out.as_slice(), SMALLEST_REPORT.as_bytes());
+    assert!(rt; matches!(&trace_out, Some(trace) if trace.as_slice() == SMALLEST_TRACE.as_bytes()));
+}
+
+// A trace that can't be written is a fault, and then there is no report.
+#[test]
+fn trace_fails(rt: HostRuntime) {
+    let mut out = Vec::new(rt.alloc());
+    let mut faults = Vec::new(rt.alloc());
+    let mut full = [0u8; 20];
+    let mut trace_out = Some(&mut full[..]);
+    let ended = ending_on(
+        rt.alloc(),
+        SMALLEST.as_bytes(),
+        &[],
+        &mut out,
+        &mut faults,
+        &mut trace_out,
+    );
+    assert_eq!(rt; ended.status, Status::Fault);
+    assert_eq!(rt; out.len(), 0);
+    assert_eq!(rt; faults.as_slice(), b"fault write\n".as_slice());
+}
+
+#[test]
+fn bad_text(rt: HostRuntime) {
+    check(
+        &rt,
+        rt.alloc(),
+        r#"{"main":[["next"],["jump"]]}"#,
+        &[],
+        Status::Refused,
+        "",
+        "refused 24 BadText at 2\n",
+    );
+    let mut out = Vec::new(rt.alloc());
+    let mut trace_out = Some(Vec::new(rt.alloc()));
+    let refused = Err(Failure::Refused(Refusal::BadText(0)));
+    let answer = schedule_bytes(rt.alloc(), b"7", &[], &mut out, &mut trace_out);
+    assert_eq!(rt; answer, refused);
+    assert!(rt; matches!(&trace_out, Some(trace) if trace.is_empty()));
+}

@@ -1,0 +1,20 @@
+-- The history that the first events of a trace tell.
+use Rattle.std.proofs.Common.{ℕ, ◌+◌, ◌<◌, ◌≤◌, ◌≡◌, List, [], ◌∷◌, map, reverse, take, drop, get_or, length, ap, ◌∙◌}
+use Rattle.std.proofs.lemmas.List.{map-append, reverse-append, take_all, take_more}
+use Rattle.world_model.specs.declared.event.WorldEvent.{WorldEvent}
+use Rattle.trace_model.specs.Explained.{event_of, past}
+use Rattle.trace_model.specs.Run.{Entry}
+use Rattle.schedule_run.specs.Following.{history}
+
+-- with one event more
+pub history_more : (es : List Entry) (i : ℕ) (d : Entry) → i < length es
+    → history (take (i + 1) es) ≡ event_of (get_or es i d).1 ∷ history (take i es)
+history_more es i d h =
+    ap (λ (xs : List Entry). history xs) (take_more es i d h)
+    ∙ (ap (λ (xs : List WorldEvent). reverse xs)
+    (map-append (λ (e : Entry). event_of e.1) (take i es) (get_or es i d ∷ []))
+    ∙ reverse-append (past (take i es)) (event_of (get_or es i d).1 ∷ []))
+
+-- with all
+pub history_all : (es : List Entry) (i : ℕ) → length es ≤ i → history (take i es) ≡ history es
+history_all es i h = ap (λ (xs : List Entry). history xs) (take_all i es h)

@@ -1,0 +1,13 @@
+pub mod Alike
+pub mod Giving
+pub mod Overs
+pub mod Picking
+pub mod Counting
+pub mod Entries
+pub mod Histories
+pub mod Leaving
+pub mod OwnPairs
+pub mod Seats
+pub mod Settling
+pub mod Standing
+pub mod Tasks

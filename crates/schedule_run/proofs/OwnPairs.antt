@@ -1,0 +1,103 @@
+-- A task's own phasers, as the events that registered it give them.
+use Rattle.std.proofs.Common.{ℕ, ◌≡◌, Bool, true, false, ◌&&◌, not, cond, List, [], ◌∷◌, ◌++◌, map, reverse, Option, Some, None, refl, sym, ap, ap₂, ◌∙◌, if◌then◌else◌}
+use Rattle.std.specs.List.{filter, filter_map, cons_option}
+use Rattle.std.specs.Option.{option_map, is_some, unwrap_or}
+use Rattle.std.proofs.lemmas.Bool.{and_parts}
+use Rattle.std.proofs.lemmas.List.{append-nil, reverse-append, reverse-reverse}
+use Rattle.std.proofs.lemmas.List.Elements.{filter_map-append}
+use Rattle.phase_modes.specs.declared.mode.Mode.{Mode}
+use Rattle.phase_modes.specs.declared.mode.Mode.TheVariants.{Wait}
+use Rattle.phase_modes.specs.declared.phased.Pair.{Pair}
+use Rattle.phase_model.specs.Tasks.{is_dropped, is_live, is_registered, mode_of}
+use Rattle.phase_model.proofs.LiveTasks.{mode_known}
+use Rattle.world_model.specs.declared.event.WorldEvent.{WorldEvent}
+use Rattle.world_model.specs.Drawing.{own_pairs}
+use Rattle.world_model.specs.Parts.{phaser_past}
+use Rattle.world_model.specs.Tasks.{joined_by}
+use Rattle.schedule_run.specs.inner.Holding.{mode_on, pair_on, pair_by}
+
+-- ---- the mode in which a task is registered
+
+by_known : (left known : Bool) (m : Option Mode) → is_some m ≡ known
+    → (if left then None else m) ≡ (if known && not left then m else None)
+by_known true true m e = refl
+by_known true false m e = refl
+by_known false true m e = refl
+by_known false false None e = refl
+by_known false false (Some m) e = absurd cc
+
+-- none where the task was dropped, else the mode in which it was registered
+pub mode_held : (t n : ℕ) (w : List WorldEvent)
+    → (if is_dropped t (phaser_past n w) then None else mode_of t (phaser_past n w)) ≡ mode_on t n w
+mode_held t n w =
+    by_known (is_dropped t (phaser_past n w)) (is_registered t (phaser_past n w))
+    (mode_of t (phaser_past n w)) (mode_known t (phaser_past n w))
+
+-- who is registered has a mode
+live_known : (t n : ℕ) (w : List WorldEvent) → is_live t (phaser_past n w) ≡ true
+    → is_some (mode_of t (phaser_past n w)) ≡ true
+live_known t n w h = mode_known t (phaser_past n w) ∙ (and_parts _ _ h).0
+
+-- ---- the pairs of all phasers
+
+filter_map-reverse : {X Y : Type 0} (h : X → Option Y) (xs : List X)
+    → filter_map h (reverse xs) ≡ reverse (filter_map h xs)
+filter_map-reverse h [] = refl
+filter_map-reverse {X} {Y} h (x ∷ xs) =
+    let more : filter_map h (reverse xs) ≡ reverse (filter_map h xs) = filter_map-reverse h xs in
+    let last : filter_map h (reverse (x ∷ xs)) ≡ filter_map h (reverse xs) ++ filter_map h (x ∷ []) =
+    ap (λ (ys : List X). filter_map h ys) (reverse-append (x ∷ []) xs)
+    ∙ filter_map-append h (reverse xs) (x ∷ []) in
+    last
+    ∙ elim (h x) as (λ (o : Option Y). filter_map h (reverse xs) ++ cons_option o [] ≡ reverse
+    (cons_option o (filter_map h xs))) [
+      | None ↦ append-nil _ ∙ more
+      | Some y ↦ ap (λ (ys : List Y). ys ++ y ∷ []) more ∙ sym (reverse-append (y ∷ []) (filter_map h xs))
+    ]
+
+-- a phaser with this mode
+abbrev with_mode : ℕ → Mode → Pair
+with_mode n m = record { phaser = n; mode = m }
+
+one_more : (live : Bool) (o : Option Mode) (n : ℕ) (ns : List ℕ) (pair : ℕ → Pair) (ps : List Pair)
+    → pair n ≡ with_mode n (unwrap_or o Wait) → (live ≡ true → is_some o ≡ true) → map pair ns ≡ ps
+    → map pair (cond live (n ∷ ns) ns) ≡ cons_option (option_map (with_mode n) (if live then o else None)) ps
+one_more true None n ns pair ps e known more = absurd (let h : false ≡ true = known refl in cc)
+one_more true (Some m) n ns pair ps e known more = ap₂ (λ (x : Pair) (xs : List Pair). x ∷ xs) e more
+one_more false o n ns pair ps e known more = more
+
+-- those phasers on which the task is still registered
+held : (t : ℕ) (w : List WorldEvent) (ns : List ℕ)
+    → map (λ n. with_mode n (unwrap_or (mode_of t (phaser_past n w)) Wait))
+    (filter (λ n. is_live t (phaser_past n w)) ns) ≡ filter_map (λ n. pair_on t w (Some n)) ns
+held t w [] = refl
+held t w (n ∷ ns) =
+    one_more (is_live t (phaser_past n w)) (mode_of t (phaser_past n w)) n
+    (filter (λ k. is_live t (phaser_past k w)) ns)
+    (λ k. with_mode k (unwrap_or (mode_of t (phaser_past k w)) Wait))
+    (filter_map (λ k. pair_on t w (Some k)) ns)
+    refl (live_known t n w) (held t w ns)
+
+-- by the events that registered it
+joined : (t : ℕ) (w : List WorldEvent) (es : List WorldEvent)
+    → filter_map (λ n. pair_on t w (Some n)) (filter_map (joined_by t) es) ≡ filter_map (pair_by t w) es
+joined t w [] = refl
+joined t w (e ∷ es) =
+    elim (joined_by t e) as
+    (λ (o : Option ℕ). filter_map (λ n. pair_on t w (Some n))
+    (cons_option o (filter_map (joined_by t) es)) ≡ cons_option (pair_on t w o)
+    (filter_map (pair_by t w) es)) [
+      | None ↦ joined t w es
+      | Some n ↦ ap (λ (ps : List Pair). cons_option (pair_on t w (Some n)) ps) (joined t w es)
+    ]
+
+-- each event that registered the task gives its pair, the oldest first
+pub own_by_events : (t : ℕ) (es : List WorldEvent) → filter_map (pair_by t (reverse es)) es ≡ own_pairs t
+    (reverse es)
+own_by_events t es =
+    let w : List WorldEvent = reverse es in
+    sym (held t w (reverse (filter_map (joined_by t) w))
+    ∙ (ap (λ (ns : List ℕ). filter_map (λ n. pair_on t w (Some n)) ns)
+    (sym (filter_map-reverse (joined_by t) w)
+    ∙ ap (λ (xs : List WorldEvent). filter_map (joined_by t) xs) (reverse-reverse es))
+    ∙ joined t w es))

@@ -1,0 +1,25 @@
+use Rattle.std.proofs.Common.{suc, ◌+◌, ◌≡◌, List, sym, ap, subst, ◌∙◌, arith}
+use Rattle.phase_modes.specs.declared.limits.Limits.{Limits}
+use Rattle.world_model.specs.declared.event.WorldEvent.{WorldEvent}
+use Rattle.schedule_model.specs.Picks.{pick, round_from}
+use Rattle.schedule_run.specs.inner.Running.{RunStands}
+use Rattle.schedule_run.proofs.Counting.{round_step}
+use Rattle.schedule_run.proofs.running.Runner.round.Goals as goal
+
+pub loop-task-preserved : goal.loop-task-preserved
+loop-task-preserved c = record {
+  within = omega (arith, c.loop-task-test.true);
+  runs = λ p w st.
+      let b = c.loop-task.invariant.runs p w st in (
+        pick p b.0 c.loop-task.task,
+        c.in_ok-pick.ensures.stands p b.0 b.1,
+        λ left same. sym (round_step p b.0 c.loop-task.self c.loop-task.task left b.1) ∙ b.2 (suc left) (omega (arith, same)),
+      );
+}
+
+pub returns-clause-stands : goal.returns-clause-stands
+returns-clause-stands c p w st =
+    let b = c.loop-task.invariant.runs p w st in
+    let tasks : c.limits-tasks.result.tasks ≡ p.limits.tasks = ap (λ (l : Limits). l.tasks) (c.limits-tasks.ensures.limits ∙ st.recorded.kept) in
+    let last : c.loop-task.task + 0 ≡ c.limits-tasks.result.tasks = omega (arith, c.loop-task.invariant.within, c.loop-task-test.false) in
+    subst (λ (u : List WorldEvent). RunStands p u c.loop-task.self) (b.2 0 last ∙ ap (λ n. round_from n 0 p w) tasks) b.1

@@ -1,0 +1,4 @@
+pub mod Following
+pub mod Given
+pub mod Tracing
+pub mod inner

@@ -1,0 +1,5 @@
+pub mod Bodies
+pub mod Records
+pub mod Running
+pub mod Followers
+pub mod Holding

@@ -1,0 +1,215 @@
+//! Acts as the world knows them: the one that a body gives, the one that an event makes or refuses,
+//! and whether two are the same.
+ghost use Rattle.std.specs.Prelude.{◌≡◌, ◌&&◌, ◌==◌, option_map};
+ghost use Rattle.world_model.specs.Continuing.{same_mode};
+ghost use Rattle.schedule_model.specs.Follows.{same_op, same_ops, same_pairs, same_begun, same_act, drawn};
+ghost use Rattle.schedule_model.specs.Picks.{event_of};
+ghost use Rattle.schedule_model.specs.Scripts.{act_of};
+ghost use Rattle.schedule_run.specs.Given.{made_view, numbers_view, tried_of};
+
+use finish_core::FinishEvent;
+use job_script::{Act, ScriptBody};
+use phase_model::Op;
+use phase_modes::{Mode, Pair, Phased};
+use world_model::{Begun, Step, Tried, WorldEvent};
+
+/// An act that a task made or was refused.
+#[derive(Clone, Copy, Debug, PartialEq, Eq)]
+pub struct MadeAct {
+    pub task: u32,
+    pub act: Tried,
+}
+
+/// The numbers that a `new`, a spawn and an `open` draw.
+#[derive(Clone, Copy, Debug, PartialEq, Eq)]
+pub struct Numbers {
+    pub phaser: u32,
+    pub task: u32,
+    pub finish: u32,
+}
+
+// ---- what a body gives
+
+/// The act as it is tried by a task that holds these phasers, where these numbers are drawn for it.
+pub fn tried_of(own: Phased, new: Numbers, act: &Act<ScriptBody<'_>>) -> Tried
+    ensures { result ≡ tried_of own (numbers_view new) act.now }
+{
+    match act {
+        Act::New(mode, ops) => Tried::New(new.phaser, *mode, *ops),
+        Act::Async(_, pairs) => Tried::Begun(Begun::Async(new.task, *pairs)),
+        Act::AsyncAll(_) => Tried::Begun(Begun::Async(new.task, own)),
+        Act::OpenFinish => Tried::Open(new.finish),
+        Act::ShutFinish => Tried::Begun(Begun::Shut),
+        Act::Signal => Tried::Begun(Begun::Signal),
+        Act::Wait => Tried::Begun(Begun::Wait),
+        Act::Next => Tried::Begun(Begun::Next),
+        Act::NextSingle(number) => Tried::Begun(Begun::NextSingle(*number)),
+        Act::Send(phaser, accumulator, value) => Tried::Send(*phaser, *accumulator, *value),
+        Act::Look(phaser, accumulator) => Tried::Look(*phaser, *accumulator),
+        Act::End => Tried::Begun(Begun::End),
+    }
+}
+
+/// The event by which a task makes an act.
+pub fn event_of(task: u32, act: Tried) -> WorldEvent
+    ensures { result ≡ event_of task act }
+{
+    match act {
+        Tried::New(phaser, mode, ops) => WorldEvent::Phaser(phaser, Step::Make(task, mode, ops)),
+        Tried::Open(finish) => WorldEvent::Finish(finish, FinishEvent::Opened(task)),
+        Tried::Send(phaser, accumulator, value) => {
+            WorldEvent::Phaser(phaser, Step::Send(task, accumulator, value))
+        }
+        Tried::Look(phaser, accumulator) => {
+            WorldEvent::Phaser(phaser, Step::Look(task, accumulator))
+        }
+        Tried::Begun(begun) => WorldEvent::Begin(task, begun),
+    }
+}
+
+// ---- what an event tells of
+
+/// The act of which the event is the first, or which it refuses; none for what continues an act, and
+/// for a failure.
+pub fn act_of(event: &WorldEvent) -> Option<MadeAct>
+    ensures { option_map made_view result ≡ act_of event.now }
+{
+    match event {
+        WorldEvent::Phaser(n, Step::Make(t, mode, ops)) => Some(MadeAct {
+            task: *t,
+            act: Tried::New(*n, *mode, *ops),
+        }),
+        WorldEvent::Phaser(n, Step::Send(t, accumulator, value)) => Some(MadeAct {
+            task: *t,
+            act: Tried::Send(*n, *accumulator, *value),
+        }),
+        WorldEvent::Phaser(n, Step::Look(t, accumulator)) => Some(MadeAct {
+            task: *t,
+            act: Tried::Look(*n, *accumulator),
+        }),
+        WorldEvent::Finish(f, FinishEvent::Opened(t)) => Some(MadeAct {
+            task: *t,
+            act: Tried::Open(*f),
+        }),
+        WorldEvent::Begin(t, begun) => Some(MadeAct {
+            task: *t,
+            act: Tried::Begun(*begun),
+        }),
+        WorldEvent::Refuse(t, tried, _) => Some(MadeAct {
+            task: *t,
+            act: *tried,
+        }),
+        _ => None,
+    }
+}
+
+// ---- two acts are the same
+
+fn is_same_mode(mode: Mode, other: Mode) -> bool
+    ensures { result ≡ same_mode mode other }
+{
+    Mode::within(mode, other) && Mode::within(other, mode)
+}
+
+fn is_same_op(op: Op, other: Op) -> bool
+    ensures { result ≡ same_op op other }
+{
+    match (op, other) {
+        (Op::Sum, Op::Sum) | (Op::Least, Op::Least) | (Op::Greatest, Op::Greatest) => true,
+        _ => false,
+    }
+}
+
+fn are_same_ops(ops: &[Op], others: &[Op]) -> bool
+    ensures { result ≡ same_ops ops.now others.now }
+{
+    if ops.len() != others.len() {
+        return false;
+    }
+    for i in 0..ops.len() {
+        if !is_same_op(ops[i], others[i]) {
+            return false;
+        }
+    }
+    true
+}
+
+/// Whether two pairs are the same.
+pub(crate) fn is_same_pair(pair: Pair, other: Pair) -> bool
+    ensures { result ≡ (pair.phaser == other.phaser && same_mode pair.mode other.mode) }
+{
+    pair.phaser == other.phaser && is_same_mode(pair.mode, other.mode)
+}
+
+fn are_same_pairs(pairs: &[Pair], others: &[Pair]) -> bool
+    ensures { result ≡ same_pairs pairs.now others.now }
+{
+    if pairs.len() != others.len() {
+        return false;
+    }
+    for i in 0..pairs.len() {
+        if !is_same_pair(pairs[i], others[i]) {
+            return false;
+        }
+    }
+    true
+}
+
+fn is_same_begun(begun: &Begun, other: &Begun) -> bool
+    ensures { result ≡ same_begun begun.now other.now }
+{
+    match (begun, other) {
+        (Begun::Async(child, pairs), Begun::Async(other, others)) => {
+            *child == *other && are_same_pairs(pairs.as_slice(), others.as_slice())
+        }
+        (Begun::Signal, Begun::Signal)
+        | (Begun::Wait, Begun::Wait)
+        | (Begun::Next, Begun::Next)
+        | (Begun::Shut, Begun::Shut)
+        | (Begun::End, Begun::End) => true,
+        (Begun::NextSingle(number), Begun::NextSingle(other)) => *number == *other,
+        _ => false,
+    }
+}
+
+/// Whether two acts are the same, the numbers that they draw among it.
+pub fn is_same_act(act: &Tried, other: &Tried) -> bool
+    ensures { result ≡ same_act act.now other.now }
+{
+    match (act, other) {
+        (Tried::Begun(begun), Tried::Begun(other)) => is_same_begun(begun, other),
+        (Tried::New(n, mode, ops), Tried::New(m, other, others)) => {
+            *n == *m
+                && is_same_mode(*mode, *other)
+                && are_same_ops(ops.as_slice(), others.as_slice())
+        }
+        (Tried::Open(f), Tried::Open(g)) => *f == *g,
+        (Tried::Send(n, accumulator, value), Tried::Send(m, index, sent)) => {
+            *n == *m && *accumulator == *index && *value == *sent
+        }
+        (Tried::Look(n, accumulator), Tried::Look(m, index)) => {
+            *n == *m && *accumulator == *index
+        }
+        _ => false,
+    }
+}
+
+/// The numbers that an act has drawn; those that it gives to nothing are 0.
+pub fn drawn(act: &Tried) -> Numbers
+    ensures { numbers_view result ≡ drawn act.now }
+{
+    let none = Numbers {
+        phaser: 0,
+        task: 0,
+        finish: 0,
+    };
+    match act {
+        Tried::New(n, _, _) => Numbers { phaser: *n, ..none },
+        Tried::Begun(Begun::Async(child, _)) => Numbers {
+            task: *child,
+            ..none
+        },
+        Tried::Open(f) => Numbers { finish: *f, ..none },
+        _ => none,
+    }
+}

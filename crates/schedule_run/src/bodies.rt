@@ -1,0 +1,121 @@
+//! The tasks of a program while it runs: each task's body, and what it is told before its next act.
+ghost use Rattle.std.specs.Prelude.{◌≡◌, ◌<◌, ◌∷◌, [], List, length, IfOk, IfErr};
+ghost use Rattle.phase_modes.specs.declared.mode.Mode as modes;
+ghost use Rattle.phase_modes.specs.declared.phased.Pair as phased;
+ghost use Rattle.phase_modes.specs.declared.refusal.Refusal.TheVariants.{Memory as NoMemory};
+ghost use Rattle.phase_model.specs.declared.op.Op as operators;
+ghost use Rattle.job_script.specs.Program as programs;
+ghost use Rattle.job_script.specs.Steps.{begun, given, next_for, stepped};
+ghost use Rattle.job_script.specs.declared.act.Answer.TheVariants.{Done, Started};
+ghost use Rattle.world_model.specs.declared.event.Begun.TheVariants.{Async};
+ghost use Rattle.world_model.specs.declared.event.Step.TheVariants.{Make};
+ghost use Rattle.world_model.specs.declared.event.WorldEvent as events;
+ghost use Rattle.world_model.specs.declared.event.WorldEvent.TheVariants.{Phaser, Begin};
+ghost use Rattle.schedule_model.specs.Scripts.{body_of, meanings, next_act};
+ghost use Rattle.schedule_run.specs.inner.Bodies.{BodiesStand, IsAsked};
+
+use job_script::{Act, Answer, Program, ScriptBody};
+use phase_modes::Refusal;
+use std::alloc::Global;
+
+/// A task's body, and what it is told before its next act.
+#[derive(Drop)]
+pub struct Seat<'p> {
+    pub body: ScriptBody<'p>,
+    pub answer: Answer,
+}
+
+impl<'p> Seat<'p> {
+    /// A task before its first act.
+    pub(crate) fn begun(body: ScriptBody<'p>) -> Seat<'p>
+        ensures body { result.body ≡ body.entry }
+        ensures answer { result.answer ≡ Started }
+    {
+        Seat {
+            body,
+            answer: Answer::Started,
+        }
+    }
+
+    /// The next act, which is done unless something else is told of it.
+    pub(crate) fn next_act(&mut self) -> Act<ScriptBody<'p>>
+        ensures gives { result ≡ given self.old.answer self.old.body }
+        ensures body { self.new.body ≡ stepped self.old.answer self.old.body }
+        ensures answer { self.new.answer ≡ Done }
+    {
+        let act = self.body.step(self.answer);
+        self.answer = Answer::Done;
+        match act {
+            Ok(act) => act,
+            Err(_) => Act::End,
+        }
+    }
+}
+
+/// The tasks of a program by number. A task has a seat from its spawn on.
+#[derive(Drop)]
+pub struct Bodies<'p> {
+    pub seats: Vec<Option<Seat<'p>>>,
+}
+
+impl<'p> Bodies<'p> {
+    /// The tasks before the first event: the root has its body, and no other task has one. It takes
+    /// a place for each task that the limits allow; `Memory` where there is too little for them.
+    pub fn new(alloc: Global, program: &'p Program) -> Result<Bodies<'p>, Refusal>
+        ensures stand { IfOk result (λ b. BodiesStand program.now [] b.seats.items) }
+        ensures places { IfOk result (λ b. length b.seats.items ≡ program.now.limits.tasks) }
+        ensures memory { IfErr result (λ e. e ≡ NoMemory) }
+    {
+        let tasks = program.limits().tasks;
+        let mut seats = Vec::new(alloc);
+        seats.push(Some(Seat::begun(program.root())))?;
+        for _unnamed in 1..tasks {
+            seats.push(None)?;
+        }
+        Ok(Bodies { seats })
+    }
+
+    /// The next act of a task; its end where it has no seat.
+    pub fn next_act(&mut self, task: u32) -> Act<ScriptBody<'p>>
+        ensures given { (p : programs.Program) (w : List events.WorldEvent) → BodiesStand p w self.old.seats.items
+            → result ≡ next_for (meanings p w task) (next_act p w task) }
+        ensures asked { (p : programs.Program) (w : List events.WorldEvent) → BodiesStand p w self.old.seats.items
+            → IsAsked p w task self.new.seats.items }
+        ensures places { length self.new.seats.items ≡ length self.old.seats.items }
+    {
+        let place = task as usize;
+        if place >= self.seats.len() {
+            return Act::End;
+        }
+        match &mut self.seats[place] {
+            None => Act::End,
+            Some(seat) => seat.next_act(),
+        }
+    }
+
+    /// Tells a task that it made the phaser that its last act asked for.
+    pub fn tell_made(&mut self, task: u32, phaser: u32)
+        ensures stand { (p : programs.Program) (w : List events.WorldEvent) (m : modes.Mode) (ops : List operators.Op)
+            → IsAsked p w task self.old.seats.items → BodiesStand p (Phaser phaser (Make task m ops) ∷ w) self.new.seats.items }
+        ensures places { length self.new.seats.items ≡ length self.old.seats.items }
+    {
+        let place = task as usize;
+        if place >= self.seats.len() {
+            return;
+        }
+        if let Some(seat) = &mut self.seats[place] {
+            seat.answer = Answer::Made(phaser);
+        }
+    }
+
+    /// Gives the child of a task's last act its seat.
+    pub fn seat_child(&mut self, child: u32, body: ScriptBody<'p>)
+        requires { child < length self.old.seats.items }
+        ensures stand { (p : programs.Program) (w : List events.WorldEvent) (t : _) (pairs : List phased.Pair)
+            → IsAsked p w t self.old.seats.items → body.entry ≡ begun (body_of (next_act p w t)) (meanings p w t)
+            → BodiesStand p (Begin t (Async child pairs) ∷ w) self.new.seats.items }
+        ensures places { length self.new.seats.items ≡ length self.old.seats.items }
+    {
+        self.seats[child as usize] = Some(Seat::begun(body));
+    }
+}

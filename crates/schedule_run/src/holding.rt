@@ -1,0 +1,105 @@
+//! The phasers that a task holds, read off the events of a trace.
+ghost use Rattle.std.specs.Prelude.{◌≡◌, ◌∷◌, List};
+ghost use Rattle.phase_model.specs.declared.event.Event.{Event as PhaserEvent};
+ghost use Rattle.phase_model.specs.declared.op.Op as operators;
+ghost use Rattle.world_model.specs.declared.event.WorldEvent as events;
+ghost use Rattle.world_model.specs.Drawing.{own_pairs};
+ghost use Rattle.world_model.specs.Parts.{event_for};
+ghost use Rattle.world_model.specs.Tasks.{joined_by};
+ghost use Rattle.schedule_model.specs.Follows.{same_pairs};
+ghost use Rattle.trace_model.specs.Explained.{step_of, event_of};
+ghost use Rattle.schedule_run.specs.Following.{history};
+ghost use Rattle.schedule_run.specs.inner.Holding.{stay_in, stay_of, mode_on, pair_by};
+
+use crate::acts::is_same_pair;
+use phase_modes::{Mode, Pair};
+use trace_model::{TracedEvent, TracedStep};
+
+/// What events say of a task and a phaser: the mode in which it was last registered there, and
+/// whether it was dropped.
+#[derive(Clone, Copy, Debug, PartialEq, Eq)]
+struct Stay {
+    mode: Option<Mode>,
+    left: bool,
+}
+
+impl Stay {
+    /// The same after one step more on the phaser.
+    fn after_step(self, task: u32, step: &TracedStep) -> Stay
+        ensures { (ops : List operators.Op) (h : List PhaserEvent)
+            → self ≡ stay_in task h → result ≡ stay_in task (event_for ops h (step_of step.now) ∷ h) }
+    {
+        match step {
+            TracedStep::Make(t, mode, _) | TracedStep::Reg(_, t, mode) if *t == task => Stay {
+                mode: Some(*mode),
+                ..self
+            },
+            TracedStep::Drop(t) if *t == task => Stay { left: true, ..self },
+            _ => self,
+        }
+    }
+
+    /// The same after one event more.
+    fn after(self, task: u32, phaser: u32, event: &TracedEvent) -> Stay
+        ensures { (w : List events.WorldEvent)
+            → self ≡ stay_of task phaser w → result ≡ stay_of task phaser (event_of event.now ∷ w) }
+    {
+        match event {
+            TracedEvent::Phaser(n, step) if *n == phaser => self.after_step(task, step),
+            _ => self,
+        }
+    }
+}
+
+/// The mode in which a task is registered on a phaser after these events; none where it isn't.
+fn mode_on(before: &[(u64, TracedEvent)], task: u32, phaser: u32) -> Option<Mode>
+    ensures { result ≡ mode_on task phaser (history before.now) }
+{
+    let mut stay = Stay {
+        mode: None,
+        left: false,
+    };
+    for entry in before {
+        stay = stay.after(task, phaser, &entry.1);
+    }
+    if stay.left { None } else { stay.mode }
+}
+
+/// The phaser on which an event registers a task.
+fn joined_by(task: u32, event: &TracedEvent) -> Option<u32>
+    ensures { result ≡ joined_by task (event_of event.now) }
+{
+    match event {
+        TracedEvent::Phaser(n, TracedStep::Make(t, _, _) | TracedStep::Reg(_, t, _))
+            if *t == task => { Some(*n) }
+        _ => None,
+    }
+}
+
+/// The phaser on which an event registers a task, with the task's mode on it after these events; none
+/// where it isn't registered there any more.
+fn pair_by(before: &[(u64, TracedEvent)], task: u32, event: &TracedEvent) -> Option<Pair>
+    ensures { result ≡ pair_by task (history before.now) (event_of event.now) }
+{
+    let phaser = joined_by(task, event)?;
+    let mode = mode_on(before, task, phaser)?;
+    Some(Pair { phaser, mode })
+}
+
+/// Whether these are all phasers that a task holds after these events, in the order in which it came
+/// to them and each in its own mode. It goes over the events once for each phaser that the task ever
+/// came to, and once more.
+pub fn are_own_pairs(before: &[(u64, TracedEvent)], task: u32, pairs: &[Pair]) -> bool
+    ensures { result ≡ same_pairs pairs.now (own_pairs task (history before.now)) }
+{
+    let mut count = 0;
+    for entry in before {
+        if let Some(own) = pair_by(before, task, &entry.1) {
+            if count >= pairs.len() || !is_same_pair(pairs[count], own) {
+                return false;
+            }
+            count += 1;
+        }
+    }
+    count == pairs.len()
+}

@@ -1,0 +1,20 @@
+//! Runs of programs: the tasks of a program act by act, and acts as the world knows them.
+#![tactic(auto)]
+
+mod acts;
+mod bodies;
+mod following;
+mod holding;
+mod recording;
+mod run;
+mod running;
+
+pub use acts::{MadeAct, Numbers, act_of, drawn, event_of, is_same_act, tried_of};
+pub use bodies::{Bodies, Seat};
+pub use following::follows;
+pub use run::{Run, run_picks};
+
+#[cfg(test)]
+mod run_tests;
+#[cfg(test)]
+mod tests;

@@ -1,0 +1,63 @@
+-- What making a phaser with operators leaves of the fact that its cell keeps.
+use Rattle.std.proofs.Common.{◌≡◌, ℕ, ◌+◌, Bool, true, List, [], ◌∷◌, ap, sym, refl, ◌∙◌}
+use Rattle.phase_modes.specs.declared.limits.Limits.{Limits}
+use Rattle.phase_modes.specs.declared.mode.Mode.{Mode}
+use Rattle.phase_model.specs.declared.event.Event.{Event}
+use Rattle.phase_model.specs.declared.op.Op.{Op}
+use Rattle.phase_model.specs.Amounts.{amount, plus}
+use Rattle.phase_model.specs.Laws.{IsLegal}
+use Rattle.phase_model.specs.Rules.{Story, is_legal}
+use Rattle.phase_model.specs.declared.call.Call.TheVariants.{Make as make}
+use Rattle.phase_model.specs.Replies.{Reply, refused, not_yet, done, reply, after}
+use Rattle.phaser_core.specs.Answers.{made_with}
+use Rattle.share_book.specs.Accounts.{Entry}
+use Rattle.scope_locks.specs.declared.parking.Parked.{Parked}
+use Rattle.scope_locks.specs.Amounts.{amount_if}
+use Rattle.scope_locks.specs.Cells.{IsKept}
+use Rattle.scope_locks.proofs.Written.{Matches, kept, stays_waiting}
+
+-- the same phaser with other operators
+abbrev with_ops : Story → List Op → Story
+with_ops s ops = record { limits = s.limits; ops = ops; past = s.past }
+
+-- only a phaser that nobody has made is made
+none_before : (l : Limits) (ops : List Op) (h : List Event) (t : ℕ) (m : Mode) (f : Event) → reply (record { limits = l; ops = ops; past = h }) (make t m) ≡ done f → h ≡ []
+none_before l ops [] t m f k = refl
+none_before l ops (e ∷ h) t m f k = absurd cc
+
+-- which keeps all with other operators too
+kept_with : {T : Type 0} (s : Story) (ops : List Op) (b : Entry) (ps : List (Parked T)) → s.past ≡ [] → IsKept s b ps → IsKept (with_ops s ops) b ps
+kept_with s ops b ps none k =
+    let legal : IsLegal (with_ops s ops) = ap (λ (h : List Event). is_legal s.limits ops h) none in
+    record {
+      fit = k.fit;
+      legal = legal;
+      ordered = k.ordered;
+      posted = k.posted;
+      room = k.room;
+      waiting = k.waiting;
+      once = k.once;
+    }
+
+-- so it keeps all once it is made with them
+pub kept_made : {T : Type 0} (s s' : Story) (ops : List Op) (b b' : Entry) (ps : List (Parked T)) (t : ℕ) (m : Mode) (added : Bool) (e : Event)
+    → IsKept s b ps
+    → Matches s (make t m) added e
+    → s' ≡ made_with s ops (reply s (make t m))
+    → b'.totals ≡ plus (amount_if added e) b.totals
+    → b'.room + (amount_if added e).events ≡ b.room
+    → IsKept s' b' ps
+kept_made s s' ops b b' ps t m added e k matches is posted room = go (reply s (make t m)) refl
+  where
+    stays : s' ≡ after s (reply s (make t m)) → IsKept s' b' ps
+    stays same = kept s s' b b' ps ps (make t m) added e k matches same posted room (stays_waiting s s' b ps (make t m) k same refl) k.once
+
+    go : (r : Reply) → reply s (make t m) ≡ r → IsKept s' b' ps
+    go (refused x) q = stays (is ∙ (ap (λ (r : Reply). made_with s ops r) q ∙ sym (ap (λ (r : Reply). after s r) q)))
+    go not_yet q = stays (is ∙ (ap (λ (r : Reply). made_with s ops r) q ∙ sym (ap (λ (r : Reply). after s r) q)))
+    go (done f) q =
+        let v = with_ops s ops in
+        let k' = kept_with s ops b ps (none_before s.limits s.ops s.past t m f q) k in
+        let matches' : Matches v (make t m) added e = record { weighs = matches.weighs; is_done = matches.is_done } in
+        let is' : s' ≡ after v (reply v (make t m)) = is ∙ (ap (λ (r : Reply). made_with s ops r) q ∙ sym (ap (λ (r : Reply). after v r) q)) in
+        kept v s' b b' ps ps (make t m) added e k' matches' is' posted room (stays_waiting v s' b ps (make t m) k' is' refl) k'.once

@@ -1,0 +1,186 @@
+//! Traces that a world explains, each with its report, and changed ones, each with its first fault.
+use super::*;
+use finish_core::FinishEvent;
+use phase_model::{Look, Op, Ops};
+use phase_modes::Mode;
+use trace_model::TracedStep;
+use world_model::WorldReport;
+
+type Entry = (u64, TracedEvent);
+
+fn on(phaser: u32, step: TracedStep) -> TracedEvent {
+    TracedEvent::Phaser(phaser, step)
+}
+
+fn begin(task: u32, begun: Begun) -> TracedEvent {
+    TracedEvent::Begin(task, begun)
+}
+
+fn within(finish: u32, event: FinishEvent) -> TracedEvent {
+    TracedEvent::Finish(finish, event)
+}
+
+/// What replaying the trace of these entries comes to.
+fn replayed(rt: &HostRuntime, entries: &[Entry]) -> Result<Result<WorldReport, Refusal>, Fail> {
+    let mut trace = Trace::new(rt.alloc(), Limits::default());
+    for entry in entries {
+        let (ticket, event) = *entry;
+        trace.push(ticket, event).map_err(|_| Fail::from("memory"))?;
+    }
+    Ok(replay(rt.alloc(), &trace))
+}
+
+/// The lines of the report of an explained trace.
+fn lines_of(rt: &HostRuntime, entries: &[Entry]) -> Result<String, Fail> {
+    let report = replayed(rt, entries)?.map_err(|_| Fail::from("not explained"))?;
+    Ok(report.to_string(rt.alloc())?)
+}
+
+/// The place at which a trace is first at fault; none where it is explained.
+fn fault_of(rt: &HostRuntime, entries: &[Entry]) -> Result<Option<u64>, Fail> {
+    match replayed(rt, entries)? {
+        Ok(_) => Ok(None),
+        Err(Refusal::NotExplained(place)) => Ok(Some(place)),
+        Err(_) => Err(Fail::from("another refusal")),
+    }
+}
+
+/// One task makes a phaser, ends one turn on it by these two steps, and ends.
+fn smallest(tickets: &[u64; 7], first: TracedStep, second: TracedStep) -> [Entry; 7] {
+    [
+        (
+            tickets[0],
+            on(0, TracedStep::Make(0, Mode::SigWait, Ops::none())),
+        ),
+        (tickets[1], begin(0, Begun::Next)),
+        (tickets[2], on(0, first)),
+        (tickets[3], on(0, second)),
+        (tickets[4], begin(0, Begun::End)),
+        (tickets[5], on(0, TracedStep::Drop(0))),
+        (tickets[6], within(0, FinishEvent::Shut)),
+    ]
+}
+
+/// The place at which that trace is first at fault with these tickets.
+fn fault_with(rt: &HostRuntime, tickets: &[u64; 7]) -> Result<Option<u64>, Fail> {
+    let entries = smallest(tickets, TracedStep::Sig(0, None), TracedStep::Pass(0));
+    fault_of(rt, entries.as_slice())
+}
+
+const RISING: [u64; 7] = [1, 2, 3, 4, 5, 6, 7];
+
+#[test]
+fn smallest_trace(rt: HostRuntime) -> Result<(), Fail> {
+    let entries = smallest(&RISING, TracedStep::Sig(0, None), TracedStep::Pass(0));
+    let lines = lines_of(&rt, entries.as_slice())?;
+    assert_eq!(rt;
+        lines.as_str(),
+        concat!(
+            "phaser 0 phases 1\n",
+            "task 0 ended\n",
+            "finish 0 tasks 0\n",
+            "totals registered 1 signals 1 passes 1 drops 1 sends 0 up 0 down 0\n"
+        )
+    );
+    assert_eq!(rt; fault_of(&rt, &entries[..6])?, Some(7));
+    assert_eq!(rt; fault_of(&rt, &[])?, Some(1));
+    Ok(())
+}
+
+/// Two events the other way round, the tickets left in place; then a ticket that stands there twice,
+/// one that is less than that before, and tickets that leave numbers out.
+#[test]
+fn changed_smallest_trace(rt: HostRuntime) -> Result<(), Fail> {
+    let exchanged = smallest(&RISING, TracedStep::Pass(0), TracedStep::Sig(0, None));
+    assert_eq!(rt; fault_of(&rt, exchanged.as_slice())?, Some(3));
+    assert_eq!(rt; fault_with(&rt, &[1, 2, 3, 3, 5, 6, 7])?, Some(4));
+    assert_eq!(rt; fault_with(&rt, &[1, 2, 3, 4, 2, 6, 7])?, Some(5));
+    assert_eq!(rt; fault_with(&rt, &[0, 2, 3, 14, 15, 70, 700])?, None);
+    Ok(())
+}
+
+/// The owner of finish 1 waits for a task that its child spawned; these events of finish 1 come last.
+fn nested(first: FinishEvent, second: FinishEvent) -> [Entry; 14] {
+    [
+        (1, within(1, FinishEvent::Opened(0))),
+        (2, begin(0, Begun::Async(1, Phased::none()))),
+        (3, within(1, FinishEvent::Spawned(1))),
+        (4, begin(1, Begun::Async(2, Phased::none()))),
+        (5, within(1, FinishEvent::Spawned(2))),
+        (6, begin(1, Begun::End)),
+        (7, within(1, FinishEvent::Ended(1))),
+        (8, begin(0, Begun::Shut)),
+        (9, begin(2, Begun::Next)),
+        (10, begin(2, Begun::End)),
+        (11, within(1, first)),
+        (12, within(1, second)),
+        (13, begin(0, Begun::End)),
+        (14, within(0, FinishEvent::Shut)),
+    ]
+}
+
+/// The shut can't come before that task's end.
+#[test]
+fn nested_finish(rt: HostRuntime) -> Result<(), Fail> {
+    let entries = nested(FinishEvent::Ended(2), FinishEvent::Shut);
+    let lines = lines_of(&rt, entries.as_slice())?;
+    assert_eq!(rt;
+        lines.as_str(),
+        concat!(
+            "task 0 ended\n",
+            "task 1 ended\n",
+            "task 2 ended\n",
+            "finish 0 tasks 0\n",
+            "finish 1 tasks 2\n",
+            "totals registered 0 signals 0 passes 0 drops 0 sends 0 up 0 down 0\n"
+        )
+    );
+    let too_early = nested(FinishEvent::Shut, FinishEvent::Ended(2));
+    assert_eq!(rt; fault_of(&rt, too_early.as_slice())?, Some(11));
+    Ok(())
+}
+
+/// One accumulator, a sum.
+fn one_sum() -> Ops {
+    let mut ops = Ops::none();
+    if ops.len() < 4 {
+        ops.push(Op::Sum);
+    }
+    ops
+}
+
+/// A task that looks at what it sent, and saw this.
+fn seen(look: Look) -> [Entry; 9] {
+    [
+        (10, on(0, TracedStep::Make(0, Mode::SigWait, one_sum()))),
+        (20, on(0, TracedStep::Send(0, 0, 5))),
+        (30, begin(0, Begun::Next)),
+        (40, on(0, TracedStep::Sig(0, None))),
+        (50, on(0, TracedStep::Pass(0))),
+        (60, on(0, TracedStep::Look(0, 0, look))),
+        (70, begin(0, Begun::End)),
+        (80, on(0, TracedStep::Drop(0))),
+        (90, within(0, FinishEvent::Shut)),
+    ]
+}
+
+#[test]
+fn look_with_its_answer(rt: HostRuntime) -> Result<(), Fail> {
+    let five = seen(Look::Value(5));
+    let lines = lines_of(&rt, five.as_slice())?;
+    assert_eq!(rt;
+        lines.as_str(),
+        concat!(
+            "phaser 0 phases 1\n",
+            "phaser 0 phase 0 acc 0 value 5\n",
+            "task 0 ended\n",
+            "finish 0 tasks 0\n",
+            "totals registered 1 signals 1 passes 1 drops 1 sends 1 up 5 down 0\n"
+        )
+    );
+    let six = seen(Look::Value(6));
+    assert_eq!(rt; fault_of(&rt, six.as_slice())?, Some(6));
+    let nothing = seen(Look::Nothing);
+    assert_eq!(rt; fault_of(&rt, nothing.as_slice())?, Some(6));
+    Ok(())
+}

@@ -1,0 +1,161 @@
+//! The world and the slow world side by side, over 2,000 events.
+ghost use Rattle.std.specs.Prelude.{◌<◌};
+
+use super::*;
+use finish_core::FinishEvent;
+use generator::Dice;
+use peer::Plain;
+use phase_model::{Op, Ops};
+use phase_modes::{Limits, Mode, Pair, Phased};
+use std::process::Abort;
+use world_core::World;
+use world_model::{Begun, Reply, Step, Tried, WorldEvent};
+
+mod generator;
+mod past;
+mod peer;
+
+/// A world in which nothing has happened; `NotNow` where the limits are none.
+fn fresh(alloc: Global, limits: Limits) -> Result<World, Refusal> {
+    if !limits.fits() {
+        return Err(Refusal::NotNow);
+    }
+    World::new(alloc, limits)
+}
+
+fn on(phaser: u32, step: Step) -> WorldEvent {
+    WorldEvent::Phaser(phaser, step)
+}
+
+fn within(finish: u32, event: FinishEvent) -> WorldEvent {
+    WorldEvent::Finish(finish, event)
+}
+
+fn begin(task: u32, begun: Begun) -> WorldEvent {
+    WorldEvent::Begin(task, begun)
+}
+
+/// One accumulator, a sum.
+fn one_sum() -> Ops {
+    let mut ops = Ops::none();
+    if ops.len() < 4 {
+        ops.push(Op::Sum);
+    }
+    ops
+}
+
+/// How many events were made, by kind, and how many had to wait and were refused.
+#[derive(Clone, Copy, Debug, PartialEq, Eq)]
+struct Counts {
+    made: [u32; 16],
+    waiting: u32,
+    refused: u32,
+}
+
+/// The kind of a step, of nine.
+fn kind_of_step(step: &Step) -> usize
+    ensures { result < 9 }
+{
+    match step {
+        Step::Make(_, _, _) => 0,
+        Step::Reg(_, _, _) => 1,
+        Step::Sig(_, _) => 2,
+        Step::Claim(_) => 3,
+        Step::Did(_) => 4,
+        Step::Pass(_) => 5,
+        Step::Send(_, _, _) => 6,
+        Step::Look(_, _) => 7,
+        Step::Drop(_) => 8,
+    }
+}
+
+/// The kind of an event, of 16.
+fn kind_of(event: &WorldEvent) -> usize
+    ensures { result < 16 }
+{
+    match event {
+        WorldEvent::Phaser(_, step) => kind_of_step(step),
+        WorldEvent::Finish(_, FinishEvent::Opened(_)) => 9,
+        WorldEvent::Finish(_, FinishEvent::Spawned(_)) => 10,
+        WorldEvent::Finish(_, FinishEvent::Ended(_)) => 11,
+        WorldEvent::Finish(_, FinishEvent::Shut) => 12,
+        WorldEvent::Begin(_, _) => 13,
+        WorldEvent::Refuse(_, _, _) => 14,
+        WorldEvent::Fail(_, _) => 15,
+    }
+}
+
+impl Counts {
+    fn add(&mut self, event: &WorldEvent, answer: Result<Reply, Refusal>) {
+        match answer {
+            Err(_) => self.refused = self.refused.saturating_add(1),
+            Ok(Reply::NotYet) => self.waiting = self.waiting.saturating_add(1),
+            Ok(_) => {
+                let kind = kind_of(event);
+                self.made[kind] = self.made[kind].saturating_add(1);
+            }
+        }
+    }
+}
+
+/// Small limits, so that each of them is met.
+fn limits_of(world: u32) -> Limits {
+    Limits {
+        history: 8 + 12 * (world % 4),
+        regs: 2 + world % 3,
+        tasks: 7,
+        phasers: 3,
+        finishes: 3,
+        acts: 4 + 6 * (world % 5),
+    }
+}
+
+/// What both say of each task.
+fn agrees(rt: &impl Abort, world: &World, plain: &Plain) {
+    for task in 0..8 {
+        assert_eq!(rt;
+            world.next_event(task),
+            plain.next_event(task),
+            "task {task}"
+        );
+    }
+}
+
+/// Hands 50 events to a fresh world and to its peer.
+fn play_both(
+    rt: &impl Abort,
+    alloc: Global,
+    limits: Limits,
+    dice: &mut Dice,
+    counts: &mut Counts,
+) -> Result<(), Refusal> {
+    let mut world = fresh(alloc, limits)?;
+    let mut plain = Plain::new(alloc, limits)?;
+    for _ in 0..50 {
+        let event = dice.event(&plain)?;
+        let expected = plain.step(&event)?;
+        assert_eq!(rt; world.step(&event), expected, "{event:?}");
+        agrees(rt, &world, &plain);
+        counts.add(&event, expected);
+    }
+    Ok(())
+}
+
+#[test]
+fn side_by_side(rt: HostRuntime) -> Result<(), Refusal> {
+    let mut dice = Dice::new();
+    let mut counts = Counts {
+        made: [0; 16],
+        waiting: 0,
+        refused: 0,
+    };
+    for world in 0..40 {
+        play_both(&rt, rt.alloc(), limits_of(world), &mut dice, &mut counts)?;
+    }
+    for kind in 0..16 {
+        assert!(rt; counts.made[kind] > 0, "none made of kind {kind}");
+    }
+    assert!(rt; counts.waiting > 20);
+    assert!(rt; counts.refused > 400);
+    Ok(())
+}
