@@ -1,8 +1,8 @@
 -- A run's tasks give up only by the number of the refusal that they meet.
-use Rattle.std.proofs.Common.{ℕ, zero, suc, ◌+◌, ◌≡◌, ◌≢◌, Bool, true, false, ◌&&◌, ◌||◌, ◌==◌, not, List, [], ◌∷◌, ◌++◌, Option, Some, None, Result, Ok, Err, refl, sym, subst, ap, ◌∙◌, inl, inr, if◌then◌else◌}
+use Rattle.std.proofs.Common.{ℕ, zero, suc, ◌+◌, ◌≡◌, Bool, true, false, ◌&&◌, ◌||◌, ◌==◌, not, List, [], ◌∷◌, ◌++◌, Option, Some, None, Result, Ok, Err, refl, sym, subst, ◌∙◌, if◌then◌else◌}
 use Rattle.std.specs.Prelude.{option_map, slice_get}
 use Rattle.std.specs.Option.{option_map_or}
-use Rattle.std.proofs.lemmas.Bool.{and_parts, and_from, or_cases, true≢false, false≢true, not-true}
+use Rattle.std.proofs.lemmas.Bool.{and_parts, and_from, false≢true, not-true}
 use Rattle.phase_modes.specs.Lists.{is_empty}
 use Rattle.phase_modes.specs.declared.limits.Limits.{Limits}
 use Rattle.phase_modes.specs.declared.refusal.Refusal.{Refusal}
@@ -25,9 +25,9 @@ use Rattle.world_model.proofs.MadeMeans.{last_accepted}
 use Rattle.world_model.proofs.NextsExpected.{nexts_are_expected}
 use Rattle.world_model.proofs.SmallWords.{eq_self}
 use Rattle.schedule_model.specs.Laws.{GivesUp, RunsGiveUp}
-use Rattle.schedule_model.specs.Picks.{Asked, unused, event_of, going_on, asked, told_or, made, pick, picked, round_from, rounds, run_within}
+use Rattle.schedule_model.specs.Picks.{Asked, unused, event_of, going_on, asked, told_or, made, pick, picked, round_from, rounds}
 use Rattle.schedule_model.specs.Scripts.{tried}
-use Rattle.schedule_model.proofs.Legal.{pick-legal, runs-legal}
+use Rattle.schedule_model.proofs.Legal.{pick-legal}
 
 -- the event isn't a failure, or its number is that of the refusal of what continues the act
 abbrev is_told_failure : Limits → List WorldEvent → WorldEvent → Bool

@@ -37,11 +37,13 @@ pub record GivesUp (l : Limits) (w : List WorldEvent) (t n : ℕ) : Type 0 where
   pub memory : n ≢ 23
   pub registration : n ≡ 14 → is_reg event ≡ true
 
+-- so does each task that gives up in the history
+abbrev pub AllGiveUp : Limits → List WorldEvent → Type 0
+AllGiveUp l h = (later w : List WorldEvent) (t n : ℕ) → h ≡ later ++ Fail t n ∷ w → GivesUp l w t n
+
 -- so does each task that gives up in a run
 abbrev pub RunsGiveUp : Type 0
-RunsGiveUp =
-    (p : Program) (picks : List ℕ) (most : ℕ) (later w : List WorldEvent) (t n : ℕ)
-    → run_within most p picks ≡ later ++ Fail t n ∷ w → GivesUp p.limits w t n
+RunsGiveUp = (p : Program) (picks : List ℕ) (most : ℕ) → AllGiveUp p.limits (run_within most p picks)
 
 -- ---- where a history leaves its program, its events taken oldest first
 

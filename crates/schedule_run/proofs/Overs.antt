@@ -24,7 +24,9 @@ use Rattle.trace_model.specs.declared.event.TracedEvent.TheVariants.{Phaser, Fin
 use Rattle.trace_model.specs.Run.{Entry}
 use Rattle.trace_model.specs.Explained.{event_of, past, all_follow, ends_run, is_over, is_explained}
 use Rattle.schedule_model.specs.Follows.{follows}
+use Rattle.schedule_model.specs.Laws.{AllGiveUp}
 use Rattle.schedule_model.specs.Picks.{run_within}
+use Rattle.schedule_model.proofs.Failures.{runs_give_up}
 use Rattle.schedule_model.proofs.Follow.{runs-follow}
 use Rattle.schedule_run.specs.declared.running.Runner.{Runner}
 use Rattle.schedule_run.specs.inner.Records.{IsTraced}
@@ -80,6 +82,9 @@ said_events p w r st = st.recorded.traced.is
 
 pub said_follows : (p : Program) (picks : List ℕ) (n : ℕ) (r : Runner) → RunStands p (run_within n p picks) r → follows p (past (reverse r.recorded.trace.events)) ≡ true
 said_follows p picks n r st = subst (λ (w : List WorldEvent). follows p w ≡ true) (sym st.recorded.traced.is) (runs-follow p picks n)
+
+pub said_give_up : (p : Program) (picks : List ℕ) (n : ℕ) (r : Runner) → RunStands p (run_within n p picks) r → AllGiveUp p.limits (past (reverse r.recorded.trace.events))
+said_give_up p picks n r st = subst (λ (w : List WorldEvent). AllGiveUp p.limits w) (sym st.recorded.traced.is) (runs_give_up p picks n)
 
 pub said_report : (p : Program) (w : List WorldEvent) (r : Runner) (o : Result Report Refusal) (x : Report) → RunStands p w r
     → ((v : List WorldEvent) → StandsFor v r.recorded.world → IfOk o (λ y. y ≡ report_of r.recorded.world.limits v)) → o ≡ Ok x → x ≡ report_of p.limits (past (reverse r.recorded.trace.events))

@@ -15,14 +15,14 @@ use world_model::{Begun, Step, Tried, WorldEvent};
 
 /// An act that a task made or was refused.
 #[derive(Clone, Copy, Debug, PartialEq, Eq)]
-pub struct MadeAct {
+pub(crate) struct MadeAct {
     pub task: u32,
     pub act: Tried,
 }
 
 /// The numbers that a `new`, a spawn and an `open` draw.
 #[derive(Clone, Copy, Debug, PartialEq, Eq)]
-pub struct Numbers {
+pub(crate) struct Numbers {
     pub phaser: u32,
     pub task: u32,
     pub finish: u32,
@@ -31,7 +31,7 @@ pub struct Numbers {
 // ---- what a body gives
 
 /// The act as it is tried by a task that holds these phasers, where these numbers are drawn for it.
-pub fn tried_of(own: Phased, new: Numbers, act: &Act<ScriptBody<'_>>) -> Tried
+pub(crate) fn tried_of(own: Phased, new: Numbers, act: &Act<ScriptBody<'_>>) -> Tried
     ensures { result ≡ tried_of own (numbers_view new) act.now }
 {
     match act {
@@ -51,7 +51,7 @@ pub fn tried_of(own: Phased, new: Numbers, act: &Act<ScriptBody<'_>>) -> Tried
 }
 
 /// The event by which a task makes an act.
-pub fn event_of(task: u32, act: Tried) -> WorldEvent
+pub(crate) fn event_of(task: u32, act: Tried) -> WorldEvent
     ensures { result ≡ event_of task act }
 {
     match act {
@@ -71,7 +71,7 @@ pub fn event_of(task: u32, act: Tried) -> WorldEvent
 
 /// The act of which the event is the first, or which it refuses; none for what continues an act, and
 /// for a failure.
-pub fn act_of(event: &WorldEvent) -> Option<MadeAct>
+pub(crate) fn act_of(event: &WorldEvent) -> Option<MadeAct>
     ensures { option_map made_view result ≡ act_of event.now }
 {
     match event {
@@ -173,7 +173,7 @@ fn is_same_begun(begun: &Begun, other: &Begun) -> bool
 }
 
 /// Whether two acts are the same, the numbers that they draw among it.
-pub fn is_same_act(act: &Tried, other: &Tried) -> bool
+pub(crate) fn is_same_act(act: &Tried, other: &Tried) -> bool
     ensures { result ≡ same_act act.now other.now }
 {
     match (act, other) {
@@ -195,7 +195,7 @@ pub fn is_same_act(act: &Tried, other: &Tried) -> bool
 }
 
 /// The numbers that an act has drawn; those that it gives to nothing are 0.
-pub fn drawn(act: &Tried) -> Numbers
+pub(crate) fn drawn(act: &Tried) -> Numbers
     ensures { numbers_view result ≡ drawn act.now }
 {
     let none = Numbers {

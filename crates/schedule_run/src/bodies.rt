@@ -20,7 +20,7 @@ use std::alloc::Global;
 
 /// A task's body, and what it is told before its next act.
 #[derive(Drop)]
-pub struct Seat<'p> {
+pub(crate) struct Seat<'p> {
     pub body: ScriptBody<'p>,
     pub answer: Answer,
 }
@@ -54,14 +54,14 @@ impl<'p> Seat<'p> {
 
 /// The tasks of a program by number. A task has a seat from its spawn on.
 #[derive(Drop)]
-pub struct Bodies<'p> {
+pub(crate) struct Bodies<'p> {
     pub seats: Vec<Option<Seat<'p>>>,
 }
 
 impl<'p> Bodies<'p> {
     /// The tasks before the first event: the root has its body, and no other task has one. It takes
     /// a place for each task that the limits allow; `Memory` where there is too little for them.
-    pub fn new(alloc: Global, program: &'p Program) -> Result<Bodies<'p>, Refusal>
+    pub(crate) fn new(alloc: Global, program: &'p Program) -> Result<Bodies<'p>, Refusal>
         ensures stand { IfOk result (λ b. BodiesStand program.now [] b.seats.items) }
         ensures places { IfOk result (λ b. length b.seats.items ≡ program.now.limits.tasks) }
         ensures memory { IfErr result (λ e. e ≡ NoMemory) }
@@ -76,7 +76,7 @@ impl<'p> Bodies<'p> {
     }
 
     /// The next act of a task; its end where it has no seat.
-    pub fn next_act(&mut self, task: u32) -> Act<ScriptBody<'p>>
+    pub(crate) fn next_act(&mut self, task: u32) -> Act<ScriptBody<'p>>
         ensures given { (p : programs.Program) (w : List events.WorldEvent) → BodiesStand p w self.old.seats.items
             → result ≡ next_for (meanings p w task) (next_act p w task) }
         ensures asked { (p : programs.Program) (w : List events.WorldEvent) → BodiesStand p w self.old.seats.items
@@ -94,7 +94,7 @@ impl<'p> Bodies<'p> {
     }
 
     /// Tells a task that it made the phaser that its last act asked for.
-    pub fn tell_made(&mut self, task: u32, phaser: u32)
+    pub(crate) fn tell_made(&mut self, task: u32, phaser: u32)
         ensures stand { (p : programs.Program) (w : List events.WorldEvent) (m : modes.Mode) (ops : List operators.Op)
             → IsAsked p w task self.old.seats.items → BodiesStand p (Phaser phaser (Make task m ops) ∷ w) self.new.seats.items }
         ensures places { length self.new.seats.items ≡ length self.old.seats.items }
@@ -109,7 +109,7 @@ impl<'p> Bodies<'p> {
     }
 
     /// Gives the child of a task's last act its seat.
-    pub fn seat_child(&mut self, child: u32, body: ScriptBody<'p>)
+    pub(crate) fn seat_child(&mut self, child: u32, body: ScriptBody<'p>)
         requires { child < length self.old.seats.items }
         ensures stand { (p : programs.Program) (w : List events.WorldEvent) (t : _) (pairs : List phased.Pair)
             → IsAsked p w t self.old.seats.items → body.entry ≡ begun (body_of (next_act p w t)) (meanings p w t)

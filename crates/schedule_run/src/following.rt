@@ -13,7 +13,6 @@ ghost use Rattle.world_model.specs.declared.event.WorldEvent.TheVariants.{Phaser
 ghost use Rattle.world_model.specs.declared.event.WorldEvent as events;
 ghost use Rattle.schedule_model.specs.Scripts.{act_of, body_of, is_of, meanings, next_act};
 ghost use Rattle.schedule_model.specs.Follows.{drawn, follows, is_next, same_act};
-ghost use Rattle.trace_model.specs.Explained.{event_of, step_of};
 ghost use Rattle.schedule_run.specs.Following.{first_not_next, history, TellsPlace};
 ghost use Rattle.schedule_run.specs.Given.{tried_of};
 ghost use Rattle.schedule_run.specs.inner.Bodies.{IsAskedOf, SeatsStand};
@@ -26,38 +25,8 @@ use job_script::{Act, Answer, Program, ScriptBody};
 use phase_modes::{Phased, Refusal};
 use std::alloc::Global;
 use std::collections::BTreeMap;
-use trace_model::{Trace, TracedEvent, TracedStep};
+use trace_model::{Trace, TracedEvent};
 use world_model::{Begun, Step, Tried, WorldEvent};
-
-/// The step of the world: what a look saw is no part of it.
-fn step_of(step: &TracedStep) -> Step
-    ensures { result ≡ step_of step.now }
-{
-    match step {
-        TracedStep::Make(t, mode, ops) => Step::Make(*t, *mode, *ops),
-        TracedStep::Reg(q, t, mode) => Step::Reg(*q, *t, *mode),
-        TracedStep::Sig(t, number) => Step::Sig(*t, *number),
-        TracedStep::Claim(t) => Step::Claim(*t),
-        TracedStep::Did(t) => Step::Did(*t),
-        TracedStep::Pass(t) => Step::Pass(*t),
-        TracedStep::Send(t, accumulator, value) => Step::Send(*t, *accumulator, *value),
-        TracedStep::Look(t, accumulator, _) => Step::Look(*t, *accumulator),
-        TracedStep::Drop(t) => Step::Drop(*t),
-    }
-}
-
-/// The event of the world.
-fn event_of(event: &TracedEvent) -> WorldEvent
-    ensures { result ≡ event_of event.now }
-{
-    match event {
-        TracedEvent::Phaser(n, step) => WorldEvent::Phaser(*n, step_of(step)),
-        TracedEvent::Finish(f, event) => WorldEvent::Finish(*f, *event),
-        TracedEvent::Begin(t, begun) => WorldEvent::Begin(*t, *begun),
-        TracedEvent::Refuse(t, tried, number) => WorldEvent::Refuse(*t, *tried, *number),
-        TracedEvent::Fail(t, number) => WorldEvent::Fail(*t, *number),
-    }
-}
 
 /// Whether a task's act is the one that its body gives after these events, the numbers that it drew
 /// being any.
@@ -196,7 +165,7 @@ pub fn follows(alloc: Global, program: &Program, trace: &Trace) -> Result<(), Re
     let mut followers = Followers::new(alloc, program)?;
     let events = trace.events();
     for i in 0..events.len() {
-        if !followers.takes(&events[..i], &event_of(&events[i].1))? {
+        if !followers.takes(&events[..i], &events[i].1.event())? {
             return Err(Refusal::NotExplained(i as u64 + 1));
         }
     }

@@ -89,7 +89,7 @@ fn pair_by(before: &[(u64, TracedEvent)], task: u32, event: &TracedEvent) -> Opt
 /// Whether these are all phasers that a task holds after these events, in the order in which it came
 /// to them and each in its own mode. It goes over the events once for each phaser that the task ever
 /// came to, and once more.
-pub fn are_own_pairs(before: &[(u64, TracedEvent)], task: u32, pairs: &[Pair]) -> bool
+pub(crate) fn are_own_pairs(before: &[(u64, TracedEvent)], task: u32, pairs: &[Pair]) -> bool
     ensures { result ≡ same_pairs pairs.now (own_pairs task (history before.now)) }
 {
     let mut count = 0;

@@ -9,8 +9,6 @@ mod recording;
 mod run;
 mod running;
 
-pub use acts::{MadeAct, Numbers, act_of, drawn, event_of, is_same_act, tried_of};
-pub use bodies::{Bodies, Seat};
 pub use following::follows;
 pub use run::{Run, run_picks};
 

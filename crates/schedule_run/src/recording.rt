@@ -18,7 +18,7 @@ use world_model::{Begun, Reply, Step, Tried, WorldEvent};
 
 /// What an event comes to.
 #[derive(Clone, Copy, Debug, PartialEq, Eq)]
-pub enum Outcome {
+pub(crate) enum Outcome {
     /// The world made it, and the trace has it.
     Made,
     /// It may be tried again once others have gone on.
@@ -29,7 +29,7 @@ pub enum Outcome {
 
 /// The world of a run, and the trace of the events that it made.
 #[derive(Drop)]
-pub struct Record {
+pub(crate) struct Record {
     pub world: World,
     pub trace: Trace,
 }
@@ -85,7 +85,7 @@ fn add(trace: &mut Trace, event: WorldEvent, reply: Reply) -> Result<(), Refusal
 
 impl Record {
     /// A record in which nothing has happened yet.
-    pub fn new(alloc: Global, limits: Limits) -> Result<Record, Refusal>
+    pub(crate) fn new(alloc: Global, limits: Limits) -> Result<Record, Refusal>
         requires { limits_fit limits ≡ true }
         ensures stands { IfOk result (λ r. Records limits [] r.world r.trace) }
         ensures memory { IfErr result (λ r. r ≡ NoMemory) }
@@ -97,7 +97,7 @@ impl Record {
 
     /// Makes the event, if the world lets it, and traces it. `Memory` where the trace can't grow:
     /// the world has made the event then.
-    pub fn make(&mut self, event: WorldEvent) -> Result<Outcome, Refusal>
+    pub(crate) fn make(&mut self, event: WorldEvent) -> Result<Outcome, Refusal>
         ensures outcome { IfOk result (λ o. (l : limits.Limits) (w : List Event)
             → Records l w self.old.world self.old.trace → o ≡ outcome_of (reply l w event)) }
         ensures stands { IfOk result (λ _. (l : limits.Limits) (w : List Event)

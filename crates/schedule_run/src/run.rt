@@ -3,6 +3,7 @@ ghost use Rattle.std.specs.Prelude.{ℕ, ◌≡◌, reverse, IfOk, IfErr, true};
 ghost use Rattle.phase_modes.specs.declared.refusal.Refusal.TheVariants.{Memory as NoMemory};
 ghost use Rattle.world_model.specs.Report.{report_of};
 ghost use Rattle.schedule_model.specs.Follows.{follows};
+ghost use Rattle.schedule_model.specs.Laws.{AllGiveUp};
 ghost use Rattle.schedule_model.specs.Picks.{run_within};
 ghost use Rattle.trace_model.specs.Explained.{is_explained, past};
 
@@ -30,6 +31,8 @@ pub fn run_picks(alloc: Global, program: &Program, picks: &[u32]) -> Result<Run,
     ensures by_picks { IfOk result (λ r. (n : ℕ)
         × (past (reverse r.trace.events) ≡ run_within n program.now picks.now)) }
     ensures follows { IfOk result (λ r. follows program.now (past (reverse r.trace.events)) ≡ true) }
+    // No task gives up for want of memory, and none for full registrations but where its own is refused.
+    ensures give_up { IfOk result (λ r. AllGiveUp program.now.limits (past (reverse r.trace.events))) }
     ensures report { IfOk result (λ r. r.report
         ≡ report_of program.now.limits (past (reverse r.trace.events))) }
     ensures memory { IfErr result (λ e. e ≡ NoMemory) }

@@ -30,7 +30,7 @@ use world_model::{Condition, Tried, WorldEvent};
 
 /// A run under way: its record, and its tasks' bodies.
 #[derive(Drop)]
-pub struct Runner<'p> {
+pub(crate) struct Runner<'p> {
     pub recorded: Record,
     pub bodies: Bodies<'p>,
 }
@@ -82,7 +82,7 @@ fn seat<'p>(bodies: &mut Bodies<'p>, child: u32, body: ScriptBody<'p>)
 impl<'p> Runner<'p> {
     /// The run before its first event. `Memory` where there is too little for the world, or for a
     /// place for each task.
-    pub fn new(alloc: Global, program: &'p Program) -> Result<Runner<'p>, Refusal>
+    pub(crate) fn new(alloc: Global, program: &'p Program) -> Result<Runner<'p>, Refusal>
         ensures stands { IfOk result (λ r. RunStands program.now [] r) }
         ensures memory { IfErr result (λ e. e ≡ NoMemory) }
     {
@@ -150,7 +150,7 @@ impl<'p> Runner<'p> {
 
     /// The task is picked: it makes at most one event. One that has to wait, has ended, or was never
     /// spawned makes none. `Memory` where the trace can't grow.
-    pub fn pick(&mut self, task: u32) -> Result<(), Refusal>
+    pub(crate) fn pick(&mut self, task: u32) -> Result<(), Refusal>
         ensures stands { IfOk result (λ _. (p : programs.Program) (w : List Event) → RunStands p w self.old
             → RunStands p (pick p w task) self.new) }
         ensures memory { IfErr result (λ e. e ≡ NoMemory) }
@@ -216,7 +216,7 @@ impl<'p> Runner<'p> {
     }
 
     /// The trace of the run.
-    pub fn into_trace(self) -> Trace
+    pub(crate) fn into_trace(self) -> Trace
         ensures { result ≡ self.entry.recorded.trace }
     {
         let Runner {
@@ -230,7 +230,7 @@ impl<'p> Runner<'p> {
 
 /// The run by these picks, and then by rounds until the root has ended. `Memory` where there is too
 /// little for it.
-pub fn played<'p>(alloc: Global, program: &'p Program, picks: &[u32]) -> Result<Runner<'p>, Refusal>
+pub(crate) fn played<'p>(alloc: Global, program: &'p Program, picks: &[u32]) -> Result<Runner<'p>, Refusal>
     ensures run { IfOk result (λ r. (n : ℕ) × (is_ended 0 (run_within n program.now picks.now) ≡ true)
         × RunStands program.now (run_within n program.now picks.now) r) }
     ensures memory { IfErr result (λ e. e ≡ NoMemory) }

@@ -1,5 +1,7 @@
 //! Programs stepped through task by task, and acts as the world knows them.
-use super::*;
+use crate::acts::{MadeAct, Numbers, act_of, drawn, event_of, is_same_act, tried_of};
+use crate::bodies::{Bodies, Seat};
+use crate::follows;
 use finish_core::FinishEvent;
 use job_script::{Act, Answer, Program, ScriptBody, read_program};
 use phase_model::Ops;

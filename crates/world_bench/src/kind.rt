@@ -11,6 +11,8 @@ pub enum Kind {
     Alone,
     /// In a world in which 15 other phasers and 200 other tasks stand by.
     Beside,
+    /// In a world of their own, of which a report is made at the end.
+    Reported,
     /// In a world of their own at the default limits.
     Default,
     /// In a world of their own at the greatest limits.
@@ -26,6 +28,7 @@ impl Kind {
             "calls" => Some(Kind::Calls),
             "alone" => Some(Kind::Alone),
             "beside" => Some(Kind::Beside),
+            "reported" => Some(Kind::Reported),
             "default" => Some(Kind::Default),
             "greatest" => Some(Kind::Greatest),
             _ => None,

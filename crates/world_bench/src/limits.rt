@@ -29,7 +29,7 @@ pub fn limits_of(kind: Kind) -> Limits
     ensures fit { limits_fit result ≡ true }
 {
     match kind {
-        Kind::Calls | Kind::Alone | Kind::Beside => LONG,
+        Kind::Calls | Kind::Alone | Kind::Beside | Kind::Reported => LONG,
         Kind::Default => Limits::default(),
         Kind::Greatest => GREATEST,
     }

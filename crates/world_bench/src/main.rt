@@ -17,10 +17,10 @@ use phase_modes::Refusal;
 use std::alloc::Global;
 use std::env;
 use std::process::ExitCode;
-use steps::steps_of_turns;
+use steps::turned;
 
 /// What is printed where the arguments are bad.
-const USAGE: &str = "usage: world_bench calls|alone|beside|default|greatest TURNS WORLDS \
+const USAGE: &str = "usage: world_bench calls|alone|beside|reported|default|greatest TURNS WORLDS \
                      (0 to 65536 turns, 1 to 1000 worlds)\n";
 
 fn main(rt: HostRuntime) -> ExitCode {
@@ -49,13 +49,21 @@ fn run(rt: &HostRuntime) -> u8 {
     }
 }
 
-/// Makes one world, and returns how many steps of the kind were done there.
+/// Makes one world, and returns how many steps were made in the turns of its two tasks.
+fn steps_of_world(alloc: Global, kind: Kind, turns: u32) -> Result<u64, Refusal> {
+    let others = kind == Kind::Beside;
+    let made = turned(alloc, limits_of(kind), others, turns)?;
+    if kind == Kind::Reported {
+        made.world.report(alloc)?;
+    }
+    Ok(made.steps)
+}
+
+/// Makes what the kind is made in, and returns how many steps or calls were done there.
 fn steps_of_one(alloc: Global, kind: Kind, turns: u32) -> Result<u64, Refusal> {
-    let limits = limits_of(kind);
     match kind {
-        Kind::Calls => calls_of_turns(alloc, limits, turns),
-        Kind::Beside => steps_of_turns(alloc, limits, true, turns),
-        _ => steps_of_turns(alloc, limits, false, turns),
+        Kind::Calls => calls_of_turns(alloc, limits_of(kind), turns),
+        _ => steps_of_world(alloc, kind, turns),
     }
 }
 

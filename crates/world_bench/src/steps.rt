@@ -116,14 +116,16 @@ fn step_all(world: &mut World, events: &[WorldEvent]) -> u64 {
     steps
 }
 
+/// A world in which both tasks went on, and how many steps were made in their turns.
+#[derive(Drop)]
+pub struct Turned {
+    pub world: World,
+    pub steps: u64,
+}
+
 /// Makes a world, in which others stand by where that is wanted, and has both tasks go on for so
-/// many turns, or until the histories are full. Returns how many steps were made in the turns.
-pub fn steps_of_turns(
-    alloc: Global,
-    limits: Limits,
-    others: bool,
-    turns: u32,
-) -> Result<u64, Refusal>
+/// many turns, or until the histories are full.
+pub fn turned(alloc: Global, limits: Limits, others: bool, turns: u32) -> Result<Turned, Refusal>
     requires { limits_fit limits ≡ true }
 {
     let mut world = World::new(alloc, limits)?;
@@ -138,8 +140,8 @@ pub fn steps_of_turns(
         let made = step_all(&mut world, events.as_slice());
         steps = steps.saturating_add(made);
         if made < TURN {
-            return Ok(steps);
+            break;
         }
     }
-    Ok(steps)
+    Ok(Turned { world, steps })
 }

@@ -17,13 +17,13 @@ returns-then-not-branch-clause-leaves c = λ k e.
     let xs : List Entry = c.events-events.result.now in
     let i = c.loop-i.i in
     let d = c.index-events-i.result in
-    let is : c.event_of.result ≡ event_of (get_or xs i d).1 = c.event_of.ensures in
-    let taken : IsTaken p (history (take i xs)) c.event_of.result (seat_of c.takes.new.self.seats) false =
-    subst (λ (b : Bool). IsTaken p (history (take i xs)) c.event_of.result (seat_of c.takes.new.self.seats)
+    let is : c.event.result ≡ event_of (get_or xs i d).1 = c.event.ensures in
+    let taken : IsTaken p (history (take i xs)) c.event.result (seat_of c.takes.new.self.seats) false =
+    subst (λ (b : Bool). IsTaken p (history (take i xs)) c.event.result (seat_of c.takes.new.self.seats)
     b) c.if-not-branch.true
     (c.in_ok-takes.ensures.taken p c.loop-i.invariant.stand) in
     let place : first_wrong p [] 0 (past xs) ≡ Some (i + 1) =
-    sym c.loop-i.invariant.so_far ∙ ends_here p xs i d c.event_of.result c.loop-i-test.true is taken in
+    sym c.loop-i.invariant.so_far ∙ ends_here p xs i d c.event.result c.loop-i-test.true is taken in
     subst (λ (ys : List Entry). follows p (history ys) ≡ false) c.events-events.ensures
     (leaves p (past xs) (i + 1) place)
 
@@ -33,16 +33,16 @@ loop-i-preserved c =
     let xs : List Entry = c.events-events.result.now in
     let i = c.loop-i.i in
     let d = c.index-events-i.result in
-    let is : c.event_of.result ≡ event_of (get_or xs i d).1 = c.event_of.ensures in
-    let taken : IsTaken p (history (take i xs)) c.event_of.result (seat_of c.takes.new.self.seats) true =
-    subst (λ (b : Bool). IsTaken p (history (take i xs)) c.event_of.result (seat_of c.takes.new.self.seats)
+    let is : c.event.result ≡ event_of (get_or xs i d).1 = c.event.ensures in
+    let taken : IsTaken p (history (take i xs)) c.event.result (seat_of c.takes.new.self.seats) true =
+    subst (λ (b : Bool). IsTaken p (history (take i xs)) c.event.result (seat_of c.takes.new.self.seats)
     b) c.if-not-branch.false
     (c.in_ok-takes.ensures.taken p c.loop-i.invariant.stand) in
     record {
       stand = subst (λ (v : List WorldEvent). SeatsStand p v (seat_of c.takes.new.self.seats))
           (ap (λ (e : WorldEvent). e ∷ history (take i xs)) is
           ∙ sym (history_more xs i d c.loop-i-test.true)) taken.1;
-      so_far = sym (goes_on p xs i d c.event_of.result c.loop-i-test.true is taken.0)
+      so_far = sym (goes_on p xs i d c.event.result c.loop-i-test.true is taken.0)
           ∙ c.loop-i.invariant.so_far;
     }
 

@@ -1,10 +1,11 @@
 use Rattle.std.proofs.Common.{◌≡◌, true, reverse, sym, subst, ap, ◌∙◌}
 use Rattle.world_model.specs.Report.{report_of}
 use Rattle.schedule_model.specs.Follows.{follows}
+use Rattle.schedule_model.specs.Laws.{AllGiveUp}
 use Rattle.schedule_model.specs.Picks.{run_within}
 use Rattle.trace_model.specs.Run as traces
 use Rattle.trace_model.specs.Explained.{is_explained, past}
-use Rattle.schedule_run.proofs.Overs.{said_limits, said_explained, said_events, said_follows, said_report}
+use Rattle.schedule_run.proofs.Overs.{said_limits, said_explained, said_events, said_follows, said_give_up, said_report}
 use Rattle.schedule_run.proofs.run.run_picks.Goals as goal
 
 pub returns-clause-limits : goal.returns-clause-limits
@@ -30,6 +31,12 @@ returns-clause-follows c =
     let b = c.in_ok-runner.ensures.run in
     subst (λ (t : traces.Run). follows c.args.program.now (past (reverse t.events)) ≡ true) (sym c.into_trace-trace.ensures)
     (said_follows c.args.program.now c.args.picks.now b.0 c.in_ok-runner.runner b.2)
+
+pub returns-clause-give_up : goal.returns-clause-give_up
+returns-clause-give_up c =
+    let b = c.in_ok-runner.ensures.run in
+    subst (λ (t : traces.Run). AllGiveUp c.args.program.now.limits (past (reverse t.events))) (sym c.into_trace-trace.ensures)
+    (said_give_up c.args.program.now c.args.picks.now b.0 c.in_ok-runner.runner b.2)
 
 pub returns-clause-report : goal.returns-clause-report
 returns-clause-report c =
