@@ -230,7 +230,11 @@ impl<'p> Runner<'p> {
 
 /// The run by these picks, and then by rounds until the root has ended. `Memory` where there is too
 /// little for it.
-pub(crate) fn played<'p>(alloc: Global, program: &'p Program, picks: &[u32]) -> Result<Runner<'p>, Refusal>
+pub(crate) fn played<'p>(
+    alloc: Global,
+    program: &'p Program,
+    picks: &[u32],
+) -> Result<Runner<'p>, Refusal>
     ensures run { IfOk result (λ r. (n : ℕ) × (is_ended 0 (run_within n program.now picks.now) ≡ true)
         × RunStands program.now (run_within n program.now picks.now) r) }
     ensures memory { IfErr result (λ e. e ≡ NoMemory) }

@@ -118,14 +118,19 @@ fn step_all(world: &mut World, events: &[WorldEvent]) -> u64 {
 
 /// A world in which both tasks went on, and how many steps were made in their turns.
 #[derive(Drop)]
-pub struct Turned {
+pub struct TurnedWorld {
     pub world: World,
     pub steps: u64,
 }
 
 /// Makes a world, in which others stand by where that is wanted, and has both tasks go on for so
 /// many turns, or until the histories are full.
-pub fn turned(alloc: Global, limits: Limits, others: bool, turns: u32) -> Result<Turned, Refusal>
+pub fn turned(
+    alloc: Global,
+    limits: Limits,
+    others: bool,
+    turns: u32,
+) -> Result<TurnedWorld, Refusal>
     requires { limits_fit limits ≡ true }
 {
     let mut world = World::new(alloc, limits)?;
@@ -143,5 +148,5 @@ pub fn turned(alloc: Global, limits: Limits, others: bool, turns: u32) -> Result
             break;
         }
     }
-    Ok(Turned { world, steps })
+    Ok(TurnedWorld { world, steps })
 }
