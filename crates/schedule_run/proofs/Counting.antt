@@ -1,16 +1,18 @@
 -- Rounds of a run, pick by pick.
-use Rattle.std.proofs.Common.{ℕ, zero, suc, ◌+◌, ◌<◌, ◌≡◌, true, false, List, length, reverse, refl, sym, subst, ap, ◌∙◌, inl, inr, arith}
+use Rattle.std.proofs.Common.{ℕ, zero, suc, ◌+◌, ◌<◌, ◌≤◌, ◌≡◌, true, false, List, length, reverse, refl, sym, subst, ap, ◌∙◌, inl, inr, arith}
 use Rattle.std.proofs.lemmas.Bool.{cases_Bool, false_from_ne_true, true≢false}
 use Rattle.std.proofs.lemmas.List.{length-reverse, length-map}
 use Rattle.phase_modes.specs.declared.limits.Limits.{Limits}
 use Rattle.job_script.specs.Program.{Program}
 use Rattle.world_model.specs.declared.event.WorldEvent.{WorldEvent}
+use Rattle.world_model.specs.Drawing.{least_unused}
 use Rattle.world_model.specs.Numbers.{is_named}
 use Rattle.world_model.specs.Replies.{is_legal_world}
 use Rattle.world_model.specs.Tasks.{is_born, is_ended}
 use Rattle.world_model.proofs.BornWhereNamed.{born_named}
 use Rattle.schedule_model.specs.Picks.{pick, round_from, rounds}
 use Rattle.schedule_model.proofs.Rounds.{rounds_move}
+use Rattle.schedule_model.proofs.Used.{task_free}
 use Rattle.trace_model.specs.Run.{Entry}
 use Rattle.trace_model.specs.Explained.{event_of}
 use Rattle.schedule_run.specs.declared.running.Runner.{Runner}
@@ -21,7 +23,7 @@ pub legal_of : (p : Program) (w : List WorldEvent) (r : Runner) → RunStands p 
 legal_of p w r st = subst (λ (l : Limits). is_legal_world l w ≡ true) st.recorded.limits st.recorded.stands.legal
 
 -- a round ends at the first number that isn't in use
-round_ends : (left t : ℕ) (p : Program) (v : List WorldEvent) → is_named t v ≡ false → round_from left t p v ≡ v
+pub round_ends : (left t : ℕ) (p : Program) (v : List WorldEvent) → is_named t v ≡ false → round_from left t p v ≡ v
 round_ends zero t p v h = refl
 round_ends (suc left) t p v h = rw h refl
 
@@ -30,6 +32,12 @@ unnamed_stays : (p : Program) (v : List WorldEvent) (t : ℕ) → is_legal_world
 unnamed_stays p v t k h =
     let unborn : is_born t v ≡ false = false_from_ne_true (is_born t v) (λ b. true≢false (sym (born_named p.limits t v k b) ∙ h)) in
     picked_none p v t (rw unborn refl) (rw unborn refl)
+
+-- no task has the least number that isn't in use, nor a greater one
+pub unused_above : (p : Program) (w : List WorldEvent) (r : Runner) (t : ℕ) → RunStands p w r → least_unused (λ u. is_named u w) p.limits.tasks ≤ t → is_named t w ≡ false
+unused_above p w r t st le =
+    let least : ℕ = least_unused (λ u. is_named u w) p.limits.tasks in
+    false_from_ne_true (is_named t w) (λ n. true≢false (sym (st.gapless least t le n) ∙ task_free p.limits w st.fit (legal_of p w r st)))
 
 -- one pick of a round
 pub round_step : (p : Program) (v : List WorldEvent) (r : Runner) (t left : ℕ) → RunStands p v r → round_from (suc left) t p v ≡ round_from left (t + 1) p (pick p v t)

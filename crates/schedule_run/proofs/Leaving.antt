@@ -1,5 +1,5 @@
 -- Where a trace leaves its program, as its events are gone through.
-use Rattle.std.proofs.Common.{ℕ, suc, ◌+◌, ◌<◌, ◌≤◌, ◌≡◌, Bool, true, false, true≢false, ◌&&◌, List, [], ◌∷◌, ◌++◌, reverse, take, drop, get_or, length, Option, Some, None, refl, sym, ap, subst, ◌∙◌, if◌then◌else◌}
+use Rattle.std.proofs.Common.{ℕ, suc, ◌+◌, ◌<◌, ◌≤◌, ◌≡◌, Bool, true, false, true≢false, List, [], ◌∷◌, ◌++◌, reverse, take, drop, get_or, length, Option, Some, None, sym, ap, subst, ◌∙◌, if◌then◌else◌}
 use Rattle.std.proofs.lemmas.Bool.{and_parts, false_from_ne_true}
 use Rattle.std.proofs.lemmas.List.{reverse-append, take-append-drop, at_drop_more, at_drop_all}
 use Rattle.job_script.specs.Program.{Program}

@@ -12,6 +12,7 @@ ghost use Rattle.world_model.specs.declared.event.WorldEvent.{WorldEvent as Even
 ghost use Rattle.world_model.specs.declared.event.WorldEvent.TheVariants.{Begin, Refuse};
 ghost use Rattle.world_model.specs.Due.{is_idle};
 ghost use Rattle.world_model.specs.Replies.{is_accepted};
+ghost use Rattle.world_model.specs.Numbers.{is_named};
 ghost use Rattle.world_model.specs.Tasks.{is_born, is_ended};
 ghost use Rattle.schedule_model.specs.Picks.{unused, event_of, pick, picked, round_from, rounds, run_within};
 ghost use Rattle.schedule_model.specs.Scripts.{body_of, meanings, next_act, tried};
@@ -177,7 +178,18 @@ impl<'p> Runner<'p> {
         Ok(())
     }
 
-    /// Each task is picked once, by number.
+    /// Whether no task has the number, and so none a greater one: numbers are drawn without gaps.
+    fn is_unused(&self, task: u32) -> bool
+        ensures { result ≡ true → (p : programs.Program) (w : List Event) → RunStands p w self.now
+            → is_named task w ≡ false }
+    {
+        if self.recorded.world.condition(task).is_some() {
+            return false;
+        }
+        self.recorded.world.unused().task <= task
+    }
+
+    /// Each task is picked once, by number, up to the first number that no task has.
     fn round(&mut self) -> Result<(), Refusal>
         ensures stands { IfOk result (λ _. (p : programs.Program) (w : List Event) → RunStands p w self.old
             → RunStands p (round_from p.limits.tasks 0 p w) self.new) }
@@ -185,6 +197,9 @@ impl<'p> Runner<'p> {
     {
         let tasks = self.recorded.trace.limits().tasks;
         for task in 0..tasks {
+            if self.is_unused(task) {
+                return Ok(());
+            }
             self.pick(task)?;
         }
         Ok(())

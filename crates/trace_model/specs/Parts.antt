@@ -1,5 +1,5 @@
 -- Traces of given parts.
-use Rattle.std.specs.Prelude.{◌≡◌, ◌⊎◌, ℕ, Bool, true, ◌&&◌, nat_lt, List, [], ◌∷◌, flat_map, ⊤}
+use Rattle.std.specs.Prelude.{◌≡◌, ◌⊎◌, Bool, true, ◌&&◌, nat_lt, List, [], ◌∷◌, flat_map, ⊤}
 use Rattle.std.specs.List.{All}
 use Rattle.std.specs.List.Sorted.{IsPermutation}
 use Rattle.trace_model.specs.Run.{Entry}

@@ -28,6 +28,22 @@ fn events_are_kept_in_order(rt: HostRuntime) -> Result<(), Fail> {
 }
 
 #[test]
+fn room_for_events_has_none(rt: HostRuntime) -> Result<(), Fail> {
+    let limits = Limits {
+        tasks: 7,
+        ..Limits::default()
+    };
+    let mut trace = Trace::with_capacity(rt.alloc(), limits, 1).map_err(|_| Fail::from("memory"))?;
+    assert_eq!(rt; trace.events().len(), 0);
+    assert_eq!(rt; trace.limits(), limits);
+    trace
+        .push(1, TracedEvent::Finish(0, FinishEvent::Shut))
+        .map_err(|_| Fail::from("memory"))?;
+    assert_eq!(rt; trace.events().len(), 1);
+    Ok(())
+}
+
+#[test]
 fn a_look_is_answered_what_it_saw(rt: HostRuntime) -> Result<(), Fail> {
     let step = TracedStep::Look(3, 1, Look::Value(-5));
     let look = TracedEvent::Phaser(7, step);

@@ -41,6 +41,23 @@ impl Trace {
         }
     }
 
+    /// A trace with no events yet, and room for so many: adding these copies none that was added before.
+    /// `Memory` where there is too little for them.
+    pub fn with_capacity(alloc: Global, limits: Limits, events: usize) -> Result<Trace, Refusal>
+        requires { limits_fit limits ≡ true }
+        ensures empty { IfOk result (λ t. t ≡ record { limits = limits; events = [] }) }
+        ensures memory { IfErr result (λ r. r ≡ Refusal.Memory) }
+    {
+        // The prover has to be shown the types inside an event: it doesn't find them by itself.
+        let _step: Option<TracedStep> = None;
+        let _begun: Option<Begun> = None;
+        let _tried: Option<Tried> = None;
+        match Vec::with_capacity(alloc, events) {
+            Ok(events) => Ok(Trace { limits, events }),
+            Err(_) => Err(Refusal::Memory),
+        }
+    }
+
     /// Adds an event at the end. On `Memory` the trace is as it was.
     pub fn push(&mut self, ticket: u64, event: TracedEvent) -> Result<(), Refusal>
         ensures added { IfOk result (λ _. self.new ≡ with_event self.old (ticket, event)) }

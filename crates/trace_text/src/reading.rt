@@ -449,7 +449,7 @@ fn trace_of(alloc: Global, limits: Limits, items: &[Value]) -> Result<Trace, Ref
     requires { limits_fit limits ≡ true }
     ensures { Gives (λ t. t) result (with_limits limits (numbered_in entry_in 1 (items_view items.now))) }
 {
-    let mut trace = Trace::new(alloc, limits);
+    let mut trace = Trace::with_capacity(alloc, limits, items.len())?;
     for (index, item) in items.iter().enumerate() {
         let place = index as u64 + 1;
         let (ticket, event) = match entry_of(item) {

@@ -1,4 +1,4 @@
-use Rattle.std.proofs.Common.{ℕ, ◌+◌, ◌≡◌, ◌∷◌, Bool, true, false, [], List, Some, None, get_or, take, sym, ap, subst, ◌∙◌}
+use Rattle.std.proofs.Common.{◌+◌, ◌≡◌, ◌∷◌, Bool, true, false, [], List, Some, get_or, take, sym, ap, subst, ◌∙◌}
 use Rattle.world_model.specs.declared.event.WorldEvent.{WorldEvent}
 use Rattle.schedule_model.specs.Laws.{first_wrong}
 use Rattle.schedule_model.specs.Follows.{follows}

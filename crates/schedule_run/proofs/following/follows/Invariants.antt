@@ -1,7 +1,7 @@
 use Rattle.std.proofs.Common.{◌≡◌, [], take, drop}
 use Rattle.schedule_model.specs.Laws.{first_wrong}
 use Rattle.trace_model.specs.Explained.{past}
-use Rattle.schedule_run.specs.Following.{history, first_not_next}
+use Rattle.schedule_run.specs.Following.{history}
 use Rattle.schedule_run.specs.inner.Bodies.{SeatsStand}
 use Rattle.schedule_run.specs.inner.Followers.{seat_of}
 use Rattle.schedule_run.proofs.following.follows.Given as goal

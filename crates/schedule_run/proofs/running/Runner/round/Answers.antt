@@ -1,9 +1,10 @@
-use Rattle.std.proofs.Common.{suc, ◌+◌, ◌≡◌, List, sym, ap, subst, ◌∙◌, arith}
+use Rattle.std.proofs.Common.{ℕ, suc, ◌+◌, ◌-◌, ◌≡◌, false, List, sym, ap, subst, ◌∙◌, arith}
 use Rattle.phase_modes.specs.declared.limits.Limits.{Limits}
 use Rattle.world_model.specs.declared.event.WorldEvent.{WorldEvent}
+use Rattle.world_model.specs.Numbers.{is_named}
 use Rattle.schedule_model.specs.Picks.{pick, round_from}
 use Rattle.schedule_run.specs.inner.Running.{RunStands}
-use Rattle.schedule_run.proofs.Counting.{round_step}
+use Rattle.schedule_run.proofs.Counting.{round_ends, round_step}
 use Rattle.schedule_run.proofs.running.Runner.round.Goals as goal
 
 pub loop-task-preserved : goal.loop-task-preserved
@@ -23,3 +24,14 @@ returns-clause-stands c p w st =
     let tasks : c.limits-tasks.result.tasks ≡ p.limits.tasks = ap (λ (l : Limits). l.tasks) (c.limits-tasks.ensures.limits ∙ st.recorded.kept) in
     let last : c.loop-task.task + 0 ≡ c.limits-tasks.result.tasks = omega (arith, c.loop-task.invariant.within, c.loop-task-test.false) in
     subst (λ (u : List WorldEvent). RunStands p u c.loop-task.self) (b.2 0 last ∙ ap (λ n. round_from n 0 p w) tasks) b.1
+
+pub returns-then-is_unused-clause-stands : goal.returns-then-is_unused-clause-stands
+returns-then-is_unused-clause-stands c p w st =
+    let b = c.loop-task.invariant.runs p w st in
+    let tasks : c.limits-tasks.result.tasks ≡ p.limits.tasks = ap (λ (l : Limits). l.tasks) (c.limits-tasks.ensures.limits ∙ st.recorded.kept) in
+    let none : is_named c.loop-task.task b.0 ≡ false = c.is_unused.ensures c.if-is_unused.true p b.0 b.1 in
+    let left : ℕ = c.limits-tasks.result.tasks - c.loop-task.task in
+    let rest : round_from left c.loop-task.task p b.0 ≡ round_from c.limits-tasks.result.tasks 0 p w =
+    b.2 left (omega (arith, c.loop-task.invariant.within)) in
+    subst (λ (u : List WorldEvent). RunStands p u c.loop-task.self)
+    (sym (round_ends left c.loop-task.task p b.0 none) ∙ (rest ∙ ap (λ n. round_from n 0 p w) tasks)) b.1
