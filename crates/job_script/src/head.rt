@@ -8,15 +8,15 @@ use std::marker::Model;
 /// The number of a phaser's name, 0 to 63, and the mode in which a child is to be registered on the
 /// phaser. Names are numbered in the order in which they first stand in the text.
 #[derive(Clone, Copy, Debug, PartialEq, Eq)]
-pub struct Named {
-    pub name: u8,
-    pub mode: Mode,
+pub(crate) struct Named {
+    pub(crate) name: u8,
+    pub(crate) mode: Mode,
 }
 
 /// The phasers that a spawn names, at most sixteen, as their names are written. Contracts see the
 /// list.
 #[derive(Drop)]
-pub struct NamedList {
+pub(crate) struct NamedList {
     pairs: [Named; 16],
     len: usize,
 }
@@ -34,7 +34,7 @@ impl Model for NamedList {
 
 impl NamedList {
     /// No phaser.
-    pub fn none() -> NamedList
+    pub(crate) fn none() -> NamedList
         ensures { result ≡ [] }
     {
         NamedList {
@@ -47,7 +47,7 @@ impl NamedList {
     }
 
     /// How many there are, 0 to 16.
-    pub fn len(&self) -> usize
+    pub(crate) fn len(&self) -> usize
         ensures length { result ≡ length self.now }
         ensures few { result ≤ 16 }
     {
@@ -55,7 +55,7 @@ impl NamedList {
     }
 
     /// Names one more, at the end.
-    pub fn push(&mut self, named: Named)
+    pub(crate) fn push(&mut self, named: Named)
         requires { length self.old < 16 }
         ensures { self.new ≡ self.old ++ named ∷ [] }
     {
@@ -64,7 +64,7 @@ impl NamedList {
     }
 
     /// Them in order.
-    pub fn as_slice(&self) -> &[Named]
+    pub(crate) fn as_slice(&self) -> &[Named]
         ensures items { result.now ≡ self.now }
         ensures few { length result.now ≤ 16 }
     {
@@ -74,7 +74,7 @@ impl NamedList {
 
 /// What an act is. The bodies of a spawn and the acts of a repeat stand beside it.
 #[derive(Drop)]
-pub enum Head {
+pub(crate) enum Head {
     /// Makes a phaser, which has the name from then on.
     New(u8, Mode, Ops),
     /// Spawns a child; its body stands beside the head.
@@ -99,7 +99,7 @@ impl Head {
     ghost use Rattle.job_script.specs.ActForms.{with_name};
 
     /// The same for the phaser of this name.
-    pub fn with_name(self, name: u8) -> Head
+    pub(crate) fn with_name(self, name: u8) -> Head
         ensures { result ≡ with_name name self }
     {
         match self {

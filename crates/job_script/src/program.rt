@@ -35,7 +35,7 @@ impl Model for Program {
 
 impl Program {
     /// A program of these limits and acts.
-    pub fn new(limits: Limits, main: Body) -> Program
+    pub(crate) fn new(limits: Limits, main: Body) -> Program
         requires fit { limits_fit limits ≡ true }
         requires short { flat_length main < too_many }
         ensures { result ≡ record { limits = limits; main = main } }

@@ -26,10 +26,10 @@ use text_words::{has_only_keys, json_of, limits_of};
 /// A list of acts as it was read, the place after it, and the place of the act with which its length
 /// first passed ten thousand.
 #[derive(Drop)]
-pub struct List {
-    pub body: Body,
-    pub next: u64,
-    pub passing: Option<u64>,
+pub(crate) struct List {
+    pub(crate) body: Body,
+    pub(crate) next: u64,
+    pub(crate) passing: Option<u64>,
 }
 
 /// How deep acts may nest. JSON doesn't nest deeper.
@@ -221,9 +221,9 @@ fn acts_of(
 
 /// The limits, and the list of the acts as JSON.
 #[derive(Clone, Copy)]
-pub struct Outer<'v> {
-    pub limits: Limits,
-    pub main: &'v Vec<Value>,
+pub(crate) struct Outer<'v> {
+    pub(crate) limits: Limits,
+    pub(crate) main: &'v Vec<Value>,
 }
 
 /// The outer object, where nothing is wrong outside the acts.

@@ -18,14 +18,14 @@ use text_words::{accumulator_at, mode_at, number_at, number_of, ops_at, value_at
 
 /// A phaser's name as it is written, and the mode in which a child is to be registered on it.
 #[derive(Clone, Copy)]
-pub struct NameMode<'v> {
-    pub name: &'v str,
-    pub mode: Mode,
+pub(crate) struct NameMode<'v> {
+    pub(crate) name: &'v str,
+    pub(crate) mode: Mode,
 }
 
 /// What an act says by itself.
 #[derive(Drop)]
-pub enum Said<'v> {
+pub(crate) enum Said<'v> {
     Plain(Head),
     New(&'v str, Mode, Ops),
     /// A `send` or a `look`, for the phaser of the name.
@@ -222,7 +222,7 @@ fn repeat_of(list: &Value) -> Option<Said<'_>>
 
 /// What the act says: its first item is its name.
 #[tactic(auto, unfolding(crate::specs::ActForms::said_in))]
-pub fn said_of<'v>(alloc: Global, list: &'v Value) -> Result<Option<Said<'v>>, Refusal>
+pub(crate) fn said_of<'v>(alloc: Global, list: &'v Value) -> Result<Option<Said<'v>>, Refusal>
     ensures said { IfOk result (λ o. option_map said_view o ≡ said_in (view list.now)) }
     ensures few { IfOk result (λ o. IfSome o HasFew) }
     ensures memory { IfErr result (λ e. e ≡ NoMemory) }

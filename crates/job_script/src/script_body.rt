@@ -133,7 +133,7 @@ impl<'p> ScriptBody<'p> {
     }
 
     /// A program's root before its first act. No name has a meaning yet.
-    pub fn root(body: &'p Body) -> ScriptBody<'p>
+    pub(crate) fn root(body: &'p Body) -> ScriptBody<'p>
         requires { flat_length body.now < too_many }
         ensures { result ≡ begun body.now no_meanings }
     {

@@ -11,7 +11,7 @@ use std::marker::Model;
 /// The names that stood so far, numbered in the order in which they first stood, and the least place
 /// of a fault that was noted.
 #[derive(Drop)]
-pub struct Seen {
+pub(crate) struct Seen {
     names: IndexSet<String>,
     fault: Option<u64>,
 }
@@ -29,7 +29,7 @@ impl Model for Seen {
 
 impl Seen {
     /// Nothing yet.
-    pub fn new(alloc: Global) -> Seen
+    pub(crate) fn new(alloc: Global) -> Seen
         ensures { result ≡ none_seen }
     {
         Seen {
@@ -39,14 +39,14 @@ impl Seen {
     }
 
     /// The least place of a fault that was noted.
-    pub fn fault(&self) -> Option<u64>
+    pub(crate) fn fault(&self) -> Option<u64>
         ensures { result ≡ self.now.fault }
     {
         self.fault
     }
 
     /// The place of a fault, or the lesser one that was noted.
-    pub fn first_fault(&self, place: u64) -> u64
+    pub(crate) fn first_fault(&self, place: u64) -> u64
         ensures { result ≡ fails_at self.now place }
     {
         match self.fault {
@@ -56,7 +56,7 @@ impl Seen {
     }
 
     /// Notes a fault at a place; the least place is kept.
-    pub fn note(&mut self, place: u64)
+    pub(crate) fn note(&mut self, place: u64)
         ensures { self.new ≡ noted self.old place }
     {
         self.fault = Some(self.first_fault(place));
@@ -64,7 +64,7 @@ impl Seen {
 
     /// The number of a name, 0 to 63, in an act at a place. The sixty-fifth name has none: that is a
     /// fault at the act in which it first stands. `Memory` where there is too little for the name.
-    pub fn number_of(&mut self, alloc: Global, place: u64, name: &str) -> Result<u8, Refusal>
+    pub(crate) fn number_of(&mut self, alloc: Global, place: u64, name: &str) -> Result<u8, Refusal>
         ensures numbered { IfOk result (λ n. number_of self.old place name.now ≡ (n, self.new)) }
         ensures memory { IfErr result (λ e. e ≡ NoMemory) }
     {

@@ -10,16 +10,16 @@ use std::marker::Model;
 /// An act, and the acts inside it: the body of a spawn's child, or what a repeat repeats.
 #[cycle(acts)]
 #[derive(Drop)]
-pub struct Item {
-    pub head: Head,
-    pub body: Body,
+pub(crate) struct Item {
+    pub(crate) head: Head,
+    pub(crate) body: Body,
 }
 
 /// A list of acts. Contracts see the acts; beside each stands where it ends in the list in which
 /// every repeat is written out, so that an act is found by its place there without writing it out.
 #[cycle(acts)]
 #[derive(Drop)]
-pub struct Body {
+pub(crate) struct Body {
     items: Vec<Item>,
     ends: Vec<u32>,
 }
@@ -49,7 +49,7 @@ impl Model for Body {
 }
 
 /// The first number of acts that is too large for a body.
-pub const TOO_MANY: u32 = 10_001;
+pub(crate) const TOO_MANY: u32 = 10_001;
 
 /// How many of the ends are at most the place.
 fn ends_passed(ends: &[u32], place: u32) -> usize
@@ -98,7 +98,7 @@ impl Body {
     ghost use Rattle.job_script.specs.inner.Views.{act_view};
 
     /// No acts.
-    pub fn empty(alloc: Global) -> Body
+    pub(crate) fn empty(alloc: Global) -> Body
         ensures { result ≡ no_acts }
     {
         Body {
@@ -109,14 +109,14 @@ impl Body {
 
     /// How many acts it comes to once every repeat is written out, as far as numbers go that are not
     /// too large.
-    pub fn len(&self) -> u32
+    pub(crate) fn len(&self) -> u32
         ensures { result ≡ min (flat_length self.now) too_many }
     {
         start_of(&self.ends, self.ends.len())
     }
 
     /// Adds an act at the end.
-    pub fn push(&mut self, item: Item) -> Result<(), AllocError>
+    pub(crate) fn push(&mut self, item: Item) -> Result<(), AllocError>
         requires { is_short_spawn item.head item.body ≡ true }
         ensures { OnOk result (self.new ≡ with_act self.old item.head item.body) }
     {
@@ -129,7 +129,7 @@ impl Body {
 
     /// The act at a place of the list in which every repeat is written out. It costs a binary search
     /// for each repeat that it stands in.
-    pub fn at(&self, place: u32) -> Option<&Item>
+    pub(crate) fn at(&self, place: u32) -> Option<&Item>
         requires { place < too_many }
         ensures act { option_map (λ i. act_view i.now) result ≡ slice_get (flat self.now) place }
         ensures short { IfSome result (λ i. is_short_spawn i.now.head i.now.body ≡ true) }
