@@ -11,7 +11,7 @@ use std::alloc::{AllocError, Global};
 
 /// A command, with its words.
 #[derive(Clone, Copy)]
-pub enum Words<'a> {
+pub(crate) enum Words<'a> {
     Events {
         file: &'a str,
     },
@@ -184,7 +184,7 @@ fn words_among<'a>(name: &str, found: &ArgMatches<'a>) -> Option<Words<'a>>
 }
 
 /// The command that the words name, with its words; the first is the program's own name.
-pub fn words_of<'a>(alloc: Global, arguments: &'a [&'a str]) -> Result<Words<'a>, NoJob>
+pub(crate) fn words_of<'a>(alloc: Global, arguments: &'a [&'a str]) -> Result<Words<'a>, NoJob>
     ensures asked { IfOk result (λ words. asked_in (map (λ w. w.now) arguments.entry.now) ≡ Some (asked_by words)) }
     // Words that name a command with its words are refused for want of memory alone.
     ensures named { (asked : Asked) → asked_in (map (λ w. w.now) arguments.entry.now) ≡ Some asked
