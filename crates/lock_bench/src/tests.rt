@@ -10,7 +10,7 @@ use crate::threads::{events_of, numbered};
 use phase_model::{Call, Look, Op, Ops, Reply, explain};
 use phase_modes::{Limits, Mode, Refusal};
 use scope_locks::{FinishTable, Out, PassAnswer, PhaserCell, PhaserParts, PhaserTable, ShutAnswer};
-use share_book::{Blanks, Books, Ledgers, Seven, Shares, Totals, gather, open};
+use share_book::{Blanks, Books, Ledgers, PhaserBook, Seven, Shares, Totals, gather, open};
 use std::alloc::Global;
 use std::marker::Brand;
 use std::process::Abort;

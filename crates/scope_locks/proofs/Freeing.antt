@@ -27,6 +27,17 @@ still_open false now a k = absurd cc
 abbrev ClosesNothing : {T : Type 0} → Story → Story → List (Parked T) → Type 0
 ClosesNothing s s' ps = (is_phase_open s ps && not (is_phase_open s' ps)) ≡ false
 
+-- nothing is closed where a closing would be a contradiction
+pub closes_nothing : (was now : Bool) → (was ≡ true → now ≡ false → ⊥) → (was && not now) ≡ false
+closes_nothing true true k = refl
+closes_nothing true false k = absurd (k refl refl)
+closes_nothing false now k = refl
+
+-- and nobody leaves where neither his own drop nor a closing lets him
+pub neither_leaves : (waits was now : Bool) → (waits ≡ true → ⊥) → (was ≡ true → now ≡ false → ⊥) → (waits || (was && not now)) ≡ false
+neither_leaves true was now own k = absurd (own refl)
+neither_leaves false was now own k = closes_nothing was now k
+
 next_legal : (s : Story) (c : Call) (e : Event) → IsLegal s → reply s c ≡ done e → is_legal s.limits s.ops (e ∷ s.past) ≡ true
 next_legal s c e legal k = and_from (is_allowed s.limits s.ops s.past e) (is_legal s.limits s.ops s.past) (done_is_allowed s c e k) legal
 

@@ -7,6 +7,7 @@ mod answer;
 mod cell;
 mod finish;
 mod finishes;
+mod lock;
 mod out;
 mod parking;
 mod phasers;

@@ -18,6 +18,8 @@ pub struct Parked<T> {
 }
 
 /// Lets go on all who need no longer wait.
+// Rare beside the calls that let nobody go on, which it would make larger.
+#[inline(never)]
 fn release<T>(state: &PhaserState, parked: &mut VecDeque<Parked<T>>, out: &mut Out<T>)
     requires seats { 256 ≤ deque_capacity parked.old }
     requires seated { deque_len parked.old ≤ 256 }
@@ -55,7 +57,9 @@ pub(crate) fn is_phase_open<T>(state: &PhaserState, parked: &VecDeque<Parked<T>>
 /// Whether a signal or a drop may let somebody go on: it closed the phase of those who wait, or the
 /// dropped task itself may have waited.
 pub(crate) fn may_leave(waited: bool, was_open: bool, is_open: bool) -> bool
-    ensures { result ≡ (waited || (was_open && not is_open)) }
+    ensures exactly { result ≡ (waited || (was_open && not is_open)) }
+    ensures waited { waited ≡ true → result ≡ true }
+    ensures closed { was_open ≡ true → is_open ≡ false → result ≡ true }
 {
     waited || (was_open && !is_open)
 }

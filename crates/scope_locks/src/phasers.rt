@@ -12,6 +12,7 @@ ghost use Rattle.scope_locks.specs.Parking.{goes_on, IsBack};
 
 use crate::answer::PassAnswer;
 use crate::cell::PhaserCell;
+use crate::lock::Lock;
 use crate::out::Out;
 use crate::posting::Locked;
 use phase_model::{Event, Look, Ops};
@@ -26,8 +27,8 @@ use std::sync::{Mutex, MutexGuard, Wait};
 pub struct PhaserTable<T, K: Ledgers> {
     /// How many phasers there are, at most 64.
     pub phasers: usize,
-    cells: Vec<Mutex<PhaserCell<T, K>>>,
-    books: Mutex<Books<K>>,
+    cells: Vec<Lock<PhaserCell<T, K>>>,
+    books: Lock<Books<K>>,
     /// Behind a lock, since tokens of a ledger are lent to no second thread.
     parts: Mutex<Room<K>>,
     ghost all: { vec_len cells ≡ phasers },
@@ -71,7 +72,7 @@ fn locked_cells<T: Drop, K: Ledgers>(
     alloc: Global,
     limits: Limits,
     books: Vec<PhaserBook<K>>,
-) -> Result<Vec<Mutex<PhaserCell<T, K>>>, Refusal>
+) -> Result<Vec<Lock<PhaserCell<T, K>>>, Refusal>
     requires limits { limits_fit limits ≡ true }
     requires fresh { All (λ b. (b.totals ≡ nothing) × (b.room ≡ 65536)) books.items }
     ensures cells { IfOk result (λ v. vec_len v ≡ vec_len books) }
@@ -79,7 +80,7 @@ fn locked_cells<T: Drop, K: Ledgers>(
 {
     let mut cells = Vec::new(alloc);
     for book in books {
-        let cell = Mutex::new(PhaserCell::new(alloc, limits, book)?);
+        let cell = Lock::new(PhaserCell::new(alloc, limits, book)?);
         cells.push(cell)?;
     }
     Ok(cells)
@@ -112,8 +113,9 @@ fn take_apart<T: Drop, K: Ledgers>(
 }
 
 impl<T: Drop, K: Ledgers> PhaserTable<T, K> {
-    /// As many phasers as there are books of phasers, each with these limits, and made by nobody yet. The phasers' books are those of one `open`, in order, so at most 64. All memory that
-    /// the table will ever need is taken here; `Memory` where that is refused.
+    /// One phaser for each of the phasers' books, with these limits, made by nobody yet. The books are
+    /// those of one `open`, in order. All memory that the table will ever need is taken here; `Memory`
+    /// where that is refused.
     pub fn new(
         alloc: Global,
         limits: Limits,
@@ -130,7 +132,7 @@ impl<T: Drop, K: Ledgers> PhaserTable<T, K> {
         Ok(PhaserTable {
             phasers: cells.len(),
             cells,
-            books: Mutex::new(books),
+            books: Lock::new(books),
             parts: Mutex::new(Room::new(alloc)?),
         })
     }

@@ -4,9 +4,10 @@ ghost use Rattle.phase_model.specs.Amounts.{Amount, amount, plus};
 ghost use Rattle.share_book.specs.Accounts.{nothing};
 ghost use Rattle.scope_locks.specs.Amounts.{amount_if, plus_nothing};
 
+use crate::lock::Lock;
 use phase_model::Event;
 use share_book::{Books, Ledgers, PhaserBook, Shares, post};
-use std::sync::{Mutex, Wait};
+use std::sync::Wait;
 
 /// Where events are posted.
 pub trait Post<K: Ledgers> {
@@ -29,6 +30,7 @@ pub trait Post<K: Ledgers> {
 impl<K: Ledgers> Post<K> for Books<K> {
     ghost rose = { λ old new a. new.totals ≡ plus a old.totals };
 
+    #[inline(always)]
     fn post(&mut self, book: &mut PhaserBook<K>, mine: &mut Shares<K>, event: &Event) {
         post(self, book, mine, event)
     }
@@ -40,12 +42,13 @@ impl<K: Ledgers> Post<K> for Books<K> {
 #[derive(Drop)]
 pub(crate) struct Locked<'a, K: Ledgers, R: Wait> {
     pub(crate) rt: &'a R,
-    pub(crate) books: &'a Mutex<Books<K>>,
+    pub(crate) books: &'a Lock<Books<K>>,
 }
 
 impl<'a, K: Ledgers, R: Wait> Post<K> for Locked<'a, K, R> {
     ghost rose = { λ old new a. Unit {0} };
 
+    #[inline(always)]
     fn post(&mut self, book: &mut PhaserBook<K>, mine: &mut Shares<K>, event: &Event) {
         let mut books = self.books.lock(self.rt);
         post(&mut books, book, mine, event)
@@ -55,6 +58,8 @@ impl<'a, K: Ledgers, R: Wait> Post<K> for Locked<'a, K, R> {
 }
 
 /// Posts the event of a call where it was added.
+// Where it is called the event's kind is known, so of most events only the count is written.
+#[inline(always)]
 pub(crate) fn post_if<K: Ledgers, B: Post<K>>(
     added: bool,
     book: &mut PhaserBook<K>,

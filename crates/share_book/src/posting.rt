@@ -26,6 +26,7 @@ fn take_room<L: Ledger>(left: &mut u64, book: &mut Book<L>, part: &mut Part<L>)
 
 /// Takes one of the phaser's room, and raises the books, the phaser's book and the worker's shares
 /// by what the event amounts to.
+#[inline(always)]
 pub fn post<K: Ledgers>(
     books: &mut Books<K>,
     phaser: &mut PhaserBook<K>,

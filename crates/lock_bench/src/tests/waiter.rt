@@ -1,5 +1,6 @@
 //! A waiter that is let go on by the other's signal, on one cell.
 ghost use Rattle.std.specs.Prelude.{◌≡◌};
+ghost use Rattle.share_book.specs.Accounts.{nothing};
 ghost use Rattle.share_book.specs.Opening.{IsNamed, IsParted};
 
 use super::*;
@@ -56,6 +57,40 @@ fn let_go<K: Ledgers>(
     Ok([freed, passed, Line::Freed(out.take())])
 }
 
+/// Both on a new phaser of this book, which comes back.
+fn on_one_phaser<K: Ledgers>(
+    alloc: Global,
+    book: PhaserBook<K>,
+    books: &mut Books<K>,
+    mine: &mut Shares<K>,
+) -> Result<(PhaserBook<K>, [Line; 2], [Line; 3]), Refusal>
+    requires { (book.totals ≡ nothing) × (book.room ≡ 65536) }
+{
+    let mut cell = PhaserCell::new(alloc, Limits::default(), book)?;
+    let parked = park_twice(alloc, &mut cell, books, mine)?;
+    let freed = let_go(alloc, &mut cell, books, mine)?;
+    let PhaserCell {
+        state: _,
+        book,
+        parked: _,
+    } = cell;
+    Ok((book, parked, freed))
+}
+
+/// What the books of one phaser and one worker add up to.
+fn gathered<K: Ledgers>(
+    alloc: Global,
+    book: PhaserBook<K>,
+    mine: Shares<K>,
+    books: Books<K>,
+) -> Result<Totals, Refusal> {
+    let mut phasers = Vec::new(alloc);
+    phasers.push(book)?;
+    let mut shares = Vec::new(alloc);
+    shares.push(mine)?;
+    gather(shares, phasers, books)
+}
+
 fn wait_on<K: Ledgers>(
     alloc: Global,
     blanks: Blanks,
@@ -64,24 +99,16 @@ fn wait_on<K: Ledgers>(
         K.UpByWorker.name K.DownByPhaser.name K.DownByWorker.name K.Room.name }
     requires parts { IsParted blanks K.EventsByPhaser.parts K.EventsByWorker.parts K.UpByPhaser.parts
         K.UpByWorker.parts K.DownByPhaser.parts K.DownByWorker.parts K.Room.parts }
-    requires sizes { (blanks.phasers ≡ 1) × (blanks.workers ≡ 1) }
 {
     let (mut books, mut phasers, mut shares) = open::<K>(alloc, blanks)?;
-    let (Some(book), Some(mut mine)) = (phasers.pop(), shares.pop()) else {
+    let Some(book) = phasers.pop() else {
         return Err(Refusal::SharesDiffer);
     };
-    let mut cell = PhaserCell::new(alloc, Limits::default(), book)?;
-    let parked = park_twice(alloc, &mut cell, &mut books, &mut mine)?;
-    let freed = let_go(alloc, &mut cell, &mut books, &mut mine)?;
-    let PhaserCell {
-        state: _,
-        book,
-        parked: _,
-    } = cell;
-    if phasers.push(book).is_err() || shares.push(mine).is_err() {
-        return Err(Refusal::Memory);
-    }
-    let totals = gather(shares, phasers, books)?;
+    let Some(mut mine) = shares.pop() else {
+        return Err(Refusal::SharesDiffer);
+    };
+    let (book, parked, freed) = on_one_phaser(alloc, book, &mut books, &mut mine)?;
+    let totals = gathered(alloc, book, mine, books)?;
     Ok((parked, freed, totals))
 }
 
@@ -91,7 +118,6 @@ fn named_wait<A: Ledger, B: Ledger, C: Ledger, D: Ledger, E: Ledger, F: Ledger, 
 ) -> Result<([Line; 2], [Line; 3], Totals), Refusal>
     requires names { IsNamed blanks A.name B.name C.name D.name E.name F.name G.name }
     requires parts { IsParted blanks A.parts B.parts C.parts D.parts E.parts F.parts G.parts }
-    requires sizes { (blanks.phasers ≡ 1) × (blanks.workers ≡ 1) }
 {
     wait_on::<Seven<A, B, C, D, E, F, G>>(alloc, blanks)
 }

@@ -1,9 +1,10 @@
-use Rattle.std.proofs.Common.{◌≡◌, ◌||◌, ◌&&◌, not, ap, sym, ◌∙◌}
+use Rattle.std.proofs.Common.{ap, sym, ◌∙◌, rules}
 use Rattle.std.specs.Result.{is_ok}
+use Rattle.std.proofs.lemmas.Bool.{false≢true}
 use Rattle.phase_model.specs.declared.call.Call.TheVariants.{Drop as drop_task}
 use Rattle.phase_model.specs.Waiting.{would_wait}
 use Rattle.scope_locks.specs.Parking.{is_phase_open}
-use Rattle.scope_locks.proofs.Freeing.{drop_frees_nobody}
+use Rattle.scope_locks.proofs.Freeing.{neither_leaves, drop_frees_nobody}
 use Rattle.scope_locks.proofs.Parks.{all_waiting, once_waiting}
 use Rattle.scope_locks.proofs.Written.{matches_result, kept, none_where_refused}
 use Rattle.scope_locks.proofs.cell.PhaserCell.drop_task.Goals as goal
@@ -14,12 +15,8 @@ release_if-requires-clause-nobody g c = λ n.
     let s = cell.state.story in
     let s' = c.drop_task-answer.new.self.story in
     let ps = cell.parked.items in
-    let asked : c.may_leave.result ≡ (would_wait s c.args.task || (is_phase_open s ps && not (is_phase_open s' ps))) =
-    c.may_leave.ensures
-    ∙ (ap (λ b. b || (c.is_phase_open-was_open.result && not c.is_phase_open-is_open.result)) c.would_wait-waits.ensures
-    ∙ ap (λ b. would_wait s c.args.task || b) (ap (λ b. b && not c.is_phase_open-is_open.result) c.is_phase_open-was_open.ensures ∙ ap (λ b. is_phase_open s ps && not b) c.is_phase_open-is_open.ensures))
-    in
-    drop_frees_nobody s s' cell.book ps c.args.task cell.kept c.drop_task-answer.ensures.history (sym asked ∙ n)
+    drop_frees_nobody s s' cell.book ps c.args.task cell.kept c.drop_task-answer.ensures.history
+    (neither_leaves (would_wait s c.args.task) (is_phase_open s ps) (is_phase_open s' ps) (λ waits. false≢true (sym n ∙ c.may_leave.ensures.waited (search (rules, c.would_wait-waits.ensures ∙ waits)))) (λ was now. false≢true (sym n ∙ c.may_leave.ensures.closed (cc) (cc))))
 
 pub invariant_of-self : goal.invariant_of-self
 invariant_of-self g c =

@@ -1,8 +1,9 @@
-use Rattle.std.proofs.Common.{◌≡◌, ◌&&◌, not, ap, sym, ◌∙◌}
+use Rattle.std.proofs.Common.{ap, sym, ◌∙◌}
 use Rattle.std.specs.Result.{is_ok}
+use Rattle.std.proofs.lemmas.Bool.{false≢true}
 use Rattle.phase_model.specs.declared.call.Call.TheVariants.{Signal as signal}
 use Rattle.scope_locks.specs.Parking.{is_phase_open}
-use Rattle.scope_locks.proofs.Freeing.{signal_frees_nobody}
+use Rattle.scope_locks.proofs.Freeing.{closes_nothing, signal_frees_nobody}
 use Rattle.scope_locks.proofs.Parks.{all_waiting, once_waiting}
 use Rattle.scope_locks.proofs.Written.{matches_result, kept, none_where_refused}
 use Rattle.scope_locks.proofs.cell.PhaserCell.signal.Goals as goal
@@ -13,10 +14,8 @@ release_if-requires-clause-nobody g c = λ n.
     let s = cell.state.story in
     let s' = c.signal-answer.new.self.story in
     let ps = cell.parked.items in
-    let asked : c.may_leave.result ≡ (is_phase_open s ps && not (is_phase_open s' ps)) =
-    c.may_leave.ensures ∙ (ap (λ b. b && not c.is_phase_open-is_open.result) c.is_phase_open-was_open.ensures ∙ ap (λ b. is_phase_open s ps && not b) c.is_phase_open-is_open.ensures)
-    in
-    signal_frees_nobody s s' cell.book ps c.args.task c.args.number cell.kept c.signal-answer.ensures.history (sym asked ∙ n)
+    signal_frees_nobody s s' cell.book ps c.args.task c.args.number cell.kept c.signal-answer.ensures.history
+    (closes_nothing (is_phase_open s ps) (is_phase_open s' ps) (λ was now. false≢true (sym n ∙ c.may_leave.ensures.closed (cc) (cc))))
 
 pub invariant_of-self : goal.invariant_of-self
 invariant_of-self g c =

@@ -1,4 +1,4 @@
-use Rattle.std.proofs.Common.{ap, sym, ◌∙◌}
+use Rattle.std.proofs.Common.{◌≡◌, false, ap, sym, ◌∙◌}
 use Rattle.std.specs.Result.{is_ok}
 use Rattle.phase_model.specs.declared.call.Call.TheVariants.{SingleDone as single_done}
 use Rattle.scope_locks.proofs.Freeing.{refused_frees_nobody}
@@ -11,8 +11,10 @@ release_if-requires-clause-nobody g c =
     let cell = c.args.self.now in
     let s = cell.state.story in
     let is = c.single_done-answer.ensures.history in
-    λ n. refused_frees_nobody s _ cell.book cell.parked.items c.args.task cell.kept is
-    (sym (ap (λ a. is_ok a) c.single_done-answer.ensures.reply) ∙ (sym c.is_ok-is_done.ensures.value ∙ n))
+    λ n.
+    let undone : c.is_ok-is_done.result ≡ false = cc in
+    refused_frees_nobody s _ cell.book cell.parked.items c.args.task cell.kept is
+    (sym (ap (λ a. is_ok a) c.single_done-answer.ensures.reply) ∙ (sym c.is_ok-is_done.ensures.value ∙ undone))
 
 pub invariant_of-self : goal.invariant_of-self
 invariant_of-self g c =
