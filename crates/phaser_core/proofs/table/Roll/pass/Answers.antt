@@ -1,9 +1,10 @@
 use Rattle.std.proofs.Common.{◌≡◌, ◌+◌, Some, List, length, set, slice_get, ap, sym, ◌∙◌, arith}
 use Rattle.std.proofs.lemmas.List.{length-set}
+use Rattle.std.proofs.lemmas.Option.{same_Some}
 use Rattle.reg_table.specs.declared.table.Entry.{Entry}
 use Rattle.reg_table.specs.Lines.{line_passed}
 use Rattle.phaser_core.specs.Line.{waits_at, IsToPass, IsRoll}
-use Rattle.phaser_core.proofs.Counting.{roll_pass, roll_pass_none, waiter_here, counts_few, waits_once}
+use Rattle.phaser_core.proofs.Counting.{roll_pass, roll_pass_none, waiter_here, counts_few, waits_once, needed_all, needed_some}
 use Rattle.phaser_core.proofs.table.Roll.pass.Goals as goal
 
 pub advance-requires-clause-here : goal.advance-requires-clause-here
@@ -27,7 +28,7 @@ invariant_of-self c =
     let is = told e c.get.ensures in
     let written = c.pass.ensures e c.get.ensures in
     let roll : IsRoll (set r.table c.args.place (line_passed e)) r.signallers c.advance.new.self =
-    roll_pass r.table r.signallers r.waiters c.advance.new.self c.args.place e c.self.invariant.0 c.get.ensures is (sym c.can_wait.ensures ∙ c.if-can_wait.true) c.advance.ensures
+    roll_pass r.table r.signallers r.waiters c.advance.new.self c.args.place e c.self.invariant.0 c.get.ensures is (sym c.can_wait.ensures ∙ c.if-can_wait.true) c.advance.ensures.counts
     in (
       rw written roll,
       omega (arith, c.self.invariant.1, ap (λ (xs : List Entry). length xs) written, length-set r.table c.args.place (line_passed e)),
@@ -58,3 +59,29 @@ advance-requires-clause-next c =
     let r = c.self.inside in
     let told : (x : Entry) → slice_get r.table c.args.place ≡ Some x → IsToPass (length r.signallers) x.reg = rw (← c.self.view_is) at c.requires.line in
     omega (arith, (told c.get.result c.get.ensures).low, c.self.invariant.0.same)
+
+pub returns-then-can_wait-clause-each : goal.returns-then-can_wait-clause-each
+returns-then-can_wait-clause-each c = λ line here moves.
+    let r = c.self.inside in
+    let e : Entry = c.get.result in
+    let is : line ≡ e = same_Some line e (sym (rw (← c.self.view_is) at here) ∙ c.get.ensures) in
+    let told : (x : Entry) → slice_get r.table c.args.place ≡ Some x → IsToPass (length r.signallers) x.reg = rw (← c.self.view_is) at c.requires.line in
+    let written = c.pass.ensures e c.get.ensures in
+    let roll : IsRoll (set r.table c.args.place (line_passed e)) r.signallers c.advance.new.self =
+    roll_pass r.table r.signallers r.waiters c.advance.new.self c.args.place e c.self.invariant.0 c.get.ensures (told e c.get.ensures) (sym c.can_wait.ensures ∙ c.if-can_wait.true) c.advance.ensures.counts
+    in
+    rw (is, written)
+    (needed_all (set r.table c.args.place (line_passed e)) r.signallers c.advance.new.self roll (e.reg.phase + 1) e.reg.phase (c.advance.ensures.moves moves) (omega arith))
+
+pub returns-then-can_wait-clause-some : goal.returns-then-can_wait-clause-some
+returns-then-can_wait-clause-some c = λ line here moves.
+    let r = c.self.inside in
+    let e : Entry = c.get.result in
+    let is : line ≡ e = same_Some line e (sym (rw (← c.self.view_is) at here) ∙ c.get.ensures) in
+    let told : (x : Entry) → slice_get r.table c.args.place ≡ Some x → IsToPass (length r.signallers) x.reg = rw (← c.self.view_is) at c.requires.line in
+    let written = c.pass.ensures e c.get.ensures in
+    let roll : IsRoll (set r.table c.args.place (line_passed e)) r.signallers c.advance.new.self =
+    roll_pass r.table r.signallers r.waiters c.advance.new.self c.args.place e c.self.invariant.0 c.get.ensures (told e c.get.ensures) (sym c.can_wait.ensures ∙ c.if-can_wait.true) c.advance.ensures.counts
+    in
+    rw (is, written)
+    (needed_some (set r.table c.args.place (line_passed e)) r.signallers c.advance.new.self roll (e.reg.phase + 1) e.reg.phase (c.advance.ensures.moves moves) (omega arith))

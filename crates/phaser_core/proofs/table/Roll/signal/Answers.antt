@@ -31,7 +31,7 @@ invariant_of-self c =
     let low : c.args.phase + 1 < length r.signallers = rw (← c.self.view_is) at c.requires.phase in
     let written = c.signal.ensures e line.1 in
     let roll : IsRoll (set r.table c.args.place (line_signalled e c.args.proposes)) c.advance.new.self r.waiters =
-    roll_signal r.table r.signallers r.waiters c.advance.new.self c.args.place c.args.phase e c.args.proposes i line.1 is low c.advance.ensures
+    roll_signal r.table r.signallers r.waiters c.advance.new.self c.args.place c.args.phase e c.args.proposes i line.1 is low c.advance.ensures.counts
     in (
       rw written roll,
       omega (arith, c.self.invariant.1, ap (λ (xs : List Entry). length xs) written, length-set r.table c.args.place (line_signalled e c.args.proposes)),
