@@ -1,6 +1,6 @@
 //! The words of the command line, as a job.
 ghost use Rattle.std.specs.Prelude.{◌≡◌, ◌⊎◌, ℕ, List, Some, None, map, option_map, true, IfErr, IfOk, MatchResult};
-ghost use Rattle.command_words.specs.CommandLine.{Asked, IsOfList, Work, asked_by, file_of, is_plainly_asked, no_job_status, plain_words, work_for, work_in, work_of};
+ghost use Rattle.command_words.specs.CommandLine.{Asked, IsOfList, Work, asked_by, asked_in, file_of, is_plainly_asked, no_job_status, plain_words, work_for, work_in, work_of};
 ghost use Rattle.command_words.specs.Picks.{listed_in};
 
 use crate::picks::picks_of;
@@ -93,7 +93,8 @@ fn listed(alloc: Global, list: Option<&str>) -> Result<Vec<u32>, NoJob>
 /// The job of a command with its words.
 fn job_for<'a>(alloc: Global, words: Words<'a>) -> Result<Job<'a>, NoJob>
     ensures work { IfOk result (λ job. work_for (asked_by words.entry) ≡ Some (work_of job)) }
-    ensures none { IfErr result (λ e. (e ≡ NoJob.Memory) ⊎ (work_for (asked_by words.entry) ≡ None)) }
+    ensures none { IfErr result (λ e. (e ≡ NoJob.Memory)
+        ⊎ ((e ≡ NoJob.BadList) × (work_for (asked_by words.entry) ≡ None))) }
 {
     match words {
         Words::Events { file } => Ok(Job::Events { file }),
@@ -114,6 +115,12 @@ pub fn job_of<'a>(alloc: Global, arguments: &'a [&'a str]) -> Result<Job<'a>, No
     // Words that name a job are refused for want of memory alone.
     ensures named { (work : Work) → work_in (map (λ w. w.now) arguments.entry.now) ≡ Some work
         → MatchResult result (λ job. work_of job ≡ work) (λ e. e ≡ NoJob.Memory) }
+    // Of words that ask for a command, whose LIST spells no picks, only LIST is named as bad.
+    ensures bad_list { (asked : Asked) → asked_in (map (λ w. w.now) arguments.entry.now) ≡ Some asked
+        → work_for asked ≡ None → IfErr result (λ e. (e ≡ NoJob.Memory) ⊎ (e ≡ NoJob.BadList)) }
+    // It is named for no other reason.
+    ensures list { IfErr result (λ e. e ≡ NoJob.BadList → (asked : Asked)
+        × (asked_in (map (λ w. w.now) arguments.entry.now) ≡ Some asked) × (work_for asked ≡ None)) }
     // So `events FILE` names that file, and the other commands theirs with the options after it, where no word of
     // theirs looks like an option.
     ensures plain { (program : List ℕ) (asked : Asked) (work : Work)

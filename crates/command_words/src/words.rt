@@ -1,5 +1,5 @@
 //! The words of the command line, as `clap` tells them.
-ghost use Rattle.std.specs.Prelude.{◌≡◌, List, Some, map, false, option_map, IfOk, MatchResult};
+ghost use Rattle.std.specs.Prelude.{◌≡◌, ◌≢◌, List, Some, map, false, option_map, IfErr, IfOk, MatchResult};
 ghost use Rattle.clap.specs.Words.{app_of, found_of, kind_of, rows_of, rule_of};
 ghost use Rattle.clap.specs.declared.builder.command.Command.TheViews.{out-Command as fields_of};
 ghost use Rattle.command_words.specs.CommandLine.{Asked, asked_among, asked_by, asked_in, bare_app, events_app, file_rule, option_rule, program_app, replay_app, schedule_app};
@@ -27,7 +27,8 @@ pub(crate) enum Words<'a> {
 
 /// What an error of the reading of arguments comes to.
 fn no_job_for(error: clap::Error) -> NoJob
-    ensures { kind_of error ≡ ErrorKind.OutOfMemory → result ≡ NoJob.Memory }
+    ensures memory { kind_of error ≡ ErrorKind.OutOfMemory → result ≡ NoJob.Memory }
+    ensures no_list { result ≢ NoJob.BadList }
 {
     match error.kind() {
         ErrorKind::OutOfMemory => NoJob::Memory,
@@ -189,6 +190,8 @@ pub(crate) fn words_of<'a>(alloc: Global, arguments: &'a [&'a str]) -> Result<Wo
     // Words that name a command with its words are refused for want of memory alone.
     ensures named { (asked : Asked) → asked_in (map (λ w. w.now) arguments.entry.now) ≡ Some asked
         → MatchResult result (λ words. asked_by words ≡ asked) (λ e. e ≡ NoJob.Memory) }
+    // Nothing is said of LIST here.
+    ensures no_list { IfErr result (λ e. e ≢ NoJob.BadList) }
 {
     let matches = match command(alloc)?.try_get_matches_from(arguments) {
         Ok(matches) => matches,

@@ -10,7 +10,7 @@ returns-in-Err-clause-named c = λ asked named.
     let arguments = map (λ w. w.now) c.args.arguments.now in
     let app = c.in_ok-command.ensures.app in
     let kinds = c.in-Err.ensures.kinds (ap is_simple_and_free app) in
-    c.no_job_for.ensures
+    c.no_job_for.ensures.memory
     (memory_alone arguments c.in_ok-command.field-0 c.in-Err.error app
     (words_named arguments asked named).0 kinds)
 
