@@ -1,10 +1,10 @@
 -- What making a phaser with operators leaves of the fact that its cell keeps.
-use Rattle.std.proofs.Common.{◌≡◌, ℕ, ◌+◌, Bool, true, List, [], ◌∷◌, ap, sym, refl, ◌∙◌}
+use Rattle.std.proofs.Common.{◌≡◌, ℕ, ◌+◌, Bool, List, [], ◌∷◌, ap, sym, refl, ◌∙◌}
 use Rattle.phase_modes.specs.declared.limits.Limits.{Limits}
 use Rattle.phase_modes.specs.declared.mode.Mode.{Mode}
 use Rattle.phase_model.specs.declared.event.Event.{Event}
 use Rattle.phase_model.specs.declared.op.Op.{Op}
-use Rattle.phase_model.specs.Amounts.{amount, plus}
+use Rattle.phase_model.specs.Amounts.{plus}
 use Rattle.phase_model.specs.Laws.{IsLegal}
 use Rattle.phase_model.specs.Rules.{Story, is_legal}
 use Rattle.phase_model.specs.declared.call.Call.TheVariants.{Make as make}
