@@ -3,3 +3,4 @@ pub mod Explained
 pub mod Laws
 pub mod Parts
 pub mod Run
+pub mod inner

@@ -2,8 +2,10 @@
 //! traces a world explains. The definitions stand in `specs/`. It reads and replays nothing.
 #![tactic(auto)]
 
+mod entries;
 mod event;
 mod in_world;
+mod kept;
 mod laws;
 mod part;
 mod trace;

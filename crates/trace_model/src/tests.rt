@@ -4,7 +4,7 @@ use finish_core::FinishEvent;
 use phase_model::Look;
 use phase_modes::{Limits, Refusal};
 use std::test::Fail;
-use world_model::{Reply, Step, WorldEvent};
+use world_model::{Reply, Step, Tried, WorldEvent};
 
 #[test]
 fn events_are_kept_in_order(rt: HostRuntime) -> Result<(), Fail> {
@@ -15,15 +15,41 @@ fn events_are_kept_in_order(rt: HostRuntime) -> Result<(), Fail> {
         .map_err(|_| Fail::from("memory"))?;
     part.push(9, TracedEvent::Finish(0, FinishEvent::Shut))
         .map_err(|_| Fail::from("memory"))?;
-    assert!(rt; part.events() == trace.events());
+    assert_eq!(rt; trace.len(), 1);
+    assert!(rt; part.events()[0] == trace.entry(0));
     trace
         .push(
             2,
             TracedEvent::Phaser(0, TracedStep::Look(3, 1, Look::Value(-5))),
         )
         .map_err(|_| Fail::from("memory"))?;
-    assert_eq!(rt; trace.events().len(), 2);
+    assert_eq!(rt; trace.len(), 2);
     assert_eq!(rt; trace.limits(), Limits::default());
+    Ok(())
+}
+
+/// A long event, here of this task.
+fn refused(task: u32) -> TracedEvent {
+    TracedEvent::Refuse(task, Tried::Open(64), 18)
+}
+
+fn shut(finish: u32) -> TracedEvent {
+    TracedEvent::Finish(finish, FinishEvent::Shut)
+}
+
+#[test]
+fn long_events_in_their_places(rt: HostRuntime) -> Result<(), Fail> {
+    let mut trace = Trace::new(rt.alloc(), Limits::default());
+    for task in 0..3 {
+        trace.push(5, shut(task)).map_err(|_| Fail::from("memory"))?;
+        trace
+            .push(6, refused(task))
+            .map_err(|_| Fail::from("memory"))?;
+    }
+    assert!(rt; 5 < trace.len());
+    assert!(rt; trace.entry(2) == (5, shut(1)));
+    assert!(rt; trace.entry(3) == (6, refused(1)));
+    assert!(rt; trace.entry(5) == (6, refused(2)));
     Ok(())
 }
 
@@ -34,12 +60,12 @@ fn room_for_events_has_none(rt: HostRuntime) -> Result<(), Fail> {
         ..Limits::default()
     };
     let mut trace = Trace::with_capacity(rt.alloc(), limits, 1).map_err(|_| Fail::from("memory"))?;
-    assert_eq!(rt; trace.events().len(), 0);
+    assert_eq!(rt; trace.len(), 0);
     assert_eq!(rt; trace.limits(), limits);
     trace
         .push(1, TracedEvent::Finish(0, FinishEvent::Shut))
         .map_err(|_| Fail::from("memory"))?;
-    assert_eq!(rt; trace.events().len(), 1);
+    assert_eq!(rt; trace.len(), 1);
     Ok(())
 }
 

@@ -1,20 +1,20 @@
 //! The trace of a run.
-ghost use Rattle.std.specs.Prelude.{◌≡◌, [], true, IfOk, IfErr};
+ghost use Rattle.std.specs.Prelude.{◌≡◌, ◌<◌, [], true, length, slice_get, Some, IfOk, IfErr};
 ghost use Rattle.phase_modes.specs.Limits.{limits_fit};
 ghost use Rattle.trace_model.specs.Run.{with_event};
 
-use crate::event::{TracedEvent, TracedStep};
+use crate::entries::Entries;
+use crate::event::TracedEvent;
 use phase_modes::{Limits, Refusal};
 use std::alloc::Global;
 use std::marker::Model;
-use world_model::{Begun, Tried};
 
 /// The limits of a run, and its events in order, each with its ticket. Contracts see the limits and
 /// the list. It may hold any events, whether a run makes them or not.
 #[derive(Debug, Drop)]
 pub struct Trace {
     limits: Limits,
-    events: Vec<(u64, TracedEvent)>,
+    events: Entries,
 }
 
 impl Model for Trace {
@@ -24,7 +24,7 @@ impl Model for Trace {
 
     ghost Value = { Run };
 
-    ghost view = { λ t. record { limits = t.limits; events = t.events.items } };
+    ghost view = { λ t. record { limits = t.limits; events = t.events } };
 
     ghost invariant = { λ t. limits_fit t.limits ≡ true };
 }
@@ -37,25 +37,19 @@ impl Trace {
     {
         Trace {
             limits,
-            events: Vec::new(alloc),
+            events: Entries::new(alloc),
         }
     }
 
-    /// A trace with no events yet, and room for so many: adding these copies none that was added before.
-    /// `Memory` where there is too little for them.
+    /// A trace with no events yet, and room for so many, but for what a long event takes beyond a short
+    /// one. `Memory` where there is too little for them.
     pub fn with_capacity(alloc: Global, limits: Limits, events: usize) -> Result<Trace, Refusal>
         requires { limits_fit limits ≡ true }
         ensures empty { IfOk result (λ t. t ≡ record { limits = limits; events = [] }) }
         ensures memory { IfErr result (λ r. r ≡ Refusal.Memory) }
     {
-        // The prover has to be shown the types inside an event: it doesn't find them by itself.
-        let _step: Option<TracedStep> = None;
-        let _begun: Option<Begun> = None;
-        let _tried: Option<Tried> = None;
-        match Vec::with_capacity(alloc, events) {
-            Ok(events) => Ok(Trace { limits, events }),
-            Err(_) => Err(Refusal::Memory),
-        }
+        let events = Entries::with_capacity(alloc, events)?;
+        Ok(Trace { limits, events })
     }
 
     /// Adds an event at the end. On `Memory` the trace is as it was.
@@ -63,14 +57,7 @@ impl Trace {
         ensures added { IfOk result (λ _. self.new ≡ with_event self.old (ticket, event)) }
         ensures memory { IfErr result (λ r. (r ≡ Refusal.Memory) × (self.new ≡ self.old)) }
     {
-        // The prover has to be shown the types inside an event: it doesn't find them by itself.
-        let _step: Option<TracedStep> = None;
-        let _begun: Option<Begun> = None;
-        let _tried: Option<Tried> = None;
-        match self.events.push((ticket, event)) {
-            Ok(()) => Ok(()),
-            Err(_) => Err(Refusal::Memory),
-        }
+        self.events.push(ticket, event)
     }
 
     /// The limits of the run.
@@ -81,10 +68,18 @@ impl Trace {
         self.limits
     }
 
-    /// The events in order, each with its ticket.
-    pub fn events(&self) -> &[(u64, TracedEvent)]
-        ensures { result.now ≡ self.now.events }
+    /// How many events there are.
+    pub fn len(&self) -> usize
+        ensures { result ≡ length self.now.events }
     {
-        self.events.as_slice()
+        self.events.len()
+    }
+
+    /// The event at this place, counted from 0, with its ticket.
+    pub fn entry(&self, place: usize) -> (u64, TracedEvent)
+        requires { place < length self.now.events }
+        ensures { slice_get self.now.events place ≡ Some result }
+    {
+        self.events.entry(place)
     }
 }

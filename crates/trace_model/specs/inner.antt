@@ -1,0 +1,2 @@
+-- How a trace keeps its events: no public contract cites it.
+pub mod Kept
