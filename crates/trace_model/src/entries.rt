@@ -1,5 +1,5 @@
 //! The events of a trace with their tickets, each in as little room as it needs.
-ghost use Rattle.std.specs.Prelude.{◌≡◌, ◌<◌, ◌++◌, ◌∷◌, [], length, slice_get, Some, IfOk, IfErr};
+ghost use Rattle.std.specs.Prelude.{◌≡◌, ◌<◌, ◌^◌, ◌++◌, ◌∷◌, [], length, slice_get, Some, IfOk, IfErr};
 
 use crate::event::{TracedEvent, TracedStep};
 use crate::kept::Kept;
@@ -87,9 +87,10 @@ impl Entries {
 
     /// How many events there are.
     pub(crate) fn len(&self) -> usize
-        ensures { result ≡ length self.now }
+        ensures length { result ≡ length self.now }
+        ensures few { result < 2 ^ 63 }
     {
-        self.kept.len()
+        self.kept.as_slice().len()
     }
 
     /// The event at this place, with its ticket.

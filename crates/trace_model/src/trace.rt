@@ -1,5 +1,5 @@
 //! The trace of a run.
-ghost use Rattle.std.specs.Prelude.{◌≡◌, ◌<◌, [], true, length, slice_get, Some, IfOk, IfErr};
+ghost use Rattle.std.specs.Prelude.{◌≡◌, ◌<◌, ◌^◌, [], true, length, slice_get, Some, IfOk, IfErr};
 ghost use Rattle.phase_modes.specs.Limits.{limits_fit};
 ghost use Rattle.trace_model.specs.Run.{with_event};
 
@@ -70,7 +70,8 @@ impl Trace {
 
     /// How many events there are.
     pub fn len(&self) -> usize
-        ensures { result ≡ length self.now.events }
+        ensures length { result ≡ length self.now.events }
+        ensures few { result < 2 ^ 63 }
     {
         self.events.len()
     }

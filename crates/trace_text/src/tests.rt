@@ -28,6 +28,19 @@ fn written(rt: &HostRuntime, trace: &Trace) -> Result<String, Fail> {
     to_json(rt.alloc(), trace).map_err(|_| Fail::from("not written"))
 }
 
+/// Whether both have the same events, with the same tickets.
+fn have_same_events(one: &Trace, other: &Trace) -> bool {
+    if one.len() != other.len() {
+        return false;
+    }
+    for place in 0..one.len() {
+        if one.entry(place) != other.entry(place) {
+            return false;
+        }
+    }
+    true
+}
+
 #[test]
 fn smallest_trace(rt: HostRuntime) -> Result<(), Fail> {
     let events = [
@@ -49,7 +62,7 @@ fn smallest_trace(rt: HostRuntime) -> Result<(), Fail> {
     assert_eq!(rt; written(&rt, &trace)?.as_str(), SMALLEST);
     let again = read(&rt, SMALLEST)?;
     assert_eq!(rt; again.limits(), Limits::default());
-    assert!(rt; again.events() == trace.events());
+    assert!(rt; have_same_events(&again, &trace));
     Ok(())
 }
 
@@ -151,7 +164,7 @@ fn most_pairs(rt: HostRuntime) -> Result<(), Fail> {
         .map_err(|_| Fail::from("memory"))?;
     let text = written(&rt, &trace)?;
     let again = read(&rt, text.as_str())?;
-    assert!(rt; again.events() == trace.events());
+    assert!(rt; have_same_events(&again, &trace));
     Ok(())
 }
 

@@ -221,13 +221,14 @@ fn write_entry(out: &mut String, ticket: u64, event: &TracedEvent) -> Result<(),
     write_event(out, event)
 }
 
-fn write_entries(out: &mut String, entries: &[(u64, TracedEvent)]) -> Result<(), AllocError>
-    ensures { Appends result out.old out.new (compact_text (list (map entry_data entries.now))) }
+fn write_entries(out: &mut String, trace: &Trace) -> Result<(), AllocError>
+    ensures { Appends result out.old out.new (compact_text (list (map entry_data trace.now.events))) }
 {
     out.push_str("[")?;
-    for (index, entry) in entries.iter().enumerate() {
+    for index in 0..trace.len() {
         write_comma(out, index)?;
-        write_entry(out, entry.0, &entry.1)?;
+        let (ticket, event) = trace.entry(index);
+        write_entry(out, ticket, &event)?;
     }
     out.push_str("]")?;
     Ok(())
@@ -257,7 +258,7 @@ fn write_trace(out: &mut String, trace: &Trace) -> Result<(), AllocError>
     ensures { Appends result out.old out.new (trace_text trace.now) }
 {
     out.push_str("{\"events\":")?;
-    write_entries(out, trace.events())?;
+    write_entries(out, trace)?;
     out.push_str(",\"limits\":")?;
     write_limits(out, trace.limits())?;
     out.push_str(",\"version\":1}")?;
