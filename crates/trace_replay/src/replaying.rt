@@ -64,16 +64,17 @@ impl Player {
         later && answered
     }
 
-    /// Hands all of them to the world, up to the first that may not follow; its place.
-    fn take_all(&mut self, entries: &[(u64, TracedEvent)]) -> Option<u64>
-        ensures { (l : Limits) → HandedOver l [] self.old → HandsOver l entries.now result self.new }
+    /// Hands all of the trace's events to the world, up to the first that may not follow; its place.
+    fn take_all(&mut self, trace: &Trace) -> Option<u64>
+        ensures { (l : Limits) → HandedOver l [] self.old → HandsOver l trace.now.events result self.new }
     {
         // The prover has to be shown the types inside an event: it doesn't find them by itself.
         let _step: Option<TracedStep> = None;
         let _begun: Option<Begun> = None;
         let _tried: Option<Tried> = None;
-        for (index, entry) in entries.iter().enumerate() {
-            if !self.take(entry.0, &entry.1) {
+        for index in 0..trace.len() {
+            let (ticket, event) = trace.entry(index);
+            if !self.take(ticket, &event) {
                 return Some(index as u64 + 1);
             }
         }
@@ -86,11 +87,11 @@ fn played(alloc: Global, trace: &Trace) -> Result<World, Refusal>
     ensures { Plays trace.now result }
 {
     let mut player = Player::new(alloc, trace.limits())?;
-    if let Some(place) = player.take_all(trace.events()) {
+    if let Some(place) = player.take_all(trace) {
         return Err(Refusal::NotExplained(place));
     }
     if !player.over {
-        return Err(Refusal::NotExplained(trace.events().len() as u64 + 1));
+        return Err(Refusal::NotExplained(trace.len() as u64 + 1));
     }
     Ok(player.world)
 }
