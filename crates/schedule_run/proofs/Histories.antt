@@ -1,6 +1,7 @@
 -- The history that the first events of a trace tell.
-use Rattle.std.proofs.Common.{ℕ, ◌+◌, ◌<◌, ◌≤◌, ◌≡◌, List, [], ◌∷◌, reverse, take, get_or, length, ap, ◌∙◌}
-use Rattle.std.proofs.lemmas.List.{map-append, reverse-append, take_all, take_more}
+use Rattle.std.proofs.Common.{ℕ, ◌+◌, ◌<◌, ◌≤◌, ◌≡◌, List, [], ◌∷◌, reverse, take, get_or, length, slice_get, Some, sym, ap, ◌∙◌}
+use Rattle.std.proofs.lemmas.List.{map-append, reverse-append, take_all, take_more, get_or-take}
+use Rattle.std.proofs.lemmas.Option.{get_or_from_slice_get}
 use Rattle.world_model.specs.declared.event.WorldEvent.{WorldEvent}
 use Rattle.trace_model.specs.Explained.{event_of, past}
 use Rattle.trace_model.specs.Run.{Entry}
@@ -18,3 +19,12 @@ history_more es i d h =
 -- with all
 pub history_all : (es : List Entry) (i : ℕ) → length es ≤ i → history (take i es) ≡ history es
 history_all es i h = ap (λ (xs : List Entry). history xs) (take_all i es h)
+
+-- the entry at a place, as the one that is read there
+pub entry_at : (es : List Entry) (i : ℕ) (e : Entry) → slice_get es i ≡ Some e → e ≡ get_or es i e
+entry_at es i e at = sym (get_or_from_slice_get es i e e at)
+
+-- it stands among the first events too
+pub entry_before : (es : List Entry) (n i : ℕ) (e : Entry) → i < n → slice_get es i ≡ Some e
+    → e ≡ get_or (take n es) i e
+entry_before es n i e less at = entry_at es i e at ∙ sym (get_or-take n es i e less)

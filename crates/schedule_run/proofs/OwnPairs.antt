@@ -1,9 +1,9 @@
 -- A task's own phasers, as the events that registered it give them.
-use Rattle.std.proofs.Common.{ℕ, ◌≡◌, Bool, true, false, ◌&&◌, not, cond, List, [], ◌∷◌, ◌++◌, map, reverse, Option, Some, None, refl, sym, ap, ap₂, ◌∙◌, if◌then◌else◌}
+use Rattle.std.proofs.Common.{ℕ, ◌+◌, ◌<◌, ◌≤◌, ◌≡◌, ◌==◌, Bool, true, false, ◌&&◌, not, cond, List, [], ◌∷◌, ◌++◌, map, reverse, Option, Some, None, drop, get_or, length, refl, sym, ap, ap₂, ◌∙◌, if◌then◌else◌}
 use Rattle.std.specs.List.{filter, filter_map, cons_option}
 use Rattle.std.specs.Option.{option_map, is_some, unwrap_or}
 use Rattle.std.proofs.lemmas.Bool.{and_parts}
-use Rattle.std.proofs.lemmas.List.{append-nil, reverse-append, reverse-reverse}
+use Rattle.std.proofs.lemmas.List.{append-nil, at_drop_all, at_drop_more, reverse-append, reverse-reverse}
 use Rattle.std.proofs.lemmas.List.Elements.{filter_map-append}
 use Rattle.phase_modes.specs.declared.mode.Mode.{Mode}
 use Rattle.phase_modes.specs.declared.mode.Mode.TheVariants.{Wait}
@@ -14,6 +14,10 @@ use Rattle.world_model.specs.declared.event.WorldEvent.{WorldEvent}
 use Rattle.world_model.specs.Drawing.{own_pairs}
 use Rattle.world_model.specs.Parts.{phaser_past}
 use Rattle.world_model.specs.Tasks.{joined_by}
+use Rattle.world_model.specs.Continuing.{same_mode}
+use Rattle.schedule_model.specs.Follows.{same_pairs}
+use Rattle.trace_model.specs.Explained.{event_of, past}
+use Rattle.trace_model.specs.Run.{Entry}
 use Rattle.schedule_run.specs.inner.Holding.{mode_on, pair_on, pair_by}
 
 -- ---- the mode in which a task is registered
@@ -101,3 +105,49 @@ own_by_events t es =
     (sym (filter_map-reverse (joined_by t) w)
     ∙ ap (λ (xs : List WorldEvent). filter_map (joined_by t) xs) (reverse-reverse es))
     ∙ joined t w es))
+
+-- ---- a walk over the events, beside the pairs that these are to give
+
+-- the pairs from the k-th on are those that the entries from the i-th on give
+abbrev pub rest_same : ℕ → List WorldEvent → List Pair → List Entry → ℕ → ℕ → Bool
+rest_same t w ps es k i = same_pairs (drop k ps) (filter_map (pair_by t w) (past (drop i es)))
+
+module _ (t : ℕ) (w : List WorldEvent) (ps : List Pair) (es : List Entry) (k i : ℕ) (e : Entry)
+    (less : i < length es) (at : e ≡ get_or es i e) where
+  abbrev later : List Pair
+  later = filter_map (pair_by t w) (past (drop (i + 1) es))
+
+  next : (o : Option Pair) → pair_by t w (event_of e.1) ≡ o
+      → rest_same t w ps es k i ≡ same_pairs (drop k ps) (cons_option o later)
+  next o is =
+      at_drop_more (λ (ys : List Entry). same_pairs (drop k ps) (filter_map (pair_by t w) (past ys))) es i e less
+      ∙ ap (λ (x : Entry). same_pairs (drop k ps) (cons_option (pair_by t w (event_of x.1)) later)) (sym at)
+      ∙ ap (λ (x : Option Pair). same_pairs (drop k ps) (cons_option x later)) is
+
+  -- the entry gives none
+  pub none_given : pair_by t w (event_of e.1) ≡ None → rest_same t w ps es k i ≡ rest_same t w ps es k (i + 1)
+  none_given is = next None is
+
+  module _ (own : Pair) (is : pair_by t w (event_of e.1) ≡ Some own) where
+    -- it gives one more than there are
+    pub too_many : length ps ≤ k → rest_same t w ps es k i ≡ false
+    too_many all =
+        next (Some own) is ∙ at_drop_all (λ (xs : List Pair). same_pairs xs (own ∷ later)) ps k all
+
+    module _ (d : Pair) (there : k < length ps) where
+      abbrev is_it : Bool
+      is_it = (get_or ps k d).phaser == own.phaser && same_mode (get_or ps k d).mode own.mode
+
+      by_pair : (b : Bool) → is_it ≡ b → rest_same t w ps es k i ≡ (b && rest_same t w ps es (k + 1) (i + 1))
+      by_pair b same =
+          next (Some own) is
+          ∙ at_drop_more (λ (xs : List Pair). same_pairs xs (own ∷ later)) ps k d there
+          ∙ ap (λ (x : Bool). x && same_pairs (drop (k + 1) ps) later) same
+
+      -- it gives another pair
+      pub other_given : is_it ≡ false → rest_same t w ps es k i ≡ false
+      other_given other = by_pair false other
+
+      -- it gives this pair
+      pub pair_given : is_it ≡ true → rest_same t w ps es k i ≡ rest_same t w ps es (k + 1) (i + 1)
+      pair_given same = by_pair true same

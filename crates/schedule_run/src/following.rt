@@ -1,5 +1,5 @@
 //! Whether a trace follows a program: one pass over its events, with a seat for each task.
-ghost use Rattle.std.specs.Prelude.{◌≡◌, ℕ, ◌∷◌, [], List, true, false, Err, IfOk, IfErr};
+ghost use Rattle.std.specs.Prelude.{◌≡◌, ℕ, ◌≤◌, ◌∷◌, [], List, length, take, true, false, Err, IfOk, IfErr};
 ghost use Rattle.phase_modes.specs.declared.mode.Mode as modes;
 ghost use Rattle.phase_modes.specs.declared.phased.Pair as phased;
 ghost use Rattle.phase_modes.specs.declared.refusal.Refusal.TheVariants.{Memory as NoMemory};
@@ -25,18 +25,19 @@ use job_script::{Act, Answer, Program, ScriptBody};
 use phase_modes::{Phased, Refusal};
 use std::alloc::Global;
 use std::collections::BTreeMap;
-use trace_model::{Trace, TracedEvent};
+use trace_model::Trace;
 use world_model::{Begun, Step, Tried, WorldEvent};
 
-/// Whether a task's act is the one that its body gives after these events, the numbers that it drew
-/// being any.
-fn is_given(before: &[(u64, TracedEvent)], made: &MadeAct, act: &Act<ScriptBody<'_>>) -> bool
+/// Whether a task's act is the one that its body gives after so many events of a trace, the numbers
+/// that it drew being any.
+fn is_given(trace: &Trace, count: usize, made: &MadeAct, act: &Act<ScriptBody<'_>>) -> bool
+    requires { count ≤ length trace.now.events }
     ensures { result ≡ same_act made.now.act
-        (tried_of (own_pairs made.now.task (history before.now)) (drawn made.now.act) act.now) }
+        (tried_of (own_pairs made.now.task (history (take count trace.now.events))) (drawn made.now.act) act.now) }
 {
     match (act, &made.act) {
         (Act::AsyncAll(_), Tried::Begun(Begun::Async(_, pairs))) => {
-            are_own_pairs(before, made.task, pairs.as_slice())
+            are_own_pairs(trace, count, made.task, pairs.as_slice())
         }
         _ => is_same_act(&made.act, &tried_of(Phased::none(), drawn(&made.act), act)),
     }
@@ -132,10 +133,13 @@ impl<'p> Followers<'p> {
         }
     }
 
-    /// Whether an event is no act, or its task's next one after those before it; it is gone past then.
-    fn takes(&mut self, before: &[(u64, TracedEvent)], event: &WorldEvent) -> Result<bool, Refusal>
-        ensures taken { (p : programs.Program) → SeatsStand p (history before.now) (seat_of self.old.seats)
-            → IfOk result (λ b. IsTaken p (history before.now) event.now (seat_of self.new.seats) b) }
+    /// Whether an event is no act, or its task's next one after so many of a trace before it; it is gone
+    /// past then.
+    fn takes(&mut self, trace: &Trace, count: usize, event: &WorldEvent) -> Result<bool, Refusal>
+        requires { count ≤ length trace.now.events }
+        ensures taken { (p : programs.Program)
+            → SeatsStand p (history (take count trace.now.events)) (seat_of self.old.seats)
+            → IfOk result (λ b. IsTaken p (history (take count trace.now.events)) event.now (seat_of self.new.seats) b) }
         ensures memory { IfErr result (λ e. e ≡ NoMemory) }
     {
         let made = match act_of(event) {
@@ -143,7 +147,7 @@ impl<'p> Followers<'p> {
             Some(made) => made,
         };
         let act = self.next_act(made.task);
-        if !is_given(before, &made, &act) {
+        if !is_given(trace, count, &made, &act) {
             return Ok(false);
         }
         self.settle(made.task, event, act)?;
@@ -163,9 +167,9 @@ pub fn follows(alloc: Global, program: &Program, trace: &Trace) -> Result<(), Re
         → follows program.now (history trace.now.events) ≡ false }
 {
     let mut followers = Followers::new(alloc, program)?;
-    let events = trace.events();
-    for i in 0..events.len() {
-        if !followers.takes(&events[..i], &events[i].1.event())? {
+    for i in 0..trace.len() {
+        let (_, event) = trace.entry(i);
+        if !followers.takes(trace, i, &event.event())? {
             return Err(Refusal::NotExplained(i as u64 + 1));
         }
     }

@@ -1,5 +1,5 @@
 //! The phasers that a task holds, read off the events of a trace.
-ghost use Rattle.std.specs.Prelude.{◌≡◌, ◌∷◌, List};
+ghost use Rattle.std.specs.Prelude.{◌≡◌, ◌≤◌, ◌∷◌, List, length, take};
 ghost use Rattle.phase_model.specs.declared.event.Event.{Event as PhaserEvent};
 ghost use Rattle.phase_model.specs.declared.op.Op as operators;
 ghost use Rattle.world_model.specs.declared.event.WorldEvent as events;
@@ -13,7 +13,7 @@ ghost use Rattle.schedule_run.specs.inner.Holding.{stay_in, stay_of, mode_on, pa
 
 use crate::acts::is_same_pair;
 use phase_modes::{Mode, Pair};
-use trace_model::{TracedEvent, TracedStep};
+use trace_model::{Trace, TracedEvent, TracedStep};
 
 /// What events say of a task and a phaser: the mode in which it was last registered there, and
 /// whether it was dropped.
@@ -51,16 +51,19 @@ impl Stay {
     }
 }
 
-/// The mode in which a task is registered on a phaser after these events; none where it isn't.
-fn mode_on(before: &[(u64, TracedEvent)], task: u32, phaser: u32) -> Option<Mode>
-    ensures { result ≡ mode_on task phaser (history before.now) }
+/// The mode in which a task is registered on a phaser after so many events of a trace; none where it
+/// isn't.
+fn mode_on(trace: &Trace, count: usize, task: u32, phaser: u32) -> Option<Mode>
+    requires { count ≤ length trace.now.events }
+    ensures { result ≡ mode_on task phaser (history (take count trace.now.events)) }
 {
     let mut stay = Stay {
         mode: None,
         left: false,
     };
-    for entry in before {
-        stay = stay.after(task, phaser, &entry.1);
+    for place in 0..count {
+        let (_, event) = trace.entry(place);
+        stay = stay.after(task, phaser, &event);
     }
     if stay.left { None } else { stay.mode }
 }
@@ -76,30 +79,33 @@ fn joined_by(task: u32, event: &TracedEvent) -> Option<u32>
     }
 }
 
-/// The phaser on which an event registers a task, with the task's mode on it after these events; none
-/// where it isn't registered there any more.
-fn pair_by(before: &[(u64, TracedEvent)], task: u32, event: &TracedEvent) -> Option<Pair>
-    ensures { result ≡ pair_by task (history before.now) (event_of event.now) }
+/// The phaser on which an event registers a task, with the task's mode on it after so many events of a
+/// trace; none where it isn't registered there any more.
+fn pair_by(trace: &Trace, count: usize, task: u32, event: &TracedEvent) -> Option<Pair>
+    requires { count ≤ length trace.now.events }
+    ensures { result ≡ pair_by task (history (take count trace.now.events)) (event_of event.now) }
 {
     let phaser = joined_by(task, event)?;
-    let mode = mode_on(before, task, phaser)?;
+    let mode = mode_on(trace, count, task, phaser)?;
     Some(Pair { phaser, mode })
 }
 
-/// Whether these are all phasers that a task holds after these events, in the order in which it came
-/// to them and each in its own mode. It goes over the events once for each phaser that the task ever
-/// came to, and once more.
-pub(crate) fn are_own_pairs(before: &[(u64, TracedEvent)], task: u32, pairs: &[Pair]) -> bool
-    ensures { result ≡ same_pairs pairs.now (own_pairs task (history before.now)) }
+/// Whether these are all phasers that a task holds after so many events of a trace, in the order in
+/// which it came to them and each in its own mode. It goes over the events once for each phaser that
+/// the task ever came to, and once more.
+pub(crate) fn are_own_pairs(trace: &Trace, count: usize, task: u32, pairs: &[Pair]) -> bool
+    requires { count ≤ length trace.now.events }
+    ensures { result ≡ same_pairs pairs.now (own_pairs task (history (take count trace.now.events))) }
 {
-    let mut count = 0;
-    for entry in before {
-        if let Some(own) = pair_by(before, task, &entry.1) {
-            if count >= pairs.len() || !is_same_pair(pairs[count], own) {
+    let mut found = 0;
+    for place in 0..count {
+        let (_, event) = trace.entry(place);
+        if let Some(own) = pair_by(trace, count, task, &event) {
+            if found >= pairs.len() || !is_same_pair(pairs[found], own) {
                 return false;
             }
-            count += 1;
+            found += 1;
         }
     }
-    count == pairs.len()
+    found == pairs.len()
 }

@@ -79,7 +79,7 @@ fn add(trace: &mut Trace, event: WorldEvent, reply: Reply) -> Result<(), Refusal
     ensures added { IfOk result (λ _. trace.new ≡ with_event trace.old (length trace.old.events + 1, traced event reply)) }
     ensures memory { IfErr result (λ r. r ≡ NoMemory) }
 {
-    let ticket = trace.events().len() as u64 + 1;
+    let ticket = trace.len() as u64 + 1;
     trace.push(ticket, traced(event, reply))
 }
 

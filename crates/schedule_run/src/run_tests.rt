@@ -21,16 +21,13 @@ fn run_of(rt: &HostRuntime, text: &str, picks: &[u32]) -> Result<Run, Fail> {
 
 /// The event at this place of the trace, counted from 0, has the next ticket, and is this one.
 fn event_is(run: &Run, place: usize, event: TracedEvent) -> bool {
-    match run.trace.events().get(place) {
-        Some(entry) => entry.0 == place as u64 + 1 && entry.1 == event,
-        None => false,
-    }
+    place < run.trace.len() && run.trace.entry(place) == (place as u64 + 1, event)
 }
 
 #[test]
 fn smallest_trace(rt: HostRuntime) -> Result<(), Fail> {
     let run = run_of(&rt, r#"{"main":[["new","p","SIG_WAIT",[]],["next"]]}"#, &[])?;
-    assert_eq!(rt; run.trace.events().len(), 7);
+    assert_eq!(rt; run.trace.len(), 7);
     let made = TracedStep::Make(0, Mode::SigWait, Ops::none());
     assert!(rt; event_is(&run, 0, TracedEvent::Phaser(0, made)));
     assert!(rt; event_is(&run, 1, TracedEvent::Begin(0, Begun::Next)));
@@ -51,7 +48,7 @@ const NESTED_PICKS: [u32; 15] = [0, 0, 0, 1, 1, 1, 1, 0, 0, 2, 2, 2, 0, 0, 0];
 fn nested_finish(rt: HostRuntime) -> Result<(), Fail> {
     let text = r#"{"main":[["open"],["async",[],[["async",[],[["next"]]]]],["shut"]]}"#;
     let run = run_of(&rt, text, &NESTED_PICKS)?;
-    assert_eq!(rt; run.trace.events().len(), 14);
+    assert_eq!(rt; run.trace.len(), 14);
     assert!(rt; event_is(&run, 0, TracedEvent::Finish(1, FinishEvent::Opened(0))));
     let spawn = Begun::Async(1, Phased::none());
     assert!(rt; event_is(&run, 1, TracedEvent::Begin(0, spawn)));

@@ -226,7 +226,7 @@ impl<'p> Runner<'p> {
             }
             self.round()?;
         }
-        let _events = self.recorded.trace.events().len();
+        let _events = self.recorded.trace.len();
         unreachable!()
     }
 

@@ -8,7 +8,7 @@ use Rattle.schedule_run.proofs.following.follows.Given as goal
 
 abbrev pub invariant-loop-i : goal.invariant-loop-i
 invariant-loop-i l = record {
-  stand : SeatsStand l.fn.program (history (take l.i l.events)) (seat_of l.followers.seats);
-  so_far : first_wrong l.fn.program (history (take l.i l.events)) l.i (past (drop l.i l.events)) ≡
-      first_wrong l.fn.program [] 0 (past l.events);
+  stand : SeatsStand l.fn.program (history (take l.i l.trace.events)) (seat_of l.followers.seats);
+  so_far : first_wrong l.fn.program (history (take l.i l.trace.events)) l.i (past (drop l.i l.trace.events)) ≡
+      first_wrong l.fn.program [] 0 (past l.trace.events);
 }

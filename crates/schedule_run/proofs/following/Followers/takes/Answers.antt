@@ -1,4 +1,4 @@
-use Rattle.std.proofs.Common.{◌≡◌, true, List, Option, Some, sym, subst, ◌∙◌}
+use Rattle.std.proofs.Common.{◌≡◌, true, List, Option, Some, take, sym, subst, ◌∙◌}
 use Rattle.world_model.specs.declared.event.WorldEvent.{WorldEvent}
 use Rattle.schedule_model.specs.Scripts.{Made, act_of, is_of}
 use Rattle.schedule_model.specs.Follows.{is_next}
@@ -10,7 +10,7 @@ use Rattle.schedule_run.proofs.following.Followers.takes.Goals as goal
 
 pub returns-clause-taken : goal.returns-clause-taken
 returns-clause-taken c = λ p stand.
-    let w : List WorldEvent = history c.args.before.now in
+    let w : List WorldEvent = history (take c.args.count c.args.trace.now.events) in
     let m : Made = made_view c.in-Some.made in
     let is : Some m ≡ act_of c.args.event.now = c.in-Some.ensures in
     let given = c.next_act-act.ensures.given p w stand in

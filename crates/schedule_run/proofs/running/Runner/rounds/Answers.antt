@@ -1,9 +1,8 @@
-use Rattle.std.proofs.Common.{ℕ, suc, ◌+◌, ◌≡◌, true, false, List, length, sym, ap, subst, ◌∙◌, arith}
+use Rattle.std.proofs.Common.{ℕ, suc, ◌+◌, ◌≡◌, true, false, List, sym, ap, subst, ◌∙◌, arith}
 use Rattle.job_script.specs.Program.{Program}
 use Rattle.world_model.specs.declared.event.WorldEvent.{WorldEvent}
 use Rattle.world_model.specs.Tasks.{is_ended}
 use Rattle.schedule_model.specs.Picks.{round_from, rounds}
-use Rattle.trace_model.specs.Run.{Entry}
 use Rattle.schedule_run.specs.inner.Running.{RunStands}
 use Rattle.schedule_run.proofs.Counting.{one_round, round_grows, as_long}
 use Rattle.schedule_run.proofs.running.Runner.rounds.Goals as goal
@@ -47,4 +46,4 @@ loop-round-preserved c =
 pub unreachable-requires : goal.unreachable-requires
 unreachable-requires c =
     let g = c.loop-round.invariant.grown in
-    omega (arith, c.loop-round-test.false, g.3, as_long g.0 g.1 c.loop-round.self g.2, ap (λ (es : List Entry). length es) c.events-events.ensures, c.events-events.type_inv.0, c.events-events.type_inv.1)
+    omega (arith, c.loop-round-test.false, g.3, as_long g.0 g.1 c.loop-round.self g.2, c.len-events.ensures.length, c.len-events.ensures.few)
