@@ -38,7 +38,8 @@ use Rattle.world_model.specs.Replies.{reply, is_made, is_accepted, is_legal_worl
 use Rattle.world_core.specs.inner.Steps.{done_by, with_task, is_first}
 use Rattle.world_core.specs.inner.DropSteps.{wants_drop, is_to_drop, dropper_at, drop_result, drop_answer, drop_state, gone_from, drop_noted, task_gone}
 use Rattle.world_core.proofs.LimitsStay.{limits_by}
-use Rattle.world_core.specs.StandsFor.{TaskStands, StandsFor, IsStep, due_by, inner_of, end_of, fits_plan, has_left}
+use Rattle.world_core.specs.StandsFor.{TaskStands, StandsFor, IsStep, due_by, inner_of, end_of}
+use Rattle.world_core.specs.inner.Plans.{fits_plan, has_left}
 use Rattle.world_model.proofs.OthersLeave.{due_other, due_own}
 use Rattle.world_core.proofs.TableReads.{read_set}
 use Rattle.world_model.proofs.PhasersOnce.{times, phasers_once}

@@ -24,13 +24,14 @@ use Rattle.world_model.specs.Replies.{reply, is_made}
 use Rattle.world_core.specs.inner.Steps.{done_by, with_task}
 use Rattle.world_core.specs.inner.FinishSteps.{is_next, said, finish_called, end_asked, end_result, end_answer, end_noted, end_state}
 use Rattle.world_core.proofs.LimitsStay.{limits_by}
-use Rattle.world_core.specs.StandsFor.{TaskStands, StandsFor, IsStep, inner_of, end_of, due_by, has_left}
+use Rattle.world_core.specs.StandsFor.{TaskStands, StandsFor, IsStep, inner_of, end_of, due_by}
+use Rattle.world_core.specs.inner.Plans.{has_left}
 use Rattle.world_model.proofs.OthersLeave.{due_other, due_own}
 use Rattle.world_model.proofs.FinishesLegal.{event_allowed}
 use Rattle.world_core.proofs.TableReads.{read_set}
 use Rattle.world_core.proofs.NextRead.{next_is}
 use Rattle.world_core.proofs.HeadsOf.{no_steps, alone, is_alone}
-use Rattle.world_core.proofs.FinishMoves.{finish_stands, done_ok, same_done, not_made, asked_ok, open_within, told_within, first_is}
+use Rattle.world_core.proofs.FinishMoves.{finish_stands, done_ok, same_done, not_made, asked_ok, open_within, next_within, first_is}
 
 pub end_asked_is : (s : WorldState) (w : List WorldEvent) (f t : ℕ) → StandsFor w s → end_asked s f t ≡ is_next (next_event s.limits t w) (Finish f (Ended t))
 end_asked_is s w f t st = ap (λ o. is_next o (Finish f (Ended t))) (next_is s t w st)
@@ -154,7 +155,7 @@ end_is_step s f t = record {
       (and_parts (is_open (finish_past f w)) (is_spawned t (finish_past f w)) (and_parts (is_open (finish_past f w) && is_spawned t (finish_past f w)) (not (has_ended t (finish_past f w))) (event_allowed s.limits w f (Ended t) accepted)).0).0
       in
       let within : f < length s.finishes = open_within s.finishes f s.limits.tasks (ap (λ (z : FinishStory). is_open z.past) (st.finishes f).story ∙ still) in
-      let within_tasks : t < length s.tasks = told_within s t (Finish f (Ended t)) s.tasks t asked.0 in
+      let within_tasks : t < length s.tasks = next_within s t (Finish f (Ended t)) s.tasks t asked.0 in
       let first = first_is s w f (Ended t) (sym (end_asked_is s w f t st) ∙ asked.0) in
       let line = st.tasks t in
       let at : AtEnd k first.0 = at_end f t k (open_finishes t w) first.0 k.plan line.left (sym line.due_is ∙ first.1) in

@@ -29,7 +29,8 @@ use Rattle.world_core.specs.TaskState.{TaskState}
 use Rattle.world_core.specs.WorldState.{WorldState}
 use Rattle.world_core.specs.Kept.{blank_task, task_at, story_at, is_ready, is_idle_plan}
 use Rattle.world_core.proofs.LimitsStay.{limits_where}
-use Rattle.world_core.specs.StandsFor.{StandsFor, IsStep, fits_plan, end_of}
+use Rattle.world_core.specs.StandsFor.{StandsFor, IsStep, end_of}
+use Rattle.world_core.specs.inner.Plans.{fits_plan}
 use Rattle.world_core.specs.inner.Steps.{with_task, may_claim, may_report}
 use Rattle.world_core.specs.inner.Queries.{turn_event, drop_or, reg_or, shut_or, next_by, kept_next}
 use Rattle.world_core.specs.inner.Refusals.{refusal_in, is_make, given_up}
@@ -142,10 +143,10 @@ none_fixed t n w e = ap (λ cs. flat_map (λ c. drops_due c w) cs ++ ending t w)
 one_fixed : (t n c : ℕ) (w : List WorldEvent) → unborn t w ≡ c ∷ [] → fixed (Fail t n) w ≡ drops_due c w ++ ending t w
 one_fixed t n c w e = ap (λ cs. flat_map (λ x. drops_due x w) cs ++ ending t w) e ∙ ap (λ xs. xs ++ ending t w) (append-nil (drops_due c w))
 
-module _ (s : WorldState) (w : List WorldEvent) (t n : ℕ) (st : StandsFor w s) (told : may_fail_by s t n ≡ true) (accepted : is_made (reply s.limits w (Fail t n)) ≡ true) where
+module _ (s : WorldState) (w : List WorldEvent) (t n : ℕ) (st : StandsFor w s) (allowed : may_fail_by s t n ≡ true) (accepted : is_made (reply s.limits w (Fail t n)) ≡ true) where
   -- without a half spawned child
   alone : unborn t w ≡ [] → StandsFor (Fail t n ∷ w) (with_task s t (given_up t n (task_at s t)))
-  alone none = fail_stands s w t n t [] (none_fixed t n w none) st (fail_within s t n told) accepted
+  alone none = fail_stands s w t n t [] (none_fixed t n w none) st (fail_within s t n allowed) accepted
 
   idle_only : (a c d r : Bool) → ((a && false) || (c && false) || (d && r)) ≡ true → r ≡ true
   idle_only a c d true e = refl
@@ -178,12 +179,12 @@ module _ (s : WorldState) (w : List WorldEvent) (t n : ℕ) (st : StandsFor w s)
   of_end c o h = absurd cc
 
   leaving : is_empty (due t w) ≡ false → leaves_act (last_entry t w) ≡ true → ⊥
-  leaving busy act = leavers_never_fail s.limits t w n st.legal act busy (sym (may_fail_is s w t n st) ∙ told)
+  leaving busy act = leavers_never_fail s.limits t w n st.legal act busy (sym (may_fail_is s w t n st) ∙ allowed)
 
   by_plan : (p : Plan) → (task_at s t).plan ≡ p → StandsFor (Fail t n ∷ w) (with_task s t (failed_by s t n p (task_at s t)))
   by_plan plan.Idle e =
       let ready : is_ready (task_at s t) ≡ true = idle_only (n == 7 || n == 15) (n == 14) (n == 23) (is_ready (task_at s t))
-      (subst (λ p. (((n == 7 || n == 15) && has_number (next_refusal s (next_by s t (task_at s t) p)) n) || (n == 14 && option_map_or is_reg (next_by s t (task_at s t) p) false) || (n == 23 && is_ready (task_at s t))) ≡ true) e told)
+      (subst (λ p. (((n == 7 || n == 15) && has_number (next_refusal s (next_by s t (task_at s t) p)) n) || (n == 14 && option_map_or is_reg (next_by s t (task_at s t) p) false) || (n == 23 && is_ready (task_at s t))) ≡ true) e allowed)
       in
       alone (idle_unborn s.limits t w st.legal (sym (ready_is_idle s.outers w t (task_at s t) (st.tasks t)) ∙ ready))
   by_plan (plan.Signalling x turn) e =
@@ -197,7 +198,7 @@ module _ (s : WorldState) (w : List WorldEvent) (t n : ℕ) (st : StandsFor w s)
       let busy : is_empty (due t w) ≡ false = sym (st.tasks t).idle ∙ ap (λ p. is_idle_plan p) e in
       let one : fixed (Fail t n) w ≡ drops_due c w ++ ending t w = one_fixed t n c w (spawning_unborn s.limits t c w st.legal act busy) in
       let held : drops_due c w ≡ map (λ m. Phaser m (Drop c)) (task_at s c).phasers = ap (λ ns. map (λ m. Phaser m (Drop c)) ns) (sym (st.tasks c).phasers) in
-      fail_stands s w t n c (task_at s c).phasers (one ∙ ap (λ xs. xs ++ ending t w) held) st (fail_within s t n told) accepted
+      fail_stands s w t n c (task_at s c).phasers (one ∙ ap (λ xs. xs ++ ending t w) held) st (fail_within s t n allowed) accepted
   by_plan plan.Shutting e =
       absurd (leaving (sym (st.tasks t).idle ∙ ap (λ p. is_idle_plan p) e) (of_shut (last_entry t w) (subst (λ p. fits_plan p (last_entry t w) ≡ true) e (st.tasks t).plan)))
   by_plan (plan.Ending c) e =

@@ -92,10 +92,10 @@ open_within [] f tasks k = absurd cc
 open_within (x ∷ xs) zero tasks k = omega arith
 open_within (x ∷ xs) (suc f) tasks k = omega (arith, open_within xs f tasks k)
 
-pub told_within : (s : WorldState) (t : ℕ) (e : WorldEvent) (ks : List TaskState) (u : ℕ) → is_next (next_by s t (get_or ks u blank_task) (get_or ks u blank_task).plan) e ≡ true → u < length ks
-told_within s t e [] u k = absurd cc
-told_within s t e (x ∷ ks) zero k = omega arith
-told_within s t e (x ∷ ks) (suc u) k = omega (arith, told_within s t e ks u k)
+pub next_within : (s : WorldState) (t : ℕ) (e : WorldEvent) (ks : List TaskState) (u : ℕ) → is_next (next_by s t (get_or ks u blank_task) (get_or ks u blank_task).plan) e ≡ true → u < length ks
+next_within s t e [] u k = absurd cc
+next_within s t e (x ∷ ks) zero k = omega arith
+next_within s t e (x ∷ ks) (suc u) k = omega (arith, next_within s t e ks u k)
 
 -- a finish's event that comes next is the first one due
 pub first_is : (s : WorldState) (w : List WorldEvent) (f : ℕ) (e : FinishEvent) → is_next (next_event s.limits (actor w (Finish f e)) w) (Finish f e) ≡ true

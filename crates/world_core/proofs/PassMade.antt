@@ -28,11 +28,12 @@ use Rattle.world_model.specs.Scopes.{open_finishes}
 use Rattle.world_model.specs.Due.{due}
 use Rattle.world_model.specs.Clock.{clock}
 use Rattle.world_model.specs.TaskConditions.{last_entry}
-use Rattle.world_model.specs.PartReplies.{returned as told, phaser_reply}
+use Rattle.world_model.specs.PartReplies.{returned, phaser_reply}
 use Rattle.world_model.specs.Replies.{reply, is_made}
-use Rattle.world_core.specs.inner.Steps.{is_first, wants_pass, is_to_pass, may_claim, may_report, pass_asked, passed_on, told_pass, pass_outcome, pass_answer, pass_state, state_by_pass, note_pass, pass_noted, phaser_called, with_task}
+use Rattle.world_core.specs.inner.Steps.{is_first, wants_pass, is_to_pass, may_claim, may_report, pass_asked, passed_on, reply_by_pass, pass_outcome, pass_answer, pass_state, state_by_pass, note_pass, pass_noted, phaser_called, with_task}
 use Rattle.world_core.proofs.LimitsStay.{limits_by_pass}
-use Rattle.world_core.specs.StandsFor.{TaskStands, StandsFor, IsStep, due_by, fits_plan, has_left}
+use Rattle.world_core.specs.StandsFor.{TaskStands, StandsFor, IsStep, due_by}
+use Rattle.world_core.specs.inner.Plans.{fits_plan, has_left}
 use Rattle.world_model.proofs.OthersLeave.{due_own}
 use Rattle.world_core.proofs.Quiet.{phasers_same}
 use Rattle.world_core.proofs.Called.{step_stands}
@@ -72,16 +73,16 @@ module _ (l : Limits) (w : List WorldEvent) (t n : ℕ) (k : TaskState) (fs : Li
   wanted plan.Shutting left e h = sym (other_plan l w n (Pass t) (record { no_drop = λ u. refl; no_reg = λ q c m. refl; no_signal = λ u y. refl }) t k fs plan.Shutting left (λ r. absurd cc) e h)
   wanted (plan.Ending c) left e h = sym (other_plan l w n (Pass t) (record { no_drop = λ u. refl; no_reg = λ q c m. refl; no_signal = λ u y. refl }) t k fs (plan.Ending c) left (λ r. absurd cc) e h)
 
--- what a phaser answers to a pass is told as it is
-pub told_as : (h : List Event) (o : Option Refusal) (waiting room b : Bool) (t : ℕ)
-    → told_pass (pass_result h (settled o waiting room (cond b (Claimed t) (Gone t)))) ≡ told h (settled o waiting room (cond b (Claimed t) (Gone t)))
-told_as h (Some r) waiting room b t = refl
-told_as h None true room b t = refl
-told_as h None false false b t = refl
-told_as h None false true true t = refl
-told_as h None false true false t = refl
+-- the reply to a pass is what the phaser returns
+pub pass_returned : (h : List Event) (o : Option Refusal) (waiting room b : Bool) (t : ℕ)
+    → reply_by_pass (pass_result h (settled o waiting room (cond b (Claimed t) (Gone t)))) ≡ returned h (settled o waiting room (cond b (Claimed t) (Gone t)))
+pass_returned h (Some r) waiting room b t = refl
+pass_returned h None true room b t = refl
+pass_returned h None false false b t = refl
+pass_returned h None false true true t = refl
+pass_returned h None false true false t = refl
 
-pub answer_by : (b c : Bool) (u : Result Passing Refusal) (r : Result Reply Refusal) → b ≡ c → told_pass u ≡ r → told_pass (cond b u (Err NotNow)) ≡ cond c r (Err NotNow)
+pub answer_by : (b c : Bool) (u : Result Passing Refusal) (r : Result Reply Refusal) → b ≡ c → reply_by_pass u ≡ r → reply_by_pass (cond b u (Err NotNow)) ≡ cond c r (Err NotNow)
 answer_by true true u r e k = k
 answer_by true false u r e k = absurd cc
 answer_by false true u r e k = absurd cc
@@ -99,8 +100,8 @@ pass_answers s w n t st =
     let next : pass_asked s n t ≡ is_next l w (due t w) n (Pass t) =
     asked ∙ (wanted l w t n k (open_finishes t w) k.plan k.left refl line.left ∙ ap (λ ds. is_next l w ds n (Pass t)) (sym line.due_is))
     in
-    let answer : told_pass (passed_on s n t) ≡ phaser_reply l w n (Pass t) =
-    ap (λ (y : Story). told_pass (pass_result y.past (phaser.reply y (pass t)))) story ∙ told_as (phaser_past n w) _ _ _ (claim_in l w t n) t
+    let answer : reply_by_pass (passed_on s n t) ≡ phaser_reply l w n (Pass t) =
+    ap (λ (y : Story). reply_by_pass (pass_result y.past (phaser.reply y (pass t)))) story ∙ pass_returned (phaser_past n w) _ _ _ (claim_in l w t n) t
     in
     answer_by (pass_asked s n t) (is_next l w (due t w) n (Pass t)) (passed_on s n t) (phaser_reply l w n (Pass t)) next answer
 
@@ -155,11 +156,11 @@ module _ (outers : List (Option ℕ)) (w : List WorldEvent) (n t : ℕ) (k : Tas
       (own_line plan.Turning (i ∷ is) k.clock (ap (λ ds. drop 1 ds) d) refl (ap (λ q. fits_plan q (last_entry t w)) (sym e) ∙ st.plan) refl (st.clock ∙ ap (λ v. min v 4294967295) (sym c)))
 
 -- what a pass that is made tells
-pub asked_made : (b : Bool) (u : Result Passing Refusal) → is_made (told_pass (cond b u (Err NotNow))) ≡ true → (b ≡ true) × (is_made (told_pass u) ≡ true)
+pub asked_made : (b : Bool) (u : Result Passing Refusal) → is_made (reply_by_pass (cond b u (Err NotNow))) ≡ true → (b ≡ true) × (is_made (reply_by_pass u) ≡ true)
 asked_made true u e = (refl, e)
 asked_made false u e = absurd cc
 
-gone : (h : List Event) (o : Option Refusal) (waiting room b : Bool) (t : ℕ) → b ≡ false → is_made (told_pass (pass_result h (settled o waiting room (cond b (Claimed t) (Gone t))))) ≡ true
+gone : (h : List Event) (o : Option Refusal) (waiting room b : Bool) (t : ℕ) → b ≡ false → is_made (reply_by_pass (pass_result h (settled o waiting room (cond b (Claimed t) (Gone t))))) ≡ true
     → settled o waiting room (cond b (Claimed t) (Gone t)) ≡ done (Gone t)
 gone h (Some r) waiting room b t f e = absurd cc
 gone h None true room b t f e = absurd cc
@@ -181,7 +182,7 @@ wanted_within [] t n e = absurd cc
 wanted_within (k ∷ ks) zero n e = omega arith
 wanted_within (k ∷ ks) (suc t) n e = omega (arith, wanted_within ks t n e)
 
-pub pass_unchanged : (u : Result Passing Refusal) (s called noted : WorldState) → is_made (told_pass u) ≡ false → state_by_pass u s called noted ≡ s
+pub pass_unchanged : (u : Result Passing Refusal) (s called noted : WorldState) → is_made (reply_by_pass u) ≡ false → state_by_pass u s called noted ≡ s
 pass_unchanged (Ok (Passed p)) s called noted e = absurd cc
 pass_unchanged (Ok (Claims i)) s called noted e = absurd cc
 pass_unchanged (Ok Waits) s called noted e = refl

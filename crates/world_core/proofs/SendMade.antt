@@ -32,11 +32,11 @@ use Rattle.world_model.specs.Due.{due, is_of_single}
 use Rattle.world_model.specs.Actors.{actor}
 use Rattle.world_model.specs.Clock.{clock}
 use Rattle.world_model.specs.Acts.{act_conditions, unless}
-use Rattle.world_model.specs.PartReplies.{returned as told, phaser_reply}
+use Rattle.world_model.specs.PartReplies.{returned, phaser_reply}
 use Rattle.world_model.specs.Replies.{reply, is_made}
 use Rattle.world_core.specs.inner.Steps.{done_by, phaser_called, with_task}
 use Rattle.world_core.specs.inner.Begins.{counted}
-use Rattle.world_core.specs.inner.Sends.{unless_before, act_refusal, send_result, send_answer, send_state, told_look, state_by_look, looked, look_answer, look_state}
+use Rattle.world_core.specs.inner.Sends.{unless_before, act_refusal, send_result, send_answer, send_state, reply_by_look, state_by_look, looked, look_answer, look_state}
 use Rattle.world_core.proofs.LimitsStay.{limits_by, limits_by_look}
 use Rattle.world_core.specs.StandsFor.{TaskStands, StandsFor, IsStep, due_by}
 use Rattle.world_core.proofs.Fits.{fitting}
@@ -120,13 +120,13 @@ send_is_step s n t a v = record {
       (act_line s.outers w n t (Send t a v) k tt refl refl (eq-eqb t t refl) refl idle few (st.tasks t)));
 }
 
--- a value that is looked at
-looked_as : (h : List Event) (o : Option Refusal) (room : Bool) (t a : ℕ) (x : Seen) → told_look (look_result (settled o false room (Looked t a x))) ≡ told h (settled o false room (Looked t a x))
-looked_as h (Some r) room t a x = refl
-looked_as h None true t a x = refl
-looked_as h None false t a x = refl
+-- the reply to a look is what the phaser returns
+look_returned : (h : List Event) (o : Option Refusal) (room : Bool) (t a : ℕ) (x : Seen) → reply_by_look (look_result (settled o false room (Looked t a x))) ≡ returned h (settled o false room (Looked t a x))
+look_returned h (Some r) room t a x = refl
+look_returned h None true t a x = refl
+look_returned h None false t a x = refl
 
-looked_by : (o p : Option Refusal) (u : Result Seen Refusal) (r : Result Reply Refusal) → o ≡ p → told_look u ≡ r → told_look (unless_before o u) ≡ unless p r
+looked_by : (o p : Option Refusal) (u : Result Seen Refusal) (r : Result Reply Refusal) → o ≡ p → reply_by_look u ≡ r → reply_by_look (unless_before o u) ≡ unless p r
 looked_by None None u r e k = k
 looked_by None (Some p) u r e k = absurd cc
 looked_by (Some o) None u r e k = absurd cc
@@ -134,12 +134,12 @@ looked_by (Some o) (Some p) u r e k = ap (λ q. unless q r) e
 
 pub look_answers : (s : WorldState) (w : List WorldEvent) (n t a : ℕ) → StandsFor w s → look_answer s n t a ≡ reply s.limits w (Phaser n (Look t a))
 look_answers s w n t a st =
-    let answer : told_look (look_result (phaser.reply (story_at s n) (look t a))) ≡ phaser_reply s.limits w n (Look t a) =
-    ap (λ y. told_look (look_result (phaser.reply y (look t a)))) (st.phasers n).story ∙ looked_as (phaser_past n w) _ _ t a _
+    let answer : reply_by_look (look_result (phaser.reply (story_at s n) (look t a))) ≡ phaser_reply s.limits w n (Look t a) =
+    ap (λ y. reply_by_look (look_result (phaser.reply y (look t a)))) (st.phasers n).story ∙ look_returned (phaser_past n w) _ _ t a _
     in
     looked_by (act_refusal s t) (first_refusal (act_conditions s.limits w t (Looking n a))) (look_result (phaser.reply (story_at s n) (look t a))) (phaser_reply s.limits w n (Look t a)) (conditions_are s w n t a st) answer
 
-look_ok : (o p : Option Refusal) (room : Bool) (t a : ℕ) (x : Seen) → is_made (told_look (unless_before o (look_result (settled p false room (Looked t a x))))) ≡ true
+look_ok : (o p : Option Refusal) (room : Bool) (t a : ℕ) (x : Seen) → is_made (reply_by_look (unless_before o (look_result (settled p false room (Looked t a x))))) ≡ true
     → (o ≡ None) × (settled p false room (Looked t a x) ≡ done (Looked t a x))
 look_ok None None true t a x e = (refl, refl)
 look_ok None None false t a x e = absurd cc
@@ -154,7 +154,7 @@ look_within s n t a e k = within s.phasers n k
     within (y ∷ ys) zero k = omega arith
     within (y ∷ ys) (suc m) k = omega (arith, within ys m k)
 
-look_unchanged : (u : Result Seen Refusal) (s new : WorldState) → is_made (told_look u) ≡ false → state_by_look u s new ≡ s
+look_unchanged : (u : Result Seen Refusal) (s new : WorldState) → is_made (reply_by_look u) ≡ false → state_by_look u s new ≡ s
 look_unchanged (Ok x) s new e = absurd cc
 look_unchanged (Err r) s new e = refl
 

@@ -25,14 +25,15 @@ use Rattle.world_core.specs.inner.Steps.{done_by, state_by, with_task}
 use Rattle.world_core.specs.inner.FinishSteps.{shut_result, is_next, said, finish_called, owner_in, shut_asked, shut_answer, plan_after_shut, top_after_shut, shut_noted, shut_state}
 use Rattle.phase_modes.specs.declared.limits.Limits.{Limits}
 use Rattle.world_core.proofs.LimitsStay.{limits_by}
-use Rattle.world_core.specs.StandsFor.{TaskStands, StandsFor, IsStep, IsChain, inner_of, end_of, due_by, fits_plan, has_left}
+use Rattle.world_core.specs.StandsFor.{TaskStands, StandsFor, IsStep, IsChain, inner_of, end_of, due_by}
+use Rattle.world_core.specs.inner.Plans.{fits_plan, has_left}
 use Rattle.world_model.proofs.OthersLeave.{due_other, due_own}
 use Rattle.world_model.proofs.FinishesLegal.{event_allowed}
 use Rattle.world_core.proofs.TableReads.{read_set}
 use Rattle.world_core.proofs.NextRead.{next_is}
 use Rattle.world_core.proofs.HeadsOf.{no_steps, alone, is_alone}
 use Rattle.world_core.proofs.Owners.{root_owned, others_stay, innermost_goes, none_stays}
-use Rattle.world_core.proofs.FinishMoves.{finish_stands, done_ok, same_done, open_within, told_within, first_is}
+use Rattle.world_core.proofs.FinishMoves.{finish_stands, done_ok, same_done, open_within, next_within, first_is}
 
 pub shut_asked_is : (s : WorldState) (w : List WorldEvent) (f : ℕ) → StandsFor w s → shut_asked s f ≡ is_next (next_event s.limits (owner f w) w) (Finish f Shut)
 shut_asked_is s w f st =
@@ -207,7 +208,7 @@ shut_is_step s f = record {
       let accepted : is_made (reply s.limits w (Finish f Shut)) ≡ true = ap (λ r. is_made r) (sym (shut_answers s w f st)) ∙ made in
       let still : is_open (finish_past f w) ≡ true = (and_parts (is_open (finish_past f w)) (all_ended (finish_past f w)) (event_allowed s.limits w f Shut accepted)).0 in
       let within : f < length s.finishes = open_within s.finishes f s.limits.tasks (ap (λ (z : FinishStory). is_open z.past) (st.finishes f).story ∙ still) in
-      let within_tasks : t < length s.tasks = told_within s t (Finish f Shut) s.tasks t ok.0 in
+      let within_tasks : t < length s.tasks = next_within s t (Finish f Shut) s.tasks t ok.0 in
       let first = first_is s w f Shut (sym (shut_asked_is s w f st) ∙ ok.0) in
       let line = st.tasks t in
       let due_is : due t w ≡ Finish f Shut ∷ first.0 = ap (λ v. due v w) (sym by) ∙ first.1 in

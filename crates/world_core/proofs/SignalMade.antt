@@ -30,12 +30,13 @@ use Rattle.world_core.specs.TaskState.{TaskState}
 use Rattle.world_core.specs.WorldState.{WorldState}
 use Rattle.world_core.specs.Kept.{blank_task, blank_story, task_at, story_at, is_idle_plan}
 use Rattle.world_core.proofs.LimitsStay.{limits_by}
-use Rattle.world_core.specs.StandsFor.{StandsFor, TaskStands, due_by, inner_of, end_of, fits_plan, has_left, IsStep}
+use Rattle.world_core.specs.StandsFor.{StandsFor, TaskStands, due_by, inner_of, end_of, IsStep}
+use Rattle.world_core.specs.inner.Plans.{fits_plan, has_left}
 use Rattle.world_model.specs.Parts.{phaser_past}
 use Rattle.world_model.specs.Scopes.{open_finishes}
 use Rattle.world_model.specs.Due.{due, or_single}
 use Rattle.world_model.specs.Continuing.{same_event, same_number}
-use Rattle.world_model.specs.PartReplies.{returned as told, phaser_reply}
+use Rattle.world_model.specs.PartReplies.{returned, phaser_reply}
 use Rattle.world_model.specs.Replies.{reply, is_made}
 use Rattle.world_core.specs.inner.Steps.{wants_signal, is_to_signal, done_by, signal_answer, signal_state, signal_result, state_by, signal_noted, phaser_called, with_task, after_signals_on, note_signal}
 
@@ -86,11 +87,11 @@ wanted_is_next l w t k fs n x (plan.Ending c) left e =
     sym (drops_are_none l w (map (λ m. Phaser m (Drop t)) k.phasers ++ (map (λ f. Finish f Shutting) fs ++ end_of t k ∷ [])) t c n x k.left
     (drops_are_none l w (map (λ f. Finish f Shutting) fs ++ end_of t k ∷ []) t t n x k.phasers (shuts_are_none l w t t n x k fs)))
 
--- what a phaser answers to a signal is told as it is
-told_as : (h : List Event) (o : Option Refusal) (room : Bool) (t : ℕ) (x : Option ℕ) → done_by (done_result (settled o false room (Signed t x))) ≡ told h (settled o false room (Signed t x))
-told_as h (Some r) room t x = refl
-told_as h None true t x = refl
-told_as h None false t x = refl
+-- the reply to a signal is what the phaser returns
+signal_returned : (h : List Event) (o : Option Refusal) (room : Bool) (t : ℕ) (x : Option ℕ) → done_by (done_result (settled o false room (Signed t x))) ≡ returned h (settled o false room (Signed t x))
+signal_returned h (Some r) room t x = refl
+signal_returned h None true t x = refl
+signal_returned h None false t x = refl
 
 answer_by : (b c : Bool) (r s : Result Reply Refusal) (u : Result (Unit {0}) Refusal) → b ≡ c → done_by u ≡ r → done_by (cond b u (Err NotNow)) ≡ cond c r (Err NotNow)
 answer_by true true r s u e k = k
@@ -106,7 +107,7 @@ signal_answers s w n t x st =
     wanted_is_next s.limits w t k (open_finishes t w) n x k.plan k.left refl ∙ ap (λ ds. is_next_signal s.limits w ds n t x) (sym line.due_is)
     in
     let story : done_by (done_result (phaser.reply (story_at s n) (signal t x))) ≡ phaser_reply s.limits w n (Sig t x) =
-    ap (λ y. done_by (done_result (phaser.reply y (signal t x)))) (st.phasers n).story ∙ told_as (phaser_past n w) _ _ t x
+    ap (λ y. done_by (done_result (phaser.reply y (signal t x)))) (st.phasers n).story ∙ signal_returned (phaser_past n w) _ _ t x
     in
     answer_by (is_to_signal k n x) (is_next_signal s.limits w (due t w) n t x) (phaser_reply s.limits w n (Sig t x)) (Err NotNow) (done_result (phaser.reply (story_at s n) (signal t x))) wanted story
 

@@ -25,15 +25,16 @@ use Rattle.world_core.specs.Kept.{blank_task, blank_story, task_at, story_at}
 use Rattle.world_model.specs.Parts.{phaser_past}
 use Rattle.world_model.specs.Scopes.{open_finishes}
 use Rattle.world_model.specs.Due.{due}
-use Rattle.world_model.specs.PartReplies.{returned as told, phaser_reply}
+use Rattle.world_model.specs.PartReplies.{returned, phaser_reply}
 use Rattle.world_model.specs.Replies.{reply, is_made}
-use Rattle.world_core.specs.inner.Steps.{is_first, wants_pass, is_to_pass, may_claim, may_report, claim_asked, report_asked, passed_on, told_pass, claim_outcome, claim_answer, claim_state, report_result, report_answer, report_state, done_by, state_by, phaser_called, with_task}
+use Rattle.world_core.specs.inner.Steps.{is_first, wants_pass, is_to_pass, may_claim, may_report, claim_asked, report_asked, passed_on, reply_by_pass, claim_outcome, claim_answer, claim_state, report_result, report_answer, report_state, done_by, state_by, phaser_called, with_task}
 use Rattle.world_core.proofs.LimitsStay.{limits_by_pass, limits_by}
-use Rattle.world_core.specs.StandsFor.{TaskStands, StandsFor, IsStep, due_by, has_left}
+use Rattle.world_core.specs.StandsFor.{TaskStands, StandsFor, IsStep, due_by}
+use Rattle.world_core.specs.inner.Plans.{has_left}
 use Rattle.world_core.proofs.Quiet.{phasers_same}
 use Rattle.world_core.proofs.Called.{step_stands}
 use Rattle.world_core.proofs.NextOf.{is_next, IsOfTurn, other_plan, claim_by, report_by}
-use Rattle.world_core.proofs.PassMade.{claim_in, report_in, same_place, told_as, answer_by, asked_made, done_within, wanted_within, pass_unchanged}
+use Rattle.world_core.proofs.PassMade.{claim_in, report_in, same_place, pass_returned, answer_by, asked_made, done_within, wanted_within, pass_unchanged}
 
 -- a claim and a report are of a turn
 of_claim : (t : ℕ) → IsOfTurn (Claim t)
@@ -87,15 +88,16 @@ claim_answers s w n t st =
     ap (λ y. wants_pass k.plan k.left n && may_claim y t) story
     ∙ (claim_wanted l w t n k (open_finishes t w) k.plan k.left refl line.left ∙ ap (λ ds. is_next l w ds n (Claim t)) (sym line.due_is))
     in
-    let answer : told_pass (passed_on s n t) ≡ phaser_reply l w n (Claim t) =
-    ap (λ (y : Story). told_pass (pass_result y.past (phaser.reply y (pass t)))) story ∙ told_as (phaser_past n w) _ _ _ (claim_in l w t n) t
+    let answer : reply_by_pass (passed_on s n t) ≡ phaser_reply l w n (Claim t) =
+    ap (λ (y : Story). reply_by_pass (pass_result y.past (phaser.reply y (pass t)))) story ∙ pass_returned (phaser_past n w) _ _ _ (claim_in l w t n) t
     in
     answer_by (claim_asked s n t) (is_next l w (due t w) n (Claim t)) (passed_on s n t) (phaser_reply l w n (Claim t)) next answer
 
-told_report : (h : List Event) (o : Option Refusal) (room : Bool) (t : ℕ) → done_by (done_result (settled o false room (Reported t))) ≡ told h (settled o false room (Reported t))
-told_report h (Some r) room t = refl
-told_report h None true t = refl
-told_report h None false t = refl
+-- the reply to a report is what the phaser returns
+report_returned : (h : List Event) (o : Option Refusal) (room : Bool) (t : ℕ) → done_by (done_result (settled o false room (Reported t))) ≡ returned h (settled o false room (Reported t))
+report_returned h (Some r) room t = refl
+report_returned h None true t = refl
+report_returned h None false t = refl
 
 done_answer_by : (b c : Bool) (u : Result (Unit {0}) Refusal) (r : Result Reply Refusal) → b ≡ c → done_by u ≡ r → done_by (cond b u (Err NotNow)) ≡ cond c r (Err NotNow)
 done_answer_by true true u r e k = k
@@ -114,7 +116,7 @@ report_answers s w n t st =
     ∙ (report_wanted l w t n k (open_finishes t w) k.plan k.left refl line.left ∙ ap (λ ds. is_next l w ds n (Did t)) (sym line.due_is))
     in
     let answer : done_by (done_result (phaser.reply (story_at s n) (single_done t))) ≡ phaser_reply l w n (Did t) =
-    ap (λ (y : Story). done_by (done_result (phaser.reply y (single_done t)))) story ∙ told_report (phaser_past n w) _ _ t
+    ap (λ (y : Story). done_by (done_result (phaser.reply y (single_done t)))) story ∙ report_returned (phaser_past n w) _ _ t
     in
     done_answer_by (report_asked s n t) (is_next l w (due t w) n (Did t)) (done_result (phaser.reply (story_at s n) (single_done t))) (phaser_reply l w n (Did t)) next answer
 
@@ -165,7 +167,7 @@ report_line outers w n t k st =
     }
 
 -- a pass where the task may claim is the claim
-claims : (h : List Event) (o : Option Refusal) (waiting room b : Bool) (t : ℕ) → b ≡ true → is_made (told_pass (pass_result h (settled o waiting room (cond b (Claimed t) (Gone t))))) ≡ true
+claims : (h : List Event) (o : Option Refusal) (waiting room b : Bool) (t : ℕ) → b ≡ true → is_made (reply_by_pass (pass_result h (settled o waiting room (cond b (Claimed t) (Gone t))))) ≡ true
     → settled o waiting room (cond b (Claimed t) (Gone t)) ≡ done (Claimed t)
 claims h (Some r) waiting room b t f e = absurd cc
 claims h None true room b t f e = absurd cc

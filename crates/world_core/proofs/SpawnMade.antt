@@ -37,7 +37,8 @@ use Rattle.world_model.specs.Replies.{reply, is_made, is_accepted, is_legal_worl
 use Rattle.world_core.specs.inner.Steps.{done_by, state_by, with_task}
 use Rattle.world_core.specs.inner.SpawnSteps.{wants_spawn, is_to_spawn, spawner_at, spawn_wanted, spawn_result, spawn_answer, spawn_state, born_in, spawn_noted, child_born}
 use Rattle.world_core.proofs.LimitsStay.{limits_by}
-use Rattle.world_core.specs.StandsFor.{TaskStands, StandsFor, IsStep, due_by, inner_of, end_of, fits_plan, has_left}
+use Rattle.world_core.specs.StandsFor.{TaskStands, StandsFor, IsStep, due_by, inner_of, end_of}
+use Rattle.world_core.specs.inner.Plans.{fits_plan, has_left}
 use Rattle.world_model.proofs.OthersLeave.{due_other, due_own}
 use Rattle.world_core.proofs.TableReads.{read_set}
 use Rattle.world_model.proofs.SpawnUnderWay.{begins_spawn, named_by_spawn}
@@ -245,7 +246,7 @@ module _ (w : List WorldEvent) (f c : ℕ) (opened : is_open (finish_past f w) �
   -- the child's line
   child_line : (outers : List (Option ℕ)) (k : TaskState) (time : ℕ) → (spawner c w == c) ≡ false → due c w ≡ [] → time ≡ min (clock (spawner c w) w) 4294967295
       → TaskStands outers w c k → TaskStands outers (Finish f (Spawned c) ∷ w) c (born_in f time k)
-  child_line outers k time apart nothing told st =
+  child_line outers k time apart nothing same_clock st =
       let same : due c (Finish f (Spawned c) ∷ w) ≡ [] = due_other c (Finish f (Spawned c)) w apart ∙ nothing in
       let idle : is_idle_plan k.plan ≡ true = st.idle ∙ ap (λ ds. is_empty ds) nothing in
       let plain : k.plan ≡ plan.Idle = idle_plan k.plan idle in
@@ -257,7 +258,7 @@ module _ (w : List WorldEvent) (f c : ℕ) (opened : is_open (finish_past f w) �
         left = st.left;
         chain = rw (opens_same c) st.chain;
         phasers = st.phasers;
-        clock = told ∙ ap (λ x. min x 4294967295) (sym here);
+        clock = same_clock ∙ ap (λ x. min x 4294967295) (sym here);
         acts = st.acts;
         home = rw (eq-eqb c c refl) refl;
         spawner = st.spawner;

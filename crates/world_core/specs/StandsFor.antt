@@ -1,27 +1,27 @@
 -- Which histories a world stands for, and what a step is.
 --
 -- The relation is split by number: a part for each phaser, each finish and each task. An event changes the parts of its own numbers; all others keep theirs by one lemma.
-use Rattle.std.specs.Prelude.{ℕ, ◌≡◌, Bool, true, false, ◌==◌, not, min, List, [], ◌∷◌, ◌++◌, map, drop, length, get_or, Option, Some, None, slice_index_or, if◌then◌else◌, Result}
+use Rattle.std.specs.Prelude.{ℕ, ◌≡◌, true, false, ◌==◌, min, List, [], ◌∷◌, ◌++◌, map, drop, length, get_or, Option, Some, None, slice_index_or, if◌then◌else◌, Result}
 use Rattle.phase_modes.specs.Lists.{is_empty}
 use Rattle.phase_modes.specs.Limits.{limits_fit}
 use Rattle.phase_modes.specs.declared.refusal.Refusal.{Refusal}
 use Rattle.finish_core.specs.declared.event.FinishEvent.TheVariants.{Spawned, Ended, Shut as Shutting}
 use Rattle.world_model.specs.declared.event.Step.TheVariants.{Reg, Sig, Pass, Drop}
 use Rattle.world_model.specs.declared.event.WorldEvent.{WorldEvent}
-use Rattle.world_model.specs.declared.event.WorldEvent.TheVariants.{Phaser, Finish, Begin, Refuse, Fail}
-use Rattle.world_model.specs.declared.event.Begun.TheVariants.{Async, Signal, Next, NextSingle, Shut, End}
+use Rattle.world_model.specs.declared.event.WorldEvent.TheVariants.{Phaser, Finish}
 use Rattle.world_core.specs.declared.plan.Plan.{Plan}
 use Rattle.world_core.specs.declared.plan.Plan.TheVariants as plan
 use Rattle.world_model.specs.declared.reply.Reply.{Reply}
 use Rattle.world_core.specs.TaskState.{TaskState}
 use Rattle.world_core.specs.WorldState.{WorldState}
 use Rattle.world_core.specs.Kept.{task_at, story_at, finish_at, is_idle_plan}
+use Rattle.world_core.specs.inner.Plans.{fits_plan, has_left}
 use Rattle.world_model.specs.Parts.{finish_past, story_of}
 use Rattle.world_model.specs.Tasks as of
 use Rattle.world_model.specs.Scopes as scope
 use Rattle.world_model.specs.Numbers as number
 use Rattle.world_model.specs.Due.{due}
-use Rattle.world_model.specs.Clock.{clock, is_turn}
+use Rattle.world_model.specs.Clock.{clock}
 use Rattle.world_model.specs.TaskConditions.{last_entry}
 use Rattle.world_model.specs.Report.{refused_by}
 use Rattle.world_model.specs.Replies.{is_made, is_legal_world, reply}
@@ -43,27 +43,6 @@ due_by t k fs (plan.Spawning c pairs made) = map (λ p. Phaser p.phaser (Reg t c
 due_by t k fs plan.Shutting = map (λ n. Phaser n (Drop t)) k.left ++ Finish (inner_of k fs) Shutting ∷ []
 due_by t k fs (plan.Ending c) =
     map (λ n. Phaser n (Drop c)) k.left ++ (map (λ n. Phaser n (Drop t)) k.phasers ++ (map (λ f. Finish f Shutting) fs ++ end_of t k ∷ []))
-
--- the plan is one that the task's last entry leads to
-abbrev pub fits_plan : Plan → Option WorldEvent → Bool
-fits_plan plan.Idle e = true
-fits_plan (plan.Signalling x turn) (Some (Begin t Signal)) = not turn
-fits_plan (plan.Signalling x turn) (Some (Begin t Next)) = turn
-fits_plan (plan.Signalling x turn) (Some (Begin t (NextSingle n))) = turn
-fits_plan plan.Turning (Some (Begin t b)) = is_turn b
-fits_plan (plan.Spawning c pairs made) (Some (Begin t (Async d ps))) = c == d
-fits_plan plan.Shutting (Some (Begin t Shut)) = true
-fits_plan (plan.Ending c) (Some (Begin t End)) = true
-fits_plan (plan.Ending c) (Some (Refuse t a n)) = true
-fits_plan (plan.Ending c) (Some (Fail t n)) = true
-fits_plan _ _ = false
-
--- a plan to signal or to pass has a phaser left, and an idle one none
-abbrev pub has_left : Plan → List ℕ → Bool
-has_left plan.Idle left = is_empty left
-has_left (plan.Signalling x turn) left = not (is_empty left)
-has_left plan.Turning left = not (is_empty left)
-has_left _ left = true
 
 -- the finishes of a list lie one outside the other, from this one on
 abbrev pub IsChain : List (Option ℕ) → Option ℕ → List ℕ → Type 0

@@ -10,7 +10,6 @@ mod task;
 mod task_log;
 mod world;
 
-pub use plan::Plan;
 pub use tables::Unused;
 pub use task_log::Log;
 pub use world::World;

@@ -19,7 +19,7 @@ use std::marker::Model;
 
 /// A phaser of a world.
 #[derive(Drop)]
-pub struct KeptPhaser {
+pub(crate) struct KeptPhaser {
     state: PhaserState,
 }
 
@@ -36,7 +36,7 @@ impl Model for KeptPhaser {
 
 impl KeptPhaser {
     /// A phaser that nobody has made yet.
-    pub fn blank(alloc: Global, limits: Limits) -> Result<KeptPhaser, Refusal>
+    pub(crate) fn blank(alloc: Global, limits: Limits) -> Result<KeptPhaser, Refusal>
         requires { limits_fit limits ≡ true }
         ensures blank { IfOk result (λ p. p ≡ blank_story limits) }
         ensures memory { IfErr result (λ r. r ≡ Refusal.Memory) }
@@ -46,7 +46,7 @@ impl KeptPhaser {
     }
 
     /// Makes it with these operators, and registers its maker.
-    pub fn make_with(&mut self, task: u32, mode: Mode, ops: Ops) -> Result<(), Refusal>
+    pub(crate) fn make_with(&mut self, task: u32, mode: Mode, ops: Ops) -> Result<(), Refusal>
         ensures reply { result ≡ done_result (reply self.old (make task mode)) }
         ensures history { self.new ≡ made_with self.old ops (reply self.old (make task mode)) }
     {
@@ -55,7 +55,7 @@ impl KeptPhaser {
     }
 
     /// Registers a child where its parent stands.
-    pub fn register(&mut self, parent: u32, child: u32, mode: Mode) -> Result<(), Refusal>
+    pub(crate) fn register(&mut self, parent: u32, child: u32, mode: Mode) -> Result<(), Refusal>
         ensures reply { result ≡ done_result (reply self.old (register parent child mode)) }
         ensures history { self.new ≡ after self.old (reply self.old (register parent child mode)) }
     {
@@ -63,7 +63,7 @@ impl KeptPhaser {
     }
 
     /// Signals the task's phase.
-    pub fn signal(&mut self, task: u32, number: Option<u32>) -> Result<(), Refusal>
+    pub(crate) fn signal(&mut self, task: u32, number: Option<u32>) -> Result<(), Refusal>
         ensures reply { result ≡ done_result (reply self.old (signal task number)) }
         ensures history { self.new ≡ after self.old (reply self.old (signal task number)) }
     {
@@ -71,7 +71,7 @@ impl KeptPhaser {
     }
 
     /// Asks to end the task's turn.
-    pub fn pass(&mut self, task: u32) -> Result<Passing, Refusal>
+    pub(crate) fn pass(&mut self, task: u32) -> Result<Passing, Refusal>
         ensures reply { result ≡ pass_result self.old.past (reply self.old (pass task)) }
         ensures history { self.new ≡ after self.old (reply self.old (pass task)) }
     {
@@ -79,7 +79,7 @@ impl KeptPhaser {
     }
 
     /// Reports the single done that the task had claimed.
-    pub fn single_done(&mut self, task: u32) -> Result<(), Refusal>
+    pub(crate) fn single_done(&mut self, task: u32) -> Result<(), Refusal>
         ensures reply { result ≡ done_result (reply self.old (single_done task)) }
         ensures history { self.new ≡ after self.old (reply self.old (single_done task)) }
     {
@@ -87,7 +87,7 @@ impl KeptPhaser {
     }
 
     /// Sends a value to an accumulator.
-    pub fn send(&mut self, task: u32, accumulator: u8, value: i32) -> Result<(), Refusal>
+    pub(crate) fn send(&mut self, task: u32, accumulator: u8, value: i32) -> Result<(), Refusal>
         ensures reply { result ≡ done_result (reply self.old (send task accumulator value)) }
         ensures history { self.new ≡ after self.old (reply self.old (send task accumulator value)) }
     {
@@ -95,7 +95,7 @@ impl KeptPhaser {
     }
 
     /// What an accumulator holds for the task.
-    pub fn look(&mut self, task: u32, accumulator: u8) -> Result<Look, Refusal>
+    pub(crate) fn look(&mut self, task: u32, accumulator: u8) -> Result<Look, Refusal>
         ensures reply { result ≡ look_result (reply self.old (look task accumulator)) }
         ensures history { self.new ≡ after self.old (reply self.old (look task accumulator)) }
     {
@@ -103,7 +103,7 @@ impl KeptPhaser {
     }
 
     /// Drops the task.
-    pub fn drop_task(&mut self, task: u32) -> Result<(), Refusal>
+    pub(crate) fn drop_task(&mut self, task: u32) -> Result<(), Refusal>
         ensures reply { result ≡ done_result (reply self.old (drop_task task)) }
         ensures history { self.new ≡ after self.old (reply self.old (drop_task task)) }
     {
@@ -111,49 +111,49 @@ impl KeptPhaser {
     }
 
     /// What a call would be answered now.
-    pub fn reply_to(&self, call: Call) -> Reply
+    pub(crate) fn reply_to(&self, call: Call) -> Reply
         ensures { result ≡ returned self.now.past (reply self.now call) }
     {
         self.state.reply_to(call)
     }
 
     /// Whether a pass of the task would be answered not yet.
-    pub fn would_wait(&self, task: u32) -> bool
+    pub(crate) fn would_wait(&self, task: u32) -> bool
         ensures { result ≡ would_wait self.now task }
     {
         self.state.would_wait(task)
     }
 
     /// How the task is registered now.
-    pub fn registration(&self, task: u32) -> Option<Reg>
+    pub(crate) fn registration(&self, task: u32) -> Option<Reg>
         ensures { result ≡ registration task self.now.past }
     {
         self.state.registration(task)
     }
 
     /// Whether the task may claim the single of its phase.
-    pub fn may_claim(&self, task: u32) -> bool
+    pub(crate) fn may_claim(&self, task: u32) -> bool
         ensures { result ≡ is_permitted self.now.limits self.now.ops self.now.past (Event.Claim task) }
     {
         self.state.may_claim(task)
     }
 
     /// Whether the task may report the single done that it claimed.
-    pub fn may_report(&self, task: u32) -> bool
+    pub(crate) fn may_report(&self, task: u32) -> bool
         ensures { result ≡ is_permitted self.now.limits self.now.ops self.now.past (Event.Did task) }
     {
         self.state.may_report(task)
     }
 
     /// Whether nobody has made it.
-    pub fn is_unmade(&self) -> bool
+    pub(crate) fn is_unmade(&self) -> bool
         ensures { result ≡ is_empty self.now.past }
     {
         self.state.history().len() == 0
     }
 
     /// All that was done on it.
-    pub fn history(&self) -> &History
+    pub(crate) fn history(&self) -> &History
         ensures history { result.now ≡ self.now }
         ensures legal { is_legal self.now.limits self.now.ops self.now.past ≡ true }
     {

@@ -16,9 +16,9 @@ use world_model::{FinishLine, PhaserLines, TaskLine, TotalsLine};
 
 /// The lines of phasers, and their totals.
 #[derive(Drop)]
-pub struct PhaserRows {
-    pub lines: Vec<PhaserLines>,
-    pub totals: TotalsLine,
+pub(crate) struct PhaserRows {
+    pub(crate) lines: Vec<PhaserLines>,
+    pub(crate) totals: TotalsLine,
 }
 
 impl PhaserRows {
@@ -60,7 +60,11 @@ impl PhaserRows {
 }
 
 /// The lines of the phasers that were made.
-pub fn phaser_rows(alloc: Global, phasers: &[KeptPhaser], count: u32) -> Result<PhaserRows, Refusal>
+pub(crate) fn phaser_rows(
+    alloc: Global,
+    phasers: &[KeptPhaser],
+    count: u32,
+) -> Result<PhaserRows, Refusal>
     requires size { length phasers.now ≡ count }
     requires few { count ≤ 64 }
     ensures lines { IfOk result (λ r. r.lines.items ≡ map (λ n. lines_of n (story_in phasers.now n)) (made phasers.now count)) }
@@ -75,7 +79,7 @@ pub fn phaser_rows(alloc: Global, phasers: &[KeptPhaser], count: u32) -> Result<
 }
 
 /// The lines of the root and the tasks that were spawned.
-pub fn task_rows(alloc: Global, tasks: &[Task], count: u32) -> Result<Vec<TaskLine>, Refusal>
+pub(crate) fn task_rows(alloc: Global, tasks: &[Task], count: u32) -> Result<Vec<TaskLine>, Refusal>
     requires { length tasks.now ≡ count }
     ensures rows { IfOk result (λ v. v.items ≡ map (task_row tasks.now) (born tasks.now count)) }
     ensures memory { IfErr result (λ r. r ≡ Refusal.Memory) }
@@ -90,7 +94,7 @@ pub fn task_rows(alloc: Global, tasks: &[Task], count: u32) -> Result<Vec<TaskLi
 }
 
 /// The lines of the finishes that were opened.
-pub fn finish_rows(
+pub(crate) fn finish_rows(
     alloc: Global,
     finishes: &[FinishState],
     count: u32,

@@ -35,7 +35,7 @@ pub use drawing::Unused;
 
 /// The tables of a world, each with a line for each number.
 #[derive(Drop)]
-pub struct Tables {
+pub(crate) struct Tables {
     limits: Limits,
     phasers: Vec<KeptPhaser>,
     enclosing: Vec<u32>,
@@ -113,7 +113,7 @@ fn blank_tasks(alloc: Global, limits: Limits) -> Result<Vec<Task>, Refusal>
 impl Tables {
     /// A world in which nothing has happened yet. All memory that its steps will ever need is taken
     /// here; `Memory` where that is refused.
-    pub fn new(alloc: Global, limits: Limits) -> Result<Tables, Refusal>
+    pub(crate) fn new(alloc: Global, limits: Limits) -> Result<Tables, Refusal>
         requires { limits_fit limits ≡ true }
         ensures limits { IfOk result (λ s. s.limits ≡ limits) }
         ensures stands { IfOk result (λ s. StandsFor [] s) }

@@ -9,7 +9,7 @@ use phase_modes::Refusal;
 use std::alloc::Global;
 use std::marker::Model;
 
-pub mod begins;
+pub(crate) mod begins;
 mod dropping;
 mod giving_up;
 mod joining;
@@ -18,11 +18,11 @@ mod reporting;
 mod spawning;
 
 /// How many phasers a task is on at once, at most.
-pub const MOST_PHASERS: usize = 16;
+pub(crate) const MOST_PHASERS: usize = 16;
 
 /// What a world keeps of one task.
 #[derive(Drop)]
-pub struct Task {
+pub(crate) struct Task {
     pub(crate) plan: Plan,
     pub(crate) left: Vec<u32>,
     pub(crate) phasers: Vec<u32>,
@@ -63,7 +63,7 @@ impl Model for Task {
 
 impl Task {
     /// A number that no task has yet. `Memory` where there is none for its lists.
-    pub fn blank(alloc: Global) -> Result<Task, Refusal>
+    pub(crate) fn blank(alloc: Global) -> Result<Task, Refusal>
         ensures blank { IfOk result (λ t. t ≡ blank_task) }
         ensures memory { IfErr result (λ r. r ≡ Refusal.Memory) }
     {
@@ -90,7 +90,7 @@ impl Task {
     }
 
     /// Makes it the root, which runs from the start.
-    pub fn become_root(&mut self)
+    pub(crate) fn become_root(&mut self)
         ensures { self.new ≡ record self.old { is_named = true; is_born = true } }
     {
         self.named = true;
@@ -98,28 +98,28 @@ impl Task {
     }
 
     /// Whether it may begin an act.
-    pub fn is_idle(&self) -> bool
+    pub(crate) fn is_idle(&self) -> bool
         ensures { result ≡ (self.now.is_born && not self.now.is_ended && is_idle_plan self.now.plan) }
     {
         self.born && !self.ended && matches!(self.plan, Plan::Idle)
     }
 
     /// How many acts it has begun.
-    pub fn acts(&self) -> u32
+    pub(crate) fn acts(&self) -> u32
         ensures { result ≡ self.now.acts }
     {
         self.acts
     }
 
     /// Notes the phasers on which the task owes a signal as those that are left.
-    pub fn owe(&mut self, task: u32, phasers: &[KeptPhaser])
+    pub(crate) fn owe(&mut self, task: u32, phasers: &[KeptPhaser])
         ensures { self.new ≡ record self.old { left = filter (λ n. owes task (past_in phasers.now n)) self.old.phasers } }
     {
         list_owed(&mut self.left, &self.phasers, phasers, task);
     }
 
     /// Begins a turn, whose signals are left, with this number.
-    pub fn begin_turn(&mut self, number: Option<u32>)
+    pub(crate) fn begin_turn(&mut self, number: Option<u32>)
         ensures { self.new ≡ turn_begun number self.old }
     {
         self.acts = self.acts.saturating_add(1);
@@ -131,7 +131,7 @@ impl Task {
     }
 
     /// Whether its next event is to signal with this number on this phaser.
-    pub fn is_to_signal(&self, phaser: u32, number: Option<u32>) -> bool
+    pub(crate) fn is_to_signal(&self, phaser: u32, number: Option<u32>) -> bool
         ensures { result ≡ is_to_signal self.now phaser number }
     {
         match self.plan {
@@ -142,28 +142,28 @@ impl Task {
     }
 
     /// Whether its next event is to pass this phaser, the single aside.
-    pub fn is_to_pass(&self, phaser: u32) -> bool
+    pub(crate) fn is_to_pass(&self, phaser: u32) -> bool
         ensures { result ≡ is_to_pass self.now phaser }
     {
         matches!(self.plan, Plan::Turning) && self.left.first().copied() == Some(phaser)
     }
 
     /// Its innermost own open finish.
-    pub fn innermost(&self) -> Option<u32>
+    pub(crate) fn innermost(&self) -> Option<u32>
         ensures { result ≡ self.now.innermost }
     {
         self.innermost
     }
 
     /// Its innermost open finish: the one that it was spawned in, where it has none of its own.
-    pub fn inner(&self) -> u32
+    pub(crate) fn inner(&self) -> u32
         ensures { result ≡ inner_at self.now }
     {
         self.innermost.unwrap_or(self.home)
     }
 
     /// Notes that it opened this finish.
-    pub fn note_opening(&mut self, finish: u32)
+    pub(crate) fn note_opening(&mut self, finish: u32)
         ensures { self.new ≡ opening finish self.old }
     {
         self.innermost = Some(finish);
@@ -171,7 +171,7 @@ impl Task {
     }
 
     /// Notes that the first pass was made: with the last one the turn is ended.
-    pub fn note_pass(&mut self)
+    pub(crate) fn note_pass(&mut self)
         ensures { self.new ≡ pass_noted self.old }
     {
         if self.left.len() > 1 {
@@ -185,7 +185,7 @@ impl Task {
 
     /// Notes that the first signal was made: after the last one a turn comes to its passes, and a
     /// plain signal is done.
-    pub fn note_signal(&mut self)
+    pub(crate) fn note_signal(&mut self)
         ensures { self.new ≡ signal_noted self.old }
     {
         if self.left.len() > 1 {
@@ -200,7 +200,7 @@ impl Task {
     }
 
     /// Comes to the passes of a turn; without phasers the turn is ended at once.
-    pub fn begin_passes(&mut self)
+    pub(crate) fn begin_passes(&mut self)
         ensures { self.new ≡ passing self.old }
     {
         if self.phasers.is_empty() {

@@ -33,10 +33,10 @@ send_answer s n t a v = done_by (send_result s n t a v)
 abbrev pub send_state : WorldState → ℕ → ℕ → ℕ → ℤ → WorldState
 send_state s n t a v = state_by (send_result s n t a v) s (with_task (phaser_called s n (send t a v)) t (counted (task_at s t)))
 
--- a value that is looked at
-abbrev pub told_look : Result Look Refusal → Result Reply Refusal
-told_look (Ok x) = Ok (Value x)
-told_look (Err r) = Err r
+-- the reply of the world to a look of which the phaser says this
+abbrev pub reply_by_look : Result Look Refusal → Result Reply Refusal
+reply_by_look (Ok x) = Ok (Value x)
+reply_by_look (Err r) = Err r
 
 abbrev pub state_by_look : Result Look Refusal → WorldState → WorldState → WorldState
 state_by_look (Ok x) old new = new
@@ -46,7 +46,7 @@ abbrev pub looked : WorldState → ℕ → ℕ → ℕ → Result Look Refusal
 looked s n t a = unless_before (act_refusal s t) (look_result (phaser.reply (story_at s n) (look t a)))
 
 abbrev pub look_answer : WorldState → ℕ → ℕ → ℕ → Result Reply Refusal
-look_answer s n t a = told_look (looked s n t a)
+look_answer s n t a = reply_by_look (looked s n t a)
 
 abbrev pub look_state : WorldState → ℕ → ℕ → ℕ → WorldState
 look_state s n t a = state_by_look (looked s n t a) s (with_task (phaser_called s n (look t a)) t (counted (task_at s t)))

@@ -160,11 +160,12 @@ report_asked s n t = is_to_pass (task_at s t) n && not (may_claim (story_at s n)
 abbrev pub passed_on : WorldState → ℕ → ℕ → Result Passing Refusal
 passed_on s n t = pass_result (story_at s n).past (phaser.reply (story_at s n) (pass t))
 
-abbrev pub told_pass : Result Passing Refusal → Result Reply Refusal
-told_pass (Ok (Passed p)) = Ok (Phase p)
-told_pass (Ok (Claims i)) = Ok Done
-told_pass (Ok Waits) = Ok NotYet
-told_pass (Err r) = Err r
+-- the reply of the world to a pass or a claim of which the phaser says this
+abbrev pub reply_by_pass : Result Passing Refusal → Result Reply Refusal
+reply_by_pass (Ok (Passed p)) = Ok (Phase p)
+reply_by_pass (Ok (Claims i)) = Ok Done
+reply_by_pass (Ok Waits) = Ok NotYet
+reply_by_pass (Err r) = Err r
 
 -- after a pass: the next one, or where it was the last one, the turn is ended
 abbrev pub note_pass : List ℕ → TaskState → TaskState
@@ -186,7 +187,7 @@ abbrev pub pass_outcome : WorldState → ℕ → ℕ → Result Passing Refusal
 pass_outcome s n t = if pass_asked s n t then passed_on s n t else Err NotNow
 
 abbrev pub pass_answer : WorldState → ℕ → ℕ → Result Reply Refusal
-pass_answer s n t = told_pass (pass_outcome s n t)
+pass_answer s n t = reply_by_pass (pass_outcome s n t)
 
 abbrev pub pass_state : WorldState → ℕ → ℕ → WorldState
 pass_state s n t = state_by_pass (pass_outcome s n t) s (phaser_called s n (pass t)) (with_task (phaser_called s n (pass t)) t (pass_noted (task_at s t)))
@@ -196,7 +197,7 @@ abbrev pub claim_outcome : WorldState → ℕ → ℕ → Result Passing Refusal
 claim_outcome s n t = if claim_asked s n t then passed_on s n t else Err NotNow
 
 abbrev pub claim_answer : WorldState → ℕ → ℕ → Result Reply Refusal
-claim_answer s n t = told_pass (claim_outcome s n t)
+claim_answer s n t = reply_by_pass (claim_outcome s n t)
 
 abbrev pub claim_state : WorldState → ℕ → ℕ → WorldState
 claim_state s n t = state_by_pass (claim_outcome s n t) s (phaser_called s n (pass t)) (phaser_called s n (pass t))

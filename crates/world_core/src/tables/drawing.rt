@@ -27,7 +27,7 @@ pub struct Unused {
 impl Tables {
     /// All phasers of the task, in the order in which it came to them, each in its own mode: what a
     /// spawn names that hands them all on.
-    pub fn own_pairs(&self, task: u32) -> Phased
+    pub(crate) fn own_pairs(&self, task: u32) -> Phased
         ensures { (w : List Event) → StandsFor w self.now → result ≡ own_pairs task w }
     {
         self.kept_pairs(task)
@@ -44,7 +44,7 @@ impl Tables {
     }
 
     /// The least numbers that aren't in use.
-    pub fn unused(&self) -> Unused
+    pub(crate) fn unused(&self) -> Unused
         ensures phaser { (w : List Event) → StandsFor w self.now
             → result.phaser ≡ least_unused (λ n. is_phaser n w) self.now.limits.phasers }
         ensures task { (w : List Event) → StandsFor w self.now

@@ -74,7 +74,7 @@ impl Task {
 
 impl Tables {
     /// What the task is about; `None` where it hasn't been spawned.
-    pub fn condition(&self, task: u32) -> Option<Condition>
+    pub(crate) fn condition(&self, task: u32) -> Option<Condition>
         ensures { (w : List Event) → StandsFor w self.now → result ≡ condition_of task w }
     {
         self.kept_condition(task)
@@ -91,7 +91,7 @@ impl Tables {
     }
 
     /// How many turns the task has completed, those of its spawner at the spawn among them.
-    pub fn clock(&self, task: u32) -> u32
+    pub(crate) fn clock(&self, task: u32) -> u32
         ensures { (w : List Event) → StandsFor w self.now → result ≡ clock task w }
     {
         self.kept_clock(task)
@@ -108,7 +108,7 @@ impl Tables {
     }
 
     /// The event that continues the task's act, if it is in the middle of one.
-    pub fn next_event(&self, task: u32) -> Option<WorldEvent>
+    pub(crate) fn next_event(&self, task: u32) -> Option<WorldEvent>
         ensures { (w : List Event) → StandsFor w self.now → result ≡ next_event self.now.limits task w }
     {
         self.kept_next(task)
@@ -116,7 +116,7 @@ impl Tables {
 
     /// Whether the task can go on now: some event of its own would be made. It can't where it has
     /// to wait for others, and where it has ended or was never spawned.
-    pub fn able(&self, task: u32) -> bool
+    pub(crate) fn able(&self, task: u32) -> bool
         ensures { (w : List Event) → StandsFor w self.now → result ≡ is_able self.now.limits w task }
     {
         self.kept_able(task)

@@ -14,7 +14,7 @@ use world_model::WorldReport;
 impl Tables {
     /// The report of the world: each phaser's history is read once. `Memory` where there is too
     /// little for the lines.
-    pub fn report(&self, alloc: Global) -> Result<WorldReport, Refusal>
+    pub(crate) fn report(&self, alloc: Global) -> Result<WorldReport, Refusal>
         ensures report { (w : List Event) → StandsFor w self.now → IfOk result (λ r. r ≡ report_of self.now.limits w) }
         ensures memory { IfErr result (λ r. r ≡ Refusal.Memory) }
     {

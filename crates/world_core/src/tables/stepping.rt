@@ -9,7 +9,7 @@ use world_model::{Reply, Step, WorldEvent};
 
 impl Tables {
     /// One event: it is made, has to wait, or is refused, and then changes nothing.
-    pub fn step(&mut self, event: &WorldEvent) -> Result<Reply, Refusal>
+    pub(crate) fn step(&mut self, event: &WorldEvent) -> Result<Reply, Refusal>
         ensures { IsStep event.now self.old self.new result }
     {
         match *event {

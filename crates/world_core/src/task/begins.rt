@@ -13,21 +13,21 @@ use phase_modes::Phased;
 
 impl Task {
     /// Whether it has signalled on one of its phasers since its last turn there.
-    pub fn leads_anywhere(&self, task: u32, phasers: &[KeptPhaser]) -> bool
+    pub(crate) fn leads_anywhere(&self, task: u32, phasers: &[KeptPhaser]) -> bool
         ensures { result ≡ list_any (λ n. leads task (past_in phasers.now n)) self.now.phasers }
     {
         any_leading(&self.phasers, phasers, task)
     }
 
     /// Whether it owes a signal on one of its phasers.
-    pub fn owes_anywhere(&self, task: u32, phasers: &[KeptPhaser]) -> bool
+    pub(crate) fn owes_anywhere(&self, task: u32, phasers: &[KeptPhaser]) -> bool
         ensures { result ≡ list_any (λ n. owes task (past_in phasers.now n)) self.now.phasers }
     {
         any_owed(&self.phasers, phasers, task)
     }
 
     /// Whether it may propose no single on one of its phasers.
-    pub fn lacks_single(&self, task: u32, phasers: &[KeptPhaser]) -> bool
+    pub(crate) fn lacks_single(&self, task: u32, phasers: &[KeptPhaser]) -> bool
         ensures { result ≡ list_any (λ n. not (has_single task (past_in phasers.now n))) self.now.phasers }
     {
         any_without_single(&self.phasers, phasers, task)
@@ -35,35 +35,35 @@ impl Task {
 
     #[tactic(auto, using(crate::proofs::Acts::one_long))]
     /// Whether it is on exactly one phaser.
-    pub fn is_on_one(&self) -> bool
+    pub(crate) fn is_on_one(&self) -> bool
         ensures { result ≡ is_one self.now.phasers }
     {
         self.phasers.len() == 1
     }
 
     /// Whether a finish of its own is open.
-    pub fn has_finish(&self) -> bool
+    pub(crate) fn has_finish(&self) -> bool
         ensures { result ≡ is_some self.now.innermost }
     {
         self.innermost.is_some()
     }
 
     /// Whether a spawn has named it.
-    pub fn is_named(&self) -> bool
+    pub(crate) fn is_named(&self) -> bool
         ensures { result ≡ self.now.is_named }
     {
         self.named
     }
 
     /// Notes one act more.
-    pub fn note_act(&mut self)
+    pub(crate) fn note_act(&mut self)
         ensures { self.new ≡ counted self.old }
     {
         self.acts = self.acts.saturating_add(1);
     }
 
     /// Begins a plain signal, on the phasers that are left.
-    pub fn begin_signals(&mut self)
+    pub(crate) fn begin_signals(&mut self)
         ensures { self.new ≡ signals_begun self.old }
     {
         self.acts = self.acts.saturating_add(1);
@@ -75,7 +75,7 @@ impl Task {
     }
 
     /// Begins a turn that signals nothing.
-    pub fn begin_wait(&mut self)
+    pub(crate) fn begin_wait(&mut self)
         ensures { self.new ≡ passing (counted self.old) }
     {
         self.acts = self.acts.saturating_add(1);
@@ -83,7 +83,7 @@ impl Task {
     }
 
     /// Begins to spawn this child on these phasers.
-    pub fn begin_spawn(&mut self, child: u32, pairs: Phased)
+    pub(crate) fn begin_spawn(&mut self, child: u32, pairs: Phased)
         ensures { self.new ≡ spawn_begun child pairs self.old }
     {
         self.acts = self.acts.saturating_add(1);
@@ -91,7 +91,7 @@ impl Task {
     }
 
     /// Notes that this task begins to spawn it.
-    pub fn note_name(&mut self, spawner: u32)
+    pub(crate) fn note_name(&mut self, spawner: u32)
         ensures { self.new ≡ named_for spawner self.old }
     {
         self.named = true;
@@ -99,7 +99,7 @@ impl Task {
     }
 
     /// Begins to shut its innermost finish; the phasers that this encloses are left.
-    pub fn begin_shut(&mut self, enclosing: &[u32])
+    pub(crate) fn begin_shut(&mut self, enclosing: &[u32])
         ensures { self.new ≡ shut_begun enclosing.now self.old }
     {
         self.acts = self.acts.saturating_add(1);
@@ -109,7 +109,7 @@ impl Task {
     }
 
     /// Begins its end; this child is dropped from no phaser.
-    pub fn begin_end(&mut self, child: u32)
+    pub(crate) fn begin_end(&mut self, child: u32)
         ensures { self.new ≡ end_begun child self.old }
     {
         self.left.clear();
@@ -180,7 +180,7 @@ fn may_single(phasers: &[KeptPhaser], phaser: u32, task: u32) -> bool
 }
 
 /// The finish that encloses this phaser, as it is read: finish 0 for a number without a phaser.
-pub fn enclosing_of(enclosing: &[u32], phaser: u32) -> u32
+pub(crate) fn enclosing_of(enclosing: &[u32], phaser: u32) -> u32
     ensures { result ≡ get_or enclosing.now phaser 0 }
 {
     if phaser as usize >= enclosing.len() {

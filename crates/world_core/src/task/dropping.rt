@@ -6,7 +6,7 @@ use super::*;
 
 impl Task {
     /// Whether its next event is that this task leaves this phaser; the first number is its own.
-    pub fn is_to_drop(&self, own: u32, phaser: u32, task: u32) -> bool
+    pub(crate) fn is_to_drop(&self, own: u32, phaser: u32, task: u32) -> bool
         ensures { result ≡ is_to_drop self.now own phaser task }
     {
         match self.plan {
@@ -23,21 +23,21 @@ impl Task {
     }
 
     /// Whether it was spawned.
-    pub fn is_born(&self) -> bool
+    pub(crate) fn is_born(&self) -> bool
         ensures { result ≡ self.now.is_born }
     {
         self.born
     }
 
     /// Notes that it has left this phaser.
-    pub fn note_gone(&mut self, phaser: u32)
+    pub(crate) fn note_gone(&mut self, phaser: u32)
         ensures { self.new ≡ gone_from phaser self.old }
     {
         take_off(&mut self.phasers, phaser);
     }
 
     /// Notes that the first drop was made.
-    pub fn note_drop(&mut self)
+    pub(crate) fn note_drop(&mut self)
         ensures { self.new ≡ drop_noted self.old }
     {
         if !self.left.is_empty() {

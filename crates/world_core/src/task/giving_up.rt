@@ -8,7 +8,7 @@ use crate::plan::Plan;
 
 impl Task {
     /// Comes to its end by the refusal of this number; this child is dropped from no phaser.
-    pub fn give_up(&mut self, child: u32, number: u8)
+    pub(crate) fn give_up(&mut self, child: u32, number: u8)
         ensures { self.new ≡ given_up child number self.old }
     {
         self.begin_end(child);
@@ -17,7 +17,7 @@ impl Task {
 
     /// Gives up the spawn of this child by the refusal of this number; the child is to be dropped
     /// from these phasers.
-    pub fn give_up_spawn(&mut self, child: u32, held: &[u32], number: u8)
+    pub(crate) fn give_up_spawn(&mut self, child: u32, held: &[u32], number: u8)
         requires { length held.now ≤ 16 }
         ensures { self.new ≡ spawn_given_up child held.now number self.old }
     {
@@ -27,7 +27,7 @@ impl Task {
     }
 
     /// Copies the numbers of its phasers to the front of the array, and returns how many they are.
-    pub fn copy_phasers(&self, numbers: &mut [u32; MOST_PHASERS]) -> usize
+    pub(crate) fn copy_phasers(&self, numbers: &mut [u32; MOST_PHASERS]) -> usize
         ensures held { take result numbers.new ≡ self.now.phasers }
         ensures few { result ≤ 16 }
     {

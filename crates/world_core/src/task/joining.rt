@@ -6,14 +6,14 @@ use super::*;
 
 impl Task {
     /// Whether it may come to another phaser.
-    pub fn has_room(&self) -> bool
+    pub(crate) fn has_room(&self) -> bool
         ensures { result ≡ nat_lt (length self.now.phasers) 16 }
     {
         self.phasers.len() < MOST_PHASERS
     }
 
     /// Notes that it made this phaser.
-    pub fn note_making(&mut self, phaser: u32)
+    pub(crate) fn note_making(&mut self, phaser: u32)
         requires { length self.old.phasers < 16 }
         ensures { self.new ≡ making phaser self.old }
     {

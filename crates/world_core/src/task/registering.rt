@@ -8,7 +8,7 @@ use phase_modes::Mode;
 
 impl Task {
     /// Whether its next event is to register this child on this phaser in this mode.
-    pub fn is_to_register(&self, phaser: u32, child: u32, mode: Mode) -> bool
+    pub(crate) fn is_to_register(&self, phaser: u32, child: u32, mode: Mode) -> bool
         ensures { result ≡ is_to_register self.now phaser child mode }
     {
         match self.plan {
@@ -21,7 +21,7 @@ impl Task {
     }
 
     /// Notes that its spawner registered it on this phaser.
-    pub fn note_joining(&mut self, phaser: u32)
+    pub(crate) fn note_joining(&mut self, phaser: u32)
         requires { length self.old.phasers < 16 }
         ensures { self.new ≡ joining phaser self.old }
     {
@@ -29,7 +29,7 @@ impl Task {
     }
 
     /// Notes that it has registered its child on the phaser of the next pair.
-    pub fn note_registration(&mut self)
+    pub(crate) fn note_registration(&mut self)
         ensures { self.new ≡ register_noted self.old }
     {
         self.plan = to_next_pair(self.plan);

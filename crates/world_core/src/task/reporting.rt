@@ -6,7 +6,7 @@ use world_model::TaskLine;
 
 impl Task {
     /// The line of the task with this number.
-    pub fn row(&self, number: u32) -> TaskLine
+    pub(crate) fn row(&self, number: u32) -> TaskLine
         ensures { result ≡ record { task = number; refused = self.now.refused } }
     {
         TaskLine {

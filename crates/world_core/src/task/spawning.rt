@@ -7,7 +7,7 @@ use crate::plan::Plan;
 
 impl Task {
     /// Whether its next event is to spawn this child in this finish.
-    pub fn is_to_spawn(&self, finish: u32, child: u32) -> bool
+    pub(crate) fn is_to_spawn(&self, finish: u32, child: u32) -> bool
         ensures { result ≡ is_to_spawn self.now finish child }
     {
         match self.plan {
@@ -19,21 +19,21 @@ impl Task {
     }
 
     /// Who began to spawn it.
-    pub fn spawner(&self) -> u32
+    pub(crate) fn spawner(&self) -> u32
         ensures { result ≡ self.now.spawner }
     {
         self.spawner
     }
 
     /// How many turns it has completed.
-    pub fn clock(&self) -> u32
+    pub(crate) fn clock(&self) -> u32
         ensures { result ≡ self.now.clock }
     {
         self.clock
     }
 
     /// Notes that it was spawned in this finish, by a task with this clock.
-    pub fn note_birth(&mut self, finish: u32, clock: u32)
+    pub(crate) fn note_birth(&mut self, finish: u32, clock: u32)
         ensures { self.new ≡ born_in finish clock self.old }
     {
         self.born = true;
@@ -42,7 +42,7 @@ impl Task {
     }
 
     /// Notes that it has spawned its child.
-    pub fn note_spawn(&mut self)
+    pub(crate) fn note_spawn(&mut self)
         ensures { self.new ≡ spawn_noted self.old }
     {
         self.plan = Plan::Idle;
