@@ -11,6 +11,7 @@ mod task_log;
 mod world;
 
 pub use tables::Unused;
+// For those who run tasks without a world: no crate here uses it.
 pub use task_log::Log;
 pub use world::World;
 

@@ -2,7 +2,7 @@
 use super::*;
 
 /// The report has these phasers, each with so many phases.
-pub fn phasers_are(rt: &impl Abort, report: &WorldReport, expected: &[(u32, u32)]) {
+pub(super) fn phasers_are(rt: &impl Abort, report: &WorldReport, expected: &[(u32, u32)]) {
     assert_eq!(rt; report.phasers.len(), expected.len());
     for (lines, (phaser, phases)) in report.phasers.iter().zip(expected) {
         assert_eq!(rt; lines.phaser, *phaser);
@@ -11,7 +11,7 @@ pub fn phasers_are(rt: &impl Abort, report: &WorldReport, expected: &[(u32, u32)
 }
 
 /// The report has these tasks and finishes, and these totals.
-pub fn rest_is(
+pub(super) fn rest_is(
     rt: &impl Abort,
     report: &WorldReport,
     tasks: &[TaskLine],
@@ -24,7 +24,7 @@ pub fn rest_is(
 }
 
 /// No phaser did anything.
-pub const NOTHING: TotalsLine = TotalsLine {
+pub(super) const NOTHING: TotalsLine = TotalsLine {
     registered: 0,
     signals: 0,
     passes: 0,
@@ -35,7 +35,7 @@ pub const NOTHING: TotalsLine = TotalsLine {
 };
 
 /// The task ended by itself.
-pub fn ended(task: u32) -> TaskLine {
+pub(super) fn ended(task: u32) -> TaskLine {
     TaskLine {
         task,
         refused: None,
@@ -43,7 +43,7 @@ pub fn ended(task: u32) -> TaskLine {
 }
 
 /// The task ended by this refusal.
-pub fn refused_with(task: u32, number: u8) -> TaskLine {
+pub(super) fn refused_with(task: u32, number: u8) -> TaskLine {
     TaskLine {
         task,
         refused: Some(number),
@@ -51,12 +51,12 @@ pub fn refused_with(task: u32, number: u8) -> TaskLine {
 }
 
 /// So many tasks were spawned in the finish.
-pub fn tasks_in(finish: u32, tasks: u32) -> FinishLine {
+pub(super) fn tasks_in(finish: u32, tasks: u32) -> FinishLine {
     FinishLine { finish, tasks }
 }
 
 /// What the one accumulator, a sum, came to in a phase.
-pub fn sum_is(phase: u32, sum: i64) -> FoldLine {
+pub(super) fn sum_is(phase: u32, sum: i64) -> FoldLine {
     FoldLine {
         phase,
         acc: 0,
