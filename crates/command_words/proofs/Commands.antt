@@ -1,6 +1,5 @@
 -- A command with one more subcommand, and what a subcommand is asked for.
 use Rattle.std.proofs.Common.{◌≡◌, List, Option, Result, Ok, Err, IfOk, false, option_map, codes, refl, ap, ◌∙◌}
-use Rattle.std.specs.Str.{bytes_eq}
 use Rattle.clap.specs.Words.{App, Row, Text, AddsSubcommand, app_of, first_of, shape_of, with_subcommand}
 use Rattle.clap.specs.declared.builder.command.Command.{Command}
 use Rattle.clap.specs.declared.builder.command.Command.TheViews.{out-Command as fields_of}

@@ -31,7 +31,8 @@ abbrev pub IsNext : List ℕ → ℕ → List ℕ → Type 0
 IsNext text n piece = (n < length (pieces text)) × (piece ≡ get_or (pieces text) n piece)
 
 at_piece : (text : List ℕ) (n : ℕ) (piece : List ℕ) → IsNext text n piece
-    → numbers_in (drop n (pieces text)) ≡ with_rest (numbers_in (drop (n + 1) (pieces text))) (number_in piece)
+    → numbers_in (drop n (pieces text))
+    ≡ with_rest (numbers_in (drop (n + 1) (pieces text))) (number_in piece)
 at_piece text n piece h =
     at_drop_more numbers_in (pieces text) n piece h.0
     ∙ ap (λ (p : List ℕ). with_rest (numbers_in (drop (n + 1) (pieces text))) (number_in p)) (sym h.1)
@@ -63,7 +64,8 @@ pub too_many : (text : List ℕ) (n : ℕ) (piece : List ℕ) → IsNext text n 
     → picks_in text ≡ None
 unfolding picks_in
 too_many text n piece next full =
-    over_count (length (pieces text)) (nat_le (length (pieces text)) MOST_PICKS) (numbers_in (pieces text)) refl
+    over_count (length (pieces text)) (nat_le (length (pieces text)) MOST_PICKS)
+    (numbers_in (pieces text)) refl
     (omega (arith, next.0, full))
 
 onto_more : (picks : List ℕ) (k : ℕ) (rest : Option (List ℕ))
@@ -72,7 +74,8 @@ onto_more picks k None = refl
 onto_more picks k (Some ns) = ap Some (sym (append_assoc picks (k ∷ []) ns))
 
 pub one_more : (text : List ℕ) (n : ℕ) (picks piece : List ℕ) (k : ℕ) → ReadSoFar text n picks
-    → IsNext text n piece → number_in piece ≡ Some k → n < MOST_PICKS → ReadSoFar text (n + 1) (picks ++ k ∷ [])
+    → IsNext text n piece → number_in piece ≡ Some k → n < MOST_PICKS
+    → ReadSoFar text (n + 1) (picks ++ k ∷ [])
 one_more text n picks piece k so_far next good room = record {
   many = omega (arith, length_push picks k, so_far.many);
   few = omega (arith, room);
@@ -91,7 +94,8 @@ in_count m false o e few = absurd (let t = le-leb m MOST_PICKS few in cc)
 whole_count : (text : List ℕ) → length (pieces text) ≤ MOST_PICKS → picks_in text ≡ numbers_in (pieces text)
 unfolding picks_in
 whole_count text few =
-    in_count (length (pieces text)) (nat_le (length (pieces text)) MOST_PICKS) (numbers_in (pieces text)) refl few
+    in_count (length (pieces text)) (nat_le (length (pieces text)) MOST_PICKS) (numbers_in (pieces text))
+    refl few
 
 pub all_read : (text : List ℕ) (n : ℕ) (picks : List ℕ) → ReadSoFar text n picks → n ≡ length (pieces text)
     → picks_in text ≡ Some picks

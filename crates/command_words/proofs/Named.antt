@@ -1,7 +1,7 @@
 -- What the matches of the subcommand ask for is what the arguments ask for.
-use Rattle.std.proofs.Common.{◌≡◌, Bool, true, false, List, [], ◌∷◌, Option, None, Some, Box, if◌then◌else◌, option_map, codes, refl, sym, ap, ◌∙◌, inl, inr}
+use Rattle.std.proofs.Common.{◌≡◌, List, [], ◌∷◌, Option, None, Some, Box, if◌then◌else◌, option_map, refl, sym, ap, ◌∙◌, inl, inr}
 use Rattle.std.specs.Prelude.{option_and_then}
-use Rattle.clap.specs.Words.{Row, Text, App, HasMatchesOf, app_of, first_value, found_of, is_simple, rows_of, subcommand_name_of, subcommand_of, subcommand_rows, subcommand_rows_of, fault_of, kind_of, HasKind, Kinds}
+use Rattle.clap.specs.Words.{Row, Text, App, HasMatchesOf, app_of, found_of, is_simple, rows_of, subcommand_name_of, subcommand_of, subcommand_rows, subcommand_rows_of, fault_of, kind_of, HasKind, Kinds}
 use Rattle.clap.specs.declared.parser.matches.ArgMatches.{ArgMatches}
 use Rattle.clap.specs.declared.parser.matches.ArgMatches.TheViews.{out-ArgMatches, out-SubCommand}
 use Rattle.clap.specs.declared.parser.matches.SubCommand.{SubCommand}

@@ -5,7 +5,7 @@ use Rattle.std.specs.Char.{is_ascii_digit}
 use Rattle.std.specs.Result.{OkIff, result_ok}
 use Rattle.std.specs.Str.{all_ascii_digits}
 use Rattle.std.specs.Str.Parse.{ParsesUnsigned, digits_value}
-use Rattle.std.proofs.lemmas.Str.Parse.{IsNumeralModel, numerals_by_value, parse_digits, tells_all_ascii_digits}
+use Rattle.std.proofs.lemmas.Str.Parse.{numerals_by_value, parse_digits, tells_all_ascii_digits}
 use Rattle.phase_modes.specs.Lists.{is_empty}
 use Rattle.command_words.specs.Picks.{is_numeral, number_in}
 
@@ -42,14 +42,16 @@ module _ {E : Type 0} where
   by_answer [] (Err e) digits h = refl
   by_answer (c ∷ cs) (Ok n) digits h =
       ap Some h.1 ∙ sym (by_test (c ∷ cs) true (both_true (is_numeral (c ∷ cs)) _ digits (lt-ltb _ _ h.0.1)))
-  by_answer (c ∷ cs) (Err e) digits h = sym (out_of_range c cs (nat_lt (digits_value 10 (c ∷ cs)) (2 ^ 32)) refl h)
+  by_answer (c ∷ cs) (Err e) digits h =
+      sym (out_of_range c cs (nat_lt (digits_value 10 (c ∷ cs)) (2 ^ 32)) refl h)
 
   -- what is read of digits
   pub told : (text : List ℕ) (r : Result ℕ E) → list_all is_ascii_digit text ≡ true
       → ParsesUnsigned 32 10 text r → result_ok r ≡ number_in text
   told text r digits parses =
       by_answer text r digits
-      (parse_digits (numerals_by_value (λ ds. all_ascii_digits ds ≡ true) tells_all_ascii_digits) 32 text r parses
+      (parse_digits (numerals_by_value (λ ds. all_ascii_digits ds ≡ true) tells_all_ascii_digits) 32 text
+      r parses
       (sym (alike text) ∙ digits))
 
 -- other texts spell no number

@@ -1,5 +1,5 @@
 -- A schedule whose options stand after FILE.
-use Rattle.std.proofs.Common.{◌≡◌, ◌==◌, ◌&&◌, Bool, ℕ, List, [], ◌∷◌, false, true, Option, Some, None, if◌then◌else◌, codes, refl, ap, sym, ◌∙◌}
+use Rattle.std.proofs.Common.{◌≡◌, ℕ, List, [], ◌∷◌, false, Option, Some, None, if◌then◌else◌, codes, refl, ap, ◌∙◌}
 use Rattle.phase_modes.specs.Lists.{is_empty}
 use Rattle.clap.specs.Words.{Rule, Text, Kinds, Shape, built}
 use Rattle.clap.specs.Walk.{Held, Waiting, Walk, arg_by_id, arg_by_index, finished, idle, nothing_held, option, option_word, settled, to_positional, value, walk, walk_from, walked}
@@ -76,13 +76,15 @@ held_at w name = (walked rules [] w name).held
 
 -- the walk after FILE, `--picks` and LIST
 abbrev after_picks : Text → Text → Walk
-after_picks file list = after_option rules (codes "picks") (held_at (after_file file) (codes "--picks")) 2 list
+after_picks file list =
+    after_option rules (codes "picks") (held_at (after_file file) (codes "--picks")) 2 list
 
 picks_walk : (file list : Text) → IsWord file → IsWord list
     → walk rules [] nothing_held (file ∷ codes "--picks" ∷ list ∷ []) ≡ after_picks file list
 unfolding clap_on_literals
 picks_walk file list f l =
-    ap (λ w. walked rules [] (walked rules [] w (codes "--picks")) list) (idle_step rules nothing_held 1 file f)
+    ap (λ w. walked rules [] (walked rules [] w (codes "--picks")) list)
+    (idle_step rules nothing_held 1 file f)
     ∙ option_step rules (codes "picks") (held_at (after_file file) (codes "--picks")) 2 list l
 
 picks_faults : (file list : Text) (rest : List Text) → IsWord file → IsWord list
@@ -109,7 +111,8 @@ unfolding clap_on_literals
 no_words w = refl
 
 pub schedule_picks : (p file list : Text) → IsWord file → IsWord list
-    → asked_in (p ∷ codes "schedule" ∷ file ∷ codes "--picks" ∷ list ∷ []) ≡ Some (schedule file (Some list) None)
+    → asked_in (p ∷ codes "schedule" ∷ file ∷ codes "--picks" ∷ list ∷ [])
+    ≡ Some (schedule file (Some list) None)
 schedule_picks p file list f l =
     three_words p file (codes "--picks") list
     ∙ ap (λ k. asked_at k (walk rules [] nothing_held (file ∷ codes "--picks" ∷ list ∷ [])))
@@ -125,7 +128,8 @@ trace_walk : (file out : Text) → IsWord file → IsWord out
     → walk rules [] nothing_held (file ∷ codes "--trace" ∷ out ∷ []) ≡ after_trace file out
 unfolding clap_on_literals
 trace_walk file out f o =
-    ap (λ w. walked rules [] (walked rules [] w (codes "--trace")) out) (idle_step rules nothing_held 1 file f)
+    ap (λ w. walked rules [] (walked rules [] w (codes "--trace")) out)
+    (idle_step rules nothing_held 1 file f)
     ∙ option_step rules (codes "trace") (held_at (after_file file) (codes "--trace")) 2 out o
 
 trace_faults : (file out : Text) → IsWord file → IsWord out
@@ -144,10 +148,12 @@ unfolding clap_on_literals
 trace_asked file out = refl
 
 pub schedule_trace : (p file out : Text) → IsWord file → IsWord out
-    → asked_in (p ∷ codes "schedule" ∷ file ∷ codes "--trace" ∷ out ∷ []) ≡ Some (schedule file None (Some out))
+    → asked_in (p ∷ codes "schedule" ∷ file ∷ codes "--trace" ∷ out ∷ [])
+    ≡ Some (schedule file None (Some out))
 schedule_trace p file out f o =
     three_words p file (codes "--trace") out
-    ∙ ap (λ k. asked_at k (walk rules [] nothing_held (file ∷ codes "--trace" ∷ out ∷ []))) (trace_faults file out f o)
+    ∙ ap (λ k. asked_at k (walk rules [] nothing_held (file ∷ codes "--trace" ∷ out ∷ [])))
+    (trace_faults file out f o)
     ∙ ap (λ w. asked_at [] w) (trace_walk file out f o)
     ∙ trace_asked file out
 
@@ -163,7 +169,8 @@ after_both file list out =
     after_option rules (codes "trace") (held_at (after_picks file list) (codes "--trace")) 2 out
 
 both_walk : (file list out : Text) → IsWord file → IsWord list → IsWord out
-    → walk rules [] nothing_held (file ∷ codes "--picks" ∷ list ∷ codes "--trace" ∷ out ∷ []) ≡ after_both file list out
+    → walk rules [] nothing_held (file ∷ codes "--picks" ∷ list ∷ codes "--trace" ∷ out ∷ [])
+    ≡ after_both file list out
 unfolding clap_on_literals
 both_walk file list out f l o =
     ap (λ w. walked rules [] (walked rules [] w (codes "--trace")) out) (picks_walk file list f l)

@@ -1,12 +1,11 @@
 -- The words of a schedule with FILE alone.
-use Rattle.std.proofs.Common.{◌≡◌, ◌==◌, ℕ, List, [], ◌∷◌, false, true, Some, None, codes, refl, ap, ◌∙◌}
-use Rattle.std.specs.Prelude.{option_and_then}
+use Rattle.std.proofs.Common.{◌≡◌, ◌==◌, ℕ, [], ◌∷◌, false, true, Some, None, codes, refl}
 use Rattle.std.specs.Str.{bytes_eq}
 use Rattle.clap.specs.Lexer.{long_of, short_of}
 use Rattle.clap.specs.Words.{Text}
 use Rattle.clap.proofs.OnLiterals.{clap_on_literals}
-use Rattle.command_words.specs.CommandLine.{Asked, Work, asked_in, asked_of, events, is_plain, is_plainly_asked, plain_words, replay, schedule, work_for, work_in}
-use Rattle.command_words.proofs.Plain.{by_word, events_plain, replay_plain}
+use Rattle.command_words.specs.CommandLine.{asked_in, asked_of, is_plain, schedule}
+use Rattle.command_words.proofs.Plain.{by_word}
 
 -- none of the forms of an option
 abbrev pub IsWord : Text → Type 0

@@ -1,5 +1,5 @@
 -- Plain words ask for what they say.
-use Rattle.std.proofs.Common.{◌≡◌, ◌&&◌, Bool, true, List, Some, None, ap, ◌∙◌}
+use Rattle.std.proofs.Common.{◌≡◌, ◌&&◌, true, List, Some, None, ap, ◌∙◌}
 use Rattle.std.specs.Prelude.{option_and_then}
 use Rattle.std.proofs.lemmas.Bool.{and_parts}
 use Rattle.clap.specs.Words.{Text}
@@ -8,7 +8,8 @@ use Rattle.command_words.proofs.Plain.{events_plain, replay_plain}
 use Rattle.command_words.proofs.PlainSchedule.{schedule_alone, word}
 use Rattle.command_words.proofs.PlainOptions.{schedule_both, schedule_picks, schedule_trace}
 
-pub plainly : (p : Text) (asked : Asked) → is_plainly_asked asked ≡ true → asked_in (plain_words p asked) ≡ Some asked
+pub plainly : (p : Text) (asked : Asked) → is_plainly_asked asked ≡ true
+    → asked_in (plain_words p asked) ≡ Some asked
 plainly p (events file) plain = events_plain p file plain
 plainly p (replay file) plain = replay_plain p file plain
 plainly p (schedule file None None) plain =

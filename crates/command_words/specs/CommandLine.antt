@@ -50,7 +50,8 @@ bare_app = record (new_app (codes "phaser_run")) {
 
 abbrev pub program_app : App
 program_app =
-    with_subcommand (with_subcommand (with_subcommand bare_app events_app.top) schedule_app.top) replay_app.top
+    with_subcommand (with_subcommand (with_subcommand bare_app events_app.top) schedule_app.top)
+    replay_app.top
 
 -- ---- what words ask for
 
@@ -141,7 +142,8 @@ option_words name (Some value) = name ∷ value ∷ []
 abbrev pub plain_words : Text → Asked → List Text
 plain_words program (events file) = program ∷ codes "events" ∷ file ∷ []
 plain_words program (schedule file list out) =
-    program ∷ codes "schedule" ∷ file ∷ (option_words (codes "--picks") list ++ option_words (codes "--trace") out)
+    program ∷ codes "schedule" ∷ file
+    ∷ (option_words (codes "--picks") list ++ option_words (codes "--trace") out)
 plain_words program (replay file) = program ∷ codes "replay" ∷ file ∷ []
 
 -- no word is taken for an option

@@ -121,11 +121,12 @@ pub fn job_of<'a>(alloc: Global, arguments: &'a [&'a str]) -> Result<Job<'a>, No
     // It is named for no other reason.
     ensures list { IfErr result (λ e. e ≡ NoJob.BadList → (asked : Asked)
         × (asked_in (map (λ w. w.now) arguments.entry.now) ≡ Some asked) × (work_for asked ≡ None)) }
-    // So `events FILE` names that file, and the other commands theirs with the options after it, where no word of
-    // theirs looks like an option.
+    // So `events FILE` names that file, and the other commands theirs with the options after it,
+    // where no word of theirs looks like an option.
     ensures plain { (program : List ℕ) (asked : Asked) (work : Work)
         → map (λ w. w.now) arguments.entry.now ≡ plain_words program asked → is_plainly_asked asked ≡ true
-        → work_for asked ≡ Some work → MatchResult result (λ job. work_of job ≡ work) (λ e. e ≡ NoJob.Memory) }
+        → work_for asked ≡ Some work
+        → MatchResult result (λ job. work_of job ≡ work) (λ e. e ≡ NoJob.Memory) }
 {
     let words = words_of(alloc, arguments)?;
     job_for(alloc, words)

@@ -6,7 +6,6 @@ mod picks;
 mod words;
 
 pub use command_line::{Job, NoJob, job_of};
-pub use picks::{MOST_PICKS, picks_of};
 
 #[cfg(test)]
 mod tests;

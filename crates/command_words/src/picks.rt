@@ -9,7 +9,7 @@ use crate::command_line::NoJob;
 use std::alloc::Global;
 
 /// How many picks a list has at most.
-pub const MOST_PICKS: usize = 10_000;
+pub(crate) const MOST_PICKS: usize = 10_000;
 
 /// Whether each byte is a digit.
 fn is_digits(text: &str) -> bool
@@ -31,7 +31,7 @@ fn number_of(text: &str) -> Option<u32>
 }
 
 /// The picks that LIST spells.
-pub fn picks_of(alloc: Global, list: &str) -> Result<Vec<u32>, NoJob>
+pub(crate) fn picks_of(alloc: Global, list: &str) -> Result<Vec<u32>, NoJob>
     ensures picks { IfOk result (λ picks. picks_in list.now ≡ Some picks.items) }
     ensures none { IfErr result (IsOfList (picks_in list.now)) }
 {

@@ -1,7 +1,8 @@
 //! Words that name a job, and words that name none.
 mod bad_words;
 
-use crate::{Job, MOST_PICKS, NoJob, job_of, picks_of};
+use crate::picks::{MOST_PICKS, picks_of};
+use crate::{Job, NoJob, job_of};
 use std::alloc::Global;
 use std::process::Abort;
 use std::test::Fail;

@@ -186,7 +186,8 @@ fn words_among<'a>(name: &str, found: &ArgMatches<'a>) -> Option<Words<'a>>
 
 /// The command that the words name, with its words; the first is the program's own name.
 pub(crate) fn words_of<'a>(alloc: Global, arguments: &'a [&'a str]) -> Result<Words<'a>, NoJob>
-    ensures asked { IfOk result (λ words. asked_in (map (λ w. w.now) arguments.entry.now) ≡ Some (asked_by words)) }
+    ensures asked { IfOk result
+        (λ words. asked_in (map (λ w. w.now) arguments.entry.now) ≡ Some (asked_by words)) }
     // Words that name a command with its words are refused for want of memory alone.
     ensures named { (asked : Asked) → asked_in (map (λ w. w.now) arguments.entry.now) ≡ Some asked
         → MatchResult result (λ words. asked_by words ≡ asked) (λ e. e ≡ NoJob.Memory) }

@@ -18,7 +18,8 @@ done_returned h (Some r) room e plain = refl
 
 -- a `pass`, which adds a claim or a pass
 pub pass_returned : (h : List Event) (o : Option Refusal) (waiting room claims : Bool) (t : ℕ)
-    → pass_reply (pass_result h (settled o waiting room (if claims then Claim t else Pass t))) ≡ returned h (settled o waiting room (if claims then Claim t else Pass t))
+    → pass_reply (pass_result h (settled o waiting room (if claims then Claim t else Pass t)))
+    ≡ returned h (settled o waiting room (if claims then Claim t else Pass t))
 pass_returned h (Some r) waiting room claims t = refl
 pass_returned h None true room claims t = refl
 pass_returned h None false false claims t = refl
@@ -27,7 +28,8 @@ pass_returned h None false true false t = refl
 
 -- a `look`, which never waits
 pub look_returned : (h : List Event) (o : Option Refusal) (room : Bool) (t a : ℕ) (x : Look)
-    → look_reply (look_result (settled o false room (Looked t a x))) ≡ returned h (settled o false room (Looked t a x))
+    → look_reply (look_result (settled o false room (Looked t a x)))
+    ≡ returned h (settled o false room (Looked t a x))
 look_returned h (Some r) room t a x = refl
 look_returned h None true t a x = refl
 look_returned h None false t a x = refl

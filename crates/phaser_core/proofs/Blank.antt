@@ -11,12 +11,16 @@ use Rattle.acc_cells.specs.Cells.{Kept, StandsFor}
 use Rattle.phaser_core.specs.Line.{Lines}
 use Rattle.phaser_core.specs.Table.{IsState}
 
-blank_with : (l : Limits) (ops new : List Op) (h : List Event) (roll : Lines) (known : Numbers) (single : Option Statement) (old cells : Kept) → h ≡ []
+blank_with : (l : Limits) (ops new : List Op) (h : List Event) (roll : Lines) (known : Numbers)
+    (single : Option Statement) (old cells : Kept) → h ≡ []
     → IsState (record { limits = l; ops = ops; past = h }) roll known single old
-    → cells.ops ≡ new → cells.phases ≡ old.phases → cells.from ≡ old.from → cells.sums ≡ old.sums → StandsFor cells (λ a p. [])
+    → cells.ops ≡ new → cells.phases ≡ old.phases → cells.from ≡ old.from → cells.sums ≡ old.sums
+    → StandsFor cells (λ a p. [])
     → IsState (record { limits = l; ops = new; past = [] }) roll known single cells
 blank_with l ops new h roll known single old cells none i same phases from sums stands =
-    let j : IsState (record { limits = l; ops = ops; past = [] }) roll known single old = subst (λ (g : List Event). IsState (record { limits = l; ops = ops; past = g }) roll known single old) none i in
+    let j : IsState (record { limits = l; ops = ops; past = [] }) roll known single old =
+    subst (λ (g : List Event). IsState (record { limits = l; ops = ops; past = g }) roll known single old)
+    none i in
     record {
       stands = record {
         fit = j.stands.fit;
@@ -40,10 +44,13 @@ blank_with l ops new h roll known single old cells none i same phases from sums 
     }
 
 -- whatever the operators were, once new ones are fixed the state is that of a phaser with these
-pub blank_stands : (s : Story) (new : List Op) (roll : Lines) (known : Numbers) (single : Option Statement) (old cells : Kept) → s.past ≡ []
+pub blank_stands : (s : Story) (new : List Op) (roll : Lines) (known : Numbers) (single : Option Statement)
+    (old cells : Kept) → s.past ≡ []
     → IsState s roll known single old
-    → cells.ops ≡ new → cells.phases ≡ old.phases → cells.from ≡ old.from → cells.sums ≡ old.sums → StandsFor cells (λ a p. [])
+    → cells.ops ≡ new → cells.phases ≡ old.phases → cells.from ≡ old.from → cells.sums ≡ old.sums
+    → StandsFor cells (λ a p. [])
     → IsState (record { limits = s.limits; ops = new; past = s.past }) roll known single cells
 blank_stands s new roll known single old cells none i same phases from sums stands =
-    subst (λ (g : List Event). IsState (record { limits = s.limits; ops = new; past = g }) roll known single cells) (sym none)
+    subst (λ (g : List Event). IsState (record { limits = s.limits; ops = new; past = g }) roll known single
+    cells) (sym none)
     (blank_with s.limits s.ops new s.past roll known single old cells none i same phases from sums stands)

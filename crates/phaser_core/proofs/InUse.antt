@@ -4,13 +4,15 @@ use Rattle.std.specs.List.{insert, remove}
 use Rattle.std.proofs.lemmas.List.{length-take-le, take-append-drop, take_at}
 use Rattle.std.proofs.lemmas.List.Edits.{length-insert, length-remove, insert-append_left, remove-append_left}
 
-pub set_in_use : {X : Type 0} (n : ℕ) (xs : List X) (i : ℕ) (y : X) → take n (set xs i y) ≡ set (take n xs) i y
+pub set_in_use : {X : Type 0} (n : ℕ) (xs : List X) (i : ℕ) (y : X)
+    → take n (set xs i y) ≡ set (take n xs) i y
 set_in_use zero xs i y = refl
 set_in_use (suc n) [] i y = refl
 set_in_use (suc n) (x ∷ xs) zero y = refl
 set_in_use (suc n) (x ∷ xs) (suc i) y = ap (λ ys. x ∷ ys) (set_in_use n xs i y)
 
-pub insert_in_use : {X : Type 0} (n : ℕ) (xs : List X) (i : ℕ) (y : X) → i ≤ n → n ≤ length xs → take (n + 1) (insert xs i y) ≡ insert (take n xs) i y
+pub insert_in_use : {X : Type 0} (n : ℕ) (xs : List X) (i : ℕ) (y : X) → i ≤ n → n ≤ length xs
+    → take (n + 1) (insert xs i y) ≡ insert (take n xs) i y
 insert_in_use n xs i y inside within =
     let us = take n xs in
     let ds = drop n xs in
@@ -20,7 +22,8 @@ insert_in_use n xs i y inside within =
     ∙ (ap (λ ys. take (n + 1) ys) (insert-append_left us ds i y low)
     ∙ take_at (insert us i y) ds (n + 1) (omega (arith, length-insert us i y low, long)))
 
-pub remove_in_use : {X : Type 0} (n : ℕ) (xs : List X) (i : ℕ) → i < n → n ≤ length xs → take (n - 1) (remove xs i) ≡ remove (take n xs) i
+pub remove_in_use : {X : Type 0} (n : ℕ) (xs : List X) (i : ℕ) → i < n → n ≤ length xs
+    → take (n - 1) (remove xs i) ≡ remove (take n xs) i
 remove_in_use n xs i inside within =
     let us = take n xs in
     let ds = drop n xs in

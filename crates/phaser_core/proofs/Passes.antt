@@ -45,44 +45,73 @@ module _ (s : Story) (t : ℕ) where
   unknown a = rw a refl
 
   module _ (live : is_live t s.past ≡ true) where
-    pub not_signalled : (has_mode can_signal t s.past && not (signals t s.past == waits t s.past + 1)) ≡ true → reply s (pass t) ≡ refused NotSignalled
-    not_signalled b = rw (live, unless_not (has_mode can_signal t s.past) (signals t s.past == waits t s.past + 1) b) refl
+    pub not_signalled : (has_mode can_signal t s.past && not (signals t s.past == waits t s.past + 1)) ≡ true
+        → reply s (pass t) ≡ refused NotSignalled
+    not_signalled b =
+        rw (live, unless_not (has_mode can_signal t s.past) (signals t s.past == waits t s.past + 1) b) refl
 
-    module _ (signalled : (has_mode can_signal t s.past && not (signals t s.past == waits t s.past + 1)) ≡ false) where
+    module _ (signalled : (has_mode can_signal t s.past && not (signals t s.past == waits t s.past + 1))
+        ≡ false) where
       no_cause : first_refusal (conditions s.limits s.ops s.past (pass t)) ≡ None
-      no_cause = rw (live, unless (has_mode can_signal t s.past) (signals t s.past == waits t s.past + 1) signalled) refl
+      no_cause =
+          rw (
+            live,
+            unless (has_mode can_signal t s.past) (signals t s.past == waits t s.past + 1) signalled,
+          ) refl
 
       -- the task claims
-      pub claims : is_permitted s.limits s.ops s.past (Claim t) ≡ true → reply s (pass t) ≡ settled None false (has_room s.limits (Claim t ∷ s.past)) (Claim t)
+      pub claims : is_permitted s.limits s.ops s.past (Claim t) ≡ true
+          → reply s (pass t) ≡ settled None false (has_room s.limits (Claim t ∷ s.past)) (Claim t)
       claims c =
           let event_is : event_for s.limits s.ops s.past (pass t) ≡ Claim t = rw c refl in
           let held : must_wait s.limits s.ops s.past (pass t) ≡ false =
-          ap (λ b. has_mode can_wait t s.past && not (is_permitted s.limits s.ops s.past (Pass t)) && not b) c ∙ claims_now (has_mode can_wait t s.past) (is_permitted s.limits s.ops s.past (Pass t))
+          ap (λ b. has_mode can_wait t s.past && not (is_permitted s.limits s.ops s.past (Pass t)) && not b) c
+          ∙ claims_now (has_mode can_wait t s.past) (is_permitted s.limits s.ops s.past (Pass t))
           in
           reply_by s (pass t) None false (Claim t) no_cause held event_is
 
       module _ (no_claim : is_permitted s.limits s.ops s.past (Claim t) ≡ false) where
-        may_pass_is : is_permitted s.limits s.ops s.past (Pass t) ≡ (not (has_mode can_wait t s.past) || (is_closed (waits t s.past) s.past && is_settled (waits t s.past) s.past))
-        may_pass_is = rw (live, unless (has_mode can_signal t s.past) (signals t s.past == waits t s.past + 1) signalled) refl
+        may_pass_is : is_permitted s.limits s.ops s.past (Pass t)
+            ≡ (not (has_mode can_wait t s.past)
+            || (is_closed (waits t s.past) s.past && is_settled (waits t s.past) s.past))
+        may_pass_is =
+            rw (
+              live,
+              unless (has_mode can_signal t s.past) (signals t s.past == waits t s.past + 1) signalled,
+            ) refl
 
         event_is : event_for s.limits s.ops s.past (pass t) ≡ Pass t
         event_is = rw no_claim refl
 
-        held_by : (b : Bool) → (has_mode can_wait t s.past && not (not (has_mode can_wait t s.past) || (is_closed (waits t s.past) s.past && is_settled (waits t s.past) s.past)) && not false) ≡ b
+        held_by : (b : Bool)
+            → (has_mode can_wait t s.past
+            && not (not (has_mode can_wait t s.past)
+            || (is_closed (waits t s.past) s.past && is_settled (waits t s.past) s.past)) && not false) ≡ b
             → must_wait s.limits s.ops s.past (pass t) ≡ b
         held_by b k =
-            ap (λ v. has_mode can_wait t s.past && not v && not (is_permitted s.limits s.ops s.past (Claim t))) may_pass_is
-            ∙ (ap (λ v. has_mode can_wait t s.past && not (not (has_mode can_wait t s.past) || (is_closed (waits t s.past) s.past && is_settled (waits t s.past) s.past)) && not v) no_claim ∙ k)
+            ap (λ v. has_mode can_wait t s.past && not v
+            && not (is_permitted s.limits s.ops s.past (Claim t))) may_pass_is
+            ∙ (ap (λ v. has_mode can_wait t s.past
+            && not (not (has_mode can_wait t s.past)
+            || (is_closed (waits t s.past) s.past && is_settled (waits t s.past) s.past)) && not v)
+            no_claim ∙ k)
 
         -- the phase is open, or its single is
-        pub waiting : (has_mode can_wait t s.past && not (is_closed (waits t s.past) s.past && is_settled (waits t s.past) s.past)) ≡ true → reply s (pass t) ≡ not_yet
+        pub waiting : (has_mode can_wait t s.past
+            && not (is_closed (waits t s.past) s.past && is_settled (waits t s.past) s.past)) ≡ true
+            → reply s (pass t) ≡ not_yet
         waiting o =
             reply_by s (pass t) None true (Pass t) no_cause
-            (held_by true (waits_still (has_mode can_wait t s.past) (is_closed (waits t s.past) s.past && is_settled (waits t s.past) s.past) o)) event_is
+            (held_by true
+            (waits_still (has_mode can_wait t s.past)
+            (is_closed (waits t s.past) s.past && is_settled (waits t s.past) s.past) o)) event_is
 
         -- nothing holds the task up
-        pub free : (has_mode can_wait t s.past && not (is_closed (waits t s.past) s.past && is_settled (waits t s.past) s.past)) ≡ false
+        pub free : (has_mode can_wait t s.past
+            && not (is_closed (waits t s.past) s.past && is_settled (waits t s.past) s.past)) ≡ false
             → reply s (pass t) ≡ settled None false (has_room s.limits (Pass t ∷ s.past)) (Pass t)
         free o =
             reply_by s (pass t) None false (Pass t) no_cause
-            (held_by false (waits_not (has_mode can_wait t s.past) (is_closed (waits t s.past) s.past && is_settled (waits t s.past) s.past) o)) event_is
+            (held_by false
+            (waits_not (has_mode can_wait t s.past)
+            (is_closed (waits t s.past) s.past && is_settled (waits t s.past) s.past) o)) event_is

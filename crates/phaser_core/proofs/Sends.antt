@@ -21,7 +21,8 @@ module _ (s : Story) (t a : ℕ) (v : ℤ) where
       pub no_accumulator : nat_lt a (length s.ops) ≡ false → reply s (send t a v) ≡ refused NoAccumulator
       no_accumulator k = rw (live, signaller, k) refl
 
-      pub free : nat_lt a (length s.ops) ≡ true → reply s (send t a v) ≡ settled None false (has_room s.limits (Send t a v ∷ s.past)) (Send t a v)
+      pub free : nat_lt a (length s.ops) ≡ true
+          → reply s (send t a v) ≡ settled None false (has_room s.limits (Send t a v ∷ s.past)) (Send t a v)
       free k = rw (live, signaller, k) refl
 
 module _ (s : Story) (t a : ℕ) where
@@ -41,5 +42,8 @@ module _ (s : Story) (t a : ℕ) where
         no_phase_yet k = rw (live, waiter, fits, k) refl
 
         pub free_look : nat_lt 0 (waits t s.past) ≡ true
-            → reply s (look t a) ≡ settled None false (has_room s.limits (Looked t a (look_of s.ops a (waits t s.past) s.past) ∷ s.past)) (Looked t a (look_of s.ops a (waits t s.past) s.past))
+            → reply s (look t a)
+            ≡ settled None false
+            (has_room s.limits (Looked t a (look_of s.ops a (waits t s.past) s.past) ∷ s.past))
+            (Looked t a (look_of s.ops a (waits t s.past) s.past))
         free_look k = rw (live, waiter, fits, k) refl

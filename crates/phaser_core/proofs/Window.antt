@@ -33,10 +33,16 @@ live_before u t h live =
     neither false b k = k
 
 -- what no waiter may read, none may read later
-read_stays : (l : Limits) (ops : List Op) (from : ℕ) (e : Event) (h : List Event) → is_legal l ops (e ∷ h) ≡ true → IsWindow from h
-    → (t p : ℕ) → is_live t (e ∷ h) ≡ true → has_mode can_wait t (e ∷ h) ≡ true → p < from → p + 1 < waits t (e ∷ h)
+read_stays : (l : Limits) (ops : List Op) (from : ℕ) (e : Event) (h : List Event)
+    → is_legal l ops (e ∷ h) ≡ true → IsWindow from h
+    → (t p : ℕ) → is_live t (e ∷ h) ≡ true → has_mode can_wait t (e ∷ h) ≡ true → p < from
+    → p + 1 < waits t (e ∷ h)
 read_stays l ops from (Make u m) h k w t p live able near =
-    absurd (omega (arith, near, w.begun (and_parts (is_empty h) (nat_lt u l.tasks) (last_follows l ops h (Make u m) k).permitted).0))
+    absurd (omega (
+      arith,
+      near,
+      w.begun (and_parts (is_empty h) (nat_lt u l.tasks) (last_follows l ops h (Make u m) k).permitted).0,
+    ))
 read_stays l ops from (Joined q u m) h k w t p live able near =
     let f = reg_follows l ops h q u m (last_follows l ops h (Joined q u m) k).permitted in
     elim (cases_Bool (u == t)) [
@@ -50,7 +56,8 @@ read_stays l ops from (Drop u) h k w t p live able near = w.read t p (live_befor
 read_stays l ops from e h k w t p live able near = w.read t p live able near
 
 -- a window stays one after each event
-pub window_stays : (l : Limits) (ops : List Op) (from : ℕ) (e : Event) (h : List Event) → is_legal l ops (e ∷ h) ≡ true → IsWindow from h → IsWindow from (e ∷ h)
+pub window_stays : (l : Limits) (ops : List Op) (from : ℕ) (e : Event) (h : List Event)
+    → is_legal l ops (e ∷ h) ≡ true → IsWindow from h → IsWindow from (e ∷ h)
 window_stays l ops from e h k w = record {
   begun = λ none. absurd (false≢true none);
   read = read_stays l ops from e h k w;
@@ -63,14 +70,22 @@ window_stays l ops from e h k w = record {
 
 -- the window of a new phaser
 pub window_new : IsWindow 0 []
-window_new = record { begun = λ none. refl; read = λ t p live able near. absurd (omega (arith, near)); signalled = λ t live able. omega arith }
+window_new =
+    record {
+      begun = λ none. refl;
+      read = λ t p live able near. absurd (omega (arith, near));
+      signalled =
+          λ t live able. omega arith;
+    }
 
 -- a signaller's phase isn't given up
-pub kept_signaller : (from : ℕ) (h : List Event) (t : ℕ) → IsWindow from h → is_live t h ≡ true → has_mode can_signal t h ≡ true → from ≤ signals t h
+pub kept_signaller : (from : ℕ) (h : List Event) (t : ℕ) → IsWindow from h → is_live t h ≡ true
+    → has_mode can_signal t h ≡ true → from ≤ signals t h
 kept_signaller from h t w live able = w.signalled t live able
 
 -- nor is a waiter's
-pub kept_waiter : (from : ℕ) (h : List Event) (t : ℕ) → IsWindow from h → is_live t h ≡ true → has_mode can_wait t h ≡ true → from ≤ waits t h
+pub kept_waiter : (from : ℕ) (h : List Event) (t : ℕ) → IsWindow from h → is_live t h ≡ true
+    → has_mode can_wait t h ≡ true → from ≤ waits t h
 kept_waiter from h t w live able =
     elim (cases_lt 0 from) [
       | inl some ↦ omega (arith, w.read t (from - 1) live able (omega (arith, some)))
@@ -96,29 +111,42 @@ needed_kept from h p w needed =
     let parts = and_parts (has_mode can_wait t h) (nat_le (waits t h) (p + 1)) reader.2 in
     elim (cases_lt p from) [
       | inr kept ↦ kept
-      | inl given_up ↦ absurd (omega (arith, w.read t p (sym (has-live_tasks t h) ∙ reader.1) parts.0 given_up, leb-true (waits t h) (p + 1) parts.1))
+      | inl given_up ↦
+          absurd (omega (
+            arith,
+            w.read t p (sym (has-live_tasks t h) ∙ reader.1) parts.0 given_up,
+            leb-true (waits t h) (p + 1) parts.1,
+          ))
     ]
 
--- the window once the phases below n are given up, which each waiter of the table has passed, and n itself too
+-- the window once the phases below n are given up, which each waiter of the table has passed, and n itself
+-- too
 module _ (s : Story) (table : List Entry) (single : Option Statement) (stands : Stands s table single) where
   -- a live waiter has passed what the table's waiters have
-  passed_at : (n : ℕ) → list_all (λ e. has_passed n e.reg) table ≡ true → (t : ℕ) → is_live t s.past ≡ true → has_mode can_wait t s.past ≡ true → n < waits t s.past
+  passed_at : (n : ℕ) → list_all (λ e. has_passed n e.reg) table ≡ true → (t : ℕ) → is_live t s.past ≡ true
+      → has_mode can_wait t s.past ≡ true → n < waits t s.past
   passed_at n all t live able =
       let h = s.past in
       let ts = tasks_of table in
       let each : list_all (λ u. has_passed n (reg_of u h)) ts ≡ true =
-      sym (ap (λ xs. list_all (λ e. has_passed n e.reg) xs) stands.rows ∙ list_all-map (λ e. has_passed n e.reg) (entry_of h) ts) ∙ all
+      sym (ap (λ xs. list_all (λ e. has_passed n e.reg) xs) stands.rows
+      ∙ list_all-map (λ e. has_passed n e.reg) (entry_of h) ts) ∙ all
       in
-      let here : has_passed n (reg_of t h) ≡ true = all_at (λ u. has_passed n (reg_of u h)) ts t each (stands.who t ∙ live) in
-      ltb-true n (waits t h) (implied (can_wait (reg_of t h).mode) (nat_lt n (waits t h)) here (sym (mode_of_live t h live can_wait) ∙ able))
+      let here : has_passed n (reg_of t h) ≡ true =
+      all_at (λ u. has_passed n (reg_of u h)) ts t each (stands.who t ∙ live) in
+      ltb-true n (waits t h)
+      (implied (can_wait (reg_of t h).mode) (nat_lt n (waits t h)) here
+      (sym (mode_of_live t h live can_wait) ∙ able))
 
   -- and there is one, where the table has one
-  waiter_at : (n : ℕ) → list_any (λ e. is_waiter_past n e.reg) table ≡ true → (t : ℕ) × (is_live t s.past ≡ true) × (has_mode can_wait t s.past ≡ true) × (n < waits t s.past)
+  waiter_at : (n : ℕ) → list_any (λ e. is_waiter_past n e.reg) table ≡ true
+      → (t : ℕ) × (is_live t s.past ≡ true) × (has_mode can_wait t s.past ≡ true) × (n < waits t s.past)
   waiter_at n some =
       let h = s.past in
       let ts = tasks_of table in
       let one : list_any (λ u. is_waiter_past n (reg_of u h)) ts ≡ true =
-      sym (ap (λ xs. list_any (λ e. is_waiter_past n e.reg) xs) stands.rows ∙ list_any-map (λ e. is_waiter_past n e.reg) (entry_of h) ts) ∙ some
+      sym (ap (λ xs. list_any (λ e. is_waiter_past n e.reg) xs) stands.rows
+      ∙ list_any-map (λ e. is_waiter_past n e.reg) (entry_of h) ts) ∙ some
       in
       let who = any_of (λ u. is_waiter_past n (reg_of u h)) ts one in
       let t = who.0 in
@@ -126,7 +154,9 @@ module _ (s : Story) (table : List Entry) (single : Option Statement) (stands : 
       let parts = and_parts (can_wait (reg_of t h).mode) (nat_lt n (waits t h)) who.2 in
       (t, live, mode_of_live t h live can_wait ∙ parts.0, ltb-true n (waits t h) parts.1)
 
-  pub window_released : (from n : ℕ) → IsWindow from s.past → (0 < n → list_all (λ e. has_passed n e.reg) table ≡ true) → (0 < n → list_any (λ e. is_waiter_past n e.reg) table ≡ true)
+  pub window_released : (from n : ℕ) → IsWindow from s.past
+      → (0 < n → list_all (λ e. has_passed n e.reg) table ≡ true)
+      → (0 < n → list_any (λ e. is_waiter_past n e.reg) table ≡ true)
       → IsWindow (max from n) s.past
   window_released from n w all some =
       elim (cases_lt from n) [
@@ -137,7 +167,9 @@ module _ (s : Story) (table : List Entry) (single : Option Statement) (stands : 
             let is : n ≡ max from n = omega (arith, more) in
             let pos : 0 < n = omega (arith, more) in
             let who = waiter_at n (some pos) in
-            let closed = (over_behind s.limits s.ops s.past stands.legal who.0 (n - 1) who.2 (omega (arith, who.3, pos))).closed in
+            let closed =
+            (over_behind s.limits s.ops s.past stands.legal who.0 (n - 1) who.2
+            (omega (arith, who.3, pos))).closed in
             subst (λ m. IsWindow m s.past) is (record {
               begun = λ none. absurd (false≢true (sym (some_live who.0 s.past who.1) ∙ none));
               read = λ t p live able near. omega (arith, passed_at n (all pos) t live able, near);

@@ -13,9 +13,11 @@ use Rattle.phaser_core.specs.Answers.{made_with}
 abbrev pub unmade : Limits → List Op → Story
 unmade l ops = record { limits = l; ops = ops; past = [] }
 
--- both ways of making a phaser are answered alike, and where it is made, both leave the same limits, operators and history
+-- both ways of making a phaser are answered alike, and where it is made, both leave the same limits,
+-- operators and history
 abbrev pub BothMakeAlike : Type 0
 BothMakeAlike = (l : Limits) (ops : List Op) (t : ℕ) (m : Mode)
     → (reply (unmade l ops) (make t m) ≡ reply (unmade l []) (make t m))
     × ((e : Event) → reply (unmade l ops) (make t m) ≡ done e
-    → after (unmade l ops) (reply (unmade l ops) (make t m)) ≡ made_with (unmade l []) ops (reply (unmade l []) (make t m)))
+    → after (unmade l ops) (reply (unmade l ops) (make t m))
+    ≡ made_with (unmade l []) ops (reply (unmade l []) (make t m)))

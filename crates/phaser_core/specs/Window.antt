@@ -15,7 +15,8 @@ may_read p h t = has_mode can_wait t h && nat_le (waits t h) (p + 1)
 abbrev pub is_needed : ℕ → List Event → Bool
 is_needed p h = list_any (may_read p h) (live_tasks h)
 
--- the cells of the phases below from may be given up: no live task may look at them, and each live signaller has signalled them
+-- the cells of the phases below from may be given up: no live task may look at them, and each live signaller
+-- has signalled them
 pub record IsWindow (from : ℕ) (h : List Event) : Type 0 where
   pub begun : is_empty h ≡ true → from ≡ 0
   pub read : (t p : ℕ) → is_live t h ≡ true → has_mode can_wait t h ≡ true → p < from → p + 1 < waits t h

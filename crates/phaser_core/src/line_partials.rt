@@ -13,7 +13,7 @@ use std::marker::Model;
 
 /// A partial for each line, in the order of the lines. Contracts see their cells.
 #[derive(Drop)]
-pub struct LinePartials {
+pub(crate) struct LinePartials {
     /// How many lines there are.
     used: usize,
     /// The partials of the lines, and then empty ones.
@@ -34,7 +34,7 @@ impl Model for LinePartials {
 
 impl LinePartials {
     /// No line's. Memory for those of all lines is taken here; `Memory` where it is refused.
-    pub fn new(alloc: Global) -> Result<LinePartials, Refusal>
+    pub(crate) fn new(alloc: Global) -> Result<LinePartials, Refusal>
         ensures empty { IfOk result (λ p. p ≡ []) }
         ensures memory { IfErr result (λ r. r ≡ Refusal.Memory) }
     {
@@ -43,7 +43,7 @@ impl LinePartials {
     }
 
     /// Puts an empty partial at the place of a new line.
-    pub fn insert(&mut self, place: usize)
+    pub(crate) fn insert(&mut self, place: usize)
         requires room { length self.old < 256 }
         requires place { place ≤ length self.old }
         ensures { self.new ≡ insert self.old place no_partial }
@@ -57,7 +57,7 @@ impl LinePartials {
     }
 
     /// Takes the partial of a line out that goes. It is empty.
-    pub fn remove(&mut self, place: usize)
+    pub(crate) fn remove(&mut self, place: usize)
         requires place { place < length self.old }
         requires empty { slice_index_or self.old place no_partial ≡ no_partial }
         ensures { self.new ≡ remove self.old place }
@@ -69,19 +69,20 @@ impl LinePartials {
     }
 
     /// Keeps a value that the task of a line sends.
-    pub fn send(&mut self, place: usize, accumulator: u8, value: i32)
+    pub(crate) fn send(&mut self, place: usize, accumulator: u8, value: i32)
         requires place { place < length self.old }
         requires accumulator { accumulator < 4 }
         requires room { held (slice_index_or self.old place no_partial) < 65536 }
         ensures { self.new
-            ≡ slice_set self.old place (partial_with accumulator value (slice_index_or self.old place no_partial)) }
+            ≡ slice_set self.old place
+            (partial_with accumulator value (slice_index_or self.old place no_partial)) }
     {
         let partial = &mut self.all[place];
         partial.send(accumulator, value);
     }
 
     /// Folds what the task of a line sent into the cells of a phase.
-    pub fn fold(&mut self, place: usize, phase: u32, cells: &mut Cells)
+    pub(crate) fn fold(&mut self, place: usize, phase: u32, cells: &mut Cells)
         requires place { place < length self.old }
         requires phase { phase < cells.old.phases }
         requires kept { cells.old.from ≤ phase }
@@ -94,7 +95,8 @@ impl LinePartials {
         ensures from { cells.new.from ≡ cells.old.from }
         ensures sums { cells.new.sums ≡ sums_taken (slice_index_or self.old place no_partial) cells.old.sums }
         ensures cells { (values : ℕ → ℕ → List ℤ) → (mine : ℕ → List ℤ) → StandsFor cells.old values
-            → Holds (slice_index_or self.old place no_partial) mine → StandsFor cells.new (with_taken phase mine values) }
+            → Holds (slice_index_or self.old place no_partial) mine
+            → StandsFor cells.new (with_taken phase mine values) }
     {
         let partial = &mut self.all[place];
         cells.take_in(phase, partial);

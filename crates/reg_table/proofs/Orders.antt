@@ -6,7 +6,8 @@ use Rattle.std.specs.declared.cmp.Ordering.TheVariants.{Less, Equal, Greater}
 use Rattle.std.proofs.lemmas.Bool.{ne_eqb}
 
 -- numbers that don't compare as equal are two
-pub other_number : (o : Ordering) (a b : ℕ) → MatchOrdering o (a < b) (a ≡ b) (b < a) → (o ≡ Equal → ⊥) → (a == b) ≡ false
+pub other_number : (o : Ordering) (a b : ℕ) → MatchOrdering o (a < b) (a ≡ b) (b < a) → (o ≡ Equal → ⊥)
+    → (a == b) ≡ false
 other_number Less a b less not_equal = ne_eqb a b (λ same. omega (arith, less, same))
 other_number Equal a b same not_equal = absurd (not_equal refl)
 other_number Greater a b more not_equal = ne_eqb a b (λ same. omega (arith, more, same))

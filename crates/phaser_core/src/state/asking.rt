@@ -1,4 +1,5 @@
-//! What a call would be answered, for whoever has to know before it is made. Nothing is changed here.
+//! What a call would be answered, for whoever has to know before it is made. Nothing is changed
+//! here.
 ghost use Rattle.std.specs.Prelude.{◌≡◌, IfOk, IfErr};
 ghost use Rattle.phase_model.specs.Replies.{reply, returned};
 ghost use Rattle.phaser_core.specs.Outcomes.{turn_reply};

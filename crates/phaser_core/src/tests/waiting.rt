@@ -1,5 +1,5 @@
-//! Who waits: the first of two tasks has signalled and the second hasn't, then both have. What calls
-//! would be answered is asked before.
+//! Who waits: the first of two tasks has signalled and the second hasn't, then both have. What
+//! calls would be answered is asked before.
 use super::*;
 use std::test::Fail;
 

@@ -5,4 +5,8 @@ use Rattle.acc_cells.specs.Cells.{empty_cell}
 use Rattle.acc_cells.proofs.cells.fill.Given as goal
 
 abbrev pub invariant-loop : goal.invariant-loop
-invariant-loop l = record { filled : l.cells.items ≡ replicate l.counter empty_cell; capacity : vec_capacity l.cells ≡ vec_capacity l.initial.cells }
+invariant-loop l =
+    record {
+      filled : l.cells.items ≡ replicate l.counter empty_cell;
+      capacity : vec_capacity l.cells ≡ vec_capacity l.initial.cells;
+    }

@@ -10,7 +10,8 @@ use Rattle.command_words.proofs.picks.picks_of.Goals as goal
 pub returns-in_default-clause-none : goal.returns-in_default-clause-none
 returns-in_default-clause-none c =
     let next =
-    YieldsList-turn (YieldsList-from_str_split 44 c.args.list.now (omega arith) (cc) (cc) (cc)) c.loop-piece.yielded _
+    YieldsList-turn (YieldsList-from_str_split 44 c.args.list.now (omega arith) (cc) (cc) (cc))
+    c.loop-piece.yielded _
     c.loop-piece.yielded_by _ _ c.in-Some.piece c.in-Some.is c.next.ensures.steps in
     inr (
       refl,
@@ -21,7 +22,8 @@ returns-in_default-clause-none c =
 pub returns-then-len-eq-MOST_PICKS-clause-none : goal.returns-then-len-eq-MOST_PICKS-clause-none
 returns-then-len-eq-MOST_PICKS-clause-none c =
     let next =
-    YieldsList-turn (YieldsList-from_str_split 44 c.args.list.now (omega arith) (cc) (cc) (cc)) c.loop-piece.yielded _
+    YieldsList-turn (YieldsList-from_str_split 44 c.args.list.now (omega arith) (cc) (cc) (cc))
+    c.loop-piece.yielded _
     c.loop-piece.yielded_by _ _ c.in-Some.piece c.in-Some.is c.next.ensures.steps in
     inr (
       refl,
@@ -39,7 +41,8 @@ returns-then-len-eq-MOST_PICKS-clause-none c =
 pub loop-piece-preserved : goal.loop-piece-preserved
 loop-piece-preserved c =
     let next =
-    YieldsList-turn (YieldsList-from_str_split 44 c.args.list.now (omega arith) (cc) (cc) (cc)) c.loop-piece.yielded _
+    YieldsList-turn (YieldsList-from_str_split 44 c.args.list.now (omega arith) (cc) (cc) (cc))
+    c.loop-piece.yielded _
     c.loop-piece.yielded_by _ _ c.in-Some.piece c.in-Some.is c.next.ensures.steps in
     let more =
     one_more c.args.list.now (length c.loop-piece.yielded) c.loop-piece.picks.items c.in-Some.piece.now
@@ -53,7 +56,8 @@ loop-piece-preserved c =
       c.if-len-eq-MOST_PICKS.false,
       c.loop-piece.picks.ok,
     )) in
-    let items : c.push.new.self.items ≡ c.loop-piece.picks.items ++ c.in-Some-number_of.pick ∷ [] = search rules in
+    let items : c.push.new.self.items ≡ c.loop-piece.picks.items ++ c.in-Some-number_of.pick ∷ [] =
+    search rules in
     record {
       next = tt;
       finite = tt;
@@ -63,6 +67,8 @@ loop-piece-preserved c =
 pub returns-clause-picks : goal.returns-clause-picks
 returns-clause-picks c =
     let end =
-    YieldsList-end (YieldsList-from_str_split 44 c.args.list.now (omega arith) (cc) (cc) (cc)) c.loop-piece.yielded _
+    YieldsList-end (YieldsList-from_str_split 44 c.args.list.now (omega arith) (cc) (cc) (cc))
+    c.loop-piece.yielded _
     c.loop-piece.yielded_by _ _ c.in-None.is c.next.ensures.steps in
-    all_read c.args.list.now (length c.loop-piece.yielded) c.loop-piece.picks.items c.loop-piece.invariant.read end.1
+    all_read c.args.list.now (length c.loop-piece.yielded) c.loop-piece.picks.items
+    c.loop-piece.invariant.read end.1

@@ -30,8 +30,10 @@ returns-in_ok-get_str-in-schedule c =
     let is = among_schedule c.args.name.now (rows_of (found_of c.args.found.now))
     (option_map (λ s. s.now) c.get_str-in-schedule.result) c.in-schedule.is
     (c.get_str-in-schedule.ensures ∙ first_value-rows (found_of c.args.found.now) (codes "file")) in
-    let picks = c.get_str-in-schedule-2.ensures ∙ first_value-rows (found_of c.args.found.now) (codes "picks") in
-    let trace = c.get_str-in-schedule-3.ensures ∙ first_value-rows (found_of c.args.found.now) (codes "trace") in
+    let picks =
+    c.get_str-in-schedule-2.ensures ∙ first_value-rows (found_of c.args.found.now) (codes "picks") in
+    let trace =
+    c.get_str-in-schedule-3.ensures ∙ first_value-rows (found_of c.args.found.now) (codes "trace") in
     search (rules, is, picks, trace)
 
 pub returns-in_err-get_str-in-replay : goal.returns-in_err-get_str-in-replay

@@ -1,7 +1,6 @@
 -- What the subcommand that `clap` found is asked for is what the arguments ask for.
-use Rattle.std.proofs.Common.{◌≡◌, Some, None, ap, map, sym, ◌∙◌}
-use Rattle.clap.specs.Words.{found_of, is_simple_and_free, rows_of}
-use Rattle.command_words.specs.CommandLine.{asked_in}
+use Rattle.std.proofs.Common.{ap, map, sym, ◌∙◌}
+use Rattle.clap.specs.Words.{is_simple_and_free}
 use Rattle.command_words.proofs.Named.{entered_at, entered_words, fault_at, memory_alone, named_words, words_named}
 use Rattle.command_words.proofs.words.words_of.Goals as goal
 

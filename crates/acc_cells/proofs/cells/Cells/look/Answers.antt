@@ -14,7 +14,10 @@ returns c = λ values stands.
     let place = c.place.result in
     let op : Op = get_or k.ops a Sum in
     let known : slice_get k.ops a ≡ Some op = slice_get-get_or k.ops a Sum c.requires.accumulator in
-    let read : cell ≡ get_or k.cells place cell = c.index-cell.ensures ∙ ap (λ (x : Kept). get_or x.cells place cell) c.self.view_is in
+    let read : cell ≡ get_or k.cells place cell =
+    c.index-cell.ensures ∙ ap (λ (x : Kept). get_or x.cells place cell) c.self.view_is in
     let here = cell_read k a c.args.phase place cell c.place.ensures.place c.place.ensures.within read in
-    let same : get_or c.as_slice.result.now a Sum ≡ op = ap (λ xs. get_or xs a Sum) c.as_slice.ensures ∙ ap (λ (x : Kept). get_or x.ops a Sum) c.self.view_is in
-    ap (λ l. Some l) (c.fold.ensures ∙ ap (λ o. fold_of_cell o cell) same) ∙ folds_at k values a c.args.phase op cell c.requires.phase c.requires.kept known here stands
+    let same : get_or c.as_slice.result.now a Sum ≡ op = ap (λ xs. get_or xs a Sum) c.as_slice.ensures
+    ∙ ap (λ (x : Kept). get_or x.ops a Sum) c.self.view_is in
+    ap (λ l. Some l) (c.fold.ensures ∙ ap (λ o. fold_of_cell o cell) same)
+    ∙ folds_at k values a c.args.phase op cell c.requires.phase c.requires.kept known here stands

@@ -7,7 +7,8 @@ use Rattle.acc_cells.proofs.Taking.{taken_more, taken_values, held_within, taken
 use Rattle.acc_cells.proofs.cells.Cells.take_cells.Goals as goal
 
 -- the cell that is taken next
-here : (cs : List Cell) (a n : ℕ) → length cs ≡ 4 → a < n → n ≤ 4 → slice_get cs a ≡ Some (get_or cs a empty_cell)
+here : (cs : List Cell) (a n : ℕ) → length cs ≡ 4 → a < n → n ≤ 4
+    → slice_get cs a ≡ Some (get_or cs a empty_cell)
 here cs a n four near few = slice_get-get_or cs a empty_cell (omega (arith, four, near, few))
 
 pub join-requires-clause-room : goal.join-requires-clause-room
@@ -17,12 +18,14 @@ join-requires-clause-room c =
     let a = l.accumulator in
     let n = c.args.accumulators in
     let cell : Cell = get_or cs a empty_cell in
-    let four : length cs ≡ 4 = ap (λ (xs : List Cell). length xs) c.take-cells.ensures.cells ∙ c.take-cells.ensures.four in
+    let four : length cs ≡ 4 =
+    ap (λ (xs : List Cell). length xs) c.take-cells.ensures.cells ∙ c.take-cells.ensures.four in
     let at = here cs a n four c.loop-accumulator-test.true c.requires.four in
     let so_far : l.self.sums.values ≡ c.args.self.now.sums.values + held (take a cs) =
     ap (λ (s : Sums). s.values) l.invariant.sums ∙ taken_values (take a cs) c.args.self.now.sums
     in
-    let all : held cs ≡ held c.args.partial.now = ap (λ (xs : List Cell). held xs) c.take-cells.ensures.cells in
+    let all : held cs ≡ held c.args.partial.now =
+    ap (λ (xs : List Cell). held xs) c.take-cells.ensures.cells in
     omega (arith, so_far, held_within cs a cell at, all, c.requires.room)
 
 pub loop-accumulator-preserved : goal.loop-accumulator-preserved
@@ -33,7 +36,8 @@ loop-accumulator-preserved c =
     let n = c.args.accumulators in
     let p = c.args.phase in
     let cell : Cell = get_or cs a empty_cell in
-    let four : length cs ≡ 4 = ap (λ (xs : List Cell). length xs) c.take-cells.ensures.cells ∙ c.take-cells.ensures.four in
+    let four : length cs ≡ 4 =
+    ap (λ (xs : List Cell). length xs) c.take-cells.ensures.cells ∙ c.take-cells.ensures.four in
     let at = here cs a n four c.loop-accumulator-test.true c.requires.four in
     let next : a + 1 ≡ suc a = omega arith in
     record {
@@ -42,10 +46,16 @@ loop-accumulator-preserved c =
       room = c.join.ensures.room ∙ l.invariant.room;
       phases = c.join.ensures.phases ∙ l.invariant.phases;
       from = c.join.ensures.from ∙ l.invariant.from;
-      sums = c.join.ensures.sums ∙ (ap (λ (s : Sums). sums_joined cell s) l.invariant.sums ∙ (sym (taken_more cs a cell c.args.self.now.sums at) ∙ ap (λ m. sums_taken (take m cs) c.args.self.now.sums) (sym next)));
+      sums = c.join.ensures.sums
+          ∙ (ap (λ (s : Sums). sums_joined cell s) l.invariant.sums
+          ∙ (sym (taken_more cs a cell c.args.self.now.sums at)
+          ∙ ap (λ m. sums_taken (take m cs) c.args.self.now.sums) (sym next)));
       cells = λ values mine stands holds b q in_ops in_phases in_window.
-          let is : cell ≡ tally (mine a) = same_Some cell (tally (mine a)) (sym at ∙ holds a (omega (arith, c.loop-accumulator-test.true, c.requires.four))) in
-          c.join.ensures.cells (with_first_taken a p mine values) (mine a) (l.invariant.cells values mine stands holds) is b q in_ops in_phases in_window
+          let is : cell ≡ tally (mine a) =
+          same_Some cell (tally (mine a))
+          (sym at ∙ holds a (omega (arith, c.loop-accumulator-test.true, c.requires.four))) in
+          c.join.ensures.cells (with_first_taken a p mine values) (mine a)
+          (l.invariant.cells values mine stands holds) is b q in_ops in_phases in_window
           ∙ ap (λ (vs : List ℤ). Some (tally vs)) (first_taken_more a p mine values b q);
     }
 
@@ -59,6 +69,7 @@ returns-clause-sums c =
     taken_rest cs l.accumulator s
     (λ b far near.
     ap (λ (xs : List Cell). slice_get xs b) same
-    ∙ c.requires.known b (omega (arith, far, c.loop-accumulator-test.false, l.invariant.end)) (omega (arith, near, ap (λ (xs : List Cell). length xs) same, c.take-cells.ensures.four)))
+    ∙ c.requires.known b (omega (arith, far, c.loop-accumulator-test.false, l.invariant.end))
+    (omega (arith, near, ap (λ (xs : List Cell). length xs) same, c.take-cells.ensures.four)))
     in
     l.invariant.sums ∙ (rest ∙ ap (λ (xs : List Cell). sums_taken xs s) same)

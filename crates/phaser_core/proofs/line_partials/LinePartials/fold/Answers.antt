@@ -6,4 +6,5 @@ use Rattle.phaser_core.proofs.line_partials.LinePartials.fold.Goals as goal
 pub returns-clause-partials : goal.returns-clause-partials
 returns-clause-partials c =
     let p = c.self.inside in
-    rw (← c.self.view_is) (ap (λ q. take p.used (set p.all.items c.args.place q)) c.take_in.ensures.empty ∙ set_in_use p.used p.all.items c.args.place no_partial)
+    rw (← c.self.view_is) (ap (λ q. take p.used (set p.all.items c.args.place q)) c.take_in.ensures.empty
+    ∙ set_in_use p.used p.all.items c.args.place no_partial)

@@ -18,7 +18,8 @@ returns c =
     let long : length (take p.used xs) ≡ p.used = length-take-le p.used xs c.self.invariant.within in
     let sent : c.send.new.self ≡ partial_with a v was = search rules in
     let same : was ≡ get_or (take p.used xs) i no_partial =
-    get_or_read xs i was (omega (arith, among, long, c.self.invariant.within)) c.index_mut-partial.ensures.value no_partial
+    get_or_read xs i was (omega (arith, among, long, c.self.invariant.within))
+    c.index_mut-partial.ensures.value no_partial
     ∙ sym (get_or-take p.used xs i no_partial (omega (arith, among, long)))
     in
     rw (← c.self.view_is)

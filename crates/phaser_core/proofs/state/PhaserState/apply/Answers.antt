@@ -6,12 +6,17 @@ use Rattle.phaser_core.proofs.state.PhaserState.apply.Goals as goal
 
 pub returns-in-Register-clause-reply : goal.returns-in-Register-clause-reply
 returns-in-Register-clause-reply c =
-    rw c.in-Register.is (c.done_reply-in-Register.ensures ∙ ap done_reply c.register.ensures.reply ∙ done_returned c.args.self.now.story.past _ _ _ refl)
+    rw c.in-Register.is (c.done_reply-in-Register.ensures ∙ ap done_reply c.register.ensures.reply
+    ∙ done_returned c.args.self.now.story.past _ _ _ refl)
 
 pub returns-in-Pass-clause-reply : goal.returns-in-Pass-clause-reply
 returns-in-Pass-clause-reply c =
-    rw c.in-Pass.is (c.pass_reply.ensures ∙ ap pass_reply c.pass.ensures.reply ∙ pass_returned c.args.self.now.story.past _ _ _ _ _)
+    rw c.in-Pass.is
+    (c.pass_reply.ensures ∙ ap pass_reply c.pass.ensures.reply
+    ∙ pass_returned c.args.self.now.story.past _ _ _ _ _)
 
 pub returns-in-Look-clause-reply : goal.returns-in-Look-clause-reply
 returns-in-Look-clause-reply c =
-    rw c.in-Look.is (c.look_reply.ensures ∙ ap look_reply c.look.ensures.reply ∙ look_returned c.args.self.now.story.past _ _ _ _ _)
+    rw c.in-Look.is
+    (c.look_reply.ensures ∙ ap look_reply c.look.ensures.reply
+    ∙ look_returned c.args.self.now.story.past _ _ _ _ _)

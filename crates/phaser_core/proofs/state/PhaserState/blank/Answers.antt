@@ -14,9 +14,13 @@ invariant_of-result c =
     let l = c.args.limits in
     rw (c.in_ok-history.ensures.empty, c.new-4.ensures, c.none.ensures) (record {
       stands = rw c.in_ok-table.ensures.lines (stands_new l [] c.requires);
-      remembers = remembers_new l [] c.in_ok-known.known c.in_ok-known.ensures.size c.in_ok-known.ensures.empty;
-      folds = rw c.in_ok-table.ensures.partials (folds_new l [] c.in_ok-cells.cells c.in_ok-cells.ensures.ops c.in_ok-cells.ensures.phases c.in_ok-cells.ensures.sums c.in_ok-cells.ensures.cells);
+      remembers =
+          remembers_new l [] c.in_ok-known.known c.in_ok-known.ensures.size c.in_ok-known.ensures.empty;
+      folds = rw c.in_ok-table.ensures.partials
+          (folds_new l [] c.in_ok-cells.cells c.in_ok-cells.ensures.ops c.in_ok-cells.ensures.phases
+          c.in_ok-cells.ensures.sums c.in_ok-cells.ensures.cells);
       window = rw c.in_ok-cells.ensures.from window_new;
-      partials = c.in_ok-table.ensures.partials ∙ ap (λ (xs : List Entry). map (partial_of []) (tasks_of xs)) (sym c.in_ok-table.ensures.lines);
+      partials = c.in_ok-table.ensures.partials
+          ∙ ap (λ (xs : List Entry). map (partial_of []) (tasks_of xs)) (sym c.in_ok-table.ensures.lines);
       phases = c.in_ok-table.ensures.phases;
     })

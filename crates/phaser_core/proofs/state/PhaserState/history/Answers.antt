@@ -7,4 +7,5 @@ use Rattle.phaser_core.proofs.state.PhaserState.history.Goals as goal
 pub returns-clause-ordered : goal.returns-clause-ordered
 returns-clause-ordered c =
     let s = c.self.inside.history in
-    subst (λ (v : Phaser). IsOrdered v.story.past) c.self.view_is (legal_is_ordered s.limits s.ops s.past c.self.invariant.stands.legal)
+    subst (λ (v : Phaser). IsOrdered v.story.past) c.self.view_is
+    (legal_is_ordered s.limits s.ops s.past c.self.invariant.stands.legal)

@@ -13,7 +13,8 @@ returns-in-Some c =
     let t = c.args.task in
     let e = c.in-Some.entry in
     let stands = c.self.invariant.stands in
-    let f = found_in s p.table.lines p.single stands t c.in-Some.field-0-0 e c.in-Some.ensures.some c.in-Some.ensures.task in
+    let f = found_in s p.table.lines p.single stands t c.in-Some.field-0-0 e c.in-Some.ensures.some
+    c.in-Some.ensures.task in
     let closed = c.is_closed.ensures ∙ closed_is s p.table.lines p.single stands e.reg.phase in
     subst (λ (v : Phaser). not c.is_closed.result ≡ is_in_open_phase v.story t) c.self.view_is
     (ap (λ b. not b) closed
@@ -26,4 +27,5 @@ returns-in-None c =
     let s = p.history in
     let t = c.args.task in
     let gone = not_live s p.table.lines p.single c.self.invariant.stands t c.in-None.ensures.none in
-    subst (λ (v : Phaser). false ≡ is_in_open_phase v.story t) c.self.view_is (ap (λ b. b && not (is_closed (waits t s.past) s.past)) (sym gone))
+    subst (λ (v : Phaser). false ≡ is_in_open_phase v.story t) c.self.view_is
+    (ap (λ b. b && not (is_closed (waits t s.past) s.past)) (sym gone))

@@ -12,7 +12,8 @@ returns-in-Some c =
     let s = p.history in
     let t = c.args.task in
     let x = c.in-Some.entry in
-    let f = found_in s p.table.lines p.single c.self.invariant.stands t c.in-Some.field-0-0 x c.in-Some.ensures.some c.in-Some.ensures.task in
+    let f = found_in s p.table.lines p.single c.self.invariant.stands t c.in-Some.field-0-0 x
+    c.in-Some.ensures.some c.in-Some.ensures.task in
     subst (λ (v : Phaser). Some x.reg ≡ registration t v.story.past) c.self.view_is
     (rw f.live (ap (λ (r : Reg). Some r) (found_reg s.past t x f)))
 
@@ -22,4 +23,5 @@ returns-in-None c =
     let s = p.history in
     let t = c.args.task in
     let gone = not_live s p.table.lines p.single c.self.invariant.stands t c.in-None.ensures.none in
-    subst (λ (v : Phaser). ◌≡◌ {A = Option Reg} None (registration t v.story.past)) c.self.view_is (rw gone refl)
+    subst (λ (v : Phaser). ◌≡◌ {A = Option Reg} None (registration t v.story.past)) c.self.view_is
+    (rw gone refl)

@@ -11,53 +11,75 @@ pub advance-requires-clause-here : goal.advance-requires-clause-here
 advance-requires-clause-here c =
     let r = c.self.inside in
     let e = c.get.result in
-    let told : (x : Entry) → slice_get r.table c.args.place ≡ Some x → IsToPass (length r.signallers) x.reg = rw (← c.self.view_is) at c.requires.line in
+    let told : (x : Entry) → slice_get r.table c.args.place ≡ Some x → IsToPass (length r.signallers) x.reg =
+    rw (← c.self.view_is) at c.requires.line in
     let is = told e c.get.ensures in
-    waiter_here r.table r.signallers r.waiters c.args.place e c.self.invariant.0 c.get.ensures (sym c.can_wait.ensures ∙ c.if-can_wait.true) is.low
+    waiter_here r.table r.signallers r.waiters c.args.place e c.self.invariant.0 c.get.ensures
+    (sym c.can_wait.ensures ∙ c.if-can_wait.true) is.low
 
 pub advance-requires-clause-room : goal.advance-requires-clause-room
 advance-requires-clause-room c =
     let r = c.self.inside in
-    omega (arith, counts_few waits_at waits_once r.table r.waiters c.self.invariant.0.passed c.self.invariant.0.few (c.get.result.reg.phase + 1))
+    omega (
+      arith,
+      counts_few waits_at waits_once r.table r.waiters c.self.invariant.0.passed c.self.invariant.0.few
+          (c.get.result.reg.phase + 1),
+    )
 
 pub invariant_of-self : goal.invariant_of-self
 invariant_of-self c =
     let r = c.self.inside in
     let e : Entry = c.get.result in
-    let told : (x : Entry) → slice_get r.table c.args.place ≡ Some x → IsToPass (length r.signallers) x.reg = rw (← c.self.view_is) at c.requires.line in
+    let told : (x : Entry) → slice_get r.table c.args.place ≡ Some x → IsToPass (length r.signallers) x.reg =
+    rw (← c.self.view_is) at c.requires.line in
     let is = told e c.get.ensures in
     let written = c.pass.ensures e c.get.ensures in
     let roll : IsRoll (set r.table c.args.place (line_passed e)) r.signallers c.advance.new.self =
-    roll_pass r.table r.signallers r.waiters c.advance.new.self c.args.place e c.self.invariant.0 c.get.ensures is (sym c.can_wait.ensures ∙ c.if-can_wait.true) c.advance.ensures.counts
+    roll_pass r.table r.signallers r.waiters c.advance.new.self c.args.place e c.self.invariant.0
+    c.get.ensures is (sym c.can_wait.ensures ∙ c.if-can_wait.true) c.advance.ensures.counts
     in (
       rw written roll,
-      omega (arith, c.self.invariant.1, ap (λ (xs : List Entry). length xs) written, length-set r.table c.args.place (line_passed e)),
+      omega (
+        arith,
+        c.self.invariant.1,
+        ap (λ (xs : List Entry). length xs) written,
+        length-set r.table c.args.place (line_passed e),
+      ),
     )
 
 pub invariant_of-self-else-can_wait : goal.invariant_of-self-else-can_wait
 invariant_of-self-else-can_wait c =
     let r = c.self.inside in
     let e : Entry = c.get.result in
-    let told : (x : Entry) → slice_get r.table c.args.place ≡ Some x → IsToPass (length r.signallers) x.reg = rw (← c.self.view_is) at c.requires.line in
+    let told : (x : Entry) → slice_get r.table c.args.place ≡ Some x → IsToPass (length r.signallers) x.reg =
+    rw (← c.self.view_is) at c.requires.line in
     let is = told e c.get.ensures in
     let written = c.pass.ensures e c.get.ensures in
     let roll : IsRoll (set r.table c.args.place (line_passed e)) r.signallers r.waiters =
-    roll_pass_none r.table r.signallers r.waiters c.args.place e c.self.invariant.0 c.get.ensures is (sym c.can_wait.ensures ∙ c.if-can_wait.false)
+    roll_pass_none r.table r.signallers r.waiters c.args.place e c.self.invariant.0 c.get.ensures is
+    (sym c.can_wait.ensures ∙ c.if-can_wait.false)
     in (
       rw written roll,
-      omega (arith, c.self.invariant.1, ap (λ (xs : List Entry). length xs) written, length-set r.table c.args.place (line_passed e)),
+      omega (
+        arith,
+        c.self.invariant.1,
+        ap (λ (xs : List Entry). length xs) written,
+        length-set r.table c.args.place (line_passed e),
+      ),
     )
 
 pub pass-requires-clause-phase : goal.pass-requires-clause-phase
 pass-requires-clause-phase c = λ x here.
     let r = c.self.inside in
-    let told : (y : Entry) → slice_get r.table c.args.place ≡ Some y → IsToPass (length r.signallers) y.reg = rw (← c.self.view_is) at c.requires.line in
+    let told : (y : Entry) → slice_get r.table c.args.place ≡ Some y → IsToPass (length r.signallers) y.reg =
+    rw (← c.self.view_is) at c.requires.line in
     omega (arith, (told x here).low, c.self.invariant.0.phases)
 
 pub advance-requires-clause-next : goal.advance-requires-clause-next
 advance-requires-clause-next c =
     let r = c.self.inside in
-    let told : (x : Entry) → slice_get r.table c.args.place ≡ Some x → IsToPass (length r.signallers) x.reg = rw (← c.self.view_is) at c.requires.line in
+    let told : (x : Entry) → slice_get r.table c.args.place ≡ Some x → IsToPass (length r.signallers) x.reg =
+    rw (← c.self.view_is) at c.requires.line in
     omega (arith, (told c.get.result c.get.ensures).low, c.self.invariant.0.same)
 
 pub returns-then-can_wait-clause-each : goal.returns-then-can_wait-clause-each
@@ -65,23 +87,31 @@ returns-then-can_wait-clause-each c = λ line here moves.
     let r = c.self.inside in
     let e : Entry = c.get.result in
     let is : line ≡ e = same_Some line e (sym (rw (← c.self.view_is) at here) ∙ c.get.ensures) in
-    let told : (x : Entry) → slice_get r.table c.args.place ≡ Some x → IsToPass (length r.signallers) x.reg = rw (← c.self.view_is) at c.requires.line in
+    let told : (x : Entry) → slice_get r.table c.args.place ≡ Some x → IsToPass (length r.signallers) x.reg =
+    rw (← c.self.view_is) at c.requires.line in
     let written = c.pass.ensures e c.get.ensures in
     let roll : IsRoll (set r.table c.args.place (line_passed e)) r.signallers c.advance.new.self =
-    roll_pass r.table r.signallers r.waiters c.advance.new.self c.args.place e c.self.invariant.0 c.get.ensures (told e c.get.ensures) (sym c.can_wait.ensures ∙ c.if-can_wait.true) c.advance.ensures.counts
+    roll_pass r.table r.signallers r.waiters c.advance.new.self c.args.place e c.self.invariant.0
+    c.get.ensures (told e c.get.ensures) (sym c.can_wait.ensures ∙ c.if-can_wait.true)
+    c.advance.ensures.counts
     in
     rw (is, written)
-    (needed_all (set r.table c.args.place (line_passed e)) r.signallers c.advance.new.self roll (e.reg.phase + 1) e.reg.phase (c.advance.ensures.moves moves) (omega arith))
+    (needed_all (set r.table c.args.place (line_passed e)) r.signallers c.advance.new.self roll
+    (e.reg.phase + 1) e.reg.phase (c.advance.ensures.moves moves) (omega arith))
 
 pub returns-then-can_wait-clause-some : goal.returns-then-can_wait-clause-some
 returns-then-can_wait-clause-some c = λ line here moves.
     let r = c.self.inside in
     let e : Entry = c.get.result in
     let is : line ≡ e = same_Some line e (sym (rw (← c.self.view_is) at here) ∙ c.get.ensures) in
-    let told : (x : Entry) → slice_get r.table c.args.place ≡ Some x → IsToPass (length r.signallers) x.reg = rw (← c.self.view_is) at c.requires.line in
+    let told : (x : Entry) → slice_get r.table c.args.place ≡ Some x → IsToPass (length r.signallers) x.reg =
+    rw (← c.self.view_is) at c.requires.line in
     let written = c.pass.ensures e c.get.ensures in
     let roll : IsRoll (set r.table c.args.place (line_passed e)) r.signallers c.advance.new.self =
-    roll_pass r.table r.signallers r.waiters c.advance.new.self c.args.place e c.self.invariant.0 c.get.ensures (told e c.get.ensures) (sym c.can_wait.ensures ∙ c.if-can_wait.true) c.advance.ensures.counts
+    roll_pass r.table r.signallers r.waiters c.advance.new.self c.args.place e c.self.invariant.0
+    c.get.ensures (told e c.get.ensures) (sym c.can_wait.ensures ∙ c.if-can_wait.true)
+    c.advance.ensures.counts
     in
     rw (is, written)
-    (needed_some (set r.table c.args.place (line_passed e)) r.signallers c.advance.new.self roll (e.reg.phase + 1) e.reg.phase (c.advance.ensures.moves moves) (omega arith))
+    (needed_some (set r.table c.args.place (line_passed e)) r.signallers c.advance.new.self roll
+    (e.reg.phase + 1) e.reg.phase (c.advance.ensures.moves moves) (omega arith))

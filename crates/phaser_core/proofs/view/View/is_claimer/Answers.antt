@@ -17,10 +17,16 @@ returns-in-Some-clause-claims c =
     let table = c.args.self.now.table.now.lines in
     let single = c.args.self.now.single in
     let e = c.in-Some.entry in
-    let f = found_in s table single c.args.self.now.stands c.args.task c.in-Some.field-0-0 e c.in-Some.ensures.some c.in-Some.ensures.task in
-    c.is_some.ensures ∙ (ap (λ o. is_some o) c.with_claim.ensures ∙ (some_by (claims table single e) (claimed single e.task) ∙ sym (claims_is s table single c.args.self.now.stands c.args.task e f)))
+    let f = found_in s table single c.args.self.now.stands c.args.task c.in-Some.field-0-0 e
+    c.in-Some.ensures.some c.in-Some.ensures.task in
+    c.is_some.ensures
+    ∙ (ap (λ o. is_some o) c.with_claim.ensures
+    ∙ (some_by (claims table single e) (claimed single e.task)
+    ∙ sym (claims_is s table single c.args.self.now.stands c.args.task e f)))
 
 pub returns-in-None-clause-claims : goal.returns-in-None-clause-claims
 returns-in-None-clause-claims c =
-    let none = not_live c.args.self.now.history.now c.args.self.now.table.now.lines c.args.self.now.single c.args.self.now.stands c.args.task c.in-None.ensures.none in
+    let none =
+    not_live c.args.self.now.history.now c.args.self.now.table.now.lines c.args.self.now.single
+    c.args.self.now.stands c.args.task c.in-None.ensures.none in
     rw none refl

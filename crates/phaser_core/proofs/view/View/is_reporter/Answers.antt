@@ -17,7 +17,8 @@ use Rattle.phase_model.proofs.Replied.{done_is_allowed}
 use Rattle.phaser_core.proofs.view.View.is_reporter.Goals as goal
 
 no_cause : (a b d room : Bool) (r : Refusal) (e : Event) → (a && b && not d) ≡ true → room ≡ true
-    → settled (first_refusal ((NotRegistered, a) ∷ (NotNow, b) ∷ (NotNow, not d) ∷ [])) false room e ≡ refused r → ⊥
+    → settled (first_refusal ((NotRegistered, a) ∷ (NotNow, b) ∷ (NotNow, not d) ∷ [])) false room e
+    ≡ refused r → ⊥
 no_cause true true false true r v p q e = absurd cc
 no_cause true true false false r v p q e = absurd cc
 no_cause true true true room r v p q e = absurd cc
@@ -27,7 +28,9 @@ no_cause false b d room r v p q e = absurd cc
 pub returns-in-Ok-clause-reports : goal.returns-in-Ok-clause-reports
 returns-in-Ok-clause-reports c =
     let s = c.args.self.now.history.now in
-    sym (and_parts (is_permitted s.limits s.ops s.past (Did c.args.task)) (has_room s.limits (Did c.args.task ∷ s.past)) (done_is_allowed s (single_done c.args.task) (Did c.args.task) c.in-Ok.ensures.done)).0
+    sym (and_parts (is_permitted s.limits s.ops s.past (Did c.args.task))
+    (has_room s.limits (Did c.args.task ∷ s.past))
+    (done_is_allowed s (single_done c.args.task) (Did c.args.task) c.in-Ok.ensures.done)).0
 
 pub returns-in-Err-clause-reports : goal.returns-in-Err-clause-reports
 returns-in-Err-clause-reports c =
@@ -36,7 +39,8 @@ returns-in-Err-clause-reports c =
     let told : reply s (single_done t) ≡ refused c.in-Err.field-0 = c.in-Err.ensures.refused in
     elim (cases_Bool (is_permitted s.limits s.ops s.past (Did t))) [
       | inl e ↦
-          absurd (no_cause (is_live t s.past) (has_claimed t (waits t s.past) s.past) (is_done (waits t s.past) s.past) (has_room s.limits (Did t ∷ s.past)) c.in-Err.field-0 (Did t)
+          absurd (no_cause (is_live t s.past) (has_claimed t (waits t s.past) s.past)
+          (is_done (waits t s.past) s.past) (has_room s.limits (Did t ∷ s.past)) c.in-Err.field-0 (Did t)
           e (did_has_room s.limits s.ops s.past c.args.self.now.stands.legal t e) told)
       | inr e ↦ sym e
     ]

@@ -7,7 +7,8 @@ use Rattle.reg_table.proofs.Edits.{remove_ascends, remove_last}
 use Rattle.reg_table.proofs.table.Table.remove.Goals as goal
 
 -- what is left of a table once a line went
-left : (xs ys : List Entry) (i m n : ℕ) → IsTable xs m → ys ≡ remove xs i → i < length xs → n ≡ m → IsTable ys n
+left : (xs ys : List Entry) (i m n : ℕ) → IsTable xs m → ys ≡ remove xs i → i < length xs → n ≡ m
+    → IsTable ys n
 left xs ys i m n was is inside same = rw (is, same) (record {
   ascending = remove_ascends xs i was.ascending;
   few = omega (arith, length-remove xs i inside, was.few);
@@ -19,13 +20,17 @@ invariant_of-self c =
     let xs = c.self.inside.lines.items in
     let i = c.args.place in
     let inside : i < length xs = rw (← c.self.view_is) at c.requires in
-    let end : i ≡ length xs - 1 = omega (arith, c.if-place-end.true, c.len-end.ensures, c.self.inside.lines.ok.0) in
+    let end : i ≡ length xs - 1 =
+    omega (arith, c.if-place-end.true, c.len-end.ensures, c.self.inside.lines.ok.0) in
     let rest : c.pop-last.new.self.items ≡ remove xs i =
-    c.pop-last.ensures.rest ∙ (ap (λ n. take n xs) (omega (arith, c.len-end.ensures, c.if-place-end.true)) ∙ remove_last xs i (omega (arith, end, inside)))
+    c.pop-last.ensures.rest
+    ∙ (ap (λ n. take n xs) (omega (arith, c.len-end.ensures, c.if-place-end.true))
+    ∙ remove_last xs i (omega (arith, end, inside)))
     in
     left xs c.pop-last.new.self.items i _ _ c.self.invariant rest inside c.pop-last.ensures.capacity
 
 pub invariant_of-self-else-place-end : goal.invariant_of-self-else-place-end
 invariant_of-self-else-place-end c =
     let xs = c.self.inside.lines.items in
-    left xs c.remove-gone.new.self.items c.args.place _ _ c.self.invariant c.remove-gone.ensures.items (rw (← c.self.view_is) at c.requires) c.remove-gone.ensures.capacity
+    left xs c.remove-gone.new.self.items c.args.place _ _ c.self.invariant c.remove-gone.ensures.items
+    (rw (← c.self.view_is) at c.requires) c.remove-gone.ensures.capacity
