@@ -26,8 +26,8 @@ as_before long e (Begin t a) h = refl
 as_before long e (Fail t n) h = refl
 as_before long e (Long place) h = get_or_append_left long (e ∷ []) (traced.Fail 0 0) place h
 
-all_as_before : (long : List TracedEvent) (e : TracedEvent) (ks : List (ℕ × Kept)) → AreWithin (length long) ks
-    → entries_kept (long ++ e ∷ []) ks ≡ entries_kept long ks
+all_as_before : (long : List TracedEvent) (e : TracedEvent) (ks : List (ℕ × Kept))
+    → AreWithin (length long) ks → entries_kept (long ++ e ∷ []) ks ≡ entries_kept long ks
 all_as_before long e [] h = refl
 all_as_before long e (k ∷ ks) h =
     let P : ℕ × Kept → Type 0 = λ x. IsWithin (length long) x.1 in
@@ -37,8 +37,10 @@ all_as_before long e (k ∷ ks) h =
 -- a long event more is the one at the place of the form that is added with it
 pub long_more : (long : List TracedEvent) (ks : List (ℕ × Kept)) (ticket : ℕ) (e : TracedEvent)
     → AreWithin (length long) ks
-    → entries_kept (long ++ e ∷ []) (ks ++ (ticket, Long (length long)) ∷ []) ≡ entries_kept long ks ++ (ticket, e) ∷ []
+    → entries_kept (long ++ e ∷ []) (ks ++ (ticket, Long (length long)) ∷ [])
+    ≡ entries_kept long ks ++ (ticket, e) ∷ []
 long_more long ks ticket e h =
-    map-append (λ (k : ℕ × Kept). (k.0, event_kept (long ++ e ∷ []) k.1)) ks ((ticket, Long (length long)) ∷ [])
+    map-append (λ (k : ℕ × Kept). (k.0, event_kept (long ++ e ∷ []) k.1)) ks
+    ((ticket, Long (length long)) ∷ [])
     ∙ ap₂ (λ (es : List Entry) (x : TracedEvent). es ++ (ticket, x) ∷ [])
     (all_as_before long e ks h) (get_or-append_seam long e [] (traced.Fail 0 0))

@@ -129,7 +129,8 @@ pub(crate) enum Kept {
 impl Kept {
     /// The short form of an event, if it has one.
     pub(crate) fn of(event: &TracedEvent) -> Option<Kept>
-        ensures { MatchOption result (is_long event.now ≡ true) (λ k. (long : List Event) → Keeps long k event.now) }
+        ensures { MatchOption result (is_long event.now ≡ true)
+            (λ k. (long : List Event) → Keeps long k event.now) }
     {
         match event {
             TracedEvent::Phaser(phaser, step) => {

@@ -64,7 +64,7 @@ impl Player {
         later && answered
     }
 
-    /// Hands all of the trace's events to the world, up to the first that may not follow; its place.
+    /// Hands the trace's events to the world, up to the first that may not follow; its place.
     fn take_all(&mut self, trace: &Trace) -> Option<u64>
         ensures { (l : Limits) → HandedOver l [] self.old → HandsOver l trace.now.events result self.new }
     {

@@ -29,5 +29,6 @@ loop-index-preserved c = λ l start.
 pub returns : goal.returns
 returns c = λ l start.
     let es = c.args.trace.now.events in
-    let over : length es ≤ c.loop-index.index = omega (arith, c.loop-index-test.false, c.len-index-end.ensures.length) in
+    let over : length es ≤ c.loop-index.index =
+    omega (arith, c.loop-index-test.false, c.len-index-end.ensures.length) in
     ends l es c.loop-index.index c.loop-index.self over (c.loop-index.invariant l start)
