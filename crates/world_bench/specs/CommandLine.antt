@@ -14,7 +14,8 @@ number_in argument = digits_value 10 (without_leading_plus argument)
 
 -- a number from the first of these to the second
 abbrev pub IsNumberFrom : ℕ → ℕ → List ℕ → Type 0
-IsNumberFrom least most argument = IsNumber argument × (least ≤ number_in argument) × (number_in argument ≤ most)
+IsNumberFrom least most argument =
+    IsNumber argument × (least ≤ number_in argument) × (number_in argument ≤ most)
 
 -- the argument spells this number
 abbrev pub Spells : ℕ → ℕ → ℕ → List ℕ → Type 0

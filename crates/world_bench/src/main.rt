@@ -27,8 +27,8 @@ fn main(rt: HostRuntime) -> ExitCode {
     ExitCode::from(run(&rt))
 }
 
-/// Reads the arguments, and does the job that they name. Returns the exit status: 0 done, 1 refused,
-/// 2 bad arguments, 3 a write failed.
+/// Reads the arguments, and does the job that they name. Returns the exit status: 0 done, 1
+/// refused, 2 bad arguments, 3 a write failed.
 fn run(rt: &HostRuntime) -> u8 {
     let Ok(args) = env::args(rt) else {
         return print_usage(rt);

@@ -39,10 +39,12 @@ due_by t k fs plan.Idle = []
 due_by t k fs (plan.Signalling x turn) =
     map (λ n. Phaser n (Sig t x)) k.left ++ (if turn then map (λ n. Phaser n (Pass t)) k.phasers else [])
 due_by t k fs plan.Turning = map (λ n. Phaser n (Pass t)) k.left
-due_by t k fs (plan.Spawning c pairs made) = map (λ p. Phaser p.phaser (Reg t c p.mode)) (drop made pairs) ++ Finish (inner_of k fs) (Spawned c) ∷ []
+due_by t k fs (plan.Spawning c pairs made) =
+    map (λ p. Phaser p.phaser (Reg t c p.mode)) (drop made pairs) ++ Finish (inner_of k fs) (Spawned c) ∷ []
 due_by t k fs plan.Shutting = map (λ n. Phaser n (Drop t)) k.left ++ Finish (inner_of k fs) Shutting ∷ []
 due_by t k fs (plan.Ending c) =
-    map (λ n. Phaser n (Drop c)) k.left ++ (map (λ n. Phaser n (Drop t)) k.phasers ++ (map (λ f. Finish f Shutting) fs ++ end_of t k ∷ []))
+    map (λ n. Phaser n (Drop c)) k.left
+    ++ (map (λ n. Phaser n (Drop t)) k.phasers ++ (map (λ f. Finish f Shutting) fs ++ end_of t k ∷ []))
 
 -- the finishes of a list lie one outside the other, from this one on
 abbrev pub IsChain : List (Option ℕ) → Option ℕ → List ℕ → Type 0

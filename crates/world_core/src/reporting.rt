@@ -42,9 +42,11 @@ impl PhaserRows {
     fn add(&mut self, alloc: Global, number: u32, phaser: &KeptPhaser) -> Result<(), Refusal>
         requires room { vec_len self.old.lines < vec_capacity self.old.lines }
         requires few { IsWithin 4194304 self.old.totals }
-        ensures lines { IfOk result (λ _. self.new.lines.items ≡ self.old.lines.items ++ row_if_made number phaser.now) }
+        ensures lines { IfOk result (λ _. self.new.lines.items
+            ≡ self.old.lines.items ++ row_if_made number phaser.now) }
         ensures totals { IfOk result (λ _. self.new.totals ≡ with_if_made phaser.now.past self.old.totals) }
-        ensures few { IfOk result (λ _. (n : ℕ) → IsWithin n self.old.totals → IsWithin (n + 65536) self.new.totals) }
+        ensures few { IfOk result (λ _. (n : ℕ) → IsWithin n self.old.totals
+            → IsWithin (n + 65536) self.new.totals) }
         ensures size { IfOk result (λ _. vec_len self.new.lines ≤ vec_len self.old.lines + 1) }
         ensures room { IfOk result (λ _. vec_capacity self.new.lines ≡ vec_capacity self.old.lines) }
         ensures memory { IfErr result (λ r. r ≡ Refusal.Memory) }
@@ -67,8 +69,10 @@ pub(crate) fn phaser_rows(
 ) -> Result<PhaserRows, Refusal>
     requires size { length phasers.now ≡ count }
     requires few { count ≤ 64 }
-    ensures lines { IfOk result (λ r. r.lines.items ≡ map (λ n. lines_of n (story_in phasers.now n)) (made phasers.now count)) }
-    ensures totals { IfOk result (λ r. r.totals ≡ totals_line (map (λ n. (story_in phasers.now n).past) (made phasers.now count))) }
+    ensures lines { IfOk result (λ r. r.lines.items
+        ≡ map (λ n. lines_of n (story_in phasers.now n)) (made phasers.now count)) }
+    ensures totals { IfOk result (λ r. r.totals
+        ≡ totals_line (map (λ n. (story_in phasers.now n).past) (made phasers.now count))) }
     ensures memory { IfErr result (λ r. r ≡ Refusal.Memory) }
 {
     let mut rows = PhaserRows::new(alloc, count)?;

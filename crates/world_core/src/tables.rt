@@ -1,4 +1,5 @@
-//! What a world keeps, by number: its phasers, its finishes and its tasks. `world` is the public face.
+//! What a world keeps, by number: its phasers, its finishes and its tasks.
+//! `world` is the public face.
 ghost use Rattle.std.specs.Prelude.{◌≡◌, ◌<◌, not, nat_lt, length, IfOk, IfErr, true, [], replicate};
 ghost use Rattle.phase_modes.specs.Limits.{limits_fit};
 ghost use Rattle.phase_modes.specs.Refusal.{first_refusal};
@@ -63,7 +64,8 @@ impl Model for Tables {
       tasks = a.tasks.items;
     } };
 
-    ghost invariant = { λ a. IsSized a.limits a.phasers.items a.enclosing.items a.finishes.items a.owners.items a.outers.items a.tasks.items };
+    ghost invariant = { λ a. IsSized a.limits a.phasers.items a.enclosing.items a.finishes.items
+        a.owners.items a.outers.items a.tasks.items };
 }
 
 /// A blank phaser for each number.

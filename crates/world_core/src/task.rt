@@ -58,7 +58,8 @@ impl Model for Task {
       refused = t.refused;
     } };
 
-    ghost invariant = { λ t. (16 ≤ vec_capacity t.left) × (16 ≤ vec_capacity t.phasers) × (length t.phasers.items ≤ 16) };
+    ghost invariant = { λ t. (16 ≤ vec_capacity t.left) × (16 ≤ vec_capacity t.phasers)
+        × (length t.phasers.items ≤ 16) };
 }
 
 impl Task {
@@ -113,7 +114,8 @@ impl Task {
 
     /// Notes the phasers on which the task owes a signal as those that are left.
     pub(crate) fn owe(&mut self, task: u32, phasers: &[KeptPhaser])
-        ensures { self.new ≡ record self.old { left = filter (λ n. owes task (past_in phasers.now n)) self.old.phasers } }
+        ensures { self.new
+            ≡ record self.old { left = filter (λ n. owes task (past_in phasers.now n)) self.old.phasers } }
     {
         list_owed(&mut self.left, &self.phasers, phasers, task);
     }

@@ -39,8 +39,8 @@ impl Model for World {
 }
 
 impl World {
-    /// A world in which nothing has happened yet: task 0 runs, and finish 0 is open. All memory that
-    /// its steps will ever need is taken here; `Memory` where that is refused.
+    /// A world in which nothing has happened yet: task 0 runs, and finish 0 is open. All memory
+    /// that its steps will ever need is taken here; `Memory` where that is refused.
     pub fn new(alloc: Global, limits: Limits) -> Result<World, Refusal>
         requires { limits_fit limits ≡ true }
         ensures limits { IfOk result (λ s. s.limits ≡ limits) }
@@ -109,8 +109,8 @@ impl World {
         self.tables.own_pairs(task)
     }
 
-    /// What the phasers, the tasks and the finishes came to, by rising number. Each phaser's history is
-    /// read once. The lines take memory; `Memory` where that is refused.
+    /// What the phasers, the tasks and the finishes came to, by rising number. Each phaser's
+    /// history is read once. The lines take memory; `Memory` where that is refused.
     pub fn report(&self, alloc: Global) -> Result<WorldReport, Refusal>
         ensures report { (w : List Event) → StandsFor w self.now
             → IfOk result (λ r. r ≡ report_of self.now.limits w) }
@@ -119,8 +119,8 @@ impl World {
         self.tables.report(alloc)
     }
 
-    /// It does nothing. Its contract is a law of each world: as long as some task hasn't ended, some
-    /// task is able.
+    /// It does nothing. Its contract is a law of each world: as long as some task hasn't ended,
+    /// some task is able.
     pub fn some_task_goes_on(&self)
         ensures { (w : List Event) × StandsFor w self.now × (is_stuck self.now.limits w ≡ false) }
     {

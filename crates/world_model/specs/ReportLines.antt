@@ -14,10 +14,10 @@ use Rattle.world_model.specs.Report.{PhaserReport, Report}
 -- the refusals; no line of a report names the place of one
 abbrev pub refusals : List Refusal
 refusals =
-    NotRegistered ∷ NoSignal ∷ NoWait ∷ NoSingle ∷ AlreadySignalled ∷ NotSignalled ∷ SingleMismatch ∷ OnePhaserOnly ∷
-    NoAccumulator ∷ NoPhaseYet ∷ MoreThanParent ∷ OutsideScope ∷ RegisteredTwice ∷ RegsFull ∷ HistoryFull ∷ PhasersFull ∷
-    TasksFull ∷ FinishesFull ∷ ActsFull ∷ FinishOpen ∷ NoFinish ∷ NotNow ∷ Memory ∷ BadText 0 ∷ NotExplained 0 ∷
-    SharesDiffer ∷ []
+    NotRegistered ∷ NoSignal ∷ NoWait ∷ NoSingle ∷ AlreadySignalled ∷ NotSignalled ∷
+    SingleMismatch ∷ OnePhaserOnly ∷ NoAccumulator ∷ NoPhaseYet ∷ MoreThanParent ∷ OutsideScope ∷
+    RegisteredTwice ∷ RegsFull ∷ HistoryFull ∷ PhasersFull ∷ TasksFull ∷ FinishesFull ∷ ActsFull ∷
+    FinishOpen ∷ NoFinish ∷ NotNow ∷ Memory ∷ BadText 0 ∷ NotExplained 0 ∷ SharesDiffer ∷ []
 
 -- the refusal of this number, if one has it
 abbrev pub refusal_with : ℕ → Option Refusal
@@ -25,7 +25,8 @@ refusal_with n = find (λ r. number_of r == n) refusals
 
 -- what an accumulator came to in a phase
 abbrev pub fold_text : FoldLine → List ℕ
-fold_text l = codes "phase " ++ decimal l.phase ++ codes " acc " ++ decimal l.acc ++ codes " " ++ look_text l.value
+fold_text l =
+    codes "phase " ++ decimal l.phase ++ codes " acc " ++ decimal l.acc ++ codes " " ++ look_text l.value
 
 -- it, after the number of its phaser
 abbrev pub fold_row : ℕ → FoldLine → List ℕ
@@ -62,7 +63,8 @@ finish_row l = finish_text l ++ codes "\n"
 abbrev pub totals_text : TotalsLine → List ℕ
 totals_text l =
     (codes "totals registered " ++ decimal l.registered ++ codes " signals " ++ decimal l.signals)
-    ++ (codes " passes " ++ decimal l.passes ++ codes " drops " ++ decimal l.drops ++ codes " sends " ++ decimal l.sends)
+    ++ (codes " passes " ++ decimal l.passes ++ codes " drops " ++ decimal l.drops
+    ++ codes " sends " ++ decimal l.sends)
     ++ (codes " up " ++ decimal l.up ++ codes " down " ++ decimal l.down)
 
 abbrev pub totals_row : TotalsLine → List ℕ

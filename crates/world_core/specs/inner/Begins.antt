@@ -60,7 +60,8 @@ hand_conditions s t before p =
 -- pair by pair
 abbrev pub pair_conditions : WorldState → ℕ → List Pair → List Pair → List (Refusal × Bool)
 pair_conditions s t before [] = []
-pair_conditions s t before (p ∷ ps) = hand_conditions s t before p ++ pair_conditions s t (before ++ p ∷ []) ps
+pair_conditions s t before (p ∷ ps) =
+    hand_conditions s t before p ++ pair_conditions s t (before ++ p ∷ []) ps
 
 -- the number that the act wants to give is in use
 abbrev pub is_child_named : WorldState → Begun → Bool

@@ -29,7 +29,9 @@ dropper_at s t = if (task_at s t).is_born then t else (task_at s t).spawner
 
 abbrev pub drop_result : WorldState → ℕ → ℕ → Result (Unit {0}) Refusal
 drop_result s n t =
-    if is_to_drop (task_at s (dropper_at s t)) (dropper_at s t) n t then done_result (phaser.reply (story_at s n) (drop_task t)) else Err NotNow
+    if is_to_drop (task_at s (dropper_at s t)) (dropper_at s t) n t
+    then done_result (phaser.reply (story_at s n) (drop_task t))
+    else Err NotNow
 
 abbrev pub drop_answer : WorldState → ℕ → ℕ → Result Reply Refusal
 drop_answer s n t = done_by (drop_result s n t)
@@ -46,5 +48,5 @@ abbrev pub task_gone : WorldState → ℕ → ℕ → WorldState
 task_gone s n t = with_task (phaser_called s n (drop_task t)) t (gone_from n (task_at s t))
 
 abbrev pub drop_state : WorldState → ℕ → ℕ → WorldState
-drop_state s n t =
-    state_by (drop_result s n t) s (with_task (task_gone s n t) (dropper_at s t) (drop_noted (task_at (task_gone s n t) (dropper_at s t))))
+drop_state s n t = state_by (drop_result s n t) s
+    (with_task (task_gone s n t) (dropper_at s t) (drop_noted (task_at (task_gone s n t) (dropper_at s t))))

@@ -30,7 +30,8 @@ abbrev pub said : FinishStory → FinishEvent → Result (Unit {0}) Refusal
 said y e = answer y.tasks y.past e
 
 abbrev pub finish_called : WorldState → ℕ → FinishEvent → WorldState
-finish_called s f e = record s { finishes = set s.finishes f (finish.after (finish_at s f) e (said (finish_at s f) e)) }
+finish_called s f e =
+    record s { finishes = set s.finishes f (finish.after (finish_at s f) e (said (finish_at s f) e)) }
 
 -- the end of task t
 abbrev pub end_asked : WorldState → ℕ → ℕ → Bool
@@ -46,7 +47,8 @@ abbrev pub end_noted : TaskState → TaskState
 end_noted k = record k { plan = plan.Idle; is_ended = true }
 
 abbrev pub end_state : WorldState → ℕ → ℕ → WorldState
-end_state s f t = state_by (end_result s f t) s (with_task (finish_called s f (Ended t)) t (end_noted (task_at s t)))
+end_state s f t = state_by (end_result s f t) s
+    (with_task (finish_called s f (Ended t)) t (end_noted (task_at s t)))
 
 -- the shut of finish f, which its owner makes
 abbrev pub owner_in : WorldState → ℕ → ℕ
@@ -63,7 +65,8 @@ shut_result s f =
 -- it has to wait for the tasks in it
 abbrev pub shut_answer : WorldState → ℕ → Result Reply Refusal
 shut_answer s f =
-    if shut_asked s f then (if all_ended (finish_at s f).past then done_by (said (finish_at s f) Shut) else Ok NotYet)
+    if shut_asked s f
+    then (if all_ended (finish_at s f).past then done_by (said (finish_at s f) Shut) else Ok NotYet)
     else Err NotNow
 
 -- a task that comes to its end goes on after the shut of an own finish; else the shut is the last of its act
@@ -85,5 +88,6 @@ shut_noted outers f t k = record k {
 }
 
 abbrev pub shut_state : WorldState → ℕ → WorldState
-shut_state s f =
-    state_by (shut_result s f) s (with_task (finish_called s f Shut) (owner_in s f) (shut_noted s.outers f (owner_in s f) (task_at s (owner_in s f))))
+shut_state s f = state_by (shut_result s f) s
+    (with_task (finish_called s f Shut) (owner_in s f)
+    (shut_noted s.outers f (owner_in s f) (task_at s (owner_in s f))))

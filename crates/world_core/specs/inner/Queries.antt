@@ -42,9 +42,11 @@ abbrev pub next_by : WorldState → ℕ → TaskState → Plan → Option WorldE
 next_by s t k plan.Idle = None
 next_by s t k (plan.Signalling x turn) = option_map (λ n. Phaser n (Sig t x)) (slice_get k.left 0)
 next_by s t k plan.Turning = option_map (turn_event s t) (slice_get k.left 0)
-next_by s t k (plan.Spawning c pairs made) = Some (reg_or t c (slice_get pairs made) (Finish (inner_at k) (Spawned c)))
+next_by s t k (plan.Spawning c pairs made) =
+    Some (reg_or t c (slice_get pairs made) (Finish (inner_at k) (Spawned c)))
 next_by s t k plan.Shutting = Some (drop_or t (slice_get k.left 0) (Finish (inner_at k) Shutting))
-next_by s t k (plan.Ending c) = Some (drop_or c (slice_get k.left 0) (drop_or t (slice_get k.phasers 0) (shut_or k.innermost (end_of t k))))
+next_by s t k (plan.Ending c) = Some (drop_or c (slice_get k.left 0)
+    (drop_or t (slice_get k.phasers 0) (shut_or k.innermost (end_of t k))))
 
 abbrev pub kept_next : WorldState → ℕ → Option WorldEvent
 kept_next s t = next_by s t (task_at s t) (task_at s t).plan

@@ -36,7 +36,8 @@ has_place s c = nat_lt c (length s.tasks) && nat_lt (length (task_at s c).phaser
 
 abbrev pub register_result : WorldState → ℕ → ℕ → ℕ → Mode → Result (Unit {0}) Refusal
 register_result s n q c m =
-    if is_to_register (task_at s q) n c m && has_place s c then done_result (phaser.reply (story_at s n) (register q c m))
+    if is_to_register (task_at s q) n c m && has_place s c
+    then done_result (phaser.reply (story_at s n) (register q c m))
     else Err NotNow
 
 abbrev pub register_answer : WorldState → ℕ → ℕ → ℕ → Mode → Result Reply Refusal
@@ -48,7 +49,8 @@ joining n k = record k { phasers = k.phasers ++ n ∷ [] }
 
 -- a plan to spawn comes to its next pair
 abbrev pub to_next_pair : Plan → Plan
-to_next_pair (plan.Spawning c pairs made) = plan.Spawning c pairs (if nat_lt made (length pairs) then made + 1 else made)
+to_next_pair (plan.Spawning c pairs made) =
+    plan.Spawning c pairs (if nat_lt made (length pairs) then made + 1 else made)
 to_next_pair p = p
 
 -- the line of a task that has registered its child
@@ -60,5 +62,5 @@ abbrev pub child_joined : WorldState → ℕ → ℕ → ℕ → Mode → WorldS
 child_joined s n q c m = with_task (phaser_called s n (register q c m)) c (joining n (task_at s c))
 
 abbrev pub register_state : WorldState → ℕ → ℕ → ℕ → Mode → WorldState
-register_state s n q c m =
-    state_by (register_result s n q c m) s (with_task (child_joined s n q c m) q (register_noted (task_at (child_joined s n q c m) q)))
+register_state s n q c m = state_by (register_result s n q c m) s
+    (with_task (child_joined s n q c m) q (register_noted (task_at (child_joined s n q c m) q)))

@@ -31,7 +31,8 @@ result_unless None u = u
 result_unless (Some r) u = Err r
 
 abbrev pub make_result : WorldState → ℕ → ℕ → Mode → Result (Unit {0}) Refusal
-make_result s n t m = result_unless (first_refusal (make_conditions s n t)) (done_result (phaser.reply (story_at s n) (make t m)))
+make_result s n t m = result_unless (first_refusal (make_conditions s n t))
+    (done_result (phaser.reply (story_at s n) (make t m)))
 
 abbrev pub make_answer : WorldState → ℕ → ℕ → Mode → Result Reply Refusal
 make_answer s n t m = done_by (make_result s n t m)
@@ -42,7 +43,8 @@ making n k = record k { phasers = k.phasers ++ n ∷ []; acts = min (k.acts + 1)
 
 -- the state after phaser n was asked to be made
 abbrev pub phaser_made : WorldState → ℕ → ℕ → Mode → List Op → WorldState
-phaser_made s n t m ops = record s { phasers = set s.phasers n (made_with (story_at s n) ops (phaser.reply (story_at s n) (make t m))) }
+phaser_made s n t m ops = record s
+    { phasers = set s.phasers n (made_with (story_at s n) ops (phaser.reply (story_at s n) (make t m))) }
 
 abbrev pub made : WorldState → ℕ → ℕ → Mode → List Op → WorldState
 made s n t m ops = record (phaser_made s n t m ops) {

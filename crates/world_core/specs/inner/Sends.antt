@@ -25,13 +25,15 @@ act_refusal s t = first_refusal (first_conditions s t false true)
 
 -- a value that is sent
 abbrev pub send_result : WorldState → ℕ → ℕ → ℕ → ℤ → Result (Unit {0}) Refusal
-send_result s n t a v = unless_before (act_refusal s t) (done_result (phaser.reply (story_at s n) (send t a v)))
+send_result s n t a v =
+    unless_before (act_refusal s t) (done_result (phaser.reply (story_at s n) (send t a v)))
 
 abbrev pub send_answer : WorldState → ℕ → ℕ → ℕ → ℤ → Result Reply Refusal
 send_answer s n t a v = done_by (send_result s n t a v)
 
 abbrev pub send_state : WorldState → ℕ → ℕ → ℕ → ℤ → WorldState
-send_state s n t a v = state_by (send_result s n t a v) s (with_task (phaser_called s n (send t a v)) t (counted (task_at s t)))
+send_state s n t a v = state_by (send_result s n t a v) s
+    (with_task (phaser_called s n (send t a v)) t (counted (task_at s t)))
 
 -- the reply of the world to a look of which the phaser says this
 abbrev pub reply_by_look : Result Look Refusal → Result Reply Refusal
@@ -49,4 +51,5 @@ abbrev pub look_answer : WorldState → ℕ → ℕ → ℕ → Result Reply Ref
 look_answer s n t a = reply_by_look (looked s n t a)
 
 abbrev pub look_state : WorldState → ℕ → ℕ → ℕ → WorldState
-look_state s n t a = state_by_look (looked s n t a) s (with_task (phaser_called s n (look t a)) t (counted (task_at s t)))
+look_state s n t a = state_by_look (looked s n t a) s
+    (with_task (phaser_called s n (look t a)) t (counted (task_at s t)))

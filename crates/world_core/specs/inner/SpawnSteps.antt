@@ -15,7 +15,8 @@ use Rattle.world_core.specs.inner.Steps.{done_by, state_by, with_task}
 
 -- the plan's next event is to spawn c in finish f, where this is the innermost one
 abbrev pub wants_spawn : Plan → ℕ → ℕ → ℕ → Bool
-wants_spawn (plan.Spawning d pairs made) inner f c = not (nat_lt made (length pairs)) && (inner == f && d == c)
+wants_spawn (plan.Spawning d pairs made) inner f c =
+    not (nat_lt made (length pairs)) && (inner == f && d == c)
 wants_spawn _ inner f c = false
 
 abbrev pub is_to_spawn : TaskState → ℕ → ℕ → Bool
@@ -28,7 +29,9 @@ abbrev pub spawn_wanted : WorldState → ℕ → ℕ → Bool
 spawn_wanted s f c = is_to_spawn (task_at s (spawner_at s c)) f c && nat_lt c (length s.tasks)
 
 abbrev pub spawn_result : WorldState → ℕ → ℕ → Result (Unit {0}) Refusal
-spawn_result s f c = if spawn_wanted s f c then answer (finish_at s f).tasks (finish_at s f).past (Spawned c) else Err NotNow
+spawn_result s f c =
+    if spawn_wanted s f c then answer (finish_at s f).tasks (finish_at s f).past (Spawned c)
+    else Err NotNow
 
 abbrev pub spawn_answer : WorldState → ℕ → ℕ → Result Reply Refusal
 spawn_answer s f c = done_by (spawn_result s f c)
@@ -47,8 +50,10 @@ finish_spawned s f c = record s { finishes = set s.finishes f (finish.after (fin
 
 -- and after the child's line was changed
 abbrev pub child_born : WorldState → ℕ → ℕ → WorldState
-child_born s f c = with_task (finish_spawned s f c) c (born_in f (task_at s (spawner_at s c)).clock (task_at s c))
+child_born s f c =
+    with_task (finish_spawned s f c) c (born_in f (task_at s (spawner_at s c)).clock (task_at s c))
 
 abbrev pub spawn_state : WorldState → ℕ → ℕ → WorldState
-spawn_state s f c =
-    state_by (spawn_result s f c) s (with_task (child_born s f c) (spawner_at s c) (spawn_noted (task_at (child_born s f c) (spawner_at s c))))
+spawn_state s f c = state_by (spawn_result s f c) s
+    (with_task (child_born s f c) (spawner_at s c)
+    (spawn_noted (task_at (child_born s f c) (spawner_at s c))))

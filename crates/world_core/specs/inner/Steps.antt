@@ -77,7 +77,8 @@ with_task s t k = record s { tasks = set s.tasks t k }
 
 -- the state after a call that phaser n has done
 abbrev pub phaser_called : WorldState → ℕ → Call → WorldState
-phaser_called s n c = record s { phasers = set s.phasers n (after (story_at s n) (phaser.reply (story_at s n) c)) }
+phaser_called s n c =
+    record s { phasers = set s.phasers n (after (story_at s n) (phaser.reply (story_at s n) c)) }
 
 -- the first number that is left is this one
 abbrev pub is_first : List ℕ → ℕ → Bool
@@ -124,13 +125,15 @@ state_by (Err r) old new = old
 
 abbrev pub signal_result : WorldState → ℕ → ℕ → Option ℕ → Result (Unit {0}) Refusal
 signal_result s n t x =
-    if is_to_signal (task_at s t) n x then done_result (phaser.reply (story_at s n) (signal t x)) else Err NotNow
+    if is_to_signal (task_at s t) n x then done_result (phaser.reply (story_at s n) (signal t x))
+    else Err NotNow
 
 abbrev pub signal_answer : WorldState → ℕ → ℕ → Option ℕ → Result Reply Refusal
 signal_answer s n t x = done_by (signal_result s n t x)
 
 abbrev pub signal_state : WorldState → ℕ → ℕ → Option ℕ → WorldState
-signal_state s n t x = state_by (signal_result s n t x) s (with_task (phaser_called s n (signal t x)) t (signal_noted (task_at s t)))
+signal_state s n t x = state_by (signal_result s n t x) s
+    (with_task (phaser_called s n (signal t x)) t (signal_noted (task_at s t)))
 
 -- the task's next event is to pass phaser n, the single aside
 abbrev pub wants_pass : Plan → List ℕ → ℕ → Bool
@@ -148,13 +151,15 @@ may_report s t = is_permitted s.limits s.ops s.past (Reported t)
 
 -- a pass, a claim and a report of an act under way are asked of the phaser where they are what comes next
 abbrev pub pass_asked : WorldState → ℕ → ℕ → Bool
-pass_asked s n t = is_to_pass (task_at s t) n && not (may_claim (story_at s n) t) && not (may_report (story_at s n) t)
+pass_asked s n t =
+    is_to_pass (task_at s t) n && not (may_claim (story_at s n) t) && not (may_report (story_at s n) t)
 
 abbrev pub claim_asked : WorldState → ℕ → ℕ → Bool
 claim_asked s n t = is_to_pass (task_at s t) n && may_claim (story_at s n) t
 
 abbrev pub report_asked : WorldState → ℕ → ℕ → Bool
-report_asked s n t = is_to_pass (task_at s t) n && not (may_claim (story_at s n) t) && may_report (story_at s n) t
+report_asked s n t =
+    is_to_pass (task_at s t) n && not (may_claim (story_at s n) t) && may_report (story_at s n) t
 
 -- what the phaser says to a pass
 abbrev pub passed_on : WorldState → ℕ → ℕ → Result Passing Refusal
@@ -190,7 +195,8 @@ abbrev pub pass_answer : WorldState → ℕ → ℕ → Result Reply Refusal
 pass_answer s n t = reply_by_pass (pass_outcome s n t)
 
 abbrev pub pass_state : WorldState → ℕ → ℕ → WorldState
-pass_state s n t = state_by_pass (pass_outcome s n t) s (phaser_called s n (pass t)) (with_task (phaser_called s n (pass t)) t (pass_noted (task_at s t)))
+pass_state s n t = state_by_pass (pass_outcome s n t) s (phaser_called s n (pass t))
+    (with_task (phaser_called s n (pass t)) t (pass_noted (task_at s t)))
 
 -- a claim: the phaser is asked to pass, and the line stays
 abbrev pub claim_outcome : WorldState → ℕ → ℕ → Result Passing Refusal
@@ -200,11 +206,14 @@ abbrev pub claim_answer : WorldState → ℕ → ℕ → Result Reply Refusal
 claim_answer s n t = reply_by_pass (claim_outcome s n t)
 
 abbrev pub claim_state : WorldState → ℕ → ℕ → WorldState
-claim_state s n t = state_by_pass (claim_outcome s n t) s (phaser_called s n (pass t)) (phaser_called s n (pass t))
+claim_state s n t =
+    state_by_pass (claim_outcome s n t) s (phaser_called s n (pass t)) (phaser_called s n (pass t))
 
 -- a report that the single is done
 abbrev pub report_result : WorldState → ℕ → ℕ → Result (Unit {0}) Refusal
-report_result s n t = if report_asked s n t then done_result (phaser.reply (story_at s n) (single_done t)) else Err NotNow
+report_result s n t =
+    if report_asked s n t then done_result (phaser.reply (story_at s n) (single_done t))
+    else Err NotNow
 
 abbrev pub report_answer : WorldState → ℕ → ℕ → Result Reply Refusal
 report_answer s n t = done_by (report_result s n t)
@@ -230,7 +239,8 @@ opening f k = record k { innermost = Some f; acts = min (k.acts + 1) 4294967295 
 
 abbrev pub opened : WorldState → ℕ → ℕ → WorldState
 opened s f t = record s {
-  finishes = set s.finishes f (finish.after (finish_at s f) (Opened t) (answer (finish_at s f).tasks (finish_at s f).past (Opened t)));
+  finishes = set s.finishes f (finish.after (finish_at s f) (Opened t)
+      (answer (finish_at s f).tasks (finish_at s f).past (Opened t)));
   owners = set s.owners f t;
   outers = set s.outers f (task_at s t).innermost;
   tasks = set s.tasks t (opening f (task_at s t));

@@ -60,19 +60,22 @@ impl Tables {
     }
 
     fn unmade(&self) -> u32
-        ensures { result ≡ least_unused (λ n. not (is_empty (past_in self.now.phasers n))) self.now.limits.phasers }
+        ensures { result ≡ least_unused (λ n. not (is_empty (past_in self.now.phasers n)))
+            self.now.limits.phasers }
     {
         first_unmade(&self.phasers, self.limits.phasers)
     }
 
     fn unnamed(&self) -> u32
-        ensures { result ≡ least_unused (λ t. (get_or self.now.tasks t blank_task).is_named) self.now.limits.tasks }
+        ensures { result ≡ least_unused (λ t. (get_or self.now.tasks t blank_task).is_named)
+            self.now.limits.tasks }
     {
         first_unnamed(&self.tasks, self.limits.tasks)
     }
 
     fn unopened(&self) -> u32
-        ensures { result ≡ least_unused (λ f. not (is_empty (get_or self.now.finishes f (fresh 0)).past)) self.now.limits.finishes }
+        ensures { result ≡ least_unused (λ f. not (is_empty (get_or self.now.finishes f (fresh 0)).past))
+            self.now.limits.finishes }
     {
         first_unopened(&self.finishes, self.limits.finishes)
     }
@@ -81,7 +84,8 @@ impl Tables {
 impl Task {
     /// Its phasers, each in its own mode.
     fn pairs(&self, own: u32, phasers: &[KeptPhaser]) -> Phased
-        ensures { result ≡ map (λ n. record { phaser = n; mode = mode_at own (past_in phasers.now n) }) self.now.phasers }
+        ensures { result ≡ map (λ n. record { phaser = n; mode = mode_at own (past_in phasers.now n) })
+            self.now.phasers }
     {
         list_pairs(&self.phasers, phasers, own)
     }
@@ -102,7 +106,8 @@ fn list_pairs(own: &[u32], phasers: &[KeptPhaser], task: u32) -> Phased
     pairs
 }
 
-/// The task's mode on this phaser. On a number without a phaser it has none, and is read as a waiter.
+/// The task's mode on this phaser.
+/// On a number without a phaser it has none, and is read as a waiter.
 fn mode_on(phasers: &[KeptPhaser], phaser: u32, task: u32) -> Mode
     ensures { result ≡ mode_at task (past_in phasers.now phaser) }
 {

@@ -87,8 +87,8 @@ impl Tables {
         }
     }
 
-    /// Copies the numbers of the phasers on which the task is to the front of the array, and returns
-    /// how many they are.
+    /// Copies the numbers of the phasers on which the task is to the front of the array, and
+    /// returns how many they are.
     fn copy_phasers(&self, task: u32, numbers: &mut [u32; MOST_PHASERS]) -> usize
         ensures held { take result numbers.new ≡ (task_at self.now task).phasers }
         ensures few { result ≤ 16 }

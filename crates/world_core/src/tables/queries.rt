@@ -57,7 +57,9 @@ impl Task {
 
     /// The next event of a task that comes to its end, where it drops this child first.
     fn ending(&self, own: u32, child: u32) -> WorldEvent
-        ensures { result ≡ drop_or child (slice_get self.now.left 0) (drop_or own (slice_get self.now.phasers 0) (shut_or self.now.innermost (end_of own self.now))) }
+        ensures { result ≡ drop_or child (slice_get self.now.left 0)
+            (drop_or own (slice_get self.now.phasers 0)
+            (shut_or self.now.innermost (end_of own self.now))) }
     {
         if let Some(phaser) = self.left.first().copied() {
             return WorldEvent::Phaser(phaser, Step::Drop(child));

@@ -105,7 +105,8 @@ impl Tables {
     }
 }
 
-/// Whether the refusal has this number, and may be noted: a wrong moment and want of memory may not.
+/// Whether the refusal has this number, and may be noted:
+/// a wrong moment and want of memory may not.
 fn is_noted_by(refused: Result<(), Refusal>, number: u8) -> bool
     ensures { result ≡ is_noted refused number }
 {

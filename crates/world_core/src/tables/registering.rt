@@ -44,7 +44,8 @@ impl Tables {
         mode: Mode,
     ) -> Result<(), Refusal>
         ensures reply { result ≡ done_result (reply (story_at self.old phaser) (register parent child mode)) }
-        ensures state { IfOk result (λ _. self.new ≡ phaser_called self.old phaser (register parent child mode)) }
+        ensures state { IfOk result (λ _. self.new
+            ≡ phaser_called self.old phaser (register parent child mode)) }
         ensures place { IfOk result (λ _. phaser < length self.old.phasers) }
         ensures kept { IfErr result (λ _. self.new ≡ self.old) }
     {

@@ -15,7 +15,8 @@ impl Tables {
     /// The report of the world: each phaser's history is read once. `Memory` where there is too
     /// little for the lines.
     pub(crate) fn report(&self, alloc: Global) -> Result<WorldReport, Refusal>
-        ensures report { (w : List Event) → StandsFor w self.now → IfOk result (λ r. r ≡ report_of self.now.limits w) }
+        ensures report { (w : List Event) → StandsFor w self.now
+            → IfOk result (λ r. r ≡ report_of self.now.limits w) }
         ensures memory { IfErr result (λ r. r ≡ Refusal.Memory) }
     {
         self.kept_report(alloc)

@@ -23,8 +23,10 @@ impl Tables {
         accumulator: u8,
         value: i32,
     ) -> Result<(), Refusal>
-        ensures reply { result ≡ done_result (reply (story_at self.old phaser) (send task accumulator value)) }
-        ensures state { IfOk result (λ _. self.new ≡ phaser_called self.old phaser (send task accumulator value)) }
+        ensures reply { result
+            ≡ done_result (reply (story_at self.old phaser) (send task accumulator value)) }
+        ensures state { IfOk result (λ _. self.new
+            ≡ phaser_called self.old phaser (send task accumulator value)) }
         ensures kept { IfErr result (λ _. self.new ≡ self.old) }
     {
         if phaser as usize >= self.phasers.len() {
@@ -88,7 +90,8 @@ impl Tables {
         accumulator: u8,
         value: i32,
     ) -> Result<Reply, Refusal>
-        ensures { IsStep (WorldEvent.Phaser phaser (Step.Send task accumulator value)) self.old self.new result }
+        ensures { IsStep (WorldEvent.Phaser phaser (Step.Send task accumulator value))
+            self.old self.new result }
     {
         self.send_value(phaser, task, accumulator, value)
     }

@@ -37,7 +37,8 @@ impl Tables {
     #[tactic(auto, using(crate::proofs::SpawnKept::spawn_kept))]
     /// Asks a finish to note a spawn. A number without a finish has none open.
     fn spawn_in(&mut self, finish: u32, child: u32) -> Result<(), Refusal>
-        ensures reply { result ≡ answer (finish_at self.old finish).tasks (finish_at self.old finish).past (FinishEvent.Spawned child) }
+        ensures reply { result ≡ answer (finish_at self.old finish).tasks (finish_at self.old finish).past
+            (FinishEvent.Spawned child) }
         ensures state { IfOk result (λ _. self.new ≡ finish_spawned self.old finish child) }
         ensures place { IfOk result (λ _. finish < length self.old.finishes) }
         ensures kept { IfErr result (λ _. self.new ≡ self.old) }

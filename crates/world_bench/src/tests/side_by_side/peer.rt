@@ -1,5 +1,5 @@
-//! A slow world: the events that were made, a phaser for each number, and what each task still has to
-//! make. All else that it replies is computed from the whole list of events.
+//! A slow world: the events that were made, a phaser for each number, and what each task still has
+//! to make. All else that it replies is computed from the whole list of events.
 use super::past::*;
 use super::*;
 use phase_model::{Call, Reply as PhaserReply};
