@@ -41,7 +41,8 @@ single_in d = if not (ends_at 2 d) then None else (number_at 1 d >>= λ n. Some 
 unfoldable pub send_in : Data → Option Said
 send_in d =
     if not (ends_at 4 d) then None
-    else (name_at 1 d >>= λ name. accumulator_at 2 d >>= λ a. value_at 3 d >>= λ v. Some (send (heads.Send 0 a v) name))
+    else (name_at 1 d >>= λ name. accumulator_at 2 d >>= λ a.
+    value_at 3 d >>= λ v. Some (send (heads.Send 0 a v) name))
 
 -- ["look", name, a]
 unfoldable pub look_in : Data → Option Said
@@ -59,7 +60,8 @@ pair_in d =
 unfoldable pub async_in : Data → Option Said
 async_in d =
     if not (ends_at 3 d) then None
-    else (items_at 1 d >>= λ pairs. at_most 16 (all_in pair_in pairs) >>= λ xs. items_at 2 d >>= λ body. Some (async xs body))
+    else (items_at 1 d >>= λ pairs. at_most 16 (all_in pair_in pairs) >>= λ xs.
+    items_at 2 d >>= λ body. Some (async xs body))
 
 -- ["async_all", [acts]]
 unfoldable pub async_all_in : Data → Option Said

@@ -44,7 +44,8 @@ is_too_long k inner = nat_lt 10000 (k * flat_length inner)
 -- a child's body that is too long is at fault at the act with which it is.
 abbrev pub one_of : ℕ → Head → Read → One
 one_of p (heads.Repeat k) r = record { head = heads.Repeat k; body = r.acts; next = r.next; seen = noted_where (is_too_long k r.acts) r.seen p }
-one_of p h r = record { head = h; body = kept r.passing r.acts; next = r.next; seen = noted_at r.passing r.seen }
+one_of p h r =
+    record { head = h; body = kept r.passing r.acts; next = r.next; seen = noted_at r.passing r.seen }
 
 -- the place of the act with which a list of n acts first passed ten thousand, where its last act stands at p
 abbrev pub passing_now : Option ℕ → ℕ → ℕ → Option ℕ
@@ -82,7 +83,9 @@ one_then p h (Ok r) = Ok (one_of p h r)
 -- an act of which this is known by itself
 abbrev pub act_then : ℕ → Seen → Option Said → (Read → Items → Result Read ℕ) → Result One ℕ
 act_then p s None inner = Err (fails_at s p)
-act_then p s (Some x) inner = let h = head_of s p x in one_then p h.0 (inner (nothing_read (p + 1) h.1) (inner_of x))
+act_then p s (Some x) inner =
+    let h = head_of s p x in
+    one_then p h.0 (inner (nothing_read (p + 1) h.1) (inner_of x))
 
 -- an act at a place; acts nest at most so deep
 abbrev pub act_in : ℕ → ℕ → Seen → Data → Result One ℕ

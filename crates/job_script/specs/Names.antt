@@ -72,7 +72,8 @@ fails_at s p = least_fault s.fault p
 abbrev pub number_by : Option ℕ → Seen → ℕ → List ℕ → ℕ × Seen
 number_by (Some i) s p name = (i, s)
 number_by None s p name =
-    if nat_lt (length s.names) 64 then (length s.names, record { names = s.names ++ name ∷ []; fault = s.fault })
+    if nat_lt (length s.names) 64
+    then (length s.names, record { names = s.names ++ name ∷ []; fault = s.fault })
     else (0, noted s p)
 
 -- the number of a name in the act at place p, and what is seen with it

@@ -53,11 +53,15 @@ MillionActs = form (program (repeated 1000 (repeated 1000 (next_act ∷ []) ∷ 
 
 -- of two repeats that are both too long the outermost is told
 abbrev pub BothTooLong : Type 0
-BothTooLong = form (program (next_act ∷ repeated 2 (repeated 1000 (repeated 11 (next_act ∷ []) ∷ []) ∷ []) ∷ [])) ≡ Err 2
+BothTooLong =
+    form (program (next_act ∷ repeated 2 (repeated 1000 (repeated 11 (next_act ∷ []) ∷ []) ∷ []) ∷ []))
+    ≡ Err 2
 
 -- a repeat that goes no times isn't too long, and one inside it may be
 abbrev pub OnlyInnerTooLong : Type 0
-OnlyInnerTooLong = form (program (repeated 0 (repeated 1000 (repeated 11 (next_act ∷ []) ∷ []) ∷ []) ∷ [])) ≡ Err 2
+OnlyInnerTooLong =
+    form (program (repeated 0 (repeated 1000 (repeated 11 (next_act ∷ []) ∷ []) ∷ []) ∷ []))
+    ≡ Err 2
 
 -- a list in which an act is wrong has no length
 abbrev pub WrongInLong : Type 0
@@ -65,7 +69,9 @@ WrongInLong = form (program (repeated 1000 (repeated 11 (next_act ∷ no_such_ac
 
 -- the act with which a body first passes ten thousand
 abbrev pub BodyTooLong : Type 0
-BodyTooLong = form (program (repeated 1000 (repeated 10 (next_act ∷ []) ∷ []) ∷ next_act ∷ next_act ∷ [])) ≡ Err 4
+BodyTooLong =
+    form (program (repeated 1000 (repeated 10 (next_act ∷ []) ∷ []) ∷ next_act ∷ next_act ∷ []))
+    ≡ Err 4
 
 -- ten thousand acts are a body
 abbrev pub LongestBody : Type 0
@@ -75,7 +81,9 @@ LongestBody =
 
 -- a spawn is one act, however long its body, and the body may be too long itself
 abbrev pub ChildTooLong : Type 0
-ChildTooLong = form (program (next_act ∷ spawn (next_act ∷ repeated 1000 (repeated 10 (next_act ∷ []) ∷ []) ∷ []) ∷ [])) ≡ Err 4
+ChildTooLong =
+    form (program (next_act ∷ spawn (next_act ∷ repeated 1000 (repeated 10 (next_act ∷ []) ∷ []) ∷ []) ∷ []))
+    ≡ Err 4
 
 -- ---- names
 
@@ -110,7 +118,9 @@ TooManyNamesWithin = form (program (next_act ∷ repeated 1000 (names 65) ∷ []
 -- ---- the outer object
 
 abbrev pub UnknownKey : Type 0
-UnknownKey = form (object (member (codes "acts") (list []) (member (codes "main") (list []) no_members))) ≡ Err 0
+UnknownKey =
+    form (object (member (codes "acts") (list []) (member (codes "main") (list []) no_members)))
+    ≡ Err 0
 
 abbrev pub NoMain : Type 0
 NoMain = form (object no_members) ≡ Err 0

@@ -2,13 +2,14 @@
 use phase_model::{Look, Ops};
 use phase_modes::{Mode, Phased};
 
-/// An act of a task. `B` is the body of a child. Phasers are named by their numbers, accumulators by
-/// their index.
+/// An act of a task. `B` is the body of a child. Phasers are named by their numbers, accumulators
+/// by their index.
 #[derive(Drop)]
 pub enum Act<B: Drop> {
     /// Spawns a child with this body, registered on these phasers.
     Async(B, Phased),
-    /// Spawns a child with this body, registered on all phasers of the task, in the task's own modes.
+    /// Spawns a child with this body, registered on all phasers of the task,
+    /// in the task's own modes.
     AsyncAll(B),
     /// Opens a finish inside the innermost one.
     OpenFinish,

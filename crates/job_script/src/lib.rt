@@ -1,6 +1,6 @@
-//! Programs: their texts, and the acts that a task is given of a body, one after the other. A text is
-//! read to nested acts, of which a repeat isn't written out and a child's body stands once; which
-//! program a text spells, and which acts a body gives, is defined in `specs/`.
+//! Programs: their texts, and the acts that a task is given of a body, one after the other. A text
+//! is read to nested acts, of which a repeat isn't written out and a child's body stands once;
+//! which program a text spells, and which acts a body gives, is defined in `specs/`.
 #![tactic(auto)]
 
 mod act;

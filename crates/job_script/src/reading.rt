@@ -23,8 +23,8 @@ use serde_json::Value;
 use std::alloc::Global;
 use text_words::{has_only_keys, json_of, limits_of};
 
-/// A list of acts as it was read, the place after it, and the place of the act with which its length
-/// first passed ten thousand.
+/// A list of acts as it was read, the place after it, and the place of the act with which its
+/// length first passed ten thousand.
 #[derive(Drop)]
 pub(crate) struct List {
     pub(crate) body: Body,
@@ -69,7 +69,8 @@ fn numbered(
     pairs: &[NameMode<'_>],
 ) -> Result<NamedList, Refusal>
     requires { length pairs.now ≤ 16 }
-    ensures numbered { IfOk result (λ xs. numbered seen.old place (map pair_view pairs.now) ≡ (xs, seen.new)) }
+    ensures numbered { IfOk result (λ xs. numbered seen.old place (map pair_view pairs.now)
+        ≡ (xs, seen.new)) }
     ensures memory { IfErr result (λ e. e ≡ NoMemory) }
 {
     let mut list = NamedList::none();
@@ -89,7 +90,8 @@ fn head_of<'v>(
 ) -> Result<(Head, Option<&'v Vec<Value>>), Refusal>
     requires { HasFew said }
     ensures head { IfOk result (λ x. head_of seen.old place (said_view said.entry) ≡ (x.0, seen.new)) }
-    ensures inner { IfOk result (λ x. option_map_or (λ v. items_view v.now.items) x.1 no_items ≡ inner_of (said_view said.entry)) }
+    ensures inner { IfOk result (λ x. option_map_or (λ v. items_view v.now.items) x.1 no_items
+        ≡ inner_of (said_view said.entry)) }
     ensures memory { IfErr result (λ e. e ≡ NoMemory) }
 {
     Ok(match said {
@@ -111,8 +113,8 @@ fn head_of<'v>(
     })
 }
 
-/// An act of which the acts inside it were read. A repeat that comes to too much is a fault at its own
-/// place. A child's body that is too long is one at the act with which it is, and is not kept.
+/// An act of which the acts inside it were read. A repeat that comes to too much is a fault at its
+/// own place. A child's body that is too long is one at the act with which it is, and is not kept.
 fn one_of(alloc: Global, seen: &mut Seen, place: u64, head: Head, list: List) -> Item
     requires { list.passing ≡ None → flat_length list.body < too_many }
     ensures one { one_view (result, list.next) seen.new ≡ one_of place head (list_view list seen.old) }
@@ -199,7 +201,8 @@ fn acts_of(
     first: u64,
     depth: u8,
 ) -> Result<List, Refusal>
-    ensures list { GivesList result seen.new (acts_in depth (nothing_read first seen.old) (items_view items.now)) }
+    ensures list { GivesList result seen.new
+        (acts_in depth (nothing_read first seen.old) (items_view items.now)) }
     ensures short { IfOk result (λ l. l.passing ≡ None → flat_length l.body < too_many) }
 {
     let mut list = List {
@@ -260,9 +263,9 @@ fn program_of(alloc: Global, value: &Value) -> Result<Program, Refusal>
 }
 
 /// Reads the bytes of a program. `BadText` where they are not of the form: its place is 0 where the
-/// bytes are no JSON or the outer object is wrong, else the number of the first act that is at fault,
-/// counted from 1 in the order of the text, an act before those inside it. `Memory` where there is
-/// too little for the JSON value or for the acts.
+/// bytes are no JSON or the outer object is wrong, else the number of the first act that is at
+/// fault, counted from 1 in the order of the text, an act before those inside it. `Memory` where
+/// there is too little for the JSON value or for the acts.
 pub fn read_program(alloc: Global, bytes: &[u8]) -> Result<Program, Refusal>
     ensures { Gives (λ p. p) result (form_of (reading bytes.now)) }
 {

@@ -153,7 +153,8 @@ fn pair_of(list: &Value) -> Option<NameMode<'_>>
 
 /// The pairs, if each item is one and there are at most sixteen.
 fn pairs_of<'v>(alloc: Global, items: &'v [Value]) -> Result<Option<Vec<NameMode<'v>>>, Refusal>
-    ensures pairs { IfOk result (λ o. option_map (λ v. map pair_view v.items) o ≡ at_most 16 (all_in pair_in (items_view items.now))) }
+    ensures pairs { IfOk result (λ o. option_map (λ v. map pair_view v.items) o
+        ≡ at_most 16 (all_in pair_in (items_view items.now))) }
     ensures few { IfOk result (λ o. IfSome o (λ v. length v.items ≤ 16)) }
     ensures memory { IfErr result (λ e. e ≡ NoMemory) }
 {

@@ -13,8 +13,8 @@ use std::marker::Model;
 const NOWHERE: u32 = u32::MAX;
 
 /// A task that goes through the acts of a body. Contracts see the acts that are left, every repeat
-/// written out, and what the names mean to the task. The body is shared by all tasks that go through
-/// it, so a spawn copies no act.
+/// written out, and what the names mean to the task. The body is shared by all tasks that go
+/// through it, so a spawn copies no act.
 #[derive(Drop)]
 pub struct ScriptBody<'p> {
     body: &'p Body,
@@ -34,7 +34,8 @@ impl<'p> Model for ScriptBody<'p> {
 
     ghost coded = { script_code head.the_row.coded };
 
-    ghost view = { λ s. record { left = drop s.done (flat s.body.now); meanings = s.meanings; naming = s.naming } };
+    ghost view = { λ s.
+        record { left = drop s.done (flat s.body.now); meanings = s.meanings; naming = s.naming } };
 
     ghost invariant = { λ s. (flat_length s.body.now < too_many) × (s.done ≤ flat_length s.body.now) };
 }
@@ -140,9 +141,9 @@ impl<'p> ScriptBody<'p> {
         ScriptBody::begun(body, [NOWHERE; 64])
     }
 
-    /// The next act, after the answer to the one before; `End` where none is left. It takes no memory
-    /// and is never refused. A phaser that was `Made` has the name of its `new` from then on; a name
-    /// without a meaning stands for phaser 4,294,967,295, on which nobody is registered.
+    /// The next act, after the answer to the one before; `End` where none is left. It takes no
+    /// memory and is never refused. A phaser that was `Made` has the name of its `new` from then
+    /// on; a name without a meaning stands for phaser 4,294,967,295, on which nobody is registered.
     pub fn step(&mut self, answer: Answer) -> Result<Act<ScriptBody<'p>>, Refusal>
         ensures gives { result ≡ Ok (given answer self.old) }
         ensures goes_on { self.new ≡ stepped answer self.old }

@@ -8,8 +8,8 @@ use phase_modes::Refusal;
 use std::alloc::Global;
 use std::marker::Model;
 
-/// The names that stood so far, numbered in the order in which they first stood, and the least place
-/// of a fault that was noted.
+/// The names that stood so far, numbered in the order in which they first stood, and the least
+/// place of a fault that was noted.
 #[derive(Drop)]
 pub(crate) struct Seen {
     names: IndexSet<String>,
@@ -62,8 +62,9 @@ impl Seen {
         self.fault = Some(self.first_fault(place));
     }
 
-    /// The number of a name, 0 to 63, in an act at a place. The sixty-fifth name has none: that is a
-    /// fault at the act in which it first stands. `Memory` where there is too little for the name.
+    /// The number of a name, 0 to 63, in an act at a place. The sixty-fifth name has none: that is
+    /// a fault at the act in which it first stands.
+    /// `Memory` where there is too little for the name.
     pub(crate) fn number_of(&mut self, alloc: Global, place: u64, name: &str) -> Result<u8, Refusal>
         ensures numbered { IfOk result (λ n. number_of self.old place name.now ≡ (n, self.new)) }
         ensures memory { IfErr result (λ e. e ≡ NoMemory) }

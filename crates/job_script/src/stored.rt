@@ -38,7 +38,8 @@ impl Model for Body {
 
     ghost view = { λ b. acts_view b.items.items };
 
-    ghost invariant = { λ b. (b.ends.items ≡ ends_from 0 (acts_view b.items.items)) × (are_short b.items.items ≡ true) };
+    ghost invariant = { λ b. (b.ends.items ≡ ends_from 0 (acts_view b.items.items))
+        × (are_short b.items.items ≡ true) };
 
     ghost size = { depth };
 
@@ -79,7 +80,8 @@ fn item_at(items: &[Item], index: usize) -> Option<&Item>
 impl Item {
     ghost use Rattle.job_script.specs.Acts.{written_length, flat_length, too_many};
 
-    /// How many acts it comes to once it is written out, as far as numbers go that are not too large.
+    /// How many acts it comes to once it is written out,
+    /// as far as numbers go that are not too large.
     fn len(&self) -> u32
         ensures { result ≡ min (written_length self.now.head (flat_length self.now.body)) too_many }
     {
@@ -107,8 +109,8 @@ impl Body {
         }
     }
 
-    /// How many acts it comes to once every repeat is written out, as far as numbers go that are not
-    /// too large.
+    /// How many acts it comes to once every repeat is written out, as far as numbers go that are
+    /// not too large.
     pub(crate) fn len(&self) -> u32
         ensures { result ≡ min (flat_length self.now) too_many }
     {
@@ -127,8 +129,8 @@ impl Body {
         Ok(())
     }
 
-    /// The act at a place of the list in which every repeat is written out. It costs a binary search
-    /// for each repeat that it stands in.
+    /// The act at a place of the list in which every repeat is written out. It costs a binary
+    /// search for each repeat that it stands in.
     pub(crate) fn at(&self, place: u32) -> Option<&Item>
         requires { place < too_many }
         ensures act { option_map (λ i. act_view i.now) result ≡ slice_get (flat self.now) place }

@@ -15,7 +15,8 @@ use Rattle.schedule_model.specs.Picks.{round_from, run_within}
 
 -- each event of a run is one that the world accepts
 abbrev pub RunsAreLegal : Type 0
-RunsAreLegal = (p : Program) (picks : List ℕ) (most : ℕ) → is_legal_world p.limits (run_within most p picks) ≡ true
+RunsAreLegal =
+    (p : Program) (picks : List ℕ) (most : ℕ) → is_legal_world p.limits (run_within most p picks) ≡ true
 
 -- a run follows its program
 abbrev pub RunsFollow : Type 0

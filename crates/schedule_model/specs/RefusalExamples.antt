@@ -14,36 +14,41 @@ abbrev pub few_acts : Limits
 few_acts = record default_limits { acts = 2 }
 
 abbrev pub ActsFullRun : Type 0
-ActsFullRun = ComesTo (with_limits few_acts (plain Next ∷ plain Next ∷ plain Next ∷ [])) [] (root_alone (Some 19) (tasks_in 0 0 ∷ []))
+ActsFullRun = ComesTo (with_limits few_acts (plain Next ∷ plain Next ∷ plain Next ∷ [])) []
+    (root_alone (Some 19) (tasks_in 0 0 ∷ []))
 
 abbrev pub one_task : Limits
 one_task = record default_limits { tasks = 1 }
 
 abbrev pub TasksFullRun : Type 0
-TasksFullRun = ComesTo (with_limits one_task (within (Async []) [] ∷ [])) [] (root_alone (Some 17) (tasks_in 0 0 ∷ []))
+TasksFullRun = ComesTo (with_limits one_task (within (Async []) [] ∷ [])) []
+    (root_alone (Some 17) (tasks_in 0 0 ∷ []))
 
 abbrev pub one_finish : Limits
 one_finish = record default_limits { finishes = 1 }
 
 abbrev pub FinishesFullRun : Type 0
-FinishesFullRun = ComesTo (with_limits one_finish (plain OpenFinish ∷ [])) [] (root_alone (Some 18) (tasks_in 0 0 ∷ []))
+FinishesFullRun = ComesTo (with_limits one_finish (plain OpenFinish ∷ [])) []
+    (root_alone (Some 18) (tasks_in 0 0 ∷ []))
 
 abbrev pub one_phaser : Limits
 one_phaser = record default_limits { phasers = 1 }
 
 abbrev pub PhasersFullRun : Type 0
-PhasersFullRun = ComesTo (with_limits one_phaser (plain (New 0 OnlySig []) ∷ plain (New 1 OnlySig []) ∷ [])) [] (record {
-  phasers = phases_of 0 0 [] ∷ [];
-  tasks = refused_with 0 16 ∷ [];
-  finishes = tasks_in 0 0 ∷ [];
-  totals = in_all 1 0 0 1 0 0 0;
-})
+PhasersFullRun =
+    ComesTo (with_limits one_phaser (plain (New 0 OnlySig []) ∷ plain (New 1 OnlySig []) ∷ [])) [] (record {
+      phasers = phases_of 0 0 [] ∷ [];
+      tasks = refused_with 0 16 ∷ [];
+      finishes = tasks_in 0 0 ∷ [];
+      totals = in_all 1 0 0 1 0 0 0;
+    })
 
 -- ---- acts of the root that may not be made
 
 -- its end with an open finish
 abbrev pub FinishOpenRun : Type 0
-FinishOpenRun = ComesTo (program (plain OpenFinish ∷ [])) [] (root_alone (Some 20) (tasks_in 0 0 ∷ tasks_in 1 0 ∷ []))
+FinishOpenRun = ComesTo (program (plain OpenFinish ∷ [])) []
+    (root_alone (Some 20) (tasks_in 0 0 ∷ tasks_in 1 0 ∷ []))
 
 -- a shut of no finish
 abbrev pub NoFinishRun : Type 0
@@ -55,7 +60,8 @@ OnePhaserOnlyRun = ComesTo (program (plain (NextSingle 1) ∷ [])) [] (root_alon
 
 -- a value for a name without a meaning
 abbrev pub NotRegisteredRun : Type 0
-NotRegisteredRun = ComesTo (program (plain (Send 0 0 (pos 1)) ∷ [])) [] (root_alone (Some 1) (tasks_in 0 0 ∷ []))
+NotRegisteredRun = ComesTo (program (plain (Send 0 0 (pos 1)) ∷ [])) []
+    (root_alone (Some 1) (tasks_in 0 0 ∷ []))
 
 -- ---- what goes wrong in the middle of an act
 

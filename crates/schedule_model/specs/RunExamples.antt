@@ -50,8 +50,10 @@ OutsideScope = ComesTo outside_scope [] (record {
 abbrev pub two_senders : Program
 two_senders = program (
     plain (New 0 SigWait (Sum ∷ []))
-    ∷ within (Async (on 0 SigWait ∷ [])) (plain (Send 0 0 (pos 1)) ∷ plain Next ∷ plain (Send 0 0 (pos 10)) ∷ plain Next ∷ [])
-    ∷ within (Async (on 0 SigWait ∷ [])) (plain (Send 0 0 (pos 2)) ∷ plain Next ∷ plain (Send 0 0 (pos 20)) ∷ plain Next ∷ [])
+    ∷ within (Async (on 0 SigWait ∷ []))
+    (plain (Send 0 0 (pos 1)) ∷ plain Next ∷ plain (Send 0 0 (pos 10)) ∷ plain Next ∷ [])
+    ∷ within (Async (on 0 SigWait ∷ []))
+    (plain (Send 0 0 (pos 2)) ∷ plain Next ∷ plain (Send 0 0 (pos 20)) ∷ plain Next ∷ [])
     ∷ [])
 
 abbrev pub two_senders_report : Report
@@ -114,7 +116,8 @@ abbrev pub nested_finish_report : Report
 nested_finish_report = no_phasers (ended 0 ∷ ended 1 ∷ ended 2 ∷ []) (tasks_in 0 0 ∷ tasks_in 1 2 ∷ [])
 
 abbrev pub NestedFinish : Type 0
-NestedFinish = ComesTo nested_finish nested_picks nested_finish_report × ComesTo nested_finish [] nested_finish_report
+NestedFinish = ComesTo nested_finish nested_picks nested_finish_report
+    × ComesTo nested_finish [] nested_finish_report
 
 -- ---- two tasks, each a signaller of the phaser on which the other waits
 
@@ -140,11 +143,13 @@ CrossedSignals = ComesTo (crossed_with []) [] (crossed_report (ended 1) (in_all 
 
 -- the picks repeat the first child fifty times
 abbrev pub CrossedSignalsByOne : Type 0
-CrossedSignalsByOne = ComesTo (crossed_with []) (replicate 50 1) (crossed_report (ended 1) (in_all 6 6 12 6 0 0 0))
+CrossedSignalsByOne = ComesTo (crossed_with []) (replicate 50 1)
+    (crossed_report (ended 1) (in_all 6 6 12 6 0 0 0))
 
 -- a wait put first in the first child is refused, and the other goes on alone
 abbrev pub CrossedSignalsRefused : Type 0
-CrossedSignalsRefused = ComesTo (crossed_with (plain Wait ∷ [])) [] (crossed_report (refused_with 1 6) (in_all 6 3 6 6 0 0 0))
+CrossedSignalsRefused = ComesTo (crossed_with (plain Wait ∷ [])) []
+    (crossed_report (refused_with 1 6) (in_all 6 3 6 6 0 0 0))
 
 -- ---- the owner leaves a phaser of its finish before it waits for the child
 

@@ -69,7 +69,8 @@ next_act p w t = slice_get (acts_left p w t) 0
 -- what the names mean to t after an event, where this is who spawns it by the event
 abbrev pub meant_after : Program → List WorldEvent → ℕ → WorldEvent → Option ℕ → (ℕ → List ℕ) → List ℕ
 meant_after p w t e (Some u) before = before u
-meant_after p w t (Phaser n (Make u m ops)) None before = if u == t then named_as (given_name (next_act p w t)) n (before t) else before t
+meant_after p w t (Phaser n (Make u m ops)) None before =
+    if u == t then named_as (given_name (next_act p w t)) n (before t) else before t
 meant_after p w t _ None before = before t
 
 -- What the names mean to t. A child begins with what they mean to its spawner as the spawn is begun, and later changes

@@ -1,6 +1,6 @@
-//! Programs and world histories: which acts a task has left and what its names mean after a history,
-//! whether a history follows a program, and what a run by picks makes, as definitions (`specs/`) with
-//! their laws. It runs nothing.
+//! Programs and world histories: which acts a task has left and what its names mean after a
+//! history, whether a history follows a program, and what a run by picks makes, as definitions
+//! (`specs/`) with their laws. It runs nothing.
 #![tactic(auto)]
 
 mod examples;

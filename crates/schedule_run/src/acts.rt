@@ -69,8 +69,8 @@ pub(crate) fn event_of(task: u32, act: Tried) -> WorldEvent
 
 // ---- what an event tells of
 
-/// The act of which the event is the first, or which it refuses; none for what continues an act, and
-/// for a failure.
+/// The act of which the event is the first, or which it refuses; none for what continues an act,
+/// and for a failure.
 pub(crate) fn act_of(event: &WorldEvent) -> Option<MadeAct>
     ensures { option_map made_view result ≡ act_of event.now }
 {

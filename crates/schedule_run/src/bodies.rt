@@ -77,9 +77,11 @@ impl<'p> Bodies<'p> {
 
     /// The next act of a task; its end where it has no seat.
     pub(crate) fn next_act(&mut self, task: u32) -> Act<ScriptBody<'p>>
-        ensures given { (p : programs.Program) (w : List events.WorldEvent) → BodiesStand p w self.old.seats.items
+        ensures given { (p : programs.Program) (w : List events.WorldEvent)
+            → BodiesStand p w self.old.seats.items
             → result ≡ next_for (meanings p w task) (next_act p w task) }
-        ensures asked { (p : programs.Program) (w : List events.WorldEvent) → BodiesStand p w self.old.seats.items
+        ensures asked { (p : programs.Program) (w : List events.WorldEvent)
+            → BodiesStand p w self.old.seats.items
             → IsAsked p w task self.new.seats.items }
         ensures places { length self.new.seats.items ≡ length self.old.seats.items }
     {
@@ -95,8 +97,10 @@ impl<'p> Bodies<'p> {
 
     /// Tells a task that it made the phaser that its last act asked for.
     pub(crate) fn tell_made(&mut self, task: u32, phaser: u32)
-        ensures stand { (p : programs.Program) (w : List events.WorldEvent) (m : modes.Mode) (ops : List operators.Op)
-            → IsAsked p w task self.old.seats.items → BodiesStand p (Phaser phaser (Make task m ops) ∷ w) self.new.seats.items }
+        ensures stand { (p : programs.Program) (w : List events.WorldEvent)
+            (m : modes.Mode) (ops : List operators.Op)
+            → IsAsked p w task self.old.seats.items
+            → BodiesStand p (Phaser phaser (Make task m ops) ∷ w) self.new.seats.items }
         ensures places { length self.new.seats.items ≡ length self.old.seats.items }
     {
         let place = task as usize;
@@ -112,7 +116,8 @@ impl<'p> Bodies<'p> {
     pub(crate) fn seat_child(&mut self, child: u32, body: ScriptBody<'p>)
         requires { child < length self.old.seats.items }
         ensures stand { (p : programs.Program) (w : List events.WorldEvent) (t : _) (pairs : List phased.Pair)
-            → IsAsked p w t self.old.seats.items → body.entry ≡ begun (body_of (next_act p w t)) (meanings p w t)
+            → IsAsked p w t self.old.seats.items
+            → body.entry ≡ begun (body_of (next_act p w t)) (meanings p w t)
             → BodiesStand p (Begin t (Async child pairs) ∷ w) self.new.seats.items }
         ensures places { length self.new.seats.items ≡ length self.old.seats.items }
     {

@@ -33,7 +33,8 @@ use world_model::{Begun, Step, Tried, WorldEvent};
 fn is_given(trace: &Trace, count: usize, made: &MadeAct, act: &Act<ScriptBody<'_>>) -> bool
     requires { count ≤ length trace.now.events }
     ensures { result ≡ same_act made.now.act
-        (tried_of (own_pairs made.now.task (history (take count trace.now.events))) (drawn made.now.act) act.now) }
+        (tried_of (own_pairs made.now.task (history (take count trace.now.events)))
+        (drawn made.now.act) act.now) }
 {
     match (act, &made.act) {
         (Act::AsyncAll(_), Tried::Begun(Begun::Async(_, pairs))) => {
@@ -62,9 +63,11 @@ impl<'p> Followers<'p> {
 
     /// The next act of a task, which it goes past; its end where it has no seat.
     fn next_act(&mut self, task: u32) -> Act<ScriptBody<'p>>
-        ensures given { (p : programs.Program) (w : List events.WorldEvent) → SeatsStand p w (seat_of self.old.seats)
+        ensures given { (p : programs.Program) (w : List events.WorldEvent)
+            → SeatsStand p w (seat_of self.old.seats)
             → result ≡ next_for (meanings p w task) (next_act p w task) }
-        ensures asked { (p : programs.Program) (w : List events.WorldEvent) → SeatsStand p w (seat_of self.old.seats)
+        ensures asked { (p : programs.Program) (w : List events.WorldEvent)
+            → SeatsStand p w (seat_of self.old.seats)
             → IsAskedOf p w task (seat_of self.new.seats) }
     {
         match self.seats.get_mut(&task) {
@@ -75,7 +78,8 @@ impl<'p> Followers<'p> {
 
     /// Tells a task that it made the phaser that its last act asked for.
     fn tell_made(&mut self, task: u32, phaser: u32)
-        ensures { (p : programs.Program) (w : List events.WorldEvent) (m : modes.Mode) (ops : List operators.Op)
+        ensures { (p : programs.Program) (w : List events.WorldEvent)
+            (m : modes.Mode) (ops : List operators.Op)
             → IsAskedOf p w task (seat_of self.old.seats)
             → SeatsStand p (Phaser phaser (Make task m ops) ∷ w) (seat_of self.new.seats) }
     {
@@ -87,7 +91,8 @@ impl<'p> Followers<'p> {
     /// Gives the child of a task's last act its seat.
     fn seat_child(&mut self, child: u32, body: ScriptBody<'p>) -> Result<(), Refusal>
         ensures stand { (p : programs.Program) (w : List events.WorldEvent) (t : _) (pairs : List phased.Pair)
-            → IsAskedOf p w t (seat_of self.old.seats) → body.entry ≡ begun (body_of (next_act p w t)) (meanings p w t)
+            → IsAskedOf p w t (seat_of self.old.seats)
+            → body.entry ≡ begun (body_of (next_act p w t)) (meanings p w t)
             → IfOk result (λ _. SeatsStand p (Begin t (Async child pairs) ∷ w) (seat_of self.new.seats)) }
         ensures memory { IfErr result (λ e. e ≡ NoMemory) }
     {
@@ -97,7 +102,8 @@ impl<'p> Followers<'p> {
 
     /// Tells a task what came of the act that it was given, by a step that makes it.
     fn settle_step(&mut self, task: u32, phaser: u32, step: Step)
-        ensures { (p : programs.Program) (w : List events.WorldEvent) → IsAskedOf p w task (seat_of self.old.seats)
+        ensures { (p : programs.Program) (w : List events.WorldEvent)
+            → IsAskedOf p w task (seat_of self.old.seats)
             → is_of task (act_of (Phaser phaser step)) ≡ true
             → SeatsStand p (Phaser phaser step ∷ w) (seat_of self.new.seats) }
     {
@@ -106,15 +112,16 @@ impl<'p> Followers<'p> {
         }
     }
 
-    /// Tells a task what came of the act that it was given, by the event that makes or refuses it: a
-    /// phaser has its number, and a child its seat.
+    /// Tells a task what came of the act that it was given, by the event that makes or refuses it:
+    /// a phaser has its number, and a child its seat.
     fn settle(
         &mut self,
         task: u32,
         event: &WorldEvent,
         act: Act<ScriptBody<'p>>,
     ) -> Result<(), Refusal>
-        ensures settled { (p : programs.Program) (w : List events.WorldEvent) → IsAskedOf p w task (seat_of self.old.seats)
+        ensures settled { (p : programs.Program) (w : List events.WorldEvent)
+            → IsAskedOf p w task (seat_of self.old.seats)
             → act.entry ≡ next_for (meanings p w task) (next_act p w task)
             → is_of task (act_of event.now) ≡ true → is_next p w (act_of event.now) ≡ true
             → IfOk result (λ _. SeatsStand p (event.now ∷ w) (seat_of self.new.seats)) }
@@ -133,13 +140,14 @@ impl<'p> Followers<'p> {
         }
     }
 
-    /// Whether an event is no act, or its task's next one after so many of a trace before it; it is gone
-    /// past then.
+    /// Whether an event is no act, or its task's next one after so many of a trace before it; it is
+    /// gone past then.
     fn takes(&mut self, trace: &Trace, count: usize, event: &WorldEvent) -> Result<bool, Refusal>
         requires { count ≤ length trace.now.events }
         ensures taken { (p : programs.Program)
             → SeatsStand p (history (take count trace.now.events)) (seat_of self.old.seats)
-            → IfOk result (λ b. IsTaken p (history (take count trace.now.events)) event.now (seat_of self.new.seats) b) }
+            → IfOk result (λ b. IsTaken p
+            (history (take count trace.now.events)) event.now (seat_of self.new.seats) b) }
         ensures memory { IfErr result (λ e. e ≡ NoMemory) }
     {
         let made = match act_of(event) {

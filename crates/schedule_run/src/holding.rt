@@ -51,8 +51,8 @@ impl Stay {
     }
 }
 
-/// The mode in which a task is registered on a phaser after so many events of a trace; none where it
-/// isn't.
+/// The mode in which a task is registered on a phaser after so many events of a trace; none where
+/// it isn't.
 fn mode_on(trace: &Trace, count: usize, task: u32, phaser: u32) -> Option<Mode>
     requires { count ≤ length trace.now.events }
     ensures { result ≡ mode_on task phaser (history (take count trace.now.events)) }
@@ -79,8 +79,8 @@ fn joined_by(task: u32, event: &TracedEvent) -> Option<u32>
     }
 }
 
-/// The phaser on which an event registers a task, with the task's mode on it after so many events of a
-/// trace; none where it isn't registered there any more.
+/// The phaser on which an event registers a task, with the task's mode on it after so many events
+/// of a trace; none where it isn't registered there any more.
 fn pair_by(trace: &Trace, count: usize, task: u32, event: &TracedEvent) -> Option<Pair>
     requires { count ≤ length trace.now.events }
     ensures { result ≡ pair_by task (history (take count trace.now.events)) (event_of event.now) }
@@ -91,8 +91,8 @@ fn pair_by(trace: &Trace, count: usize, task: u32, event: &TracedEvent) -> Optio
 }
 
 /// Whether these are all phasers that a task holds after so many events of a trace, in the order in
-/// which it came to them and each in its own mode. It goes over the events once for each phaser that
-/// the task ever came to, and once more.
+/// which it came to them and each in its own mode. It goes over the events once for each phaser
+/// that the task ever came to, and once more.
 pub(crate) fn are_own_pairs(trace: &Trace, count: usize, task: u32, pairs: &[Pair]) -> bool
     requires { count ≤ length trace.now.events }
     ensures { result ≡ same_pairs pairs.now (own_pairs task (history (take count trace.now.events))) }

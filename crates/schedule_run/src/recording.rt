@@ -76,7 +76,8 @@ fn traced(event: WorldEvent, reply: Reply) -> TracedEvent
 
 /// Adds the event to the trace, with the next ticket; the first is 1.
 fn add(trace: &mut Trace, event: WorldEvent, reply: Reply) -> Result<(), Refusal>
-    ensures added { IfOk result (λ _. trace.new ≡ with_event trace.old (length trace.old.events + 1, traced event reply)) }
+    ensures added { IfOk result (λ _. trace.new
+        ≡ with_event trace.old (length trace.old.events + 1, traced event reply)) }
     ensures memory { IfErr result (λ r. r ≡ NoMemory) }
 {
     let ticket = trace.len() as u64 + 1;

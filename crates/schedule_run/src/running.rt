@@ -1,4 +1,5 @@
-//! A program's run: its tasks are picked one after the other, and each pick makes at most one event.
+//! A program's run: its tasks are picked one after the other,
+//! and each pick makes at most one event.
 ghost use Rattle.std.specs.Prelude.{ℕ, ◌≡◌, ◌∷◌, ◌<◌, List, [], length, IfOk, IfErr, true, false};
 ghost use Rattle.phase_modes.specs.declared.limits.Limits as limits;
 ghost use Rattle.phase_modes.specs.declared.phased.Pair.{Pair};
@@ -149,8 +150,8 @@ impl<'p> Runner<'p> {
         }
     }
 
-    /// The task is picked: it makes at most one event. One that has to wait, has ended, or was never
-    /// spawned makes none. `Memory` where the trace can't grow.
+    /// The task is picked: it makes at most one event. One that has to wait, has ended, or was
+    /// never spawned makes none. `Memory` where the trace can't grow.
     pub(crate) fn pick(&mut self, task: u32) -> Result<(), Refusal>
         ensures stands { IfOk result (λ _. (p : programs.Program) (w : List Event) → RunStands p w self.old
             → RunStands p (pick p w task) self.new) }
@@ -212,8 +213,8 @@ impl<'p> Runner<'p> {
         matches!(self.recorded.world.condition(0), Some(Condition::Ended))
     }
 
-    /// The tasks are picked by number, round after round, until the root has ended. In each round some
-    /// task moves, so the rounds come to an end before they can't be counted any more.
+    /// The tasks are picked by number, round after round, until the root has ended. In each round
+    /// some task moves, so the rounds come to an end before they can't be counted any more.
     fn rounds(&mut self) -> Result<(), Refusal>
         requires stands { (p : programs.Program) × (w : List Event) × RunStands p w self.old }
         ensures ended { IfOk result (λ _. (p : programs.Program) (w : List Event) → RunStands p w self.old

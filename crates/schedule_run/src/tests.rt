@@ -34,8 +34,8 @@ fn one_phaser() -> Phased {
     own
 }
 
-/// Whether the act is tried as the root makes it by this event, is the same again by the numbers that
-/// it drew, and is the act of which the event and a refusal tell.
+/// Whether the act is tried as the root makes it by this event, is the same again by the numbers
+/// that it drew, and is the act of which the event and a refusal tell.
 fn is_tried_so(event: &WorldEvent, act: &Act<ScriptBody<'_>>) -> bool {
     let tried = tried_of(one_phaser(), DRAWN, act);
     let told = event_of(0, tried);

@@ -63,7 +63,8 @@ IsBack x Waits = Unit {0}
 IsBack x (Refused y r) = y ≡ x
 
 -- who is parked after it
-abbrev pub parking : {T : Type 0} → Result Passing Refusal → Bool → Parked T → List (Parked T) → List (Parked T)
+abbrev pub parking : {T : Type 0} → Result Passing Refusal → Bool
+    → Parked T → List (Parked T) → List (Parked T)
 parking (Ok NotYet) false p ps = ps ++ p ∷ []
 parking _ again p ps = ps
 

@@ -56,12 +56,14 @@ fn settle<T>(
 ) -> PassAnswer<T>
     requires seats { 256 ≤ deque_capacity parked.old }
     requires seated { deque_len parked.old ≤ 256 }
-    requires place { answer ≡ Ok NotYet → is_parked task parked.old.items ≡ false → deque_len parked.old < 256 }
+    requires place { answer ≡ Ok NotYet → is_parked task parked.old.items ≡ false
+        → deque_len parked.old < 256 }
     ensures answer { result ≡ locked_pass answer (is_parked task parked.old.items) item }
     ensures goes_on { goes_on result ≡ has_gone_on answer }
     ensures item { IsBack item result }
     ensures parked { parked.new.items
-        ≡ parking answer (is_parked task parked.old.items) (record { task = task; item = item }) parked.old.items }
+        ≡ parking answer (is_parked task parked.old.items)
+        (record { task = task; item = item }) parked.old.items }
     ensures seats { 256 ≤ deque_capacity parked.new }
     ensures seated { deque_len parked.new ≤ 256 }
 {
@@ -74,8 +76,8 @@ fn settle<T>(
 }
 
 impl<T, K: Ledgers> PhaserCell<T, K> {
-    /// The phaser's `make_with`, with its refusals: makes it with these operators. Nobody is let go on
-    /// by it.
+    /// The phaser's `make_with`, with its refusals: makes it with these operators. Nobody is let go
+    /// on by it.
     pub fn make<B: Post<K>>(
         &mut self,
         books: &mut B,
@@ -133,8 +135,10 @@ impl<T, K: Ledgers> PhaserCell<T, K> {
         ensures reply { result ≡ done_result (reply self.old.state.story (send task accumulator value)) }
         ensures history { self.new.state.story
             ≡ after self.old.state.story (reply self.old.state.story (send task accumulator value)) }
-        ensures mine { mine.new ≡ plus (amount_if (is_ok result) (Event.Send task accumulator value)) mine.old }
-        ensures books { B.rose books.old books.new (amount_if (is_ok result) (Event.Send task accumulator value)) }
+        ensures mine { mine.new
+            ≡ plus (amount_if (is_ok result) (Event.Send task accumulator value)) mine.old }
+        ensures books { B.rose books.old books.new
+            (amount_if (is_ok result) (Event.Send task accumulator value)) }
         ensures parked { self.new.parked ≡ self.old.parked }
     {
         let PhaserCell { state, book, .. } = self;
@@ -155,8 +159,10 @@ impl<T, K: Ledgers> PhaserCell<T, K> {
         ensures reply { result ≡ look_result (reply self.old.state.story (look task accumulator)) }
         ensures history { self.new.state.story
             ≡ after self.old.state.story (reply self.old.state.story (look task accumulator)) }
-        ensures mine { (x : Look) → mine.new ≡ plus (amount_if (is_ok result) (Event.Look task accumulator x)) mine.old }
-        ensures books { (x : Look) → B.rose books.old books.new (amount_if (is_ok result) (Event.Look task accumulator x)) }
+        ensures mine { (x : Look)
+            → mine.new ≡ plus (amount_if (is_ok result) (Event.Look task accumulator x)) mine.old }
+        ensures books { (x : Look)
+            → B.rose books.old books.new (amount_if (is_ok result) (Event.Look task accumulator x)) }
         ensures parked { self.new.parked ≡ self.old.parked }
     {
         let PhaserCell { state, book, .. } = self;
@@ -200,8 +206,8 @@ impl<T, K: Ledgers> PhaserCell<T, K> {
         answer
     }
 
-    /// The phaser's `drop_task`, with its refusals. The items of all whom it lets go on are put into
-    /// `out`, the dropped task's own too where it was parked.
+    /// The phaser's `drop_task`, with its refusals. The items of all whom it lets go on are put
+    /// into `out`, the dropped task's own too where it was parked.
     pub fn drop_task<B: Post<K>>(
         &mut self,
         books: &mut B,
@@ -234,8 +240,8 @@ impl<T, K: Ledgers> PhaserCell<T, K> {
         answer
     }
 
-    /// The phaser's `single_done`, with its refusals. The items of all whom it lets go on are put into
-    /// `out`.
+    /// The phaser's `single_done`, with its refusals. The items of all whom it lets go on are put
+    /// into `out`.
     pub fn single_done<B: Post<K>>(
         &mut self,
         books: &mut B,
@@ -265,8 +271,8 @@ impl<T, K: Ledgers> PhaserCell<T, K> {
         answer
     }
 
-    /// The phaser's `pass`, with its refusals; a task that has to wait leaves its item here instead, or
-    /// has it back with `NotNow` where it is parked already. Nobody is let go on by it.
+    /// The phaser's `pass`, with its refusals; a task that has to wait leaves its item here
+    /// instead, or has it back with `NotNow` where it is parked already. Nobody is let go on by it.
     pub fn pass<B: Post<K>>(
         &mut self,
         books: &mut B,
@@ -282,7 +288,8 @@ impl<T, K: Ledgers> PhaserCell<T, K> {
         ensures books { B.rose books.old books.new (amount_if (goes_on result) (Event.Pass task)) }
         ensures item { IsBack item result }
         ensures parked { self.new.parked.items ≡ parking (answered self.old.state.story task)
-            (is_parked task self.old.parked.items) (record { task = task; item = item }) self.old.parked.items }
+            (is_parked task self.old.parked.items)
+            (record { task = task; item = item }) self.old.parked.items }
     {
         let PhaserCell {
             state,
@@ -297,8 +304,8 @@ impl<T, K: Ledgers> PhaserCell<T, K> {
 
 impl<T: Drop, K: Ledgers> PhaserCell<T, K> {
     /// A phaser that nobody has made yet, and that has no operators before, with its book, in which
-    /// nothing is posted yet. All memory that it will ever need is taken here; `Memory` where that is
-    /// refused.
+    /// nothing is posted yet. All memory that it will ever need is taken here; `Memory` where that
+    /// is refused.
     pub fn new(
         alloc: Global,
         limits: Limits,

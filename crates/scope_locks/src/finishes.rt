@@ -28,8 +28,8 @@ pub struct FinishTable<T, L> {
     ghost room_for_logs: { finishes ≤ vec_capacity logs },
 }
 
-/// What a table of finishes held, finish by finish in order: the states with their histories, and the
-/// logs of the tasks that have ended in them.
+/// What a table of finishes held, finish by finish in order: the states with their histories, and
+/// the logs of the tasks that have ended in them.
 #[derive(Drop)]
 pub struct FinishParts<L> {
     pub states: Vec<FinishState>,
@@ -45,13 +45,15 @@ fn take_apart<T: Drop, L: Drop>(
     requires room_for_state { vec_len states.old < vec_capacity states.old }
     requires room_for_logs { vec_len logs.old < vec_capacity logs.old }
     requires legal { All (λ s. is_legal_finish s.tasks s.past ≡ true) states.old.items }
-    requires logged { map (λ l. length l.items) logs.old.items ≡ map (λ s. ended_count s.past) states.old.items }
+    requires logged { map (λ l. length l.items) logs.old.items
+        ≡ map (λ s. ended_count s.past) states.old.items }
     ensures states { vec_len states.new ≡ vec_len states.old + 1 }
     ensures lists { vec_len logs.new ≡ vec_len logs.old + 1 }
     ensures room_for_states { vec_capacity states.new ≡ vec_capacity states.old }
     ensures room_for_logs { vec_capacity logs.new ≡ vec_capacity logs.old }
     ensures legal { All (λ s. is_legal_finish s.tasks s.past ≡ true) states.new.items }
-    ensures logged { map (λ l. length l.items) logs.new.items ≡ map (λ s. ended_count s.past) states.new.items }
+    ensures logged { map (λ l. length l.items) logs.new.items
+        ≡ map (λ s. ended_count s.past) states.new.items }
 {
     let FinishCell {
         state,
@@ -63,8 +65,8 @@ fn take_apart<T: Drop, L: Drop>(
 }
 
 impl<T: Drop, L: Drop> FinishTable<T, L> {
-    /// As many finishes as the limits name, none opened but finish 0. All memory that the table will
-    /// ever need is taken here; `Memory` where that is refused.
+    /// As many finishes as the limits name, none opened but finish 0. All memory that the table
+    /// will ever need is taken here; `Memory` where that is refused.
     pub fn new(alloc: Global, limits: Limits) -> Result<FinishTable<T, L>, Refusal>
         requires { limits_fit limits ≡ true }
         ensures finishes { IfOk result (λ t. t.finishes ≡ limits.finishes) }
@@ -89,8 +91,8 @@ impl<T: Drop, L: Drop> FinishTable<T, L> {
         })
     }
 
-    /// The histories and the logs, once no other thread has the table. Owners that were still parked
-    /// are dropped.
+    /// The histories and the logs, once no other thread has the table. Owners that were still
+    /// parked are dropped.
     pub fn into_parts(self) -> FinishParts<L>
         ensures finishes { (vec_len result.states ≡ self.finishes) × (vec_len result.logs ≡ self.finishes) }
         ensures legal { All (λ s. is_legal_finish s.tasks s.past ≡ true) result.states.items }

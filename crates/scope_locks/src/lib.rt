@@ -1,6 +1,6 @@
 //! Phasers and finishes that threads share. A cell is what stands behind one lock: the state, the
-//! books of what was done on it, and the items of those who wait for it. A table has one lock for each
-//! phaser or finish by its number.
+//! books of what was done on it, and the items of those who wait for it. A table has one lock for
+//! each phaser or finish by its number.
 #![tactic(auto)]
 
 mod answer;

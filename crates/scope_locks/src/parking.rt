@@ -64,8 +64,8 @@ pub(crate) fn may_leave(waited: bool, was_open: bool, is_open: bool) -> bool
     waited || (was_open && !is_open)
 }
 
-/// Lets go on all who need no longer wait. Where nobody can have been let go on, the list isn't gone
-/// through.
+/// Lets go on all who need no longer wait. Where nobody can have been let go on, the list isn't
+/// gone through.
 pub(crate) fn release_if<T>(
     may_leave: bool,
     state: &PhaserState,
@@ -99,7 +99,8 @@ pub(crate) fn park<T>(parked: &mut VecDeque<Parked<T>>, task: u32, item: T) -> P
     requires place { is_parked task parked.old.items ≡ false → deque_len parked.old < 256 }
     ensures answer { result ≡ locked_pass (Ok NotYet) (is_parked task parked.old.items) item }
     ensures parked { parked.new.items
-        ≡ parking (Ok NotYet) (is_parked task parked.old.items) (record { task = task; item = item }) parked.old.items }
+        ≡ parking (Ok NotYet) (is_parked task parked.old.items)
+        (record { task = task; item = item }) parked.old.items }
     ensures seats { 256 ≤ deque_capacity parked.new }
     ensures seated { deque_len parked.new ≤ 256 }
 {

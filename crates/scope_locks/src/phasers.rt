@@ -1,7 +1,7 @@
 //! Phasers by number, each behind a lock of its own, and the books behind one more.
 //!
-//! Each call takes its phaser's lock, and inside it the books' lock for the one post that it makes. No
-//! call takes the locks of two phasers, and none takes a phaser's lock while it has the books.
+//! Each call takes its phaser's lock, and inside it the books' lock for the one post that it makes.
+//! No call takes the locks of two phasers, and none takes a phaser's lock while it has the books.
 ghost use Rattle.std.specs.Prelude.{◌≡◌, ◌+◌, [], ◌<◌, ◌≤◌, true, All, IfOk, IfErr, OnErr, is_ok, map, vec_len, vec_capacity};
 ghost use Rattle.phase_modes.specs.Limits.{limits_fit};
 ghost use Rattle.phase_model.specs.Amounts.{plus, totals};
@@ -95,13 +95,15 @@ fn take_apart<T: Drop, K: Ledgers>(
     requires room_for_state { vec_len states.old < vec_capacity states.old }
     requires room_for_book { vec_len of_phasers.old < vec_capacity of_phasers.old }
     requires legal { All (λ s. IsLegal s.story) states.old.items }
-    requires posted { map (λ b. b.totals) of_phasers.old.items ≡ map (λ s. totals s.story.past) states.old.items }
+    requires posted { map (λ b. b.totals) of_phasers.old.items
+        ≡ map (λ s. totals s.story.past) states.old.items }
     ensures states { vec_len states.new ≡ vec_len states.old + 1 }
     ensures books { vec_len of_phasers.new ≡ vec_len of_phasers.old + 1 }
     ensures room_for_states { vec_capacity states.new ≡ vec_capacity states.old }
     ensures room_for_books { vec_capacity of_phasers.new ≡ vec_capacity of_phasers.old }
     ensures legal { All (λ s. IsLegal s.story) states.new.items }
-    ensures posted { map (λ b. b.totals) of_phasers.new.items ≡ map (λ s. totals s.story.past) states.new.items }
+    ensures posted { map (λ b. b.totals) of_phasers.new.items
+        ≡ map (λ s. totals s.story.past) states.new.items }
 {
     let PhaserCell {
         state,
@@ -113,9 +115,9 @@ fn take_apart<T: Drop, K: Ledgers>(
 }
 
 impl<T: Drop, K: Ledgers> PhaserTable<T, K> {
-    /// One phaser for each of the phasers' books, with these limits, made by nobody yet. The books are
-    /// those of one `open`, in order. All memory that the table will ever need is taken here; `Memory`
-    /// where that is refused.
+    /// One phaser for each of the phasers' books, with these limits, made by nobody yet. The books
+    /// are those of one `open`, in order. All memory that the table will ever need is taken here;
+    /// `Memory` where that is refused.
     pub fn new(
         alloc: Global,
         limits: Limits,
@@ -137,8 +139,8 @@ impl<T: Drop, K: Ledgers> PhaserTable<T, K> {
         })
     }
 
-    /// The histories, the phasers' books and the books, once no other thread has the table. Items that
-    /// were still parked are dropped.
+    /// The histories, the phasers' books and the books, once no other thread has the table. Items
+    /// that were still parked are dropped.
     pub fn into_parts(self) -> PhaserParts<K>
         ensures phasers { (vec_len result.states ≡ self.phasers) × (vec_len result.phasers ≡ self.phasers) }
         ensures legal { All (λ s. IsLegal s.story) result.states.items }
@@ -174,8 +176,8 @@ impl<T, K: Ledgers> PhaserTable<T, K> {
         self.cells[number].lock(rt)
     }
 
-    /// Takes the books' lock, and answers what all phasers together add up to so far: of no kind less than
-    /// what this worker has posted.
+    /// Takes the books' lock, and answers what all phasers together add up to so far: of no kind
+    /// less than what this worker has posted.
     pub fn so_far<R: Wait>(&self, rt: &R, mine: &mut Shares<K>) -> Totals
         ensures within { IsWithin mine.new (amount_of result) }
         ensures same { mine.new ≡ mine.old }
@@ -237,7 +239,8 @@ impl<T, K: Ledgers> PhaserTable<T, K> {
         value: i32,
     ) -> Result<(), Refusal>
         requires { number < self.now.phasers }
-        ensures mine { mine.new ≡ plus (amount_if (is_ok result) (Event.Send task accumulator value)) mine.old }
+        ensures mine { mine.new
+            ≡ plus (amount_if (is_ok result) (Event.Send task accumulator value)) mine.old }
     {
         let mut cell = self.cells[number].lock(rt);
         let mut books = Locked {

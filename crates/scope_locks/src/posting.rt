@@ -1,4 +1,5 @@
-//! How a call posts its event: to books that it has, or under the books' own lock for that one post.
+//! How a call posts its event: to books that it has,
+//! or under the books' own lock for that one post.
 ghost use Rattle.std.specs.Prelude.{◌≡◌, ◌+◌, ◌<◌, true};
 ghost use Rattle.phase_model.specs.Amounts.{Amount, amount, plus};
 ghost use Rattle.share_book.specs.Accounts.{nothing};
@@ -14,8 +15,8 @@ pub trait Post<K: Ledgers> {
     /// What it says of the books before and after, where they rose by so much.
     ghost rose: { Self → Self → Amount → Type 0 };
 
-    /// Takes one of the phaser's room, and raises the books, the phaser's book and the worker's shares
-    /// by what the event amounts to.
+    /// Takes one of the phaser's room, and raises the books, the phaser's book and the worker's
+    /// shares by what the event amounts to.
     fn post(&mut self, book: &mut PhaserBook<K>, mine: &mut Shares<K>, event: &Event)
         requires { 0 < book.old.room }
         ensures books { rose self.old self.new (amount event.now) }
