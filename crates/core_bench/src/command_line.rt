@@ -15,8 +15,8 @@ fn number_of(argument: &str, most: u32) -> Option<u32>
     }
 }
 
-/// The job that the arguments `KIND TASKS PHASERS` name, with 1 to 256 tasks and 1 to 1,000 phasers;
-/// none where they name none. The first is the program's own name.
+/// The job that the arguments `KIND TASKS PHASERS` name, with 1 to 256 tasks and 1 to 1,000
+/// phasers; none where they name none. The first is the program's own name.
 pub fn job_of(arguments: &[&str]) -> Option<Job>
     ensures { MatchOption result
         ((job : _) → ¬ (Names job (map (λ w. w.now) arguments.now)))

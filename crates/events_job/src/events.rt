@@ -126,7 +126,8 @@ pub fn ending_from<R: Read, W: Write, F: Write>(
     // A failed read ends in a fault.
     ensures failed { reads.new.failed ≡ true → result.status ≡ Status.Fault }
     // What is reported is the line of a failure of reading, or of the bytes, with this status.
-    ensures reported { result.status ≢ Status.Done → Reports (IsOfJob MOST_BYTES IsOfAnswer (R.remaining reader.old)) result
+    ensures reported { result.status ≢ Status.Done
+        → Reports (IsOfJob MOST_BYTES IsOfAnswer (R.remaining reader.old)) result
         (F.contents faults.old) (F.contents faults.new) }
     ensures usage { result.status ≢ Status.Usage }
 {
@@ -148,7 +149,8 @@ pub fn events_from<R: Read, W: Write, F: Write>(
         × Appends (W.contents out.old) (W.contents out.new) (text_for file)) }
     ensures quiet { result ≡ Status.Done → Keeps (F.contents faults.old) (F.contents faults.new) }
     ensures refused { result ≡ Status.Refused → Keeps (W.contents out.old) (W.contents out.new) }
-    ensures reported { result ≢ Status.Done → ReportsStatus (IsOfJob MOST_BYTES IsOfAnswer (R.remaining reader.old)) result
+    ensures reported { result ≢ Status.Done
+        → ReportsStatus (IsOfJob MOST_BYTES IsOfAnswer (R.remaining reader.old)) result
         (F.contents faults.old) (F.contents faults.new) }
     ensures usage { result ≢ Status.Usage }
 {

@@ -35,7 +35,8 @@ register_in d =
 unfoldable pub signal_in : Data → Option Call
 signal_in d =
     if not (ends_at 3 d) then None
-    else (number_at 1 d >>= λ t. if ends_at 2 d then Some (signal t None) else (number_at 2 d >>= λ n. Some (signal t (Some n))))
+    else (number_at 1 d >>= λ t.
+    if ends_at 2 d then Some (signal t None) else (number_at 2 d >>= λ n. Some (signal t (Some n))))
 
 -- ["pass", t]
 unfoldable pub pass_in : Data → Option Call
@@ -53,7 +54,9 @@ send_in d =
 
 -- ["look", t, a]
 unfoldable pub look_in : Data → Option Call
-look_in d = if not (ends_at 3 d) then None else (number_at 1 d >>= λ t. accumulator_at 2 d >>= λ a. Some (look t a))
+look_in d =
+    if not (ends_at 3 d) then None
+    else (number_at 1 d >>= λ t. accumulator_at 2 d >>= λ a. Some (look t a))
 
 -- ["drop", t]
 unfoldable pub drop_in : Data → Option Call

@@ -1,5 +1,5 @@
-//! Calls through a table of locks, many in one process, for the benchmark; its tests are those of the
-//! tables and cells.
+//! Calls through a table of locks, many in one process, for the benchmark; its tests are those of
+//! the tables and cells.
 #![tactic(auto)]
 
 mod calls;

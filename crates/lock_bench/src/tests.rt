@@ -1,5 +1,5 @@
-//! Phasers shared through a table: the worked examples by one thread, a waiter that is let go on, and
-//! threads that call at the same time.
+//! Phasers shared through a table: the worked examples by one thread, a waiter that is let go on,
+//! and threads that call at the same time.
 ghost use Rattle.std.specs.Prelude.{◌≡◌, [], ◌<◌, ◌≤◌, true};
 ghost use Rattle.share_book.specs.Opening.{IsNamed, IsParted};
 
@@ -46,8 +46,8 @@ fn looked(answer: Result<Look, Refusal>) -> Reply {
     }
 }
 
-/// Makes the call on a phaser of the table, a making with these operators. The item of a task is its
-/// number.
+/// Makes the call on a phaser of the table, a making with these operators. The item of a task is
+/// its number.
 fn answer_to<K: Ledgers, R: Wait>(
     rt: &R,
     table: &PhaserTable<u32, K>,
@@ -197,8 +197,8 @@ fn bad_arguments_name_none(rt: HostRuntime) -> Result<(), Fail> {
     Ok(())
 }
 
-// Ahead: 1 making, 3 registrations, and a signal and a pass in each of 5 phases. Free: the same 4, and
-// in each phase a signal and 4 passes.
+// Ahead: 1 making, 3 registrations, and a signal and a pass in each of 5 phases. Free: the same 4,
+// and in each phase a signal and 4 passes.
 #[test]
 fn events_of_jobs(rt: HostRuntime) -> Result<(), Fail> {
     let ahead = job_of(&["lock_bench", "ahead", "4", "5", "1", "1"]).ok_or("no job")?;

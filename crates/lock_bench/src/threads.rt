@@ -106,8 +106,8 @@ fn named_events<
     events_over::<Seven<A, B, C, D, E, F, G>, R>(rt, alloc, blanks, job)
 }
 
-/// Does the job, and returns how many events there were on all its phasers, makings and registrations
-/// counted. `Memory` where a part got none.
+/// Does the job, and returns how many events there were on all its phasers, makings and
+/// registrations counted. `Memory` where a part got none.
 pub fn events_of<R: Threads + Wait + Sync>(
     rt: &R,
     alloc: Global,

@@ -44,7 +44,8 @@ pub fn replay_bytes<W: Write>(alloc: Global, input: &[u8], out: &mut W) -> Resul
     // A refusal writes nothing.
     ensures refused { IfErr result (λ f. status_of f ≡ Status.Refused
         → Keeps (W.contents out.old) (W.contents out.new)) }
-    // A text is refused at its first fault, a trace at its own, and a write fails only where there is none.
+    // A text is refused at its first fault, a trace at its own,
+    // and a write fails only where there is none.
     ensures failure { IfErr result (IsOfReplay input.now) }
 {
     if !fits(input) {

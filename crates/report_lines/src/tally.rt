@@ -46,7 +46,8 @@ impl Tally {
     pub(crate) fn note(&mut self, event: Event) -> Result<(), Refusal>
         requires { IsNotable self.old event }
         ensures noted { IfOk result (λ _. self.new ≡ noted event self.old) }
-        ensures within { IfOk result (λ _. (n : ℕ) → IsWithin n self.old.totals → IsWithin (n + 1) self.new.totals) }
+        ensures within { IfOk result (λ _. (n : ℕ) → IsWithin n self.old.totals
+            → IsWithin (n + 1) self.new.totals) }
         ensures memory { IfErr result (λ r. r ≡ Refusal.Memory) }
     {
         let phase = phase_of(&self.tasks, event);

@@ -146,7 +146,8 @@ named_limits_in d =
     limit_at (codes "phasers") default_limits.phasers d >>= λ phasers.
     limit_at (codes "regs") default_limits.regs d >>= λ regs.
     limit_at (codes "tasks") default_limits.tasks d >>= λ tasks.
-    if_fit (record { acts = acts; finishes = finishes; history = history; phasers = phasers; regs = regs; tasks = tasks })
+    if_fit (record
+    { acts = acts; finishes = finishes; history = history; phasers = phasers; regs = regs; tasks = tasks })
 
 -- the keys of the limits
 abbrev pub limit_keys : List (List ℕ)

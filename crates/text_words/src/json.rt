@@ -14,8 +14,8 @@ fn is_memory(error: &Error) -> bool
     error.classify() == Category::Memory
 }
 
-/// The JSON value that the bytes are. `BadText` at place 0 where they are none, nest deeper than the
-/// JSON reader goes, or aren't UTF-8; `Memory` where there is too little for the value.
+/// The JSON value that the bytes are. `BadText` at place 0 where they are none, nest deeper than
+/// the JSON reader goes, or aren't UTF-8; `Memory` where there is too little for the value.
 pub fn json_of(alloc: Global, bytes: &[u8]) -> Result<Value, Refusal>
     ensures { Gives view result (json_read (reading bytes.now)) }
 {

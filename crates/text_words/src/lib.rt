@@ -1,6 +1,6 @@
-//! The words that the readers of all texts share: numbers, modes, operators, limits and objects with
-//! known keys, read from JSON, and the JSON value that bytes are. What each of them is stands in
-//! `specs/`.
+//! The words that the readers of all texts share: numbers, modes, operators, limits and objects
+//! with known keys, read from JSON, and the JSON value that bytes are. What each of them is stands
+//! in `specs/`.
 #![tactic(auto)]
 
 mod items;

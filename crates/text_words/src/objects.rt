@@ -86,9 +86,9 @@ fn limits_in(limits: &Value) -> Option<Limits>
     }
 }
 
-/// The limits of a text: what stands at its key `limits`, with the default for each limit that isn't
-/// named there, and the defaults alone where there is no such key. None where one isn't between its
-/// least and its greatest, or where another key stands among them.
+/// The limits of a text: what stands at its key `limits`, with the default for each limit that
+/// isn't named there, and the defaults alone where there is no such key. None where one isn't
+/// between its least and its greatest, or where another key stands among them.
 pub fn limits_of(text: &Value) -> Option<Limits>
     ensures limits { result ≡ limits_of (view text.now) }
     ensures fit { IfSome result (λ l. limits_fit l ≡ true) }

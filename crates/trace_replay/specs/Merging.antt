@@ -36,7 +36,8 @@ is_fault (Some ticket) m = ticket == m.ticket || m.late
 -- the place of the first that is at fault, the first of them being at this place, after this ticket
 abbrev pub fault_from : Option ℕ → ℕ → List Mark → Option ℕ
 fault_from last place [] = None
-fault_from last place (m ∷ ms) = if is_fault last m then Some place else fault_from (Some m.ticket) (place + 1) ms
+fault_from last place (m ∷ ms) =
+    if is_fault last m then Some place else fault_from (Some m.ticket) (place + 1) ms
 
 -- the same, counted from 1
 abbrev pub merge_fault : List Mark → Option ℕ

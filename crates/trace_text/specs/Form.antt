@@ -65,7 +65,8 @@ seen_in (object ms) = None
 unfoldable pub look_in : Data → Option TracedStep
 look_in d =
     if not (ends_at 7 d) then None
-    else (number_at 4 d >>= λ t. accumulator_at 5 d >>= λ a. at 6 d >>= seen_in >>= λ x. Some (step.Look t a x))
+    else (number_at 4 d >>= λ t. accumulator_at 5 d >>= λ a.
+    at 6 d >>= seen_in >>= λ x. Some (step.Look t a x))
 
 -- a step on a phaser, by its name
 unfoldable pub step_in : Data → Option TracedStep

@@ -1,5 +1,5 @@
-//! The text of a trace: a trace to bytes, and bytes to a trace. What the text of a trace is, and which
-//! trace a text spells, is defined in `specs/`.
+//! The text of a trace: a trace to bytes, and bytes to a trace. What the text of a trace is, and
+//! which trace a text spells, is defined in `specs/`.
 #![tactic(auto)]
 
 mod laws;

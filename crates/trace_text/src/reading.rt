@@ -506,9 +506,9 @@ fn form_of_value(alloc: Global, value: &Value) -> Result<Trace, Refusal>
 }
 
 /// Reads the bytes of a trace. `BadText` where they are not of the form: its place is 0 where the
-/// bytes are no JSON or the outer object is wrong, else the number of the first event that is wrong,
-/// counted from 1. `Memory` where there is too little for the JSON value or for the events. Whether
-/// a run makes such events is no matter of the text.
+/// bytes are no JSON or the outer object is wrong, else the number of the first event that is
+/// wrong, counted from 1. `Memory` where there is too little for the JSON value or for the events.
+/// Whether a run makes such events is no matter of the text.
 pub fn from_json(alloc: Global, bytes: &[u8]) -> Result<Trace, Refusal>
     ensures { Gives (λ t. t) result (form_of (reading bytes.now)) }
 {

@@ -1,5 +1,5 @@
-//! The worked examples of one phaser, by one thread through a table: the calls of each, and what each
-//! call is answered. A task that has to come again is parked.
+//! The worked examples of one phaser, by one thread through a table: the calls of each, and what
+//! each call is answered. A task that has to come again is parked.
 use super::*;
 
 /// One task alone: it signals, and passes.
@@ -64,7 +64,8 @@ fn waiter_alone(rt: HostRuntime) -> Result<(), Fail> {
     Ok(())
 }
 
-/// A child that is registered between its parent's signal and pass has signalled what its parent has.
+/// A child that is registered between its parent's signal and pass
+/// has signalled what its parent has.
 #[test]
 fn split_phase_child(rt: HostRuntime) -> Result<(), Fail> {
     let rows = [

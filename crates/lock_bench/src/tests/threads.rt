@@ -1,5 +1,5 @@
-//! Threads that call at the same time: two phasers are locked apart, and four threads on eight phasers
-//! leave histories that are explained and books that are gathered.
+//! Threads that call at the same time: two phasers are locked apart, and four threads on eight
+//! phasers leave histories that are explained and books that are gathered.
 ghost use Rattle.std.specs.Prelude.{◌≡◌, [], ◌<◌, true};
 ghost use Rattle.share_book.specs.Opening.{IsNamed, IsParted};
 
@@ -21,8 +21,8 @@ fn saw(word: &AtomicU64, most: u64) -> bool {
     false
 }
 
-/// Holds phaser 0's lock until the other thread's call has answered, or for so many looks. Whether the
-/// call has answered before the lock was given back.
+/// Holds phaser 0's lock until the other thread's call has answered, or for so many looks. Whether
+/// the call has answered before the lock was given back.
 fn hold<K: Ledgers, R: Wait>(
     rt: &R,
     table: &PhaserTable<u32, K>,
@@ -39,7 +39,8 @@ fn hold<K: Ledgers, R: Wait>(
     seen
 }
 
-/// Makes the phaser once the other thread has phaser 0's lock. Whether that was so, and it was made.
+/// Makes the phaser once the other thread has phaser 0's lock.
+/// Whether that was so, and it was made.
 fn call<K: Ledgers, R: Wait>(
     rt: &R,
     table: &PhaserTable<u32, K>,
@@ -170,8 +171,8 @@ const CROWD: Limits = Limits {
     tasks: 4,
 };
 
-/// One worker's part: on each phaser in turn it signals, asks to pass, sends and looks, as the task of
-/// its number.
+/// One worker's part: on each phaser in turn it signals, asks to pass, sends and looks, as the task
+/// of its number.
 fn work<K: Ledgers, R: Wait>(
     rt: &R,
     alloc: Global,

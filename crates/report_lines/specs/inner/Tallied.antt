@@ -38,7 +38,8 @@ phase_at ts _ = None
 abbrev pub progress_noted : Event → List Progress → List Progress
 progress_noted (Make t m) ts = set ts t start
 progress_noted (Reg q t m) ts = set ts t (progress_at ts q)
-progress_noted (Sig t x) ts = set ts t (record (progress_at ts t) { signals = (progress_at ts t).signals + 1 })
+progress_noted (Sig t x) ts =
+    set ts t (record (progress_at ts t) { signals = (progress_at ts t).signals + 1 })
 progress_noted (Pass t) ts = set ts t (record (progress_at ts t) { waits = (progress_at ts t).waits + 1 })
 progress_noted _ ts = ts
 
@@ -73,7 +74,8 @@ pub record IsNotable (k : Tallied) (e : Event) : Type 0 where
 
 -- what was read off a history is what the report's definitions say of it
 pub record StandsFor (k : Tallied) (h : List Event) : Type 0 where
-  pub tasks : (t : ℕ) → t < length k.tasks → progress_at k.tasks t ≡ record { signals = signals t h; waits = waits t h }
+  pub tasks : (t : ℕ) → t < length k.tasks
+      → progress_at k.tasks t ≡ record { signals = signals t h; waits = waits t h }
   pub phases : k.folds.phases ≡ phase_count h
   pub lines : k.folds.lines ≡ flat_map (λ p. folds_from p 0 k.folds.ops h) (below (phase_count h))
   pub totals : k.totals ≡ totals_line (h ∷ [])

@@ -87,8 +87,8 @@ fn smallest_trace(rt: HostRuntime) -> Result<(), Fail> {
     Ok(())
 }
 
-/// Two events the other way round, the tickets left in place; then a ticket that stands there twice,
-/// one that is less than that before, and tickets that leave numbers out.
+/// Two events the other way round, the tickets left in place; then a ticket that stands there
+/// twice, one that is less than that before, and tickets that leave numbers out.
 #[test]
 fn changed_smallest_trace(rt: HostRuntime) -> Result<(), Fail> {
     let exchanged = smallest(&RISING, TracedStep::Pass(0), TracedStep::Sig(0, None));
@@ -99,7 +99,8 @@ fn changed_smallest_trace(rt: HostRuntime) -> Result<(), Fail> {
     Ok(())
 }
 
-/// The owner of finish 1 waits for a task that its child spawned; these events of finish 1 come last.
+/// The owner of finish 1 waits for a task that its child spawned;
+/// these events of finish 1 come last.
 fn nested(first: FinishEvent, second: FinishEvent) -> [Entry; 14] {
     [
         (1, within(1, FinishEvent::Opened(0))),
