@@ -43,7 +43,12 @@ is_too_long k inner = nat_lt 10000 (k * flat_length inner)
 -- An act at place p, the acts inside which were read. A repeat that comes to too much is at fault at its own place;
 -- a child's body that is too long is at fault at the act with which it is.
 abbrev pub one_of : ℕ → Head → Read → One
-one_of p (heads.Repeat k) r = record { head = heads.Repeat k; body = r.acts; next = r.next; seen = noted_where (is_too_long k r.acts) r.seen p }
+one_of p (heads.Repeat k) r = record {
+  head = heads.Repeat k;
+  body = r.acts;
+  next = r.next;
+  seen = noted_where (is_too_long k r.acts) r.seen p;
+}
 one_of p h r =
     record { head = h; body = kept r.passing r.acts; next = r.next; seen = noted_at r.passing r.seen }
 

@@ -77,7 +77,10 @@ BodyTooLong =
 abbrev pub LongestBody : Type 0
 LongestBody =
     form (program (repeated 1000 (repeated 10 (next_act ∷ []) ∷ []) ∷ []))
-    ≡ Ok (record { limits = default_limits; main = act (Repeat 1000) (act (Repeat 10) (act Next no_acts no_acts) no_acts) no_acts })
+    ≡ Ok (record {
+      limits = default_limits;
+      main = act (Repeat 1000) (act (Repeat 10) (act Next no_acts no_acts) no_acts) no_acts;
+    })
 
 -- a spawn is one act, however long its body, and the body may be too long itself
 abbrev pub ChildTooLong : Type 0
@@ -101,7 +104,11 @@ LongestName =
 abbrev pub NumberedNames : Type 0
 NumberedNames =
     form (program (new_named (codes "q") ∷ new_named (codes "p") ∷ new_named (codes "q") ∷ []))
-    ≡ Ok (record { limits = default_limits; main = act (New 0 SigWait []) no_acts (act (New 1 SigWait []) no_acts (act (New 0 SigWait []) no_acts no_acts)) })
+    ≡ Ok (record {
+      limits = default_limits;
+      main = act (New 0 SigWait []) no_acts
+          (act (New 1 SigWait []) no_acts (act (New 0 SigWait []) no_acts no_acts));
+    })
 
 -- the act in which the sixty-fifth name first stands
 abbrev pub TooManyNames : Type 0

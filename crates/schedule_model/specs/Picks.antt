@@ -51,7 +51,10 @@ going_on t (Some e) = Some (record { event = e; telling = λ n. Fail t n })
 -- an idle task begins its next act, and any other goes on with its act
 abbrev pub asked : Program → List WorldEvent → ℕ → Option Asked
 asked p w t =
-    if is_idle t w then Some (record { event = event_of t (tried p w t (unused p.limits w)); telling = λ n. Refuse t (tried p w t (unused p.limits w)) n })
+    if is_idle t w then Some (record {
+      event = event_of t (tried p w t (unused p.limits w));
+      telling = λ n. Refuse t (tried p w t (unused p.limits w)) n;
+    })
     else (if is_born t w && not (is_ended t w) then going_on t (next_event p.limits t w)
     else None)
 

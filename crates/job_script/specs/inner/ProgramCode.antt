@@ -11,7 +11,15 @@ abbrev limits_code : Coded Limits
 limits_code = code_by (ℕ × (ℕ × (ℕ × (ℕ × (ℕ × ℕ)))))
     (coded× coded_ℕ (coded× coded_ℕ (coded× coded_ℕ (coded× coded_ℕ (coded× coded_ℕ coded_ℕ)))))
     (λ l. (l.acts, (l.finishes, (l.history, (l.phasers, (l.regs, l.tasks))))))
-    (λ p. record { acts = p.0; finishes = p.1.0; history = p.1.1.0; phasers = p.1.1.1.0; regs = p.1.1.1.1.0; tasks = p.1.1.1.1.1 }) (λ _. refl)
+    (λ p. record {
+      acts = p.0;
+      finishes = p.1.0;
+      history = p.1.1.0;
+      phasers = p.1.1.1.0;
+      regs = p.1.1.1.1.0;
+      tasks = p.1.1.1.1.1;
+    })
+    (λ _. refl)
 
 module _ (heads : Coded Head) where
   abbrev pub program_code : Coded Program

@@ -51,7 +51,10 @@ reached p k =
 abbrev pub value_sent : ℕ → ℕ → ℤ → FoldState → FoldState
 value_sent p a v k =
     let line = get_or k.lines (place_of k p a) blank_line in
-    record k { lines = set k.lines (place_of k p a) (record line { value = fold_with (get_or k.ops a Sum) v line.value }) }
+    record k {
+      lines = set k.lines (place_of k p a)
+          (record line { value = fold_with (get_or k.ops a Sum) v line.value });
+    }
 
 abbrev pub value_noted : Event → ℕ → FoldState → FoldState
 value_noted (Send t a v) p k = value_sent p a v k

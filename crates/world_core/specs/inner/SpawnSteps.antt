@@ -46,7 +46,10 @@ spawn_noted k = record k { plan = plan.Idle; left = [] }
 
 -- the state after finish f was asked to spawn c
 abbrev pub finish_spawned : WorldState → ℕ → ℕ → WorldState
-finish_spawned s f c = record s { finishes = set s.finishes f (finish.after (finish_at s f) (Spawned c) (answer (finish_at s f).tasks (finish_at s f).past (Spawned c))) }
+finish_spawned s f c = record s {
+  finishes = set s.finishes f (finish.after (finish_at s f) (Spawned c)
+      (answer (finish_at s f).tasks (finish_at s f).past (Spawned c)));
+}
 
 -- and after the child's line was changed
 abbrev pub child_born : WorldState → ℕ → ℕ → WorldState
