@@ -1,4 +1,4 @@
-//! Steps of worlds, many in one process, for the benchmark.
+//! Steps of worlds, many in one process, for the benchmark; its tests are those of worlds too.
 #![tactic(auto)]
 
 mod calls;

@@ -1,8 +1,9 @@
-//! The arguments, how many steps a history has room for, and the world beside a slow one.
+//! The arguments, how many steps a history has room for; worlds driven from outside, and beside a slow one.
 use super::*;
 use std::test::Fail;
 
 mod side_by_side;
+mod worlds;
 
 #[test]
 fn words_name_a_job(rt: HostRuntime) -> Result<(), Fail> {

@@ -14,6 +14,3 @@ pub use tables::Unused;
 // For those who run tasks without a world: no crate here uses it.
 pub use task_log::Log;
 pub use world::World;
-
-#[cfg(test)]
-mod tests;

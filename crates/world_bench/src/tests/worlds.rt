@@ -1,19 +1,19 @@
 //! A world driven from outside: each event is a row of a table beside its reply.
-use super::*;
 use finish_core::FinishEvent;
 use phase_model::{Look, Op, Ops};
 use phase_modes::{Limits, Mode, Pair, Phased, Refusal};
 use std::alloc::Global;
 use std::process::Abort;
+use world_core::{Log, World};
 use world_model::{
     Begun, Condition, FinishLine, FoldLine, Reply, Step, TaskLine, TotalsLine, Tried, WorldEvent,
     WorldReport,
 };
 
+mod examples;
 mod limits;
 mod logs;
 mod reports;
-mod worlds;
 
 /// An event, and the reply that a world gives to it.
 type Row = (WorldEvent, Result<Reply, Refusal>);
