@@ -1,4 +1,4 @@
-//! Calls of the core alone, many in one process, for the benchmark.
+//! Calls of the core alone, many in one process, for the benchmark; its tests are those of the core's crates too.
 #![tactic(auto)]
 
 mod calls;

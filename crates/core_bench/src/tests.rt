@@ -1,7 +1,11 @@
-//! The arguments, and how many calls a history has room for.
+//! The arguments, and how many calls a history has room for; below, the tests of the core's own crates.
 use super::*;
 use crate::kind::Kind;
 use std::test::Fail;
+
+mod cells;
+mod histories;
+mod phasers;
 
 #[test]
 fn words_name_a_job(rt: HostRuntime) -> Result<(), Fail> {

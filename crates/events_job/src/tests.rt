@@ -1,5 +1,6 @@
 //! The worked examples, each with the lines that it is to print.
 mod edges;
+mod texts;
 
 use crate::events_on;
 use job_ends::Status;

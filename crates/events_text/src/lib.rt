@@ -7,6 +7,3 @@ mod reading;
 
 pub use events_file::EventsFile;
 pub use reading::read_events;
-
-#[cfg(test)]
-mod tests;

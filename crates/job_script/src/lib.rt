@@ -18,6 +18,3 @@ pub use examples::{worked_lengths, worked_names, worked_outer_objects};
 pub use program::Program;
 pub use reading::read_program;
 pub use script_body::ScriptBody;
-
-#[cfg(test)]
-mod tests;

@@ -1,5 +1,5 @@
 //! Phasers shared through a table: the worked examples by one thread, a waiter that is let go on,
-//! and threads that call at the same time.
+//! and threads that call at the same time; below, the tests of the books.
 ghost use Rattle.std.specs.Prelude.{◌≡◌, [], ◌<◌, ◌≤◌, true};
 ghost use Rattle.share_book.specs.Opening.{IsNamed, IsParted};
 
@@ -18,6 +18,7 @@ use std::sync::Wait;
 use std::sync::ledger::Ledger;
 use std::test::*;
 
+mod books;
 mod examples_on_table;
 mod finishes;
 mod threads;

@@ -5,6 +5,10 @@ use phase_modes::Refusal;
 use std::alloc::Global;
 use std::process::Abort;
 
+mod replays;
+mod texts;
+mod traces;
+
 const HEAD: &str = "{\"events\":[[1,\"p\",0,\"make\",0,\"SIG_WAIT\",[]],\
     [2,\"t\",0,\"begin\",[\"next\"]],[3,\"p\",0,\"sig\",0],[4,\"p\",0,\"pass\",0]";
 

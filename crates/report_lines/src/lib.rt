@@ -12,6 +12,3 @@ mod totals;
 pub use finish::finish_line;
 pub use phaser::{PhaserSums, phaser_sums};
 pub use totals::{no_totals, plus};
-
-#[cfg(test)]
-mod tests;

@@ -5,6 +5,8 @@ use phase_modes::Refusal;
 use std::alloc::Global;
 use std::process::Abort;
 
+mod programs;
+
 /// Runs the text by the picks, and compares how that ends, the lines, and what is reported.
 fn check(
     rt: &impl Abort,

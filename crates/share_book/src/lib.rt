@@ -18,6 +18,3 @@ pub use gathering::{Totals, gather};
 pub use ledgers::{Ledgers, Seven};
 pub use opening::open;
 pub use posting::post;
-
-#[cfg(test)]
-mod tests;

@@ -14,6 +14,3 @@ pub use event::{TracedEvent, TracedStep};
 pub use laws::{explained_is_legal, faultless_is_explained, worked_traces};
 pub use part::Part;
 pub use trace::Trace;
-
-#[cfg(test)]
-mod tests;

@@ -7,6 +7,3 @@ mod replaying;
 
 pub use merging::merge;
 pub use replaying::replay;
-
-#[cfg(test)]
-mod tests;

@@ -9,6 +9,3 @@ mod writing;
 pub use laws::{texts_are_read_back, traces_are_read_back, worked_examples};
 pub use reading::from_json;
 pub use writing::to_json;
-
-#[cfg(test)]
-mod tests;

@@ -2,6 +2,8 @@
 use super::*;
 use std::test::Fail;
 
+mod definitions;
+mod report_lines;
 mod side_by_side;
 mod worlds;
 

@@ -20,6 +20,3 @@ pub use laws::{
 };
 pub use reply::Reply;
 pub use report::{FinishLine, FoldLine, PhaserLines, TaskLine, TotalsLine, WorldReport};
-
-#[cfg(test)]
-mod tests;

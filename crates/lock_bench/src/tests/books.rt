@@ -3,9 +3,9 @@
 ghost use Rattle.std.specs.Prelude.{◌≡◌, ◌<◌, ◌≤◌};
 ghost use Rattle.share_book.specs.Opening.{IsNamed, IsParted};
 
-use crate::{Blanks, Ledgers, Seven, Totals, gather, open, post};
 use phase_model::Event;
 use phase_modes::Refusal;
+use share_book::{Blanks, Ledgers, Seven, Totals, gather, open, post};
 use std::alloc::Global;
 use std::marker::Brand;
 use std::sync::ledger::Ledger;

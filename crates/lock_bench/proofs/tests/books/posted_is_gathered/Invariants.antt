@@ -1,4 +1,4 @@
-use Rattle.share_book.proofs.tests.missing_share_is_noticed.Given as goal
+use Rattle.lock_bench.proofs.tests.books.posted_is_gathered.Given as goal
 
 abbrev pub ghosts-run_over-A-Ledger : goal.ghosts-run_over-A-Ledger
 ghosts-run_over-A-Ledger g a =

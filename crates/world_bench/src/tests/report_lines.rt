@@ -1,8 +1,8 @@
 //! Each public function once, with values worked out by hand.
-use super::*;
 use finish_core::FinishEvent;
 use phase_model::{Event, History, Look, Op, Ops, explain};
 use phase_modes::{Limits, Mode, Refusal};
+use report_lines::{PhaserSums, finish_line, no_totals, phaser_sums, plus};
 use std::alloc::Global;
 use std::test::Fail;
 use world_model::{FinishLine, FoldLine, TotalsLine};

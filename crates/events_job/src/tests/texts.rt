@@ -1,5 +1,5 @@
 //! The places at which texts are refused, and what is read where they are not.
-use super::*;
+use events_text::read_events;
 use phase_model::{Call, Op};
 use phase_modes::{Limits, Mode, Refusal};
 use std::test::Fail;

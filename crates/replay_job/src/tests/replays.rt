@@ -1,11 +1,11 @@
 //! Parts that are merged, and parts that can't be; and traces that are replayed.
-use super::*;
 use phase_modes::{Limits, Phased, Refusal};
 use std::test::Fail;
 use trace_model::{Part, Trace, TracedEvent};
+use trace_replay::{merge, replay};
 use world_model::Begun;
 
-mod replays;
+mod worked;
 
 /// A part with these tickets, whose events are the ends of this task.
 fn part_of(rt: &HostRuntime, task: u32, tickets: &[u64]) -> Result<Part, Fail> {

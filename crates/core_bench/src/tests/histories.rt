@@ -1,5 +1,8 @@
 //! The plain functions on histories that are written out by hand.
-use super::*;
+use phase_model::{
+    Event, History, Look, Op, Ops, Reply, allowed, claimed, closed, did, explain, fold, live,
+    proposed, signals, waits,
+};
 use phase_modes::{Limits, Mode, Refusal};
 use std::alloc::Global;
 use std::test::Fail;

@@ -1,5 +1,5 @@
 //! Texts by their bytes, and programs that are stepped through.
-use super::*;
+use job_script::{Act, Answer, Program, read_program};
 use phase_model::Look;
 use phase_modes::{Limits, Mode, Pair, Refusal};
 use std::test::Fail;

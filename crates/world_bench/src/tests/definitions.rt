@@ -1,9 +1,12 @@
 //! The types as another crate builds them. What holds of them is proved by the laws.
-use super::*;
 use finish_core::FinishEvent;
 use phase_model::{Look, Ops};
 use phase_modes::{Mode, Phased};
 use std::test::Fail;
+use world_model::{
+    Begun, FinishLine, FoldLine, PhaserLines, Reply, Step, TaskLine, TotalsLine, Tried, WorldEvent,
+    WorldReport,
+};
 
 #[test]
 fn events_are_values(rt: HostRuntime) -> Result<(), Fail> {

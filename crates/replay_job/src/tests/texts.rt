@@ -1,11 +1,11 @@
 //! The text of the smallest trace, every form of an event there and back, and where damaged texts
 //! are refused.
-use super::*;
 use finish_core::FinishEvent;
 use phase_model::{Look, Op, Ops};
 use phase_modes::{Limits, Mode, Pair, Phased, Refusal};
 use std::test::Fail;
 use trace_model::{Trace, TracedEvent, TracedStep};
+use trace_text::{from_json, to_json};
 use world_model::{Begun, Tried};
 
 const SMALLEST: &str =

@@ -1,9 +1,9 @@
 //! A trace and a part as another crate builds them, and their events in a world.
-use super::*;
 use finish_core::FinishEvent;
 use phase_model::Look;
 use phase_modes::{Limits, Refusal};
 use std::test::Fail;
+use trace_model::{Part, Trace, TracedEvent, TracedStep};
 use world_model::{Reply, Step, Tried, WorldEvent};
 
 #[test]
