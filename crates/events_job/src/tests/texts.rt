@@ -2,15 +2,25 @@
 use events_text::read_events;
 use phase_model::{Call, Op};
 use phase_modes::{Limits, Mode, Refusal};
+use std::alloc::Global;
+use std::process::Abort;
 use std::test::Fail;
 
 /// The place of the text's first fault; none where it is of the form.
-fn place_of(rt: &HostRuntime, text: &str) -> Result<Option<u64>, Fail> {
-    match read_events(rt.alloc(), text.as_bytes()) {
+fn place_of(alloc: Global, text: &str) -> Result<Option<u64>, Fail> {
+    match read_events(alloc, text.as_bytes()) {
         Ok(_) => Ok(None),
         Err(Refusal::BadText(place)) => Ok(Some(place)),
         Err(_) => Err(Fail::from("memory")),
     }
+}
+
+/// Each text has its first fault at this place.
+fn all_at(rt: &impl Abort, alloc: Global, texts: &[&str], place: Option<u64>) -> Result<(), Fail> {
+    for text in texts {
+        assert_eq!(rt; place_of(alloc, text)?, place, "{text}");
+    }
+    Ok(())
 }
 
 #[test]
@@ -27,9 +37,7 @@ fn outer_object(rt: HostRuntime) -> Result<(), Fail> {
             {"acts":65536,"finishes":1024,"history":65536,"phasers":64,"regs":256,"tasks":4096},
             "calls":[]}"#,
     ];
-    for text in good {
-        assert_eq!(rt; place_of(&rt, text)?, None, "{text}");
-    }
+    all_at(&rt, rt.alloc(), good.as_slice(), None)?;
     let bad = [
         "",
         " ",
@@ -75,17 +83,22 @@ fn outer_object(rt: HostRuntime) -> Result<(), Fail> {
         r#"{"calls":[["sig",01]]}"#,
         r#"{"calls":[["sig",+1]]}"#,
     ];
-    for text in bad {
-        assert_eq!(rt; place_of(&rt, text)?, Some(0), "{text}");
-    }
-    Ok(())
+    all_at(&rt, rt.alloc(), bad.as_slice(), Some(0))
 }
 
 /// The place of the first fault of a list with `call` as its third item, and a fourth that is no
 /// call.
-fn place_of_third(rt: &HostRuntime, call: &str) -> Result<Option<u64>, Fail> {
-    let text = format!(in rt.alloc(); "{{\"calls\":[[\"sig\",0],[\"sig\",0],{call},7]}}")?;
-    place_of(rt, text.as_str())
+fn place_of_third(alloc: Global, call: &str) -> Result<Option<u64>, Fail> {
+    let text = format!(in alloc; "{{\"calls\":[[\"sig\",0],[\"sig\",0],{call},7]}}")?;
+    place_of(alloc, text.as_str())
+}
+
+/// With each of these calls as the third, the first fault is at this place.
+fn all_third_at(rt: &impl Abort, alloc: Global, calls: &[&str], place: u64) -> Result<(), Fail> {
+    for call in calls {
+        assert_eq!(rt; place_of_third(alloc, call)?, Some(place), "{call}");
+    }
+    Ok(())
 }
 
 #[test]
@@ -104,10 +117,7 @@ fn calls_of_the_form(rt: HostRuntime) -> Result<(), Fail> {
         r#"["look",0,255]"#,
         r#"["drop",0]"#,
     ];
-    for call in calls {
-        assert_eq!(rt; place_of_third(&rt, call)?, Some(4), "{call}");
-    }
-    Ok(())
+    all_third_at(&rt, rt.alloc(), calls.as_slice(), 4)
 }
 
 #[test]
@@ -124,10 +134,7 @@ fn items_that_are_no_calls(rt: HostRuntime) -> Result<(), Fail> {
         r#"["signal",0]"#,
         r#"["jump",0]"#,
     ];
-    for call in calls {
-        assert_eq!(rt; place_of_third(&rt, call)?, Some(3), "{call}");
-    }
-    Ok(())
+    all_third_at(&rt, rt.alloc(), calls.as_slice(), 3)
 }
 
 #[test]
@@ -150,10 +157,7 @@ fn registrations_not_of_the_form(rt: HostRuntime) -> Result<(), Fail> {
         r#"["drop"]"#,
         r#"["drop",0,0]"#,
     ];
-    for call in calls {
-        assert_eq!(rt; place_of_third(&rt, call)?, Some(3), "{call}");
-    }
-    Ok(())
+    all_third_at(&rt, rt.alloc(), calls.as_slice(), 3)
 }
 
 #[test]
@@ -184,10 +188,7 @@ fn numbers_not_of_the_form(rt: HostRuntime) -> Result<(), Fail> {
         r#"["look",0,-1]"#,
         r#"["look",0,0,0]"#,
     ];
-    for call in calls {
-        assert_eq!(rt; place_of_third(&rt, call)?, Some(3), "{call}");
-    }
-    Ok(())
+    all_third_at(&rt, rt.alloc(), calls.as_slice(), 3)
 }
 
 #[test]

@@ -3,6 +3,8 @@
 use finish_core::FinishEvent;
 use phase_model::{Look, Op, Ops};
 use phase_modes::{Limits, Mode, Pair, Phased, Refusal};
+use std::alloc::Global;
+use std::process::Abort;
 use std::test::Fail;
 use trace_model::{Trace, TracedEvent, TracedStep};
 use trace_text::{from_json, to_json};
@@ -12,8 +14,8 @@ const SMALLEST: &str =
     r#"{"events":[[1,"p",0,"make",0,"SIG_WAIT",[]],[2,"t",0,"begin",["next"]],[3,"p",0,"sig",0],[4,"p",0,"pass",0],[5,"t",0,"begin",["end"]],[6,"p",0,"drop",0],[7,"f",0,"shut"]],"limits":{"acts":4096,"finishes":64,"history":4096,"phasers":64,"regs":256,"tasks":256},"version":1}"#;
 
 /// The place of the text's first fault; none where it is of the form.
-fn place_of(rt: &HostRuntime, text: &str) -> Result<Option<u64>, Fail> {
-    match from_json(rt.alloc(), text.as_bytes()) {
+fn place_of(alloc: Global, text: &str) -> Result<Option<u64>, Fail> {
+    match from_json(alloc, text.as_bytes()) {
         Ok(_) => Ok(None),
         Err(Refusal::BadText(place)) => Ok(Some(place)),
         Err(_) => Err(Fail::from("memory")),
@@ -128,7 +130,7 @@ fn numbers_of_refusals_without_a_form(rt: HostRuntime) -> Result<(), Fail> {
         .push(1, TracedEvent::Fail(0, 27))
         .map_err(|_| Fail::from("memory"))?;
     let text = written(&rt, &trace)?;
-    assert_eq!(rt; place_of(&rt, text.as_str())?, Some(1));
+    assert_eq!(rt; place_of(rt.alloc(), text.as_str())?, Some(1));
     Ok(())
 }
 
@@ -168,6 +170,14 @@ fn most_pairs(rt: HostRuntime) -> Result<(), Fail> {
     Ok(())
 }
 
+/// Each text has its first fault at this place.
+fn all_at(rt: &impl Abort, alloc: Global, texts: &[&str], place: Option<u64>) -> Result<(), Fail> {
+    for text in texts {
+        assert_eq!(rt; place_of(alloc, text)?, place, "{text}");
+    }
+    Ok(())
+}
+
 #[test]
 fn outer_object(rt: HostRuntime) -> Result<(), Fail> {
     let good = [
@@ -176,9 +186,7 @@ fn outer_object(rt: HostRuntime) -> Result<(), Fail> {
         r#"{"version":1,"limits":{},"events":[]}"#,
         r#"{"version":1,"limits":{"tasks":4096},"events":[]}"#,
     ];
-    for text in good {
-        assert_eq!(rt; place_of(&rt, text)?, None, "{text}");
-    }
+    all_at(&rt, rt.alloc(), good.as_slice(), None)?;
     let bad = [
         "",
         "{",
@@ -202,10 +210,7 @@ fn outer_object(rt: HostRuntime) -> Result<(), Fail> {
         r#"{"events":[],"version":1} x"#,
         r#"{"events":[[1,"p",0,"sig",1e400]],"version":1}"#,
     ];
-    for text in bad {
-        assert_eq!(rt; place_of(&rt, text)?, Some(0), "{text}");
-    }
-    Ok(())
+    all_at(&rt, rt.alloc(), bad.as_slice(), Some(0))
 }
 
 #[test]
@@ -269,7 +274,7 @@ fn events_without_a_form(rt: HostRuntime) -> Result<(), Fail> {
         let text = format!(in rt.alloc();
             "{{\"events\":[[1,\"f\",1,\"shut\"],[1,\"f\",1,\"shut\"],{event},7],\"version\":1}}"
         )?;
-        assert_eq!(rt; place_of(&rt, text.as_str())?, Some(3), "{event}");
+        assert_eq!(rt; place_of(rt.alloc(), text.as_str())?, Some(3), "{event}");
     }
     Ok(())
 }
@@ -277,7 +282,7 @@ fn events_without_a_form(rt: HostRuntime) -> Result<(), Fail> {
 #[test]
 fn order_of_tickets_is_no_matter_of_the_text(rt: HostRuntime) -> Result<(), Fail> {
     let text = r#"{"events":[[9,"f",1,"shut"],[3,"f",1,"shut"],[3,"f",0,"opened",0]],"version":1}"#;
-    assert_eq!(rt; place_of(&rt, text)?, None);
+    assert_eq!(rt; place_of(rt.alloc(), text)?, None);
     Ok(())
 }
 
@@ -296,6 +301,6 @@ fn every_proper_prefix_is_refused(rt: HostRuntime) -> Result<(), Fail> {
 #[test]
 fn cut_inside_a_string(rt: HostRuntime) -> Result<(), Fail> {
     let text = r#"{"events":[[1,"p",0,"ma"#;
-    assert_eq!(rt; place_of(&rt, text)?, Some(0));
+    assert_eq!(rt; place_of(rt.alloc(), text)?, Some(0));
     Ok(())
 }

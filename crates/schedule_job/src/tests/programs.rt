@@ -2,11 +2,13 @@
 use job_script::{Act, Answer, Program, read_program};
 use phase_model::Look;
 use phase_modes::{Limits, Mode, Pair, Refusal};
+use std::alloc::Global;
+use std::process::Abort;
 use std::test::Fail;
 
 /// The place of the text's first fault; none where it is a program.
-fn place_of(rt: &HostRuntime, text: &str) -> Result<Option<u64>, Fail> {
-    match read_program(rt.alloc(), text.as_bytes()) {
+fn place_of(alloc: Global, text: &str) -> Result<Option<u64>, Fail> {
+    match read_program(alloc, text.as_bytes()) {
         Ok(_) => Ok(None),
         Err(Refusal::BadText(place)) => Ok(Some(place)),
         Err(_) => Err(Fail::from("memory")),
@@ -14,9 +16,17 @@ fn place_of(rt: &HostRuntime, text: &str) -> Result<Option<u64>, Fail> {
 }
 
 /// The place of the first fault of a program whose second act this is; the third is none.
-fn place_beside(rt: &HostRuntime, act: &str) -> Result<Option<u64>, Fail> {
-    let text = format!(in rt.alloc(); "{{\"main\":[[\"next\"],{act},7]}}")?;
-    place_of(rt, text.as_str())
+fn place_beside(alloc: Global, act: &str) -> Result<Option<u64>, Fail> {
+    let text = format!(in alloc; "{{\"main\":[[\"next\"],{act},7]}}")?;
+    place_of(alloc, text.as_str())
+}
+
+/// Each text has its first fault at this place.
+fn all_at(rt: &impl Abort, alloc: Global, texts: &[&str], place: Option<u64>) -> Result<(), Fail> {
+    for text in texts {
+        assert_eq!(rt; place_of(alloc, text)?, place, "{text}");
+    }
+    Ok(())
 }
 
 #[test]
@@ -26,9 +36,7 @@ fn outer_objects(rt: HostRuntime) -> Result<(), Fail> {
         r#"{"limits":{},"main":[]}"#,
         r#"{"main":[["next"]],"limits":{"acts":1,"finishes":1,"history":4,"phasers":1,"regs":1,"tasks":1}}"#,
     ];
-    for text in good {
-        assert_eq!(rt; place_of(&rt, text)?, None, "{text}");
-    }
+    all_at(&rt, rt.alloc(), good.as_slice(), None)?;
     let bad = [
         "",
         "{",
@@ -41,10 +49,7 @@ fn outer_objects(rt: HostRuntime) -> Result<(), Fail> {
         r#"{"main":[],"acts":[]}"#,
         r#"{"main":[],"main"}"#,
     ];
-    for text in bad {
-        assert_eq!(rt; place_of(&rt, text)?, Some(0), "{text}");
-    }
-    Ok(())
+    all_at(&rt, rt.alloc(), bad.as_slice(), Some(0))
 }
 
 #[test]
@@ -67,7 +72,7 @@ fn acts_of_the_form(rt: HostRuntime) -> Result<(), Fail> {
     ];
     for act in acts {
         let text = format!(in rt.alloc(); "{{\"main\":[{act}]}}")?;
-        assert_eq!(rt; place_of(&rt, text.as_str())?, None, "{act}");
+        assert_eq!(rt; place_of(rt.alloc(), text.as_str())?, None, "{act}");
     }
     Ok(())
 }
@@ -105,7 +110,7 @@ fn items_that_are_no_acts(rt: HostRuntime) -> Result<(), Fail> {
         } else {
             2
         };
-        assert_eq!(rt; place_beside(&rt, act)?, Some(wanted));
+        assert_eq!(rt; place_beside(rt.alloc(), act)?, Some(wanted));
     }
     Ok(())
 }
@@ -115,32 +120,32 @@ fn a_spawn_on_seventeen_phasers(rt: HostRuntime) -> Result<(), Fail> {
     let sixteen =
         r#"["p","SIG"],["p","SIG"],["p","SIG"],["p","SIG"],["p","SIG"],["p","SIG"],["p","SIG"],["p","SIG"],["p","SIG"],["p","SIG"],["p","SIG"],["p","SIG"],["p","SIG"],["p","SIG"],["p","SIG"],["p","SIG"]"#;
     let most = format!(in rt.alloc(); "{{\"main\":[[\"async\",[{sixteen}],[]]]}}")?;
-    assert_eq!(rt; place_of(&rt, most.as_str())?, None);
+    assert_eq!(rt; place_of(rt.alloc(), most.as_str())?, None);
     let past = format!(in rt.alloc(); "{{\"main\":[[\"async\",[{sixteen},[\"p\",\"SIG\"]],[]]]}}")?;
-    assert_eq!(rt; place_of(&rt, past.as_str())?, Some(1));
+    assert_eq!(rt; place_of(rt.alloc(), past.as_str())?, Some(1));
     Ok(())
 }
 
 #[test]
 fn oversized_texts(rt: HostRuntime) -> Result<(), Fail> {
     let million = r#"{"main":[["repeat",1000,[["repeat",1000,[["next"]]]]]]}"#;
-    assert_eq!(rt; place_of(&rt, million)?, Some(1));
+    assert_eq!(rt; place_of(rt.alloc(), million)?, Some(1));
     let mut brackets = String::new(rt.alloc());
     for _ in 0..200 {
         brackets.push_str("[")?;
     }
-    assert_eq!(rt; place_of(&rt, brackets.as_str())?, Some(0));
+    assert_eq!(rt; place_of(rt.alloc(), brackets.as_str())?, Some(0));
     let name = r#"{"main":[["new","aaaaaaaaaaaaaaaaaaaaaaaaaaaaaaaaa","SIG",[]]]}"#;
-    assert_eq!(rt; place_of(&rt, name)?, Some(1));
+    assert_eq!(rt; place_of(rt.alloc(), name)?, Some(1));
     Ok(())
 }
 
 #[test]
 fn acts_are_counted_before_those_inside(rt: HostRuntime) -> Result<(), Fail> {
     let inside = r#"{"main":[["new","p","SIG",[]],["async",[["p","SIG"]],[["next"],["wait",1]]]]}"#;
-    assert_eq!(rt; place_of(&rt, inside)?, Some(4));
+    assert_eq!(rt; place_of(rt.alloc(), inside)?, Some(4));
     let after = r#"{"main":[["repeat",2,[["next"],["wait"]]],["wait",1]]}"#;
-    assert_eq!(rt; place_of(&rt, after)?, Some(4));
+    assert_eq!(rt; place_of(rt.alloc(), after)?, Some(4));
     Ok(())
 }
 

@@ -3,7 +3,6 @@ ghost use Rattle.std.specs.Prelude.{◌≡◌, IfOk};
 
 use super::*;
 use phase_modes::Reg;
-use std::test::Fail;
 
 /// A phaser that nobody has made yet, without accumulators; `NotNow` where the limits are none.
 fn blank(alloc: Global) -> Result<PhaserState, Refusal>

@@ -1,6 +1,5 @@
 //! The worked examples: the calls of each, and the reply to each call.
 use super::*;
-use std::test::Fail;
 
 const NO_MEMORY: &str = "no memory for a phaser";
 
@@ -116,14 +115,13 @@ fn waiter_alone(rt: HostRuntime) -> Result<(), Fail> {
         (Call::Pass(0), Reply::Phase(0)),
         (Call::Pass(0), Reply::Phase(1)),
     ];
-    let _state = play(
+    replies(
         &rt,
         rt.alloc(),
         limits_with(4_096, 256),
         Ops::none(),
         rows.as_slice(),
-    )?;
-    Ok(())
+    )
 }
 
 /// A child registered between its parent's signal and pass has signalled what its parent has.
@@ -144,14 +142,13 @@ fn split_phase_child(rt: HostRuntime) -> Result<(), Fail> {
         (Call::Signal(1, None), Reply::Done),
         (Call::Pass(0), Reply::Phase(1)),
     ];
-    let _state = play(
+    replies(
         &rt,
         rt.alloc(),
         limits_with(4_096, 256),
         Ops::none(),
         rows.as_slice(),
-    )?;
-    Ok(())
+    )
 }
 
 /// A task that only signals runs ahead; a task that only waits follows it, phase by phase.
@@ -173,14 +170,13 @@ fn signaller_runs_ahead(rt: HostRuntime) -> Result<(), Fail> {
         (Call::Pass(2), Reply::Phase(2)),
         (Call::Pass(2), Reply::NotYet),
     ];
-    let _state = play(
+    replies(
         &rt,
         rt.alloc(),
         limits_with(4_096, 256),
         Ops::none(),
         rows.as_slice(),
-    )?;
-    Ok(())
+    )
 }
 
 /// A value counts even if its sender is dropped before it signals.
@@ -197,14 +193,13 @@ fn value_of_dropped_sender(rt: HostRuntime) -> Result<(), Fail> {
         (Call::Pass(2), Reply::Phase(0)),
         (Call::Look(2, 0), Reply::Saw(Look::Value(5))),
     ];
-    let _state = play(
+    replies(
         &rt,
         rt.alloc(),
         limits_with(4_096, 256),
         first_ops(1),
         rows.as_slice(),
-    )?;
-    Ok(())
+    )
 }
 
 /// The sum of no value is 0, and there is no least and no greatest of none.
@@ -221,14 +216,13 @@ fn empty_folds(rt: HostRuntime) -> Result<(), Fail> {
         (Call::Look(0, 3), Reply::Refused(Refusal::NoAccumulator)),
         (Call::Send(0, 3, 1), Reply::Refused(Refusal::NoAccumulator)),
     ];
-    let _state = play(
+    replies(
         &rt,
         rt.alloc(),
         limits_with(4_096, 256),
         first_ops(3),
         rows.as_slice(),
-    )?;
-    Ok(())
+    )
 }
 
 /// A sum is wider than its values.
@@ -245,14 +239,13 @@ fn extreme_values(rt: HostRuntime) -> Result<(), Fail> {
         (Call::Look(0, 1), Reply::Saw(Look::Value(-2147483648))),
         (Call::Look(0, 2), Reply::Saw(Look::Nothing)),
     ];
-    let _state = play(
+    replies(
         &rt,
         rt.alloc(),
         limits_with(4_096, 256),
         first_ops(3),
         rows.as_slice(),
-    )?;
-    Ok(())
+    )
 }
 
 /// A value that is sent after the signal counts for the next phase, and equal values count each.
@@ -314,14 +307,13 @@ fn single_statement(rt: HostRuntime) -> Result<(), Fail> {
         (Call::Pass(0), Reply::Phase(0)),
         (Call::Pass(2), Reply::Phase(0)),
     ];
-    let _state = play(
+    replies(
         &rt,
         rt.alloc(),
         limits_with(4_096, 256),
         Ops::none(),
         rows.as_slice(),
-    )?;
-    Ok(())
+    )
 }
 
 /// Where an event has no room, a drop still has.
@@ -371,14 +363,13 @@ fn refusals_in_order(rt: HostRuntime) -> Result<(), Fail> {
         ),
         (Call::Make(3, Mode::Sig), Reply::Refused(Refusal::NotNow)),
     ];
-    let _state = play(
+    replies(
         &rt,
         rt.alloc(),
         limits_with(4_096, 256),
         first_ops(1),
         rows.as_slice(),
-    )?;
-    Ok(())
+    )
 }
 
 /// The task number is looked at before the number of registrations.
@@ -395,14 +386,13 @@ fn registrations_full(rt: HostRuntime) -> Result<(), Fail> {
             Reply::Refused(Refusal::RegsFull),
         ),
     ];
-    let _state = play(
+    replies(
         &rt,
         rt.alloc(),
         limits_with(4_096, 1),
         Ops::none(),
         rows.as_slice(),
-    )?;
-    Ok(())
+    )
 }
 
 /// A proposal needs room for its claim and its report, which then never fail for room.
@@ -458,12 +448,11 @@ fn plain_waiter_holds_still(rt: HostRuntime) -> Result<(), Fail> {
         (Call::Pass(1), Reply::Phase(0)),
         (Call::Pass(0), Reply::Phase(0)),
     ];
-    let _state = play(
+    replies(
         &rt,
         rt.alloc(),
         limits_with(4_096, 256),
         Ops::none(),
         rows.as_slice(),
-    )?;
-    Ok(())
+    )
 }

@@ -2,7 +2,6 @@
 use super::generator::Dice;
 use super::peer::expected;
 use super::*;
-use std::test::Fail;
 
 /// Which call it is. A signal with a number proposes.
 #[derive(Clone, Copy, Debug, PartialEq, Eq)]

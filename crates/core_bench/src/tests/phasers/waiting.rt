@@ -1,7 +1,6 @@
 //! Who waits: the first of two tasks has signalled and the second hasn't, then both have. What
 //! calls would be answered is asked before.
 use super::*;
-use std::test::Fail;
 
 #[test]
 fn first_of_two_waits(rt: HostRuntime) -> Result<(), Fail> {
