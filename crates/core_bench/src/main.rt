@@ -1,4 +1,5 @@
-//! Calls of the core alone, many in one process, for the benchmark; its tests are those of the core's crates too.
+//! Calls of the core alone, many in one process, for the benchmark; its tests are those of the
+//! core's crates too.
 #![tactic(auto)]
 
 mod calls;

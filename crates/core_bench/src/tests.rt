@@ -1,4 +1,4 @@
-//! The arguments, and how many calls a history has room for; below, the tests of the core's own crates.
+//! The arguments, and how many calls a history has room for; below, the tests of the core's crates.
 use super::*;
 use crate::kind::Kind;
 use std::test::Fail;

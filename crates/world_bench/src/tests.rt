@@ -3,8 +3,8 @@ use super::*;
 use std::test::Fail;
 
 mod definitions;
-mod report_lines;
 mod side_by_side;
+mod sums;
 mod worlds;
 
 #[test]
