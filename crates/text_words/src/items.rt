@@ -1,12 +1,39 @@
-//! The items of a list: numbers, values, words, modes, operators. None where an item is absent, of
-//! another kind or out of its range.
-ghost use Rattle.std.specs.Prelude.{◌≡◌, option_map};
+//! The JSON value that bytes are, and the items of a list: numbers, values, words, modes, operators.
+//! An item is none where it is absent, of another kind or out of its range.
+ghost use Rattle.std.specs.Prelude.{◌≡◌, ◌↔◌, IsTrue, option_map};
+ghost use Rattle.serde_json.specs.Errors.{IsMemory};
 ghost use Rattle.serde_json.specs.View.{view, items_view};
+ghost use Rattle.text_words.specs.Reading.{reading, json_read, Gives};
 ghost use Rattle.text_words.specs.Words.{number_in, value_in, mode_in, op_in, word_at, number_at, accumulator_at, value_at, mode_at, all_in, at_most, ops_in, ops_at};
 
 use phase_model::{Op, Ops};
-use phase_modes::Mode;
-use serde_json::Value;
+use phase_modes::{Mode, Refusal};
+use serde_json::{Category, Error, Value};
+use std::alloc::Global;
+
+// ---- JSON
+
+fn is_memory(error: &Error) -> bool
+    ensures { IsTrue result ↔ IsMemory error.now }
+{
+    error.classify() == Category::Memory
+}
+
+/// The JSON value that the bytes are. `BadText` at place 0 where they are none, nest deeper than
+/// the JSON reader goes, or aren't UTF-8; `Memory` where there is too little for the value.
+pub fn json_of(alloc: Global, bytes: &[u8]) -> Result<Value, Refusal>
+    ensures { Gives view result (json_read (reading bytes.now)) }
+{
+    match Value::from_slice(alloc, bytes) {
+        Ok(value) => Ok(value),
+        Err(error) => {
+            if is_memory(&error) {
+                return Err(Refusal::Memory);
+            }
+            Err(Refusal::BadText(0))
+        }
+    }
+}
 
 // ---- numbers
 

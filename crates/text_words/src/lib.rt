@@ -4,11 +4,11 @@
 #![tactic(auto)]
 
 mod items;
-mod json;
 mod objects;
 
-pub use items::{accumulator_at, mode_at, number_at, number_of, ops_at, ops_of, value_at, word_at};
-pub use json::json_of;
+pub use items::{
+    accumulator_at, json_of, mode_at, number_at, number_of, ops_at, ops_of, value_at, word_at,
+};
 pub use objects::{has_only_keys, limits_of};
 
 #[cfg(test)]

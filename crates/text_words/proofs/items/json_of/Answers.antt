@@ -2,7 +2,7 @@ use Rattle.std.proofs.Common.{rules, ap}
 use Rattle.serde_json.specs.Errors.{IsMemory}
 use Rattle.text_words.specs.Reading.{json_read}
 use Rattle.text_words.proofs.Utf8.{is_read, is_not_read}
-use Rattle.text_words.proofs.json.json_of.Goals as goal
+use Rattle.text_words.proofs.items.json_of.Goals as goal
 
 pub returns-in-Ok : goal.returns-in-Ok
 returns-in-Ok c = ap json_read (is_read c.args.bytes.now _ c.in-Ok.ensures.ok.0 c.in-Ok.ensures.ok.1)
