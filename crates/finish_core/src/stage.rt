@@ -2,7 +2,7 @@
 
 /// How far a finish has come.
 #[derive(Clone, Copy, Debug, PartialEq, Eq)]
-pub enum Stage {
+pub(crate) enum Stage {
     /// It hasn't been opened.
     Fresh,
     /// It was opened, and may have tasks in it.
