@@ -46,17 +46,17 @@ module _ {E : Type 0} where
       sym (out_of_range c cs (nat_lt (digits_value 10 (c ∷ cs)) (2 ^ 32)) refl h)
 
   -- what is read of digits
-  pub told : (text : List ℕ) (r : Result ℕ E) → list_all is_ascii_digit text ≡ true
+  pub of_digits : (text : List ℕ) (r : Result ℕ E) → list_all is_ascii_digit text ≡ true
       → ParsesUnsigned 32 10 text r → result_ok r ≡ number_in text
-  told text r digits parses =
+  of_digits text r digits parses =
       by_answer text r digits
       (parse_digits (numerals_by_value (λ ds. all_ascii_digits ds ≡ true) tells_all_ascii_digits) 32 text
       r parses
       (sym (alike text) ∙ digits))
 
 -- other texts spell no number
-pub untold : (text : List ℕ) → list_all is_ascii_digit text ≡ false → None ≡ number_in text
-untold text other =
+pub of_others : (text : List ℕ) → list_all is_ascii_digit text ≡ false → None ≡ number_in text
+of_others text other =
     sym (by_test text false
     (left_false (is_numeral text) _ (right_false (not (is_empty text)) (list_all is_ascii_digit text) other)))
   where

@@ -19,7 +19,7 @@ fn is_digits(text: &str) -> bool
 }
 
 /// The number that digits alone spell, where it has 32 bits.
-#[tactic(auto, using(crate::proofs::Numbers::told, crate::proofs::Numbers::untold))]
+#[tactic(auto, using(crate::proofs::Numbers::of_digits, crate::proofs::Numbers::of_others))]
 fn number_of(text: &str) -> Option<u32>
     ensures { result ≡ number_in text.now }
 {

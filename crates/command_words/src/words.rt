@@ -1,4 +1,4 @@
-//! The words of the command line, as `clap` tells them.
+//! The words of the command line, as `clap` reads them.
 ghost use Rattle.std.specs.Prelude.{◌≡◌, ◌≢◌, List, Some, map, false, option_map, IfErr, IfOk, MatchResult};
 ghost use Rattle.clap.specs.Words.{app_of, found_of, kind_of, rows_of, rule_of};
 ghost use Rattle.clap.specs.declared.builder.command.Command.TheViews.{out-Command as fields_of};

@@ -1,6 +1,6 @@
 -- The text that is printed for an events file, byte for byte.
 use Rattle.std.specs.Prelude.{ℕ, List, [], ◌++◌, codes, flat_map}
-use Rattle.phase_model.specs.declared.reply.Reply.{Reply}
+use Rattle.phase_model.specs.declared.call.Reply.{Reply}
 use Rattle.phase_model.specs.Rules.{Story}
 use Rattle.phase_model.specs.Replies.{replies}
 use Rattle.phase_model.specs.ReplyLines.{line_text}

@@ -1,5 +1,5 @@
 -- What the reader's value stands for.
-use Rattle.events_text.specs.declared.events_file.EventsFile.{EventsFile}
+use Rattle.events_text.specs.declared.EventsFile.{EventsFile}
 use Rattle.events_text.specs.Form.{Form}
 
 -- the file without where it lies in memory

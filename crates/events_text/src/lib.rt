@@ -1,9 +1,24 @@
-//! The text of an events file, from bytes to calls. What a text spells, and what is printed for it,
-//! is defined in `specs/`.
+//! The text of an events file, from bytes to calls: what is read, and how. What a text spells, and
+//! what is printed for it, is defined in `specs/`.
 #![tactic(auto)]
 
-mod events_file;
+ghost use Rattle.std.specs.Prelude.{◌≡◌, true};
+ghost use Rattle.phase_modes.specs.Limits.{limits_fit};
+
 mod reading;
 
-pub use events_file::EventsFile;
+use phase_model::{Call, Ops};
+use phase_modes::Limits;
 pub use reading::read_events;
+
+/// An events file: one phaser, and the calls on it.
+#[derive(Debug, Drop)]
+pub struct EventsFile {
+    /// The limits of the phaser. A key that the file doesn't name has its default.
+    pub limits: Limits,
+    /// The operators of its accumulators.
+    pub ops: Ops,
+    /// The calls, in order.
+    pub calls: Vec<Call>,
+    ghost fit: { limits_fit limits ≡ true },
+}

@@ -7,7 +7,7 @@ ghost use Rattle.text_words.specs.Words.{numbered_in};
 ghost use Rattle.events_text.specs.Form.{make_in, register_in, signal_in, pass_in, did_in, send_in, look_in, drop_in, call_in, outer_in, form, form_of};
 ghost use Rattle.events_text.specs.Reading.{form_view};
 
-use crate::events_file::EventsFile;
+use crate::EventsFile;
 use phase_model::{Call, Ops};
 use phase_modes::{Limits, Refusal};
 use serde_json::Value;

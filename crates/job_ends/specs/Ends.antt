@@ -9,7 +9,7 @@ use Rattle.job_ends.specs.declared.failure.Failure.TheVariants.{Refused, Read, W
 use Rattle.job_ends.specs.declared.failure.Status.{Status}
 use Rattle.job_ends.specs.declared.failure.Status.TheVariants as statuses
 
--- the line that tells a failure, with its newline
+-- the line that reports a failure, with its newline
 abbrev pub failure_line : Failure → List ℕ
 failure_line (Refused r) = refusal_text r ++ codes "\n"
 failure_line Read = codes "fault read\n"

@@ -1,4 +1,4 @@
-//! Why a job was not done, the line that tells it, and the exit statuses.
+//! Why a job was not done, the line that reports it, and the exit statuses.
 ghost use Rattle.std.specs.Prelude.{◌≡◌, ◌⊎◌};
 ghost use Rattle.job_ends.specs.Ends.{AppendsFront, Reports, code_of, status_of};
 

@@ -1,4 +1,4 @@
-//! How a job of the program ends: its failures and the line that tells each, the exit statuses, and
+//! How a job of the program ends: its failures and the line that reports each, the exit statuses, and
 //! the bytes of a reader up to a limit. The jobs themselves stand in the crates above.
 #![tactic(auto)]
 

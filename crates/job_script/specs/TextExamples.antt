@@ -51,7 +51,7 @@ names (suc n) = new_named ((48 + n % 10) ∷ (48 + n / 10) ∷ []) ∷ names n
 abbrev pub MillionActs : Type 0
 MillionActs = form (program (repeated 1000 (repeated 1000 (next_act ∷ []) ∷ []) ∷ [])) ≡ Err 1
 
--- of two repeats that are both too long the outermost is told
+-- of two repeats that are both too long the outermost is reported
 abbrev pub BothTooLong : Type 0
 BothTooLong =
     form (program (next_act ∷ repeated 2 (repeated 1000 (repeated 11 (next_act ∷ []) ∷ []) ∷ []) ∷ []))
@@ -114,11 +114,11 @@ NumberedNames =
 abbrev pub TooManyNames : Type 0
 TooManyNames = form (program (names 65)) ≡ Err 65
 
--- sixty-four are no fault, so a later one is told
+-- sixty-four are no fault, so a later one is reported
 abbrev pub SixtyFourNames : Type 0
 SixtyFourNames = form (program (next_act ∷ names 64 ++ new_named (codes "00") ∷ list [] ∷ [])) ≡ Err 67
 
--- a list in which a name is one too many has a length, so the repeat round it is told
+-- a list in which a name is one too many has a length, so the repeat round it is reported
 abbrev pub TooManyNamesWithin : Type 0
 TooManyNamesWithin = form (program (next_act ∷ repeated 1000 (names 65) ∷ [])) ≡ Err 2
 

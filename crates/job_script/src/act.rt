@@ -1,4 +1,4 @@
-//! What a task is given to do, and what it is told of what it did.
+//! What a task is given to do, and what comes back to it of what it did.
 use phase_model::{Look, Ops};
 use phase_modes::{Mode, Phased};
 
@@ -33,7 +33,7 @@ pub enum Act<B: Drop> {
     End,
 }
 
-/// What a task is told before its next act: that it starts, or what its last act came to.
+/// What a task hears before its next act: that it starts, or what its last act came to.
 #[derive(Clone, Copy, Debug, PartialEq, Eq)]
 pub enum Answer {
     /// It makes its first act.

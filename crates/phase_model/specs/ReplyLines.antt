@@ -4,8 +4,8 @@ use Rattle.std.specs.Fmt.{signed_decimal}
 use Rattle.phase_modes.specs.Refusal.{refusal_text}
 use Rattle.phase_model.specs.declared.op.Look.{Look}
 use Rattle.phase_model.specs.declared.op.Look.TheVariants.{Value, Nothing}
-use Rattle.phase_model.specs.declared.reply.Reply.{Reply}
-use Rattle.phase_model.specs.declared.reply.Reply.TheVariants.{Done, Phase, Claim, Saw, NotYet, Refused}
+use Rattle.phase_model.specs.declared.call.Reply.{Reply}
+use Rattle.phase_model.specs.declared.call.Reply.TheVariants.{Done, Phase, Claim, Saw, NotYet, Refused}
 
 -- what was seen of an accumulator
 abbrev pub look_text : Look → List ℕ

@@ -4,7 +4,7 @@ use Rattle.phase_modes.specs.declared.refusal.Refusal.{Refusal}
 use Rattle.phase_model.specs.declared.event.Event.{Event}
 use Rattle.phase_model.specs.declared.event.Event.TheVariants.{Claim, Pass, Look as Looked}
 use Rattle.phase_model.specs.declared.op.Look.{Look}
-use Rattle.phase_model.specs.declared.reply.Reply.TheVariants.{Done}
+use Rattle.phase_model.specs.declared.call.Reply.TheVariants.{Done}
 use Rattle.phase_model.specs.Replies.{settled, done_result, returned, returned_for}
 use Rattle.phaser_core.specs.Answers.{pass_result, look_result}
 use Rattle.phaser_core.specs.Outcomes.{done_reply, pass_reply, look_reply}

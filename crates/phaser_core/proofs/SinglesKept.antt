@@ -22,7 +22,7 @@ use Rattle.single_state.specs.declared.statement.Stage.TheVariants.{Proposed, Cl
 use Rattle.single_state.specs.declared.statement.Statement.{Statement}
 use Rattle.single_state.specs.Single.{is_open_stage, is_unclaimed, is_claim_of, number_for, may_pass, is_claimable, is_claimed_by, reserve_of, MayPropose}
 use Rattle.single_state.specs.Single as single
-use Rattle.phaser_core.specs.Table.{IsAtStage, IsLast, TellsSingle}
+use Rattle.phaser_core.specs.Table.{IsAtStage, IsLast, IsLastSingle}
 
 -- a phase with a number is proposed for
 proposed_with : (p n : ℕ) (xs : List Proposal) → option_map (λ x. x.number) (find (λ x. x.phase == p) xs)
@@ -78,7 +78,7 @@ module _ (l : Limits) (ops : List Op) (h : List Event) (legal : is_legal l ops h
   stage_done (Done t) p k = k
 
   -- a phase is settled where the kept single lets it pass
-  pub settled_is : (o : Option Statement) (p : ℕ) → TellsSingle o h → is_settled p h ≡ may_pass o p
+  pub settled_is : (o : Option Statement) (p : ℕ) → IsLastSingle o h → is_settled p h ≡ may_pass o p
   settled_is None p k = ap (λ b. not b || is_done p h) (k p)
   settled_is (Some x) p k =
       elim (cases_phase x.phase p) [
@@ -96,7 +96,7 @@ module _ (l : Limits) (ops : List Op) (h : List Event) (legal : is_legal l ops h
       ]
 
   -- a proposed phase is unclaimed where the kept single may be claimed for it
-  pub claimable_is : (o : Option Statement) (p : ℕ) → TellsSingle o h → is_proposed p h ≡ true
+  pub claimable_is : (o : Option Statement) (p : ℕ) → IsLastSingle o h → is_proposed p h ≡ true
       → not (is_claimed p h) ≡ is_claimable o p
   claimable_is None p k made = absurd (false≢true (sym (k p) ∙ made))
   claimable_is (Some x) p k made =
@@ -119,7 +119,7 @@ module _ (l : Limits) (ops : List Op) (h : List Event) (legal : is_legal l ops h
       not_not false = refl
 
   -- a claimable phase has the kept number
-  pub number_is : (o : Option Statement) (p : ℕ) → TellsSingle o h → is_claimable o p ≡ true
+  pub number_is : (o : Option Statement) (p : ℕ) → IsLastSingle o h → is_claimable o p ≡ true
       → number_of p h ≡ number_for o p
   number_is None p k c = absurd cc
   number_is (Some x) p k c =
@@ -152,7 +152,7 @@ module _ (l : Limits) (ops : List Op) (h : List Event) (legal : is_legal l ops h
   claim_stands (Done u) t p k c = absurd cc
 
   -- the kept claimer is the task that may report
-  pub claimed_by_is : (o : Option Statement) (t : ℕ) → TellsSingle o h
+  pub claimed_by_is : (o : Option Statement) (t : ℕ) → IsLastSingle o h
       → (has_claimed t (waits t h) h && not (is_done (waits t h) h)) ≡ is_claimed_by o t
   claimed_by_is None t k =
       false_from_ne_true (has_claimed t (waits t h) h && not (is_done (waits t h) h))
@@ -180,7 +180,7 @@ module _ (l : Limits) (ops : List Op) (h : List Event) (legal : is_legal l ops h
       not_yes false e = refl
 
   -- the kept single needs as many events as the history says
-  pub reserve_is : (o : Option Statement) → TellsSingle o h → reserve h ≡ reserve_of o
+  pub reserve_is : (o : Option Statement) → IsLastSingle o h → reserve h ≡ reserve_of o
   reserve_is None k = reserve_none l ops h legal (λ p. settled_is None p k)
   reserve_is (Some x) k = by_stage x.stage refl
     where
@@ -207,7 +207,7 @@ module _ (l : Limits) (ops : List Op) (h : List Event) (legal : is_legal l ops h
       signals_past_proposals l ops h legal t x.phase (last_is_proposed x k) live signaller
 
   -- another number stands for a signaller's phase where the kept single says so
-  pub mismatch_is : (o : Option Statement) (t n : ℕ) → TellsSingle o h → is_live t h ≡ true
+  pub mismatch_is : (o : Option Statement) (t n : ℕ) → IsLastSingle o h → is_live t h ≡ true
       → has_mode can_signal t h ≡ true
       → is_mismatch n (signals t h) h ≡ single.is_mismatch o (signals t h) n
   mismatch_is None t n k live signaller = no_mismatch (signals t h) n (proposals h) (k (signals t h))
@@ -228,7 +228,7 @@ module _ (l : Limits) (ops : List Op) (h : List Event) (legal : is_legal l ops h
       ]
 
   -- a single's task that hasn't signalled its phase may propose for it
-  pub may_propose : (o : Option Statement) (t : ℕ) → TellsSingle o h → is_live t h ≡ true
+  pub may_propose : (o : Option Statement) (t : ℕ) → IsLastSingle o h → is_live t h ≡ true
       → has_mode can_signal t h ≡ true → has_mode can_single t h ≡ true
       → signals t h ≡ waits t h → MayPropose o (signals t h)
   may_propose None t k live signaller may behind = tt

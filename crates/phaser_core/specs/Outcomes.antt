@@ -2,8 +2,8 @@
 use Rattle.std.specs.Prelude.{Result, Ok, Err}
 use Rattle.phase_modes.specs.declared.refusal.Refusal.{Refusal}
 use Rattle.phase_model.specs.declared.op.Look.{Look}
-use Rattle.phase_model.specs.declared.reply.Reply.{Reply}
-use Rattle.phase_model.specs.declared.reply.Reply.TheVariants.{Done, Phase, Claim, Saw, NotYet, Refused}
+use Rattle.phase_model.specs.declared.call.Reply.{Reply}
+use Rattle.phase_model.specs.declared.call.Reply.TheVariants.{Done, Phase, Claim, Saw, NotYet, Refused}
 use Rattle.phaser_core.specs.declared.state.Passing.{Passing}
 use Rattle.phaser_core.specs.declared.state.Passing.TheVariants.{Passed, Claimed}
 use Rattle.phaser_core.specs.declared.state.Passing.TheVariants as passings

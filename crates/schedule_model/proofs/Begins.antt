@@ -1,4 +1,4 @@
--- What an idle task begins is made, or refused for a reason that its log may tell.
+-- What an idle task begins is made, or refused for a reason that its log may report.
 use Rattle.std.proofs.Common.{ℕ, ◌≡◌, ◌⊎◌, Bool, true, false, ◌&&◌, ◌||◌, ◌==◌, not, nat_lt, List, [], ◌∷◌, Option, Some, None, Result, Err, refl, sym, subst, inl, inr}
 use Rattle.std.specs.List.{list_all}
 use Rattle.std.proofs.lemmas.Bool.{and_parts, and_from}
@@ -34,57 +34,57 @@ use Rattle.world_model.specs.PartReplies.{returned, finish_returned}
 use Rattle.world_model.specs.Parts.{ops_of, phaser_past, finish_past}
 use Rattle.world_model.specs.Replies.{is_made, is_legal_world, reply}
 use Rattle.world_model.specs.Tasks.{acts as acts_begun}
-use Rattle.world_model.proofs.MadeOrGivesUp.{told_made}
+use Rattle.world_model.proofs.MadeOrGivesUp.{event_made}
 use Rattle.world_model.proofs.SmallWords.{eq_self}
 use Rattle.schedule_model.specs.Picks.{unused, event_of}
 use Rattle.schedule_model.specs.Scripts.{meanings, next_act, tried_as, tried_next, tried}
 use Rattle.schedule_model.proofs.Used.{none_yet, no_finish_events, phaser_free, task_free, finish_free}
 
--- a log may tell of the refusal
-abbrev pub is_told : Refusal → Bool
-is_told r = not (number_of r == 22) && not (number_of r == 23)
+-- a log may report the refusal
+abbrev pub is_reported : Refusal → Bool
+is_reported r = not (number_of r == 22) && not (number_of r == 23)
 
 -- the reply makes an event, or is such a refusal
 abbrev pub Goes : Result Reply Refusal → Type 0
-Goes r = (is_made r ≡ true) ⊎ ((x : Refusal) × (r ≡ Err x) × (is_told x ≡ true))
+Goes r = (is_made r ≡ true) ⊎ ((x : Refusal) × (r ≡ Err x) × (is_reported x ≡ true))
 
-abbrev all_told : List (Refusal × Bool) → Bool
-all_told cs = list_all (λ c. is_told c.0) cs
+abbrev all_reported : List (Refusal × Bool) → Bool
+all_reported cs = list_all (λ c. is_reported c.0) cs
 
-first_told : (cs : List (Refusal × Bool)) (r : Refusal) → all_told cs ≡ true → first_refusal cs ≡ Some r → is_told r ≡ true
-first_told [] r h k = absurd cc
-first_told ((x, true) ∷ cs) r h k = first_told cs r (and_parts (is_told x) (all_told cs) h).1 k
-first_told ((x, false) ∷ cs) r h k = subst (λ (y : Refusal). is_told y ≡ true) (got x r k) (and_parts (is_told x) (all_told cs) h).0
+first_reported : (cs : List (Refusal × Bool)) (r : Refusal) → all_reported cs ≡ true → first_refusal cs ≡ Some r → is_reported r ≡ true
+first_reported [] r h k = absurd cc
+first_reported ((x, true) ∷ cs) r h k = first_reported cs r (and_parts (is_reported x) (all_reported cs) h).1 k
+first_reported ((x, false) ∷ cs) r h k = subst (λ (y : Refusal). is_reported y ≡ true) (got x r k) (and_parts (is_reported x) (all_reported cs) h).0
   where
     got : (x y : Refusal) → Some x ≡ Some y → x ≡ y
     got x y h = cc
 
--- a phaser's reply, where its conditions are told of
-settled_goes : (h : List Event) (cs : List (Refusal × Bool)) (room : Bool) (e : Event) → all_told cs ≡ true → Goes (returned h (settled (first_refusal cs) false room e))
-settled_goes h cs room e told = by (first_refusal cs) refl room
+-- a phaser's reply, where its conditions are reported
+settled_goes : (h : List Event) (cs : List (Refusal × Bool)) (room : Bool) (e : Event) → all_reported cs ≡ true → Goes (returned h (settled (first_refusal cs) false room e))
+settled_goes h cs room e known = by (first_refusal cs) refl room
   where
     by : (o : Option Refusal) → first_refusal cs ≡ o → (room : Bool) → Goes (returned h (settled o false room e))
-    by (Some r) is room = inr (r, refl, first_told cs r told is)
-    by None is true = inl (told_made h e)
+    by (Some r) is room = inr (r, refl, first_reported cs r known is)
+    by None is true = inl (event_made h e)
     by None is false = inr (HistoryFull, refl, refl)
 
 -- of the pairs of a spawn
-pairs_told : (w : List WorldEvent) (t : ℕ) (named : List ℕ) (ps : List Pair) → all_told (pair_conditions w t named ps) ≡ true
-pairs_told w t named [] = refl
-pairs_told w t named (p ∷ ps) = pairs_told w t (p.phaser ∷ named) ps
+pairs_reported : (w : List WorldEvent) (t : ℕ) (named : List ℕ) (ps : List Pair) → all_reported (pair_conditions w t named ps) ≡ true
+pairs_reported w t named [] = refl
+pairs_reported w t named (p ∷ ps) = pairs_reported w t (p.phaser ∷ named) ps
 
-own_told : (l : Limits) (w : List WorldEvent) (t : ℕ) (a : Tried) → all_told (own_conditions l w t a) ≡ true
-own_told l w t (Beginning (Async c ps)) = pairs_told w t [] ps
-own_told l w t (Beginning Signal) = refl
-own_told l w t (Beginning Wait) = refl
-own_told l w t (Beginning Next) = refl
-own_told l w t (Beginning (NextSingle x)) = refl
-own_told l w t (Beginning Shut) = refl
-own_told l w t (Beginning End) = refl
-own_told l w t (New n m ops) = refl
-own_told l w t (Open f) = refl
-own_told l w t (Sending n a v) = refl
-own_told l w t (Looking n a) = refl
+own_reported : (l : Limits) (w : List WorldEvent) (t : ℕ) (a : Tried) → all_reported (own_conditions l w t a) ≡ true
+own_reported l w t (Beginning (Async c ps)) = pairs_reported w t [] ps
+own_reported l w t (Beginning Signal) = refl
+own_reported l w t (Beginning Wait) = refl
+own_reported l w t (Beginning Next) = refl
+own_reported l w t (Beginning (NextSingle x)) = refl
+own_reported l w t (Beginning Shut) = refl
+own_reported l w t (Beginning End) = refl
+own_reported l w t (New n m ops) = refl
+own_reported l w t (Open f) = refl
+own_reported l w t (Sending n a v) = refl
+own_reported l w t (Looking n a) = refl
 
 -- what a phaser or a finish says of an act that meets its own conditions, where its number is free
 done_goes : (l : Limits) (w : List WorldEvent) (t : ℕ) (a : Tried) → is_number_used w a ≡ false → Goes (act_done l w t a)
@@ -112,9 +112,9 @@ done_goes l w t (Looking n a) free =
     let e = phaser.event_for l (ops_of n w) h (look t a) in
     settled_goes h (conditions l (ops_of n w) h (look t a)) (has_room l (e ∷ h)) e refl
 
-unless_goes : (o : Option Refusal) (r : Result Reply Refusal) → ((x : Refusal) → o ≡ Some x → is_told x ≡ true) → Goes r → Goes (unless o r)
-unless_goes (Some x) r told g = inr (x, refl, told x refl)
-unless_goes None r told g = g
+unless_goes : (o : Option Refusal) (r : Result Reply Refusal) → ((x : Refusal) → o ≡ Some x → is_reported x ≡ true) → Goes r → Goes (unless o r)
+unless_goes (Some x) r known g = inr (x, refl, known x refl)
+unless_goes None r known g = g
 
 -- an act of an idle task, whose number is free
 pub act_goes : (l : Limits) (w : List WorldEvent) (t : ℕ) (a : Tried) → is_idle t w ≡ true → is_number_used w a ≡ false → Goes (act_reply l w t a)
@@ -124,12 +124,12 @@ act_goes l w t a idle free =
     subst (λ i. Goes (unless (first_refusal ((NotNow, i) ∷ (NotNow, not (is_number_used w a)) ∷ (ActsFull, counted) ∷ own)) (act_done l w t a))) (sym idle)
     (subst (λ u. Goes (unless (first_refusal ((NotNow, true) ∷ (NotNow, not u) ∷ (ActsFull, counted) ∷ own)) (act_done l w t a))) (sym free)
     (unless_goes (first_refusal ((ActsFull, counted) ∷ own)) (act_done l w t a)
-    (λ x is. first_told ((ActsFull, counted) ∷ own) x (own_told l w t a) is) (done_goes l w t a free)))
+    (λ x is. first_reported ((ActsFull, counted) ∷ own) x (own_reported l w t a) is) (done_goes l w t a free)))
 
--- the log may tell of its refusal
-pub may_tell : (l : Limits) (w : List WorldEvent) (t : ℕ) (a : Tried) (x : Refusal) → act_reply l w t a ≡ Err x → is_told x ≡ true → may_refuse l w t a (number_of x) ≡ true
-may_tell l w t a x is told =
-    let p = and_parts (not (number_of x == 22)) (not (number_of x == 23)) told in
+-- the log may report its refusal
+pub may_report : (l : Limits) (w : List WorldEvent) (t : ℕ) (a : Tried) (x : Refusal) → act_reply l w t a ≡ Err x → is_reported x ≡ true → may_refuse l w t a (number_of x) ≡ true
+may_report l w t a x is known =
+    let p = and_parts (not (number_of x == 22)) (not (number_of x == 23)) known in
     rw is (and_from ((number_of x == number_of x) && not (number_of x == 22)) (not (number_of x == 23))
     (and_from (number_of x == number_of x) (not (number_of x == 22)) (eq_self (number_of x)) p.0) p.1)
 
@@ -162,7 +162,7 @@ event_reply l w t (Sending n a v) = refl
 event_reply l w t (Looking n a) = refl
 event_reply l w t (Beginning b) = refl
 
--- so the next act of an idle task is made, or its refusal is told of
+-- so the next act of an idle task is made, or its refusal is reported
 pub next_goes : (p : Program) (w : List WorldEvent) (t : ℕ) → limits_fit p.limits ≡ true → is_legal_world p.limits w ≡ true → is_idle t w ≡ true → Goes (act_reply p.limits w t (tried p w t (unused p.limits w)))
 next_goes p w t fit k idle =
     act_goes p.limits w t (tried p w t (unused p.limits w)) idle (next_free p.limits w fit k t (meanings p w t) (next_act p w t))

@@ -25,59 +25,59 @@ use Rattle.world_model.proofs.MadeMeans.{last_accepted}
 use Rattle.world_model.proofs.NextsExpected.{nexts_are_expected}
 use Rattle.world_model.proofs.SmallWords.{eq_self}
 use Rattle.schedule_model.specs.Laws.{GivesUp, RunsGiveUp}
-use Rattle.schedule_model.specs.Picks.{Asked, unused, event_of, going_on, asked, told_or, made, pick, picked, round_from, rounds}
+use Rattle.schedule_model.specs.Picks.{Asked, unused, event_of, going_on, asked, reported_or, made, pick, picked, round_from, rounds}
 use Rattle.schedule_model.specs.Scripts.{tried}
 use Rattle.schedule_model.proofs.Legal.{pick-legal}
 
 -- the event isn't a failure, or its number is that of the refusal of what continues the act
-abbrev is_told_failure : Limits → List WorldEvent → WorldEvent → Bool
-is_told_failure l w (Fail t n) = option_map_or (λ e. is_refused_by n (reply l w e)) (next_event l t w) false
-is_told_failure l w e = true
+abbrev is_reported_failure : Limits → List WorldEvent → WorldEvent → Bool
+is_reported_failure l w (Fail t n) = option_map_or (λ e. is_refused_by n (reply l w e)) (next_event l t w) false
+is_reported_failure l w e = true
 
-abbrev failures_are_told : Limits → List WorldEvent → Bool
-failures_are_told l [] = true
-failures_are_told l (e ∷ w) = is_told_failure l w e && failures_are_told l w
+abbrev failures_are_reported : Limits → List WorldEvent → Bool
+failures_are_reported l [] = true
+failures_are_reported l (e ∷ w) = is_reported_failure l w e && failures_are_reported l w
 
 -- ---- a pick
 
-by_reply : (l : Limits) (w : List WorldEvent) (e : WorldEvent) (b : Bool) → is_told_failure l w e ≡ true → failures_are_told l w ≡ true → failures_are_told l (if b then e ∷ w else w) ≡ true
-by_reply l w e true is h = and_from (is_told_failure l w e) (failures_are_told l w) is h
+by_reply : (l : Limits) (w : List WorldEvent) (e : WorldEvent) (b : Bool) → is_reported_failure l w e ≡ true → failures_are_reported l w ≡ true → failures_are_reported l (if b then e ∷ w else w) ≡ true
+by_reply l w e true is h = and_from (is_reported_failure l w e) (failures_are_reported l w) is h
 by_reply l w e false is h = h
 
-abbrev AskedIsTold : Limits → List WorldEvent → Asked → Type 0
-AskedIsTold l w a =
-    (is_told_failure l w a.event ≡ true) × ((r : Refusal) → reply l w a.event ≡ Err r → is_told_failure l w (a.telling (number_of r)) ≡ true)
+abbrev AskedIsReported : Limits → List WorldEvent → Asked → Type 0
+AskedIsReported l w a =
+    (is_reported_failure l w a.event ≡ true) × ((r : Refusal) → reply l w a.event ≡ Err r → is_reported_failure l w (a.reporting (number_of r)) ≡ true)
 
-told : (l : Limits) (w : List WorldEvent) (a : Asked) (r : Result Reply Refusal) → reply l w a.event ≡ r → AskedIsTold l w a → failures_are_told l w ≡ true → failures_are_told l (told_or l w a r) ≡ true
-told l w a (Err r) is k h = by_reply l w (a.telling (number_of r)) (is_made (reply l w (a.telling (number_of r)))) (k.1 r is) h
-told l w a (Ok x) is k h = by_reply l w a.event (is_made (Ok x)) k.0 h
+known : (l : Limits) (w : List WorldEvent) (a : Asked) (r : Result Reply Refusal) → reply l w a.event ≡ r → AskedIsReported l w a → failures_are_reported l w ≡ true → failures_are_reported l (reported_or l w a r) ≡ true
+known l w a (Err r) is k h = by_reply l w (a.reporting (number_of r)) (is_made (reply l w (a.reporting (number_of r)))) (k.1 r is) h
+known l w a (Ok x) is k h = by_reply l w a.event (is_made (Ok x)) k.0 h
 
-abbrev AllTold : Limits → List WorldEvent → Option Asked → Type 0
-AllTold l w o = (a : Asked) → o ≡ Some a → AskedIsTold l w a
+abbrev AllReported : Limits → List WorldEvent → Option Asked → Type 0
+AllReported l w o = (a : Asked) → o ≡ Some a → AskedIsReported l w a
 
-made_told : (l : Limits) (w : List WorldEvent) (o : Option Asked) → AllTold l w o → failures_are_told l w ≡ true → failures_are_told l (made l w o) ≡ true
-made_told l w None k h = h
-made_told l w (Some a) k h = told l w a (reply l w a.event) refl (k a refl) h
+made_reported : (l : Limits) (w : List WorldEvent) (o : Option Asked) → AllReported l w o → failures_are_reported l w ≡ true → failures_are_reported l (made l w o) ≡ true
+made_reported l w None k h = h
+made_reported l w (Some a) k h = known l w a (reply l w a.event) refl (k a refl) h
 
-act_told : (l : Limits) (w : List WorldEvent) (t : ℕ) (a : Tried) → is_told_failure l w (event_of t a) ≡ true
-act_told l w t (New n m ops) = refl
-act_told l w t (Open f) = refl
-act_told l w t (Sending n a v) = refl
-act_told l w t (Looking n a) = refl
-act_told l w t (Beginning b) = refl
+act_reported : (l : Limits) (w : List WorldEvent) (t : ℕ) (a : Tried) → is_reported_failure l w (event_of t a) ≡ true
+act_reported l w t (New n m ops) = refl
+act_reported l w t (Open f) = refl
+act_reported l w t (Sending n a v) = refl
+act_reported l w t (Looking n a) = refl
+act_reported l w t (Beginning b) = refl
 
 -- what continues an act is no failure
-no_failure : (l : Limits) (w : List WorldEvent) (e : WorldEvent) → is_expected (next_done l w e) ≡ true → is_told_failure l w e ≡ true
+no_failure : (l : Limits) (w : List WorldEvent) (e : WorldEvent) → is_expected (next_done l w e) ≡ true → is_reported_failure l w e ≡ true
 no_failure l w (Phaser n s) h = refl
 no_failure l w (Finish f e) h = refl
 no_failure l w (Begin t b) h = refl
 no_failure l w (Refuse t a n) h = refl
 no_failure l w (Fail t n) h = absurd (false≢true h)
 
-continuing : (l : Limits) (w : List WorldEvent) (t : ℕ) (o : Option WorldEvent) → is_legal_world l w ≡ true → is_ended t w ≡ false → next_event l t w ≡ o → AllTold l w (going_on t o)
+continuing : (l : Limits) (w : List WorldEvent) (t : ℕ) (o : Option WorldEvent) → is_legal_world l w ≡ true → is_ended t w ≡ false → next_event l t w ≡ o → AllReported l w (going_on t o)
 continuing l w t None k going is = λ a h. absurd cc
 continuing l w t (Some e) k going is = λ a h.
-    subst (λ (x : Asked). AskedIsTold l w x) (got _ a h) (
+    subst (λ (x : Asked). AskedIsReported l w x) (got _ a h) (
       no_failure l w e (nexts_are_expected l w k t e going is).1,
       λ r refused. rw (is, refused) (eq_self (number_of r)),
     )
@@ -85,26 +85,26 @@ continuing l w t (Some e) k going is = λ a h.
     got : (x y : Asked) → Some x ≡ Some y → x ≡ y
     got x y h = cc
 
-pick_told : (p : Program) (w : List WorldEvent) (t : ℕ) → is_legal_world p.limits w ≡ true → failures_are_told p.limits w ≡ true → failures_are_told p.limits (pick p w t) ≡ true
-pick_told p w t k h = made_told p.limits w (asked p w t) (by (is_idle t w) (is_born t w && not (is_ended t w)) refl) h
+pick_reported : (p : Program) (w : List WorldEvent) (t : ℕ) → is_legal_world p.limits w ≡ true → failures_are_reported p.limits w ≡ true → failures_are_reported p.limits (pick p w t) ≡ true
+pick_reported p w t k h = made_reported p.limits w (asked p w t) (by (is_idle t w) (is_born t w && not (is_ended t w)) refl) h
   where
     got : (x y : Asked) → Some x ≡ Some y → x ≡ y
     got x y h = cc
 
-    by : (b c : Bool) → (is_born t w && not (is_ended t w)) ≡ c → AllTold p.limits w (if b then Some (record { event = event_of t (tried p w t (unused p.limits w)); telling = λ n. Refuse t (tried p w t (unused p.limits w)) n }) else (if c then going_on t (next_event p.limits t w) else None))
+    by : (b c : Bool) → (is_born t w && not (is_ended t w)) ≡ c → AllReported p.limits w (if b then Some (record { event = event_of t (tried p w t (unused p.limits w)); reporting = λ n. Refuse t (tried p w t (unused p.limits w)) n }) else (if c then going_on t (next_event p.limits t w) else None))
     by true c is = λ a same.
-        subst (λ (x : Asked). AskedIsTold p.limits w x) (got _ a same)
-        (act_told p.limits w t (tried p w t (unused p.limits w)), λ r refused. refl)
+        subst (λ (x : Asked). AskedIsReported p.limits w x) (got _ a same)
+        (act_reported p.limits w t (tried p w t (unused p.limits w)), λ r refused. refl)
     by false true is = continuing p.limits w t (next_event p.limits t w) k (not-true (is_ended t w) (and_parts (is_born t w) (not (is_ended t w)) is).1) refl
     by false false is = λ a same. absurd cc
 
 -- ---- a run
 
 abbrev Stands : Program → List WorldEvent → Type 0
-Stands p w = (is_legal_world p.limits w ≡ true) × (failures_are_told p.limits w ≡ true)
+Stands p w = (is_legal_world p.limits w ≡ true) × (failures_are_reported p.limits w ≡ true)
 
 one : (p : Program) (w : List WorldEvent) (t : ℕ) → Stands p w → Stands p (pick p w t)
-one p w t s = (pick-legal p w t s.0, pick_told p w t s.0 s.1)
+one p w t s = (pick-legal p w t s.0, pick_reported p w t s.0 s.1)
 
 all : (p : Program) (w : List WorldEvent) (ts : List ℕ) → Stands p w → Stands p (picked p w ts)
 all p w [] s = s
@@ -154,13 +154,13 @@ found l w t n may (Some e) is h = record {
         or_none true h = refl
         or_none false h = h
 
-in_history : (l : Limits) (later w : List WorldEvent) (t n : ℕ) → is_legal_world l (later ++ Fail t n ∷ w) ≡ true → failures_are_told l (later ++ Fail t n ∷ w) ≡ true → GivesUp l w t n
+in_history : (l : Limits) (later w : List WorldEvent) (t n : ℕ) → is_legal_world l (later ++ Fail t n ∷ w) ≡ true → failures_are_reported l (later ++ Fail t n ∷ w) ≡ true → GivesUp l w t n
 in_history l [] w t n k h =
-    found l w t n (made_done_where (may_fail l w t n) (last_accepted l (Fail t n) w k).0) (next_event l t w) refl (and_parts (is_told_failure l w (Fail t n)) (failures_are_told l w) h).0
+    found l w t n (made_done_where (may_fail l w t n) (last_accepted l (Fail t n) w k).0) (next_event l t w) refl (and_parts (is_reported_failure l w (Fail t n)) (failures_are_reported l w) h).0
 in_history l (e ∷ later) w t n k h =
-    in_history l later w t n (last_accepted l e (later ++ Fail t n ∷ w) k).1 (and_parts (is_told_failure l (later ++ Fail t n ∷ w) e) (failures_are_told l (later ++ Fail t n ∷ w)) h).1
+    in_history l later w t n (last_accepted l e (later ++ Fail t n ∷ w) k).1 (and_parts (is_reported_failure l (later ++ Fail t n ∷ w) e) (failures_are_reported l (later ++ Fail t n ∷ w)) h).1
 
 pub runs_give_up : RunsGiveUp
 runs_give_up p picks most later w t n is =
     let s = more_rounds most p (picked p [] picks) (all p [] picks (refl, refl)) in
-    in_history p.limits later w t n (subst (λ v. is_legal_world p.limits v ≡ true) is s.0) (subst (λ v. failures_are_told p.limits v ≡ true) is s.1)
+    in_history p.limits later w t n (subst (λ v. is_legal_world p.limits v ≡ true) is s.0) (subst (λ v. failures_are_reported p.limits v ≡ true) is s.1)

@@ -27,7 +27,7 @@ use Rattle.world_model.specs.Tasks.{is_born, is_ended}
 use Rattle.world_model.specs.Drawing.{own_pairs}
 use Rattle.schedule_model.specs.Scripts.{Numbers, act_of, meanings, next_act, tried_as, tried_next, tried}
 use Rattle.schedule_model.specs.Follows.{same_op, same_ops, same_pairs, same_act, drawn, is_next, follows}
-use Rattle.schedule_model.specs.Picks.{Asked, unused, event_of, going_on, asked, told_or, made, pick, picked, round_from, rounds, run_within}
+use Rattle.schedule_model.specs.Picks.{Asked, unused, event_of, going_on, asked, reported_or, made, pick, picked, round_from, rounds, run_within}
 use Rattle.schedule_model.proofs.NoActs.{next-continues}
 
 -- ---- an act is the same as itself
@@ -87,30 +87,30 @@ act-of-event t (Beginning b) = refl
 
 -- ---- a pick
 
--- whatever a task asks for is its next act or what continues one, and so is what it tells of a refusal
+-- whatever a task asks for is its next act or what continues one, and so is what it reports of a refusal
 record AskedFollows (p : Program) (w : List WorldEvent) (a : Asked) : Type 0 where
   pub event : is_next p w (act_of a.event) ≡ true
-  pub telling : (n : ℕ) → is_next p w (act_of (a.telling n)) ≡ true
+  pub reporting : (n : ℕ) → is_next p w (act_of (a.reporting n)) ≡ true
 
 by_reply : (p : Program) (w : List WorldEvent) (e : WorldEvent) (b : Bool) → is_next p w (act_of e) ≡ true → follows p w ≡ true → follows p (if b then e ∷ w else w) ≡ true
 by_reply p w e true is h = and_from _ _ is h
 by_reply p w e false is h = h
 
-told-follows : (p : Program) (w : List WorldEvent) (a : Asked) (r : Result Reply Refusal) → AskedFollows p w a → follows p w ≡ true → follows p (told_or p.limits w a r) ≡ true
-told-follows p w a (Err r) k h = by_reply p w (a.telling (number_of r)) (is_made (reply p.limits w (a.telling (number_of r)))) (k.telling (number_of r)) h
-told-follows p w a (Ok x) k h = by_reply p w a.event (is_made (Ok x)) k.event h
+reported-follows : (p : Program) (w : List WorldEvent) (a : Asked) (r : Result Reply Refusal) → AskedFollows p w a → follows p w ≡ true → follows p (reported_or p.limits w a r) ≡ true
+reported-follows p w a (Err r) k h = by_reply p w (a.reporting (number_of r)) (is_made (reply p.limits w (a.reporting (number_of r)))) (k.reporting (number_of r)) h
+reported-follows p w a (Ok x) k h = by_reply p w a.event (is_made (Ok x)) k.event h
 
 abbrev AllFollow : Program → List WorldEvent → Option Asked → Type 0
 AllFollow p w o = (a : Asked) → o ≡ Some a → AskedFollows p w a
 
 made-follows : (p : Program) (w : List WorldEvent) (o : Option Asked) → AllFollow p w o → follows p w ≡ true → follows p (made p.limits w o) ≡ true
 made-follows p w None k h = h
-made-follows p w (Some a) k h = told-follows p w a (reply p.limits w a.event) (k a refl) h
+made-follows p w (Some a) k h = reported-follows p w a (reply p.limits w a.event) (k a refl) h
 
-beginning : (p : Program) (w : List WorldEvent) (t : ℕ) (new : Numbers) → AskedFollows p w (record { event = event_of t (tried p w t new); telling = λ n. Refuse t (tried p w t new) n })
+beginning : (p : Program) (w : List WorldEvent) (t : ℕ) (new : Numbers) → AskedFollows p w (record { event = event_of t (tried p w t new); reporting = λ n. Refuse t (tried p w t new) n })
 beginning p w t new = record {
   event = subst (λ o. is_next p w o ≡ true) (sym (act-of-event t (tried p w t new))) (tried-is-next p w t new);
-  telling = λ n. tried-is-next p w t new;
+  reporting = λ n. tried-is-next p w t new;
 }
 
 continuing : (p : Program) (w : List WorldEvent) (t : ℕ) (o : Option WorldEvent) → next_event p.limits t w ≡ o → AllFollow p w (going_on t o)
@@ -118,7 +118,7 @@ continuing p w t None is = λ a k. absurd cc
 continuing p w t (Some e) is = λ a k.
     subst (λ x. AskedFollows p w x) (got _ a k) (record {
       event = subst (λ o. is_next p w o ≡ true) (sym (next-continues p.limits t w e is)) refl;
-      telling = λ n. refl;
+      reporting = λ n. refl;
     })
   where
     got : (x y : Asked) → Some x ≡ Some y → x ≡ y
@@ -130,7 +130,7 @@ asked-follows p w t = by_idle (is_idle t w) (is_born t w && not (is_ended t w))
     got : (x y : Asked) → Some x ≡ Some y → x ≡ y
     got x y h = cc
 
-    by_idle : (b c : Bool) → AllFollow p w (if b then Some (record { event = event_of t (tried p w t (unused p.limits w)); telling = λ n. Refuse t (tried p w t (unused p.limits w)) n }) else (if c then going_on t (next_event p.limits t w) else None))
+    by_idle : (b c : Bool) → AllFollow p w (if b then Some (record { event = event_of t (tried p w t (unused p.limits w)); reporting = λ n. Refuse t (tried p w t (unused p.limits w)) n }) else (if c then going_on t (next_event p.limits t w) else None))
     by_idle true c = λ a k. subst (λ x. AskedFollows p w x) (got _ a k) (beginning p w t (unused p.limits w))
     by_idle false true = continuing p w t (next_event p.limits t w) refl
     by_idle false false = λ a k. absurd cc

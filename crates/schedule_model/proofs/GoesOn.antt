@@ -43,13 +43,13 @@ use Rattle.world_model.specs.ProgressLaws.{is_expected}
 use Rattle.world_model.specs.Replies.{is_made, is_accepted, is_legal_world, reply, after}
 use Rattle.world_model.specs.Tasks.{is_born, is_ended}
 use Rattle.world_model.proofs.AbleComputed.{made_done_where}
-use Rattle.world_model.proofs.MadeOrGivesUp.{told_made}
+use Rattle.world_model.proofs.MadeOrGivesUp.{event_made}
 use Rattle.world_model.proofs.NextsExpected.{nexts_are_expected}
 use Rattle.world_model.proofs.SmallWords.{eq_self}
-use Rattle.schedule_model.specs.Picks.{Asked, unused, event_of, going_on, asked, told_or, made, pick}
+use Rattle.schedule_model.specs.Picks.{Asked, unused, event_of, going_on, asked, reported_or, made, pick}
 use Rattle.schedule_model.specs.Scripts.{Numbers, act_of, meanings, next_act, tried, tried_as, tried_next}
 use Rattle.schedule_model.proofs.NoActs.{next-continues}
-use Rattle.schedule_model.proofs.Begins.{Goes, may_tell, event_reply, next_goes}
+use Rattle.schedule_model.proofs.Begins.{Goes, may_report, event_reply, next_goes}
 
 -- ---- the reply to the event that continues an act
 
@@ -138,7 +138,7 @@ call_other h cs waiting room e none k = by (first_refusal cs) refl waiting room 
         got : (x y : Refusal) → ◌≡◌ {A = Result Reply Refusal} (Err x) (Err y) → x ≡ y
         got x y h = cc
     by None is true room k = absurd cc
-    by None is false true k = false≢true (sym (ap (λ r. is_made r) k) ∙ told_made h e)
+    by None is false true k = false≢true (sym (ap (λ r. is_made r) k) ∙ event_made h e)
     by None is false false k = absurd cc
 
 finish_other : (cs : List (Refusal × Bool)) → none_regs cs ≡ true → finish_returned (done_unless (first_refusal cs)) ≡ Err RegsFull → ⊥
@@ -182,33 +182,33 @@ OneMore w v = (e : WorldEvent) × (v ≡ e ∷ w)
 after_made : (w : List WorldEvent) (e : WorldEvent) (r : Result Reply Refusal) → is_made r ≡ true → OneMore w (after w e r)
 after_made w e r h = (e, rw h refl)
 
-told_moves : (l : Limits) (w : List WorldEvent) (a : Asked) (r : Result Reply Refusal) → (is_made r ≡ true) ⊎ ((x : Refusal) × (r ≡ Err x) × (is_accepted l w (a.telling (number_of x)) ≡ true)) → OneMore w (told_or l w a r)
-told_moves l w a (Ok x) (inl h) = after_made w a.event (Ok x) h
-told_moves l w a (Ok x) (inr h) = absurd cc
-told_moves l w a (Err x) (inl h) = absurd (false≢true h)
-told_moves l w a (Err x) (inr (y, same, h)) = after_made w (a.telling (number_of x)) (reply l w (a.telling (number_of x))) (subst (λ (z : Refusal). is_accepted l w (a.telling (number_of z)) ≡ true) (got y x (sym same)) h)
+reported_moves : (l : Limits) (w : List WorldEvent) (a : Asked) (r : Result Reply Refusal) → (is_made r ≡ true) ⊎ ((x : Refusal) × (r ≡ Err x) × (is_accepted l w (a.reporting (number_of x)) ≡ true)) → OneMore w (reported_or l w a r)
+reported_moves l w a (Ok x) (inl h) = after_made w a.event (Ok x) h
+reported_moves l w a (Ok x) (inr h) = absurd cc
+reported_moves l w a (Err x) (inl h) = absurd (false≢true h)
+reported_moves l w a (Err x) (inr (y, same, h)) = after_made w (a.reporting (number_of x)) (reply l w (a.reporting (number_of x))) (subst (λ (z : Refusal). is_accepted l w (a.reporting (number_of z)) ≡ true) (got y x (sym same)) h)
   where
     got : (x y : Refusal) → ◌≡◌ {A = Result Reply Refusal} (Err x) (Err y) → x ≡ y
     got x y h = cc
 
-moves_as : (p : Program) (w : List WorldEvent) (t : ℕ) (a : Asked) → asked p w t ≡ Some a → OneMore w (told_or p.limits w a (reply p.limits w a.event)) → OneMore w (pick p w t)
+moves_as : (p : Program) (w : List WorldEvent) (t : ℕ) (a : Asked) → asked p w t ≡ Some a → OneMore w (reported_or p.limits w a (reply p.limits w a.event)) → OneMore w (pick p w t)
 moves_as p w t a is h = subst (λ o. OneMore w (made p.limits w o)) (sym is) h
 
 -- an idle task
-pub asked_idle : (p : Program) (w : List WorldEvent) (t : ℕ) → is_idle t w ≡ true → asked p w t ≡ Some (record { event = event_of t (tried p w t (unused p.limits w)); telling = λ n. Refuse t (tried p w t (unused p.limits w)) n })
+pub asked_idle : (p : Program) (w : List WorldEvent) (t : ℕ) → is_idle t w ≡ true → asked p w t ≡ Some (record { event = event_of t (tried p w t (unused p.limits w)); reporting = λ n. Refuse t (tried p w t (unused p.limits w)) n })
 asked_idle p w t h = rw h refl
 
 idle_moves : (p : Program) (w : List WorldEvent) (t : ℕ) → limits_fit p.limits ≡ true → is_legal_world p.limits w ≡ true → is_idle t w ≡ true → OneMore w (pick p w t)
 idle_moves p w t fit k idle =
     let a = tried p w t (unused p.limits w) in
-    let asks : Asked = record { event = event_of t a; telling = λ n. Refuse t a n } in
+    let asks : Asked = record { event = event_of t a; reporting = λ n. Refuse t a n } in
     moves_as p w t asks (asked_idle p w t idle)
-    (told_moves p.limits w asks (reply p.limits w (event_of t a)) (by (event_reply p.limits w t a) (next_goes p w t fit k idle)))
+    (reported_moves p.limits w asks (reply p.limits w (event_of t a)) (by (event_reply p.limits w t a) (next_goes p w t fit k idle)))
   where
     by : reply p.limits w (event_of t (tried p w t (unused p.limits w))) ≡ act_reply p.limits w t (tried p w t (unused p.limits w)) → Goes (act_reply p.limits w t (tried p w t (unused p.limits w)))
         → (is_made (reply p.limits w (event_of t (tried p w t (unused p.limits w)))) ≡ true) ⊎ ((x : Refusal) × (reply p.limits w (event_of t (tried p w t (unused p.limits w))) ≡ Err x) × (is_accepted p.limits w (Refuse t (tried p w t (unused p.limits w)) (number_of x)) ≡ true))
     by same (inl h) = inl (ap (λ r. is_made r) same ∙ h)
-    by same (inr (x, is, told)) = inr (x, same ∙ is, subst (λ b. is_made (done_where b) ≡ true) (sym (may_tell p.limits w t (tried p w t (unused p.limits w)) x is told)) refl)
+    by same (inr (x, is, known)) = inr (x, same ∙ is, subst (λ b. is_made (done_where b) ≡ true) (sym (may_report p.limits w t (tried p w t (unused p.limits w)) x is known)) refl)
 
 -- a task in the middle of an act
 module _ (l : Limits) (w : List WorldEvent) (t : ℕ) (e : WorldEvent) (next : next_event l t w ≡ Some e) where
@@ -268,7 +268,7 @@ next_of_busy l w t born going busy = by (due t w) refl
     by [] none = absurd (true≢false (sym (rw (born, going, none) refl) ∙ busy))
     by (d ∷ ds) here = (or_single l w d, refl)
 
-pub asked_busy : (p : Program) (w : List WorldEvent) (t : ℕ) (e : WorldEvent) → is_idle t w ≡ false → is_born t w ≡ true → is_ended t w ≡ false → next_event p.limits t w ≡ Some e → asked p w t ≡ Some (record { event = e; telling = λ n. Fail t n })
+pub asked_busy : (p : Program) (w : List WorldEvent) (t : ℕ) (e : WorldEvent) → is_idle t w ≡ false → is_born t w ≡ true → is_ended t w ≡ false → next_event p.limits t w ≡ Some e → asked p w t ≡ Some (record { event = e; reporting = λ n. Fail t n })
 asked_busy p w t e busy born going next = rw (busy, born, going, next) refl
 
 busy_moves : (p : Program) (w : List WorldEvent) (t : ℕ) → is_legal_world p.limits w ≡ true → is_idle t w ≡ false → is_born t w ≡ true → is_ended t w ≡ false → is_able p.limits w t ≡ true → OneMore w (pick p w t)
@@ -281,8 +281,8 @@ busy_moves p w t k busy born going able =
     let other : (u x : ℕ) → e ≡ Fail u x → ⊥ = λ u x is. false≢true (subst (λ d. is_expected (next_done l w d) ≡ true) is said.1) in
     let own : next_event l (actor w e) w ≡ Some e = subst (λ u. next_event l u w ≡ Some e) (sym said.0) n.1 in
     let same : reply l w e ≡ next_done l w e = reply_next l w e none other ∙ as_next l w e own (same_self e none other) in
-    moves_as p w t (record { event = e; telling = λ x. Fail t x }) (asked_busy p w t e busy born going n.1)
-    (told_moves l w (record { event = e; telling = λ x. Fail t x }) (reply l w e) (by e n.1 same said.1 (next_done l w e) refl))
+    moves_as p w t (record { event = e; reporting = λ x. Fail t x }) (asked_busy p w t e busy born going n.1)
+    (reported_moves l w (record { event = e; reporting = λ x. Fail t x }) (reply l w e) (by e n.1 same said.1 (next_done l w e) refl))
   where
     as_next : (l : Limits) (w : List WorldEvent) (e : WorldEvent) → next_event l (actor w e) w ≡ Some e → same_event e e ≡ true → next_reply l w e ≡ next_done l w e
     as_next l w e next same = rw (next, same) refl
@@ -319,9 +319,9 @@ by_reply : (p : Program) (w : List WorldEvent) (e : WorldEvent) (b : Bool) → i
 by_reply p w e true is h = inr (e, refl, record { accepted = is; least = h })
 by_reply p w e false is h = inl refl
 
-told_adds : (p : Program) (w : List WorldEvent) (a : Asked) (r : Result Reply Refusal) → reply p.limits w a.event ≡ r → NamesLeast p w a.event → ((n : ℕ) → NamesLeast p w (a.telling n)) → AddsOne p w (told_or p.limits w a r)
-told_adds p w a (Err r) is h g = by_reply p w (a.telling (number_of r)) (is_made (reply p.limits w (a.telling (number_of r)))) refl (g (number_of r))
-told_adds p w a (Ok x) is h g = by_reply p w a.event (is_made (Ok x)) (ap (λ r. is_made r) is) h
+reported_adds : (p : Program) (w : List WorldEvent) (a : Asked) (r : Result Reply Refusal) → reply p.limits w a.event ≡ r → NamesLeast p w a.event → ((n : ℕ) → NamesLeast p w (a.reporting n)) → AddsOne p w (reported_or p.limits w a r)
+reported_adds p w a (Err r) is h g = by_reply p w (a.reporting (number_of r)) (is_made (reply p.limits w (a.reporting (number_of r)))) refl (g (number_of r))
+reported_adds p w a (Ok x) is h g = by_reply p w a.event (is_made (Ok x)) (ap (λ r. is_made r) is) h
 
 module _ (p : Program) (w : List WorldEvent) (t : ℕ) (ms : List ℕ) (new : Numbers) where
   head_names : (h : Head) (u : ℕ) → names u (event_of t (tried_as w t ms new h)) ≡ true → u ≡ new.task
@@ -349,12 +349,12 @@ no_act_names (Begin t b) h u = absurd cc
 no_act_names (Refuse t a x) h u = absurd cc
 no_act_names (Fail t x) h u = refl
 
-made_adds : (p : Program) (w : List WorldEvent) (o : Option Asked) → ((a : Asked) → o ≡ Some a → NamesLeast p w a.event × ((n : ℕ) → NamesLeast p w (a.telling n))) → AddsOne p w (made p.limits w o)
+made_adds : (p : Program) (w : List WorldEvent) (o : Option Asked) → ((a : Asked) → o ≡ Some a → NamesLeast p w a.event × ((n : ℕ) → NamesLeast p w (a.reporting n))) → AddsOne p w (made p.limits w o)
 made_adds p w None h = inl refl
-made_adds p w (Some a) h = told_adds p w a (reply p.limits w a.event) refl (h a refl).0 (h a refl).1
+made_adds p w (Some a) h = reported_adds p w a (reply p.limits w a.event) refl (h a refl).0 (h a refl).1
 
 abbrev Fine : Program → List WorldEvent → Option Asked → Type 0
-Fine p w o = (a : Asked) → o ≡ Some a → NamesLeast p w a.event × ((n : ℕ) → NamesLeast p w (a.telling n))
+Fine p w o = (a : Asked) → o ≡ Some a → NamesLeast p w a.event × ((n : ℕ) → NamesLeast p w (a.reporting n))
 
 pub pick_adds : (p : Program) (w : List WorldEvent) (t : ℕ) → (pick p w t ≡ w) ⊎ ((e : WorldEvent) × (pick p w t ≡ e ∷ w) × Adds p w e)
 pick_adds p w t = made_adds p w (asked p w t) (by (is_idle t w) (is_born t w && not (is_ended t w)))
@@ -365,12 +365,12 @@ pick_adds p w t = made_adds p w (asked p w t) (by (is_idle t w) (is_born t w && 
     going : (o : Option WorldEvent) → next_event p.limits t w ≡ o → Fine p w (going_on t o)
     going None is = λ a k. absurd cc
     going (Some e) is = λ a k.
-        subst (λ (x : Asked). NamesLeast p w x.event × ((n : ℕ) → NamesLeast p w (x.telling n))) (got _ a k)
+        subst (λ (x : Asked). NamesLeast p w x.event × ((n : ℕ) → NamesLeast p w (x.reporting n))) (got _ a k)
         ((λ u h. absurd (false≢true (sym (no_act_names e (next-continues p.limits t w e is) u) ∙ h))), (λ n u h. absurd (false≢true h)))
 
-    by : (b c : Bool) → Fine p w (if b then Some (record { event = event_of t (tried p w t (unused p.limits w)); telling = λ n. Refuse t (tried p w t (unused p.limits w)) n }) else (if c then going_on t (next_event p.limits t w) else None))
+    by : (b c : Bool) → Fine p w (if b then Some (record { event = event_of t (tried p w t (unused p.limits w)); reporting = λ n. Refuse t (tried p w t (unused p.limits w)) n }) else (if c then going_on t (next_event p.limits t w) else None))
     by true c = λ a k.
-        subst (λ (x : Asked). NamesLeast p w x.event × ((n : ℕ) → NamesLeast p w (x.telling n))) (got _ a k)
+        subst (λ (x : Asked). NamesLeast p w x.event × ((n : ℕ) → NamesLeast p w (x.reporting n))) (got _ a k)
         ((λ u h. next_names p w t (meanings p w t) (unused p.limits w) (next_act p w t) u h), (λ n u h. absurd (false≢true h)))
     by false true = going (next_event p.limits t w) refl
     by false false = λ a k. absurd cc

@@ -10,7 +10,7 @@ use Rattle.world_model.specs.declared.reply.Reply.{Reply}
 use Rattle.world_model.specs.Replies.{after, reply, is_made, is_legal_world}
 use Rattle.world_model.specs.Numbers.{is_named}
 use Rattle.world_model.specs.Tasks.{is_ended}
-use Rattle.schedule_model.specs.Picks.{Asked, asked, told_or, made, pick, picked, round_from, rounds, run_within}
+use Rattle.schedule_model.specs.Picks.{Asked, asked, reported_or, made, pick, picked, round_from, rounds, run_within}
 
 -- what follows an event that was made or wasn't is legal
 by_reply : (l : Limits) (w : List WorldEvent) (e : WorldEvent) (b : Bool) → is_made (reply l w e) ≡ b → is_legal_world l w ≡ true → is_legal_world l (if b then e ∷ w else w) ≡ true
@@ -20,13 +20,13 @@ by_reply l w e false is h = h
 after-legal : (l : Limits) (w : List WorldEvent) (e : WorldEvent) → is_legal_world l w ≡ true → is_legal_world l (after w e (reply l w e)) ≡ true
 after-legal l w e h = by_reply l w e (is_made (reply l w e)) refl h
 
-told-legal : (l : Limits) (w : List WorldEvent) (a : Asked) (r : Result Reply Refusal) → reply l w a.event ≡ r → is_legal_world l w ≡ true → is_legal_world l (told_or l w a r) ≡ true
-told-legal l w a (Err r) is h = after-legal l w (a.telling (number_of r)) h
-told-legal l w a (Ok x) is h = subst (λ s. is_legal_world l (after w a.event s) ≡ true) is (after-legal l w a.event h)
+reported-legal : (l : Limits) (w : List WorldEvent) (a : Asked) (r : Result Reply Refusal) → reply l w a.event ≡ r → is_legal_world l w ≡ true → is_legal_world l (reported_or l w a r) ≡ true
+reported-legal l w a (Err r) is h = after-legal l w (a.reporting (number_of r)) h
+reported-legal l w a (Ok x) is h = subst (λ s. is_legal_world l (after w a.event s) ≡ true) is (after-legal l w a.event h)
 
 made-legal : (l : Limits) (w : List WorldEvent) (o : Option Asked) → is_legal_world l w ≡ true → is_legal_world l (made l w o) ≡ true
 made-legal l w None h = h
-made-legal l w (Some a) h = told-legal l w a (reply l w a.event) refl h
+made-legal l w (Some a) h = reported-legal l w a (reply l w a.event) refl h
 
 pub pick-legal : (p : Program) (w : List WorldEvent) (t : ℕ) → is_legal_world p.limits w ≡ true → is_legal_world p.limits (pick p w t) ≡ true
 pick-legal p w t h = made-legal p.limits w (asked p w t) h

@@ -53,15 +53,15 @@ abbrev pub first_wrong : Program → List WorldEvent → ℕ → List WorldEvent
 first_wrong p w k [] = None
 first_wrong p w k (e ∷ es) = if is_next p w (act_of e) then first_wrong p (e ∷ w) (k + 1) es else Some (k + 1)
 
--- where a place is told, the events before it follow the program, and with that event they no longer do; where none
+-- where a place is found, the events before it follow the program, and with that event they no longer do; where none
 -- is, all do
-abbrev pub TellsFirst : Program → List WorldEvent → Option ℕ → Type 0
-TellsFirst p es None = follows p (reverse es) ≡ true
-TellsFirst p es (Some n) =
+abbrev pub IsFirstWrong : Program → List WorldEvent → Option ℕ → Type 0
+IsFirstWrong p es None = follows p (reverse es) ≡ true
+IsFirstWrong p es (Some n) =
     (j : ℕ) × (n ≡ suc j)
     × (follows p (reverse (take j es)) ≡ true)
     × (follows p (reverse (take (suc j) es)) ≡ false)
 
--- the place told is the first
+-- the place found is the first
 abbrev pub PlacesAreFirst : Type 0
-PlacesAreFirst = (p : Program) (es : List WorldEvent) → TellsFirst p es (first_wrong p [] 0 es)
+PlacesAreFirst = (p : Program) (es : List WorldEvent) → IsFirstWrong p es (first_wrong p [] 0 es)

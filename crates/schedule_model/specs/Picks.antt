@@ -38,35 +38,35 @@ event_of t (Sending n a v) = Phaser n (Send t a v)
 event_of t (Looking n a) = Phaser n (Look t a)
 event_of t (Beginning b) = Begin t b
 
--- what a task does where it is picked: the event that it asks for, and how it tells of a refusal in its log
+-- what a task does where it is picked: the event that it asks for, and how it reports a refusal in its log
 pub record Asked : Type 0 where
   pub event : WorldEvent
-  pub telling : ℕ → WorldEvent
+  pub reporting : ℕ → WorldEvent
 
 -- a task goes on with its act by this event, if there is one, and gives it up where that is refused
 abbrev pub going_on : ℕ → Option WorldEvent → Option Asked
 going_on t None = None
-going_on t (Some e) = Some (record { event = e; telling = λ n. Fail t n })
+going_on t (Some e) = Some (record { event = e; reporting = λ n. Fail t n })
 
 -- an idle task begins its next act, and any other goes on with its act
 abbrev pub asked : Program → List WorldEvent → ℕ → Option Asked
 asked p w t =
     if is_idle t w then Some (record {
       event = event_of t (tried p w t (unused p.limits w));
-      telling = λ n. Refuse t (tried p w t (unused p.limits w)) n;
+      reporting = λ n. Refuse t (tried p w t (unused p.limits w)) n;
     })
     else (if is_born t w && not (is_ended t w) then going_on t (next_event p.limits t w)
     else None)
 
--- an event that isn't refused is made, or is not yet made; in place of one that is refused the refusal is told
-abbrev pub told_or : Limits → List WorldEvent → Asked → Result Reply Refusal → List WorldEvent
-told_or l w a (Err r) = after w (a.telling (number_of r)) (reply l w (a.telling (number_of r)))
-told_or l w a (Ok x) = after w a.event (Ok x)
+-- an event that isn't refused is made, or is not yet made; in place of one that is refused the refusal is reported
+abbrev pub reported_or : Limits → List WorldEvent → Asked → Result Reply Refusal → List WorldEvent
+reported_or l w a (Err r) = after w (a.reporting (number_of r)) (reply l w (a.reporting (number_of r)))
+reported_or l w a (Ok x) = after w a.event (Ok x)
 
 -- the history after what a task asks for
 abbrev pub made : Limits → List WorldEvent → Option Asked → List WorldEvent
 made l w None = w
-made l w (Some a) = told_or l w a (reply l w a.event)
+made l w (Some a) = reported_or l w a (reply l w a.event)
 
 -- the history after t is picked
 abbrev pub pick : Program → List WorldEvent → ℕ → List WorldEvent

@@ -23,7 +23,7 @@ pub fn runs_give_up()
     ensures { RunsGiveUp }
 {}
 
-/// The place that a history is told to leave its program at is the first at which it does.
+/// The place at which a history is said to leave its program is the first at which it does.
 pub fn places_are_first()
     ensures { PlacesAreFirst }
 {}

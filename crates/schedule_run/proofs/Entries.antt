@@ -139,8 +139,8 @@ module _ (l : Limits) (w : List WorldEvent) (e : WorldEvent) (old new : WorldSta
       }))
 
   -- so is its outcome
-  pub outcome_told : (r : Result Reply Refusal) → IsStep e old new r → Records l w old trace → r ≡ reply l w e
-  outcome_told r step st = subst (λ (m : Limits). r ≡ reply m w e) st.limits (step.answer w st.stands)
+  pub outcome_reported : (r : Result Reply Refusal) → IsStep e old new r → Records l w old trace → r ≡ reply l w e
+  outcome_reported r step st = subst (λ (m : Limits). r ≡ reply m w e) st.limits (step.answer w st.stands)
 
 -- before the first event
 pub record_first : (l : Limits) (s : WorldState) (trace : Run) → s.limits ≡ l → StandsFor [] s → trace ≡ record { limits = l; events = [] } → Records l [] s trace

@@ -1,4 +1,4 @@
--- The history that the first events of a trace tell.
+-- The history of the first events of a trace.
 use Rattle.std.proofs.Common.{ℕ, ◌+◌, ◌<◌, ◌≤◌, ◌≡◌, List, [], ◌∷◌, reverse, take, get_or, length, slice_get, Some, sym, ap, ◌∙◌}
 use Rattle.std.proofs.lemmas.List.{map-append, reverse-append, take_all, take_more, get_or-take}
 use Rattle.std.proofs.lemmas.Option.{get_or_from_slice_get}

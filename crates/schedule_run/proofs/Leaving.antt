@@ -6,7 +6,7 @@ use Rattle.job_script.specs.Program.{Program}
 use Rattle.world_model.specs.declared.event.WorldEvent.{WorldEvent}
 use Rattle.schedule_model.specs.Scripts.{act_of}
 use Rattle.schedule_model.specs.Follows.{is_next, follows}
-use Rattle.schedule_model.specs.Laws.{first_wrong, TellsFirst}
+use Rattle.schedule_model.specs.Laws.{first_wrong, IsFirstWrong}
 use Rattle.schedule_model.proofs.Places.{places-first}
 use Rattle.trace_model.specs.Explained.{event_of, past}
 use Rattle.trace_model.specs.Run.{Entry}
@@ -23,22 +23,22 @@ cut : (k : ℕ) (es : List WorldEvent) → reverse es ≡ reverse (drop k es) ++
 cut k es = ap (λ (v : List WorldEvent). reverse v) (sym (take-append-drop k es))
     ∙ reverse-append (take k es) (drop k es)
 
-by_first : (p : Program) (es : List WorldEvent) (n : ℕ) → TellsFirst p es (Some n)
+by_first : (p : Program) (es : List WorldEvent) (n : ℕ) → IsFirstWrong p es (Some n)
     → follows p (reverse es) ≡ false
 by_first p es n t =
     false_from_ne_true (follows p (reverse es)) (λ h. true≢false
     (sym (follows_older p (reverse (drop (suc t.0) es)) (reverse (take (suc t.0) es))
     (subst (λ (v : List WorldEvent). follows p v ≡ true) (cut (suc t.0) es) h)) ∙ t.3))
 
--- a history of which a place is told doesn't follow the program
+-- a history for which a place is found doesn't follow the program
 pub leaves : (p : Program) (es : List WorldEvent) (n : ℕ) → first_wrong p [] 0 es ≡ Some n
     → follows p (reverse es) ≡ false
-leaves p es n e = by_first p es n (subst (λ (o : Option ℕ). TellsFirst p es o) e (places-first p es))
+leaves p es n e = by_first p es n (subst (λ (o : Option ℕ). IsFirstWrong p es o) e (places-first p es))
 
--- one of which none is told does
+-- one for which none is found does
 pub stays : (p : Program) (es : List WorldEvent) → first_wrong p [] 0 es ≡ None
     → follows p (reverse es) ≡ true
-stays p es e = subst (λ (o : Option ℕ). TellsFirst p es o) e (places-first p es)
+stays p es e = subst (λ (o : Option ℕ). IsFirstWrong p es o) e (places-first p es)
 
 -- ---- one event
 

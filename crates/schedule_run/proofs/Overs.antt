@@ -88,8 +88,8 @@ said_give_up p picks n r st = subst (λ (w : List WorldEvent). AllGiveUp p.limit
 
 pub said_report : (p : Program) (w : List WorldEvent) (r : Runner) (o : Result Report Refusal) (x : Report) → RunStands p w r
     → ((v : List WorldEvent) → StandsFor v r.recorded.world → IfOk o (λ y. y ≡ report_of r.recorded.world.limits v)) → o ≡ Ok x → x ≡ report_of p.limits (past (reverse r.recorded.trace.events))
-said_report p w r o x st told is =
-    by o x is (told w st.recorded.stands)
+said_report p w r o x st known is =
+    by o x is (known w st.recorded.stands)
     ∙ (ap (λ (l : Limits). report_of l w) st.recorded.limits ∙ ap (λ (v : List WorldEvent). report_of p.limits v) (sym st.recorded.traced.is))
   where
     by : (o : Result Report Refusal) (x : Report) → o ≡ Ok x → IfOk o (λ y. y ≡ report_of r.recorded.world.limits w) → x ≡ report_of r.recorded.world.limits w

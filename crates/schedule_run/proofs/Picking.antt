@@ -24,9 +24,9 @@ use Rattle.world_model.specs.GivingUp.{done_where}
 use Rattle.world_model.specs.Replies.{after, is_made, is_accepted, is_legal_world, reply}
 use Rattle.world_model.specs.TaskConditions.{last_entry, condition_in_turn, condition_in, condition_by, condition_of}
 use Rattle.world_model.specs.Tasks.{is_born, is_ended}
-use Rattle.schedule_model.specs.Picks.{Asked, unused, event_of, asked, told_or, made, pick}
+use Rattle.schedule_model.specs.Picks.{Asked, unused, event_of, asked, reported_or, made, pick}
 use Rattle.schedule_model.specs.Scripts.{Numbers, meanings, next_act, tried}
-use Rattle.schedule_model.proofs.Begins.{Goes, is_told, may_tell, event_reply, next_goes}
+use Rattle.schedule_model.proofs.Begins.{Goes, is_reported, may_report, event_reply, next_goes}
 use Rattle.schedule_model.proofs.GoesOn.{asked_idle, asked_busy}
 use Rattle.schedule_model.proofs.Rounds.{gapless_pick}
 use Rattle.schedule_run.specs.Given.{tried_of}
@@ -63,21 +63,21 @@ next_tried p w t own new act a is own_is new_is act_is = is ∙ (rw (own_is, new
 -- ---- the history after a pick, by the reply
 
 module _ (p : Program) (w : List WorldEvent) (t : ℕ) (a : Asked) (asks : asked p w t ≡ Some a) where
-  as_asked : pick p w t ≡ told_or p.limits w a (reply p.limits w a.event)
+  as_asked : pick p w t ≡ reported_or p.limits w a (reply p.limits w a.event)
   as_asked = ap (λ o. made p.limits w o) asks
 
   pub picked_made : is_made (reply p.limits w a.event) ≡ true → pick p w t ≡ a.event ∷ w
   picked_made h = as_asked ∙ by (reply p.limits w a.event) h
     where
-      by : (r : Result Reply Refusal) → is_made r ≡ true → told_or p.limits w a r ≡ a.event ∷ w
+      by : (r : Result Reply Refusal) → is_made r ≡ true → reported_or p.limits w a r ≡ a.event ∷ w
       by (Ok x) h = rw h refl
       by (Err x) h = absurd (false≢true h)
 
-  pub picked_refused : (x : Refusal) → reply p.limits w a.event ≡ Err x → pick p w t ≡ after w (a.telling (number_of x)) (reply p.limits w (a.telling (number_of x)))
-  picked_refused x h = as_asked ∙ ap (λ r. told_or p.limits w a r) h
+  pub picked_refused : (x : Refusal) → reply p.limits w a.event ≡ Err x → pick p w t ≡ after w (a.reporting (number_of x)) (reply p.limits w (a.reporting (number_of x)))
+  picked_refused x h = as_asked ∙ ap (λ r. reported_or p.limits w a r) h
 
   pub picked_waits : reply p.limits w a.event ≡ Ok NotYet → pick p w t ≡ w
-  picked_waits h = as_asked ∙ ap (λ r. told_or p.limits w a r) h
+  picked_waits h = as_asked ∙ ap (λ r. reported_or p.limits w a r) h
 
 -- who isn't under way is left
 pub picked_none : (p : Program) (w : List WorldEvent) (t : ℕ) → is_idle t w ≡ false → (is_born t w && not (is_ended t w)) ≡ false → pick p w t ≡ w
@@ -102,11 +102,11 @@ run_stays p w t r st is = subst (λ (u : List WorldEvent). RunStands p u r) (sym
 
 -- what a task asks for that begins an act
 abbrev pub beginning : ℕ → Tried → Asked
-beginning t a = record { event = event_of t a; telling = λ n. Refuse t a n }
+beginning t a = record { event = event_of t a; reporting = λ n. Refuse t a n }
 
 -- what one asks for that goes on
 abbrev pub going : ℕ → WorldEvent → Asked
-going t e = record { event = e; telling = λ n. Fail t n }
+going t e = record { event = e; reporting = λ n. Fail t n }
 
 module _ (p : Program) (w : List WorldEvent) (t : ℕ) (old : Runner) (st : RunStands p w old) where
   module _ (idle : is_idle t w ≡ true) (a : Tried) (is : a ≡ tried p w t (unused p.limits w)) where
@@ -136,26 +136,26 @@ module _ (p : Program) (w : List WorldEvent) (t : ℕ) (old : Runner) (st : RunS
       where
         by : (r : Result Reply Refusal) → r ≡ Ok NotYet → Goes r → ⊥
         by r same (inl done) = true≢false (sym done ∙ ap (λ z. is_made z) same)
-        by r same (inr (x, refused, told)) = absurd cc
+        by r same (inr (x, refused, known)) = absurd cc
 
-    -- it is refused, and its refusal told
+    -- it is refused, and its refusal reported
     pub begun_refused : (new : Runner) (x : Refusal) (v : List WorldEvent) → Refused x ≡ outcome_of (reply p.limits w (event_of t a)) → v ≡ after w (event_of t a) (reply p.limits w (event_of t a))
         → Records p.limits (after v (Refuse t a (number_of x)) (reply p.limits v (Refuse t a (number_of x)))) new.recorded.world new.recorded.trace
         → IsAsked p w t new.bodies.seats.items → length new.bodies.seats.items ≡ length old.bodies.seats.items → RunStands p (pick p w t) new
     begun_refused new x v h same rec given places =
         let refused = is_refused (reply p.limits w (event_of t a)) x h in
         let left : v ≡ w = same ∙ ap (λ (r : Result Reply Refusal). after w (event_of t a) r) refused in
-        let telling = Refuse t a (number_of x) in
-        let told : reply p.limits w telling ≡ done_where true =
-        ap (λ b. done_where b) (may_tell p.limits w t a x (sym (event_reply p.limits w t a) ∙ refused) (is_telling (reply p.limits w (event_of t a)) x refused goes)) in
-        let now : after w telling (reply p.limits w telling) ≡ telling ∷ w = ap (λ (r : Result Reply Refusal). after w telling r) told in
-        run_stands p w (telling ∷ w) t old new st (sym (picked_refused p w t (beginning t a) asks x refused ∙ now))
-        (subst (λ (u : List WorldEvent). Records p.limits u new.recorded.world new.recorded.trace) (ap (λ (u : List WorldEvent). after u telling (reply p.limits u telling)) left ∙ now) rec)
+        let reporting = Refuse t a (number_of x) in
+        let known : reply p.limits w reporting ≡ done_where true =
+        ap (λ b. done_where b) (may_report p.limits w t a x (sym (event_reply p.limits w t a) ∙ refused) (is_reporting (reply p.limits w (event_of t a)) x refused goes)) in
+        let now : after w reporting (reply p.limits w reporting) ≡ reporting ∷ w = ap (λ (r : Result Reply Refusal). after w reporting r) known in
+        run_stands p w (reporting ∷ w) t old new st (sym (picked_refused p w t (beginning t a) asks x refused ∙ now))
+        (subst (λ (u : List WorldEvent). Records p.limits u new.recorded.world new.recorded.trace) (ap (λ (u : List WorldEvent). after u reporting (reply p.limits u reporting)) left ∙ now) rec)
         (refused_stands p w t (seat_at new.bodies.seats.items) a (number_of x) given) places
       where
-        is_telling : (r : Result Reply Refusal) (x : Refusal) → r ≡ Err x → Goes r → is_told x ≡ true
-        is_telling r x same (inl done) = absurd (true≢false (sym done ∙ ap (λ z. is_made z) same))
-        is_telling r x same (inr (y, refused, told)) = subst (λ (z : Refusal). is_told z ≡ true) (got y x (sym refused ∙ same)) told
+        is_reporting : (r : Result Reply Refusal) (x : Refusal) → r ≡ Err x → Goes r → is_reported x ≡ true
+        is_reporting r x same (inl done) = absurd (true≢false (sym done ∙ ap (λ z. is_made z) same))
+        is_reporting r x same (inr (y, refused, known)) = subst (λ (z : Refusal). is_reported z ≡ true) (got y x (sym refused ∙ same)) known
           where
             got : (a b : Refusal) → ◌≡◌ {A = Result Reply Refusal} (Err a) (Err b) → a ≡ b
             got a b h = cc
@@ -179,7 +179,7 @@ module _ (p : Program) (w : List WorldEvent) (t : ℕ) (old : Runner) (st : RunS
         (subst (λ (b : Bodies). BodiesStand p (after w e (reply p.limits w e)) b.seats.items) (sym same) (bodies_after (reply p.limits w e)))
         (ap (λ (b : Bodies). length b.seats.items) same)
       where
-        by : (r : Result Reply Refusal) → ((x : Refusal) → Refused x ≡ outcome_of r → ⊥) → told_or p.limits w (going t e) r ≡ after w e r
+        by : (r : Result Reply Refusal) → ((x : Refusal) → Refused x ≡ outcome_of r → ⊥) → reported_or p.limits w (going t e) r ≡ after w e r
         by (Ok x) h = refl
         by (Err x) h = absurd (h x refl)
 
@@ -209,12 +209,12 @@ module _ (p : Program) (w : List WorldEvent) (t : ℕ) (old : Runner) (st : RunS
 
 -- ---- the condition of a task
 
--- what it tells
-abbrev pub Tells : Option Condition → ℕ → List WorldEvent → Type 0
-Tells None t w = (is_idle t w ≡ false) × ((is_born t w && not (is_ended t w)) ≡ false)
-Tells (Some conditions.Idle) t w = is_idle t w ≡ true
-Tells (Some conditions.Ended) t w = (is_idle t w ≡ false) × ((is_born t w && not (is_ended t w)) ≡ false)
-Tells (Some _) t w = (is_idle t w ≡ false) × (is_born t w ≡ true) × (is_ended t w ≡ false)
+-- what it says of the task
+abbrev pub Describes : Option Condition → ℕ → List WorldEvent → Type 0
+Describes None t w = (is_idle t w ≡ false) × ((is_born t w && not (is_ended t w)) ≡ false)
+Describes (Some conditions.Idle) t w = is_idle t w ≡ true
+Describes (Some conditions.Ended) t w = (is_idle t w ≡ false) × ((is_born t w && not (is_ended t w)) ≡ false)
+Describes (Some _) t w = (is_idle t w ≡ false) × (is_born t w ≡ true) × (is_ended t w ≡ false)
 
 and_false : (b : Bool) → (b && false) ≡ false
 and_false true = refl
@@ -224,12 +224,12 @@ and_none : (b c : Bool) → ((b && false) && c) ≡ false
 and_none true c = refl
 and_none false c = refl
 
--- a task in the middle of an act isn't told to be idle, nor to have ended
-in_turn : (d : WorldEvent) (t : ℕ) (w : List WorldEvent) → is_idle t w ≡ false → is_born t w ≡ true → is_ended t w ≡ false → Tells (Some (condition_in_turn d)) t w
+-- a task in the middle of an act isn't said to be idle, nor to have ended
+in_turn : (d : WorldEvent) (t : ℕ) (w : List WorldEvent) → is_idle t w ≡ false → is_born t w ≡ true → is_ended t w ≡ false → Describes (Some (condition_in_turn d)) t w
 in_turn (Phaser n (Sig u x)) t w i b g = (i, b, g)
 in_turn d t w i b g = (i, b, g)
 
-in_act : (o : Option WorldEvent) (d : WorldEvent) (t : ℕ) (w : List WorldEvent) → is_idle t w ≡ false → is_born t w ≡ true → is_ended t w ≡ false → Tells (Some (condition_in o d)) t w
+in_act : (o : Option WorldEvent) (d : WorldEvent) (t : ℕ) (w : List WorldEvent) → is_idle t w ≡ false → is_born t w ≡ true → is_ended t w ≡ false → Describes (Some (condition_in o d)) t w
 in_act (Some (Begin u (Async c pairs))) d t w i b g = (i, b, g)
 in_act (Some (Begin u Signal)) d t w i b g = (i, b, g)
 in_act (Some (Begin u Wait)) d t w i b g = in_turn d t w i b g
@@ -238,34 +238,34 @@ in_act (Some (Begin u (NextSingle n))) d t w i b g = in_turn d t w i b g
 in_act (Some (Begin u Shut)) d t w i b g = (i, b, g)
 in_act o d t w i b g = (i, b, g)
 
-pub condition_tells : (t : ℕ) (w : List WorldEvent) → Tells (condition_of t w) t w
-condition_tells t w = by (is_ended t w) refl (is_born t w) refl (due t w) refl
+pub condition_describes : (t : ℕ) (w : List WorldEvent) → Describes (condition_of t w) t w
+condition_describes t w = by (is_ended t w) refl (is_born t w) refl (due t w) refl
   where
     by : (ended : Bool) → is_ended t w ≡ ended → (born : Bool) → is_born t w ≡ born → (ds : List WorldEvent) → due t w ≡ ds
-        → Tells (if ended then Some conditions.Ended else (if born then Some (condition_by (last_entry t w) ds) else None)) t w
+        → Describes (if ended then Some conditions.Ended else (if born then Some (condition_by (last_entry t w) ds) else None)) t w
     by true e born b ds h = (rw e (and_none (is_born t w) (is_empty (due t w))), rw e (and_false (is_born t w)))
     by false e true b [] h = rw (e, b, h) refl
     by false e true b (d ∷ ds) h = in_act (last_entry t w) d t w (rw (e, b, h) refl) b e
     by false e false b ds h = (rw b refl, rw b refl)
 
--- what a world tells to come next, under its own limits
+-- what a world says comes next, under its own limits
 pub next_due : (p : Program) (w : List WorldEvent) (t : ℕ) (r : Runner) (o : Option WorldEvent) → RunStands p w r → o ≡ next_event r.recorded.world.limits t w → next_event p.limits t w ≡ o
 next_due p w t r o st is = sym (subst (λ (l : Limits). o ≡ next_event l t w) st.recorded.limits is)
 
--- ---- a pick, by what the task's condition tells
+-- ---- a pick, by the task's condition
 
-pub told_condition : (t : ℕ) (w : List WorldEvent) (o : Option Condition) → o ≡ condition_of t w → Tells o t w
-told_condition t w o is = subst (λ (x : Option Condition). Tells x t w) (sym is) (condition_tells t w)
+pub answer_describes : (t : ℕ) (w : List WorldEvent) (o : Option Condition) → o ≡ condition_of t w → Describes o t w
+answer_describes t w o is = subst (λ (x : Option Condition). Describes x t w) (sym is) (condition_describes t w)
 
 -- one that is neither idle nor ended is in the middle of an act
-pub tells_busy : (c : Condition) (t : ℕ) (w : List WorldEvent) → Tells (Some c) t w → (c ≡ conditions.Idle → ⊥) → (c ≡ conditions.Ended → ⊥) → (is_idle t w ≡ false) × (is_born t w ≡ true) × (is_ended t w ≡ false)
-tells_busy conditions.Idle t w h i e = absurd (i refl)
-tells_busy conditions.Ended t w h i e = absurd (e refl)
-tells_busy conditions.Signalling t w h i e = h
-tells_busy conditions.Turning t w h i e = h
-tells_busy conditions.Spawning t w h i e = h
-tells_busy conditions.Shutting t w h i e = h
-tells_busy conditions.Ending t w h i e = h
+pub describes_busy : (c : Condition) (t : ℕ) (w : List WorldEvent) → Describes (Some c) t w → (c ≡ conditions.Idle → ⊥) → (c ≡ conditions.Ended → ⊥) → (is_idle t w ≡ false) × (is_born t w ≡ true) × (is_ended t w ≡ false)
+describes_busy conditions.Idle t w h i e = absurd (i refl)
+describes_busy conditions.Ended t w h i e = absurd (e refl)
+describes_busy conditions.Signalling t w h i e = h
+describes_busy conditions.Turning t w h i e = h
+describes_busy conditions.Spawning t w h i e = h
+describes_busy conditions.Shutting t w h i e = h
+describes_busy conditions.Ending t w h i e = h
 
 -- what follows where a call wasn't refused
 pub where_ok : {P Q : Type 0} (r : Result (Unit {0}) Refusal) → (P → Q) → IfOk r (λ u. P) → IfOk r (λ u. Q)

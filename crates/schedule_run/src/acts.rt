@@ -67,7 +67,7 @@ pub(crate) fn event_of(task: u32, act: Tried) -> WorldEvent
     }
 }
 
-// ---- what an event tells of
+// ---- what an event says of its act
 
 /// The act of which the event is the first, or which it refuses; none for what continues an act,
 /// and for a failure.

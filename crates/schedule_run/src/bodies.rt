@@ -1,4 +1,4 @@
-//! The tasks of a program while it runs: each task's body, and what it is told before its next act.
+//! The tasks of a program while it runs: each task's body, and what it hears before its next act.
 ghost use Rattle.std.specs.Prelude.{◌≡◌, ◌<◌, ◌∷◌, [], List, length, IfOk, IfErr};
 ghost use Rattle.phase_modes.specs.declared.mode.Mode as modes;
 ghost use Rattle.phase_modes.specs.declared.phased.Pair as phased;
@@ -18,7 +18,7 @@ use job_script::{Act, Answer, Program, ScriptBody};
 use phase_modes::Refusal;
 use std::alloc::Global;
 
-/// A task's body, and what it is told before its next act.
+/// A task's body, and what it hears before its next act.
 #[derive(Drop)]
 pub(crate) struct Seat<'p> {
     pub body: ScriptBody<'p>,
@@ -37,7 +37,7 @@ impl<'p> Seat<'p> {
         }
     }
 
-    /// The next act, which is done unless something else is told of it.
+    /// The next act, which is done unless something else is reported of it.
     pub(crate) fn next_act(&mut self) -> Act<ScriptBody<'p>>
         ensures gives { result ≡ given self.old.answer self.old.body }
         ensures body { self.new.body ≡ stepped self.old.answer self.old.body }
@@ -95,8 +95,8 @@ impl<'p> Bodies<'p> {
         }
     }
 
-    /// Tells a task that it made the phaser that its last act asked for.
-    pub(crate) fn tell_made(&mut self, task: u32, phaser: u32)
+    /// Reports to a task that it made the phaser that its last act asked for.
+    pub(crate) fn report_made(&mut self, task: u32, phaser: u32)
         ensures stand { (p : programs.Program) (w : List events.WorldEvent)
             (m : modes.Mode) (ops : List operators.Op)
             → IsAsked p w task self.old.seats.items

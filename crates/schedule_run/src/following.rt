@@ -13,7 +13,7 @@ ghost use Rattle.world_model.specs.declared.event.WorldEvent.TheVariants.{Phaser
 ghost use Rattle.world_model.specs.declared.event.WorldEvent as events;
 ghost use Rattle.schedule_model.specs.Scripts.{act_of, body_of, is_of, meanings, next_act};
 ghost use Rattle.schedule_model.specs.Follows.{drawn, follows, is_next, same_act};
-ghost use Rattle.schedule_run.specs.Following.{first_not_next, history, TellsPlace};
+ghost use Rattle.schedule_run.specs.Following.{first_not_next, history, AnswersPlace};
 ghost use Rattle.schedule_run.specs.Given.{tried_of};
 ghost use Rattle.schedule_run.specs.inner.Bodies.{IsAskedOf, SeatsStand};
 ghost use Rattle.schedule_run.specs.inner.Followers.{seat_of, IsTaken};
@@ -76,8 +76,8 @@ impl<'p> Followers<'p> {
         }
     }
 
-    /// Tells a task that it made the phaser that its last act asked for.
-    fn tell_made(&mut self, task: u32, phaser: u32)
+    /// Reports to a task that it made the phaser that its last act asked for.
+    fn report_made(&mut self, task: u32, phaser: u32)
         ensures { (p : programs.Program) (w : List events.WorldEvent)
             (m : modes.Mode) (ops : List operators.Op)
             → IsAskedOf p w task (seat_of self.old.seats)
@@ -100,7 +100,7 @@ impl<'p> Followers<'p> {
         Ok(())
     }
 
-    /// Tells a task what came of the act that it was given, by a step that makes it.
+    /// Reports to a task what came of the act that it was given, by a step that makes it.
     fn settle_step(&mut self, task: u32, phaser: u32, step: Step)
         ensures { (p : programs.Program) (w : List events.WorldEvent)
             → IsAskedOf p w task (seat_of self.old.seats)
@@ -108,11 +108,11 @@ impl<'p> Followers<'p> {
             → SeatsStand p (Phaser phaser step ∷ w) (seat_of self.new.seats) }
     {
         if let Step::Make(_, _, _) = step {
-            self.tell_made(task, phaser);
+            self.report_made(task, phaser);
         }
     }
 
-    /// Tells a task what came of the act that it was given, by the event that makes or refuses it:
+    /// Reports to a task what came of the act that it was given, by the event that makes or refuses it:
     /// a phaser has its number, and a child its seat.
     fn settle(
         &mut self,
@@ -169,7 +169,7 @@ impl<'p> Followers<'p> {
 /// A spawn on all phasers goes over the events before it, once for each phaser that its task ever
 /// came to.
 pub fn follows(alloc: Global, program: &Program, trace: &Trace) -> Result<(), Refusal>
-    ensures place { TellsPlace (first_not_next program.now trace.now) result }
+    ensures place { AnswersPlace (first_not_next program.now trace.now) result }
     ensures follows { IfOk result (λ _. follows program.now (history trace.now.events) ≡ true) }
     ensures leaves { (k : ℕ) → result ≡ Err (Refusal.NotExplained k)
         → follows program.now (history trace.now.events) ≡ false }

@@ -44,7 +44,7 @@ fn made(task: u32, act: &Tried) -> WorldEvent
     event_of(task, *act)
 }
 
-/// The entry by which a task tells that the act was refused.
+/// The entry by which a task reports that the act was refused.
 fn refused(task: u32, act: &Tried, refusal: Refusal) -> WorldEvent
     ensures { result ≡ Refuse task act.now (number_of refusal) }
 {
@@ -63,7 +63,7 @@ fn settle<'p>(bodies: &mut Bodies<'p>, task: u32, new: Numbers, act: Act<ScriptB
     match act {
         Act::Async(body, _) => seat(bodies, new.task, body),
         Act::AsyncAll(body) => seat(bodies, new.task, body),
-        Act::New(_, _) => bodies.tell_made(task, new.phaser),
+        Act::New(_, _) => bodies.report_made(task, new.phaser),
         _ => {}
     }
 }
@@ -106,7 +106,7 @@ impl<'p> Runner<'p> {
         }
     }
 
-    /// An idle task begins its next act. Where that is refused, its log tells so, and it ends.
+    /// An idle task begins its next act. Where that is refused, its log says so, and it ends.
     fn begin(&mut self, task: u32) -> Result<(), Refusal>
         ensures stands { IfOk result (λ _. (p : programs.Program) (w : List Event) → RunStands p w self.old
             → is_idle task w ≡ true → RunStands p (pick p w task) self.new) }

@@ -35,10 +35,10 @@ fn one_phaser() -> Phased {
 }
 
 /// Whether the act is tried as the root makes it by this event, is the same again by the numbers
-/// that it drew, and is the act of which the event and a refusal tell.
+/// that it drew, and is the act that the event and a refusal are of.
 fn is_tried_so(event: &WorldEvent, act: &Act<ScriptBody<'_>>) -> bool {
     let tried = tried_of(one_phaser(), DRAWN, act);
-    let told = event_of(0, tried);
+    let asked = event_of(0, tried);
     let refused = WorldEvent::Refuse(0, tried, 1);
     let made = Some(MadeAct {
         task: 0,
@@ -46,7 +46,7 @@ fn is_tried_so(event: &WorldEvent, act: &Act<ScriptBody<'_>>) -> bool {
     });
     let again = tried_of(one_phaser(), drawn(&tried), act);
     let other = Tried::Begun(Begun::Wait);
-    told == *event
+    asked == *event
         && act_of(event) == made
         && act_of(&refused) == made
         && is_same_act(&tried, &again)
@@ -107,7 +107,7 @@ fn each_task_has_its_own_acts(rt: HostRuntime) -> Result<(), Fail> {
     assert_eq!(rt; bodies.seats.len(), 2);
     assert!(rt; matches!(bodies.next_act(1), Act::End));
     assert!(rt; matches!(bodies.next_act(0), Act::New(Mode::Sig, _)));
-    bodies.tell_made(0, 6);
+    bodies.report_made(0, 6);
     match bodies.next_act(0) {
         Act::Async(child, _) if bodies.seats.len() == 2 => bodies.seat_child(1, child),
         _ => return Err(Fail::from("a spawn")),

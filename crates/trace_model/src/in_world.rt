@@ -14,7 +14,7 @@ fn is_seen(seen: Look, reply: Result<Reply, Refusal>) -> bool
     ensures { result ≡ is_seen seen reply }
 {
     match (reply, seen) {
-        (Ok(Reply::Value(Look::Value(told))), Look::Value(value)) => told == value,
+        (Ok(Reply::Value(Look::Value(read))), Look::Value(value)) => read == value,
         (Ok(Reply::Value(Look::Nothing)), Look::Nothing) => true,
         _ => false,
     }

@@ -19,11 +19,11 @@ later_is ticket (e ∷ es) = refl
 
 module _ (l : Limits) (es : List Entry) (ticket : ℕ) (e : TracedEvent) (old new : Player) (answered : Result Reply Refusal)
     (so_far : HandedOver l es old) (step : IsStep (event_of e) old.world new.world answered) where
-  told : answered ≡ reply l (past es) (event_of e)
-  told = step.answer (past es) so_far.stands ∙ ap (λ m. reply m (past es) (event_of e)) so_far.limits
+  known : answered ≡ reply l (past es) (event_of e)
+  known = step.answer (past es) so_far.stands ∙ ap (λ m. reply m (past es) (event_of e)) so_far.limits
 
   pub takes : (is_later_than ticket old.last && is_answered e answered) ≡ may_follow l es (ticket, e)
-  takes = rw (so_far.last, later_is ticket es, told) refl
+  takes = rw (so_far.last, later_is ticket es, known) refl
 
   pub goes_on : new.last ≡ Some ticket → new.over ≡ (ends_run e || old.over) → (is_later_than ticket old.last && is_answered e answered) ≡ true
       → HandedOver l ((ticket, e) ∷ es) new

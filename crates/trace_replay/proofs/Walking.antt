@@ -43,7 +43,7 @@ ends l es i s over h =
       h.fault ∙ rw (all, drop_all i es over) refl,
     )
 
--- where all were handed over, the run's end tells
+-- where all were handed over, the run's end decides
 module _ (r : Run) (s : Player) (handed : HandsOver r.limits r.events None s) where
   by_end : (b : Bool) → s.over ≡ b → first_fault r ≡ (if b then None else Some (length (reverse r.events) + 1))
   by_end b is = handed.1 ∙ ap (λ o. if o then None else Some (length (reverse r.events) + 1)) (sym handed.0.over ∙ is)

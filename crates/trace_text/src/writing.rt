@@ -178,7 +178,7 @@ fn write_tried(out: &mut String, act: &Tried) -> Result<(), AllocError>
     }
 }
 
-/// The items of an entry that tells of a refusal, each after a comma, and the closing bracket.
+/// The items of an entry of a refusal, each after a comma, and the closing bracket.
 #[tactic(auto, unfolding(json::specs::Print::escape_byte))]
 fn write_refuse(out: &mut String, task: u32, act: &Tried, number: u8) -> Result<(), AllocError>
     ensures { Appends result out.old out.new (rest_text (event_items (Refuse task act.now number))) }

@@ -170,7 +170,7 @@ shut_line s w t st few =
     (sym (is_some_nonempty (map (λ n. Phaser n (Drop t)) left) (Finish (slice_index_or (open_finishes t w) 0 k.home) Shutting))) refl refl
     (clock_still s.outers w t Shut tt k line refl) (own_acts s.outers w t Shut tt k line refl few)
 
--- what leads to the task's end, as its line tells it
+-- what leads to the task's end, read off its line
 pub ending_is : (outers : List (Option ℕ)) (w : List WorldEvent) (t : ℕ) (k : TaskState) → TaskStands outers w t k
     → ending t w ≡ map (λ n. Phaser n (Drop t)) k.phasers ++ (map (λ f. Finish f Shutting) (open_finishes t w) ++ end_of t k ∷ [])
 ending_is outers w t k st =

@@ -69,7 +69,7 @@ module _ (s : WorldState) (w : List WorldEvent) (f : ℕ) (e : FinishEvent) (lat
         tasks = lines;
       }
 
--- what an answer that is made tells
+-- what follows from an answer that is made
 pub done_ok : (r : Result (Unit {0}) Refusal) → is_made (done_by r) ≡ true → r ≡ Ok tt
 done_ok (Ok u) k = refl
 done_ok (Err r) k = absurd cc

@@ -19,7 +19,7 @@ filter_same p q (x ∷ xs) e =
     let rest : filter p xs ≡ filter q xs = filter_same p q xs e in
     rw (e x) (ap (λ ys. cond (q x) (x ∷ ys) ys) rest)
 
--- the innermost open finish, as a line tells it
+-- the innermost open finish, read off a line
 pub inner_by : (outers : List (Option ℕ)) (top : Option ℕ) (fs : List ℕ) (h : ℕ) → IsChain outers top fs → unwrap_or top h ≡ slice_index_or fs 0 h
 inner_by outers top [] h c = ap (λ o. unwrap_or o h) c
 inner_by outers top (f ∷ fs) h c = ap (λ o. unwrap_or o h) c.0

@@ -73,7 +73,7 @@ next_is s t w st =
     next_in s w st t k (open_finishes t w) line.chain k.plan k.left refl line.left
     ∙ ap (λ ds. option_map (or_single s.limits w) (slice_get ds 0)) (sym line.due_is)
 
--- where each event of a list tells this condition, the list does
+-- where each event of a list comes from this condition, the list does
 behind : (o : Option WorldEvent) (c : Condition) → ((d : WorldEvent) → c ≡ condition_in o d) → (xs ys : List WorldEvent) → c ≡ history.condition_by o ys → c ≡ history.condition_by o (xs ++ ys)
 behind o c each [] ys h = h
 behind o c each (x ∷ xs) ys h = each x

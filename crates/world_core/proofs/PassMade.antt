@@ -155,7 +155,7 @@ module _ (outers : List (Option ℕ)) (w : List WorldEvent) (n t : ℕ) (k : Tas
       subst (λ q. TaskStands outers (Phaser n (Pass t) ∷ w) t (record k { plan = q; left = i ∷ is })) (sym e)
       (own_line plan.Turning (i ∷ is) k.clock (ap (λ ds. drop 1 ds) d) refl (ap (λ q. fits_plan q (last_entry t w)) (sym e) ∙ st.plan) refl (st.clock ∙ ap (λ v. min v 4294967295) (sym c)))
 
--- what a pass that is made tells
+-- what follows from a pass that is made
 pub asked_made : (b : Bool) (u : Result Passing Refusal) → is_made (reply_by_pass (cond b u (Err NotNow))) ≡ true → (b ≡ true) × (is_made (reply_by_pass u) ≡ true)
 asked_made true u e = (refl, e)
 asked_made false u e = absurd cc

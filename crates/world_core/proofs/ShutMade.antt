@@ -48,7 +48,7 @@ shut_answers s w f st =
     rw (shut_asked_is s w f st, (st.finishes f).story)
     (answer_by (is_next (next_event s.limits (owner f w) w) (Finish f Shut)) (all_ended (finish_past f w)) (said (record { tasks = s.limits.tasks; past = finish_past f w }) Shut))
 
--- what an answer that is made, or isn't, tells
+-- what follows from an answer that is made, or isn't
 shut_ok : (a b : Bool) (r : Result (Unit {0}) Refusal) → is_made (cond a (cond b (done_by r) (Ok NotYet)) (Err NotNow)) ≡ true → (a ≡ true) × ((b ≡ true) × (r ≡ Ok tt))
 shut_ok true true r k = (refl, (refl, done_ok r k))
 shut_ok true false r k = absurd cc

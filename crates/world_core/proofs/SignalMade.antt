@@ -180,7 +180,7 @@ module _ (outers : List (Option ℕ)) (w : List WorldEvent) (n t : ℕ) (x : Opt
       subst (λ q. TaskStands outers (Phaser n (Sig t x) ∷ w) t (record k { plan = q; left = i ∷ is })) (sym e)
       (own_line (plan.Signalling y turn) (i ∷ is) (ap (λ ds. drop 1 ds) d) refl (ap (λ q. fits_plan q (last_entry t w)) (sym e) ∙ st.plan) refl)
 
--- what a signal that is made tells
+-- what follows from a signal that is made
 made_ok : (u : Result (Unit {0}) Refusal) → is_made (done_by u) ≡ true → u ≡ Ok tt
 made_ok (Ok u) e = refl
 made_ok (Err r) e = absurd cc

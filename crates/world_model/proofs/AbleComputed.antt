@@ -194,18 +194,18 @@ refuse_idle l w t a n k =
       | inr e ↦ absurd (true≢false (sym (not_now e) ∙ refused_number NotNow n refl))
     ]
   where
-    told : (i : Bool) → i ≡ false
+    known : (i : Bool) → i ≡ false
         → is_refused_by n (unless (first_refusal ((NotNow, i) ∷ (NotNow, not (is_number_used w a))
         ∷ (ActsFull, not (is_counted a) || nat_lt (acts t w) l.acts) ∷ own_conditions l w t a))
         (act_done l w t a)) ≡ (22 == n)
-    told true e = absurd (true≢false e)
-    told false e = refl
+    known true e = absurd (true≢false e)
+    known false e = refl
 
     not_now : is_idle t w ≡ false → (22 == n && not (n == 22)) ≡ true
     not_now e =
         let parts = and_parts (is_refused_by n (act_reply l w t a) && not (n == 22)) (not (n == 23)) k in
         let more = and_parts (is_refused_by n (act_reply l w t a)) (not (n == 22)) parts.0 in
-        and_from (22 == n) (not (n == 22)) (sym (told (is_idle t w) e) ∙ more.0) more.1
+        and_from (22 == n) (not (n == 22)) (sym (known (is_idle t w) e) ∙ more.0) more.1
 
 module _ (l : Limits) (w : List WorldEvent) (t : ℕ) where
   idle_found : is_idle t w ≡ true → Found l w t

@@ -32,17 +32,17 @@ pub last_accepted : (l : Limits) (e : WorldEvent) (w : List WorldEvent) → is_l
     → (is_accepted l w e ≡ true) × (is_legal_world l w ≡ true)
 last_accepted l e w k = and_parts (is_accepted l w e) (is_legal_world l w) k
 
-told_done : (h : List Event) (r : phaser.Reply) → is_made (returned h r) ≡ true
+done_made : (h : List Event) (r : phaser.Reply) → is_made (returned h r) ≡ true
     → (e : Event) × (r ≡ phaser.done e)
-told_done h (phaser.refused r) k = absurd cc
-told_done h phaser.not_yet k = absurd cc
-told_done h (phaser.done e) k = (e, refl)
+done_made h (phaser.refused r) k = absurd cc
+done_made h phaser.not_yet k = absurd cc
+done_made h (phaser.done e) k = (e, refl)
 
 -- where a phaser made an event, its history allowed it
 pub call_allowed : (s : Story) (c : Call) → is_made (returned s.past (phaser.reply s c)) ≡ true
     → is_allowed s.limits s.ops s.past (phaser.event_for s.limits s.ops s.past c) ≡ true
 call_allowed s c k =
-    let m = told_done s.past (phaser.reply s c) k in
+    let m = done_made s.past (phaser.reply s c) k in
     let f = phaser.event_for s.limits s.ops s.past c in
     let d =
     settled_done (first_refusal (conditions s.limits s.ops s.past c))

@@ -23,17 +23,17 @@ use Rattle.world_model.specs.Able.{is_able}
 use Rattle.world_model.proofs.AbleComputed.{able_is_computed}
 
 -- a phaser's event is made, whatever it is
-pub told_made : (h : List Event) (e : Event) → is_made (returned h (phaser.done e)) ≡ true
-told_made h (Passed t) = refl
-told_made h (Looked t a x) = refl
-told_made h e = refl
+pub event_made : (h : List Event) (e : Event) → is_made (returned h (phaser.done e)) ≡ true
+event_made h (Passed t) = refl
+event_made h (Looked t a x) = refl
+event_made h e = refl
 
 -- a call without a cause that doesn't wait is done, or has no room
 pub made_or_full : (h : List Event) (o : Option Refusal) (waiting room : Bool) (e : Event)
     → o ≡ None → waiting ≡ false
     → (is_made (returned h (settled o waiting room e)) ≡ true)
     ⊎ (is_refused_by 15 (returned h (settled o waiting room e)) ≡ true)
-made_or_full h o waiting true e n v = inl (rw (n, v) (told_made h e))
+made_or_full h o waiting true e n v = inl (rw (n, v) (event_made h e))
 made_or_full h o waiting false e n v = inr (rw (n, v) refl)
 
 module _ (l : Limits) (w : List WorldEvent) (t : ℕ) (going : is_ended t w ≡ false) where

@@ -50,7 +50,7 @@ use Rattle.world_model.proofs.LeavesAtEnds.{is_leave, leaves_act, end_left, shut
 use Rattle.world_model.proofs.SignalsComeFirst.{moves_act, is_move, moves}
 use Rattle.world_model.proofs.DropsStandAlways.{leaves_only}
 use Rattle.world_model.proofs.HomesOpen.{root_open, spawn_fits}
-use Rattle.world_model.proofs.MadeOrGivesUp.{told_made}
+use Rattle.world_model.proofs.MadeOrGivesUp.{event_made}
 use Rattle.world_model.proofs.AbleOrWaits.{spawn_made, sig_causes, claim_made, report_made, pass_stands, pass_causeless}
 use Rattle.world_model.proofs.OutcomeOfEach.{drop_made, end_made, kinds, nothing_other}
 
@@ -62,7 +62,7 @@ made_expected (Err r) k = absurd (false≢true k)
 room_expected : (h : List Event) (o : Option Refusal) (waiting room : Bool) (e : Event) → o ≡ None
     → is_expected (returned h (settled o waiting room e)) ≡ true
 room_expected h o true room e n = rw n refl
-room_expected h o false true e n = rw n (made_expected (returned h (phaser.done e)) (told_made h e))
+room_expected h o false true e n = rw n (made_expected (returned h (phaser.done e)) (event_made h e))
 room_expected h o false false e n = rw n refl
 
 module _ (l : Limits) (w : List WorldEvent) (k : is_legal_world l w ≡ true) (t : ℕ)

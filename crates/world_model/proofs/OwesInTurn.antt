@@ -44,10 +44,10 @@ use Rattle.world_model.proofs.MovesInTurns.{move_act}
 use Rattle.world_model.proofs.SmallWords.{head_same}
 
 -- what a call is answered whose causes don't stand, where there is room
-told_done : (h : List Event) (e : Event) (n : ℕ) → is_refused_by n (returned h (phaser.done e)) ≡ false
-told_done h (Passed t) n = refl
-told_done h (Looked t a x) n = refl
-told_done h e n = refl
+done_made : (h : List Event) (e : Event) (n : ℕ) → is_refused_by n (returned h (phaser.done e)) ≡ false
+done_made h (Passed t) n = refl
+done_made h (Looked t a x) n = refl
+done_made h e n = refl
 
 module _ (l : Limits) (w : List WorldEvent) (k : is_legal_world l w ≡ true) (n t p : ℕ)
     (proposed : has_proposed t p (phaser_past n w) ≡ true)

@@ -169,7 +169,7 @@ fn no_read_after_a_fault(rt: HostRuntime) {
 
 // Where the line can't be written whole, the ending says so.
 #[test]
-fn line_not_told(rt: HostRuntime) {
+fn line_not_reported(rt: HostRuntime) {
     let line = b"refused 24 BadText at 0\n";
     for calls in 0..=line.len() {
         let mut out = Vec::new(rt.alloc());

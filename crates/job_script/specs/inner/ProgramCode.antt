@@ -1,4 +1,4 @@
--- How programs are told apart.
+-- By which code programs differ.
 use Rattle.std.specs.Prelude.{ℕ, refl}
 use Rattle.std.specs.Coded.{Coded, code_by, coded×, coded_ℕ}
 use Rattle.phase_modes.specs.declared.limits.Limits.{Limits}

@@ -1,4 +1,4 @@
--- How scripts are told apart.
+-- By which code scripts differ.
 use Rattle.std.specs.Prelude.{ℕ, List, Option, refl}
 use Rattle.std.specs.Coded.{Coded, code_by, coded×, coded_ℕ, coded_list, coded_option}
 use Rattle.job_script.specs.declared.head.Head.{Head}

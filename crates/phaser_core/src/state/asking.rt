@@ -6,8 +6,8 @@ ghost use Rattle.phaser_core.specs.Outcomes.{turn_reply};
 
 use super::look_reply;
 use crate::state::PhaserState;
+use crate::table::View;
 use crate::turn::Turn;
-use crate::view::View;
 use phase_model::{Call, Reply};
 use phase_modes::Refusal;
 use reg_table::Comparisons;

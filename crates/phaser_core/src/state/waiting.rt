@@ -3,8 +3,8 @@ ghost use Rattle.std.specs.Prelude.{◌≡◌};
 ghost use Rattle.phase_model.specs.Waiting.{would_wait, is_in_open_phase};
 
 use crate::state::PhaserState;
+use crate::table::View;
 use crate::turn::Turn;
-use crate::view::View;
 use reg_table::Comparisons;
 
 impl PhaserState {

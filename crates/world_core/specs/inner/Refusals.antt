@@ -6,8 +6,8 @@ use Rattle.phase_modes.specs.Refusal.{number_of, first_refusal}
 use Rattle.phase_model.specs.Replies as phaser
 use Rattle.phase_model.specs.declared.call.Call.{Call}
 use Rattle.phase_model.specs.declared.call.Call.TheVariants.{Make as make, Send as send, Look as look}
-use Rattle.phase_model.specs.declared.reply.Reply.{Reply as Returned}
-use Rattle.phase_model.specs.declared.reply.Reply.TheVariants.{Refused}
+use Rattle.phase_model.specs.declared.call.Reply.{Reply as Returned}
+use Rattle.phase_model.specs.declared.call.Reply.TheVariants.{Refused}
 use Rattle.world_model.specs.declared.event.Tried.{Tried}
 use Rattle.world_model.specs.declared.event.Tried.TheVariants.{Begun as Beginning, New, Open, Send as Sending, Look as Looking}
 use Rattle.world_core.specs.TaskState.{TaskState}

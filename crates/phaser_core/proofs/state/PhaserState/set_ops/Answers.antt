@@ -1,4 +1,4 @@
--- A phaser without a past has nothing that its operators could have told.
+-- A phaser without a past has nothing that its operators could have folded.
 use Rattle.phaser_core.proofs.Blank.{blank_stands}
 use Rattle.phaser_core.proofs.state.PhaserState.set_ops.Goals as goal
 

@@ -11,9 +11,9 @@ pub advance-requires-clause-here : goal.advance-requires-clause-here
 advance-requires-clause-here c =
     let r = c.self.inside in
     let e = c.get.result in
-    let told : (x : Entry) → slice_get r.table c.args.place ≡ Some x → IsToPass (length r.signallers) x.reg =
+    let known : (x : Entry) → slice_get r.table c.args.place ≡ Some x → IsToPass (length r.signallers) x.reg =
     rw (← c.self.view_is) at c.requires.line in
-    let is = told e c.get.ensures in
+    let is = known e c.get.ensures in
     waiter_here r.table r.signallers r.waiters c.args.place e c.self.invariant.0 c.get.ensures
     (sym c.can_wait.ensures ∙ c.if-can_wait.true) is.low
 
@@ -30,9 +30,9 @@ pub invariant_of-self : goal.invariant_of-self
 invariant_of-self c =
     let r = c.self.inside in
     let e : Entry = c.get.result in
-    let told : (x : Entry) → slice_get r.table c.args.place ≡ Some x → IsToPass (length r.signallers) x.reg =
+    let known : (x : Entry) → slice_get r.table c.args.place ≡ Some x → IsToPass (length r.signallers) x.reg =
     rw (← c.self.view_is) at c.requires.line in
-    let is = told e c.get.ensures in
+    let is = known e c.get.ensures in
     let written = c.pass.ensures e c.get.ensures in
     let roll : IsRoll (set r.table c.args.place (line_passed e)) r.signallers c.advance.new.self =
     roll_pass r.table r.signallers r.waiters c.advance.new.self c.args.place e c.self.invariant.0
@@ -51,9 +51,9 @@ pub invariant_of-self-else-can_wait : goal.invariant_of-self-else-can_wait
 invariant_of-self-else-can_wait c =
     let r = c.self.inside in
     let e : Entry = c.get.result in
-    let told : (x : Entry) → slice_get r.table c.args.place ≡ Some x → IsToPass (length r.signallers) x.reg =
+    let known : (x : Entry) → slice_get r.table c.args.place ≡ Some x → IsToPass (length r.signallers) x.reg =
     rw (← c.self.view_is) at c.requires.line in
-    let is = told e c.get.ensures in
+    let is = known e c.get.ensures in
     let written = c.pass.ensures e c.get.ensures in
     let roll : IsRoll (set r.table c.args.place (line_passed e)) r.signallers r.waiters =
     roll_pass_none r.table r.signallers r.waiters c.args.place e c.self.invariant.0 c.get.ensures is
@@ -71,28 +71,28 @@ invariant_of-self-else-can_wait c =
 pub pass-requires-clause-phase : goal.pass-requires-clause-phase
 pass-requires-clause-phase c = λ x here.
     let r = c.self.inside in
-    let told : (y : Entry) → slice_get r.table c.args.place ≡ Some y → IsToPass (length r.signallers) y.reg =
+    let known : (y : Entry) → slice_get r.table c.args.place ≡ Some y → IsToPass (length r.signallers) y.reg =
     rw (← c.self.view_is) at c.requires.line in
-    omega (arith, (told x here).low, c.self.invariant.0.phases)
+    omega (arith, (known x here).low, c.self.invariant.0.phases)
 
 pub advance-requires-clause-next : goal.advance-requires-clause-next
 advance-requires-clause-next c =
     let r = c.self.inside in
-    let told : (x : Entry) → slice_get r.table c.args.place ≡ Some x → IsToPass (length r.signallers) x.reg =
+    let known : (x : Entry) → slice_get r.table c.args.place ≡ Some x → IsToPass (length r.signallers) x.reg =
     rw (← c.self.view_is) at c.requires.line in
-    omega (arith, (told c.get.result c.get.ensures).low, c.self.invariant.0.same)
+    omega (arith, (known c.get.result c.get.ensures).low, c.self.invariant.0.same)
 
 pub returns-then-can_wait-clause-each : goal.returns-then-can_wait-clause-each
 returns-then-can_wait-clause-each c = λ line here moves.
     let r = c.self.inside in
     let e : Entry = c.get.result in
     let is : line ≡ e = same_Some line e (sym (rw (← c.self.view_is) at here) ∙ c.get.ensures) in
-    let told : (x : Entry) → slice_get r.table c.args.place ≡ Some x → IsToPass (length r.signallers) x.reg =
+    let known : (x : Entry) → slice_get r.table c.args.place ≡ Some x → IsToPass (length r.signallers) x.reg =
     rw (← c.self.view_is) at c.requires.line in
     let written = c.pass.ensures e c.get.ensures in
     let roll : IsRoll (set r.table c.args.place (line_passed e)) r.signallers c.advance.new.self =
     roll_pass r.table r.signallers r.waiters c.advance.new.self c.args.place e c.self.invariant.0
-    c.get.ensures (told e c.get.ensures) (sym c.can_wait.ensures ∙ c.if-can_wait.true)
+    c.get.ensures (known e c.get.ensures) (sym c.can_wait.ensures ∙ c.if-can_wait.true)
     c.advance.ensures.counts
     in
     rw (is, written)
@@ -104,12 +104,12 @@ returns-then-can_wait-clause-some c = λ line here moves.
     let r = c.self.inside in
     let e : Entry = c.get.result in
     let is : line ≡ e = same_Some line e (sym (rw (← c.self.view_is) at here) ∙ c.get.ensures) in
-    let told : (x : Entry) → slice_get r.table c.args.place ≡ Some x → IsToPass (length r.signallers) x.reg =
+    let known : (x : Entry) → slice_get r.table c.args.place ≡ Some x → IsToPass (length r.signallers) x.reg =
     rw (← c.self.view_is) at c.requires.line in
     let written = c.pass.ensures e c.get.ensures in
     let roll : IsRoll (set r.table c.args.place (line_passed e)) r.signallers c.advance.new.self =
     roll_pass r.table r.signallers r.waiters c.advance.new.self c.args.place e c.self.invariant.0
-    c.get.ensures (told e c.get.ensures) (sym c.can_wait.ensures ∙ c.if-can_wait.true)
+    c.get.ensures (known e c.get.ensures) (sym c.can_wait.ensures ∙ c.if-can_wait.true)
     c.advance.ensures.counts
     in
     rw (is, written)

@@ -10,9 +10,9 @@ pub advance-requires-clause-here : goal.advance-requires-clause-here
 advance-requires-clause-here c =
     let r = c.self.inside in
     let line = at_place r.table c.args.place (rw (← c.self.view_is) at c.requires.place) in
-    let told : (x : Entry) → slice_get r.table c.args.place ≡ Some x → IsToSignal c.args.phase x.reg =
+    let known : (x : Entry) → slice_get r.table c.args.place ≡ Some x → IsToSignal c.args.phase x.reg =
     rw (← c.self.view_is) at c.requires.line in
-    let is = told line.0 line.1 in
+    let is = known line.0 line.1 in
     let low : c.args.phase + 1 < length r.signallers = rw (← c.self.view_is) at c.requires.phase in
     rw (← is.phase_is)
     (signaller_here r.table r.signallers r.waiters c.args.place line.0 c.self.invariant.0 line.1
@@ -33,9 +33,9 @@ invariant_of-self c =
     let i = c.self.invariant.0 in
     let line = at_place r.table c.args.place (rw (← c.self.view_is) at c.requires.place) in
     let e : Entry = line.0 in
-    let told : (x : Entry) → slice_get r.table c.args.place ≡ Some x → IsToSignal c.args.phase x.reg =
+    let known : (x : Entry) → slice_get r.table c.args.place ≡ Some x → IsToSignal c.args.phase x.reg =
     rw (← c.self.view_is) at c.requires.line in
-    let is = told e line.1 in
+    let is = known e line.1 in
     let low : c.args.phase + 1 < length r.signallers = rw (← c.self.view_is) at c.requires.phase in
     let written = c.signal.ensures e line.1 in
     let roll : IsRoll (set r.table c.args.place (line_signalled e c.args.proposes)) c.advance.new.self

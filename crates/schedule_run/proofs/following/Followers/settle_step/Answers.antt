@@ -26,4 +26,4 @@ pub returns-in-Make : goal.returns-in-Make
 returns-in-Make c = λ p w asked own.
     let a = c.in-Make in
     made_by p w c.args.task c.args.phaser a.field-0 a.field-1 a.field-2 c.args.step
-    (seat_of c.tell_made.new.self.seats) a.is own (c.tell_made.ensures p w a.field-1 a.field-2 asked)
+    (seat_of c.report_made.new.self.seats) a.is own (c.report_made.ensures p w a.field-1 a.field-2 asked)

@@ -19,10 +19,10 @@ returns-in-Made-clause-stands c p w st idle =
     let given = c.next_act-act.ensures.given p w st.bodies in
     let is : a ≡ tried p w t (unused p.limits w) =
     next_tried p w t c.own_pairs-own.result (numbers_view c.unused-new.result) c.next_act-act.result a c.tried_of-tried.ensures (c.own_pairs-own.ensures w st.recorded.stands) drawn given in
-    let told : Made ≡ outcome_of (reply p.limits w (event_of t a)) =
+    let known : Made ≡ outcome_of (reply p.limits w (event_of t a)) =
     subst (λ (e : WorldEvent). Made ≡ outcome_of (reply p.limits w e)) c.made.ensures (sym c.in-Made.is ∙ c.in_ok-make.ensures.outcome p.limits w st.recorded) in
-    let accepted = begun_accepted p w t old st idle a is told in
-    begun_made p w t old st idle a is (record { recorded = c.make.new.self; bodies = c.settle.new.bodies }) told
+    let accepted = begun_accepted p w t old st idle a is known in
+    begun_made p w t old st idle a is (record { recorded = c.make.new.self; bodies = c.settle.new.bodies }) known
     (subst (λ (e : WorldEvent). Records p.limits (after w e (reply p.limits w e)) c.make.new.self.world c.make.new.self.trace) c.made.ensures (c.in_ok-make.ensures.stands p.limits w st.recorded))
     (subst (λ (n : Numbers). BodiesStand p (event_of t (tried p w t n) ∷ w) c.settle.new.bodies.seats.items) drawn
     (c.settle.ensures.stand p w (c.next_act-act.ensures.asked p w st.bodies) (c.next_act-act.ensures.places ∙ st.places) given

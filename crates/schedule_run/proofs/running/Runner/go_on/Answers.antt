@@ -12,9 +12,9 @@ pub returns-in-Made-clause-stands : goal.returns-in-Made-clause-stands
 returns-in-Made-clause-stands c p w st busy born under =
     let e = c.in-Some.event in
     let due : next_event p.limits c.args.task w ≡ Some e = next_due p w c.args.task c.args.self.now c.next_event.result st (c.next_event.ensures w st.recorded.stands) ∙ c.in-Some.is in
-    let told : Made ≡ outcome_of (reply p.limits w e) = sym c.in-Made.is ∙ c.in_ok-make.ensures.outcome p.limits w st.recorded in
+    let known : Made ≡ outcome_of (reply p.limits w e) = sym c.in-Made.is ∙ c.in_ok-make.ensures.outcome p.limits w st.recorded in
     gone_on p w c.args.task c.args.self.now st busy born under e due (record { recorded = c.make.new.self; bodies = c.args.self.now.bodies })
-    (λ x h. not_made x (told ∙ sym h)) (c.in_ok-make.ensures.stands p.limits w st.recorded) refl
+    (λ x h. not_made x (known ∙ sym h)) (c.in_ok-make.ensures.stands p.limits w st.recorded) refl
   where
     not_made : (x : Refusal) → Made ≡ Refused x → ⊥
     not_made x h = absurd cc
@@ -23,9 +23,9 @@ pub returns-in-Waits-clause-stands : goal.returns-in-Waits-clause-stands
 returns-in-Waits-clause-stands c p w st busy born under =
     let e = c.in-Some.event in
     let due : next_event p.limits c.args.task w ≡ Some e = next_due p w c.args.task c.args.self.now c.next_event.result st (c.next_event.ensures w st.recorded.stands) ∙ c.in-Some.is in
-    let told : Waits ≡ outcome_of (reply p.limits w e) = sym c.in-Waits.is ∙ c.in_ok-make.ensures.outcome p.limits w st.recorded in
+    let known : Waits ≡ outcome_of (reply p.limits w e) = sym c.in-Waits.is ∙ c.in_ok-make.ensures.outcome p.limits w st.recorded in
     gone_on p w c.args.task c.args.self.now st busy born under e due (record { recorded = c.make.new.self; bodies = c.args.self.now.bodies })
-    (λ x h. not_waiting x (told ∙ sym h)) (c.in_ok-make.ensures.stands p.limits w st.recorded) refl
+    (λ x h. not_waiting x (known ∙ sym h)) (c.in_ok-make.ensures.stands p.limits w st.recorded) refl
   where
     not_waiting : (x : Refusal) → Waits ≡ Refused x → ⊥
     not_waiting x h = absurd cc

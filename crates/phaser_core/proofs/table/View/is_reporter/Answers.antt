@@ -14,7 +14,7 @@ use Rattle.phase_model.specs.Replies.{reply, refused, settled}
 use Rattle.phase_model.specs.declared.call.Call.TheVariants.{SingleDone as single_done}
 use Rattle.phase_model.proofs.Reserves.{did_has_room}
 use Rattle.phase_model.proofs.Replied.{done_is_allowed}
-use Rattle.phaser_core.proofs.view.View.is_reporter.Goals as goal
+use Rattle.phaser_core.proofs.table.View.is_reporter.Goals as goal
 
 no_cause : (a b d room : Bool) (r : Refusal) (e : Event) → (a && b && not d) ≡ true → room ≡ true
     → settled (first_refusal ((NotRegistered, a) ∷ (NotNow, b) ∷ (NotNow, not d) ∷ [])) false room e
@@ -36,11 +36,11 @@ pub returns-in-Err-clause-reports : goal.returns-in-Err-clause-reports
 returns-in-Err-clause-reports c =
     let s = c.args.self.now.history.now in
     let t = c.args.task in
-    let told : reply s (single_done t) ≡ refused c.in-Err.field-0 = c.in-Err.ensures.refused in
+    let known : reply s (single_done t) ≡ refused c.in-Err.field-0 = c.in-Err.ensures.refused in
     elim (cases_Bool (is_permitted s.limits s.ops s.past (Did t))) [
       | inl e ↦
           absurd (no_cause (is_live t s.past) (has_claimed t (waits t s.past) s.past)
           (is_done (waits t s.past) s.past) (has_room s.limits (Did t ∷ s.past)) c.in-Err.field-0 (Did t)
-          e (did_has_room s.limits s.ops s.past c.args.self.now.stands.legal t e) told)
+          e (did_has_room s.limits s.ops s.past c.args.self.now.stands.legal t e) known)
       | inr e ↦ sym e
     ]

@@ -1,11 +1,11 @@
--- Where the task has a line, the line tells; a task that isn't live may claim nothing.
+-- Where the task has a line, the line answers; a task that isn't live may claim nothing.
 use Rattle.std.proofs.Common.{◌≡◌, Bool, true, false, cond, Option, Some, None, is_some, refl, sym, ap, ◌∙◌}
 use Rattle.single_state.specs.declared.statement.Statement.{Statement}
 use Rattle.single_state.specs.Single.{claimed}
 use Rattle.phaser_core.specs.Turns.{claims}
 use Rattle.phaser_core.proofs.Reading.{not_live, found_in}
 use Rattle.phaser_core.proofs.Claiming.{claims_is}
-use Rattle.phaser_core.proofs.view.View.is_claimer.Goals as goal
+use Rattle.phaser_core.proofs.table.View.is_claimer.Goals as goal
 
 some_by : (b : Bool) (x : Option Statement) → is_some (cond b (Some x) None) ≡ b
 some_by true x = refl
