@@ -12,7 +12,6 @@ pub mod LimitsStay
 pub mod SignalMade
 pub mod Chains
 pub mod OpenMade
-pub mod SpawnKept
 pub mod SpawnMade
 pub mod NextRead
 pub mod FinishCalls

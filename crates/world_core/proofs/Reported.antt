@@ -1,9 +1,8 @@
 -- What a world's tables are reported as is the report of each history for which they stand.
-use Rattle.std.proofs.Common.{◌≡◌, ℕ, zero, suc, Bool, not, List, [], ◌∷◌, get_or, map, length, refl, sym, ap, ◌∙◌}
+use Rattle.std.proofs.Common.{◌≡◌, ℕ, zero, suc, not, List, [], ◌∷◌, get_or, map, length, refl, ap, ◌∙◌}
 use Rattle.std.specs.Prelude.{filter, Option}
 use Rattle.std.proofs.lemmas.List.Elements.{filter_agree}
 use Rattle.phase_modes.specs.declared.limits.Limits.{Limits}
-use Rattle.phase_modes.specs.Limits.{default_limits}
 use Rattle.phase_modes.specs.Lists.{is_empty}
 use Rattle.phase_model.specs.declared.event.Event.{Event}
 use Rattle.phase_model.specs.Rules.{Story}
@@ -12,7 +11,7 @@ use Rattle.finish_core.specs.Finish.{FinishStory, fresh, spawned_tasks}
 use Rattle.world_model.specs.declared.event.WorldEvent.{WorldEvent}
 use Rattle.world_model.specs.Numbers.{is_phaser, is_finish}
 use Rattle.world_model.specs.Parts.{phaser_past, finish_past}
-use Rattle.world_model.specs.Report.{PhaserReport, Report, below, phaser_lines, task_line, finish_line, totals_line, report_of}
+use Rattle.world_model.specs.Report.{Report, below, phaser_lines, task_line, finish_line, totals_line, report_of}
 use Rattle.world_model.specs.Tasks.{is_born}
 use Rattle.report_lines.specs.Lines.{lines_of}
 use Rattle.world_core.specs.WorldState.{WorldState}

@@ -34,7 +34,6 @@ impl Tables {
         line.is_to_drop(actor, phaser, task)
     }
 
-    #[tactic(auto, using(crate::proofs::Calls::kept))]
     /// Drops a task from a phaser. A number without a phaser knows no task.
     fn drop_on(&mut self, phaser: u32, task: u32) -> Result<(), Refusal>
         ensures reply { result ≡ done_result (reply (story_at self.old phaser) (drop_task task)) }

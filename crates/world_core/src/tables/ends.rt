@@ -55,7 +55,6 @@ impl Tables {
         }
     }
 
-    #[tactic(auto, using(crate::proofs::FinishCalls::finish_kept))]
     /// Notes in a finish that the task has ended.
     fn end_in(&mut self, finish: u32, task: u32) -> Result<(), Refusal>
         ensures reply { result ≡ said (finish_at self.old finish) (FinishEvent.Ended task) }
@@ -127,7 +126,6 @@ impl Tables {
         state.all_ended()
     }
 
-    #[tactic(auto, using(crate::proofs::FinishCalls::finish_kept))]
     /// Shuts a finish in which all tasks have ended.
     fn shut_in(&mut self, finish: u32) -> Result<(), Refusal>
         ensures reply { result ≡ said (finish_at self.old finish) FinishEvent.Shut }

@@ -57,7 +57,6 @@ impl Tables {
         Ok(())
     }
 
-    #[tactic(auto, using(crate::proofs::PhasersKept::make_kept))]
     /// Asks a phaser to be made.
     fn make_on(&mut self, phaser: u32, task: u32, mode: Mode, ops: Ops) -> Result<(), Refusal>
         requires { phaser < length self.old.phasers }

@@ -37,7 +37,6 @@ impl Tables {
         Ok(())
     }
 
-    #[tactic(auto, using(crate::proofs::PhasersKept::look_kept))]
     /// Looks at an accumulator of a phaser for a task. A number without a phaser knows no task.
     fn look_on(&mut self, phaser: u32, task: u32, accumulator: u8) -> Result<Look, Refusal>
         ensures reply { result ≡ look_result (reply (story_at self.old phaser) (look task accumulator)) }

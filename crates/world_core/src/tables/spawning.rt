@@ -34,7 +34,6 @@ impl Tables {
         line.is_to_spawn(finish, child)
     }
 
-    #[tactic(auto, using(crate::proofs::SpawnKept::spawn_kept))]
     /// Asks a finish to note a spawn. A number without a finish has none open.
     fn spawn_in(&mut self, finish: u32, child: u32) -> Result<(), Refusal>
         ensures reply { result ≡ answer (finish_at self.old finish).tasks (finish_at self.old finish).past

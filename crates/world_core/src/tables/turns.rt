@@ -12,7 +12,6 @@ use phaser_core::Passing;
 use world_model::{Reply, Step, WorldEvent};
 
 impl Tables {
-    #[tactic(auto, using(crate::proofs::Calls::kept))]
     /// Signals on a phaser for a task. A number without a phaser knows no task.
     fn signal_on(&mut self, phaser: u32, task: u32, number: Option<u32>) -> Result<(), Refusal>
         ensures reply { result ≡ done_result (reply (story_at self.old phaser) (signal task number)) }
@@ -66,7 +65,6 @@ impl Tables {
         self.signal_due(phaser, task, number)
     }
 
-    #[tactic(auto, using(crate::proofs::Calls::pass_kept))]
     /// Passes a phaser for a task, or claims its single.
     fn pass_on(&mut self, phaser: u32, task: u32) -> Result<Passing, Refusal>
         ensures reply { result ≡ passed_on self.old phaser task }
@@ -145,7 +143,6 @@ impl Tables {
         self.pass_due(phaser, task)
     }
 
-    #[tactic(auto, using(crate::proofs::Calls::kept))]
     /// Reports the single of a phaser done for a task.
     fn report_on(&mut self, phaser: u32, task: u32) -> Result<(), Refusal>
         ensures reply { result ≡ done_result (reply (story_at self.old phaser) (single_done task)) }

@@ -1,5 +1,5 @@
 -- The three tables' lines are those of the state.
-use Rattle.std.proofs.Common.{◌≡◌, List, map, ap, ◌∙◌}
+use Rattle.std.proofs.Common.{List, map, ap, ◌∙◌}
 use Rattle.phase_model.specs.Rules.{Story}
 use Rattle.finish_core.specs.Finish.{FinishStory}
 use Rattle.world_model.specs.Report.{totals_line}
