@@ -1,11 +1,10 @@
 //! The totals of a report: of one event more, and of one phaser more.
 ghost use Rattle.std.specs.Prelude.{◌≡◌, ◌≤◌, ◌+◌, ℕ, []};
-ghost use Rattle.phase_model.specs.Amounts.{up_of, down_of};
 ghost use Rattle.world_model.specs.Report.{totals_line};
 ghost use Rattle.report_lines.specs.Lines.{IsWithin, plus};
 ghost use Rattle.report_lines.specs.inner.Totals.{totals_with, totals_sent};
 
-use phase_model::Event;
+use phase_model::{Event, down_of, up_of};
 use world_model::TotalsLine;
 
 /// The totals of no phaser.
@@ -80,29 +79,5 @@ fn with_value(totals: TotalsLine, value: i32) -> TotalsLine
         up: totals.up + up_of(value),
         down: totals.down + down_of(value),
         ..totals
-    }
-}
-
-/// A positive value, or 0.
-fn up_of(value: i32) -> u64
-    ensures value { result ≡ up_of value }
-    ensures bound { result ≤ 2147483648 }
-{
-    if value > 0 {
-        u64::from(value.unsigned_abs())
-    } else {
-        0
-    }
-}
-
-/// A negative value's magnitude, or 0.
-fn down_of(value: i32) -> u64
-    ensures value { result ≡ down_of value }
-    ensures bound { result ≤ 2147483648 }
-{
-    if value < 0 {
-        u64::from(value.unsigned_abs())
-    } else {
-        0
     }
 }

@@ -1,7 +1,7 @@
 //! The plain functions on histories that are written out by hand.
 use phase_model::{
-    Event, History, Look, Op, Ops, Reply, allowed, claimed, closed, did, explain, fold, live,
-    proposed, signals, waits,
+    Event, History, Look, Op, Ops, Reply, allowed, claimed, closed, did, down_of, explain, fold,
+    live, proposed, signals, up_of, waits,
 };
 use phase_modes::{Limits, Mode, Refusal};
 use std::alloc::Global;
@@ -174,5 +174,14 @@ fn replies_are_printed(rt: HostRuntime) -> Result<(), Fail> {
         let printed = reply.to_string(rt.alloc())?;
         assert_eq!(rt; printed.as_str(), line);
     }
+    Ok(())
+}
+
+#[test]
+fn values_weigh_upwards_or_downwards(rt: HostRuntime) -> Result<(), Fail> {
+    assert_eq!(rt; (up_of(5), down_of(5)), (5, 0));
+    assert_eq!(rt; (up_of(0), down_of(0)), (0, 0));
+    assert_eq!(rt; (up_of(-5), down_of(-5)), (0, 5));
+    assert_eq!(rt; down_of(i32::MIN), 2_147_483_648);
     Ok(())
 }
