@@ -3,7 +3,7 @@ use Rattle.std.specs.Prelude.{ℕ, not, List, if◌then◌else◌, Option, Some,
 use Rattle.std.specs.Str.{bytes_eq}
 use Rattle.serde_json.specs.Data.{Data, Items, no_items}
 use Rattle.serde_json.specs.Find.{at, as_array}
-use Rattle.phase_modes.specs.declared.mode.Mode.{Mode}
+use Rattle.phase_modes.specs.declared.reg.Mode.{Mode}
 use Rattle.phase_model.specs.declared.op.Op.{Op}
 use Rattle.text_words.specs.Words.{◌>>=◌, number_in, ends_at, word_at, number_at, accumulator_at, value_at, mode_at, ops_at, all_in, at_most}
 use Rattle.job_script.specs.declared.head.Head.{Head}

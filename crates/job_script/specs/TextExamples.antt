@@ -2,7 +2,7 @@
 use Rattle.std.specs.Prelude.{ℕ, zero, suc, ◌+◌, ◌%◌, ◌/◌, ◌≡◌, List, [], ◌∷◌, ◌++◌, Ok, Err, codes, replicate}
 use Rattle.serde_json.specs.Data.{Data, Items, no_items, item, null, number, string, array, object, no_members, member, unsigned}
 use Rattle.phase_modes.specs.Limits.{default_limits}
-use Rattle.phase_modes.specs.declared.mode.Mode.TheVariants.{SigWait}
+use Rattle.phase_modes.specs.declared.reg.Mode.TheVariants.{SigWait}
 use Rattle.job_script.specs.declared.head.Head.TheVariants.{Next, New, Repeat}
 use Rattle.job_script.specs.Acts.{no_acts, act}
 use Rattle.job_script.specs.Form.{form}

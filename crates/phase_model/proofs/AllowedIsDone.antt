@@ -3,7 +3,7 @@ use Rattle.std.proofs.Common.{◌≡◌, ℕ, Bool, true, false, ◌||◌, ◌&&
 use Rattle.std.proofs.lemmas.Bool.{and_parts, cases_Bool}
 use Rattle.phase_modes.specs.Mode.{can_wait}
 use Rattle.phase_modes.specs.Refusal.{are_met}
-use Rattle.phase_model.specs.declared.event.Event.TheVariants.{Claim, Pass}
+use Rattle.phase_model.specs.declared.history.Event.TheVariants.{Claim, Pass}
 use Rattle.phase_model.specs.Tasks.{has_mode}
 use Rattle.phase_model.specs.Phases.{waits, is_closed}
 use Rattle.phase_model.specs.Singles.{is_settled}

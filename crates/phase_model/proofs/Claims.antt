@@ -3,8 +3,8 @@
 use Rattle.std.proofs.Common.{◌≡◌, ℕ, ◌+◌, ◌<◌, Bool, true, false, ◌&&◌, ◌==◌, List, [], ◌∷◌, sym, ◌∙◌, inl, inr, subst}
 use Rattle.std.proofs.lemmas.Bool.{eqb-true, and_parts, or_cases, or_left, or_right, false≢true}
 use Rattle.phase_modes.specs.declared.limits.Limits.{Limits}
-use Rattle.phase_model.specs.declared.event.Event.{Event}
-use Rattle.phase_model.specs.declared.event.Event.TheVariants.{Claim, Did}
+use Rattle.phase_model.specs.declared.history.Event.{Event}
+use Rattle.phase_model.specs.declared.history.Event.TheVariants.{Claim, Did}
 use Rattle.phase_model.specs.declared.op.Op.{Op}
 use Rattle.phase_model.specs.Phases.{waits}
 use Rattle.phase_model.specs.Singles.{is_proposed, has_claimed, is_claimed, is_done}

@@ -3,8 +3,8 @@
 use Rattle.std.proofs.Common.{◌≡◌, ℕ, ◌+◌, ◌<◌, ◌==◌, Bool, true, false, ◌||◌, ◌&&◌, not, cond, List, [], ◌∷◌, Option, Some, None, refl, ap, sym, ◌∙◌, arith, inl, inr}
 use Rattle.std.proofs.lemmas.Bool.{cases_Bool, cases_lt, eq-eqb, ne_eqb, and_parts, and_from, or_parts, or_from, not-true, false≢true}
 use Rattle.phase_modes.specs.Mode.{can_signal}
-use Rattle.phase_model.specs.declared.event.Event.{Event}
-use Rattle.phase_model.specs.declared.event.Event.TheVariants.{Sig, Drop}
+use Rattle.phase_model.specs.declared.history.Event.{Event}
+use Rattle.phase_model.specs.declared.history.Event.TheVariants.{Sig, Drop}
 use Rattle.phase_model.specs.Tasks.{is_live, is_registered, is_dropped, has_mode}
 use Rattle.phase_model.specs.Phases.{waits, signals, is_closed}
 use Rattle.phase_model.specs.Singles.{has_proposed, is_proposed, is_done, is_claimed, is_settled}

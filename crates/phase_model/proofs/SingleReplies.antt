@@ -4,8 +4,8 @@ use Rattle.std.proofs.lemmas.Bool.{and_from, and_parts, and_right, or_right, eq-
 use Rattle.phase_modes.specs.declared.refusal.Refusal.TheVariants.{NotRegistered, HistoryFull, NotNow}
 use Rattle.phase_modes.specs.Mode.{can_signal, can_wait}
 use Rattle.phase_modes.specs.Refusal.{are_met}
-use Rattle.phase_model.specs.declared.event.Event.{Event}
-use Rattle.phase_model.specs.declared.event.Event.TheVariants.{Claim, Did, Pass, Drop}
+use Rattle.phase_model.specs.declared.history.Event.{Event}
+use Rattle.phase_model.specs.declared.history.Event.TheVariants.{Claim, Did, Pass, Drop}
 use Rattle.phase_model.specs.Tasks.{is_live, has_mode}
 use Rattle.phase_model.specs.Phases.{waits, signals}
 use Rattle.phase_model.specs.Singles.{has_claimed, is_done, owes_nothing}

@@ -8,8 +8,8 @@ use Rattle.phase_modes.specs.declared.refusal.Refusal.TheVariants.{NotRegistered
 use Rattle.phase_modes.specs.Refusal.{first_refusal}
 use Rattle.phase_modes.specs.Lists.{is_empty}
 use Rattle.phase_modes.specs.Mode.{can_signal, can_wait}
-use Rattle.phase_model.specs.declared.event.Event.{Event}
-use Rattle.phase_model.specs.declared.event.Event.TheVariants.{Make, Reg, Sig, Claim, Did, Pass, Send, Look, Drop}
+use Rattle.phase_model.specs.declared.history.Event.{Event}
+use Rattle.phase_model.specs.declared.history.Event.TheVariants.{Make, Reg, Sig, Claim, Did, Pass, Send, Look, Drop}
 use Rattle.phase_model.specs.Tasks.{is_live, is_registered, is_dropped, has_mode, mode_of, live_tasks}
 use Rattle.phase_model.specs.Phases.{waits, signals, is_past, is_closed}
 use Rattle.phase_model.specs.Singles.{has_proposed, is_claimed, is_settled}

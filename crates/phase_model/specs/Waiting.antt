@@ -1,7 +1,7 @@
 -- Who waits, and which events can let a waiting task go on.
 use Rattle.std.specs.Prelude.{ℕ, ◌≡◌, Bool, true, false, ◌&&◌, not, ◌∷◌}
-use Rattle.phase_model.specs.declared.event.Event.{Event}
-use Rattle.phase_model.specs.declared.event.Event.TheVariants.{Sig, Did, Drop}
+use Rattle.phase_model.specs.declared.history.Event.{Event}
+use Rattle.phase_model.specs.declared.history.Event.TheVariants.{Sig, Did, Drop}
 use Rattle.phase_model.specs.Tasks.{is_live}
 use Rattle.phase_model.specs.Phases.{waits, is_closed}
 use Rattle.phase_model.specs.Rules.{Story, with_event, is_legal}

@@ -3,7 +3,7 @@
 ghost use Rattle.std.specs.Prelude.{◌≡◌, ◌≤◌, ◌∷◌, [], length, reverse, IfNone, IfSome};
 ghost use Rattle.phase_modes.specs.Lists.{is_empty};
 
-use crate::event::Event;
+use crate::history::Event;
 use std::marker::Model;
 
 /// The stored events, the oldest first, and the event after them that is not stored, if there is
@@ -16,7 +16,7 @@ pub(crate) struct Past<'a> {
 
 impl<'a> Model for Past<'a> {
     ghost use Rattle.std.specs.Prelude.{List, ◌≤◌, length, reverse};
-    ghost use Rattle.phase_model.specs.declared.event.Event.{Event};
+    ghost use Rattle.phase_model.specs.declared.history.Event.{Event};
     ghost use Rattle.phase_model.specs.inner.Next.{with_next};
 
     ghost Value = { List Event };

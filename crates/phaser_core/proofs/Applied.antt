@@ -1,8 +1,8 @@
 -- What the methods of a phaser return, as a reply, is what the caller gets of the definition's reply.
 use Rattle.std.proofs.Common.{◌≡◌, ℕ, List, Bool, true, false, Option, None, Some, if◌then◌else◌, refl, sym}
 use Rattle.phase_modes.specs.declared.refusal.Refusal.{Refusal}
-use Rattle.phase_model.specs.declared.event.Event.{Event}
-use Rattle.phase_model.specs.declared.event.Event.TheVariants.{Claim, Pass, Look as Looked}
+use Rattle.phase_model.specs.declared.history.Event.{Event}
+use Rattle.phase_model.specs.declared.history.Event.TheVariants.{Claim, Pass, Look as Looked}
 use Rattle.phase_model.specs.declared.op.Look.{Look}
 use Rattle.phase_model.specs.declared.call.Reply.TheVariants.{Done}
 use Rattle.phase_model.specs.Replies.{settled, done_result, returned, returned_for}

@@ -1,7 +1,7 @@
 -- The operators of a phaser that nobody has made may be fixed.
 use Rattle.std.proofs.Common.{◌≡◌, List, [], Option, refl, ap, sym, subst, ◌∙◌, arith}
 use Rattle.phase_modes.specs.declared.limits.Limits.{Limits}
-use Rattle.phase_model.specs.declared.event.Event.{Event}
+use Rattle.phase_model.specs.declared.history.Event.{Event}
 use Rattle.phase_model.specs.declared.op.Op.{Op}
 use Rattle.phase_model.specs.Rules.{Story}
 use Rattle.single_state.specs.declared.statement.Statement.{Statement}

@@ -1,7 +1,7 @@
 -- Which task numbers are known after each event.
 use Rattle.std.proofs.Common.{◌≡◌, ℕ, ◌==◌, false, ◌||◌, List, [], ap, sym, ◌∙◌, refl}
 use Rattle.phase_modes.specs.declared.limits.Limits.{Limits}
-use Rattle.phase_model.specs.declared.event.Event.{Event}
+use Rattle.phase_model.specs.declared.history.Event.{Event}
 use Rattle.phase_model.specs.declared.op.Op.{Op}
 use Rattle.phase_model.specs.Tasks.{registers, is_registered}
 use Rattle.phase_model.specs.Rules.{Story, with_event}

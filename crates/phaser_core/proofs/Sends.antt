@@ -2,7 +2,7 @@
 use Rattle.std.proofs.Common.{◌≡◌, ℕ, nat_lt, true, false, ◌∷◌, None, length, ℤ, refl}
 use Rattle.phase_modes.specs.declared.refusal.Refusal.TheVariants.{NotRegistered, NoSignal, NoWait, NoAccumulator, NoPhaseYet}
 use Rattle.phase_modes.specs.Mode.{can_signal, can_wait}
-use Rattle.phase_model.specs.declared.event.Event.TheVariants.{Send, Look as Looked}
+use Rattle.phase_model.specs.declared.history.Event.TheVariants.{Send, Look as Looked}
 use Rattle.phase_model.specs.Tasks.{is_live, has_mode}
 use Rattle.phase_model.specs.Phases.{waits}
 use Rattle.phase_model.specs.Rules.{Story, has_room, look_of}

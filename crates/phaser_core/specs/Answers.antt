@@ -2,8 +2,8 @@
 use Rattle.std.specs.Prelude.{List, ◌∷◌, Result, Ok, Err, unwrap_or}
 use Rattle.phase_modes.specs.declared.refusal.Refusal.{Refusal}
 use Rattle.phase_modes.specs.declared.refusal.Refusal.TheVariants.{NotNow}
-use Rattle.phase_model.specs.declared.event.Event.{Event}
-use Rattle.phase_model.specs.declared.event.Event.TheVariants.{Pass, Claim, Look as Looked}
+use Rattle.phase_model.specs.declared.history.Event.{Event}
+use Rattle.phase_model.specs.declared.history.Event.TheVariants.{Pass, Claim, Look as Looked}
 use Rattle.phase_model.specs.declared.op.Look.{Look}
 use Rattle.phase_model.specs.Phases.{waits}
 use Rattle.phase_model.specs.Singles.{number_of}

@@ -1,8 +1,8 @@
 -- A phaser whose accumulators are known from the start, and one that learns of them as it is made.
 use Rattle.std.specs.Prelude.{ℕ, ◌≡◌, List, []}
 use Rattle.phase_modes.specs.declared.limits.Limits.{Limits}
-use Rattle.phase_modes.specs.declared.mode.Mode.{Mode}
-use Rattle.phase_model.specs.declared.event.Event.{Event}
+use Rattle.phase_modes.specs.declared.reg.Mode.{Mode}
+use Rattle.phase_model.specs.declared.history.Event.{Event}
 use Rattle.phase_model.specs.declared.op.Op.{Op}
 use Rattle.phase_model.specs.declared.call.Call.TheVariants.{Make as make}
 use Rattle.phase_model.specs.Rules.{Story}

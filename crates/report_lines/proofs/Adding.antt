@@ -2,8 +2,8 @@
 use Rattle.std.proofs.Common.{◌≡◌, ℕ, ◌+◌, Bool, cond, List, [], ◌∷◌, ◌++◌, refl, arith}
 use Rattle.std.specs.Prelude.{sum_by, count_by, is_some}
 use Rattle.std.proofs.lemmas.List.Sums.{sum_by-cons, sum_by_push}
-use Rattle.phase_model.specs.declared.event.Event.{Event}
-use Rattle.phase_model.specs.declared.event.Event.TheVariants.{Make, Reg, Sig, Claim, Did, Pass, Send, Look, Drop}
+use Rattle.phase_model.specs.declared.history.Event.{Event}
+use Rattle.phase_model.specs.declared.history.Event.TheVariants.{Make, Reg, Sig, Claim, Did, Pass, Send, Look, Drop}
 use Rattle.phase_model.specs.Tasks.{registered_by}
 use Rattle.phase_model.specs.Amounts.{totals}
 use Rattle.world_model.specs.declared.report.TotalsLine.{TotalsLine}

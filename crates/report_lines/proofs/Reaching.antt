@@ -1,8 +1,8 @@
 -- How far a history came: no task is past its phases, and it has no more phases than events.
 use Rattle.std.proofs.Common.{◌≡◌, ℕ, ◌≤◌, ◌==◌, ◌&&◌, true, false, if◌then◌else◌, List, [], ◌∷◌, length, ap, arith, inl, inr, refl}
 use Rattle.std.proofs.lemmas.Bool.{cases_Bool, eqb-true, ne_eqb}
-use Rattle.phase_model.specs.declared.event.Event.{Event}
-use Rattle.phase_model.specs.declared.event.Event.TheVariants.{Make, Reg, Sig, Claim, Did, Pass, Send, Look, Drop}
+use Rattle.phase_model.specs.declared.history.Event.{Event}
+use Rattle.phase_model.specs.declared.history.Event.TheVariants.{Make, Reg, Sig, Claim, Did, Pass, Send, Look, Drop}
 use Rattle.phase_model.specs.Phases.{signals, waits}
 use Rattle.phase_model.specs.Values.{sent}
 use Rattle.world_model.specs.Report.{phase_count}

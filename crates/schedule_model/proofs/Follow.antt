@@ -2,8 +2,8 @@
 use Rattle.std.proofs.Common.{ℕ, zero, suc, ◌+◌, ◌≡◌, Bool, true, false, ◌&&◌, ◌==◌, not, List, [], ◌∷◌, map, Option, Some, None, Result, Ok, Err, refl, sym, subst, if◌then◌else◌}
 use Rattle.std.proofs.lemmas.Cmp.{int_eq_equiv}
 use Rattle.std.proofs.lemmas.Bool.{and_from, eq-eqb}
-use Rattle.phase_modes.specs.declared.mode.Mode.{Mode}
-use Rattle.phase_modes.specs.declared.mode.Mode.TheVariants as modes
+use Rattle.phase_modes.specs.declared.reg.Mode.{Mode}
+use Rattle.phase_modes.specs.declared.reg.Mode.TheVariants as modes
 use Rattle.phase_modes.specs.declared.phased.Pair.{Pair}
 use Rattle.phase_modes.specs.declared.refusal.Refusal.{Refusal}
 use Rattle.phase_modes.specs.Refusal.{number_of}

@@ -5,8 +5,8 @@ use Rattle.std.specs.List.{list_any, list_all}
 use Rattle.std.specs.Option.{option_map_or}
 use Rattle.std.proofs.lemmas.Bool.{and_parts, and_from, or_cases, cases_Bool, eqb-true, not-true, true≢false, false≢true}
 use Rattle.phase_modes.specs.Limits.{limits_fit}
-use Rattle.phase_modes.specs.declared.mode.Mode.{Mode}
-use Rattle.phase_modes.specs.declared.mode.Mode.TheVariants as modes
+use Rattle.phase_modes.specs.declared.reg.Mode.{Mode}
+use Rattle.phase_modes.specs.declared.reg.Mode.TheVariants as modes
 use Rattle.phase_modes.specs.declared.limits.Limits.{Limits}
 use Rattle.phase_modes.specs.declared.refusal.Refusal.{Refusal}
 use Rattle.phase_modes.specs.declared.refusal.Refusal.TheVariants.{SingleMismatch, RegsFull, HistoryFull}
@@ -15,8 +15,8 @@ use Rattle.job_script.specs.declared.head.Head.{Head}
 use Rattle.job_script.specs.declared.head.Head.TheVariants as acts
 use Rattle.job_script.specs.Acts.{Act}
 use Rattle.job_script.specs.Program.{Program}
-use Rattle.phase_model.specs.declared.event.Event.{Event}
-use Rattle.phase_model.specs.declared.event.Event.TheVariants.{Reg as Registered}
+use Rattle.phase_model.specs.declared.history.Event.{Event}
+use Rattle.phase_model.specs.declared.history.Event.TheVariants.{Reg as Registered}
 use Rattle.phase_model.specs.Conditions.{conditions}
 use Rattle.phase_model.specs.declared.call.Call.TheVariants.{Make as make, Register as register, Signal as signal, Pass as pass, SingleDone as single_done, Send as send, Look as look, Drop as drop_task}
 use Rattle.phase_model.specs.Replies.{settled}

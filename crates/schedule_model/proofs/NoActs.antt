@@ -4,7 +4,7 @@ use Rattle.std.specs.Prelude.{drop, filter, flat_map, slice_get, option_map, is_
 use Rattle.std.proofs.lemmas.Bool.{and_from, and_parts}
 use Rattle.phase_modes.specs.declared.limits.Limits.{Limits}
 use Rattle.phase_modes.specs.declared.phased.Pair.{Pair}
-use Rattle.phase_model.specs.declared.event.Event.TheVariants.{Claim as Claimed, Did as Done}
+use Rattle.phase_model.specs.declared.history.Event.TheVariants.{Claim as Claimed, Did as Done}
 use Rattle.phase_model.specs.Rules.{is_permitted}
 use Rattle.finish_core.specs.declared.event.FinishEvent.TheVariants.{Spawned, Ended, Shut as Shutting}
 use Rattle.world_model.specs.declared.event.Step.TheVariants.{Reg, Sig, Claim, Did, Pass, Drop}

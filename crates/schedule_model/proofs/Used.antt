@@ -8,7 +8,7 @@ use Rattle.phase_modes.specs.Limits.{limits_fit}
 use Rattle.phase_modes.specs.declared.limits.Limits.{Limits}
 use Rattle.phase_modes.specs.declared.refusal.Refusal.TheVariants.{NotNow, ActsFull, PhasersFull, FinishesFull, TasksFull}
 use Rattle.phase_modes.specs.Refusal.{first_refusal}
-use Rattle.phase_model.specs.declared.event.Event.{Event}
+use Rattle.phase_model.specs.declared.history.Event.{Event}
 use Rattle.phase_model.specs.declared.op.Op.{Op}
 use Rattle.phase_model.specs.Rules.{is_allowed}
 use Rattle.finish_core.specs.Finish.{all_ended}

@@ -2,7 +2,7 @@
 use Rattle.std.specs.Prelude.{ℕ, ◌≡◌, Bool, true, ◌&&◌, List, [], ◌∷◌, Option}
 use Rattle.phase_modes.specs.Limits.{default_limits}
 use Rattle.phase_modes.specs.declared.limits.Limits.{Limits}
-use Rattle.phase_modes.specs.declared.mode.Mode.{Mode}
+use Rattle.phase_modes.specs.declared.reg.Mode.{Mode}
 use Rattle.job_script.specs.declared.head.Head.{Head}
 use Rattle.job_script.specs.declared.head.Named.{Named}
 use Rattle.job_script.specs.Acts.{Act, Acts, no_acts, act}

@@ -2,7 +2,7 @@
 use Rattle.std.specs.Prelude.{[], ◌∷◌, Some, pos}
 use Rattle.phase_modes.specs.Limits.{default_limits}
 use Rattle.phase_modes.specs.declared.limits.Limits.{Limits}
-use Rattle.phase_modes.specs.declared.mode.Mode.TheVariants.{Sig as OnlySig, Wait as OnlyWait, SigWait}
+use Rattle.phase_modes.specs.declared.reg.Mode.TheVariants.{Sig as OnlySig, Wait as OnlyWait, SigWait}
 use Rattle.phase_model.specs.declared.op.Op.TheVariants.{Sum}
 use Rattle.job_script.specs.declared.head.Head.TheVariants.{New, Async, OpenFinish, ShutFinish, Next, NextSingle, Send}
 use Rattle.world_model.specs.ExampleWords.{ended, refused_with, in_all, phases_of, sum_is, tasks_in}

@@ -2,7 +2,7 @@
 use Rattle.std.proofs.Common.{ℕ, zero, suc, ◌≡◌, ◌≢◌, ◌<◌, Bool, true, false, ◌==◌, true≢false, List, [], ◌∷◌, ◌++◌, drop, slice_get, length, Option, Some, None, refl, sym, ap, subst, ◌∙◌, arith, le_of_suc-le-suc}
 use Rattle.std.proofs.Math.ListN.{set}
 use Rattle.std.proofs.lemmas.Bool.{eqb-true, false_from_ne_true}
-use Rattle.phase_modes.specs.declared.mode.Mode.{Mode}
+use Rattle.phase_modes.specs.declared.reg.Mode.{Mode}
 use Rattle.phase_modes.specs.declared.phased.Pair.{Pair}
 use Rattle.phase_model.specs.declared.op.Op.{Op}
 use Rattle.job_script.specs.declared.act.Answer.TheVariants.{Started, Done, Made as MadeOf}

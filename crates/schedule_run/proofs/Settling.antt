@@ -1,6 +1,6 @@
 -- The bodies of a run once an act was made that a body gave.
 use Rattle.std.proofs.Common.{ℕ, ◌≡◌, true, List, ◌∷◌, Option, refl, sym, subst, ap, ◌∙◌}
-use Rattle.phase_modes.specs.declared.mode.Mode.{Mode}
+use Rattle.phase_modes.specs.declared.reg.Mode.{Mode}
 use Rattle.phase_modes.specs.declared.phased.Pair.{Pair}
 use Rattle.phase_model.specs.declared.op.Op.{Op}
 use Rattle.job_script.specs.declared.act.Act as tasks

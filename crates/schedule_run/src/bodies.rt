@@ -1,6 +1,6 @@
 //! The tasks of a program while it runs: each task's body, and what it hears before its next act.
 ghost use Rattle.std.specs.Prelude.{◌≡◌, ◌<◌, ◌∷◌, [], List, length, IfOk, IfErr};
-ghost use Rattle.phase_modes.specs.declared.mode.Mode as modes;
+ghost use Rattle.phase_modes.specs.declared.reg.Mode as modes;
 ghost use Rattle.phase_modes.specs.declared.phased.Pair as phased;
 ghost use Rattle.phase_modes.specs.declared.refusal.Refusal.TheVariants.{Memory as NoMemory};
 ghost use Rattle.phase_model.specs.declared.op.Op as operators;

@@ -1,6 +1,6 @@
 //! Whether a trace follows a program: one pass over its events, with a seat for each task.
 ghost use Rattle.std.specs.Prelude.{◌≡◌, ℕ, ◌≤◌, ◌∷◌, [], List, length, take, true, false, Err, IfOk, IfErr};
-ghost use Rattle.phase_modes.specs.declared.mode.Mode as modes;
+ghost use Rattle.phase_modes.specs.declared.reg.Mode as modes;
 ghost use Rattle.phase_modes.specs.declared.phased.Pair as phased;
 ghost use Rattle.phase_modes.specs.declared.refusal.Refusal.TheVariants.{Memory as NoMemory};
 ghost use Rattle.phase_model.specs.declared.op.Op as operators;

@@ -1,6 +1,6 @@
 //! The phasers that a task holds, read off the events of a trace.
 ghost use Rattle.std.specs.Prelude.{◌≡◌, ◌≤◌, ◌∷◌, List, length, take};
-ghost use Rattle.phase_model.specs.declared.event.Event.{Event as PhaserEvent};
+ghost use Rattle.phase_model.specs.declared.history.Event.{Event as PhaserEvent};
 ghost use Rattle.phase_model.specs.declared.op.Op as operators;
 ghost use Rattle.world_model.specs.declared.event.WorldEvent as events;
 ghost use Rattle.world_model.specs.Drawing.{own_pairs};

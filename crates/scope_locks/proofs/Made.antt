@@ -1,8 +1,8 @@
 -- What making a phaser with operators leaves of the fact that its cell keeps.
 use Rattle.std.proofs.Common.{◌≡◌, ℕ, ◌+◌, Bool, List, [], ◌∷◌, ap, sym, refl, ◌∙◌}
 use Rattle.phase_modes.specs.declared.limits.Limits.{Limits}
-use Rattle.phase_modes.specs.declared.mode.Mode.{Mode}
-use Rattle.phase_model.specs.declared.event.Event.{Event}
+use Rattle.phase_modes.specs.declared.reg.Mode.{Mode}
+use Rattle.phase_model.specs.declared.history.Event.{Event}
 use Rattle.phase_model.specs.declared.op.Op.{Op}
 use Rattle.phase_model.specs.Amounts.{plus}
 use Rattle.phase_model.specs.Laws.{IsLegal}

@@ -6,8 +6,8 @@ use Rattle.std.proofs.lemmas.Bool.{leb-true, and_parts, and_from}
 use Rattle.phase_modes.specs.declared.refusal.Refusal.{Refusal}
 use Rattle.phase_modes.specs.Limits.{limits_fit}
 use Rattle.phase_modes.specs.Refusal.{first_refusal}
-use Rattle.phase_model.specs.declared.event.Event.{Event}
-use Rattle.phase_model.specs.declared.event.Event.TheVariants.{Make, Reg, Sig, Claim, Did, Pass, Send, Look, Drop}
+use Rattle.phase_model.specs.declared.history.Event.{Event}
+use Rattle.phase_model.specs.declared.history.Event.TheVariants.{Make, Reg, Sig, Claim, Did, Pass, Send, Look, Drop}
 use Rattle.phase_model.specs.declared.op.Look.{Look as Seen}
 use Rattle.phase_model.specs.Amounts.{Amount, amount, plus, totals}
 use Rattle.phase_model.specs.Laws.{IsLegal}

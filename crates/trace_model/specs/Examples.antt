@@ -1,7 +1,7 @@
 -- Worked examples: traces that are explained, and where changed ones are first at fault.
 use Rattle.std.specs.Prelude.{◌≡◌, ℕ, List, [], ◌∷◌, ◌++◌, Some, None, true, pos}
 use Rattle.phase_modes.specs.Limits.{default_limits}
-use Rattle.phase_modes.specs.declared.mode.Mode.TheVariants.{SigWait}
+use Rattle.phase_modes.specs.declared.reg.Mode.TheVariants.{SigWait}
 use Rattle.phase_model.specs.declared.op.Op.TheVariants.{Sum}
 use Rattle.phase_model.specs.declared.op.Look.TheVariants.{Value}
 use Rattle.finish_core.specs.declared.event.FinishEvent.TheVariants.{Opened, Spawned, Ended, Shut as Shutting}

@@ -1,7 +1,7 @@
 -- What holds of every text that is written.
 use Rattle.std.specs.Prelude.{◌≡◌, [], ◌∷◌, None, true, Ok, codes}
 use Rattle.phase_modes.specs.Limits.{limits_fit, default_limits}
-use Rattle.phase_modes.specs.declared.mode.Mode.TheVariants.{SigWait}
+use Rattle.phase_modes.specs.declared.reg.Mode.TheVariants.{SigWait}
 use Rattle.finish_core.specs.declared.event.FinishEvent.TheVariants.{Shut}
 use Rattle.world_model.specs.declared.event.Begun.TheVariants as begun
 use Rattle.trace_model.specs.declared.event.TracedStep.TheVariants as step

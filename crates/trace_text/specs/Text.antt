@@ -5,7 +5,7 @@ use Rattle.serde_json.specs.Data.{Data, null, number, string, array, object, no_
 use Rattle.serde_json.specs.Find.{of_integer}
 use Rattle.serde_json.specs.View.{items_of}
 use Rattle.serde_json.specs.Written.{compact_text, items_text}
-use Rattle.phase_modes.specs.declared.mode.Mode.{Mode}
+use Rattle.phase_modes.specs.declared.reg.Mode.{Mode}
 use Rattle.phase_modes.specs.declared.limits.Limits.{Limits}
 use Rattle.phase_modes.specs.declared.phased.Pair.{Pair}
 use Rattle.phase_modes.specs.Mode.{name_of}

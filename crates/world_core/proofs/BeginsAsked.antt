@@ -7,13 +7,13 @@ use Rattle.std.proofs.lemmas.Bool.{cases_Bool}
 use Rattle.std.proofs.lemmas.List.Folds.{list_any-append}
 use Rattle.phase_modes.specs.Lists.{is_empty, is_one}
 use Rattle.phase_modes.specs.Mode.{can_single, is_within}
-use Rattle.phase_modes.specs.declared.mode.Mode.{Mode}
-use Rattle.phase_modes.specs.declared.mode.Mode.TheVariants.{Wait as Waiting}
+use Rattle.phase_modes.specs.declared.reg.Mode.{Mode}
+use Rattle.phase_modes.specs.declared.reg.Mode.TheVariants.{Wait as Waiting}
 use Rattle.phase_modes.specs.declared.phased.Pair.{Pair}
 use Rattle.phase_modes.specs.declared.refusal.Refusal.{Refusal}
 use Rattle.phase_modes.specs.declared.refusal.Refusal.TheVariants.{NotRegistered, AlreadySignalled, NotSignalled, MoreThanParent, OutsideScope, RegisteredTwice, TasksFull, FinishOpen, NoFinish}
 use Rattle.phase_modes.specs.Refusal.{first_refusal}
-use Rattle.phase_model.specs.declared.event.Event.{Event}
+use Rattle.phase_model.specs.declared.history.Event.{Event}
 use Rattle.phase_model.specs.Tasks.{is_live, mode_of, has_mode}
 use Rattle.phase_model.specs.Conditions.{is_within_task}
 use Rattle.phaser_core.specs.Table.{registration}

@@ -5,8 +5,8 @@ use Rattle.phase_modes.specs.Lists.{is_empty}
 use Rattle.finish_core.specs.declared.event.FinishEvent.{FinishEvent}
 use Rattle.phase_modes.specs.declared.refusal.Refusal.{Refusal}
 use Rattle.phase_model.specs.Rules.{Story, is_permitted}
-use Rattle.phase_model.specs.declared.event.Event.{Event}
-use Rattle.phase_model.specs.declared.event.Event.TheVariants.{Claim, Pass}
+use Rattle.phase_model.specs.declared.history.Event.{Event}
+use Rattle.phase_model.specs.declared.history.Event.TheVariants.{Claim, Pass}
 use Rattle.phaser_core.specs.Answers.{pass_result}
 use Rattle.phase_model.specs.Replies.{Reply, refused, not_yet, done, settled, reply, after, done_result}
 use Rattle.phase_model.specs.declared.call.Call.TheVariants.{Pass as pass}

@@ -1,8 +1,8 @@
 -- What a phaser would refuse a call by is what it refuses the step by in the history.
 use Rattle.std.proofs.Common.{◌≡◌, ℕ, zero, suc, ◌<◌, ◌≤◌, Bool, true, false, List, [], ◌∷◌, Some, Err, length, get_or, refl, sym, ap, ◌∙◌, arith}
 use Rattle.phase_modes.specs.declared.refusal.Refusal.TheVariants.{NotRegistered}
-use Rattle.phase_model.specs.declared.event.Event.{Event}
-use Rattle.phase_model.specs.declared.event.Event.TheVariants.{Make as Made, Reg as Registered, Sig as Signalled, Claim as Claimed, Did as Reported, Pass as Passed, Send as Sent, Look as Looked, Drop as Dropped}
+use Rattle.phase_model.specs.declared.history.Event.{Event}
+use Rattle.phase_model.specs.declared.history.Event.TheVariants.{Make as Made, Reg as Registered, Sig as Signalled, Claim as Claimed, Did as Reported, Pass as Passed, Send as Sent, Look as Looked, Drop as Dropped}
 use Rattle.phase_model.specs.declared.call.Call.{Call}
 use Rattle.phase_model.specs.declared.call.Call.TheVariants.{Make as make, Register as register, Signal as signal, Pass as pass, SingleDone as single_done, Send as send, Look as look, Drop as drop_task}
 use Rattle.phase_model.specs.Rules.{Story}

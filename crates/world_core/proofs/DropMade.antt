@@ -9,7 +9,7 @@ use Rattle.phase_modes.specs.declared.limits.Limits.{Limits}
 use Rattle.phase_modes.specs.declared.phased.Pair.{Pair}
 use Rattle.phase_modes.specs.declared.refusal.Refusal.TheVariants.{NotNow, NotRegistered}
 use Rattle.phase_modes.specs.Refusal.{first_refusal}
-use Rattle.phase_model.specs.declared.event.Event.TheVariants.{Drop as Dropped}
+use Rattle.phase_model.specs.declared.history.Event.TheVariants.{Drop as Dropped}
 use Rattle.phase_model.specs.Rules.{Story, with_event}
 use Rattle.phase_model.specs.Tasks.{is_live, is_registered, is_dropped}
 use Rattle.phase_model.specs.Singles.{owes_nothing}

@@ -2,7 +2,7 @@
 use Rattle.std.proofs.Common.{◌≡◌, ℕ, Bool, true, false, ◌==◌, min, cond, List, [], ◌∷◌, reverse, Option, None, refl, sym, ap, ◌∙◌}
 use Rattle.std.specs.Prelude.{filter, filter_map}
 use Rattle.phase_modes.specs.Lists.{is_empty}
-use Rattle.phase_model.specs.declared.event.Event.{Event}
+use Rattle.phase_model.specs.declared.history.Event.{Event}
 use Rattle.phase_model.specs.declared.op.Op.{Op}
 use Rattle.phase_model.specs.Tasks.{is_live}
 use Rattle.world_model.specs.declared.event.Step.{Step}

@@ -4,10 +4,10 @@ use Rattle.std.specs.Prelude.{slice_get}
 use Rattle.std.proofs.lemmas.Bool.{cases_Bool, eqb-true, and_parts, and_from, ltb-true}
 use Rattle.std.proofs.lemmas.List.{length-set}
 use Rattle.phase_modes.specs.Lists.{is_empty}
-use Rattle.phase_modes.specs.declared.mode.Mode.{Mode}
+use Rattle.phase_modes.specs.declared.reg.Mode.{Mode}
 use Rattle.phase_modes.specs.declared.limits.Limits.{Limits}
 use Rattle.phase_modes.specs.declared.phased.Pair.{Pair}
-use Rattle.phase_model.specs.declared.event.Event.TheVariants.{Reg as Registered}
+use Rattle.phase_model.specs.declared.history.Event.TheVariants.{Reg as Registered}
 use Rattle.phase_model.specs.Rules.{Story, with_event}
 use Rattle.phase_model.specs.Tasks.{is_dropped}
 use Rattle.phase_model.specs.Replies as phaser

@@ -8,8 +8,8 @@ use Rattle.phase_modes.specs.declared.phased.Pair.{Pair}
 use Rattle.phase_modes.specs.Lists.{is_empty}
 use Rattle.phase_modes.specs.declared.refusal.Refusal.{Refusal}
 use Rattle.phase_modes.specs.declared.refusal.Refusal.TheVariants.{NotNow}
-use Rattle.phase_model.specs.declared.event.Event.{Event}
-use Rattle.phase_model.specs.declared.event.Event.TheVariants.{Sig as Signed}
+use Rattle.phase_model.specs.declared.history.Event.{Event}
+use Rattle.phase_model.specs.declared.history.Event.TheVariants.{Sig as Signed}
 use Rattle.phase_model.specs.Replies as phaser
 use Rattle.phase_model.specs.Replies.{settled, done, done_result}
 use Rattle.phase_model.specs.declared.call.Call.TheVariants.{Signal as signal}

@@ -7,8 +7,8 @@ use Rattle.phase_modes.specs.declared.limits.Limits.{Limits}
 use Rattle.phase_modes.specs.declared.refusal.Refusal.TheVariants.{NotRegistered, NoSignal, NoSingle, AlreadySignalled, SingleMismatch, NotSignalled, NotNow, TasksFull}
 use Rattle.phase_modes.specs.Mode.{can_signal, can_wait, can_single}
 use Rattle.phase_modes.specs.Refusal.{first_refusal}
-use Rattle.phase_model.specs.declared.event.Event.{Event}
-use Rattle.phase_model.specs.declared.event.Event.TheVariants.{Sig as Signalled, Claim as Claimed, Did as Done, Pass as Passed}
+use Rattle.phase_model.specs.declared.history.Event.{Event}
+use Rattle.phase_model.specs.declared.history.Event.TheVariants.{Sig as Signalled, Claim as Claimed, Did as Done, Pass as Passed}
 use Rattle.phase_model.specs.Tasks.{is_live, has_mode}
 use Rattle.phase_model.specs.Phases.{waits, signals}
 use Rattle.phase_model.specs.Singles.{has_claimed, is_done}

@@ -4,9 +4,9 @@ use Rattle.std.proofs.Common.{◌≡◌, ℕ, Bool, true, false, ◌&&◌, ◌||
 use Rattle.std.specs.Prelude.{drop}
 use Rattle.std.specs.List.{list_any}
 use Rattle.std.proofs.lemmas.Bool.{and_parts, or_cases, or_from, or_parts, cases_Bool, eqb-true, eq-eqb, true≢false, false_from_ne_true}
-use Rattle.phase_modes.specs.declared.mode.Mode.{Mode}
+use Rattle.phase_modes.specs.declared.reg.Mode.{Mode}
 use Rattle.phase_modes.specs.declared.limits.Limits.{Limits}
-use Rattle.phase_model.specs.declared.event.Event.TheVariants.{Claim as Claimed, Did as Done}
+use Rattle.phase_model.specs.declared.history.Event.TheVariants.{Claim as Claimed, Did as Done}
 use Rattle.phase_model.specs.Rules.{is_permitted}
 use Rattle.finish_core.specs.declared.event.FinishEvent.{FinishEvent}
 use Rattle.finish_core.specs.declared.event.FinishEvent.TheVariants.{Spawned}

@@ -4,7 +4,7 @@ use Rattle.std.proofs.Common.{◌≡◌, ℕ, ◌+◌, Bool, true, false, ◌&&�
 use Rattle.std.specs.List.{list_any}
 use Rattle.std.proofs.lemmas.Bool.{and_parts, or_parts, cases_Bool, eqb-true, true≢false, false_from_ne_true}
 use Rattle.phase_modes.specs.declared.limits.Limits.{Limits}
-use Rattle.phase_model.specs.declared.event.Event.TheVariants.{Pass as Passed}
+use Rattle.phase_model.specs.declared.history.Event.TheVariants.{Pass as Passed}
 use Rattle.phase_model.specs.Tasks.{is_registered, is_dropped, is_live}
 use Rattle.phase_model.specs.Phases.{waits}
 use Rattle.world_model.specs.declared.event.Step.TheVariants.{Pass}

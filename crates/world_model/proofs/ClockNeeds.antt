@@ -5,7 +5,7 @@ use Rattle.std.specs.Prelude.{drop}
 use Rattle.std.specs.List.{list_any}
 use Rattle.std.proofs.lemmas.Bool.{and_parts, cases_Bool, eqb-true, true≢false, false_from_ne_true}
 use Rattle.phase_modes.specs.declared.limits.Limits.{Limits}
-use Rattle.phase_model.specs.declared.event.Event.TheVariants.{Claim as Claimed, Did as Done}
+use Rattle.phase_model.specs.declared.history.Event.TheVariants.{Claim as Claimed, Did as Done}
 use Rattle.phase_model.specs.Phases.{waits}
 use Rattle.phase_model.specs.Rules.{is_permitted}
 use Rattle.world_model.specs.declared.event.Step.TheVariants.{Sig, Claim, Did, Pass}

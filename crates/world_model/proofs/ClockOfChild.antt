@@ -3,9 +3,9 @@ use Rattle.phase_modes.specs.Lists.{is_empty}
 use Rattle.std.proofs.Common.{◌≡◌, ℕ, ◌+◌, true, false, ◌&&◌, ◌||◌, ◌==◌, not, cond, List, ◌∷◌, Option, Some, None, refl, sym, subst, ap, ◌∙◌, inl, inr, arith}
 use Rattle.std.specs.List.{list_any}
 use Rattle.std.proofs.lemmas.Bool.{and_parts, or_from, or_parts, cases_Bool, eqb-true, true≢false, false_from_ne_true}
-use Rattle.phase_modes.specs.declared.mode.Mode.{Mode}
+use Rattle.phase_modes.specs.declared.reg.Mode.{Mode}
 use Rattle.phase_modes.specs.declared.limits.Limits.{Limits}
-use Rattle.phase_model.specs.declared.event.Event.TheVariants.{Reg as Registered}
+use Rattle.phase_model.specs.declared.history.Event.TheVariants.{Reg as Registered}
 use Rattle.phase_model.specs.Tasks.{is_registered, is_dropped, is_live}
 use Rattle.phase_model.specs.Phases.{waits}
 use Rattle.phase_model.specs.Rules.{is_permitted, has_room}

@@ -5,7 +5,7 @@ use Rattle.std.specs.List.{list_any, list_all}
 use Rattle.std.proofs.lemmas.Bool.{and_parts, and_from, or_right, cases_Bool, eqb-true, eq-eqb, true≢false, false≢true}
 use Rattle.std.proofs.lemmas.List.Folds.{list_all-append}
 use Rattle.phase_modes.specs.declared.limits.Limits.{Limits}
-use Rattle.phase_model.specs.declared.event.Event.TheVariants.{Drop as Dropped}
+use Rattle.phase_model.specs.declared.history.Event.TheVariants.{Drop as Dropped}
 use Rattle.phase_model.specs.Tasks.{is_registered, is_dropped, is_live}
 use Rattle.finish_core.specs.declared.event.FinishEvent.TheVariants.{Spawned, Ended, Shut as Shutting}
 use Rattle.world_model.specs.declared.event.Step.TheVariants.{Drop}

@@ -4,7 +4,7 @@ use Rattle.std.specs.Prelude.{drop}
 use Rattle.std.proofs.lemmas.Bool.{and_parts, cases_Bool, eqb-true, not-true, true≢false}
 use Rattle.phase_modes.specs.Lists.{is_empty}
 use Rattle.phase_modes.specs.declared.limits.Limits.{Limits}
-use Rattle.phase_model.specs.declared.event.Event.TheVariants.{Claim as Claimed, Did as Done}
+use Rattle.phase_model.specs.declared.history.Event.TheVariants.{Claim as Claimed, Did as Done}
 use Rattle.phase_model.specs.Rules.{is_permitted}
 use Rattle.world_model.specs.declared.event.Step.TheVariants.{Claim, Did, Pass}
 use Rattle.world_model.specs.declared.event.WorldEvent.{WorldEvent}

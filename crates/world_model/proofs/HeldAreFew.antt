@@ -4,13 +4,13 @@ use Rattle.std.specs.Prelude.{filter, filter_map}
 use Rattle.std.specs.List.{list_all}
 use Rattle.std.proofs.lemmas.Bool.{and_parts, cases_Bool, eqb-true, ltb-true, true≢false, false≢true}
 use Rattle.phase_modes.specs.Lists.{is_empty}
-use Rattle.phase_modes.specs.declared.mode.Mode.{Mode}
+use Rattle.phase_modes.specs.declared.reg.Mode.{Mode}
 use Rattle.phase_modes.specs.declared.limits.Limits.{Limits}
 use Rattle.phase_modes.specs.declared.refusal.Refusal.TheVariants.{NotNow, ActsFull, PhasersFull}
 use Rattle.phase_modes.specs.Refusal.{first_refusal}
 use Rattle.phase_model.specs.declared.op.Op.{Op}
-use Rattle.phase_model.specs.declared.event.Event.{Event}
-use Rattle.phase_model.specs.declared.event.Event.TheVariants.{Reg as Registered}
+use Rattle.phase_model.specs.declared.history.Event.{Event}
+use Rattle.phase_model.specs.declared.history.Event.TheVariants.{Reg as Registered}
 use Rattle.phase_model.specs.Tasks.{registers, drops, is_registered, is_dropped, is_live}
 use Rattle.phase_model.specs.Conditions.{is_within_task}
 use Rattle.phase_model.specs.Rules.{is_permitted, has_room}

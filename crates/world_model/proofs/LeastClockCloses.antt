@@ -6,7 +6,7 @@ use Rattle.std.specs.List.{list_all}
 use Rattle.std.proofs.lemmas.Bool.{and_from, cases_Bool, lt-ltb, or_left, or_right}
 use Rattle.phase_modes.specs.declared.limits.Limits.{Limits}
 use Rattle.phase_modes.specs.Mode.{can_signal}
-use Rattle.phase_model.specs.declared.event.Event.{Event}
+use Rattle.phase_model.specs.declared.history.Event.{Event}
 use Rattle.phase_model.specs.Tasks.{is_live, has_mode, registered_tasks}
 use Rattle.phase_model.specs.Phases.{waits, signals, is_past, is_closed}
 use Rattle.phase_model.proofs.Legal.{at_or_ahead}

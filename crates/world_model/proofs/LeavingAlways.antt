@@ -5,8 +5,8 @@ use Rattle.std.specs.List.{list_any, list_all}
 use Rattle.std.proofs.lemmas.Bool.{and_parts, or_left, cases_Bool, eqb-true, eq-eqb, true≢false, false≢true}
 use Rattle.phase_modes.specs.Lists.{is_empty}
 use Rattle.phase_modes.specs.declared.limits.Limits.{Limits}
-use Rattle.phase_model.specs.declared.event.Event.{Event}
-use Rattle.phase_model.specs.declared.event.Event.TheVariants.{Drop as Dropped}
+use Rattle.phase_model.specs.declared.history.Event.{Event}
+use Rattle.phase_model.specs.declared.history.Event.TheVariants.{Drop as Dropped}
 use Rattle.phase_model.specs.Tasks.{is_registered, is_dropped, is_live}
 use Rattle.phase_model.proofs.LiveTasks.{has}
 use Rattle.finish_core.specs.declared.event.FinishEvent.TheVariants.{Opened, Ended, Shut as Shutting}

@@ -4,13 +4,13 @@ use Rattle.std.specs.Prelude.{Result, Ok, Err, slice_get, option_map}
 use Rattle.std.specs.List.{list_all}
 use Rattle.std.proofs.lemmas.Bool.{and_parts, or_cases, or_left, cases_Bool, eqb-true, eq-eqb, not-true, false≢true}
 use Rattle.phase_modes.specs.Lists.{is_empty}
-use Rattle.phase_modes.specs.declared.mode.Mode.{Mode}
+use Rattle.phase_modes.specs.declared.reg.Mode.{Mode}
 use Rattle.phase_modes.specs.declared.limits.Limits.{Limits}
 use Rattle.phase_modes.specs.declared.refusal.Refusal.{Refusal}
 use Rattle.phase_modes.specs.declared.refusal.Refusal.TheVariants.{NotRegistered, MoreThanParent, TasksFull, RegisteredTwice, RegsFull, NotNow}
 use Rattle.phase_modes.specs.Refusal.{first_refusal}
-use Rattle.phase_model.specs.declared.event.Event.{Event}
-use Rattle.phase_model.specs.declared.event.Event.TheVariants.{Reg as Registered, Sig as Signalled, Claim as Claimed, Did as Done}
+use Rattle.phase_model.specs.declared.history.Event.{Event}
+use Rattle.phase_model.specs.declared.history.Event.TheVariants.{Reg as Registered, Sig as Signalled, Claim as Claimed, Did as Done}
 use Rattle.phase_model.specs.Tasks.{is_registered, is_live, live_count}
 use Rattle.phase_model.specs.Conditions.{is_within_task}
 use Rattle.phase_model.specs.Rules.{is_permitted, has_room}

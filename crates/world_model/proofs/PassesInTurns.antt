@@ -6,8 +6,8 @@ use Rattle.std.specs.List.{list_any}
 use Rattle.std.specs.Option.{option_map_or}
 use Rattle.std.proofs.lemmas.Bool.{or_cases, or_from, or_parts, cases_Bool, eqb-true, true≢false}
 use Rattle.phase_modes.specs.declared.limits.Limits.{Limits}
-use Rattle.phase_model.specs.declared.event.Event.{Event}
-use Rattle.phase_model.specs.declared.event.Event.TheVariants.{Make as Made, Reg as Registered, Claim as Claimed, Did as Done}
+use Rattle.phase_model.specs.declared.history.Event.{Event}
+use Rattle.phase_model.specs.declared.history.Event.TheVariants.{Make as Made, Reg as Registered, Claim as Claimed, Did as Done}
 use Rattle.phase_model.specs.Tasks.{registers, is_registered}
 use Rattle.phase_model.specs.Rules.{is_permitted}
 use Rattle.finish_core.specs.declared.event.FinishEvent.TheVariants.{Spawned, Ended, Shut as Shutting}

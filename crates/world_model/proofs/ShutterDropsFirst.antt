@@ -6,7 +6,7 @@ use Rattle.std.proofs.lemmas.Bool.{and_parts, cases_Bool, eqb-true, true≢false
 use Rattle.phase_modes.specs.Lists.{is_empty}
 use Rattle.phase_modes.specs.declared.limits.Limits.{Limits}
 use Rattle.phase_modes.specs.declared.refusal.Refusal.TheVariants.{NoFinish}
-use Rattle.phase_model.specs.declared.event.Event.TheVariants.{Drop as Dropped}
+use Rattle.phase_model.specs.declared.history.Event.TheVariants.{Drop as Dropped}
 use Rattle.phase_model.specs.Tasks.{is_registered, is_dropped, is_live}
 use Rattle.phase_model.proofs.Closing.{some_live}
 use Rattle.finish_core.specs.declared.event.FinishEvent.TheVariants.{Shut as Shutting}

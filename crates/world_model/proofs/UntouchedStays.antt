@@ -1,9 +1,9 @@
 -- What an event that isn't about a task leaves of it on every phaser.
 use Rattle.std.proofs.Common.{◌≡◌, ℕ, Bool, true, false, ◌==◌, cond, List, [], ◌∷◌, refl, ap, ◌∙◌}
 use Rattle.std.specs.Prelude.{filter, filter_map, reverse, None}
-use Rattle.phase_modes.specs.declared.mode.Mode.{Mode}
-use Rattle.phase_model.specs.declared.event.Event.{Event}
-use Rattle.phase_model.specs.declared.event.Event.TheVariants.{Claim as Claimed, Did as Done}
+use Rattle.phase_modes.specs.declared.reg.Mode.{Mode}
+use Rattle.phase_model.specs.declared.history.Event.{Event}
+use Rattle.phase_model.specs.declared.history.Event.TheVariants.{Claim as Claimed, Did as Done}
 use Rattle.phase_model.specs.Tasks.{is_registered, is_live, mode_of, has_mode}
 use Rattle.phase_model.specs.Phases.{waits, signals}
 use Rattle.world_model.specs.declared.event.Step.{Step}

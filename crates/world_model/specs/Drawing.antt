@@ -1,6 +1,6 @@
 -- What a task's next act may name: the least numbers that aren't in use, and its own phasers.
 use Rattle.std.specs.Prelude.{ℕ, Bool, not, List, map, filter, slice_index_or, unwrap_or}
-use Rattle.phase_modes.specs.declared.mode.Mode.TheVariants.{Wait}
+use Rattle.phase_modes.specs.declared.reg.Mode.TheVariants.{Wait}
 use Rattle.phase_modes.specs.declared.phased.Pair.{Pair}
 use Rattle.phase_model.specs.Tasks.{mode_of}
 use Rattle.world_model.specs.declared.event.WorldEvent.{WorldEvent}

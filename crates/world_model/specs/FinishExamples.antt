@@ -2,7 +2,7 @@
 -- the reply to each, and what is reported at the end.
 use Rattle.std.specs.Prelude.{◌≡◌, List, [], ◌∷◌, reverse, Ok, Err}
 use Rattle.phase_modes.specs.declared.refusal.Refusal.TheVariants.{OutsideScope, NotNow}
-use Rattle.phase_modes.specs.declared.mode.Mode.TheVariants.{Sig as OnlySig, Wait as OnlyWait, SigWait}
+use Rattle.phase_modes.specs.declared.reg.Mode.TheVariants.{Sig as OnlySig, Wait as OnlyWait, SigWait}
 use Rattle.finish_core.specs.declared.event.FinishEvent.TheVariants.{Opened, Spawned, Ended, Shut as Shutting}
 use Rattle.world_model.specs.declared.event.WorldEvent.{WorldEvent}
 use Rattle.world_model.specs.declared.event.Step.TheVariants.{Make, Reg, Pass, Drop}

@@ -2,13 +2,13 @@
 use Rattle.std.specs.Prelude.{ℕ, ◌-◌, ◌≡◌, true, false, List, ◌∷◌, ◌++◌}
 use Rattle.phase_modes.specs.declared.limits.Limits.{Limits}
 use Rattle.phase_modes.specs.Lists.{is_empty}
-use Rattle.phase_model.specs.declared.event.Event.{Event}
+use Rattle.phase_model.specs.declared.history.Event.{Event}
 use Rattle.phase_model.specs.Phases.{waits, IsClosed}
 use Rattle.phase_model.specs.Ordering.{IsOrdered}
 use Rattle.phase_model.specs.declared.op.Op.{Op}
 use Rattle.phase_model.specs.Rules.{look_of, is_legal}
 use Rattle.phase_model.specs.Values.{sent}
-use Rattle.phase_model.specs.declared.event.Event.TheVariants.{Look as Looked}
+use Rattle.phase_model.specs.declared.history.Event.TheVariants.{Look as Looked}
 use Rattle.phase_model.specs.declared.op.Look.{Look}
 use Rattle.finish_core.specs.Finish.{is_legal_finish}
 use Rattle.world_model.specs.declared.event.WorldEvent.{WorldEvent}

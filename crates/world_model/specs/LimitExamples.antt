@@ -3,7 +3,7 @@
 use Rattle.std.specs.Prelude.{List, [], ◌∷◌, None, Ok, Err, pos}
 use Rattle.phase_modes.specs.declared.refusal.Refusal.TheVariants.{NotRegistered, OnePhaserOnly, RegsFull, HistoryFull, PhasersFull, TasksFull, FinishesFull, ActsFull, FinishOpen, NoFinish, NotNow}
 use Rattle.phase_modes.specs.declared.limits.Limits.{Limits}
-use Rattle.phase_modes.specs.declared.mode.Mode.TheVariants.{Sig as OnlySig, Wait as OnlyWait, SigWait}
+use Rattle.phase_modes.specs.declared.reg.Mode.TheVariants.{Sig as OnlySig, Wait as OnlyWait, SigWait}
 use Rattle.phase_model.specs.declared.op.Op.TheVariants.{Sum}
 use Rattle.finish_core.specs.declared.event.FinishEvent.TheVariants.{Opened, Spawned, Ended, Shut as Shutting}
 use Rattle.world_model.specs.declared.event.WorldEvent.{WorldEvent}

@@ -2,7 +2,7 @@
 -- and what each task is about.
 use Rattle.std.specs.Prelude.{◌≡◌, List, [], ◌∷◌, map, Some, None, Ok, Err, pos, take}
 use Rattle.phase_modes.specs.declared.refusal.Refusal.TheVariants.{NotRegistered, NoSignal, NoWait, NotSignalled, OnePhaserOnly, NoAccumulator, MoreThanParent, RegisteredTwice, PhasersFull, TasksFull, FinishesFull, NoFinish, NotNow}
-use Rattle.phase_modes.specs.declared.mode.Mode.TheVariants.{Sig as OnlySig, SigWait, Wait as OnlyWait}
+use Rattle.phase_modes.specs.declared.reg.Mode.TheVariants.{Sig as OnlySig, SigWait, Wait as OnlyWait}
 use Rattle.finish_core.specs.declared.event.FinishEvent.TheVariants.{Ended, Opened, Spawned, Shut as Shutting}
 use Rattle.world_model.specs.declared.event.WorldEvent.{WorldEvent}
 use Rattle.world_model.specs.declared.event.Begun.TheVariants.{Async, End, Next, NextSingle, Shut, Signal, Wait}

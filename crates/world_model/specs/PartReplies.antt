@@ -2,9 +2,9 @@
 use Rattle.std.specs.Prelude.{ℕ, if◌then◌else◌, List, Result, Ok, Err}
 use Rattle.phase_modes.specs.declared.limits.Limits.{Limits}
 use Rattle.phase_modes.specs.declared.refusal.Refusal.{Refusal}
-use Rattle.phase_model.specs.declared.event.Event.{Event}
+use Rattle.phase_model.specs.declared.history.Event.{Event}
 use Rattle.phase_model.specs.Phases.{waits}
-use Rattle.phase_model.specs.declared.event.Event.TheVariants.{Pass as Passed, Look as Looked}
+use Rattle.phase_model.specs.declared.history.Event.TheVariants.{Pass as Passed, Look as Looked}
 use Rattle.phase_model.specs.Replies as phaser
 use Rattle.phase_model.specs.declared.call.Call.{Call}
 use Rattle.phase_model.specs.declared.call.Call.TheVariants.{Make as make, Register as register, Signal as signal, Pass as pass, SingleDone as single_done, Send as send, Look as look, Drop as drop_task}

@@ -2,13 +2,13 @@
 use Rattle.std.specs.Prelude.{ℕ, ◌+◌, Bool, true, false, ◌==◌, if◌then◌else◌, max, List, [], ◌∷◌, length, map, filter, flat_map, sum_by, count_by, Option, Some, None, is_some}
 use Rattle.std.specs.List.{range_with_len}
 use Rattle.phase_modes.specs.declared.limits.Limits.{Limits}
-use Rattle.phase_model.specs.declared.event.Event.{Event}
+use Rattle.phase_model.specs.declared.history.Event.{Event}
 use Rattle.phase_model.specs.declared.op.Op.{Op}
 use Rattle.phase_model.specs.Values.{sent, fold}
 use Rattle.phase_model.specs.Tasks.{registered_by}
 use Rattle.phase_model.specs.Phases.{waits, signals}
 use Rattle.phase_model.specs.Amounts.{totals}
-use Rattle.phase_model.specs.declared.event.Event.TheVariants.{Sig, Pass, Send, Drop}
+use Rattle.phase_model.specs.declared.history.Event.TheVariants.{Sig, Pass, Send, Drop}
 use Rattle.finish_core.specs.Finish.{spawned_tasks}
 use Rattle.world_model.specs.declared.report.FinishLine.{FinishLine}
 use Rattle.world_model.specs.declared.report.FoldLine.{FoldLine}

@@ -1,6 +1,6 @@
 -- Laws of finishes and tasks: what a child may get, how many phasers a task is on, and who is left where a finish is shut.
 use Rattle.std.specs.Prelude.{ℕ, ◌≤◌, ◌≡◌, true, false, List, ◌∷◌, ◌++◌, length}
-use Rattle.phase_modes.specs.declared.mode.Mode.{Mode}
+use Rattle.phase_modes.specs.declared.reg.Mode.{Mode}
 use Rattle.phase_model.specs.Tasks.{is_live}
 use Rattle.phase_model.specs.Conditions.{is_within_task}
 use Rattle.finish_core.specs.Finish.{is_spawned}

@@ -1,8 +1,8 @@
 -- The lines of a phaser's folds, with one event more.
 use Rattle.std.specs.Prelude.{ℕ, ℤ, ◌≡◌, ◌+◌, ◌*◌, ◌<◌, ◌++◌, nat_lt, if◌then◌else◌, List, [], length, get_or, set, Option, Some, None, pos, negsuc, ◌+ℤ◌, ◌≤ℤ◌, ⊤}
 use Rattle.std.specs.Int.{int_min, int_max}
-use Rattle.phase_model.specs.declared.event.Event.{Event}
-use Rattle.phase_model.specs.declared.event.Event.TheVariants.{Send}
+use Rattle.phase_model.specs.declared.history.Event.{Event}
+use Rattle.phase_model.specs.declared.history.Event.TheVariants.{Send}
 use Rattle.phase_model.specs.declared.op.Op.{Op}
 use Rattle.phase_model.specs.declared.op.Op.TheVariants.{Sum, Least, Greatest}
 use Rattle.phase_model.specs.declared.op.Look.{Look}

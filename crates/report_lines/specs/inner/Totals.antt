@@ -1,7 +1,7 @@
 -- Totals with one event more.
 use Rattle.std.specs.Prelude.{◌+◌, ℤ}
-use Rattle.phase_model.specs.declared.event.Event.{Event}
-use Rattle.phase_model.specs.declared.event.Event.TheVariants.{Make, Reg, Sig, Pass, Send, Drop}
+use Rattle.phase_model.specs.declared.history.Event.{Event}
+use Rattle.phase_model.specs.declared.history.Event.TheVariants.{Make, Reg, Sig, Pass, Send, Drop}
 use Rattle.phase_model.specs.Amounts.{up_of, down_of}
 use Rattle.world_model.specs.declared.report.TotalsLine.{TotalsLine}
 

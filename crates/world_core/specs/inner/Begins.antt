@@ -4,12 +4,12 @@ use Rattle.std.specs.List.{list_any}
 use Rattle.std.specs.Option.{option_map_or}
 use Rattle.phase_modes.specs.Lists.{is_empty, is_one}
 use Rattle.phase_modes.specs.Mode.{can_single, is_within}
-use Rattle.phase_modes.specs.declared.mode.Mode.{Mode}
+use Rattle.phase_modes.specs.declared.reg.Mode.{Mode}
 use Rattle.phase_modes.specs.declared.phased.Pair.{Pair}
 use Rattle.phase_modes.specs.declared.refusal.Refusal.{Refusal}
 use Rattle.phase_modes.specs.declared.refusal.Refusal.TheVariants.{NotRegistered, NoSingle, AlreadySignalled, NotSignalled, OnePhaserOnly, MoreThanParent, OutsideScope, RegisteredTwice, TasksFull, ActsFull, FinishOpen, NoFinish, NotNow}
 use Rattle.phase_modes.specs.Refusal.{first_refusal}
-use Rattle.phase_model.specs.declared.event.Event.{Event}
+use Rattle.phase_model.specs.declared.history.Event.{Event}
 use Rattle.phaser_core.specs.Table.{registration}
 use Rattle.world_model.specs.declared.event.Begun.{Begun}
 use Rattle.world_model.specs.declared.event.Begun.TheVariants.{Async, Signal, Wait, Next, NextSingle, Shut, End}

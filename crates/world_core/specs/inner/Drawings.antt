@@ -1,10 +1,10 @@
 -- What a world reads for a task's next act, by its state alone.
 use Rattle.std.specs.Prelude.{ℕ, List, map}
 use Rattle.std.specs.Option.{option_map_or}
-use Rattle.phase_modes.specs.declared.mode.Mode.{Mode}
-use Rattle.phase_modes.specs.declared.mode.Mode.TheVariants.{Wait}
+use Rattle.phase_modes.specs.declared.reg.Mode.{Mode}
+use Rattle.phase_modes.specs.declared.reg.Mode.TheVariants.{Wait}
 use Rattle.phase_modes.specs.declared.phased.Pair.{Pair}
-use Rattle.phase_model.specs.declared.event.Event.{Event}
+use Rattle.phase_model.specs.declared.history.Event.{Event}
 use Rattle.phaser_core.specs.Table.{registration}
 use Rattle.world_core.specs.WorldState.{WorldState}
 use Rattle.world_core.specs.Kept.{task_at, past_in}

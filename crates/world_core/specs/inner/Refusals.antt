@@ -1,6 +1,6 @@
 -- What an act of a task is refused by, and what a world becomes where the task notes it by its number: by the state alone.
 use Rattle.std.specs.Prelude.{ℕ, Bool, true, false, ◌&&◌, ◌==◌, not, Option, Some, None, Result, Ok, Err}
-use Rattle.phase_modes.specs.declared.mode.Mode.{Mode}
+use Rattle.phase_modes.specs.declared.reg.Mode.{Mode}
 use Rattle.phase_modes.specs.declared.refusal.Refusal.{Refusal}
 use Rattle.phase_modes.specs.Refusal.{number_of, first_refusal}
 use Rattle.phase_model.specs.Replies as phaser

@@ -1,7 +1,7 @@
 -- What a world answers and how it changes at the steps that change who is registered: by its state alone.
 use Rattle.std.specs.Prelude.{ℕ, ◌+◌, Bool, true, ◌||◌, not, nat_lt, min, List, [], ◌∷◌, ◌++◌, length, set, Option, Some, None, Result, Err}
 use Rattle.phase_modes.specs.Lists.{is_empty}
-use Rattle.phase_modes.specs.declared.mode.Mode.{Mode}
+use Rattle.phase_modes.specs.declared.reg.Mode.{Mode}
 use Rattle.phase_modes.specs.declared.refusal.Refusal.{Refusal}
 use Rattle.phase_modes.specs.declared.refusal.Refusal.TheVariants.{NotNow, ActsFull, PhasersFull}
 use Rattle.phase_modes.specs.Refusal.{first_refusal}

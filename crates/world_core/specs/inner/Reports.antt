@@ -3,7 +3,7 @@ use Rattle.std.specs.Prelude.{ℕ, not, if◌then◌else◌, List, [], ◌∷◌
 use Rattle.phase_modes.specs.Limits.{default_limits}
 use Rattle.phase_modes.specs.Lists.{is_empty}
 use Rattle.phase_model.specs.Rules.{Story}
-use Rattle.phase_model.specs.declared.event.Event.{Event}
+use Rattle.phase_model.specs.declared.history.Event.{Event}
 use Rattle.finish_core.specs.declared.event.FinishEvent.{FinishEvent}
 use Rattle.finish_core.specs.Finish.{FinishStory, fresh, spawned_tasks}
 use Rattle.world_model.specs.declared.report.FinishLine.{FinishLine}

@@ -6,8 +6,8 @@ use Rattle.phase_modes.specs.declared.refusal.Refusal.{Refusal}
 use Rattle.phase_modes.specs.declared.refusal.Refusal.TheVariants.{NotNow, ActsFull, FinishesFull}
 use Rattle.phase_modes.specs.Mode.{can_signal}
 use Rattle.phase_modes.specs.Refusal.{first_refusal}
-use Rattle.phase_model.specs.declared.event.Event.{Event}
-use Rattle.phase_model.specs.declared.event.Event.TheVariants.{Claim as Claimed, Did as Reported}
+use Rattle.phase_model.specs.declared.history.Event.{Event}
+use Rattle.phase_model.specs.declared.history.Event.TheVariants.{Claim as Claimed, Did as Reported}
 use Rattle.phase_model.specs.Rules.{Story, is_permitted}
 use Rattle.phaser_core.specs.declared.state.Passing.{Passing}
 use Rattle.phaser_core.specs.declared.state.Passing.TheVariants.{Passed, Claimed as Claims, NotYet as Waits}

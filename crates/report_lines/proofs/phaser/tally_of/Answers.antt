@@ -1,9 +1,9 @@
 -- Each event is known, and what stood for those before it stands with it.
 use Rattle.std.proofs.Common.{◌≡◌, ℕ, ◌+◌, ◌<◌, List, length, reverse, take, get_or, sym, subst, ap, ◌∙◌, arith}
 use Rattle.std.proofs.lemmas.List.{length-reverse, length-take-le}
-use Rattle.phase_modes.specs.declared.mode.Mode.TheVariants.{Sig}
-use Rattle.phase_model.specs.declared.event.Event.{Event}
-use Rattle.phase_model.specs.declared.event.Event.TheVariants.{Make}
+use Rattle.phase_modes.specs.declared.reg.Mode.TheVariants.{Sig}
+use Rattle.phase_model.specs.declared.history.Event.{Event}
+use Rattle.phase_model.specs.declared.history.Event.TheVariants.{Make}
 use Rattle.phase_model.proofs.Reversed.{reverse_take_more}
 use Rattle.report_lines.specs.Lines.{IsWithin}
 use Rattle.report_lines.specs.inner.Tallied.{Tallied, StandsFor}

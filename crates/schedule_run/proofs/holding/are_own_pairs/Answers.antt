@@ -2,7 +2,7 @@ use Rattle.std.proofs.Common.{ℕ, ◌≡◌, ◌<◌, ◌≤◌, ⊎_elim, fals
 use Rattle.std.specs.List.{filter_map}
 use Rattle.std.proofs.lemmas.Bool.{cases_eq, eq-eqb, eqb-true, false_from_ne_true}
 use Rattle.std.proofs.lemmas.List.{at_drop_more, at_drop_all, length-take-le}
-use Rattle.phase_modes.specs.declared.mode.Mode.TheVariants.{Wait}
+use Rattle.phase_modes.specs.declared.reg.Mode.TheVariants.{Wait}
 use Rattle.phase_modes.specs.declared.phased.Pair.{Pair}
 use Rattle.schedule_model.specs.Follows.{same_pairs}
 use Rattle.trace_model.specs.Explained.{event_of, past}

@@ -1,7 +1,7 @@
 -- A value that is sent has its place and its room.
 use Rattle.std.proofs.Common.{◌≡◌, ℕ, ℤ, subst, sym}
-use Rattle.phase_model.specs.declared.event.Event.{Event}
-use Rattle.phase_model.specs.declared.event.Event.TheVariants.{Send}
+use Rattle.phase_model.specs.declared.history.Event.{Event}
+use Rattle.phase_model.specs.declared.history.Event.TheVariants.{Send}
 use Rattle.report_lines.specs.inner.Folds.{FoldState, HasPlace, IsPlaced, reached}
 use Rattle.report_lines.proofs.folds.FoldTable.note.Goals as goal
 

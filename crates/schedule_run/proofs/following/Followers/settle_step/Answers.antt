@@ -1,6 +1,6 @@
 use Rattle.std.proofs.Common.{ℕ, ◌≡◌, ◌∷◌, List, true, Option, sym, ap, subst, ◌∙◌}
 use Rattle.std.proofs.lemmas.Bool.{eqb-true}
-use Rattle.phase_modes.specs.declared.mode.Mode.{Mode}
+use Rattle.phase_modes.specs.declared.reg.Mode.{Mode}
 use Rattle.phase_model.specs.declared.op.Op.{Op}
 use Rattle.job_script.specs.Program.{Program}
 use Rattle.world_model.specs.declared.event.Step.{Step}
