@@ -1,6 +1,6 @@
 //! What the tasks of the lines hold back. A line that comes or goes at the end moves nothing, since
 //! emptied partials are kept for later lines.
-ghost use Rattle.std.specs.Prelude.{◌≡◌, ◌+◌, ◌<◌, ◌≤◌, [], length, IfOk, IfErr, ℕ, List, ℤ, slice_set, slice_index_or, take, insert, remove, vec_capacity};
+ghost use Rattle.std.specs.Prelude.{◌≡◌, ◌+◌, ◌-◌, ◌<◌, ◌≤◌, [], length, IfOk, IfErr, ℕ, List, ℤ, true, slice_set, slice_index_or, take, insert, remove, vec_capacity};
 ghost use Rattle.acc_cells.specs.Cells.{no_partial, held, HoldsOnly, Holds, StandsFor, sums_taken, with_taken};
 ghost use Rattle.phaser_core.specs.Lazy.{partial_with};
 ghost use Rattle.phaser_core.specs.Line.{ArePartials};
@@ -40,6 +40,37 @@ impl LinePartials {
     {
         let all = Vec::with_capacity(alloc, MOST_LINES)?;
         Ok(LinePartials { used: 0, all })
+    }
+
+    /// Whether the task of a line holds nothing back.
+    #[inline(always)]
+    pub(crate) fn is_empty(&self, place: usize) -> bool
+        requires { place < length self.now }
+        ensures { result ≡ true → slice_index_or self.now place no_partial ≡ no_partial }
+    {
+        self.all[place].is_empty()
+    }
+
+    /// Puts an empty partial behind all others, for a new last line.
+    #[inline(always)]
+    pub(crate) fn push(&mut self)
+        requires { length self.old < 256 }
+        ensures { self.new ≡ insert self.old (length self.old) no_partial }
+    {
+        if self.used == self.all.len() {
+            self.all.push_reserved(Partial::new());
+        }
+        self.used += 1;
+    }
+
+    /// Takes the last line's partial out. It is empty.
+    #[inline(always)]
+    pub(crate) fn pop(&mut self)
+        requires some { 0 < length self.old }
+        requires empty { slice_index_or self.old (length self.old - 1) no_partial ≡ no_partial }
+        ensures { self.new ≡ remove self.old (length self.old - 1) }
+    {
+        self.used -= 1;
     }
 
     /// Puts an empty partial at the place of a new line.

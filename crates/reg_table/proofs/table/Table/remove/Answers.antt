@@ -1,9 +1,9 @@
-use Rattle.std.proofs.Common.{◌≡◌, ℕ, ◌-◌, ◌<◌, List, length, take, ap, ◌∙◌, arith}
+use Rattle.std.proofs.Common.{◌≡◌, ℕ, ◌<◌, List, length, arith}
 use Rattle.std.specs.List.{remove}
 use Rattle.std.proofs.lemmas.List.Edits.{length-remove}
 use Rattle.reg_table.specs.declared.table.Entry.{Entry}
 use Rattle.reg_table.specs.Lines.{IsTable}
-use Rattle.reg_table.proofs.Edits.{remove_ascends, remove_last}
+use Rattle.reg_table.proofs.Edits.{remove_ascends}
 use Rattle.reg_table.proofs.table.Table.remove.Goals as goal
 
 -- what is left of a table once a line went
@@ -17,20 +17,6 @@ left xs ys i m n was is inside same = rw (is, same) (record {
 
 pub invariant_of-self : goal.invariant_of-self
 invariant_of-self c =
-    let xs = c.self.inside.lines.items in
-    let i = c.args.place in
-    let inside : i < length xs = rw (← c.self.view_is) at c.requires in
-    let end : i ≡ length xs - 1 =
-    omega (arith, c.if-place-end.true, c.len-end.ensures, c.self.inside.lines.ok.0) in
-    let rest : c.pop-last.new.self.items ≡ remove xs i =
-    c.pop-last.ensures.rest
-    ∙ (ap (λ n. take n xs) (omega (arith, c.len-end.ensures, c.if-place-end.true))
-    ∙ remove_last xs i (omega (arith, end, inside)))
-    in
-    left xs c.pop-last.new.self.items i _ _ c.self.invariant rest inside c.pop-last.ensures.capacity
-
-pub invariant_of-self-else-place-end : goal.invariant_of-self-else-place-end
-invariant_of-self-else-place-end c =
     let xs = c.self.inside.lines.items in
     left xs c.remove-gone.new.self.items c.args.place _ _ c.self.invariant c.remove-gone.ensures.items
     (rw (← c.self.view_is) at c.requires) c.remove-gone.ensures.capacity
