@@ -16,8 +16,8 @@ impl PhaserState {
     /// Registers a child whose line comes last, if that is allowed and the parent's line is where
     /// it is looked for first. Returns whether it did; else nothing has changed but the count.
     ///
-    /// All that it does is inlined, so that no register of the machine has to be saved: with few
-    /// tasks that is most of the price of a call.
+    /// All that it does is inlined, so that hardly a register of the machine has to be saved: with
+    /// few tasks that is most of the price of a call.
     #[inline(never)]
     pub(super) fn register_last(&mut self, parent: u32, child: u32, mode: Mode) -> bool
         ensures done { result ≡ true → reply self.old.story (register parent child mode)
