@@ -54,16 +54,22 @@ fn register_and_drop(state: &mut PhaserState, tasks: u32) {
     }
 }
 
+/// Registers so many tasks, which all have one turn.
+fn register_all(state: &mut PhaserState, tasks: u32) -> Result<(), Refusal> {
+    state.make(0, Mode::SigWait)?;
+    for task in 1..tasks {
+        state.register(0, task, Mode::SigWait)?;
+    }
+    turn(state, tasks);
+    Ok(())
+}
+
 /// A phaser with one sum, on which so many tasks are registered that have all had one turn.
 fn ready(alloc: Global, tasks: u32) -> Result<PhaserState, Refusal> {
     let mut ops = Ops::none();
     ops.push(Op::Sum);
     let mut state = PhaserState::new(alloc, LIMITS, ops)?;
-    state.make(0, Mode::SigWait)?;
-    for task in 1..tasks {
-        state.register(0, task, Mode::SigWait)?;
-    }
-    turn(&mut state, tasks);
+    register_all(&mut state, tasks)?;
     Ok(state)
 }
 

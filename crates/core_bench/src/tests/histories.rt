@@ -5,6 +5,7 @@ use phase_model::{
 };
 use phase_modes::{Limits, Mode, Refusal};
 use std::alloc::Global;
+use std::process::Abort;
 use std::test::Fail;
 
 /// A history of these events, with room for so many.
@@ -62,93 +63,134 @@ const VALUES: [Event; 9] = [
     Event::Look(0, 0, Look::Value(6)),
 ];
 
-#[test]
-fn values_count_for_the_phase_not_yet_signalled(rt: HostRuntime) -> Result<(), Fail> {
-    let history = history_of(rt.alloc(), 100, three_ops(), VALUES.as_slice())?;
+/// The history is of nine events, with three operators, and explained.
+fn is_of_values(rt: &impl Abort, history: &History) {
     assert_eq!(rt; history.len(), 9);
     assert_eq!(rt; history.events().len(), 9);
     assert_eq!(rt; history.ops().len(), 3);
-    assert_eq!(rt; fold(&history, 0, 0), Some(Look::Value(6)));
-    assert_eq!(rt; fold(&history, 0, 1), Some(Look::Value(3)));
-    assert_eq!(rt; fold(&history, 1, 0), Some(Look::Nothing));
-    assert_eq!(rt; fold(&history, 3, 0), None);
-    assert_eq!(rt; explain(&history), Ok(()));
+    assert_eq!(rt; explain(history), Ok(()));
+}
+
+#[test]
+fn values_count_for_the_phase_not_yet_signalled(rt: HostRuntime) -> Result<(), Fail> {
+    const FOLDS: [((u8, u32), Option<Look>); 4] = [
+        ((0, 0), Some(Look::Value(6))),
+        ((0, 1), Some(Look::Value(3))),
+        ((1, 0), Some(Look::Nothing)),
+        ((3, 0), None),
+    ];
+    let history = history_of(rt.alloc(), 100, three_ops(), VALUES.as_slice())?;
+    is_of_values(&rt, &history);
+    for ((accumulator, phase), expected) in FOLDS {
+        assert_eq!(rt;
+            fold(&history, accumulator, phase),
+            expected,
+            "phase {phase}"
+        );
+    }
     Ok(())
+}
+
+/// How far the tasks of VALUES have come, and which phases are closed.
+fn tasks_stand(rt: &impl Abort, history: &History) {
+    assert!(rt; live(history, 1));
+    assert!(rt; !live(history, 2));
+    assert_eq!(rt; signals(history, 0), 1);
+    assert_eq!(rt; waits(history, 0), 1);
+    assert_eq!(rt; waits(history, 1), 0);
+    assert!(rt; closed(history, 0));
+    assert!(rt; !closed(history, 1));
+}
+
+/// Each event may follow the history, or may not.
+fn allows(rt: &impl Abort, history: &History, rows: &[(Event, bool)]) {
+    for (event, may_follow) in rows {
+        assert_eq!(rt; allowed(history, *event), *may_follow, "{event:?}");
+    }
 }
 
 #[test]
 fn tasks_come_this_far(rt: HostRuntime) -> Result<(), Fail> {
+    const NEXT: [(Event, bool); 3] = [
+        (Event::Pass(1), true),
+        (Event::Pass(0), false),
+        (Event::Drop(1), true),
+    ];
     let history = history_of(rt.alloc(), 100, three_ops(), VALUES.as_slice())?;
-    assert!(rt; live(&history, 1));
-    assert!(rt; !live(&history, 2));
-    assert_eq!(rt; signals(&history, 0), 1);
-    assert_eq!(rt; waits(&history, 0), 1);
-    assert_eq!(rt; waits(&history, 1), 0);
-    assert!(rt; closed(&history, 0));
-    assert!(rt; !closed(&history, 1));
-    assert!(rt; allowed(&history, Event::Pass(1)));
-    assert!(rt; !allowed(&history, Event::Pass(0)));
-    assert!(rt; allowed(&history, Event::Drop(1)));
+    tasks_stand(&rt, &history);
+    allows(&rt, &history, NEXT.as_slice());
+    Ok(())
+}
+
+/// Of phase 0: the number that was proposed, and whether it is claimed and done.
+fn single_stands(rt: &impl Abort, history: &History, is_claimed: bool, is_done: bool) {
+    assert_eq!(rt; proposed(history, 0), Some(7));
+    assert_eq!(rt; claimed(history, 0), is_claimed);
+    assert_eq!(rt; did(history, 0), is_done);
+    assert!(rt; !did(history, 1));
+}
+
+#[test]
+fn single_is_proposed(rt: HostRuntime) -> Result<(), Fail> {
+    const EVENTS: [Event; 2] = [Event::Make(0, Mode::Single), Event::Sig(0, Some(7))];
+    const NEXT: [(Event, bool); 2] = [(Event::Claim(0), true), (Event::Pass(0), false)];
+    let history = history_of(rt.alloc(), 100, Ops::none(), EVENTS.as_slice())?;
+    single_stands(&rt, &history, false, false);
+    allows(&rt, &history, NEXT.as_slice());
     Ok(())
 }
 
 #[test]
 fn single_is_claimed_and_done(rt: HostRuntime) -> Result<(), Fail> {
-    let events = [
+    const EVENTS: [Event; 4] = [
         Event::Make(0, Mode::Single),
         Event::Sig(0, Some(7)),
         Event::Claim(0),
         Event::Did(0),
     ];
-    let open = history_of(rt.alloc(), 100, Ops::none(), &events[..2])?;
-    assert_eq!(rt; proposed(&open, 0), Some(7));
-    assert!(rt; !claimed(&open, 0));
-    assert!(rt; allowed(&open, Event::Claim(0)));
-    assert!(rt; !allowed(&open, Event::Pass(0)));
-    let done = history_of(rt.alloc(), 100, Ops::none(), events.as_slice())?;
-    assert!(rt; claimed(&done, 0));
-    assert!(rt; did(&done, 0));
-    assert!(rt; !did(&done, 1));
-    assert!(rt; allowed(&done, Event::Pass(0)));
+    const NEXT: [(Event, bool); 1] = [(Event::Pass(0), true)];
+    let history = history_of(rt.alloc(), 100, Ops::none(), EVENTS.as_slice())?;
+    single_stands(&rt, &history, true, true);
+    allows(&rt, &history, NEXT.as_slice());
     Ok(())
 }
 
 #[test]
 fn first_fault_is_found(rt: HostRuntime) -> Result<(), Fail> {
-    let events = [
+    const EVENTS: [Event; 5] = [
         Event::Make(0, Mode::SigWait),
         Event::Sig(0, None),
         Event::Pass(0),
         Event::Pass(0),
         Event::Drop(9),
     ];
-    let history = history_of(rt.alloc(), 100, Ops::none(), events.as_slice())?;
+    let history = history_of(rt.alloc(), 100, Ops::none(), EVENTS.as_slice())?;
     assert_eq!(rt; explain(&history), Err(Refusal::NotExplained(4)));
     Ok(())
 }
 
 #[test]
 fn last_places_are_for_drops(rt: HostRuntime) -> Result<(), Fail> {
-    let events = [
+    const EVENTS: [Event; 3] = [
         Event::Make(0, Mode::SigWait),
         Event::Sig(0, None),
         Event::Pass(0),
     ];
-    let history = history_of(rt.alloc(), 4, Ops::none(), events.as_slice())?;
+    const NEXT: [(Event, bool); 2] = [(Event::Sig(0, None), false), (Event::Drop(0), true)];
+    let history = history_of(rt.alloc(), 4, Ops::none(), EVENTS.as_slice())?;
     assert_eq!(rt; history.limits().history, 4);
-    assert!(rt; !allowed(&history, Event::Sig(0, None)));
-    assert!(rt; allowed(&history, Event::Drop(0)));
+    allows(&rt, &history, NEXT.as_slice());
     Ok(())
 }
 
 #[test]
 fn operators_have_names(rt: HostRuntime) -> Result<(), Fail> {
-    let rows = [
+    const NAMES: [(Op, &str); 3] = [
         (Op::Sum, "sum"),
         (Op::Least, "least"),
         (Op::Greatest, "greatest"),
     ];
-    for (op, name) in rows {
+    for (op, name) in NAMES {
         assert!(rt; op.name() == name);
         assert_eq!(rt; Op::of_name(name), Some(op));
     }
@@ -158,7 +200,7 @@ fn operators_have_names(rt: HostRuntime) -> Result<(), Fail> {
 
 #[test]
 fn replies_are_printed(rt: HostRuntime) -> Result<(), Fail> {
-    let rows = [
+    const LINES: [(Reply, &str); 7] = [
         (Reply::Done, "ok"),
         (Reply::Phase(3), "ok phase 3"),
         (Reply::Claim(4_294_967_295), "claim 4294967295"),
@@ -170,7 +212,7 @@ fn replies_are_printed(rt: HostRuntime) -> Result<(), Fail> {
             "refused 9 NoAccumulator",
         ),
     ];
-    for (reply, line) in rows {
+    for (reply, line) in LINES {
         let printed = reply.to_string(rt.alloc())?;
         assert_eq!(rt; printed.as_str(), line);
     }

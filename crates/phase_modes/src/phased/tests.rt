@@ -1,28 +1,42 @@
 //! The list of a spawn's phasers, by hand.
 use super::*;
+use std::process::Abort;
 use std::test::Fail;
+
+const FIRST: Pair = Pair {
+    phaser: 7,
+    mode: Mode::Sig,
+};
+
+const SECOND: Pair = Pair {
+    phaser: 3,
+    mode: Mode::Wait,
+};
+
+#[test]
+fn none_is_named_at_first(rt: HostRuntime) -> Result<(), Fail> {
+    let named = Phased::none();
+    assert_eq!(rt; named.len(), 0);
+    assert_eq!(rt; named.get(0), None);
+    Ok(())
+}
+
+/// Two phasers are named, the first before the second.
+fn are_two(rt: &impl Abort, named: &Phased) {
+    assert_eq!(rt; named.len(), 2);
+    assert_eq!(rt; named.get(0), Some(FIRST));
+    assert_eq!(rt; named.get(1), Some(SECOND));
+    assert_eq!(rt; named.get(2), None);
+}
 
 #[test]
 fn phasers_are_named_in_order(rt: HostRuntime) -> Result<(), Fail> {
-    let first = Pair {
-        phaser: 7,
-        mode: Mode::Sig,
-    };
-    let second = Pair {
-        phaser: 3,
-        mode: Mode::Wait,
-    };
     let mut named = Phased::none();
-    assert_eq!(rt; named.len(), 0);
-    assert_eq!(rt; named.get(0), None);
-    named.push(first);
+    named.push(FIRST);
     let one = named;
-    named.push(second);
-    assert_eq!(rt; named.len(), 2);
-    assert_eq!(rt; named.get(0), Some(first));
-    assert_eq!(rt; named.get(1), Some(second));
-    assert_eq!(rt; named.get(2), None);
-    assert!(rt; named.as_slice() == [first, second].as_slice());
+    named.push(SECOND);
+    are_two(&rt, &named);
+    assert!(rt; named.as_slice() == [FIRST, SECOND].as_slice());
     assert_eq!(rt; one.len(), 1);
     assert!(rt; one != named);
     Ok(())

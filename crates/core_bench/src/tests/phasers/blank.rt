@@ -15,15 +15,24 @@ fn blank(alloc: Global) -> Result<PhaserState, Refusal>
     PhaserState::blank(alloc, limits)
 }
 
-#[test]
-fn operators_come_with_the_making(rt: HostRuntime) -> Result<(), Fail> {
-    let mut state = blank(rt.alloc())?;
+/// What is known of a phaser that nobody has made yet.
+fn is_blank(rt: &impl Abort, state: &PhaserState) {
     assert_eq!(rt; state.history().ops().len(), 0);
     assert_eq!(rt; state.registration(0), None);
+}
+
+/// Task 0 makes the phaser, with two accumulators.
+fn made_with_two(rt: &impl Abort, state: &mut PhaserState)
+    requires { state.old.room ≡ 4 }
+{
     let ops = first_ops(2);
     assert_eq!(rt; ops.len(), 2);
     assert_eq!(rt; state.make_with(0, Mode::SigWait, ops), Ok(()));
     assert_eq!(rt; state.history().ops().len(), 2);
+}
+
+/// Task 0 sends to the second accumulator, which is the last, and signals.
+fn sends_and_signals(rt: &impl Abort, state: &mut PhaserState) {
     assert_eq!(rt; state.send(0, 1, -7), Ok(()));
     assert_eq!(rt; state.send(0, 2, 1), Err(Refusal::NoAccumulator));
     assert_eq!(rt; state.signal(0, None), Ok(()));
@@ -33,23 +42,52 @@ fn operators_come_with_the_making(rt: HostRuntime) -> Result<(), Fail> {
         ahead: true,
     };
     assert_eq!(rt; state.registration(0), Some(ahead));
+}
+
+/// Task 0 passes, and sees the value of the phase that it passed.
+fn passes_and_looks(rt: &impl Abort, state: &mut PhaserState) {
     assert_eq!(rt; state.pass(0), Ok(Passing::Passed(0)));
     assert_eq!(rt; state.look(0, 1), Ok(Look::Value(-7)));
+}
+
+#[test]
+fn operators_come_with_the_making(rt: HostRuntime) -> Result<(), Fail> {
+    let mut state = blank(rt.alloc())?;
+    is_blank(&rt, &state);
+    made_with_two(&rt, &mut state);
+    sends_and_signals(&rt, &mut state);
+    passes_and_looks(&rt, &mut state);
     Ok(())
+}
+
+/// Task 0 makes the phaser for singles, without accumulators.
+fn made_for_singles(rt: &impl Abort, state: &mut PhaserState)
+    requires { state.old.room ≡ 4 }
+{
+    let ops = Ops::none();
+    assert_eq!(rt; ops.len(), 0);
+    assert_eq!(rt; state.make_with(0, Mode::Single, ops), Ok(()));
+}
+
+/// Whether task 0 may claim the single, and whether it may report it.
+fn may(rt: &impl Abort, state: &PhaserState, claim: bool, report: bool) {
+    assert_eq!(rt; state.may_claim(0), claim);
+    assert_eq!(rt; state.may_report(0), report);
+}
+
+/// Nothing is proposed, then nothing is claimed, and then the single runs.
+fn runs_a_single(rt: &impl Abort, state: &mut PhaserState) {
+    may(rt, state, false, false);
+    assert_eq!(rt; state.signal(0, Some(5)), Ok(()));
+    may(rt, state, true, false);
+    assert_eq!(rt; state.pass(0), Ok(Passing::Claimed(5)));
+    may(rt, state, false, true);
 }
 
 #[test]
 fn single_is_claimed_and_reported(rt: HostRuntime) -> Result<(), Fail> {
     let mut state = blank(rt.alloc())?;
-    let ops = Ops::none();
-    assert_eq!(rt; ops.len(), 0);
-    assert_eq!(rt; state.make_with(0, Mode::Single, ops), Ok(()));
-    assert!(rt; !state.may_claim(0), "nothing is proposed");
-    assert_eq!(rt; state.signal(0, Some(5)), Ok(()));
-    assert!(rt; state.may_claim(0));
-    assert!(rt; !state.may_report(0), "nothing is claimed");
-    assert_eq!(rt; state.pass(0), Ok(Passing::Claimed(5)));
-    assert!(rt; !state.may_claim(0));
-    assert!(rt; state.may_report(0));
+    made_for_singles(&rt, &mut state);
+    runs_a_single(&rt, &mut state);
     Ok(())
 }

@@ -1,11 +1,15 @@
 //! How many comparisons of task numbers the last call made, counted by hand.
 use super::*;
 
-/// The phaser that task 0 made, with the default limits.
-fn made_by_task_0(alloc: Global) -> Result<PhaserState, Refusal> {
-    let mut state = fresh(alloc, Limits::default(), Ops::none())?;
-    state.make(0, Mode::SigWait)?;
-    Ok(state)
+/// A call, the reply to it, and how many comparisons it makes.
+type Counted = (Call, Reply, u32);
+
+/// Each call is replied to, and makes as many comparisons, as its row says.
+fn counts(rt: &impl Abort, state: &mut PhaserState, rows: &[Counted]) {
+    for (call, reply, compared) in rows {
+        assert_eq!(rt; state.apply(*call), *reply, "{call:?}");
+        assert_eq!(rt; state.compared(), *compared, "{call:?}");
+    }
 }
 
 /// A line that comes or goes at the end is seen by one comparison or two. Where it stands
@@ -13,20 +17,19 @@ fn made_by_task_0(alloc: Global) -> Result<PhaserState, Refusal> {
 /// line is found, and 5 and 0 again until the place between them is.
 #[test]
 fn what_was_compared_first_counts(rt: HostRuntime) -> Result<(), Fail> {
-    let mut state = made_by_task_0(rt.alloc())?;
-    assert_eq!(rt; state.compared(), 0);
-    assert_eq!(rt; state.register(0, 5, Mode::SigWait), Ok(()));
-    assert_eq!(rt; state.compared(), 2);
-    assert_eq!(rt; state.register(0, 3, Mode::SigWait), Ok(()));
-    assert_eq!(rt; state.compared(), 6);
-    assert_eq!(rt; state.drop_task(5), Ok(()));
-    assert_eq!(rt; state.compared(), 1);
-    assert_eq!(rt; state.drop_task(0), Ok(()));
-    assert_eq!(rt; state.compared(), 1);
-    assert_eq!(rt;
-        state.register(0, 9, Mode::Sig),
-        Err(Refusal::NotRegistered)
-    );
-    assert_eq!(rt; state.compared(), 2);
+    const ROWS: [Counted; 6] = [
+        (Call::Make(0, Mode::SigWait), Reply::Done, 0),
+        (Call::Register(0, 5, Mode::SigWait), Reply::Done, 2),
+        (Call::Register(0, 3, Mode::SigWait), Reply::Done, 6),
+        (Call::Drop(5), Reply::Done, 1),
+        (Call::Drop(0), Reply::Done, 1),
+        (
+            Call::Register(0, 9, Mode::Sig),
+            Reply::Refused(Refusal::NotRegistered),
+            2,
+        ),
+    ];
+    let mut state = fresh(rt.alloc(), Limits::default(), Ops::none())?;
+    counts(&rt, &mut state, ROWS.as_slice());
     Ok(())
 }

@@ -100,8 +100,8 @@ struct Tally {
 impl Tally {
     fn add(&mut self, call: Call, reply: Reply) {
         let kind = (verb_of(call), without_number(reply));
-        for (count, known) in self.counts.iter_mut().zip(KINDS) {
-            if known == kind {
+        for (count, known) in self.counts.iter_mut().zip(KINDS.iter()) {
+            if *known == kind {
                 *count = count.saturating_add(1);
             }
         }
@@ -148,7 +148,24 @@ fn limits_of(phaser: u32) -> Limits {
     }
 }
 
-/// Makes 120 calls on a fresh phaser and on its peer.
+/// Makes 120 calls on both, which end with the same events.
+fn call_both(
+    rt: &impl Abort,
+    state: &mut PhaserState,
+    peer: &mut History,
+    dice: &mut Dice,
+    tally: &mut Tally,
+) {
+    for _ in 0..120 {
+        let call = dice.call(peer);
+        let reply = step(rt, state, peer, call);
+        tally.add(call, reply);
+    }
+    assert!(rt; state.history().events() == peer.events());
+    agrees_with_plain(rt, state);
+}
+
+/// Makes the calls on a fresh phaser and on its peer.
 fn play_both(
     rt: &impl Abort,
     alloc: Global,
@@ -158,17 +175,19 @@ fn play_both(
 ) -> Result<(), Refusal> {
     let limits = limits_of(phaser);
     let ops = first_ops((phaser % 5) as usize);
-    let mut state = fresh(alloc, limits, ops)?;
     assert!(rt; limits.fits());
     let mut peer = History::new(alloc, limits, ops)?;
-    for _ in 0..120 {
-        let call = dice.call(&peer);
-        let reply = step(rt, &mut state, &mut peer, call);
-        tally.add(call, reply);
-    }
-    assert!(rt; state.history().events() == peer.events());
-    agrees_with_plain(rt, &state);
+    let mut state = fresh(alloc, limits, ops)?;
+    call_both(rt, &mut state, &mut peer, dice, tally);
     Ok(())
+}
+
+/// Every kind came, and each of the calls was of one.
+fn all_came(rt: &impl Abort, tally: &Tally) {
+    for (count, kind) in tally.counts.iter().zip(KINDS.iter()) {
+        assert!(rt; *count > 0, "none of {kind:?}");
+    }
+    assert_eq!(rt; tally.total(), 2_880);
 }
 
 #[test]
@@ -178,9 +197,6 @@ fn side_by_side(rt: HostRuntime) -> Result<(), Fail> {
     for phaser in 0..24 {
         play_both(&rt, rt.alloc(), phaser, &mut dice, &mut tally)?;
     }
-    for (count, kind) in tally.counts.iter().zip(KINDS) {
-        assert!(rt; *count > 0, "none of {kind:?}");
-    }
-    assert_eq!(rt; tally.total(), 2_880);
+    all_came(&rt, &tally);
     Ok(())
 }

@@ -2,36 +2,54 @@
 //! calls would be answered is asked before.
 use super::*;
 
+/// A task, whether it would wait, and whether it stands in an open phase.
+type Stand = (u32, bool, bool);
+
+fn stands(rt: &impl Abort, state: &PhaserState, rows: &[Stand]) {
+    for (task, would_wait, is_in_open_phase) in rows {
+        assert_eq!(rt; state.would_wait(*task), *would_wait, "task {task}");
+        assert_eq!(rt;
+            state.is_in_open_phase(*task),
+            *is_in_open_phase,
+            "task {task}"
+        );
+    }
+}
+
+/// Each call would be replied to as its row says.
+fn would_be(rt: &impl Abort, state: &PhaserState, rows: &[Row]) {
+    for (call, reply) in rows {
+        assert_eq!(rt; state.reply_to(*call), *reply, "{call:?}");
+    }
+}
+
 #[test]
 fn first_of_two_waits(rt: HostRuntime) -> Result<(), Fail> {
-    let rows = [
+    const ROWS: [Row; 3] = [
         (Call::Make(0, Mode::SigWait), Reply::Done),
         (Call::Register(0, 1, Mode::SigWait), Reply::Done),
         (Call::Signal(0, None), Reply::Done),
     ];
+    // A pass of task 1, which hasn't signalled, would be refused, and so would one of task 2, which
+    // isn't registered.
+    const ONE_SIGNALLED: [Stand; 3] = [(0, true, true), (1, false, true), (2, false, false)];
+    const REPLIES: [Row; 4] = [
+        (Call::Pass(0), Reply::NotYet),
+        (Call::Pass(1), Reply::Refused(Refusal::NotSignalled)),
+        (Call::Drop(2), Reply::Refused(Refusal::NotRegistered)),
+        (Call::Signal(1, None), Reply::Done),
+    ];
+    const BOTH_SIGNALLED: [Stand; 2] = [(0, false, false), (1, false, false)];
     let mut state = play(
         &rt,
         rt.alloc(),
         limits_with(4_096, 256),
         Ops::none(),
-        rows.as_slice(),
+        ROWS.as_slice(),
     )?;
-    assert!(rt; state.would_wait(0), "the other hasn't signalled");
-    assert!(rt; !state.would_wait(1), "a pass of it would be refused");
-    assert!(rt; state.is_in_open_phase(0));
-    assert!(rt; !state.is_in_open_phase(2), "it isn't registered");
-    assert_eq!(rt; state.reply_to(Call::Pass(0)), Reply::NotYet);
-    assert_eq!(rt;
-        state.reply_to(Call::Pass(1)),
-        Reply::Refused(Refusal::NotSignalled)
-    );
-    assert_eq!(rt;
-        state.reply_to(Call::Drop(2)),
-        Reply::Refused(Refusal::NotRegistered)
-    );
-    assert_eq!(rt; state.reply_to(Call::Signal(1, None)), Reply::Done);
+    stands(&rt, &state, ONE_SIGNALLED.as_slice());
+    would_be(&rt, &state, REPLIES.as_slice());
     assert_eq!(rt; state.signal(1, None), Ok(()));
-    assert!(rt; !state.would_wait(0));
-    assert!(rt; !state.is_in_open_phase(0));
+    stands(&rt, &state, BOTH_SIGNALLED.as_slice());
     Ok(())
 }
