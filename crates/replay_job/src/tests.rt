@@ -134,3 +134,9 @@ fn have_same_events(one: &Trace, other: &Trace) -> bool {
     }
     true
 }
+
+/// The trace has the events of the other, and the limits of a file that names none.
+fn are_alike(rt: &impl Abort, trace: &Trace, other: &Trace) {
+    assert_eq!(rt; trace.limits(), Limits::default());
+    assert!(rt; have_same_events(trace, other));
+}

@@ -88,23 +88,28 @@ type Outcome<'a> = (Status, &'a [u8], &'a [u8]);
 
 const DONE: Outcome<'static> = (Status::Done, OUTPUT, b"");
 
+// No line is left in a writer that fails.
+const WRITE_FAULT: Outcome<'static> = (Status::Fault, b"", b"fault write\n");
+
 const READ_FAULT: Outcome<'static> = (Status::Fault, b"", b"fault read\n");
 
 const TOO_LONG: Outcome<'static> = (Status::Refused, b"", b"refused 24 BadText at 0\n");
 
 /// Compares an outcome with the one that is wanted.
 fn is_outcome(rt: &impl Abort, came: Outcome<'_>, wanted: Outcome<'_>, calls: usize) {
-    assert_eq!(rt; came.0, wanted.0, "{calls}");
-    assert_eq!(rt; came.1, wanted.1, "{calls}");
-    assert_eq!(rt; came.2, wanted.2, "{calls}");
+    assert_eq!(rt; came, wanted, "{calls}");
+}
+
+/// Compares a status with the one that is wanted.
+fn is_status(rt: &impl Abort, status: Status, wanted: Status, calls: usize) {
+    assert_eq!(rt; status, wanted, "{calls}");
 }
 
 /// The lines can't be written to `out`, and that is reported.
 fn is_write_fault<W: Write>(rt: &impl Abort, alloc: Global, out: &mut W, calls: usize) {
     let mut faults = Vec::new(alloc);
     let status = events_on(alloc, INPUT, out, &mut faults);
-    assert_eq!(rt; status, Status::Fault, "{calls}");
-    assert_eq!(rt; faults.as_slice(), b"fault write\n".as_slice(), "{calls}");
+    is_outcome(rt, (status, b"", &faults), WRITE_FAULT, calls);
 }
 
 #[test]
@@ -114,12 +119,11 @@ fn write_fails(rt: HostRuntime) -> Result<(), Fail> {
         let mut buffered = BufWriter::new(rt.alloc(), FailsAfter { calls })?;
         is_write_fault(&rt, rt.alloc(), &mut buffered, calls);
     }
+    let calls = OUTPUT.len();
+    let mut out = FailsAfter { calls };
     let mut faults = FailsAfter { calls: 0 };
-    let mut out = FailsAfter {
-        calls: OUTPUT.len(),
-    };
     let status = events_on(rt.alloc(), INPUT, &mut out, &mut faults);
-    assert_eq!(rt; status, Status::Done);
+    is_status(&rt, status, Status::Done, calls);
     Ok(())
 }
 
@@ -128,7 +132,7 @@ fn is_refused_still(rt: &impl Abort, alloc: Global, calls: usize) {
     let mut out = Vec::new(alloc);
     let mut faults = FailsAfter { calls };
     let status = events_on(alloc, b"7", &mut out, &mut faults);
-    assert_eq!(rt; status, Status::Refused, "{calls}");
+    is_status(rt, status, Status::Refused, calls);
 }
 
 // A line of a failure that can't be written changes no status.
@@ -139,7 +143,7 @@ fn fault_line_fails(rt: HostRuntime) {
         let mut out = FailsAfter { calls };
         let mut faults = FailsAfter { calls };
         let status = events_on(rt.alloc(), INPUT, &mut out, &mut faults);
-        assert_eq!(rt; status, Status::Fault, "{calls}");
+        is_status(&rt, status, Status::Fault, calls);
     }
 }
 
@@ -204,9 +208,11 @@ fn refused_to(alloc: Global, calls: usize) -> Ending {
 fn line_not_reported(rt: HostRuntime) {
     let line = b"refused 24 BadText at 0\n";
     for calls in 0..=line.len() {
-        let ended = refused_to(rt.alloc(), calls);
-        assert_eq!(rt; ended.status, Status::Refused);
-        assert_eq!(rt; ended.reported, calls == line.len(), "{calls}");
+        let wanted = Ending {
+            status: Status::Refused,
+            reported: calls == line.len(),
+        };
+        assert_eq!(rt; refused_to(rt.alloc(), calls), wanted, "{calls}");
     }
 }
 
@@ -241,8 +247,8 @@ fn job_on(rt: &impl Abort, alloc: Global, text: &[u8], wanted: Outcome<'_>) {
 fn is_refused(rt: &impl Abort, alloc: Global, text: &[u8]) {
     let mut out = Vec::new(alloc);
     let refused = Err(Failure::Refused(Refusal::BadText(0)));
-    assert_eq!(rt; answer(alloc, text, &mut out), refused);
-    assert_eq!(rt; out.len(), 0);
+    let came = answer(alloc, text, &mut out);
+    assert_eq!(rt; (came, out.len()), (refused, 0));
 }
 
 // The same of bytes that are here.

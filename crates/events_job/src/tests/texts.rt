@@ -15,10 +15,16 @@ fn place_of(alloc: Global, text: &str) -> Result<Option<u64>, Fail> {
     }
 }
 
+/// The text has its first fault at this place, or is of the form.
+fn is_at(rt: &impl Abort, alloc: Global, text: &str, place: Option<u64>) -> Result<(), Fail> {
+    assert_eq!(rt; place_of(alloc, text)?, place, "{text}");
+    Ok(())
+}
+
 /// Each text has its first fault at this place.
 fn all_at(rt: &impl Abort, alloc: Global, texts: &[&str], place: Option<u64>) -> Result<(), Fail> {
     for text in texts {
-        assert_eq!(rt; place_of(alloc, text)?, place, "{text}");
+        is_at(rt, alloc, text, place)?;
     }
     Ok(())
 }
@@ -90,17 +96,16 @@ fn outer_object(rt: HostRuntime) -> Result<(), Fail> {
     all_at(&rt, rt.alloc(), BAD.as_slice(), Some(0))
 }
 
-/// The place of the first fault of a list with `call` as its third item, and a fourth that is no
-/// call.
-fn place_of_third(alloc: Global, call: &str) -> Result<Option<u64>, Fail> {
-    let text = format!(in alloc; "{{\"calls\":[[\"sig\",0],[\"sig\",0],{call},7]}}")?;
-    place_of(alloc, text.as_str())
+/// The text of a list with `call` as its third item, and a fourth that is no call.
+fn text_with_third(alloc: Global, call: &str) -> Result<String, Fail> {
+    Ok(format!(in alloc; "{{\"calls\":[[\"sig\",0],[\"sig\",0],{call},7]}}")?)
 }
 
 /// With each of these calls as the third, the first fault is at this place.
 fn all_third_at(rt: &impl Abort, alloc: Global, calls: &[&str], place: u64) -> Result<(), Fail> {
     for call in calls {
-        assert_eq!(rt; place_of_third(alloc, call)?, Some(place), "{call}");
+        let text = text_with_third(alloc, call)?;
+        is_at(rt, alloc, text.as_str(), Some(place))?;
     }
     Ok(())
 }

@@ -1,5 +1,5 @@
 //! Parts that are merged, and parts that can't be; and traces that are replayed.
-use super::{Entry, have_same_events, trace_of};
+use super::{Entry, are_alike, trace_of};
 use phase_modes::{Limits, Phased, Refusal};
 use std::alloc::Global;
 use std::process::Abort;
@@ -48,7 +48,7 @@ fn place_of(alloc: Global, first: &[u64], second: &[u64]) -> Result<Option<u64>,
     }
 }
 
-/// The trace has these events.
+/// The trace has these events, and the limits of a file that names none.
 fn has_events(
     rt: &impl Abort,
     alloc: Global,
@@ -56,35 +56,47 @@ fn has_events(
     entries: &[Entry],
 ) -> Result<(), Fail> {
     let wanted = trace_of(alloc, entries)?;
-    assert!(rt; have_same_events(trace, &wanted));
+    are_alike(rt, trace, &wanted);
     Ok(())
+}
+
+/// Two parts with these tickets are merged to a trace of these events.
+fn is_merged(
+    rt: &impl Abort,
+    alloc: Global,
+    first: &[u64],
+    second: &[u64],
+    entries: &[Entry],
+) -> Result<(), Fail> {
+    match merged(alloc, first, second)? {
+        Ok(trace) => has_events(rt, alloc, &trace, entries),
+        Err(_) => Err(Fail::from("refused")),
+    }
 }
 
 #[test]
 fn parts_by_rising_ticket(rt: HostRuntime) -> Result<(), Fail> {
     let entries = [(1, end(2)), (2, end(1)), (5, end(1)), (9, end(2))];
-    let trace = merged(rt.alloc(), &[2, 5], &[1, 9])?.map_err(|_| Fail::from("refused"))?;
-    assert_eq!(rt; trace.limits(), Limits::default());
-    has_events(&rt, rt.alloc(), &trace, entries.as_slice())
+    is_merged(&rt, rt.alloc(), &[2, 5], &[1, 9], entries.as_slice())
 }
 
-/// The tickets of two parts, and the place at which these are first at fault.
-const AT_FAULT: [(&[u64], &[u64], Option<u64>); 5] = [
-    (&[], &[], None),
-    (&[1, 4], &[2, 4, 6], Some(4)),
-    (&[1, 7, 3], &[2], Some(3)),
-    (&[5, 5], &[], Some(2)),
-    (&[9, 0], &[3], Some(1)),
-];
+/// Two parts with these tickets are first at fault at this place, or have no fault.
+fn is_at(
+    rt: &impl Abort,
+    alloc: Global,
+    first: &[u64],
+    second: &[u64],
+    place: Option<u64>,
+) -> Result<(), Fail> {
+    assert_eq!(rt; place_of(alloc, first, second)?, place);
+    Ok(())
+}
 
 #[test]
 fn the_least_place_at_fault(rt: HostRuntime) -> Result<(), Fail> {
-    for (first, second, place) in AT_FAULT.as_slice() {
-        assert_eq!(rt;
-            place_of(rt.alloc(), first, second)?,
-            *place,
-            "{first:?} {second:?}"
-        );
-    }
-    Ok(())
+    is_at(&rt, rt.alloc(), &[], &[], None)?;
+    is_at(&rt, rt.alloc(), &[1, 4], &[2, 4, 6], Some(4))?;
+    is_at(&rt, rt.alloc(), &[1, 7, 3], &[2], Some(3))?;
+    is_at(&rt, rt.alloc(), &[5, 5], &[], Some(2))?;
+    is_at(&rt, rt.alloc(), &[9, 0], &[3], Some(1))
 }

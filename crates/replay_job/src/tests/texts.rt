@@ -1,9 +1,9 @@
 //! The text of the smallest trace, every form of an event there and back, and where damaged texts
 //! are refused.
-use super::{Entry, have_same_events, trace_of};
+use super::{Entry, are_alike, trace_of};
 use finish_core::FinishEvent;
 use phase_model::{Look, Op, Ops};
-use phase_modes::{Limits, Mode, Pair, Phased, Refusal};
+use phase_modes::{Mode, Pair, Phased, Refusal};
 use std::alloc::Global;
 use std::process::Abort;
 use std::test::Fail;
@@ -21,6 +21,12 @@ fn place_of(alloc: Global, text: &str) -> Result<Option<u64>, Fail> {
         Err(Refusal::BadText(place)) => Ok(Some(place)),
         Err(_) => Err(Fail::from("memory")),
     }
+}
+
+/// The text has its first fault at this place, or is of the form.
+fn is_at(rt: &impl Abort, alloc: Global, text: &str, place: Option<u64>) -> Result<(), Fail> {
+    assert_eq!(rt; place_of(alloc, text)?, place, "{text}");
+    Ok(())
 }
 
 fn read(alloc: Global, text: &str) -> Result<Trace, Fail> {
@@ -41,8 +47,7 @@ fn is_written(rt: &impl Abort, alloc: Global, trace: &Trace, text: &str) -> Resu
 /// The text is read as this trace, which has the limits of a file that names none.
 fn is_read(rt: &impl Abort, alloc: Global, text: &str, trace: &Trace) -> Result<(), Fail> {
     let again = read(alloc, text)?;
-    assert_eq!(rt; again.limits(), Limits::default());
-    assert!(rt; have_same_events(&again, trace));
+    are_alike(rt, &again, trace);
     Ok(())
 }
 
@@ -142,8 +147,7 @@ fn text_for(alloc: Global, entries: &[Entry]) -> Result<String, Fail> {
 #[test]
 fn numbers_of_refusals_without_a_form(rt: HostRuntime) -> Result<(), Fail> {
     let text = text_for(rt.alloc(), &[(1, TracedEvent::Fail(0, 27))])?;
-    assert_eq!(rt; place_of(rt.alloc(), text.as_str())?, Some(1));
-    Ok(())
+    is_at(&rt, rt.alloc(), text.as_str(), Some(1))
 }
 
 /// As many pairs as a task has at most.
@@ -192,7 +196,7 @@ fn most_pairs(rt: HostRuntime) -> Result<(), Fail> {
 /// Each text has its first fault at this place.
 fn all_at(rt: &impl Abort, alloc: Global, texts: &[&str], place: Option<u64>) -> Result<(), Fail> {
     for text in texts {
-        assert_eq!(rt; place_of(alloc, text)?, place, "{text}");
+        is_at(rt, alloc, text, place)?;
     }
     Ok(())
 }
@@ -293,18 +297,18 @@ const NO_EVENTS: [&str; 53] = [
     r#"[1,"t",0,"fail",27]"#,
 ];
 
-/// The place of the first fault of a trace with this as its third event, and a fourth that is none.
-fn place_of_third(alloc: Global, event: &str) -> Result<Option<u64>, Fail> {
-    let text = format!(in alloc;
+/// The text of a trace with this as its third event, and a fourth that is none.
+fn text_with_third(alloc: Global, event: &str) -> Result<String, Fail> {
+    Ok(format!(in alloc;
         "{{\"events\":[[1,\"f\",1,\"shut\"],[1,\"f\",1,\"shut\"],{event},7],\"version\":1}}"
-    )?;
-    place_of(alloc, text.as_str())
+    )?)
 }
 
 #[test]
 fn events_without_a_form(rt: HostRuntime) -> Result<(), Fail> {
     for event in NO_EVENTS.as_slice() {
-        assert_eq!(rt; place_of_third(rt.alloc(), event)?, Some(3), "{event}");
+        let text = text_with_third(rt.alloc(), event)?;
+        is_at(&rt, rt.alloc(), text.as_str(), Some(3))?;
     }
     Ok(())
 }
@@ -312,8 +316,7 @@ fn events_without_a_form(rt: HostRuntime) -> Result<(), Fail> {
 #[test]
 fn order_of_tickets_is_no_matter_of_the_text(rt: HostRuntime) -> Result<(), Fail> {
     let text = r#"{"events":[[9,"f",1,"shut"],[3,"f",1,"shut"],[3,"f",0,"opened",0]],"version":1}"#;
-    assert_eq!(rt; place_of(rt.alloc(), text)?, None);
-    Ok(())
+    is_at(&rt, rt.alloc(), text, None)
 }
 
 #[test]
@@ -331,6 +334,5 @@ fn every_proper_prefix_is_refused(rt: HostRuntime) -> Result<(), Fail> {
 #[test]
 fn cut_inside_a_string(rt: HostRuntime) -> Result<(), Fail> {
     let text = r#"{"events":[[1,"p",0,"ma"#;
-    assert_eq!(rt; place_of(rt.alloc(), text)?, Some(0));
-    Ok(())
+    is_at(&rt, rt.alloc(), text, Some(0))
 }

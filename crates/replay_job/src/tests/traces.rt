@@ -18,25 +18,41 @@ fn shut(finish: u32) -> TracedEvent {
     TracedEvent::Finish(finish, FinishEvent::Shut)
 }
 
-/// A shut is the first event of the trace and of the part alike.
-fn is_first_of_both(rt: &impl Abort, alloc: Global, trace: &mut Trace) -> Result<(), Fail> {
-    let mut part = Part::new(alloc);
-    fill(trace, &[(9, shut(0))])?;
-    part.push(9, shut(0)).map_err(|_| Fail::from("memory"))?;
+/// The trace has so many events, and these limits.
+fn has_events(rt: &impl Abort, trace: &Trace, events: usize, limits: Limits) {
+    assert_eq!(rt; trace.len(), events);
+    assert_eq!(rt; trace.limits(), limits);
+}
+
+/// The trace has one event, which is the part's first too.
+fn is_first_of(rt: &impl Abort, part: &Part, trace: &Trace) {
     assert_eq!(rt; trace.len(), 1);
+    assert!(rt; 0 < part.events().len());
     assert!(rt; part.events()[0] == trace.entry(0));
+}
+
+/// A part with this event.
+fn part_with(alloc: Global, ticket: u64, event: TracedEvent) -> Result<Part, Fail> {
+    let mut part = Part::new(alloc);
+    part.push(ticket, event).map_err(|_| Fail::from("memory"))?;
+    Ok(part)
+}
+
+/// A trace keeps its first event as a part does, and the next one after it.
+fn keeps_order(rt: &impl Abort, part: &Part, trace: &mut Trace) -> Result<(), Fail> {
+    let look = TracedStep::Look(3, 1, Look::Value(-5));
+    fill(trace, &[(9, shut(0))])?;
+    is_first_of(rt, part, trace);
+    fill(trace, &[(2, TracedEvent::Phaser(0, look))])?;
+    has_events(rt, trace, 2, Limits::default());
     Ok(())
 }
 
 #[test]
 fn events_are_kept_in_order(rt: HostRuntime) -> Result<(), Fail> {
-    let look = TracedStep::Look(3, 1, Look::Value(-5));
+    let part = part_with(rt.alloc(), 9, shut(0))?;
     let mut trace = Trace::new(rt.alloc(), Limits::default());
-    is_first_of_both(&rt, rt.alloc(), &mut trace)?;
-    fill(&mut trace, &[(2, TracedEvent::Phaser(0, look))])?;
-    assert_eq!(rt; trace.len(), 2);
-    assert_eq!(rt; trace.limits(), Limits::default());
-    Ok(())
+    keeps_order(&rt, &part, &mut trace)
 }
 
 /// Three of the six events are in their places.
@@ -62,10 +78,12 @@ fn long_events_in_their_places(rt: HostRuntime) -> Result<(), Fail> {
     Ok(())
 }
 
-/// The trace has no event and these limits.
-fn is_empty_with(rt: &impl Abort, trace: &Trace, limits: Limits) {
-    assert_eq!(rt; trace.len(), 0);
-    assert_eq!(rt; trace.limits(), limits);
+/// The trace, which has no event, takes one.
+fn takes_one(rt: &impl Abort, trace: &mut Trace, limits: Limits) -> Result<(), Fail> {
+    has_events(rt, trace, 0, limits);
+    fill(trace, &[(1, shut(0))])?;
+    has_events(rt, trace, 1, limits);
+    Ok(())
 }
 
 #[test]
@@ -75,10 +93,7 @@ fn room_for_events_has_none(rt: HostRuntime) -> Result<(), Fail> {
         ..Limits::default()
     };
     let mut trace = Trace::with_capacity(rt.alloc(), limits, 1).map_err(|_| Fail::from("memory"))?;
-    is_empty_with(&rt, &trace, limits);
-    fill(&mut trace, &[(1, shut(0))])?;
-    assert_eq!(rt; trace.len(), 1);
-    Ok(())
+    takes_one(&rt, &mut trace, limits)
 }
 
 #[test]

@@ -46,6 +46,17 @@ fn fault_of(alloc: Global, entries: &[Entry]) -> Result<Option<u64>, Fail> {
     }
 }
 
+/// The trace of these entries is first at fault at this place, or explained.
+fn is_at(
+    rt: &impl Abort,
+    alloc: Global,
+    entries: &[Entry],
+    place: Option<u64>,
+) -> Result<(), Fail> {
+    assert_eq!(rt; fault_of(alloc, entries)?, place);
+    Ok(())
+}
+
 /// One task makes a phaser, ends one turn on it by these two steps, and ends.
 fn smallest(tickets: &[u64; 7], first: TracedStep, second: TracedStep) -> [Entry; 7] {
     [
@@ -62,10 +73,15 @@ fn smallest(tickets: &[u64; 7], first: TracedStep, second: TracedStep) -> [Entry
     ]
 }
 
-/// The place at which that trace is first at fault with these tickets.
-fn fault_with(alloc: Global, tickets: &[u64; 7]) -> Result<Option<u64>, Fail> {
+/// The smallest trace with these tickets is first at fault at this place, or explained.
+fn is_at_with(
+    rt: &impl Abort,
+    alloc: Global,
+    tickets: &[u64; 7],
+    place: Option<u64>,
+) -> Result<(), Fail> {
     let entries = smallest(tickets, TracedStep::Sig(0, None), TracedStep::Pass(0));
-    fault_of(alloc, entries.as_slice())
+    is_at(rt, alloc, entries.as_slice(), place)
 }
 
 const RISING: [u64; 7] = [1, 2, 3, 4, 5, 6, 7];
@@ -84,9 +100,8 @@ fn smallest_trace(rt: HostRuntime) -> Result<(), Fail> {
             "totals registered 1 signals 1 passes 1 drops 1 sends 0 up 0 down 0\n"
         ),
     )?;
-    assert_eq!(rt; fault_of(rt.alloc(), &entries[..6])?, Some(7));
-    assert_eq!(rt; fault_of(rt.alloc(), &[])?, Some(1));
-    Ok(())
+    is_at(&rt, rt.alloc(), &entries[..6], Some(7))?;
+    is_at(&rt, rt.alloc(), &[], Some(1))
 }
 
 /// Two events the other way round, the tickets left in place; then a ticket that stands there
@@ -94,11 +109,10 @@ fn smallest_trace(rt: HostRuntime) -> Result<(), Fail> {
 #[test]
 fn changed_smallest_trace(rt: HostRuntime) -> Result<(), Fail> {
     let exchanged = smallest(&RISING, TracedStep::Pass(0), TracedStep::Sig(0, None));
-    assert_eq!(rt; fault_of(rt.alloc(), exchanged.as_slice())?, Some(3));
-    assert_eq!(rt; fault_with(rt.alloc(), &[1, 2, 3, 3, 5, 6, 7])?, Some(4));
-    assert_eq!(rt; fault_with(rt.alloc(), &[1, 2, 3, 4, 2, 6, 7])?, Some(5));
-    assert_eq!(rt; fault_with(rt.alloc(), &[0, 2, 3, 14, 15, 70, 700])?, None);
-    Ok(())
+    is_at(&rt, rt.alloc(), exchanged.as_slice(), Some(3))?;
+    is_at_with(&rt, rt.alloc(), &[1, 2, 3, 3, 5, 6, 7], Some(4))?;
+    is_at_with(&rt, rt.alloc(), &[1, 2, 3, 4, 2, 6, 7], Some(5))?;
+    is_at_with(&rt, rt.alloc(), &[0, 2, 3, 14, 15, 70, 700], None)
 }
 
 /// The owner of finish 1 waits for a task that its child spawned;
@@ -140,8 +154,7 @@ fn nested_finish(rt: HostRuntime) -> Result<(), Fail> {
         ),
     )?;
     let too_early = nested(FinishEvent::Shut, FinishEvent::Ended(2));
-    assert_eq!(rt; fault_of(rt.alloc(), too_early.as_slice())?, Some(11));
-    Ok(())
+    is_at(&rt, rt.alloc(), too_early.as_slice(), Some(11))
 }
 
 /// One accumulator, a sum.
@@ -184,8 +197,7 @@ fn look_with_its_answer(rt: HostRuntime) -> Result<(), Fail> {
         ),
     )?;
     let six = seen(Look::Value(6));
-    assert_eq!(rt; fault_of(rt.alloc(), six.as_slice())?, Some(6));
+    is_at(&rt, rt.alloc(), six.as_slice(), Some(6))?;
     let nothing = seen(Look::Nothing);
-    assert_eq!(rt; fault_of(rt.alloc(), nothing.as_slice())?, Some(6));
-    Ok(())
+    is_at(&rt, rt.alloc(), nothing.as_slice(), Some(6))
 }
