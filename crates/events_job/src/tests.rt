@@ -13,13 +13,23 @@ fn check(rt: &impl Abort, alloc: Global, text: &str, status: Status, lines: &str
     let mut reported = Vec::new(alloc);
     let ended = events_on(alloc, text.as_bytes(), &mut out, &mut reported);
     assert_eq!(rt; ended, status, "{text}");
-    assert_eq!(rt; out.as_slice(), lines.as_bytes(), "{text}");
-    assert_eq!(rt; reported.as_slice(), faults.as_bytes(), "{text}");
+    are_bytes(rt, &out, lines, text);
+    are_bytes(rt, &reported, faults, text);
+}
+
+/// What was written for this text.
+fn are_bytes(rt: &impl Abort, written: &[u8], wanted: &str, text: &str) {
+    assert_eq!(rt; written, wanted.as_bytes(), "{text}");
 }
 
 /// The text is answered by these lines.
 fn answers(rt: &impl Abort, alloc: Global, text: &str, lines: &str) {
     check(rt, alloc, text, Status::Done, lines, "");
+}
+
+/// The text is refused with this line.
+fn is_refused(rt: &impl Abort, alloc: Global, text: &str, line: &str) {
+    check(rt, alloc, text, Status::Refused, "", line);
 }
 
 #[test]
@@ -222,22 +232,13 @@ fn room_for_its_end(rt: HostRuntime) {
 
 #[test]
 fn text_not_of_the_form(rt: HostRuntime) {
-    check(
+    is_refused(
         &rt,
         rt.alloc(),
         r#"{"calls":[["make",0,"SIG_WAIT"],["jump",0]]}"#,
-        Status::Refused,
-        "",
         "refused 24 BadText at 2\n",
     );
-    check(
-        &rt,
-        rt.alloc(),
-        "",
-        Status::Refused,
-        "",
-        "refused 24 BadText at 0\n",
-    );
+    is_refused(&rt, rt.alloc(), "", "refused 24 BadText at 0\n");
 }
 
 #[test]

@@ -2,8 +2,10 @@
 use crate::{MOST_BYTES, answer, ending_from, ending_on, events_from, events_on};
 use job_ends::{Ending, Failure, Reads, Status};
 use phase_modes::Refusal;
+use std::alloc::Global;
 use std::io;
 use std::io::{BufWriter, Error, ErrorKind, Read, Write};
+use std::process::Abort;
 use std::test::Fail;
 
 const INPUT: &[u8] =
@@ -81,65 +83,105 @@ impl Read for FailsOnce<'_> {
     }
 }
 
+/// How a job ended, the lines that it wrote, and what it reported.
+type Outcome<'a> = (Status, &'a [u8], &'a [u8]);
+
+const DONE: Outcome<'static> = (Status::Done, OUTPUT, b"");
+
+// No line is left in a writer that fails.
+const WRITE_FAULT: Outcome<'static> = (Status::Fault, b"", b"fault write\n");
+
+const READ_FAULT: Outcome<'static> = (Status::Fault, b"", b"fault read\n");
+
+const TOO_LONG: Outcome<'static> = (Status::Refused, b"", b"refused 24 BadText at 0\n");
+
+/// Compares an outcome with the one that is wanted.
+fn is_outcome(rt: &impl Abort, came: Outcome<'_>, wanted: Outcome<'_>, calls: usize) {
+    assert_eq!(rt; came, wanted, "{calls}");
+}
+
+/// Compares a status with the one that is wanted.
+fn is_status(rt: &impl Abort, status: Status, wanted: Status, calls: usize) {
+    assert_eq!(rt; status, wanted, "{calls}");
+}
+
+/// The lines can't be written to `out`, and that is reported.
+fn is_write_fault<W: Write>(rt: &impl Abort, alloc: Global, out: &mut W, calls: usize) {
+    let mut faults = Vec::new(alloc);
+    let status = events_on(alloc, INPUT, out, &mut faults);
+    is_outcome(rt, (status, b"", &faults), WRITE_FAULT, calls);
+}
+
 #[test]
 fn write_fails(rt: HostRuntime) -> Result<(), Fail> {
     for calls in 0..OUTPUT.len() {
-        let mut faults = Vec::new(rt.alloc());
-        let mut out = FailsAfter { calls };
-        let status = events_on(rt.alloc(), INPUT, &mut out, &mut faults);
-        assert_eq!(rt; status, Status::Fault, "{calls}");
-        assert_eq!(rt; faults.as_slice(), b"fault write\n".as_slice(), "{calls}");
-        let mut faults = Vec::new(rt.alloc());
+        is_write_fault(&rt, rt.alloc(), &mut FailsAfter { calls }, calls);
         let mut buffered = BufWriter::new(rt.alloc(), FailsAfter { calls })?;
-        let status = events_on(rt.alloc(), INPUT, &mut buffered, &mut faults);
-        assert_eq!(rt; status, Status::Fault, "{calls}");
-        assert_eq!(rt; faults.as_slice(), b"fault write\n".as_slice(), "{calls}");
+        is_write_fault(&rt, rt.alloc(), &mut buffered, calls);
     }
+    let calls = OUTPUT.len();
+    let mut out = FailsAfter { calls };
     let mut faults = FailsAfter { calls: 0 };
-    let mut out = FailsAfter {
-        calls: OUTPUT.len(),
-    };
     let status = events_on(rt.alloc(), INPUT, &mut out, &mut faults);
-    assert_eq!(rt; status, Status::Done);
+    is_status(&rt, status, Status::Done, calls);
     Ok(())
+}
+
+/// A text is refused, where its line can't be written.
+fn is_refused_still(rt: &impl Abort, alloc: Global, calls: usize) {
+    let mut out = Vec::new(alloc);
+    let mut faults = FailsAfter { calls };
+    let status = events_on(alloc, b"7", &mut out, &mut faults);
+    is_status(rt, status, Status::Refused, calls);
 }
 
 // A line of a failure that can't be written changes no status.
 #[test]
 fn fault_line_fails(rt: HostRuntime) {
     for calls in 0..3 {
-        let mut out = Vec::new(rt.alloc());
-        let mut faults = FailsAfter { calls };
-        let status = events_on(rt.alloc(), b"7", &mut out, &mut faults);
-        assert_eq!(rt; status, Status::Refused, "{calls}");
+        is_refused_still(&rt, rt.alloc(), calls);
         let mut out = FailsAfter { calls };
         let mut faults = FailsAfter { calls };
         let status = events_on(rt.alloc(), INPUT, &mut out, &mut faults);
-        assert_eq!(rt; status, Status::Fault, "{calls}");
+        is_status(&rt, status, Status::Fault, calls);
     }
+}
+
+/// The job that reads from there comes to this.
+fn job_from<R: Read>(
+    rt: &impl Abort,
+    alloc: Global,
+    reader: &mut R,
+    wanted: Outcome<'_>,
+    calls: usize,
+) {
+    let mut out = Vec::new(alloc);
+    let mut faults = Vec::new(alloc);
+    let status = events_from(alloc, reader, &mut out, &mut faults);
+    is_outcome(rt, (status, &out, &faults), wanted, calls);
 }
 
 #[test]
 fn read_fails(rt: HostRuntime) {
+    let text = INPUT;
     for calls in 0..=INPUT.len() {
-        let mut reader = TextThenFault { text: INPUT, calls };
-        let mut out = Vec::new(rt.alloc());
-        let mut faults = Vec::new(rt.alloc());
-        let status = events_from(rt.alloc(), &mut reader, &mut out, &mut faults);
-        assert_eq!(rt; status, Status::Fault, "{calls}");
-        assert_eq!(rt; out.len(), 0, "{calls}");
-        assert_eq!(rt; faults.as_slice(), b"fault read\n".as_slice(), "{calls}");
+        let mut reader = TextThenFault { text, calls };
+        job_from(&rt, rt.alloc(), &mut reader, READ_FAULT, calls);
     }
-    let mut reader = TextThenFault {
-        text: INPUT,
-        calls: INPUT.len() + 1,
-    };
-    let mut out = Vec::new(rt.alloc());
-    let mut faults = Vec::new(rt.alloc());
-    let status = events_from(rt.alloc(), &mut reader, &mut out, &mut faults);
-    assert_eq!(rt; status, Status::Done);
-    assert_eq!(rt; out.as_slice(), OUTPUT);
-    assert_eq!(rt; faults.len(), 0);
+    let calls = INPUT.len() + 1;
+    let mut reader = TextThenFault { text, calls };
+    job_from(&rt, rt.alloc(), &mut reader, DONE, calls);
+}
+
+/// The job that reads from there ends in a fault, which is reported.
+fn is_read_fault<R: Read>(rt: &impl Abort, alloc: Global, reader: &mut R) {
+    let mut reads = Reads::none();
+    let mut out = Vec::new(alloc);
+    let mut faults = Vec::new(alloc);
+    let ended = ending_from(alloc, reader, &mut reads, &mut out, &mut faults);
+    let Ending { status, reported } = ended;
+    assert!(rt; reported);
+    is_outcome(rt, (status, &out, &faults), READ_FAULT, 0);
 }
 
 // After a read that failed there is no other, though the reader would go on.
@@ -150,21 +192,15 @@ fn no_read_after_a_fault(rt: HostRuntime) {
         fails_at: 9,
         calls: 0,
     };
-    let mut reads = Reads::none();
-    let mut out = Vec::new(rt.alloc());
-    let mut faults = Vec::new(rt.alloc());
-    let ended = ending_from(rt.alloc(), &mut reader, &mut reads, &mut out, &mut faults);
-    let reported = true;
-    assert_eq!(rt;
-        ended,
-        Ending {
-            status: Status::Fault,
-            reported
-        }
-    );
+    is_read_fault(&rt, rt.alloc(), &mut reader);
     assert_eq!(rt; reader.calls, 9);
-    assert_eq!(rt; out.len(), 0);
-    assert_eq!(rt; faults.as_slice(), b"fault read\n".as_slice());
+}
+
+/// How the text is refused, where its line is written to a writer that fails after these calls.
+fn refused_to(alloc: Global, calls: usize) -> Ending {
+    let mut out = Vec::new(alloc);
+    let mut faults = FailsAfter { calls };
+    ending_on(alloc, b"7", &mut out, &mut faults)
 }
 
 // Where the line can't be written whole, the ending says so.
@@ -172,58 +208,56 @@ fn no_read_after_a_fault(rt: HostRuntime) {
 fn line_not_reported(rt: HostRuntime) {
     let line = b"refused 24 BadText at 0\n";
     for calls in 0..=line.len() {
-        let mut out = Vec::new(rt.alloc());
-        let mut faults = FailsAfter { calls };
-        let ended = ending_on(rt.alloc(), b"7", &mut out, &mut faults);
-        assert_eq!(rt; ended.status, Status::Refused);
-        assert_eq!(rt; ended.reported, calls == line.len(), "{calls}");
+        let wanted = Ending {
+            status: Status::Refused,
+            reported: calls == line.len(),
+        };
+        assert_eq!(rt; refused_to(rt.alloc(), calls), wanted, "{calls}");
     }
+}
+
+/// The input and blanks after it, so many bytes in all.
+fn padded(rt: &HostRuntime, bytes: usize) -> Result<Vec<u8>, Fail> {
+    let mut text = INPUT.to_vec(rt.alloc())?;
+    for _ in INPUT.len()..bytes {
+        text.push(b' ')?;
+    }
+    Ok(text)
 }
 
 // Exactly the greatest number of bytes is read; one more is refused.
 #[test]
 fn too_long(rt: HostRuntime) -> Result<(), Fail> {
-    let mut text = INPUT.to_vec(rt.alloc())?;
-    for _ in INPUT.len()..MOST_BYTES {
-        text.push(b' ')?;
-    }
-    let mut out = Vec::new(rt.alloc());
-    let mut faults = Vec::new(rt.alloc());
-    let status = events_from(rt.alloc(), &mut text.as_slice(), &mut out, &mut faults);
-    assert_eq!(rt; status, Status::Done);
-    assert_eq!(rt; out.as_slice(), OUTPUT);
+    let mut text = padded(&rt, MOST_BYTES)?;
+    job_from(&rt, rt.alloc(), &mut text.as_slice(), DONE, 0);
     text.push(b' ')?;
-    let mut out = Vec::new(rt.alloc());
-    let status = events_from(rt.alloc(), &mut text.as_slice(), &mut out, &mut faults);
-    assert_eq!(rt; status, Status::Refused);
-    assert_eq!(rt; out.len(), 0);
-    assert_eq!(rt; faults.as_slice(), b"refused 24 BadText at 0\n".as_slice());
+    job_from(&rt, rt.alloc(), &mut text.as_slice(), TOO_LONG, 0);
     Ok(())
+}
+
+/// The job on these bytes comes to this.
+fn job_on(rt: &impl Abort, alloc: Global, text: &[u8], wanted: Outcome<'_>) {
+    let mut out = Vec::new(alloc);
+    let mut faults = Vec::new(alloc);
+    let status = events_on(alloc, text, &mut out, &mut faults);
+    is_outcome(rt, (status, &out, &faults), wanted, 0);
+}
+
+/// These bytes are refused, and nothing is written.
+fn is_refused(rt: &impl Abort, alloc: Global, text: &[u8]) {
+    let mut out = Vec::new(alloc);
+    let refused = Err(Failure::Refused(Refusal::BadText(0)));
+    let came = answer(alloc, text, &mut out);
+    assert_eq!(rt; (came, out.len()), (refused, 0));
 }
 
 // The same of bytes that are here.
 #[test]
 fn too_long_in_memory(rt: HostRuntime) -> Result<(), Fail> {
-    let mut text = INPUT.to_vec(rt.alloc())?;
-    for _ in INPUT.len()..1_048_576 {
-        text.push(b' ')?;
-    }
-    let mut out = Vec::new(rt.alloc());
-    let mut faults = Vec::new(rt.alloc());
-    assert_eq!(rt;
-        events_on(rt.alloc(), &text, &mut out, &mut faults),
-        Status::Done
-    );
-    assert_eq!(rt; out.as_slice(), OUTPUT);
+    let mut text = padded(&rt, 1_048_576)?;
+    job_on(&rt, rt.alloc(), &text, DONE);
     text.push(b' ')?;
-    let mut out = Vec::new(rt.alloc());
-    assert_eq!(rt;
-        events_on(rt.alloc(), &text, &mut out, &mut faults),
-        Status::Refused
-    );
-    assert_eq!(rt; faults.as_slice(), b"refused 24 BadText at 0\n".as_slice());
-    let refused = Err(Failure::Refused(Refusal::BadText(0)));
-    assert_eq!(rt; answer(rt.alloc(), &text, &mut out), refused);
-    assert_eq!(rt; out.len(), 0);
+    job_on(&rt, rt.alloc(), &text, TOO_LONG);
+    is_refused(&rt, rt.alloc(), &text);
     Ok(())
 }

@@ -1,5 +1,8 @@
 //! Parts that are merged, and parts that can't be; and traces that are replayed.
+use super::{Entry, are_alike, trace_of};
 use phase_modes::{Limits, Phased, Refusal};
+use std::alloc::Global;
+use std::process::Abort;
 use std::test::Fail;
 use trace_model::{Part, Trace, TracedEvent};
 use trace_replay::{merge, replay};
@@ -7,65 +10,93 @@ use world_model::Begun;
 
 mod worked;
 
+/// The end of this task.
+fn end(task: u32) -> TracedEvent {
+    TracedEvent::Begin(task, Begun::End)
+}
+
 /// A part with these tickets, whose events are the ends of this task.
-fn part_of(rt: &HostRuntime, task: u32, tickets: &[u64]) -> Result<Part, Fail> {
-    let mut part = Part::new(rt.alloc());
+fn part_of(alloc: Global, task: u32, tickets: &[u64]) -> Result<Part, Fail> {
+    let mut part = Part::new(alloc);
     for ticket in tickets {
-        part.push(*ticket, TracedEvent::Begin(task, Begun::End))
+        part.push(*ticket, end(task))
             .map_err(|_| Fail::from("memory"))?;
     }
     Ok(part)
 }
 
-/// Whether both have the same events, with the same tickets.
-fn have_same_events(one: &Trace, other: &Trace) -> bool {
-    if one.len() != other.len() {
-        return false;
-    }
-    for place in 0..one.len() {
-        if one.entry(place) != other.entry(place) {
-            return false;
-        }
-    }
-    true
+/// Two parts with these tickets, of the tasks 1 and 2.
+fn two_parts(alloc: Global, first: &[u64], second: &[u64]) -> Result<Vec<Part>, Fail> {
+    let mut parts = Vec::new(alloc);
+    parts.push(part_of(alloc, 1, first)?)?;
+    parts.push(part_of(alloc, 2, second)?)?;
+    Ok(parts)
+}
+
+/// What merging those two parts comes to.
+fn merged(alloc: Global, first: &[u64], second: &[u64]) -> Result<Result<Trace, Refusal>, Fail> {
+    let parts = two_parts(alloc, first, second)?;
+    Ok(merge(alloc, Limits::default(), &parts))
 }
 
 /// The place at which two parts are first at fault.
-fn place_of(rt: &HostRuntime, first: &[u64], second: &[u64]) -> Result<Option<u64>, Fail> {
-    let mut parts = Vec::new(rt.alloc());
-    parts.push(part_of(rt, 1, first)?)?;
-    parts.push(part_of(rt, 2, second)?)?;
-    match merge(rt.alloc(), Limits::default(), &parts) {
+fn place_of(alloc: Global, first: &[u64], second: &[u64]) -> Result<Option<u64>, Fail> {
+    match merged(alloc, first, second)? {
         Ok(_) => Ok(None),
         Err(Refusal::NotExplained(place)) => Ok(Some(place)),
         Err(_) => Err(Fail::from("another refusal")),
     }
 }
 
+/// The trace has these events, and the limits of a file that names none.
+fn has_events(
+    rt: &impl Abort,
+    alloc: Global,
+    trace: &Trace,
+    entries: &[Entry],
+) -> Result<(), Fail> {
+    let wanted = trace_of(alloc, entries)?;
+    are_alike(rt, trace, &wanted);
+    Ok(())
+}
+
+/// Two parts with these tickets are merged to a trace of these events.
+fn is_merged(
+    rt: &impl Abort,
+    alloc: Global,
+    first: &[u64],
+    second: &[u64],
+    entries: &[Entry],
+) -> Result<(), Fail> {
+    match merged(alloc, first, second)? {
+        Ok(trace) => has_events(rt, alloc, &trace, entries),
+        Err(_) => Err(Fail::from("refused")),
+    }
+}
+
 #[test]
 fn parts_by_rising_ticket(rt: HostRuntime) -> Result<(), Fail> {
-    let mut parts = Vec::new(rt.alloc());
-    parts.push(part_of(&rt, 1, &[2, 5])?)?;
-    parts.push(part_of(&rt, 2, &[1, 9])?)?;
-    let merged = merge(rt.alloc(), Limits::default(), &parts);
-    let trace = merged.map_err(|_| Fail::from("refused"))?;
-    let mut wanted = Trace::new(rt.alloc(), Limits::default());
-    for (ticket, task) in [(1, 2), (2, 1), (5, 1), (9, 2)] {
-        wanted
-            .push(ticket, TracedEvent::Begin(task, Begun::End))
-            .map_err(|_| Fail::from("memory"))?;
-    }
-    assert!(rt; have_same_events(&trace, &wanted));
-    assert_eq!(rt; trace.limits(), Limits::default());
+    let entries = [(1, end(2)), (2, end(1)), (5, end(1)), (9, end(2))];
+    is_merged(&rt, rt.alloc(), &[2, 5], &[1, 9], entries.as_slice())
+}
+
+/// Two parts with these tickets are first at fault at this place, or have no fault.
+fn is_at(
+    rt: &impl Abort,
+    alloc: Global,
+    first: &[u64],
+    second: &[u64],
+    place: Option<u64>,
+) -> Result<(), Fail> {
+    assert_eq!(rt; place_of(alloc, first, second)?, place);
     Ok(())
 }
 
 #[test]
 fn the_least_place_at_fault(rt: HostRuntime) -> Result<(), Fail> {
-    assert_eq!(rt; place_of(&rt, &[], &[])?, None);
-    assert_eq!(rt; place_of(&rt, &[1, 4], &[2, 4, 6])?, Some(4));
-    assert_eq!(rt; place_of(&rt, &[1, 7, 3], &[2])?, Some(3));
-    assert_eq!(rt; place_of(&rt, &[5, 5], &[])?, Some(2));
-    assert_eq!(rt; place_of(&rt, &[9, 0], &[3])?, Some(1));
-    Ok(())
+    is_at(&rt, rt.alloc(), &[], &[], None)?;
+    is_at(&rt, rt.alloc(), &[1, 4], &[2, 4, 6], Some(4))?;
+    is_at(&rt, rt.alloc(), &[1, 7, 3], &[2], Some(3))?;
+    is_at(&rt, rt.alloc(), &[5, 5], &[], Some(2))?;
+    is_at(&rt, rt.alloc(), &[9, 0], &[3], Some(1))
 }

@@ -1,8 +1,9 @@
 //! The text of the smallest trace, every form of an event there and back, and where damaged texts
 //! are refused.
+use super::{Entry, are_alike, trace_of};
 use finish_core::FinishEvent;
 use phase_model::{Look, Op, Ops};
-use phase_modes::{Limits, Mode, Pair, Phased, Refusal};
+use phase_modes::{Mode, Pair, Phased, Refusal};
 use std::alloc::Global;
 use std::process::Abort;
 use std::test::Fail;
@@ -22,50 +23,54 @@ fn place_of(alloc: Global, text: &str) -> Result<Option<u64>, Fail> {
     }
 }
 
-fn read(rt: &HostRuntime, text: &str) -> Result<Trace, Fail> {
-    from_json(rt.alloc(), text.as_bytes()).map_err(|_| Fail::from("not read"))
+/// The text has its first fault at this place, or is of the form.
+fn is_at(rt: &impl Abort, alloc: Global, text: &str, place: Option<u64>) -> Result<(), Fail> {
+    assert_eq!(rt; place_of(alloc, text)?, place, "{text}");
+    Ok(())
 }
 
-fn written(rt: &HostRuntime, trace: &Trace) -> Result<String, Fail> {
-    to_json(rt.alloc(), trace).map_err(|_| Fail::from("not written"))
+fn read(alloc: Global, text: &str) -> Result<Trace, Fail> {
+    from_json(alloc, text.as_bytes()).map_err(|_| Fail::from("not read"))
 }
 
-/// Whether both have the same events, with the same tickets.
-fn have_same_events(one: &Trace, other: &Trace) -> bool {
-    if one.len() != other.len() {
-        return false;
-    }
-    for place in 0..one.len() {
-        if one.entry(place) != other.entry(place) {
-            return false;
-        }
-    }
-    true
+fn written(alloc: Global, trace: &Trace) -> Result<String, Fail> {
+    to_json(alloc, trace).map_err(|_| Fail::from("not written"))
+}
+
+/// The trace is written as this text.
+fn is_written(rt: &impl Abort, alloc: Global, trace: &Trace, text: &str) -> Result<(), Fail> {
+    let lines = written(alloc, trace)?;
+    assert_eq!(rt; lines.as_str(), text);
+    Ok(())
+}
+
+/// The text is read as this trace, which has the limits of a file that names none.
+fn is_read(rt: &impl Abort, alloc: Global, text: &str, trace: &Trace) -> Result<(), Fail> {
+    let again = read(alloc, text)?;
+    are_alike(rt, &again, trace);
+    Ok(())
+}
+
+/// The trace of these events is written as this text and read from it.
+fn is_text_of(rt: &impl Abort, alloc: Global, text: &str, entries: &[Entry]) -> Result<(), Fail> {
+    let trace = trace_of(alloc, entries)?;
+    is_written(rt, alloc, &trace, text)?;
+    is_read(rt, alloc, text, &trace)
 }
 
 #[test]
 fn smallest_trace(rt: HostRuntime) -> Result<(), Fail> {
-    let events = [
-        TracedEvent::Phaser(0, TracedStep::Make(0, Mode::SigWait, Ops::none())),
-        TracedEvent::Begin(0, Begun::Next),
-        TracedEvent::Phaser(0, TracedStep::Sig(0, None)),
-        TracedEvent::Phaser(0, TracedStep::Pass(0)),
-        TracedEvent::Begin(0, Begun::End),
-        TracedEvent::Phaser(0, TracedStep::Drop(0)),
-        TracedEvent::Finish(0, FinishEvent::Shut),
+    let make = TracedStep::Make(0, Mode::SigWait, Ops::none());
+    let entries = [
+        (1, TracedEvent::Phaser(0, make)),
+        (2, TracedEvent::Begin(0, Begun::Next)),
+        (3, TracedEvent::Phaser(0, TracedStep::Sig(0, None))),
+        (4, TracedEvent::Phaser(0, TracedStep::Pass(0))),
+        (5, TracedEvent::Begin(0, Begun::End)),
+        (6, TracedEvent::Phaser(0, TracedStep::Drop(0))),
+        (7, TracedEvent::Finish(0, FinishEvent::Shut)),
     ];
-    let mut trace = Trace::new(rt.alloc(), Limits::default());
-    for (index, event) in events.iter().enumerate() {
-        let ticket = index as u64 + 1;
-        trace
-            .push(ticket, *event)
-            .map_err(|_| Fail::from("memory"))?;
-    }
-    assert_eq!(rt; written(&rt, &trace)?.as_str(), SMALLEST);
-    let again = read(&rt, SMALLEST)?;
-    assert_eq!(rt; again.limits(), Limits::default());
-    assert!(rt; have_same_events(&again, &trace));
-    Ok(())
+    is_text_of(&rt, rt.alloc(), SMALLEST, entries.as_slice())
 }
 
 /// Events in their forms, each to be read and written again as it is.
@@ -113,29 +118,40 @@ const EVENTS: [&str; 38] = [
 const LIMITS: &str =
     r#""limits":{"acts":1,"finishes":2,"history":5,"phasers":3,"regs":4,"tasks":6}"#;
 
+/// The text is read, and written again as it is.
+fn is_written_again(rt: &impl Abort, alloc: Global, text: &str) -> Result<(), Fail> {
+    let trace = read(alloc, text)?;
+    is_written(rt, alloc, &trace, text)
+}
+
+/// The text of a trace of this event.
+fn text_of(alloc: Global, event: &str) -> Result<String, Fail> {
+    Ok(format!(in alloc; "{{\"events\":[{event}],{LIMITS},\"version\":1}}")?)
+}
+
 #[test]
 fn every_form_there_and_back(rt: HostRuntime) -> Result<(), Fail> {
-    for event in EVENTS {
-        let text = format!(in rt.alloc(); "{{\"events\":[{event}],{LIMITS},\"version\":1}}")?;
-        let trace = read(&rt, text.as_str())?;
-        assert_eq!(rt; written(&rt, &trace)?.as_str(), text.as_str(), "{event}");
+    for event in EVENTS.as_slice() {
+        let text = text_of(rt.alloc(), event)?;
+        is_written_again(&rt, rt.alloc(), text.as_str())?;
     }
     Ok(())
 }
 
-#[test]
-fn numbers_of_refusals_without_a_form(rt: HostRuntime) -> Result<(), Fail> {
-    let mut trace = Trace::new(rt.alloc(), Limits::default());
-    trace
-        .push(1, TracedEvent::Fail(0, 27))
-        .map_err(|_| Fail::from("memory"))?;
-    let text = written(&rt, &trace)?;
-    assert_eq!(rt; place_of(rt.alloc(), text.as_str())?, Some(1));
-    Ok(())
+/// The text of the trace of these events.
+fn text_for(alloc: Global, entries: &[Entry]) -> Result<String, Fail> {
+    let trace = trace_of(alloc, entries)?;
+    written(alloc, &trace)
 }
 
 #[test]
-fn most_pairs(rt: HostRuntime) -> Result<(), Fail> {
+fn numbers_of_refusals_without_a_form(rt: HostRuntime) -> Result<(), Fail> {
+    let text = text_for(rt.alloc(), &[(1, TracedEvent::Fail(0, 27))])?;
+    is_at(&rt, rt.alloc(), text.as_str(), Some(1))
+}
+
+/// As many pairs as a task has at most.
+fn all_pairs() -> Phased {
     let mut pairs = Phased::none();
     for phaser in 0..20 {
         if pairs.len() < 16 {
@@ -145,136 +161,154 @@ fn most_pairs(rt: HostRuntime) -> Result<(), Fail> {
             });
         }
     }
-    assert_eq!(rt; pairs.len(), 16);
+    pairs
+}
+
+/// One accumulator, the least.
+fn one_least() -> Ops {
     let mut ops = Ops::none();
     ops.push(Op::Least);
-    let mut trace = Trace::new(rt.alloc(), Limits::default());
-    trace
-        .push(
-            9,
-            TracedEvent::Refuse(3, Tried::Begun(Begun::Async(1, pairs)), 12),
-        )
-        .map_err(|_| Fail::from("memory"))?;
-    trace
-        .push(2, TracedEvent::Refuse(3, Tried::New(5, Mode::Sig, ops), 16))
-        .map_err(|_| Fail::from("memory"))?;
-    trace
-        .push(
-            2,
-            TracedEvent::Phaser(1, TracedStep::Look(1, 2, Look::Value(-5))),
-        )
-        .map_err(|_| Fail::from("memory"))?;
-    let text = written(&rt, &trace)?;
-    let again = read(&rt, text.as_str())?;
-    assert!(rt; have_same_events(&again, &trace));
-    Ok(())
+    ops
+}
+
+/// The trace of these events is written, and read again.
+fn is_read_again(rt: &impl Abort, alloc: Global, entries: &[Entry]) -> Result<(), Fail> {
+    let trace = trace_of(alloc, entries)?;
+    let text = written(alloc, &trace)?;
+    is_read(rt, alloc, text.as_str(), &trace)
+}
+
+#[test]
+fn most_pairs(rt: HostRuntime) -> Result<(), Fail> {
+    let pairs = all_pairs();
+    assert_eq!(rt; pairs.len(), 16);
+    let spawn = Tried::Begun(Begun::Async(1, pairs));
+    let make = Tried::New(5, Mode::Sig, one_least());
+    let look = TracedStep::Look(1, 2, Look::Value(-5));
+    let entries = [
+        (9, TracedEvent::Refuse(3, spawn, 12)),
+        (2, TracedEvent::Refuse(3, make, 16)),
+        (2, TracedEvent::Phaser(1, look)),
+    ];
+    is_read_again(&rt, rt.alloc(), entries.as_slice())
 }
 
 /// Each text has its first fault at this place.
 fn all_at(rt: &impl Abort, alloc: Global, texts: &[&str], place: Option<u64>) -> Result<(), Fail> {
     for text in texts {
-        assert_eq!(rt; place_of(alloc, text)?, place, "{text}");
+        is_at(rt, alloc, text, place)?;
     }
     Ok(())
 }
 
+/// Texts of the form.
+const GOOD: [&str; 4] = [
+    r#"{"events":[],"version":1}"#,
+    " \n{ \"version\" : 1 ,\t\"events\" : [ ] }\r\n",
+    r#"{"version":1,"limits":{},"events":[]}"#,
+    r#"{"version":1,"limits":{"tasks":4096},"events":[]}"#,
+];
+
+/// Texts that are at fault in what stands around the events.
+const BAD: [&str; 21] = [
+    "",
+    "{",
+    "[]",
+    "null",
+    "{}",
+    r#"{"events":[]}"#,
+    r#"{"version":1}"#,
+    r#"{"events":[],"version":2}"#,
+    r#"{"events":[],"version":0}"#,
+    r#"{"events":[],"version":1.0}"#,
+    r#"{"events":[],"version":"1"}"#,
+    r#"{"events":[],"version":null}"#,
+    r#"{"events":null,"version":1}"#,
+    r#"{"events":{},"version":1}"#,
+    r#"{"events":[7],"version":3}"#,
+    r#"{"events":[],"version":1,"limits":null}"#,
+    r#"{"events":[7],"version":1,"limits":{"tasks":4097}}"#,
+    r#"{"events":[],"version":1,"limits":{"workers":1}}"#,
+    r#"{"events":[],"version":1,"accs":[]}"#,
+    r#"{"events":[],"version":1} x"#,
+    r#"{"events":[[1,"p",0,"sig",1e400]],"version":1}"#,
+];
+
 #[test]
 fn outer_object(rt: HostRuntime) -> Result<(), Fail> {
-    let good = [
-        r#"{"events":[],"version":1}"#,
-        " \n{ \"version\" : 1 ,\t\"events\" : [ ] }\r\n",
-        r#"{"version":1,"limits":{},"events":[]}"#,
-        r#"{"version":1,"limits":{"tasks":4096},"events":[]}"#,
-    ];
-    all_at(&rt, rt.alloc(), good.as_slice(), None)?;
-    let bad = [
-        "",
-        "{",
-        "[]",
-        "null",
-        "{}",
-        r#"{"events":[]}"#,
-        r#"{"version":1}"#,
-        r#"{"events":[],"version":2}"#,
-        r#"{"events":[],"version":0}"#,
-        r#"{"events":[],"version":1.0}"#,
-        r#"{"events":[],"version":"1"}"#,
-        r#"{"events":[],"version":null}"#,
-        r#"{"events":null,"version":1}"#,
-        r#"{"events":{},"version":1}"#,
-        r#"{"events":[7],"version":3}"#,
-        r#"{"events":[],"version":1,"limits":null}"#,
-        r#"{"events":[7],"version":1,"limits":{"tasks":4097}}"#,
-        r#"{"events":[],"version":1,"limits":{"workers":1}}"#,
-        r#"{"events":[],"version":1,"accs":[]}"#,
-        r#"{"events":[],"version":1} x"#,
-        r#"{"events":[[1,"p",0,"sig",1e400]],"version":1}"#,
-    ];
-    all_at(&rt, rt.alloc(), bad.as_slice(), Some(0))
+    all_at(&rt, rt.alloc(), GOOD.as_slice(), None)?;
+    all_at(&rt, rt.alloc(), BAD.as_slice(), Some(0))
+}
+
+/// Items that are no events.
+const NO_EVENTS: [&str; 53] = [
+    "7",
+    "null",
+    "{}",
+    "[]",
+    "[1]",
+    r#"["p",0,"sig",0]"#,
+    r#"[-1,"p",0,"sig",0]"#,
+    r#"[18446744073709551616,"p",0,"sig",0]"#,
+    r#"[1.0,"p",0,"sig",0]"#,
+    r#"[1,"q",0,"sig",0]"#,
+    r#"[1,"p",4294967296,"sig",0]"#,
+    r#"[1,"p",-1,"sig",0]"#,
+    r#"[1,"p",0,"signal",0]"#,
+    r#"[1,"p",0,"sig"]"#,
+    r#"[1,"p",0,"sig",0,1,2]"#,
+    r#"[1,"p",0,"sig",0,null]"#,
+    r#"[1,"p",0,"make",0,"SIG"]"#,
+    r#"[1,"p",0,"make",0,"SIG",[],null]"#,
+    r#"[1,"p",0,"make",0,"sig",[]]"#,
+    r#"[1,"p",0,"make",0,"SIG",["product"]]"#,
+    r#"[1,"p",0,"make",0,"SIG",["sum","sum","sum","sum","sum"]]"#,
+    r#"[1,"p",0,"reg",0,"SIG"]"#,
+    r#"[1,"p",0,"pass",0,0]"#,
+    r#"[1,"p",0,"send",0,256,1]"#,
+    r#"[1,"p",0,"send",0,0,2147483648]"#,
+    r#"[1,"p",0,"send",0,0,-2147483649]"#,
+    r#"[1,"p",0,"look",0,0]"#,
+    r#"[1,"p",0,"look",0,0,9223372036854775808]"#,
+    r#"[1,"p",0,"look",0,0,-9223372036854775809]"#,
+    r#"[1,"p",0,"look",0,0,"none"]"#,
+    r#"[1,"p",0,"opened",0]"#,
+    r#"[1,"f",0,"sig",0]"#,
+    r#"[1,"f",0,"shut",0]"#,
+    r#"[1,"f",0,"opened"]"#,
+    r#"[1,"f",0,"ended",0,0]"#,
+    r#"[1,"t",0,"begin"]"#,
+    r#"[1,"t",0,"begin","next"]"#,
+    r#"[1,"t",0,"begin",["next",1]]"#,
+    r#"[1,"t",0,"begin",["next"],1]"#,
+    r#"[1,"t",0,"begin",["single"]]"#,
+    r#"[1,"t",0,"begin",["new",0,"SIG",[]]]"#,
+    r#"[1,"t",0,"begin",["open",0]]"#,
+    r#"[1,"t",0,"begin",["async",1]]"#,
+    r#"[1,"t",0,"begin",["async",1,[[0]]]]"#,
+    r#"[1,"t",0,"begin",["async",1,[[0,"SIG",0]]]]"#,
+    r#"[1,"t",0,"begin",["async",1,[[0,"SIG"],[0,"SIG"],[0,"SIG"],[0,"SIG"],[0,"SIG"],[0,"SIG"],[0,"SIG"],[0,"SIG"],[0,"SIG"],[0,"SIG"],[0,"SIG"],[0,"SIG"],[0,"SIG"],[0,"SIG"],[0,"SIG"],[0,"SIG"],[0,"SIG"]]]]"#,
+    r#"[1,"t",0,"refuse",["next"]]"#,
+    r#"[1,"t",0,"refuse",["next"],0]"#,
+    r#"[1,"t",0,"refuse",["next"],27]"#,
+    r#"[1,"t",0,"refuse",["look",0,1,null],10]"#,
+    r#"[1,"t",0,"fail"]"#,
+    r#"[1,"t",0,"fail",0]"#,
+    r#"[1,"t",0,"fail",27]"#,
+];
+
+/// The text of a trace with this as its third event, and a fourth that is none.
+fn text_with_third(alloc: Global, event: &str) -> Result<String, Fail> {
+    Ok(format!(in alloc;
+        "{{\"events\":[[1,\"f\",1,\"shut\"],[1,\"f\",1,\"shut\"],{event},7],\"version\":1}}"
+    )?)
 }
 
 #[test]
 fn events_without_a_form(rt: HostRuntime) -> Result<(), Fail> {
-    let bad = [
-        "7",
-        "null",
-        "{}",
-        "[]",
-        "[1]",
-        r#"["p",0,"sig",0]"#,
-        r#"[-1,"p",0,"sig",0]"#,
-        r#"[18446744073709551616,"p",0,"sig",0]"#,
-        r#"[1.0,"p",0,"sig",0]"#,
-        r#"[1,"q",0,"sig",0]"#,
-        r#"[1,"p",4294967296,"sig",0]"#,
-        r#"[1,"p",-1,"sig",0]"#,
-        r#"[1,"p",0,"signal",0]"#,
-        r#"[1,"p",0,"sig"]"#,
-        r#"[1,"p",0,"sig",0,1,2]"#,
-        r#"[1,"p",0,"sig",0,null]"#,
-        r#"[1,"p",0,"make",0,"SIG"]"#,
-        r#"[1,"p",0,"make",0,"SIG",[],null]"#,
-        r#"[1,"p",0,"make",0,"sig",[]]"#,
-        r#"[1,"p",0,"make",0,"SIG",["product"]]"#,
-        r#"[1,"p",0,"make",0,"SIG",["sum","sum","sum","sum","sum"]]"#,
-        r#"[1,"p",0,"reg",0,"SIG"]"#,
-        r#"[1,"p",0,"pass",0,0]"#,
-        r#"[1,"p",0,"send",0,256,1]"#,
-        r#"[1,"p",0,"send",0,0,2147483648]"#,
-        r#"[1,"p",0,"send",0,0,-2147483649]"#,
-        r#"[1,"p",0,"look",0,0]"#,
-        r#"[1,"p",0,"look",0,0,9223372036854775808]"#,
-        r#"[1,"p",0,"look",0,0,-9223372036854775809]"#,
-        r#"[1,"p",0,"look",0,0,"none"]"#,
-        r#"[1,"p",0,"opened",0]"#,
-        r#"[1,"f",0,"sig",0]"#,
-        r#"[1,"f",0,"shut",0]"#,
-        r#"[1,"f",0,"opened"]"#,
-        r#"[1,"f",0,"ended",0,0]"#,
-        r#"[1,"t",0,"begin"]"#,
-        r#"[1,"t",0,"begin","next"]"#,
-        r#"[1,"t",0,"begin",["next",1]]"#,
-        r#"[1,"t",0,"begin",["next"],1]"#,
-        r#"[1,"t",0,"begin",["single"]]"#,
-        r#"[1,"t",0,"begin",["new",0,"SIG",[]]]"#,
-        r#"[1,"t",0,"begin",["open",0]]"#,
-        r#"[1,"t",0,"begin",["async",1]]"#,
-        r#"[1,"t",0,"begin",["async",1,[[0]]]]"#,
-        r#"[1,"t",0,"begin",["async",1,[[0,"SIG",0]]]]"#,
-        r#"[1,"t",0,"begin",["async",1,[[0,"SIG"],[0,"SIG"],[0,"SIG"],[0,"SIG"],[0,"SIG"],[0,"SIG"],[0,"SIG"],[0,"SIG"],[0,"SIG"],[0,"SIG"],[0,"SIG"],[0,"SIG"],[0,"SIG"],[0,"SIG"],[0,"SIG"],[0,"SIG"],[0,"SIG"]]]]"#,
-        r#"[1,"t",0,"refuse",["next"]]"#,
-        r#"[1,"t",0,"refuse",["next"],0]"#,
-        r#"[1,"t",0,"refuse",["next"],27]"#,
-        r#"[1,"t",0,"refuse",["look",0,1,null],10]"#,
-        r#"[1,"t",0,"fail"]"#,
-        r#"[1,"t",0,"fail",0]"#,
-        r#"[1,"t",0,"fail",27]"#,
-    ];
-    for event in bad {
-        let text = format!(in rt.alloc();
-            "{{\"events\":[[1,\"f\",1,\"shut\"],[1,\"f\",1,\"shut\"],{event},7],\"version\":1}}"
-        )?;
-        assert_eq!(rt; place_of(rt.alloc(), text.as_str())?, Some(3), "{event}");
+    for event in NO_EVENTS.as_slice() {
+        let text = text_with_third(rt.alloc(), event)?;
+        is_at(&rt, rt.alloc(), text.as_str(), Some(3))?;
     }
     Ok(())
 }
@@ -282,8 +316,7 @@ fn events_without_a_form(rt: HostRuntime) -> Result<(), Fail> {
 #[test]
 fn order_of_tickets_is_no_matter_of_the_text(rt: HostRuntime) -> Result<(), Fail> {
     let text = r#"{"events":[[9,"f",1,"shut"],[3,"f",1,"shut"],[3,"f",0,"opened",0]],"version":1}"#;
-    assert_eq!(rt; place_of(rt.alloc(), text)?, None);
-    Ok(())
+    is_at(&rt, rt.alloc(), text, None)
 }
 
 #[test]
@@ -301,6 +334,5 @@ fn every_proper_prefix_is_refused(rt: HostRuntime) -> Result<(), Fail> {
 #[test]
 fn cut_inside_a_string(rt: HostRuntime) -> Result<(), Fail> {
     let text = r#"{"events":[[1,"p",0,"ma"#;
-    assert_eq!(rt; place_of(rt.alloc(), text)?, Some(0));
-    Ok(())
+    is_at(&rt, rt.alloc(), text, Some(0))
 }

@@ -1,32 +1,13 @@
 //! A trace and a part as another crate builds them, and their events in a world.
+use super::{fill, trace_of};
 use finish_core::FinishEvent;
 use phase_model::Look;
 use phase_modes::{Limits, Refusal};
+use std::alloc::Global;
+use std::process::Abort;
 use std::test::Fail;
 use trace_model::{Part, Trace, TracedEvent, TracedStep};
 use world_model::{Reply, Step, Tried, WorldEvent};
-
-#[test]
-fn events_are_kept_in_order(rt: HostRuntime) -> Result<(), Fail> {
-    let mut trace = Trace::new(rt.alloc(), Limits::default());
-    let mut part = Part::new(rt.alloc());
-    trace
-        .push(9, TracedEvent::Finish(0, FinishEvent::Shut))
-        .map_err(|_| Fail::from("memory"))?;
-    part.push(9, TracedEvent::Finish(0, FinishEvent::Shut))
-        .map_err(|_| Fail::from("memory"))?;
-    assert_eq!(rt; trace.len(), 1);
-    assert!(rt; part.events()[0] == trace.entry(0));
-    trace
-        .push(
-            2,
-            TracedEvent::Phaser(0, TracedStep::Look(3, 1, Look::Value(-5))),
-        )
-        .map_err(|_| Fail::from("memory"))?;
-    assert_eq!(rt; trace.len(), 2);
-    assert_eq!(rt; trace.limits(), Limits::default());
-    Ok(())
-}
 
 /// A long event, here of this task.
 fn refused(task: u32) -> TracedEvent {
@@ -37,19 +18,71 @@ fn shut(finish: u32) -> TracedEvent {
     TracedEvent::Finish(finish, FinishEvent::Shut)
 }
 
+/// The trace has so many events, and these limits.
+fn has_events(rt: &impl Abort, trace: &Trace, events: usize, limits: Limits) {
+    assert_eq!(rt; trace.len(), events);
+    assert_eq!(rt; trace.limits(), limits);
+}
+
+/// The trace has one event, which is the part's first too.
+fn is_first_of(rt: &impl Abort, part: &Part, trace: &Trace) {
+    assert_eq!(rt; trace.len(), 1);
+    assert!(rt; 0 < part.events().len());
+    assert!(rt; part.events()[0] == trace.entry(0));
+}
+
+/// A part with this event.
+fn part_with(alloc: Global, ticket: u64, event: TracedEvent) -> Result<Part, Fail> {
+    let mut part = Part::new(alloc);
+    part.push(ticket, event).map_err(|_| Fail::from("memory"))?;
+    Ok(part)
+}
+
+/// A trace keeps its first event as a part does, and the next one after it.
+fn keeps_order(rt: &impl Abort, part: &Part, trace: &mut Trace) -> Result<(), Fail> {
+    let look = TracedStep::Look(3, 1, Look::Value(-5));
+    fill(trace, &[(9, shut(0))])?;
+    is_first_of(rt, part, trace);
+    fill(trace, &[(2, TracedEvent::Phaser(0, look))])?;
+    has_events(rt, trace, 2, Limits::default());
+    Ok(())
+}
+
 #[test]
-fn long_events_in_their_places(rt: HostRuntime) -> Result<(), Fail> {
+fn events_are_kept_in_order(rt: HostRuntime) -> Result<(), Fail> {
+    let part = part_with(rt.alloc(), 9, shut(0))?;
     let mut trace = Trace::new(rt.alloc(), Limits::default());
-    for task in 0..3 {
-        trace.push(5, shut(task)).map_err(|_| Fail::from("memory"))?;
-        trace
-            .push(6, refused(task))
-            .map_err(|_| Fail::from("memory"))?;
-    }
+    keeps_order(&rt, &part, &mut trace)
+}
+
+/// Three of the six events are in their places.
+fn are_in_their_places(rt: &impl Abort, trace: &Trace) {
     assert!(rt; 5 < trace.len());
     assert!(rt; trace.entry(2) == (5, shut(1)));
     assert!(rt; trace.entry(3) == (6, refused(1)));
     assert!(rt; trace.entry(5) == (6, refused(2)));
+}
+
+#[test]
+fn long_events_in_their_places(rt: HostRuntime) -> Result<(), Fail> {
+    let entries = [
+        (5, shut(0)),
+        (6, refused(0)),
+        (5, shut(1)),
+        (6, refused(1)),
+        (5, shut(2)),
+        (6, refused(2)),
+    ];
+    let trace = trace_of(rt.alloc(), entries.as_slice())?;
+    are_in_their_places(&rt, &trace);
+    Ok(())
+}
+
+/// The trace, which has no event, takes one.
+fn takes_one(rt: &impl Abort, trace: &mut Trace, limits: Limits) -> Result<(), Fail> {
+    has_events(rt, trace, 0, limits);
+    fill(trace, &[(1, shut(0))])?;
+    has_events(rt, trace, 1, limits);
     Ok(())
 }
 
@@ -60,13 +93,7 @@ fn room_for_events_has_none(rt: HostRuntime) -> Result<(), Fail> {
         ..Limits::default()
     };
     let mut trace = Trace::with_capacity(rt.alloc(), limits, 1).map_err(|_| Fail::from("memory"))?;
-    assert_eq!(rt; trace.len(), 0);
-    assert_eq!(rt; trace.limits(), limits);
-    trace
-        .push(1, TracedEvent::Finish(0, FinishEvent::Shut))
-        .map_err(|_| Fail::from("memory"))?;
-    assert_eq!(rt; trace.len(), 1);
-    Ok(())
+    takes_one(&rt, &mut trace, limits)
 }
 
 #[test]

@@ -6,8 +6,6 @@ use phase_modes::Mode;
 use trace_model::TracedStep;
 use world_model::WorldReport;
 
-type Entry = (u64, TracedEvent);
-
 fn on(phaser: u32, step: TracedStep) -> TracedEvent {
     TracedEvent::Phaser(phaser, step)
 }
@@ -21,28 +19,42 @@ fn within(finish: u32, event: FinishEvent) -> TracedEvent {
 }
 
 /// What replaying the trace of these entries comes to.
-fn replayed(rt: &HostRuntime, entries: &[Entry]) -> Result<Result<WorldReport, Refusal>, Fail> {
-    let mut trace = Trace::new(rt.alloc(), Limits::default());
-    for entry in entries {
-        let (ticket, event) = *entry;
-        trace.push(ticket, event).map_err(|_| Fail::from("memory"))?;
-    }
-    Ok(replay(rt.alloc(), &trace))
+fn replayed(alloc: Global, entries: &[Entry]) -> Result<Result<WorldReport, Refusal>, Fail> {
+    let trace = trace_of(alloc, entries)?;
+    Ok(replay(alloc, &trace))
 }
 
 /// The lines of the report of an explained trace.
-fn lines_of(rt: &HostRuntime, entries: &[Entry]) -> Result<String, Fail> {
-    let report = replayed(rt, entries)?.map_err(|_| Fail::from("not explained"))?;
-    Ok(report.to_string(rt.alloc())?)
+fn lines_of(alloc: Global, entries: &[Entry]) -> Result<String, Fail> {
+    let report = replayed(alloc, entries)?.map_err(|_| Fail::from("not explained"))?;
+    Ok(report.to_string(alloc)?)
+}
+
+/// The trace of these entries is explained, and these are the lines of its report.
+fn has_lines(rt: &impl Abort, alloc: Global, entries: &[Entry], lines: &str) -> Result<(), Fail> {
+    let reported = lines_of(alloc, entries)?;
+    assert_eq!(rt; reported.as_str(), lines);
+    Ok(())
 }
 
 /// The place at which a trace is first at fault; none where it is explained.
-fn fault_of(rt: &HostRuntime, entries: &[Entry]) -> Result<Option<u64>, Fail> {
-    match replayed(rt, entries)? {
+fn fault_of(alloc: Global, entries: &[Entry]) -> Result<Option<u64>, Fail> {
+    match replayed(alloc, entries)? {
         Ok(_) => Ok(None),
         Err(Refusal::NotExplained(place)) => Ok(Some(place)),
         Err(_) => Err(Fail::from("another refusal")),
     }
+}
+
+/// The trace of these entries is first at fault at this place, or explained.
+fn is_at(
+    rt: &impl Abort,
+    alloc: Global,
+    entries: &[Entry],
+    place: Option<u64>,
+) -> Result<(), Fail> {
+    assert_eq!(rt; fault_of(alloc, entries)?, place);
+    Ok(())
 }
 
 /// One task makes a phaser, ends one turn on it by these two steps, and ends.
@@ -61,10 +73,15 @@ fn smallest(tickets: &[u64; 7], first: TracedStep, second: TracedStep) -> [Entry
     ]
 }
 
-/// The place at which that trace is first at fault with these tickets.
-fn fault_with(rt: &HostRuntime, tickets: &[u64; 7]) -> Result<Option<u64>, Fail> {
+/// The smallest trace with these tickets is first at fault at this place, or explained.
+fn is_at_with(
+    rt: &impl Abort,
+    alloc: Global,
+    tickets: &[u64; 7],
+    place: Option<u64>,
+) -> Result<(), Fail> {
     let entries = smallest(tickets, TracedStep::Sig(0, None), TracedStep::Pass(0));
-    fault_of(rt, entries.as_slice())
+    is_at(rt, alloc, entries.as_slice(), place)
 }
 
 const RISING: [u64; 7] = [1, 2, 3, 4, 5, 6, 7];
@@ -72,19 +89,19 @@ const RISING: [u64; 7] = [1, 2, 3, 4, 5, 6, 7];
 #[test]
 fn smallest_trace(rt: HostRuntime) -> Result<(), Fail> {
     let entries = smallest(&RISING, TracedStep::Sig(0, None), TracedStep::Pass(0));
-    let lines = lines_of(&rt, entries.as_slice())?;
-    assert_eq!(rt;
-        lines.as_str(),
+    has_lines(
+        &rt,
+        rt.alloc(),
+        entries.as_slice(),
         concat!(
             "phaser 0 phases 1\n",
             "task 0 ended\n",
             "finish 0 tasks 0\n",
             "totals registered 1 signals 1 passes 1 drops 1 sends 0 up 0 down 0\n"
-        )
-    );
-    assert_eq!(rt; fault_of(&rt, &entries[..6])?, Some(7));
-    assert_eq!(rt; fault_of(&rt, &[])?, Some(1));
-    Ok(())
+        ),
+    )?;
+    is_at(&rt, rt.alloc(), &entries[..6], Some(7))?;
+    is_at(&rt, rt.alloc(), &[], Some(1))
 }
 
 /// Two events the other way round, the tickets left in place; then a ticket that stands there
@@ -92,11 +109,10 @@ fn smallest_trace(rt: HostRuntime) -> Result<(), Fail> {
 #[test]
 fn changed_smallest_trace(rt: HostRuntime) -> Result<(), Fail> {
     let exchanged = smallest(&RISING, TracedStep::Pass(0), TracedStep::Sig(0, None));
-    assert_eq!(rt; fault_of(&rt, exchanged.as_slice())?, Some(3));
-    assert_eq!(rt; fault_with(&rt, &[1, 2, 3, 3, 5, 6, 7])?, Some(4));
-    assert_eq!(rt; fault_with(&rt, &[1, 2, 3, 4, 2, 6, 7])?, Some(5));
-    assert_eq!(rt; fault_with(&rt, &[0, 2, 3, 14, 15, 70, 700])?, None);
-    Ok(())
+    is_at(&rt, rt.alloc(), exchanged.as_slice(), Some(3))?;
+    is_at_with(&rt, rt.alloc(), &[1, 2, 3, 3, 5, 6, 7], Some(4))?;
+    is_at_with(&rt, rt.alloc(), &[1, 2, 3, 4, 2, 6, 7], Some(5))?;
+    is_at_with(&rt, rt.alloc(), &[0, 2, 3, 14, 15, 70, 700], None)
 }
 
 /// The owner of finish 1 waits for a task that its child spawned;
@@ -124,9 +140,10 @@ fn nested(first: FinishEvent, second: FinishEvent) -> [Entry; 14] {
 #[test]
 fn nested_finish(rt: HostRuntime) -> Result<(), Fail> {
     let entries = nested(FinishEvent::Ended(2), FinishEvent::Shut);
-    let lines = lines_of(&rt, entries.as_slice())?;
-    assert_eq!(rt;
-        lines.as_str(),
+    has_lines(
+        &rt,
+        rt.alloc(),
+        entries.as_slice(),
         concat!(
             "task 0 ended\n",
             "task 1 ended\n",
@@ -134,11 +151,10 @@ fn nested_finish(rt: HostRuntime) -> Result<(), Fail> {
             "finish 0 tasks 0\n",
             "finish 1 tasks 2\n",
             "totals registered 0 signals 0 passes 0 drops 0 sends 0 up 0 down 0\n"
-        )
-    );
+        ),
+    )?;
     let too_early = nested(FinishEvent::Shut, FinishEvent::Ended(2));
-    assert_eq!(rt; fault_of(&rt, too_early.as_slice())?, Some(11));
-    Ok(())
+    is_at(&rt, rt.alloc(), too_early.as_slice(), Some(11))
 }
 
 /// One accumulator, a sum.
@@ -168,20 +184,20 @@ fn seen(look: Look) -> [Entry; 9] {
 #[test]
 fn look_with_its_answer(rt: HostRuntime) -> Result<(), Fail> {
     let five = seen(Look::Value(5));
-    let lines = lines_of(&rt, five.as_slice())?;
-    assert_eq!(rt;
-        lines.as_str(),
+    has_lines(
+        &rt,
+        rt.alloc(),
+        five.as_slice(),
         concat!(
             "phaser 0 phases 1\n",
             "phaser 0 phase 0 acc 0 value 5\n",
             "task 0 ended\n",
             "finish 0 tasks 0\n",
             "totals registered 1 signals 1 passes 1 drops 1 sends 1 up 5 down 0\n"
-        )
-    );
+        ),
+    )?;
     let six = seen(Look::Value(6));
-    assert_eq!(rt; fault_of(&rt, six.as_slice())?, Some(6));
+    is_at(&rt, rt.alloc(), six.as_slice(), Some(6))?;
     let nothing = seen(Look::Nothing);
-    assert_eq!(rt; fault_of(&rt, nothing.as_slice())?, Some(6));
-    Ok(())
+    is_at(&rt, rt.alloc(), nothing.as_slice(), Some(6))
 }
