@@ -1,4 +1,5 @@
-//! A world driven from outside: each event is a row of a table beside its reply.
+//! A world driven from outside: a table has each event beside its reply, and each question beside
+//! its answer.
 use finish_core::FinishEvent;
 use phase_model::{Look, Op, Ops};
 use phase_modes::{Limits, Mode, Pair, Phased, Refusal};
@@ -6,8 +7,8 @@ use std::alloc::Global;
 use std::process::Abort;
 use world_core::{Log, World};
 use world_model::{
-    Begun, Condition, FinishLine, FoldLine, Reply, Step, TaskLine, TotalsLine, Tried, WorldEvent,
-    WorldReport,
+    Begun, Condition, FinishLine, FoldLine, PhaserLines, Reply, Step, TaskLine, TotalsLine, Tried,
+    WorldEvent, WorldReport,
 };
 
 mod examples;
@@ -15,8 +16,51 @@ mod limits;
 mod logs;
 mod reports;
 
-/// An event, and the reply that a world gives to it.
-type Row = (WorldEvent, Result<Reply, Refusal>);
+/// An event as a table names it. A constant can't call what makes the lists of an event, so that
+/// events with a list have variants of their own.
+#[derive(Clone, Copy)]
+enum Told {
+    /// The phaser is made by the task in this mode, with no accumulators.
+    Make(u32, u32, Mode),
+    /// The same with one accumulator, a sum.
+    MakeSum(u32, u32, Mode),
+    On(u32, Step),
+    Within(u32, FinishEvent),
+    Begin(u32, Begun),
+    /// The task begins to spawn the child, on these phasers.
+    Spawn(u32, u32, &'static [(u32, Mode)]),
+    /// The task notes by this number that it was refused the act.
+    Refuse(u32, Tried, u8),
+    /// The same for a phaser that the task was to make, in this mode and with no accumulators.
+    RefuseMake(u32, u32, Mode, u8),
+    /// The same for the spawn of a child on these phasers.
+    RefuseSpawn(u32, u32, &'static [(u32, Mode)], u8),
+    Fail(u32, u8),
+}
+
+/// A row of a table: an event with the reply that a world gives to it, or a question about a task
+/// with its answer.
+#[derive(Clone, Copy)]
+enum Row {
+    /// The event is made.
+    Done(Told),
+    /// The event has to wait.
+    NotYet(Told),
+    /// The event is refused.
+    Refused(Told, Refusal),
+    /// On the phaser the task passes the phase.
+    Passed(u32, u32, u32),
+    /// In the phaser's first accumulator the task sees the value.
+    Saw(u32, u32, Look),
+    /// What the task is about.
+    Is(u32, Option<Condition>),
+    /// How many turns the task has completed.
+    Clock(u32, u32),
+    /// Whether the task can go on.
+    Able(u32, bool),
+    /// No event of the task is due.
+    NoneDue(u32),
+}
 
 /// A world in which nothing has happened; `NotNow` where the limits are none.
 fn fresh(alloc: Global, limits: Limits) -> Result<World, Refusal> {
@@ -24,62 +68,6 @@ fn fresh(alloc: Global, limits: Limits) -> Result<World, Refusal> {
         return Err(Refusal::NotNow);
     }
     World::new(alloc, limits)
-}
-
-/// Hands the events of the rows to the world, each of which gives the reply of its row.
-fn go_on(rt: &impl Abort, world: &mut World, rows: &[Row]) {
-    for (event, expected) in rows {
-        assert_eq!(rt; world.step(event), *expected, "{event:?}");
-    }
-}
-
-/// The world that these events leave, each with the reply of its row.
-fn play(rt: &impl Abort, alloc: Global, limits: Limits, rows: &[Row]) -> Result<World, Refusal> {
-    let mut world = fresh(alloc, limits)?;
-    go_on(rt, &mut world, rows);
-    Ok(world)
-}
-
-/// The event is made.
-fn done(event: WorldEvent) -> Row {
-    (event, Ok(Reply::Done))
-}
-
-/// The event has to wait.
-fn not_yet(event: WorldEvent) -> Row {
-    (event, Ok(Reply::NotYet))
-}
-
-/// The event is refused.
-fn refused(event: WorldEvent, refusal: Refusal) -> Row {
-    (event, Err(refusal))
-}
-
-/// The task passes the phase of the phaser.
-fn passed(phaser: u32, task: u32, phase: u32) -> Row {
-    (on(phaser, Step::Pass(task)), Ok(Reply::Phase(phase)))
-}
-
-fn on(phaser: u32, step: Step) -> WorldEvent {
-    WorldEvent::Phaser(phaser, step)
-}
-
-fn within(finish: u32, event: FinishEvent) -> WorldEvent {
-    WorldEvent::Finish(finish, event)
-}
-
-fn begin(task: u32, begun: Begun) -> WorldEvent {
-    WorldEvent::Begin(task, begun)
-}
-
-/// The task notes by this number that it was refused to begin the act.
-fn refuse(task: u32, begun: Begun, number: u8) -> WorldEvent {
-    WorldEvent::Refuse(task, Tried::Begun(begun), number)
-}
-
-/// The phaser is made with no accumulators.
-fn make(phaser: u32, task: u32, mode: Mode) -> WorldEvent {
-    on(phaser, Step::Make(task, mode, Ops::none()))
 }
 
 /// The pairs of a spawn, the first 16 of these.
@@ -103,4 +91,75 @@ fn one_sum() -> Ops {
         ops.push(Op::Sum);
     }
     ops
+}
+
+fn spawn(child: u32, pairs: &[(u32, Mode)]) -> Begun {
+    Begun::Async(child, named(pairs))
+}
+
+/// The event that is named.
+fn event_of(told: Told) -> WorldEvent {
+    match told {
+        Told::Make(phaser, task, mode) => {
+            WorldEvent::Phaser(phaser, Step::Make(task, mode, Ops::none()))
+        }
+        Told::MakeSum(phaser, task, mode) => {
+            WorldEvent::Phaser(phaser, Step::Make(task, mode, one_sum()))
+        }
+        Told::On(phaser, step) => WorldEvent::Phaser(phaser, step),
+        Told::Within(finish, event) => WorldEvent::Finish(finish, event),
+        Told::Begin(task, begun) => WorldEvent::Begin(task, begun),
+        Told::Spawn(task, child, pairs) => WorldEvent::Begin(task, spawn(child, pairs)),
+        Told::Refuse(task, tried, number) => WorldEvent::Refuse(task, tried, number),
+        Told::RefuseMake(task, phaser, mode, number) => {
+            WorldEvent::Refuse(task, Tried::New(phaser, mode, Ops::none()), number)
+        }
+        Told::RefuseSpawn(task, child, pairs, number) => {
+            WorldEvent::Refuse(task, Tried::Begun(spawn(child, pairs)), number)
+        }
+        Told::Fail(task, number) => WorldEvent::Fail(task, number),
+    }
+}
+
+/// The world gives this reply to the event.
+fn replies(rt: &impl Abort, world: &mut World, told: Told, reply: Result<Reply, Refusal>) {
+    let event = event_of(told);
+    assert_eq!(rt; world.step(&event), reply, "{event:?}");
+}
+
+/// The world replies or answers as the row says.
+fn agrees(rt: &impl Abort, world: &mut World, row: Row) {
+    match row {
+        Row::Done(told) => replies(rt, world, told, Ok(Reply::Done)),
+        Row::NotYet(told) => replies(rt, world, told, Ok(Reply::NotYet)),
+        Row::Refused(told, refusal) => replies(rt, world, told, Err(refusal)),
+        Row::Passed(phaser, task, phase) => {
+            let pass = Told::On(phaser, Step::Pass(task));
+            replies(rt, world, pass, Ok(Reply::Phase(phase)));
+        }
+        Row::Saw(phaser, task, value) => {
+            let look = Told::On(phaser, Step::Look(task, 0));
+            replies(rt, world, look, Ok(Reply::Value(value)));
+        }
+        Row::Is(task, condition) => assert_eq!(rt; world.condition(task), condition, "{task}"),
+        Row::Clock(task, turns) => assert_eq!(rt; world.clock(task), turns, "{task}"),
+        Row::Able(task, able) => assert_eq!(rt; world.able(task), able, "{task}"),
+        Row::NoneDue(task) => assert_eq!(rt; world.next_event(task), None, "{task}"),
+    }
+}
+
+/// The world that the tables leave, one after the other.
+fn play(
+    rt: &impl Abort,
+    alloc: Global,
+    limits: Limits,
+    tables: &[&[Row]],
+) -> Result<World, Refusal> {
+    let mut world = fresh(alloc, limits)?;
+    for table in tables {
+        for row in *table {
+            agrees(rt, &mut world, *row);
+        }
+    }
+    Ok(world)
 }

@@ -79,19 +79,58 @@ fn as_answer(reply: PhaserReply) -> Answer {
     }
 }
 
+/// A phaser for each number, of which none was made.
+fn unmade_phasers(alloc: Global, limits: Limits) -> Result<Vec<PhaserState>, Refusal> {
+    let mut phasers = Vec::new(alloc);
+    for _ in 0..limits.phasers {
+        add_unmade(&mut phasers, alloc, limits)?;
+    }
+    Ok(phasers)
+}
+
+/// A further phaser; `NotNow` where the limits are none.
+fn add_unmade(
+    phasers: &mut Vec<PhaserState>,
+    alloc: Global,
+    limits: Limits,
+) -> Result<(), Refusal> {
+    if !limits.fits() {
+        return Err(Refusal::NotNow);
+    }
+    phasers.push(PhaserState::new(alloc, limits, Ops::none())?)?;
+    Ok(())
+}
+
+/// For each task that nothing is due.
+fn nothing_due(alloc: Global, limits: Limits) -> Result<Vec<Vec<WorldEvent>>, Refusal> {
+    let mut due = Vec::new(alloc);
+    for _ in 0..limits.tasks {
+        due.push(Vec::new(alloc))?;
+    }
+    Ok(due)
+}
+
+/// The phaser begins anew, with these accumulators.
+fn renew(state: &mut PhaserState, alloc: Global, limits: Limits, ops: Ops) -> Result<(), Refusal> {
+    if limits.fits() {
+        *state = PhaserState::new(alloc, limits, ops)?;
+    }
+    Ok(())
+}
+
+/// The step is made on the phaser.
+fn call(state: &mut PhaserState, alloc: Global, limits: Limits, step: Step) -> Result<(), Refusal> {
+    if let Step::Make(_, _, ops) = step {
+        renew(state, alloc, limits, ops)?;
+    }
+    let _replied = state.apply(call_for(step));
+    Ok(())
+}
+
 impl Plain {
     pub(super) fn new(alloc: Global, limits: Limits) -> Result<Plain, Refusal> {
-        let mut phasers = Vec::new(alloc);
-        for _ in 0..limits.phasers {
-            if !limits.fits() {
-                return Err(Refusal::NotNow);
-            }
-            phasers.push(PhaserState::new(alloc, limits, Ops::none())?)?;
-        }
-        let mut due = Vec::new(alloc);
-        for _ in 0..limits.tasks {
-            due.push(Vec::new(alloc))?;
-        }
+        let phasers = unmade_phasers(alloc, limits)?;
+        let due = nothing_due(alloc, limits)?;
         Ok(Plain {
             alloc,
             limits,
@@ -485,20 +524,12 @@ impl Plain {
         Ok(due)
     }
 
-    /// The step is made on the phaser.
+    /// The step is made on the phaser, if there is one.
     fn call(&mut self, phaser: u32, step: Step) -> Result<(), Refusal> {
-        let limits = self.limits;
-        let alloc = self.alloc;
-        let Some(state) = self.phasers.get_mut(phaser as usize) else {
-            return Ok(());
-        };
-        if let Step::Make(_, _, ops) = step
-            && limits.fits()
-        {
-            *state = PhaserState::new(alloc, limits, ops)?;
+        match self.phasers.get_mut(phaser as usize) {
+            Some(state) => call(state, self.alloc, self.limits, step),
+            None => Ok(()),
         }
-        let _replied = state.apply(call_for(step));
-        Ok(())
     }
 
     /// What the acting task still has to make after the event.
