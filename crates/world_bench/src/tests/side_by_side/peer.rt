@@ -248,14 +248,29 @@ impl Plain {
             .is_some_and(|reg| reg.mode.can_signal() && !reg.ahead)
     }
 
-    /// The refusal of an act that is begun, once it may be begun at all.
-    fn own_refusal(&self, task: u32, begun: Begun) -> Result<Option<Refusal>, Refusal> {
-        let events = self.events.as_slice();
-        let own = phasers_of(events, task, self.alloc)?;
-        let own = own.as_slice();
-        let finishes = open_finishes(events, task, self.alloc)?;
-        let leads = self.leads(task, own);
-        Ok(match begun {
+    /// The refusal of a single statement, of a task that is on these phasers.
+    fn refusal_of_single(&self, task: u32, own: &[u32]) -> Option<Refusal> {
+        let single = own.iter().all(|phaser| {
+            self.registration(*phaser, task)
+                .is_some_and(|reg| reg.mode.can_single())
+        });
+        let conditions = [
+            (own.len() == 1, Refusal::OnePhaserOnly),
+            (single, Refusal::NoSingle),
+            (!self.leads(task, own), Refusal::AlreadySignalled),
+        ];
+        first_of(conditions.as_slice())
+    }
+
+    /// The refusal of a task that is on these phasers, with these finishes open.
+    fn refusal_of_begun(
+        &self,
+        task: u32,
+        begun: Begun,
+        own: &[u32],
+        finishes: &[u32],
+    ) -> Option<Refusal> {
+        match begun {
             Begun::Async(child, pairs) => {
                 if child >= self.limits.tasks {
                     Some(Refusal::TasksFull)
@@ -263,27 +278,40 @@ impl Plain {
                     self.refusal_of_pairs(task, pairs.as_slice())
                 }
             }
-            Begun::Signal => first_of([(!leads, Refusal::AlreadySignalled)].as_slice()),
+            Begun::Signal => {
+                first_of([(!self.leads(task, own), Refusal::AlreadySignalled)].as_slice())
+            }
             Begun::Wait => {
                 let owes = own.iter().any(|phaser| self.is_behind(task, *phaser));
                 first_of([(!owes, Refusal::NotSignalled)].as_slice())
             }
             Begun::Next => None,
-            Begun::NextSingle(_) => {
-                let single = own.iter().all(|phaser| {
-                    self.registration(*phaser, task)
-                        .is_some_and(|reg| reg.mode.can_single())
-                });
-                let conditions = [
-                    (own.len() == 1, Refusal::OnePhaserOnly),
-                    (single, Refusal::NoSingle),
-                    (!leads, Refusal::AlreadySignalled),
-                ];
-                first_of(conditions.as_slice())
-            }
+            Begun::NextSingle(_) => self.refusal_of_single(task, own),
             Begun::Shut => first_of([(!finishes.is_empty(), Refusal::NoFinish)].as_slice()),
             Begun::End => first_of([(finishes.is_empty(), Refusal::FinishOpen)].as_slice()),
-        })
+        }
+    }
+
+    /// The refusal of an act that is begun, once it may be begun at all.
+    fn own_refusal(&self, task: u32, begun: Begun) -> Result<Option<Refusal>, Refusal> {
+        let events = self.events.as_slice();
+        let own = phasers_of(events, task, self.alloc)?;
+        let finishes = open_finishes(events, task, self.alloc)?;
+        Ok(self.refusal_of_begun(task, begun, own.as_slice(), finishes.as_slice()))
+    }
+
+    /// Whether the task is on as many phasers as a task may be on.
+    fn is_on_many(&self, task: u32) -> Result<bool, Refusal> {
+        let own = phasers_of(self.events.as_slice(), task, self.alloc)?;
+        Ok(own.len() >= 16)
+    }
+
+    /// The reply to a phaser that the task may make.
+    fn new_reply(&self, phaser: u32, task: u32, mode: Mode, ops: Ops) -> Result<Answer, Refusal> {
+        if phaser >= self.limits.phasers || self.is_on_many(task)? {
+            return Ok(Err(Refusal::PhasersFull));
+        }
+        Ok(self.phaser_reply(phaser, Step::Make(task, mode, ops)))
     }
 
     /// The reply to an act that the task tries.
@@ -304,13 +332,7 @@ impl Plain {
                 Some(refusal) => Err(refusal),
                 None => Ok(Reply::Done),
             }),
-            Tried::New(phaser, mode, ops) => {
-                let own = phasers_of(events, task, self.alloc)?;
-                if phaser >= self.limits.phasers || own.len() >= 16 {
-                    return Ok(Err(Refusal::PhasersFull));
-                }
-                Ok(self.phaser_reply(phaser, Step::Make(task, mode, ops)))
-            }
+            Tried::New(phaser, mode, ops) => self.new_reply(phaser, task, mode, ops),
             Tried::Open(finish) => {
                 if finish >= self.limits.finishes {
                     return Ok(Err(Refusal::FinishesFull));
