@@ -70,13 +70,15 @@ fn reports_are_lists_of_lines(rt: HostRuntime) -> Result<(), Fail> {
     Ok(())
 }
 
+/// The refusal on the first line of a task.
+fn first_refused(report: &WorldReport) -> Option<u8> {
+    report.tasks.first().and_then(|line| line.refused)
+}
+
 /// The fields of the report above.
 fn is_read(rt: &impl Abort, report: &WorldReport) {
     assert_eq!(rt; report.phasers.len(), 1);
-    assert_eq!(rt;
-        report.tasks.first().and_then(|line| line.refused),
-        Some(12)
-    );
+    assert_eq!(rt; first_refused(report), Some(12));
     assert_eq!(rt; report.finishes.len(), 0);
     assert_eq!(rt; report.totals.up, 3);
 }

@@ -4,7 +4,7 @@ ghost use Rattle.std.specs.Prelude.{◌<◌};
 use super::*;
 use finish_core::FinishEvent;
 use generator::Dice;
-use peer::Plain;
+use peer::{Answer, Plain};
 use phase_model::{Op, Ops};
 use phase_modes::{Limits, Mode, Pair, Phased};
 use std::process::Abort;
@@ -116,7 +116,20 @@ fn agrees_on(rt: &impl Abort, world: &World, plain: &Plain, task: u32) {
     assert_eq!(rt; world.next_event(task), expected, "task {task}");
 }
 
-/// Hands an event to the world and to its peer, and compares what both say of each task.
+/// Both say the same of each task.
+fn agree(rt: &impl Abort, world: &World, plain: &Plain) {
+    for task in 0..8 {
+        agrees_on(rt, world, plain, task);
+    }
+}
+
+/// Hands an event to the world, which gives the reply of its peer.
+fn replies(rt: &impl Abort, world: &mut World, event: &WorldEvent, reply: Answer) {
+    assert_eq!(rt; world.step(event), reply, "{event:?}");
+}
+
+/// Hands an event to the world and to its peer, and compares what they reply and what they say of
+/// each task.
 fn step_both(
     rt: &impl Abort,
     world: &mut World,
@@ -124,12 +137,10 @@ fn step_both(
     event: &WorldEvent,
     counts: &mut Counts,
 ) -> Result<(), Refusal> {
-    let expected = plain.step(event)?;
-    assert_eq!(rt; world.step(event), expected, "{event:?}");
-    for task in 0..8 {
-        agrees_on(rt, world, plain, task);
-    }
-    counts.add(event, expected);
+    let reply = plain.step(event)?;
+    replies(rt, world, event, reply);
+    agree(rt, world, plain);
+    counts.add(event, reply);
     Ok(())
 }
 

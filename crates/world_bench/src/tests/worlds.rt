@@ -7,14 +7,22 @@ use std::alloc::Global;
 use std::process::Abort;
 use world_core::{Log, World};
 use world_model::{
-    Begun, Condition, FinishLine, FoldLine, PhaserLines, Reply, Step, TaskLine, TotalsLine, Tried,
-    WorldEvent, WorldReport,
+    Begun, Condition, FoldLine, PhaserLines, Reply, Step, TotalsLine, Tried, WorldEvent,
+    WorldReport,
 };
 
 mod examples;
 mod limits;
 mod logs;
 mod reports;
+
+/// The phasers of a spawn, each with the child's mode there.
+#[derive(Clone, Copy)]
+enum Places {
+    Nowhere,
+    At(u32, Mode),
+    AtTwo((u32, Mode), (u32, Mode)),
+}
 
 /// An event as a table names it. A constant can't call what makes the lists of an event, so that
 /// events with a list have variants of their own.
@@ -27,14 +35,14 @@ enum Told {
     On(u32, Step),
     Within(u32, FinishEvent),
     Begin(u32, Begun),
-    /// The task begins to spawn the child, on these phasers.
-    Spawn(u32, u32, &'static [(u32, Mode)]),
+    /// The task begins to spawn the child there.
+    Spawn(u32, u32, Places),
     /// The task notes by this number that it was refused the act.
     Refuse(u32, Tried, u8),
     /// The same for a phaser that the task was to make, in this mode and with no accumulators.
     RefuseMake(u32, u32, Mode, u8),
-    /// The same for the spawn of a child on these phasers.
-    RefuseSpawn(u32, u32, &'static [(u32, Mode)], u8),
+    /// The same for a child that it was to spawn there.
+    RefuseSpawn(u32, u32, Places, u8),
     Fail(u32, u8),
 }
 
@@ -84,6 +92,16 @@ fn named(pairs: &[(u32, Mode)]) -> Phased {
     list
 }
 
+/// The act that spawns the child there.
+fn spawn(child: u32, places: Places) -> Begun {
+    let pairs = match places {
+        Places::Nowhere => Phased::none(),
+        Places::At(phaser, mode) => named(&[(phaser, mode)]),
+        Places::AtTwo(first, second) => named(&[first, second]),
+    };
+    Begun::Async(child, pairs)
+}
+
 /// One accumulator, a sum.
 fn one_sum() -> Ops {
     let mut ops = Ops::none();
@@ -91,10 +109,6 @@ fn one_sum() -> Ops {
         ops.push(Op::Sum);
     }
     ops
-}
-
-fn spawn(child: u32, pairs: &[(u32, Mode)]) -> Begun {
-    Begun::Async(child, named(pairs))
 }
 
 /// The event that is named.
@@ -109,13 +123,13 @@ fn event_of(told: Told) -> WorldEvent {
         Told::On(phaser, step) => WorldEvent::Phaser(phaser, step),
         Told::Within(finish, event) => WorldEvent::Finish(finish, event),
         Told::Begin(task, begun) => WorldEvent::Begin(task, begun),
-        Told::Spawn(task, child, pairs) => WorldEvent::Begin(task, spawn(child, pairs)),
+        Told::Spawn(task, child, places) => WorldEvent::Begin(task, spawn(child, places)),
         Told::Refuse(task, tried, number) => WorldEvent::Refuse(task, tried, number),
         Told::RefuseMake(task, phaser, mode, number) => {
             WorldEvent::Refuse(task, Tried::New(phaser, mode, Ops::none()), number)
         }
-        Told::RefuseSpawn(task, child, pairs, number) => {
-            WorldEvent::Refuse(task, Tried::Begun(spawn(child, pairs)), number)
+        Told::RefuseSpawn(task, child, places, number) => {
+            WorldEvent::Refuse(task, Tried::Begun(spawn(child, places)), number)
         }
         Told::Fail(task, number) => WorldEvent::Fail(task, number),
     }
@@ -127,24 +141,61 @@ fn replies(rt: &impl Abort, world: &mut World, told: Told, reply: Result<Reply, 
     assert_eq!(rt; world.step(&event), reply, "{event:?}");
 }
 
-/// The world replies or answers as the row says.
-fn agrees(rt: &impl Abort, world: &mut World, row: Row) {
-    match row {
-        Row::Done(told) => replies(rt, world, told, Ok(Reply::Done)),
-        Row::NotYet(told) => replies(rt, world, told, Ok(Reply::NotYet)),
-        Row::Refused(told, refusal) => replies(rt, world, told, Err(refusal)),
+/// The row's event and its reply; none where the row is a question.
+fn event_in(row: &Row) -> Option<(Told, Result<Reply, Refusal>)> {
+    match *row {
+        Row::Done(told) => Some((told, Ok(Reply::Done))),
+        Row::NotYet(told) => Some((told, Ok(Reply::NotYet))),
+        Row::Refused(told, refusal) => Some((told, Err(refusal))),
         Row::Passed(phaser, task, phase) => {
-            let pass = Told::On(phaser, Step::Pass(task));
-            replies(rt, world, pass, Ok(Reply::Phase(phase)));
+            Some((Told::On(phaser, Step::Pass(task)), Ok(Reply::Phase(phase))))
         }
         Row::Saw(phaser, task, value) => {
-            let look = Told::On(phaser, Step::Look(task, 0));
-            replies(rt, world, look, Ok(Reply::Value(value)));
+            Some((
+                Told::On(phaser, Step::Look(task, 0)),
+                Ok(Reply::Value(value)),
+            ))
         }
-        Row::Is(task, condition) => assert_eq!(rt; world.condition(task), condition, "{task}"),
-        Row::Clock(task, turns) => assert_eq!(rt; world.clock(task), turns, "{task}"),
-        Row::Able(task, able) => assert_eq!(rt; world.able(task), able, "{task}"),
-        Row::NoneDue(task) => assert_eq!(rt; world.next_event(task), None, "{task}"),
+        Row::Is(_, _) | Row::Clock(_, _) | Row::Able(_, _) | Row::NoneDue(_) => None,
+    }
+}
+
+fn is_about(rt: &impl Abort, world: &World, task: u32, condition: Option<Condition>) {
+    assert_eq!(rt; world.condition(task), condition, "task {task}");
+}
+
+fn has_turned(rt: &impl Abort, world: &World, task: u32, turns: u32) {
+    assert_eq!(rt; world.clock(task), turns, "task {task}");
+}
+
+fn is_able(rt: &impl Abort, world: &World, task: u32, able: bool) {
+    assert_eq!(rt; world.able(task), able, "task {task}");
+}
+
+fn has_none_due(rt: &impl Abort, world: &World, task: u32) {
+    assert_eq!(rt; world.next_event(task), None, "task {task}");
+}
+
+/// The world answers the row's question so.
+fn answers(rt: &impl Abort, world: &World, row: &Row) {
+    match *row {
+        Row::Is(task, condition) => is_about(rt, world, task, condition),
+        Row::Clock(task, turns) => has_turned(rt, world, task, turns),
+        Row::Able(task, able) => is_able(rt, world, task, able),
+        Row::NoneDue(task) => has_none_due(rt, world, task),
+        Row::Done(_)
+        | Row::NotYet(_)
+        | Row::Refused(_, _)
+        | Row::Passed(_, _, _)
+        | Row::Saw(_, _, _) => {}
+    }
+}
+
+/// The world replies or answers as the row says.
+fn agrees(rt: &impl Abort, world: &mut World, row: &Row) {
+    match event_in(row) {
+        Some((told, reply)) => replies(rt, world, told, reply),
+        None => answers(rt, world, row),
     }
 }
 
@@ -158,7 +209,7 @@ fn play(
     let mut world = fresh(alloc, limits)?;
     for table in tables {
         for row in *table {
-            agrees(rt, &mut world, *row);
+            agrees(rt, &mut world, row);
         }
     }
     Ok(world)

@@ -110,9 +110,16 @@ fn nothing_due(alloc: Global, limits: Limits) -> Result<Vec<Vec<WorldEvent>>, Re
     Ok(due)
 }
 
-/// The phaser begins anew, with these accumulators.
-fn renew(state: &mut PhaserState, alloc: Global, limits: Limits, ops: Ops) -> Result<(), Refusal> {
-    if limits.fits() {
+/// Where the step makes the phaser, it begins anew with the step's accumulators.
+fn renew(
+    state: &mut PhaserState,
+    alloc: Global,
+    limits: Limits,
+    step: &Step,
+) -> Result<(), Refusal> {
+    if let Step::Make(_, _, ops) = *step
+        && limits.fits()
+    {
         *state = PhaserState::new(alloc, limits, ops)?;
     }
     Ok(())
@@ -120,9 +127,7 @@ fn renew(state: &mut PhaserState, alloc: Global, limits: Limits, ops: Ops) -> Re
 
 /// The step is made on the phaser.
 fn call(state: &mut PhaserState, alloc: Global, limits: Limits, step: Step) -> Result<(), Refusal> {
-    if let Step::Make(_, _, ops) = step {
-        renew(state, alloc, limits, ops)?;
-    }
+    renew(state, alloc, limits, &step)?;
     let _replied = state.apply(call_for(step));
     Ok(())
 }

@@ -1,7 +1,8 @@
 //! Worked examples of finishes and turns: each event with its reply, and the report at the end.
+use super::Places::*;
 use super::Row::*;
 use super::Told::*;
-use super::reports::{Expected, NOTHING, reported};
+use super::reports::{Line, NOTHING, reported};
 use super::*;
 
 /// A child may not have a phaser of an outer finish: the spawn is refused, and so the task ends.
@@ -11,27 +12,27 @@ fn outside_scope(rt: HostRuntime) -> Result<(), Refusal> {
     const ROWS: [Row; 10] = [
         Done(Make(0, 0, Mode::SigWait)),
         Done(Within(1, FinishEvent::Opened(0))),
-        Refused(Spawn(0, 1, &[(0, Mode::Sig)]), Refusal::OutsideScope),
-        Refused(RefuseSpawn(0, 1, &[(0, Mode::Sig)], 11), Refusal::NotNow),
-        Done(RefuseSpawn(0, 1, &[(0, Mode::Sig)], 12)),
+        Refused(Spawn(0, 1, At(0, Mode::Sig)), Refusal::OutsideScope),
+        Refused(RefuseSpawn(0, 1, At(0, Mode::Sig), 11), Refusal::NotNow),
+        Done(RefuseSpawn(0, 1, At(0, Mode::Sig), 12)),
         Done(On(0, Step::Drop(0))),
         Done(Within(1, FinishEvent::Shut)),
         Done(Within(0, FinishEvent::Shut)),
         Is(0, Some(Condition::Ended)),
         NoneDue(0),
     ];
-    const EXPECTED: Expected = Expected {
-        phasers: &[(0, 0)],
-        sums: &[],
-        tasks: &[(0, Some(12))],
-        finishes: &[(0, 0), (1, 0)],
-        totals: TotalsLine {
-            registered: 1,
-            drops: 1,
-            ..NOTHING
-        },
+    const LINES: [Line; 4] = [
+        Line::Phaser(0, 0),
+        Line::Task(0, Some(12)),
+        Line::Finish(0, 0),
+        Line::Finish(1, 0),
+    ];
+    const TOTALS: TotalsLine = TotalsLine {
+        registered: 1,
+        drops: 1,
+        ..NOTHING
     };
-    reported(&rt, rt.alloc(), &[&ROWS], &EXPECTED)
+    reported(&rt, rt.alloc(), &[&ROWS], &LINES, TOTALS)
 }
 
 /// The owner of finish 1 waits for a task that its child spawned: the first shut has to wait.
@@ -39,9 +40,9 @@ fn outside_scope(rt: HostRuntime) -> Result<(), Refusal> {
 fn nested_finish(rt: HostRuntime) -> Result<(), Refusal> {
     const ROWS: [Row; 19] = [
         Done(Within(1, FinishEvent::Opened(0))),
-        Done(Spawn(0, 1, &[])),
+        Done(Spawn(0, 1, Nowhere)),
         Done(Within(1, FinishEvent::Spawned(1))),
-        Done(Spawn(1, 2, &[])),
+        Done(Spawn(1, 2, Nowhere)),
         Done(Within(1, FinishEvent::Spawned(2))),
         Done(Begin(1, Begun::End)),
         Done(Within(1, FinishEvent::Ended(1))),
@@ -58,14 +59,14 @@ fn nested_finish(rt: HostRuntime) -> Result<(), Refusal> {
         Done(Within(0, FinishEvent::Shut)),
         Is(1, Some(Condition::Ended)),
     ];
-    const EXPECTED: Expected = Expected {
-        phasers: &[],
-        sums: &[],
-        tasks: &[(0, None), (1, None), (2, None)],
-        finishes: &[(0, 0), (1, 2)],
-        totals: NOTHING,
-    };
-    reported(&rt, rt.alloc(), &[&ROWS], &EXPECTED)
+    const LINES: [Line; 5] = [
+        Line::Task(0, None),
+        Line::Task(1, None),
+        Line::Task(2, None),
+        Line::Finish(0, 0),
+        Line::Finish(1, 2),
+    ];
+    reported(&rt, rt.alloc(), &[&ROWS], &LINES, NOTHING)
 }
 
 /// The owner leaves a phaser of its finish before it waits for the child, which waits there.
@@ -74,7 +75,7 @@ fn owner_leaves_before_shut(rt: HostRuntime) -> Result<(), Refusal> {
     const ROWS: [Row; 20] = [
         Done(Within(1, FinishEvent::Opened(0))),
         Done(Make(0, 0, Mode::SigWait)),
-        Done(Spawn(0, 1, &[(0, Mode::Wait)])),
+        Done(Spawn(0, 1, At(0, Mode::Wait))),
         Done(On(0, Step::Reg(0, 1, Mode::Wait))),
         Done(Within(1, FinishEvent::Spawned(1))),
         Done(Begin(1, Begun::Next)),
@@ -93,19 +94,20 @@ fn owner_leaves_before_shut(rt: HostRuntime) -> Result<(), Refusal> {
         Clock(1, 1),
         Clock(0, 0),
     ];
-    const EXPECTED: Expected = Expected {
-        phasers: &[(0, 1)],
-        sums: &[],
-        tasks: &[(0, None), (1, None)],
-        finishes: &[(0, 0), (1, 1)],
-        totals: TotalsLine {
-            registered: 2,
-            passes: 1,
-            drops: 2,
-            ..NOTHING
-        },
+    const LINES: [Line; 5] = [
+        Line::Phaser(0, 1),
+        Line::Task(0, None),
+        Line::Task(1, None),
+        Line::Finish(0, 0),
+        Line::Finish(1, 1),
+    ];
+    const TOTALS: TotalsLine = TotalsLine {
+        registered: 2,
+        passes: 1,
+        drops: 2,
+        ..NOTHING
     };
-    reported(&rt, rt.alloc(), &[&ROWS], &EXPECTED)
+    reported(&rt, rt.alloc(), &[&ROWS], &LINES, TOTALS)
 }
 
 /// Two tasks, each a signaller of the phaser on which the other waits; the root leaves, and waits
@@ -113,11 +115,11 @@ fn owner_leaves_before_shut(rt: HostRuntime) -> Result<(), Refusal> {
 const TWO_SPAWNED: [Row; 14] = [
     Done(Make(0, 0, Mode::SigWait)),
     Done(Make(1, 0, Mode::SigWait)),
-    Done(Spawn(0, 1, &[(0, Mode::Sig), (1, Mode::Wait)])),
+    Done(Spawn(0, 1, AtTwo((0, Mode::Sig), (1, Mode::Wait)))),
     Done(On(0, Step::Reg(0, 1, Mode::Sig))),
     Done(On(1, Step::Reg(0, 1, Mode::Wait))),
     Done(Within(0, FinishEvent::Spawned(1))),
-    Done(Spawn(0, 2, &[(1, Mode::Sig), (0, Mode::Wait)])),
+    Done(Spawn(0, 2, AtTwo((1, Mode::Sig), (0, Mode::Wait)))),
     Done(On(1, Step::Reg(0, 2, Mode::Sig))),
     Done(On(0, Step::Reg(0, 2, Mode::Wait))),
     Done(Within(0, FinishEvent::Spawned(2))),
@@ -173,18 +175,20 @@ fn crossed_signals(rt: HostRuntime) -> Result<(), Refusal> {
         Done(On(1, Step::Drop(1))),
         Done(Within(0, FinishEvent::Ended(1))),
     ];
-    const EXPECTED: Expected = Expected {
-        phasers: &[(0, 3), (1, 3)],
-        sums: &[],
-        tasks: &[(0, None), (1, None), (2, None)],
-        finishes: &[(0, 2)],
-        totals: TotalsLine {
-            registered: 6,
-            signals: 6,
-            passes: 12,
-            drops: 6,
-            ..NOTHING
-        },
+    const LINES: [Line; 6] = [
+        Line::Phaser(0, 3),
+        Line::Phaser(1, 3),
+        Line::Task(0, None),
+        Line::Task(1, None),
+        Line::Task(2, None),
+        Line::Finish(0, 2),
+    ];
+    const TOTALS: TotalsLine = TotalsLine {
+        registered: 6,
+        signals: 6,
+        passes: 12,
+        drops: 6,
+        ..NOTHING
     };
     reported(
         &rt,
@@ -198,7 +202,8 @@ fn crossed_signals(rt: HostRuntime) -> Result<(), Refusal> {
             &LAST_ENDS,
             &[Is(0, Some(Condition::Ended))],
         ],
-        &EXPECTED,
+        &LINES,
+        TOTALS,
     )
 }
 
@@ -212,18 +217,20 @@ fn crossed_signals_refused(rt: HostRuntime) -> Result<(), Refusal> {
         Done(On(1, Step::Drop(1))),
         Done(Within(0, FinishEvent::Ended(1))),
     ];
-    const EXPECTED: Expected = Expected {
-        phasers: &[(0, 3), (1, 3)],
-        sums: &[],
-        tasks: &[(0, None), (1, Some(6)), (2, None)],
-        finishes: &[(0, 2)],
-        totals: TotalsLine {
-            registered: 6,
-            signals: 3,
-            passes: 6,
-            drops: 6,
-            ..NOTHING
-        },
+    const LINES: [Line; 6] = [
+        Line::Phaser(0, 3),
+        Line::Phaser(1, 3),
+        Line::Task(0, None),
+        Line::Task(1, Some(6)),
+        Line::Task(2, None),
+        Line::Finish(0, 2),
+    ];
+    const TOTALS: TotalsLine = TotalsLine {
+        registered: 6,
+        signals: 3,
+        passes: 6,
+        drops: 6,
+        ..NOTHING
     };
     reported(
         &rt,
@@ -237,7 +244,8 @@ fn crossed_signals_refused(rt: HostRuntime) -> Result<(), Refusal> {
             &LAST_ENDS,
             &[Clock(1, 0), Clock(2, 3)],
         ],
-        &EXPECTED,
+        &LINES,
+        TOTALS,
     )
 }
 
@@ -247,10 +255,10 @@ fn crossed_signals_refused(rt: HostRuntime) -> Result<(), Refusal> {
 fn one_single(rt: HostRuntime) -> Result<(), Refusal> {
     const ROWS: [Row; 26] = [
         Done(Make(0, 0, Mode::Single)),
-        Done(Spawn(0, 1, &[(0, Mode::Single)])),
+        Done(Spawn(0, 1, At(0, Mode::Single))),
         Done(On(0, Step::Reg(0, 1, Mode::Single))),
         Done(Within(0, FinishEvent::Spawned(1))),
-        Done(Spawn(0, 2, &[(0, Mode::Wait)])),
+        Done(Spawn(0, 2, At(0, Mode::Wait))),
         Done(On(0, Step::Reg(0, 2, Mode::Wait))),
         Done(Within(0, FinishEvent::Spawned(2))),
         Done(Begin(0, Begun::NextSingle(7))),
@@ -273,20 +281,21 @@ fn one_single(rt: HostRuntime) -> Result<(), Refusal> {
         Clock(0, 1),
         Is(1, Some(Condition::Ending)),
     ];
-    const EXPECTED: Expected = Expected {
-        phasers: &[(0, 1)],
-        sums: &[],
-        tasks: &[(0, None), (1, Some(7)), (2, None)],
-        finishes: &[(0, 2)],
-        totals: TotalsLine {
-            registered: 3,
-            signals: 1,
-            passes: 2,
-            drops: 1,
-            ..NOTHING
-        },
+    const LINES: [Line; 5] = [
+        Line::Phaser(0, 1),
+        Line::Task(0, None),
+        Line::Task(1, Some(7)),
+        Line::Task(2, None),
+        Line::Finish(0, 2),
+    ];
+    const TOTALS: TotalsLine = TotalsLine {
+        registered: 3,
+        signals: 1,
+        passes: 2,
+        drops: 1,
+        ..NOTHING
     };
-    reported(&rt, rt.alloc(), &[&ROWS], &EXPECTED)
+    reported(&rt, rt.alloc(), &[&ROWS], &LINES, TOTALS)
 }
 
 /// A turn in which both tasks send a value first.
@@ -309,10 +318,10 @@ fn sending_turn(phase: u32, first: i32, second: i32) -> [Row; 9] {
 fn two_senders(rt: HostRuntime) -> Result<(), Refusal> {
     const SPAWNED: [Row; 9] = [
         Done(MakeSum(0, 0, Mode::SigWait)),
-        Done(Spawn(0, 1, &[(0, Mode::SigWait)])),
+        Done(Spawn(0, 1, At(0, Mode::SigWait))),
         Done(On(0, Step::Reg(0, 1, Mode::SigWait))),
         Done(Within(0, FinishEvent::Spawned(1))),
-        Done(Spawn(0, 2, &[(0, Mode::SigWait)])),
+        Done(Spawn(0, 2, At(0, Mode::SigWait))),
         Done(On(0, Step::Reg(0, 2, Mode::SigWait))),
         Done(Within(0, FinishEvent::Spawned(2))),
         Done(Begin(0, Begun::End)),
@@ -327,20 +336,23 @@ fn two_senders(rt: HostRuntime) -> Result<(), Refusal> {
         Done(Within(0, FinishEvent::Ended(2))),
         Done(Within(0, FinishEvent::Shut)),
     ];
-    const EXPECTED: Expected = Expected {
-        phasers: &[(0, 2)],
-        sums: &[(0, 3), (1, 30)],
-        tasks: &[(0, None), (1, None), (2, None)],
-        finishes: &[(0, 2)],
-        totals: TotalsLine {
-            registered: 3,
-            signals: 4,
-            passes: 4,
-            drops: 3,
-            sends: 4,
-            up: 33,
-            down: 0,
-        },
+    const LINES: [Line; 7] = [
+        Line::Phaser(0, 2),
+        Line::Sum(0, 0, 3),
+        Line::Sum(0, 1, 30),
+        Line::Task(0, None),
+        Line::Task(1, None),
+        Line::Task(2, None),
+        Line::Finish(0, 2),
+    ];
+    const TOTALS: TotalsLine = TotalsLine {
+        registered: 3,
+        signals: 4,
+        passes: 4,
+        drops: 3,
+        sends: 4,
+        up: 33,
+        down: 0,
     };
     reported(
         &rt,
@@ -352,6 +364,7 @@ fn two_senders(rt: HostRuntime) -> Result<(), Refusal> {
             &sending_turn(1, 10, 20),
             &SENDERS_END,
         ],
-        &EXPECTED,
+        &LINES,
+        TOTALS,
     )
 }

@@ -1,4 +1,5 @@
 //! Worked examples of limits and of refused acts: each event with its reply.
+use super::Places::*;
 use super::Row::*;
 use super::Told::*;
 use super::*;
@@ -20,8 +21,8 @@ fn limits_of_the_root(rt: HostRuntime) -> Result<(), Refusal> {
         Done(Within(0, FinishEvent::Shut)),
     ];
     const TASKS: [Row; 3] = [
-        Refused(Spawn(0, 1, &[]), Refusal::TasksFull),
-        Done(RefuseSpawn(0, 1, &[], 17)),
+        Refused(Spawn(0, 1, Nowhere), Refusal::TasksFull),
+        Done(RefuseSpawn(0, 1, Nowhere, 17)),
         Done(Within(0, FinishEvent::Shut)),
     ];
     const FINISHES: [Row; 3] = [
@@ -88,10 +89,10 @@ fn unborn_child_dropped(rt: HostRuntime) -> Result<(), Refusal> {
     const ROWS: [Row; 22] = [
         Done(Make(0, 0, Mode::SigWait)),
         Done(Make(1, 0, Mode::SigWait)),
-        Done(Spawn(0, 1, &[(1, Mode::Wait)])),
+        Done(Spawn(0, 1, At(1, Mode::Wait))),
         Done(On(1, Step::Reg(0, 1, Mode::Wait))),
         Done(Within(0, FinishEvent::Spawned(1))),
-        Done(Spawn(0, 2, &[(0, Mode::Sig), (1, Mode::Sig)])),
+        Done(Spawn(0, 2, AtTwo((0, Mode::Sig), (1, Mode::Sig)))),
         Done(On(0, Step::Reg(0, 2, Mode::Sig))),
         Refused(On(1, Step::Reg(0, 2, Mode::Sig)), Refusal::RegsFull),
         Done(Fail(0, 14)),

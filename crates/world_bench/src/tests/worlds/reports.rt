@@ -3,17 +3,19 @@ use super::Row::*;
 use super::Told::*;
 use super::*;
 
-/// What the report of a world is to say.
-pub(super) struct Expected {
-    /// Each phaser, with so many phases.
-    pub(super) phasers: &'static [(u32, u32)],
-    /// In each phaser, what its one accumulator, a sum, came to in each phase.
-    pub(super) sums: &'static [(u32, i64)],
-    /// Each task, with the number of the refusal by which it ended.
-    pub(super) tasks: &'static [(u32, Option<u8>)],
-    /// Each finish, with so many tasks spawned in it.
-    pub(super) finishes: &'static [(u32, u32)],
-    pub(super) totals: TotalsLine,
+/// A line of a report, the totals aside.
+#[derive(Clone, Copy, Debug, PartialEq, Eq)]
+pub(super) enum Line {
+    /// The phaser had so many phases.
+    Phaser(u32, u32),
+    /// The phaser's first accumulator, a sum, came to this in the phase.
+    Sum(u32, u32, i64),
+    /// Something else of the phaser's.
+    Fold(u32, FoldLine),
+    /// The task ended, by the refusal of this number where one is given.
+    Task(u32, Option<u8>),
+    /// So many tasks were spawned in the finish.
+    Finish(u32, u32),
 }
 
 /// No phaser did anything.
@@ -27,65 +29,64 @@ pub(super) const NOTHING: TotalsLine = TotalsLine {
     down: 0,
 };
 
-/// The lines of folds are these sums.
-fn sums_are(rt: &impl Abort, folds: &[FoldLine], expected: &[(u32, i64)]) {
-    assert_eq!(rt; folds.len(), expected.len());
-    for (line, (phase, sum)) in folds.iter().zip(expected) {
-        let fold = FoldLine {
-            phase: *phase,
+fn fold_of(phaser: u32, line: FoldLine) -> Line {
+    match line {
+        FoldLine {
+            phase,
             acc: 0,
-            value: Look::Value(*sum),
-        };
-        assert_eq!(rt; *line, fold);
+            value: Look::Value(sum),
+        } => Line::Sum(phaser, phase, sum),
+        other => Line::Fold(phaser, other),
     }
 }
 
-/// The lines are of this phaser, with so many phases and these sums.
+/// Adds the lines of a phaser.
+fn add_phaser(list: &mut Vec<Line>, lines: &PhaserLines) -> Result<(), Refusal> {
+    list.push(Line::Phaser(lines.phaser, lines.phases))?;
+    for fold in &lines.folds {
+        list.push(fold_of(lines.phaser, *fold))?;
+    }
+    Ok(())
+}
+
+/// Adds all lines but the totals.
+fn add_lines(list: &mut Vec<Line>, report: &WorldReport) -> Result<(), Refusal> {
+    for lines in &report.phasers {
+        add_phaser(list, lines)?;
+    }
+    for line in &report.tasks {
+        list.push(Line::Task(line.task, line.refused))?;
+    }
+    for line in &report.finishes {
+        list.push(Line::Finish(line.finish, line.tasks))?;
+    }
+    Ok(())
+}
+
+/// The report has these lines, the totals aside.
 fn lines_are(
     rt: &impl Abort,
-    lines: &PhaserLines,
-    (phaser, phases): (u32, u32),
-    sums: &[(u32, i64)],
-) {
-    assert_eq!(rt; lines.phaser, phaser);
-    assert_eq!(rt; lines.phases, phases);
-    sums_are(rt, lines.folds.as_slice(), sums);
+    alloc: Global,
+    report: &WorldReport,
+    expected: &[Line],
+) -> Result<(), Refusal> {
+    let mut list = Vec::new(alloc);
+    add_lines(&mut list, report)?;
+    assert_eq!(rt; list.as_slice(), expected);
+    Ok(())
 }
 
-fn phasers_are(rt: &impl Abort, phasers: &[PhaserLines], expected: &Expected) {
-    assert_eq!(rt; phasers.len(), expected.phasers.len());
-    for (lines, phaser) in phasers.iter().zip(expected.phasers) {
-        lines_are(rt, lines, *phaser, expected.sums);
-    }
-}
-
-fn tasks_are(rt: &impl Abort, tasks: &[TaskLine], expected: &[(u32, Option<u8>)]) {
-    assert_eq!(rt; tasks.len(), expected.len());
-    for (line, (task, refused)) in tasks.iter().zip(expected) {
-        let task_line = TaskLine {
-            task: *task,
-            refused: *refused,
-        };
-        assert_eq!(rt; *line, task_line);
-    }
-}
-
-fn finishes_are(rt: &impl Abort, finishes: &[FinishLine], expected: &[(u32, u32)]) {
-    assert_eq!(rt; finishes.len(), expected.len());
-    for (line, (finish, tasks)) in finishes.iter().zip(expected) {
-        let finish_line = FinishLine {
-            finish: *finish,
-            tasks: *tasks,
-        };
-        assert_eq!(rt; *line, finish_line);
-    }
-}
-
-fn is_reported(rt: &impl Abort, report: &WorldReport, expected: &Expected) {
-    phasers_are(rt, report.phasers.as_slice(), expected);
-    tasks_are(rt, report.tasks.as_slice(), expected.tasks);
-    finishes_are(rt, report.finishes.as_slice(), expected.finishes);
-    assert_eq!(rt; report.totals, expected.totals);
+/// The world is reported so.
+fn is_reported(
+    rt: &impl Abort,
+    alloc: Global,
+    world: &World,
+    lines: &[Line],
+    totals: TotalsLine,
+) -> Result<(), Refusal> {
+    let report = world.report(alloc)?;
+    assert_eq!(rt; report.totals, totals);
+    lines_are(rt, alloc, &report, lines)
 }
 
 /// The world that the tables leave, at the default limits, is reported so.
@@ -93,25 +94,18 @@ pub(super) fn reported(
     rt: &impl Abort,
     alloc: Global,
     tables: &[&[Row]],
-    expected: &Expected,
+    lines: &[Line],
+    totals: TotalsLine,
 ) -> Result<(), Refusal> {
     let world = play(rt, alloc, Limits::default(), tables)?;
-    let report = world.report(alloc)?;
-    is_reported(rt, &report, expected);
-    Ok(())
+    is_reported(rt, alloc, &world, lines, totals)
 }
 
 /// Nothing was done yet: the root stands there, and finish 0.
 #[test]
 fn a_fresh_world_is_reported(rt: HostRuntime) -> Result<(), Refusal> {
-    const EXPECTED: Expected = Expected {
-        phasers: &[],
-        sums: &[],
-        tasks: &[(0, None)],
-        finishes: &[(0, 0)],
-        totals: NOTHING,
-    };
-    reported(&rt, rt.alloc(), &[], &EXPECTED)
+    const LINES: [Line; 2] = [Line::Task(0, None), Line::Finish(0, 0)];
+    reported(&rt, rt.alloc(), &[], &LINES, NOTHING)
 }
 
 /// One task alone takes a turn, and ends.
@@ -126,18 +120,13 @@ fn smallest_trace(rt: HostRuntime) -> Result<(), Refusal> {
         Done(On(0, Step::Drop(0))),
         Done(Within(0, FinishEvent::Shut)),
     ];
-    const EXPECTED: Expected = Expected {
-        phasers: &[(0, 1)],
-        sums: &[],
-        tasks: &[(0, None)],
-        finishes: &[(0, 0)],
-        totals: TotalsLine {
-            registered: 1,
-            signals: 1,
-            passes: 1,
-            drops: 1,
-            ..NOTHING
-        },
+    const LINES: [Line; 3] = [Line::Phaser(0, 1), Line::Task(0, None), Line::Finish(0, 0)];
+    const TOTALS: TotalsLine = TotalsLine {
+        registered: 1,
+        signals: 1,
+        passes: 1,
+        drops: 1,
+        ..NOTHING
     };
-    reported(&rt, rt.alloc(), &[&ROWS], &EXPECTED)
+    reported(&rt, rt.alloc(), &[&ROWS], &LINES, TOTALS)
 }
