@@ -27,7 +27,7 @@ enum Places {
 /// An event as a table names it. A constant can't call what makes the lists of an event, so that
 /// events with a list have variants of their own.
 #[derive(Clone, Copy)]
-enum Told {
+enum TableEvent {
     /// The phaser is made by the task in this mode, with no accumulators.
     Make(u32, u32, Mode),
     /// The same with one accumulator, a sum.
@@ -51,11 +51,11 @@ enum Told {
 #[derive(Clone, Copy)]
 enum Row {
     /// The event is made.
-    Done(Told),
+    Done(TableEvent),
     /// The event has to wait.
-    NotYet(Told),
+    NotYet(TableEvent),
     /// The event is refused.
-    Refused(Told, Refusal),
+    Refused(TableEvent, Refusal),
     /// On the phaser the task passes the phase.
     Passed(u32, u32, u32),
     /// In the phaser's first accumulator the task sees the value.
@@ -112,47 +112,50 @@ fn one_sum() -> Ops {
 }
 
 /// The event that is named.
-fn event_of(told: Told) -> WorldEvent {
-    match told {
-        Told::Make(phaser, task, mode) => {
+fn event_of(event: TableEvent) -> WorldEvent {
+    match event {
+        TableEvent::Make(phaser, task, mode) => {
             WorldEvent::Phaser(phaser, Step::Make(task, mode, Ops::none()))
         }
-        Told::MakeSum(phaser, task, mode) => {
+        TableEvent::MakeSum(phaser, task, mode) => {
             WorldEvent::Phaser(phaser, Step::Make(task, mode, one_sum()))
         }
-        Told::On(phaser, step) => WorldEvent::Phaser(phaser, step),
-        Told::Within(finish, event) => WorldEvent::Finish(finish, event),
-        Told::Begin(task, begun) => WorldEvent::Begin(task, begun),
-        Told::Spawn(task, child, places) => WorldEvent::Begin(task, spawn(child, places)),
-        Told::Refuse(task, tried, number) => WorldEvent::Refuse(task, tried, number),
-        Told::RefuseMake(task, phaser, mode, number) => {
+        TableEvent::On(phaser, step) => WorldEvent::Phaser(phaser, step),
+        TableEvent::Within(finish, event) => WorldEvent::Finish(finish, event),
+        TableEvent::Begin(task, begun) => WorldEvent::Begin(task, begun),
+        TableEvent::Spawn(task, child, places) => WorldEvent::Begin(task, spawn(child, places)),
+        TableEvent::Refuse(task, tried, number) => WorldEvent::Refuse(task, tried, number),
+        TableEvent::RefuseMake(task, phaser, mode, number) => {
             WorldEvent::Refuse(task, Tried::New(phaser, mode, Ops::none()), number)
         }
-        Told::RefuseSpawn(task, child, places, number) => {
+        TableEvent::RefuseSpawn(task, child, places, number) => {
             WorldEvent::Refuse(task, Tried::Begun(spawn(child, places)), number)
         }
-        Told::Fail(task, number) => WorldEvent::Fail(task, number),
+        TableEvent::Fail(task, number) => WorldEvent::Fail(task, number),
     }
 }
 
 /// The world gives this reply to the event.
-fn replies(rt: &impl Abort, world: &mut World, told: Told, reply: Result<Reply, Refusal>) {
-    let event = event_of(told);
+fn replies(rt: &impl Abort, world: &mut World, event: TableEvent, reply: Result<Reply, Refusal>) {
+    let event = event_of(event);
     assert_eq!(rt; world.step(&event), reply, "{event:?}");
 }
 
 /// The row's event and its reply; none where the row is a question.
-fn event_in(row: &Row) -> Option<(Told, Result<Reply, Refusal>)> {
+fn event_in(row: &Row) -> Option<(TableEvent, Result<Reply, Refusal>)> {
     match *row {
-        Row::Done(told) => Some((told, Ok(Reply::Done))),
-        Row::NotYet(told) => Some((told, Ok(Reply::NotYet))),
-        Row::Refused(told, refusal) => Some((told, Err(refusal))),
+        Row::Done(event) => Some((event, Ok(Reply::Done))),
+        Row::NotYet(event) => Some((event, Ok(Reply::NotYet))),
+        Row::Refused(event, refusal) => Some((event, Err(refusal))),
         Row::Passed(phaser, task, phase) => {
-            Some((Told::On(phaser, Step::Pass(task)), Ok(Reply::Phase(phase))))
+            Some((
+                TableEvent::On(phaser, Step::Pass(task)),
+                Ok(Reply::Phase(phase)),
+            ))
         }
         Row::Saw(phaser, task, value) => {
             Some((
-                Told::On(phaser, Step::Look(task, 0)),
+                TableEvent::On(phaser, Step::Look(task, 0)),
                 Ok(Reply::Value(value)),
             ))
         }
@@ -194,7 +197,7 @@ fn answers(rt: &impl Abort, world: &World, row: &Row) {
 /// The world replies or answers as the row says.
 fn agrees(rt: &impl Abort, world: &mut World, row: &Row) {
     match event_in(row) {
-        Some((told, reply)) => replies(rt, world, told, reply),
+        Some((event, reply)) => replies(rt, world, event, reply),
         None => answers(rt, world, row),
     }
 }

@@ -1,7 +1,7 @@
 //! Worked examples of finishes and turns: each event with its reply, and the report at the end.
 use super::Places::*;
 use super::Row::*;
-use super::Told::*;
+use super::TableEvent::*;
 use super::reports::{Line, NOTHING, reported};
 use super::*;
 

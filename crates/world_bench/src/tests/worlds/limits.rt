@@ -1,7 +1,7 @@
 //! Worked examples of limits and of refused acts: each event with its reply.
 use super::Places::*;
 use super::Row::*;
-use super::Told::*;
+use super::TableEvent::*;
 use super::*;
 
 /// Hands the rows to a fresh world with these limits.

@@ -1,6 +1,6 @@
 //! What the worked examples are reported as.
 use super::Row::*;
-use super::Told::*;
+use super::TableEvent::*;
 use super::*;
 
 /// A line of a report, the totals aside.
