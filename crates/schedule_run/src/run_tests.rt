@@ -4,38 +4,54 @@ use finish_core::FinishEvent;
 use job_script::read_program;
 use phase_model::{Look, Ops};
 use phase_modes::{Mode, Phased};
+use std::alloc::Global;
+use std::process::Abort;
 use std::test::Fail;
 use trace_model::{TracedEvent, TracedStep};
 use world_model::{Begun, FinishLine, TotalsLine};
 
 /// The run of the program that this text spells.
-fn run_of(rt: &HostRuntime, text: &str, picks: &[u32]) -> Result<Run, Fail> {
-    let Ok(program) = read_program(rt.alloc(), text.as_bytes()) else {
+fn run_of(alloc: Global, text: &str, picks: &[u32]) -> Result<Run, Fail> {
+    let Ok(program) = read_program(alloc, text.as_bytes()) else {
         return Err(Fail::from("the text is a program"));
     };
-    match run_picks(rt.alloc(), &program, picks) {
+    match run_picks(alloc, &program, picks) {
         Ok(run) => Ok(run),
         Err(_) => Err(Fail::from("memory")),
     }
 }
 
-/// The event at this place of the trace, counted from 0, has the next ticket, and is this one.
+/// A place of a trace, counted from 0, and the event there.
+type Placed = (usize, TracedEvent);
+
+/// The event at this place of the trace has the next ticket, and is this one.
 fn event_is(run: &Run, place: usize, event: TracedEvent) -> bool {
     place < run.trace.len() && run.trace.entry(place) == (place as u64 + 1, event)
 }
 
+/// The trace has so many events, and at these places these ones.
+fn trace_is(rt: &impl Abort, run: &Run, len: usize, rows: &[Placed]) {
+    assert_eq!(rt; run.trace.len(), len);
+    for (place, event) in rows {
+        assert!(rt; event_is(run, *place, *event), "place {place}");
+    }
+}
+
 #[test]
 fn smallest_trace(rt: HostRuntime) -> Result<(), Fail> {
-    let run = run_of(&rt, r#"{"main":[["new","p","SIG_WAIT",[]],["next"]]}"#, &[])?;
-    assert_eq!(rt; run.trace.len(), 7);
+    let text = r#"{"main":[["new","p","SIG_WAIT",[]],["next"]]}"#;
     let made = TracedStep::Make(0, Mode::SigWait, Ops::none());
-    assert!(rt; event_is(&run, 0, TracedEvent::Phaser(0, made)));
-    assert!(rt; event_is(&run, 1, TracedEvent::Begin(0, Begun::Next)));
-    assert!(rt; event_is(&run, 2, TracedEvent::Phaser(0, TracedStep::Sig(0, None))));
-    assert!(rt; event_is(&run, 3, TracedEvent::Phaser(0, TracedStep::Pass(0))));
-    assert!(rt; event_is(&run, 4, TracedEvent::Begin(0, Begun::End)));
-    assert!(rt; event_is(&run, 5, TracedEvent::Phaser(0, TracedStep::Drop(0))));
-    assert!(rt; event_is(&run, 6, TracedEvent::Finish(0, FinishEvent::Shut)));
+    let events = [
+        (0, TracedEvent::Phaser(0, made)),
+        (1, TracedEvent::Begin(0, Begun::Next)),
+        (2, TracedEvent::Phaser(0, TracedStep::Sig(0, None))),
+        (3, TracedEvent::Phaser(0, TracedStep::Pass(0))),
+        (4, TracedEvent::Begin(0, Begun::End)),
+        (5, TracedEvent::Phaser(0, TracedStep::Drop(0))),
+        (6, TracedEvent::Finish(0, FinishEvent::Shut)),
+    ];
+    let run = run_of(rt.alloc(), text, &[])?;
+    trace_is(&rt, &run, 7, events.as_slice());
     assert_eq!(rt; run.report.phasers.len(), 1);
     Ok(())
 }
@@ -44,26 +60,31 @@ fn smallest_trace(rt: HostRuntime) -> Result<(), Fail> {
 /// last pick.
 const NESTED_PICKS: [u32; 15] = [0, 0, 0, 1, 1, 1, 1, 0, 0, 2, 2, 2, 0, 0, 0];
 
+/// Three tasks ran, two of them in finish 1.
+fn two_of_three_in_finish_1(rt: &impl Abort, run: &Run) {
+    const INNER: FinishLine = FinishLine {
+        finish: 1,
+        tasks: 2,
+    };
+    assert_eq!(rt; run.report.tasks.len(), 3);
+    assert_eq!(rt; run.report.finishes.get(1).copied(), Some(INNER));
+}
+
 #[test]
 fn nested_finish(rt: HostRuntime) -> Result<(), Fail> {
     let text = r#"{"main":[["open"],["async",[],[["async",[],[["next"]]]]],["shut"]]}"#;
-    let run = run_of(&rt, text, &NESTED_PICKS)?;
-    assert_eq!(rt; run.trace.len(), 14);
-    assert!(rt; event_is(&run, 0, TracedEvent::Finish(1, FinishEvent::Opened(0))));
     let spawn = Begun::Async(1, Phased::none());
-    assert!(rt; event_is(&run, 1, TracedEvent::Begin(0, spawn)));
-    assert!(rt; event_is(&run, 6, TracedEvent::Finish(1, FinishEvent::Ended(1))));
-    assert!(rt; event_is(&run, 10, TracedEvent::Finish(1, FinishEvent::Ended(2))));
-    assert!(rt; event_is(&run, 11, TracedEvent::Finish(1, FinishEvent::Shut)));
-    assert!(rt; event_is(&run, 13, TracedEvent::Finish(0, FinishEvent::Shut)));
-    assert_eq!(rt; run.report.tasks.len(), 3);
-    assert_eq!(rt;
-        run.report.finishes.get(1).copied(),
-        Some(FinishLine {
-            finish: 1,
-            tasks: 2
-        })
-    );
+    let events = [
+        (0, TracedEvent::Finish(1, FinishEvent::Opened(0))),
+        (1, TracedEvent::Begin(0, spawn)),
+        (6, TracedEvent::Finish(1, FinishEvent::Ended(1))),
+        (10, TracedEvent::Finish(1, FinishEvent::Ended(2))),
+        (11, TracedEvent::Finish(1, FinishEvent::Shut)),
+        (13, TracedEvent::Finish(0, FinishEvent::Shut)),
+    ];
+    let run = run_of(rt.alloc(), text, &NESTED_PICKS)?;
+    trace_is(&rt, &run, 14, events.as_slice());
+    two_of_three_in_finish_1(&rt, &run);
     Ok(())
 }
 
@@ -80,53 +101,73 @@ fn are_two_senders(run: &Run) -> bool {
         && phaser.folds.get(1).map(|fold| fold.value) == Some(Look::Value(30))
 }
 
-#[test]
-fn two_senders(rt: HostRuntime) -> Result<(), Fail> {
-    let totals = TotalsLine {
-        registered: 3,
-        signals: 4,
-        passes: 4,
-        drops: 3,
-        sends: 4,
-        up: 33,
-        down: 0,
-    };
-    let run = run_of(&rt, TWO_SENDERS, &[])?;
-    assert_eq!(rt; run.report.totals, totals);
-    assert!(rt; are_two_senders(&run));
-    let picked = run_of(&rt, TWO_SENDERS, &[9, 0, 0, 1, 0])?;
-    assert_eq!(rt; picked.report.totals, totals);
-    assert!(rt; are_two_senders(&picked));
+const SENDERS_TOTALS: TotalsLine = TotalsLine {
+    registered: 3,
+    signals: 4,
+    passes: 4,
+    drops: 3,
+    sends: 4,
+    up: 33,
+    down: 0,
+};
+
+/// The run by these picks of the two senders.
+fn two_senders_by(rt: &impl Abort, alloc: Global, picks: &[u32]) -> Result<(), Fail> {
+    let run = run_of(alloc, TWO_SENDERS, picks)?;
+    assert!(rt;
+        run.report.totals == SENDERS_TOTALS && are_two_senders(&run),
+        "{picks:?}"
+    );
     Ok(())
 }
 
+#[test]
+fn two_senders(rt: HostRuntime) -> Result<(), Fail> {
+    two_senders_by(&rt, rt.alloc(), &[])?;
+    two_senders_by(&rt, rt.alloc(), &[9, 0, 0, 1, 0])
+}
+
 /// The number by which the root is refused, in the report of a program's run.
-fn root_refused(rt: &HostRuntime, text: &str) -> Result<Option<u8>, Fail> {
-    let run = run_of(rt, text, &[])?;
+fn root_refused(alloc: Global, text: &str) -> Result<Option<u8>, Fail> {
+    let run = run_of(alloc, text, &[])?;
     match run.report.tasks.first() {
         Some(line) => Ok(line.refused),
         None => Err(Fail::from("the root has a line")),
     }
 }
 
-#[test]
-fn refused_acts_of_the_root(rt: HostRuntime) -> Result<(), Fail> {
-    assert_eq!(rt; root_refused(&rt, r#"{"main":[]}"#)?, None);
-    assert_eq!(rt; root_refused(&rt, r#"{"main":[["open"]]}"#)?, Some(20));
-    assert_eq!(rt; root_refused(&rt, r#"{"main":[["shut"]]}"#)?, Some(21));
-    assert_eq!(rt; root_refused(&rt, r#"{"main":[["single",1]]}"#)?, Some(8));
-    assert_eq!(rt;
-        root_refused(&rt, r#"{"main":[["send","p",0,1]]}"#)?,
-        Some(1)
-    );
+/// In the run of each program the root is refused by this number.
+fn roots_refused(rt: &impl Abort, alloc: Global, rows: &[(&str, Option<u8>)]) -> Result<(), Fail> {
+    for (text, number) in rows {
+        let refused = root_refused(alloc, text)?;
+        assert_eq!(rt; refused, *number, "{text}");
+    }
     Ok(())
 }
 
 #[test]
+fn refused_acts_of_the_root(rt: HostRuntime) -> Result<(), Fail> {
+    const ROWS: [(&str, Option<u8>); 5] = [
+        (r#"{"main":[]}"#, None),
+        (r#"{"main":[["open"]]}"#, Some(20)),
+        (r#"{"main":[["shut"]]}"#, Some(21)),
+        (r#"{"main":[["single",1]]}"#, Some(8)),
+        (r#"{"main":[["send","p",0,1]]}"#, Some(1)),
+    ];
+    roots_refused(&rt, rt.alloc(), ROWS.as_slice())
+}
+
+#[test]
 fn limits_of_the_root(rt: HostRuntime) -> Result<(), Fail> {
-    let acts = r#"{"limits":{"acts":2},"main":[["next"],["next"],["next"]]}"#;
-    assert_eq!(rt; root_refused(&rt, acts)?, Some(19));
-    let tasks = r#"{"limits":{"tasks":1},"main":[["async",[],[]]]}"#;
-    assert_eq!(rt; root_refused(&rt, tasks)?, Some(17));
-    Ok(())
+    const ROWS: [(&str, Option<u8>); 2] = [
+        (
+            r#"{"limits":{"acts":2},"main":[["next"],["next"],["next"]]}"#,
+            Some(19),
+        ),
+        (
+            r#"{"limits":{"tasks":1},"main":[["async",[],[]]]}"#,
+            Some(17),
+        ),
+    ];
+    roots_refused(&rt, rt.alloc(), ROWS.as_slice())
 }

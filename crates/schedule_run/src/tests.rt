@@ -6,13 +6,15 @@ use finish_core::FinishEvent;
 use job_script::{Act, Answer, Program, ScriptBody, read_program};
 use phase_model::Ops;
 use phase_modes::{Mode, Pair, Phased};
+use std::alloc::Global;
+use std::process::Abort;
 use std::test::Fail;
 use world_model::{Begun, Step, Tried, WorldEvent};
 
 mod traces;
 
-fn program_of(rt: &HostRuntime, text: &str) -> Result<Program, Fail> {
-    match read_program(rt.alloc(), text.as_bytes()) {
+fn program_of(alloc: Global, text: &str) -> Result<Program, Fail> {
+    match read_program(alloc, text.as_bytes()) {
         Ok(program) => Ok(program),
         Err(_) => Err(Fail::from("the text is a program")),
     }
@@ -56,7 +58,7 @@ fn is_tried_so(event: &WorldEvent, act: &Act<ScriptBody<'_>>) -> bool {
 #[test]
 fn acts_are_tried(rt: HostRuntime) -> Result<(), Fail> {
     let program = program_of(
-        &rt,
+        rt.alloc(),
         r#"{"main":[["new","p","SIG",[]],["open"],["send","p",1,-2],["look","p",1],["next"],["async_all",[]]]}"#,
     )?;
     let events = [
@@ -94,28 +96,44 @@ fn events_that_are_no_acts(rt: HostRuntime) -> Result<(), Fail> {
     Ok(())
 }
 
+/// The root makes its phaser, by the number 6, and nobody else has an act.
+fn root_alone(rt: &impl Abort, bodies: &mut Bodies<'_>) {
+    assert_eq!(rt; bodies.seats.len(), 2);
+    assert!(rt; matches!(bodies.next_act(1), Act::End));
+    assert!(rt; matches!(bodies.next_act(0), Act::New(Mode::Sig, _)));
+    bodies.report_made(0, 6);
+}
+
+/// The root's next act is a spawn, and the child takes its seat.
+fn root_spawns(bodies: &mut Bodies<'_>) -> Result<(), Fail> {
+    match bodies.next_act(0) {
+        Act::Async(child, _) if bodies.seats.len() == 2 => bodies.seat_child(1, child),
+        _ => return Err(Fail::from("a spawn")),
+    }
+    Ok(())
+}
+
+/// The child sends to the phaser and ends, the root goes on and ends.
+fn both_end(rt: &impl Abort, bodies: &mut Bodies<'_>) {
+    assert!(rt; matches!(bodies.next_act(1), Act::Send(6, 0, 1)));
+    assert!(rt; matches!(bodies.next_act(1), Act::End));
+    assert!(rt; matches!(bodies.next_act(0), Act::Next));
+    assert!(rt; matches!(bodies.next_act(0), Act::End));
+    assert!(rt; matches!(bodies.next_act(9), Act::End));
+}
+
 #[test]
 fn each_task_has_its_own_acts(rt: HostRuntime) -> Result<(), Fail> {
     let program = program_of(
-        &rt,
+        rt.alloc(),
         r#"{"limits":{"tasks":2},"main":[["new","p","SIG",[]],["async",[["p","SIG"]],[["send","p",0,1]]],["next"]]}"#,
     )?;
     let mut bodies = match Bodies::new(rt.alloc(), &program) {
         Ok(bodies) => bodies,
         Err(_) => return Err(Fail::from("memory")),
     };
-    assert_eq!(rt; bodies.seats.len(), 2);
-    assert!(rt; matches!(bodies.next_act(1), Act::End));
-    assert!(rt; matches!(bodies.next_act(0), Act::New(Mode::Sig, _)));
-    bodies.report_made(0, 6);
-    match bodies.next_act(0) {
-        Act::Async(child, _) if bodies.seats.len() == 2 => bodies.seat_child(1, child),
-        _ => return Err(Fail::from("a spawn")),
-    }
-    assert!(rt; matches!(bodies.next_act(1), Act::Send(6, 0, 1)));
-    assert!(rt; matches!(bodies.next_act(1), Act::End));
-    assert!(rt; matches!(bodies.next_act(0), Act::Next));
-    assert!(rt; matches!(bodies.next_act(0), Act::End));
-    assert!(rt; matches!(bodies.next_act(9), Act::End));
+    root_alone(&rt, &mut bodies);
+    root_spawns(&mut bodies)?;
+    both_end(&rt, &mut bodies);
     Ok(())
 }

@@ -4,9 +4,9 @@ use phase_modes::{Limits, Refusal};
 use trace_model::{Trace, TracedEvent, TracedStep};
 
 /// The place at which these events leave the program of this text; none where they follow it.
-fn place_in(rt: &HostRuntime, text: &str, events: &[TracedEvent]) -> Result<Option<u64>, Fail> {
-    let program = program_of(rt, text)?;
-    let mut trace = Trace::new(rt.alloc(), Limits::default());
+fn place_in(alloc: Global, text: &str, events: &[TracedEvent]) -> Result<Option<u64>, Fail> {
+    let program = program_of(alloc, text)?;
+    let mut trace = Trace::new(alloc, Limits::default());
     let mut ticket = 0_u64;
     for event in events {
         ticket = ticket.saturating_add(1);
@@ -14,11 +14,24 @@ fn place_in(rt: &HostRuntime, text: &str, events: &[TracedEvent]) -> Result<Opti
             .push(ticket, *event)
             .map_err(|_| Fail::from("memory"))?;
     }
-    match follows(rt.alloc(), &program, &trace) {
+    match follows(alloc, &program, &trace) {
         Ok(()) => Ok(None),
         Err(Refusal::NotExplained(place)) => Ok(Some(place)),
         Err(_) => Err(Fail::from("memory")),
     }
+}
+
+/// The events leave the program of this text at this place; none where they follow it.
+fn leaves_at(
+    rt: &impl Abort,
+    alloc: Global,
+    text: &str,
+    events: &[TracedEvent],
+    expected: Option<u64>,
+) -> Result<(), Fail> {
+    let place = place_in(alloc, text, events)?;
+    assert_eq!(rt; place, expected);
+    Ok(())
 }
 
 fn of_phaser(n: u32, step: TracedStep) -> TracedEvent {
@@ -88,11 +101,10 @@ fn nested_finish() -> [TracedEvent; 14] {
 
 #[test]
 fn traces_follow_their_own_programs(rt: HostRuntime) -> Result<(), Fail> {
-    assert_eq!(rt; place_in(&rt, SMALLEST, &smallest_trace())?, None);
-    assert_eq!(rt; place_in(&rt, NESTED, &nested_finish())?, None);
-    assert_eq!(rt; place_in(&rt, SMALLEST, &nested_finish())?, Some(1));
-    assert_eq!(rt; place_in(&rt, NESTED, &smallest_trace())?, Some(1));
-    Ok(())
+    leaves_at(&rt, rt.alloc(), SMALLEST, &smallest_trace(), None)?;
+    leaves_at(&rt, rt.alloc(), NESTED, &nested_finish(), None)?;
+    leaves_at(&rt, rt.alloc(), SMALLEST, &nested_finish(), Some(1))?;
+    leaves_at(&rt, rt.alloc(), NESTED, &smallest_trace(), Some(1))
 }
 
 const OUTSIDE_SCOPE: &str =
@@ -116,16 +128,21 @@ fn refused_spawn(task: u32, phaser: u32) -> [TracedEvent; 6] {
 
 #[test]
 fn refusals_are_the_tasks_own(rt: HostRuntime) -> Result<(), Fail> {
-    assert_eq!(rt; place_in(&rt, OUTSIDE_SCOPE, &refused_spawn(0, 0))?, None);
-    assert_eq!(rt;
-        place_in(&rt, OUTSIDE_SCOPE, &refused_spawn(1, 0))?,
-        Some(3)
-    );
-    assert_eq!(rt;
-        place_in(&rt, OUTSIDE_SCOPE, &refused_spawn(0, 1))?,
-        Some(3)
-    );
-    Ok(())
+    leaves_at(&rt, rt.alloc(), OUTSIDE_SCOPE, &refused_spawn(0, 0), None)?;
+    leaves_at(
+        &rt,
+        rt.alloc(),
+        OUTSIDE_SCOPE,
+        &refused_spawn(1, 0),
+        Some(3),
+    )?;
+    leaves_at(
+        &rt,
+        rt.alloc(),
+        OUTSIDE_SCOPE,
+        &refused_spawn(0, 1),
+        Some(3),
+    )
 }
 
 const SENDERS: &str =
@@ -144,10 +161,9 @@ fn named_twice(meant: u32, value: i32) -> [TracedEvent; 5] {
 
 #[test]
 fn changed_acts_are_found(rt: HostRuntime) -> Result<(), Fail> {
-    assert_eq!(rt; place_in(&rt, SENDERS, &named_twice(9, 7))?, None);
-    assert_eq!(rt; place_in(&rt, SENDERS, &named_twice(4, 7))?, Some(4));
-    assert_eq!(rt; place_in(&rt, SENDERS, &named_twice(9, 8))?, Some(4));
-    Ok(())
+    leaves_at(&rt, rt.alloc(), SENDERS, &named_twice(9, 7), None)?;
+    leaves_at(&rt, rt.alloc(), SENDERS, &named_twice(4, 7), Some(4))?;
+    leaves_at(&rt, rt.alloc(), SENDERS, &named_twice(9, 8), Some(4))
 }
 
 const ALL: &str =
@@ -170,21 +186,20 @@ fn a_spawn_on_all_phasers_names_those_that_are_held(rt: HostRuntime) -> Result<(
     let turned = [(1, Mode::Sig), (0, Mode::SigWait)];
     let other = [(0, Mode::SigWait), (1, Mode::SigWait)];
     let one = [(0, Mode::SigWait)];
-    assert_eq!(rt; place_in(&rt, ALL, &all_twice(&both, &one))?, None);
-    assert_eq!(rt; place_in(&rt, ALL, &all_twice(&one, &one))?, Some(3));
-    assert_eq!(rt; place_in(&rt, ALL, &all_twice(&turned, &one))?, Some(3));
-    assert_eq!(rt; place_in(&rt, ALL, &all_twice(&other, &one))?, Some(3));
-    assert_eq!(rt; place_in(&rt, ALL, &all_twice(&both, &both))?, Some(5));
-    Ok(())
+    leaves_at(&rt, rt.alloc(), ALL, &all_twice(&both, &one), None)?;
+    leaves_at(&rt, rt.alloc(), ALL, &all_twice(&one, &one), Some(3))?;
+    leaves_at(&rt, rt.alloc(), ALL, &all_twice(&turned, &one), Some(3))?;
+    leaves_at(&rt, rt.alloc(), ALL, &all_twice(&other, &one), Some(3))?;
+    leaves_at(&rt, rt.alloc(), ALL, &all_twice(&both, &both), Some(5))
 }
 
 #[test]
 fn tasks_may_have_any_number(rt: HostRuntime) -> Result<(), Fail> {
     let most = u32::MAX;
     let ends = [begin(7, Begun::End), begin(most, Begun::End)];
-    assert_eq!(rt; place_in(&rt, SMALLEST, &ends)?, None);
+    leaves_at(&rt, rt.alloc(), SMALLEST, &ends, None)?;
     let waits = [begin(7, Begun::End), begin(7, Begun::Wait)];
-    assert_eq!(rt; place_in(&rt, SMALLEST, &waits)?, Some(2));
+    leaves_at(&rt, rt.alloc(), SMALLEST, &waits, Some(2))?;
     let spawned = [
         of_finish(1, FinishEvent::Opened(0)),
         begin(0, Begun::Async(most, Phased::none())),
@@ -192,6 +207,5 @@ fn tasks_may_have_any_number(rt: HostRuntime) -> Result<(), Fail> {
         begin(2, Begun::Next),
         begin(most, Begun::Shut),
     ];
-    assert_eq!(rt; place_in(&rt, NESTED, &spawned)?, Some(5));
-    Ok(())
+    leaves_at(&rt, rt.alloc(), NESTED, &spawned, Some(5))
 }
