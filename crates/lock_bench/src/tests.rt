@@ -1,15 +1,18 @@
 //! Phasers shared through a table: the worked examples by one thread, a waiter that is let go on,
 //! and threads that call at the same time; below, the tests of the books.
 ghost use Rattle.std.specs.Prelude.{◌≡◌, [], ◌<◌, ◌≤◌, true};
+ghost use Rattle.phase_modes.specs.Limits.{limits_fit};
 ghost use Rattle.share_book.specs.Opening.{IsNamed, IsParted};
 
 use crate::calls::is_drained;
 use crate::command_line::job_of;
 use crate::kind::Kind;
-use crate::threads::{events_of, numbered};
+use crate::threads::{events_of, fresh, given_back, numbered};
 use phase_model::{Call, Look, Op, Ops, Reply, explain};
 use phase_modes::{Limits, Mode, Refusal};
-use scope_locks::{FinishTable, Out, PassAnswer, PhaserCell, PhaserParts, PhaserTable, ShutAnswer};
+use scope_locks::{
+    FinishParts, FinishTable, Out, PassAnswer, PhaserCell, PhaserParts, PhaserTable, ShutAnswer,
+};
 use share_book::{Blanks, Books, Ledgers, PhaserBook, Seven, Shares, Totals, gather, open};
 use std::alloc::Global;
 use std::marker::Brand;
@@ -17,12 +20,16 @@ use std::process::Abort;
 use std::sync::Wait;
 use std::sync::ledger::Ledger;
 use std::test::*;
+use std::thread::Threads;
 
 mod books;
 mod examples_on_table;
 mod finishes;
 mod threads;
 mod waiter;
+
+/// A call, and the reply to it.
+type Row = (Call, Reply);
 
 fn plainly(answer: Result<(), Refusal>) -> Reply {
     match answer {
@@ -99,18 +106,120 @@ fn first_ops(count: usize) -> Ops {
     ops
 }
 
-/// Names the ledgers, and plays one example.
+/// What the call on phaser 0 is answered; `Memory` where there is none for the list of those whom
+/// it lets go on. They are dropped.
+fn answer_alone<K: Ledgers, R: Wait>(
+    rt: &R,
+    alloc: Global,
+    table: &PhaserTable<u32, K>,
+    mine: &mut Shares<K>,
+    ops: Ops,
+    call: Call,
+) -> Reply
+    requires { 0 < table.now.phasers }
+{
+    let Ok(mut out) = Out::new(alloc) else {
+        return Reply::Refused(Refusal::Memory);
+    };
+    answer_to(rt, table, 0, mine, &mut out, ops, call)
+}
+
+/// Each call on phaser 0 is answered as its row says.
+fn answers<K: Ledgers, R: Abort + Wait>(
+    rt: &R,
+    alloc: Global,
+    table: &PhaserTable<u32, K>,
+    mine: &mut Shares<K>,
+    ops: Ops,
+    rows: &[Row],
+)
+    requires { 0 < table.now.phasers }
+{
+    for (call, expected) in rows {
+        let answer = answer_alone(rt, alloc, table, mine, ops, *call);
+        assert_eq!(rt; answer, *expected, "{call:?}");
+    }
+}
+
+/// Each call of the one worker on phaser 0 is answered as its row says.
+fn answers_the_one<K: Ledgers, R: Abort + Wait>(
+    rt: &R,
+    alloc: Global,
+    table: &PhaserTable<u32, K>,
+    shares: &mut Vec<Shares<K>>,
+    ops: Ops,
+    rows: &[Row],
+)
+    requires { 0 < table.now.phasers }
+{
+    assert_eq!(rt; shares.len(), 1);
+    if let Some(mine) = shares.get_mut(0) {
+        answers(rt, alloc, table, mine, ops, rows);
+    }
+}
+
+/// How many events the phasers' histories have. Each is explained.
+fn events_explained<K: Ledgers>(rt: &impl Abort, parts: &PhaserParts<K>) -> u64 {
+    let mut events = 0u64;
+    for state in &parts.states {
+        assert_eq!(rt; explain(state.history()), Ok(()));
+        events = events.saturating_add(u64::from(state.history().len()));
+    }
+    events
+}
+
+/// The totals, which are of so many events.
+fn of_events(
+    rt: &impl Abort,
+    totals: Result<Totals, Refusal>,
+    events: u64,
+) -> Result<Totals, Refusal> {
+    let totals = totals?;
+    assert_eq!(rt; totals.events, events);
+    Ok(totals)
+}
+
+/// What the table's books add up to, which is of as many events as its histories have.
+fn gathered<K: Ledgers>(
+    rt: &impl Abort,
+    table: PhaserTable<u32, K>,
+    shares: Vec<Shares<K>>,
+) -> Result<Totals, Refusal> {
+    let parts = table.into_parts();
+    let events = events_explained(rt, &parts);
+    of_events(rt, gather(shares, parts.phasers, parts.books), events)
+}
+
+/// How many of the rows are events: those that are neither refused nor have to come again.
+fn events_of_rows(rows: &[Row]) -> u64 {
+    let mut events = 0u64;
+    for (_call, reply) in rows {
+        match reply {
+            Reply::NotYet | Reply::Refused(_) => {}
+            _ => events = events.saturating_add(1),
+        }
+    }
+    events
+}
+
+/// Each call on a new phaser is answered as its row says; the history that they leave is explained,
+/// and gathered. Names the ledgers.
 fn example<R: Abort + Wait>(
     rt: &R,
     alloc: Global,
     limits: Limits,
     ops: Ops,
-    rows: &[(Call, Reply)],
-) -> Result<(), Refusal> {
+    rows: &[Row],
+) -> Result<(), Fail> {
+    if !limits.fits() {
+        return Err(Fail::from("the limits are none"));
+    }
     let blanks = Blanks::new(1, 1);
-    named::<R, Brand, Brand, Brand, Brand, Brand, Brand, Brand>(
+    let totals = named::<R, Brand, Brand, Brand, Brand, Brand, Brand, Brand>(
         rt, alloc, blanks, limits, ops, rows,
-    )
+    )?;
+    assert_eq!(rt; totals.events, events_of_rows(rows));
+    Ok(())
 }
 
 fn named<
@@ -128,64 +237,43 @@ fn named<
     blanks: Blanks,
     limits: Limits,
     ops: Ops,
-    rows: &[(Call, Reply)],
-) -> Result<(), Refusal>
+    rows: &[Row],
+) -> Result<Totals, Refusal>
     requires names { IsNamed blanks A.name B.name C.name D.name E.name F.name G.name }
     requires parts { IsParted blanks A.parts B.parts C.parts D.parts E.parts F.parts G.parts }
+    requires limits { limits_fit limits ≡ true }
+    requires one { blanks.phasers ≡ 1 }
 {
     play::<Seven<A, B, C, D, E, F, G>, R>(rt, alloc, blanks, limits, ops, rows)
 }
 
-/// Each call is answered as its row says; the history that they leave is explained, and gathered.
+/// What is gathered once each call was answered as its row says.
 fn play<K: Ledgers, R: Abort + Wait>(
     rt: &R,
     alloc: Global,
     blanks: Blanks,
     limits: Limits,
     ops: Ops,
-    rows: &[(Call, Reply)],
-) -> Result<(), Refusal>
+    rows: &[Row],
+) -> Result<Totals, Refusal>
     requires names { IsNamed blanks K.EventsByPhaser.name K.EventsByWorker.name K.UpByPhaser.name
         K.UpByWorker.name K.DownByPhaser.name K.DownByWorker.name K.Room.name }
     requires parts { IsParted blanks K.EventsByPhaser.parts K.EventsByWorker.parts K.UpByPhaser.parts
         K.UpByWorker.parts K.DownByPhaser.parts K.DownByWorker.parts K.Room.parts }
+    requires limits { limits_fit limits ≡ true }
+    requires one { blanks.phasers ≡ 1 }
 {
-    if !limits.fits() {
-        return Err(Refusal::NotNow);
-    }
-    let (books, phasers, mut shares) = open::<K>(alloc, blanks)?;
-    let table = PhaserTable::new(alloc, limits, books, phasers)?;
-    let mut events = 0u64;
-    for (call, expected) in rows {
-        let mut out = Out::new(alloc)?;
-        if let Some(mine) = shares.get_mut(0) {
-            if table.phasers > 0 {
-                let answer = answer_to(rt, &table, 0, mine, &mut out, ops, *call);
-                assert_eq!(rt; answer, *expected, "{call:?}");
-            }
-        }
-        match expected {
-            Reply::NotYet | Reply::Refused(_) => {}
-            _ => events = events.saturating_add(1),
-        }
-    }
-    let parts = table.into_parts();
-    for state in &parts.states {
-        assert_eq!(rt; explain(state.history()), Ok(()));
-    }
-    let totals = gather(shares, parts.phasers, parts.books)?;
-    assert_eq!(rt; totals.events, events);
-    Ok(())
+    let (table, mut shares) = fresh::<K>(alloc, limits, blanks)?;
+    answers_the_one(rt, alloc, &table, &mut shares, ops, rows);
+    gathered(rt, table, shares)
 }
 
 #[test]
 fn arguments_name_a_job(rt: HostRuntime) -> Result<(), Fail> {
+    const NUMBERS: [u32; 4] = [256, 32_768, 32, 2];
     let job = job_of(&["lock_bench", "turn", "256", "32768", "32", "2"]).ok_or("no job")?;
     assert_eq!(rt; job.kind, Kind::Turn);
-    assert_eq!(rt; job.tasks, 256);
-    assert_eq!(rt; job.phases, 32_768);
-    assert_eq!(rt; job.phasers, 32);
-    assert_eq!(rt; job.threads, 2);
+    assert_eq!(rt; [job.tasks, job.phases, job.phasers, job.threads], NUMBERS);
     Ok(())
 }
 
@@ -198,13 +286,32 @@ fn bad_arguments_name_none(rt: HostRuntime) -> Result<(), Fail> {
     Ok(())
 }
 
+/// The job that these arguments name has so many events.
+fn has_events<R: Abort + Threads + Wait + Sync>(
+    rt: &R,
+    alloc: Global,
+    arguments: &[&str],
+    events: u64,
+) -> Result<(), Fail> {
+    let job = job_of(arguments).ok_or("no job")?;
+    assert_eq!(rt; events_of(rt, alloc, job), Ok(events));
+    Ok(())
+}
+
 // Ahead: 1 making, 3 registrations, and a signal and a pass in each of 5 phases. Free: the same 4,
 // and in each phase a signal and 4 passes.
 #[test]
 fn events_of_jobs(rt: HostRuntime) -> Result<(), Fail> {
-    let ahead = job_of(&["lock_bench", "ahead", "4", "5", "1", "1"]).ok_or("no job")?;
-    assert_eq!(rt; events_of(&rt, rt.alloc(), ahead), Ok(14));
-    let free = job_of(&["lock_bench", "free", "4", "5", "1", "1"]).ok_or("no job")?;
-    assert_eq!(rt; events_of(&rt, rt.alloc(), free), Ok(29));
-    Ok(())
+    has_events(
+        &rt,
+        rt.alloc(),
+        &["lock_bench", "ahead", "4", "5", "1", "1"],
+        14,
+    )?;
+    has_events(
+        &rt,
+        rt.alloc(),
+        &["lock_bench", "free", "4", "5", "1", "1"],
+        29,
+    )
 }

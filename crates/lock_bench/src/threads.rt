@@ -1,5 +1,6 @@
 //! The run of a job: its threads, each with phasers of its own in one table.
-ghost use Rattle.std.specs.Prelude.{◌≡◌};
+ghost use Rattle.std.specs.Prelude.{◌≡◌, true, IfOk};
+ghost use Rattle.phase_modes.specs.Limits.{limits_fit};
 ghost use Rattle.share_book.specs.Opening.{IsNamed, IsParted};
 
 use crate::calls::call_one;
@@ -24,6 +25,24 @@ const LIMITS: Limits = Limits {
     tasks: 4_096,
 };
 
+/// A table of phasers that nobody has made yet, and the workers' shares.
+pub(crate) fn fresh<K: Ledgers>(
+    alloc: Global,
+    limits: Limits,
+    blanks: Blanks,
+) -> Result<(PhaserTable<u32, K>, Vec<Shares<K>>), Refusal>
+    requires names { IsNamed blanks K.EventsByPhaser.name K.EventsByWorker.name K.UpByPhaser.name
+        K.UpByWorker.name K.DownByPhaser.name K.DownByWorker.name K.Room.name }
+    requires parts { IsParted blanks K.EventsByPhaser.parts K.EventsByWorker.parts K.UpByPhaser.parts
+        K.UpByWorker.parts K.DownByPhaser.parts K.DownByWorker.parts K.Room.parts }
+    requires limits { limits_fit limits ≡ true }
+    ensures phasers { IfOk result (λ r. r.0.phasers ≡ blanks.phasers) }
+{
+    let (books, phasers, shares) = open::<K>(alloc, blanks)?;
+    let table = PhaserTable::new(alloc, limits, books, phasers)?;
+    Ok((table, shares))
+}
+
 /// The workers' shares, each with the number of its worker.
 pub fn numbered<K: Ledgers>(
     alloc: Global,
@@ -36,6 +55,18 @@ pub fn numbered<K: Ledgers>(
         number = number.saturating_add(1);
     }
     Ok(staff)
+}
+
+/// The shares that the workers gave back.
+pub(crate) fn given_back<K: Ledgers>(
+    alloc: Global,
+    done: Vec<Result<Shares<K>, Refusal>>,
+) -> Result<Vec<Shares<K>>, Refusal> {
+    let mut shares = Vec::new(alloc);
+    for mine in done {
+        shares.push(mine?)?;
+    }
+    Ok(shares)
 }
 
 /// One thread's part: its phasers, one after the other.
@@ -58,6 +89,37 @@ fn work<K: Ledgers, R: Wait>(
     Ok(mine)
 }
 
+/// All workers' parts, each in a thread. Returns their shares.
+fn work_all<K: Ledgers + Send + Sync, R: Threads + Wait + Sync>(
+    rt: &R,
+    alloc: Global,
+    table: &PhaserTable<u32, K>,
+    job: Job,
+    shares: Vec<Shares<K>>,
+) -> Result<Vec<Shares<K>>, Refusal>
+where
+    K::EventsByPhaser: Send + Sync,
+    K::EventsByWorker: Send + Sync,
+    K::UpByPhaser: Send + Sync,
+    K::UpByWorker: Send + Sync,
+    K::DownByPhaser: Send + Sync,
+    K::DownByWorker: Send + Sync,
+    K::Room: Send + Sync,
+{
+    let staff = numbered(alloc, shares)?;
+    let done = thread::map_vec(rt, staff, &|worker| work(rt, alloc, table, job, worker))?;
+    given_back(alloc, done)
+}
+
+/// How many events there were on the table's phasers.
+fn events_on<K: Ledgers>(
+    table: PhaserTable<u32, K>,
+    shares: Vec<Shares<K>>,
+) -> Result<u64, Refusal> {
+    let parts = table.into_parts();
+    Ok(gather(shares, parts.phasers, parts.books)?.events)
+}
+
 fn events_over<K: Ledgers + Send + Sync, R: Threads + Wait + Sync>(
     rt: &R,
     alloc: Global,
@@ -77,17 +139,9 @@ where
     requires parts { IsParted blanks K.EventsByPhaser.parts K.EventsByWorker.parts K.UpByPhaser.parts
         K.UpByWorker.parts K.DownByPhaser.parts K.DownByWorker.parts K.Room.parts }
 {
-    let (books, phasers, shares) = open::<K>(alloc, blanks)?;
-    let table = PhaserTable::new(alloc, LIMITS, books, phasers)?;
-    let staff = numbered(alloc, shares)?;
-    let shared = &table;
-    let done = thread::map_vec(rt, staff, &|worker| work(rt, alloc, shared, job, worker))?;
-    let mut shares = Vec::new(alloc);
-    for mine in done {
-        shares.push(mine?)?;
-    }
-    let parts = table.into_parts();
-    Ok(gather(shares, parts.phasers, parts.books)?.events)
+    let (table, shares) = fresh::<K>(alloc, LIMITS, blanks)?;
+    let shares = work_all(rt, alloc, &table, job, shares)?;
+    events_on(table, shares)
 }
 
 fn named_events<

@@ -5,7 +5,7 @@ use super::*;
 /// One task alone: it signals, and passes.
 #[test]
 fn one_task_turn(rt: HostRuntime) -> Result<(), Fail> {
-    let rows = [
+    const ROWS: [Row; 3] = [
         (Call::Make(0, Mode::SigWait), Reply::Done),
         (Call::Signal(0, None), Reply::Done),
         (Call::Pass(0), Reply::Phase(0)),
@@ -15,15 +15,14 @@ fn one_task_turn(rt: HostRuntime) -> Result<(), Fail> {
         rt.alloc(),
         limits_with(4_096, 256),
         Ops::none(),
-        rows.as_slice(),
-    )?;
-    Ok(())
+        ROWS.as_slice(),
+    )
 }
 
 /// Two tasks: the first waits until the second has signalled too.
 #[test]
 fn two_tasks_turn(rt: HostRuntime) -> Result<(), Fail> {
-    let rows = [
+    const ROWS: [Row; 7] = [
         (Call::Make(0, Mode::SigWait), Reply::Done),
         (Call::Register(0, 1, Mode::SigWait), Reply::Done),
         (Call::Signal(0, None), Reply::Done),
@@ -37,15 +36,14 @@ fn two_tasks_turn(rt: HostRuntime) -> Result<(), Fail> {
         rt.alloc(),
         limits_with(4_096, 256),
         Ops::none(),
-        rows.as_slice(),
-    )?;
-    Ok(())
+        ROWS.as_slice(),
+    )
 }
 
 /// A waiter can register no signaller, and without a signaller every phase is closed.
 #[test]
 fn waiter_alone(rt: HostRuntime) -> Result<(), Fail> {
-    let rows = [
+    const ROWS: [Row; 4] = [
         (Call::Make(0, Mode::Wait), Reply::Done),
         (
             Call::Register(0, 1, Mode::Sig),
@@ -59,16 +57,15 @@ fn waiter_alone(rt: HostRuntime) -> Result<(), Fail> {
         rt.alloc(),
         limits_with(4_096, 256),
         Ops::none(),
-        rows.as_slice(),
-    )?;
-    Ok(())
+        ROWS.as_slice(),
+    )
 }
 
 /// A child that is registered between its parent's signal and pass
 /// has signalled what its parent has.
 #[test]
 fn split_phase_child(rt: HostRuntime) -> Result<(), Fail> {
-    let rows = [
+    const ROWS: [Row; 10] = [
         (Call::Make(0, Mode::SigWait), Reply::Done),
         (Call::Signal(0, None), Reply::Done),
         (Call::Register(0, 1, Mode::Sig), Reply::Done),
@@ -88,15 +85,14 @@ fn split_phase_child(rt: HostRuntime) -> Result<(), Fail> {
         rt.alloc(),
         limits_with(4_096, 256),
         Ops::none(),
-        rows.as_slice(),
-    )?;
-    Ok(())
+        ROWS.as_slice(),
+    )
 }
 
 /// A task that only signals runs ahead; a task that only waits follows it, phase by phase.
 #[test]
 fn signaller_runs_ahead(rt: HostRuntime) -> Result<(), Fail> {
-    let rows = [
+    const ROWS: [Row; 14] = [
         (Call::Make(0, Mode::SigWait), Reply::Done),
         (Call::Register(0, 1, Mode::Sig), Reply::Done),
         (Call::Register(0, 2, Mode::Wait), Reply::Done),
@@ -117,15 +113,14 @@ fn signaller_runs_ahead(rt: HostRuntime) -> Result<(), Fail> {
         rt.alloc(),
         limits_with(4_096, 256),
         Ops::none(),
-        rows.as_slice(),
-    )?;
-    Ok(())
+        ROWS.as_slice(),
+    )
 }
 
 /// A value counts even if its sender is dropped before it signals.
 #[test]
 fn value_of_dropped_sender(rt: HostRuntime) -> Result<(), Fail> {
-    let rows = [
+    const ROWS: [Row; 9] = [
         (Call::Make(0, Mode::SigWait), Reply::Done),
         (Call::Register(0, 1, Mode::Sig), Reply::Done),
         (Call::Register(0, 2, Mode::Wait), Reply::Done),
@@ -141,15 +136,14 @@ fn value_of_dropped_sender(rt: HostRuntime) -> Result<(), Fail> {
         rt.alloc(),
         limits_with(4_096, 256),
         first_ops(1),
-        rows.as_slice(),
-    )?;
-    Ok(())
+        ROWS.as_slice(),
+    )
 }
 
 /// The sum of no value is 0, and there is no least and no greatest of none.
 #[test]
 fn empty_folds(rt: HostRuntime) -> Result<(), Fail> {
-    let rows = [
+    const ROWS: [Row; 9] = [
         (Call::Make(0, Mode::SigWait), Reply::Done),
         (Call::Look(0, 0), Reply::Refused(Refusal::NoPhaseYet)),
         (Call::Signal(0, None), Reply::Done),
@@ -165,15 +159,14 @@ fn empty_folds(rt: HostRuntime) -> Result<(), Fail> {
         rt.alloc(),
         limits_with(4_096, 256),
         first_ops(3),
-        rows.as_slice(),
-    )?;
-    Ok(())
+        ROWS.as_slice(),
+    )
 }
 
 /// A sum is wider than its values.
 #[test]
 fn extreme_values(rt: HostRuntime) -> Result<(), Fail> {
-    let rows = [
+    const ROWS: [Row; 9] = [
         (Call::Make(0, Mode::SigWait), Reply::Done),
         (Call::Send(0, 0, -2147483648), Reply::Done),
         (Call::Send(0, 0, -2147483648), Reply::Done),
@@ -189,15 +182,14 @@ fn extreme_values(rt: HostRuntime) -> Result<(), Fail> {
         rt.alloc(),
         limits_with(4_096, 256),
         first_ops(3),
-        rows.as_slice(),
-    )?;
-    Ok(())
+        ROWS.as_slice(),
+    )
 }
 
 /// A value that is sent after the signal counts for the next phase, and equal values count each.
 #[test]
 fn value_after_signal(rt: HostRuntime) -> Result<(), Fail> {
-    let rows = [
+    const ROWS: [Row; 14] = [
         (Call::Make(0, Mode::SigWait), Reply::Done),
         (Call::Register(0, 1, Mode::Sig), Reply::Done),
         (Call::Send(0, 0, 3), Reply::Done),
@@ -218,15 +210,14 @@ fn value_after_signal(rt: HostRuntime) -> Result<(), Fail> {
         rt.alloc(),
         limits_with(4_096, 256),
         first_ops(1),
-        rows.as_slice(),
-    )?;
-    Ok(())
+        ROWS.as_slice(),
+    )
 }
 
 /// One proposer claims the single; all others wait until it is reported done.
 #[test]
 fn single_statement(rt: HostRuntime) -> Result<(), Fail> {
-    let rows = [
+    const ROWS: [Row; 16] = [
         (Call::Make(0, Mode::Single), Reply::Done),
         (Call::Register(0, 1, Mode::Single), Reply::Done),
         (Call::Register(0, 2, Mode::Single), Reply::Done),
@@ -252,15 +243,14 @@ fn single_statement(rt: HostRuntime) -> Result<(), Fail> {
         rt.alloc(),
         limits_with(4_096, 256),
         Ops::none(),
-        rows.as_slice(),
-    )?;
-    Ok(())
+        ROWS.as_slice(),
+    )
 }
 
 /// Where an event has no room, a drop still has.
 #[test]
 fn history_full(rt: HostRuntime) -> Result<(), Fail> {
-    let rows = [
+    const ROWS: [Row; 5] = [
         (Call::Make(0, Mode::SigWait), Reply::Done),
         (Call::Signal(0, None), Reply::Done),
         (Call::Pass(0), Reply::Phase(0)),
@@ -272,15 +262,14 @@ fn history_full(rt: HostRuntime) -> Result<(), Fail> {
         rt.alloc(),
         limits_with(4, 256),
         Ops::none(),
-        rows.as_slice(),
-    )?;
-    Ok(())
+        ROWS.as_slice(),
+    )
 }
 
 /// Each call names the first refusal whose cause stands.
 #[test]
 fn refusals_in_order(rt: HostRuntime) -> Result<(), Fail> {
-    let rows = [
+    const ROWS: [Row; 12] = [
         (Call::Make(0, Mode::SigWait), Reply::Done),
         (Call::Register(0, 1, Mode::Wait), Reply::Done),
         (Call::Signal(1, None), Reply::Refused(Refusal::NoSignal)),
@@ -308,15 +297,14 @@ fn refusals_in_order(rt: HostRuntime) -> Result<(), Fail> {
         rt.alloc(),
         limits_with(4_096, 256),
         first_ops(1),
-        rows.as_slice(),
-    )?;
-    Ok(())
+        ROWS.as_slice(),
+    )
 }
 
 /// The task number is looked at before the number of registrations.
 #[test]
 fn registrations_full(rt: HostRuntime) -> Result<(), Fail> {
-    let rows = [
+    const ROWS: [Row; 3] = [
         (Call::Make(0, Mode::SigWait), Reply::Done),
         (
             Call::Register(0, 256, Mode::Sig),
@@ -332,15 +320,14 @@ fn registrations_full(rt: HostRuntime) -> Result<(), Fail> {
         rt.alloc(),
         limits_with(4_096, 1),
         Ops::none(),
-        rows.as_slice(),
-    )?;
-    Ok(())
+        ROWS.as_slice(),
+    )
 }
 
 /// A proposal needs room for its claim and its report, which then never fail for room.
 #[test]
 fn room_for_a_single(rt: HostRuntime) -> Result<(), Fail> {
-    let rows = [
+    const ROWS: [Row; 3] = [
         (Call::Make(0, Mode::Single), Reply::Done),
         (
             Call::Signal(0, Some(7)),
@@ -353,15 +340,14 @@ fn room_for_a_single(rt: HostRuntime) -> Result<(), Fail> {
         rt.alloc(),
         limits_with(4, 256),
         Ops::none(),
-        rows.as_slice(),
-    )?;
-    Ok(())
+        ROWS.as_slice(),
+    )
 }
 
 /// The claim and the report of a proposal then never fail for room.
 #[test]
 fn room_for_a_single_and_its_end(rt: HostRuntime) -> Result<(), Fail> {
-    let rows = [
+    const ROWS: [Row; 6] = [
         (Call::Make(0, Mode::Single), Reply::Done),
         (Call::Signal(0, Some(7)), Reply::Done),
         (Call::Pass(0), Reply::Claim(7)),
@@ -374,7 +360,6 @@ fn room_for_a_single_and_its_end(rt: HostRuntime) -> Result<(), Fail> {
         rt.alloc(),
         limits_with(5, 256),
         Ops::none(),
-        rows.as_slice(),
-    )?;
-    Ok(())
+        ROWS.as_slice(),
+    )
 }

@@ -1,5 +1,5 @@
 //! An owner that waits for two children, and the logs that they leave.
-ghost use Rattle.std.specs.Prelude.{◌≡◌, IfOk};
+ghost use Rattle.std.specs.Prelude.{◌≡◌, ◌<◌, IfOk};
 
 use super::*;
 
@@ -34,57 +34,108 @@ fn two_finishes(alloc: Global) -> Result<FinishTable<u32, u32>, Refusal>
     FinishTable::new(alloc, limits)
 }
 
+/// What the owner's shut is answered.
+fn shut<R: Wait>(rt: &R, table: &FinishTable<u32, u32>, number: usize, item: u32) -> Shutting
+    requires { number < table.now.finishes }
+{
+    answer_of(table.shut(rt, number, item))
+}
+
+/// The root's finish is open, and the other isn't.
+fn root_is_open<R: Abort + Wait>(rt: &R, table: &FinishTable<u32, u32>)
+    requires { table.now.finishes ≡ 2 }
+{
+    const NOT_OPEN: Shutting = Shutting::Refused(100, Refusal::NotNow);
+    assert_eq!(rt; shut(rt, table, 1, 100), NOT_OPEN);
+    assert_eq!(rt; table.opened(rt, 0, 0), Err(Refusal::NotNow));
+    assert_eq!(rt; shut(rt, table, 0, 100), Shutting::Done(100));
+}
+
 /// The root's finish is open from the start; before the other is opened it can't be shut.
 #[test]
 fn finishes_at_first(rt: HostRuntime) -> Result<(), Fail> {
     let table = two_finishes(rt.alloc())?;
-    assert_eq!(rt;
-        answer_of(table.shut(&rt, 1, 100)),
-        Shutting::Refused(100, Refusal::NotNow)
-    );
-    assert_eq!(rt; table.opened(&rt, 0, 0), Err(Refusal::NotNow));
-    assert_eq!(rt; answer_of(table.shut(&rt, 0, 100)), Shutting::Done(100));
+    root_is_open(&rt, &table);
     Ok(())
 }
 
-/// Finish 1 with two tasks, and an owner that is parked; one that asks again has its item back.
-fn with_parked_owner<R: Wait>(rt: &R, table: &FinishTable<u32, u32>) -> Result<Shutting, Refusal>
+/// Finish 1 is opened, and has two tasks.
+fn opens_with_two<R: Abort + Wait>(rt: &R, table: &FinishTable<u32, u32>)
     requires { table.now.finishes ≡ 2 }
 {
-    table.opened(rt, 1, 0)?;
-    table.spawned(rt, 1, 1)?;
-    table.spawned(rt, 1, 2)?;
-    let _parked = answer_of(table.shut(rt, 1, 100));
-    Ok(answer_of(table.shut(rt, 1, 101)))
+    assert_eq!(rt; table.opened(rt, 1, 0), Ok(()));
+    assert_eq!(rt; table.spawned(rt, 1, 1), Ok(()));
+    assert_eq!(rt; table.spawned(rt, 1, 2), Ok(()));
 }
 
-/// The task ends, and leaves this log: the owner that it let go on, if one.
+/// The owner is parked, and has its item back where it asks again.
+fn parks_its_owner<R: Abort + Wait>(rt: &R, table: &FinishTable<u32, u32>)
+    requires { table.now.finishes ≡ 2 }
+{
+    const AGAIN: Shutting = Shutting::Refused(101, Refusal::NotNow);
+    assert_eq!(rt; shut(rt, table, 1, 100), Shutting::Parked);
+    assert_eq!(rt; shut(rt, table, 1, 101), AGAIN);
+}
+
+/// The log that a task's end gives back, where it is refused, and the owner that it lets go on.
+type Back = (Option<u32>, Option<u32>);
+
+/// The task ends in finish 1, and leaves this log.
 fn end<R: Wait>(
     rt: &R,
     alloc: Global,
     table: &FinishTable<u32, u32>,
     task: u32,
     log: u32,
-) -> Result<Option<u32>, u32>
+) -> Result<Back, Refusal>
     requires { table.now.finishes ≡ 2 }
 {
-    let Ok(mut out) = Out::new(alloc) else {
-        return Err(log);
-    };
-    table.ended(rt, 1, task, log, &mut out)?;
-    Ok(out.take())
+    let mut out = Out::new(alloc)?;
+    let refused = table.ended(rt, 1, task, log, &mut out).err();
+    Ok((refused, out.take()))
 }
 
+/// Each task ends with its log, and what comes back is as its row says.
+fn end_all<R: Abort + Wait>(
+    rt: &R,
+    alloc: Global,
+    table: &FinishTable<u32, u32>,
+    rows: &[(u32, u32, Back)],
+)
+    requires { table.now.finishes ≡ 2 }
+{
+    for (task, log, back) in rows {
+        let came = end(rt, alloc, table, *task, *log);
+        assert_eq!(rt; came, Ok(*back), "task {task}");
+    }
+}
+
+/// Whether these are the logs of the tasks that have ended in this finish, the first first.
+fn are_logs(parts: &FinishParts<u32>, finish: usize, logs: &[u32]) -> bool {
+    match parts.logs.get(finish) {
+        Some(left) => left.as_slice() == logs,
+        None => false,
+    }
+}
+
+/// The tasks that ended in finish 1 left these logs, the first first.
+fn leaves_logs(rt: &impl Abort, table: FinishTable<u32, u32>, logs: &[u32]) {
+    let parts = table.into_parts();
+    assert!(rt; are_logs(&parts, 1, logs));
+}
+
+/// Task 3 isn't of the finish; the last of its two tasks lets the owner go on.
 #[test]
 fn parked_owner(rt: HostRuntime) -> Result<(), Fail> {
+    const ENDS: [(u32, u32, Back); 3] = [
+        (3, 33, (Some(33), None)),
+        (2, 22, (None, None)),
+        (1, 11, (None, Some(100))),
+    ];
     let table = two_finishes(rt.alloc())?;
-    let again = with_parked_owner(&rt, &table)?;
-    assert_eq!(rt; again, Shutting::Refused(101, Refusal::NotNow));
-    assert_eq!(rt; end(&rt, rt.alloc(), &table, 3, 33), Err(33));
-    assert_eq!(rt; end(&rt, rt.alloc(), &table, 2, 22), Ok(None));
-    assert_eq!(rt; end(&rt, rt.alloc(), &table, 1, 11), Ok(Some(100)));
-    let parts = table.into_parts();
-    let logs = parts.logs.get(1).ok_or("no second finish")?;
-    assert!(rt; logs.as_slice() == [22, 11].as_slice());
+    opens_with_two(&rt, &table);
+    parks_its_owner(&rt, &table);
+    end_all(&rt, rt.alloc(), &table, ENDS.as_slice());
+    leaves_logs(&rt, table, &[22, 11]);
     Ok(())
 }

@@ -6,7 +6,6 @@ ghost use Rattle.share_book.specs.Opening.{IsNamed, IsParted};
 use super::*;
 use std::sync::atomic::{AtomicU64, Ordering};
 use std::thread;
-use std::thread::Threads;
 
 /// How often a thread looks for the other before it gives up: about a second.
 const MOST_LOOKS: u64 = 300_000_000;
@@ -21,6 +20,13 @@ fn saw(word: &AtomicU64, most: u64) -> bool {
     false
 }
 
+/// Tells the other thread that the lock is held, and waits for its answer, for so many looks.
+/// Whether that came.
+fn wait_for_answer(held: &AtomicU64, answered: &AtomicU64, looks: u64) -> bool {
+    held.store(1, Ordering::SeqCst);
+    saw(answered, looks)
+}
+
 /// Holds phaser 0's lock until the other thread's call has answered, or for so many looks. Whether
 /// the call has answered before the lock was given back.
 fn hold<K: Ledgers, R: Wait>(
@@ -33,8 +39,7 @@ fn hold<K: Ledgers, R: Wait>(
     requires { 0 < table.now.phasers }
 {
     let guard = table.lock(rt, 0);
-    held.store(1, Ordering::SeqCst);
-    let seen = saw(answered, looks);
+    let seen = wait_for_answer(held, answered, looks);
     drop(guard);
     seen
 }
@@ -58,6 +63,41 @@ fn call<K: Ledgers, R: Wait>(
 }
 
 /// One thread holds phaser 0's lock, for so many looks, while another makes this phaser.
+fn hold_and_call<K: Ledgers + Send + Sync, R: Threads + Wait + Sync>(
+    rt: &R,
+    table: &PhaserTable<u32, K>,
+    mut mine: Shares<K>,
+    number: usize,
+    looks: u64,
+) -> (bool, bool)
+where
+    K::EventsByPhaser: Send + Sync,
+    K::EventsByWorker: Send + Sync,
+    K::UpByPhaser: Send + Sync,
+    K::UpByWorker: Send + Sync,
+    K::DownByPhaser: Send + Sync,
+    K::DownByWorker: Send + Sync,
+    K::Room: Send + Sync,
+    requires held { 0 < table.now.phasers }
+    requires number { number < table.now.phasers }
+{
+    let held = AtomicU64::new(0);
+    let answered = AtomicU64::new(0);
+    let first = &held;
+    let second = &answered;
+    thread::join(
+        rt,
+        move || hold(rt, table, first, second, looks),
+        move || call(rt, table, number, first, second, &mut mine),
+    )
+}
+
+/// The share of the only worker.
+fn only_share<K: Ledgers>(mut shares: Vec<Shares<K>>) -> Result<Shares<K>, Refusal> {
+    shares.pop().ok_or(Refusal::SharesDiffer)
+}
+
+/// Both threads' parts, on a new table.
 fn apart<K: Ledgers + Send + Sync, R: Threads + Wait + Sync>(
     rt: &R,
     alloc: Global,
@@ -80,22 +120,9 @@ where
     requires two { blanks.phasers ≡ 2 }
     requires number { number < 2 }
 {
-    let (books, phasers, mut shares) = open::<K>(alloc, blanks)?;
-    let table = PhaserTable::new(alloc, Limits::default(), books, phasers)?;
-    let Some(mut mine) = shares.pop() else {
-        return Err(Refusal::SharesDiffer);
-    };
-    let held = AtomicU64::new(0);
-    let answered = AtomicU64::new(0);
-    let shared = &table;
-    let first = &held;
-    let second = &answered;
-    let ends = thread::join(
-        rt,
-        move || hold(rt, shared, first, second, looks),
-        move || call(rt, shared, number, first, second, &mut mine),
-    );
-    Ok(ends)
+    let (table, shares) = fresh::<K>(alloc, Limits::default(), blanks)?;
+    let mine = only_share(shares)?;
+    Ok(hold_and_call(rt, &table, mine, number, looks))
 }
 
 fn named_apart<
@@ -171,6 +198,90 @@ const CROWD: Limits = Limits {
     tasks: 4,
 };
 
+/// On one phaser the task signals, asks to pass, sends this value and looks. Refused where somebody
+/// whom it let go on before is still in the list.
+fn call_one<K: Ledgers, R: Wait>(
+    rt: &R,
+    table: &PhaserTable<u32, K>,
+    number: usize,
+    mine: &mut Shares<K>,
+    out: &mut Out<u32>,
+    task: u32,
+    value: i32,
+) -> Result<(), Refusal>
+    requires { number < table.now.phasers }
+{
+    if !is_drained(out) {
+        return Err(Refusal::SharesDiffer);
+    }
+    let _signalled = table.signal(rt, number, mine, out, task, None);
+    let _passed = turned(table.pass(rt, number, mine, task, task));
+    let _sent = table.send(rt, number, mine, task, 0, value);
+    let _seen = table.look(rt, number, mine, task, 0);
+    Ok(())
+}
+
+/// A turn on each phaser.
+fn call_each<K: Ledgers, R: Wait>(
+    rt: &R,
+    table: &PhaserTable<u32, K>,
+    mine: &mut Shares<K>,
+    out: &mut Out<u32>,
+    task: u32,
+    value: i32,
+) -> Result<(), Refusal>
+    requires { table.now.phasers ≡ 8 }
+{
+    for number in 0..PHASERS as usize {
+        call_one(rt, table, number, mine, out, task, value)?;
+    }
+    Ok(())
+}
+
+/// The books have an event for each task on each phaser, at least; else `SharesDiffer`.
+fn check_registrations<K: Ledgers, R: Wait>(
+    rt: &R,
+    table: &PhaserTable<u32, K>,
+    mine: &mut Shares<K>,
+) -> Result<(), Refusal> {
+    let so_far = table.so_far(rt, mine);
+    if so_far.events < u64::from(PHASERS * WORKERS) {
+        return Err(Refusal::SharesDiffer);
+    }
+    Ok(())
+}
+
+/// All turns, in each of which the task sends the turn's number. The books have all registrations
+/// then.
+fn call_in_turns<K: Ledgers, R: Wait>(
+    rt: &R,
+    table: &PhaserTable<u32, K>,
+    mine: &mut Shares<K>,
+    out: &mut Out<u32>,
+    task: u32,
+) -> Result<(), Refusal>
+    requires { table.now.phasers ≡ 8 }
+{
+    for turn in 0..TURNS {
+        call_each(rt, table, mine, out, task, turn as i32)?;
+    }
+    check_registrations(rt, table, mine)
+}
+
+/// All turns, with a list of its own for those whom the task lets go on.
+fn call_all<K: Ledgers, R: Wait>(
+    rt: &R,
+    alloc: Global,
+    table: &PhaserTable<u32, K>,
+    mine: &mut Shares<K>,
+    task: u32,
+) -> Result<(), Refusal>
+    requires { table.now.phasers ≡ 8 }
+{
+    let mut out = Out::new(alloc)?;
+    call_in_turns(rt, table, mine, &mut out, task)
+}
+
 /// One worker's part: on each phaser in turn it signals, asks to pass, sends and looks, as the task
 /// of its number.
 fn work<K: Ledgers, R: Wait>(
@@ -182,57 +293,71 @@ fn work<K: Ledgers, R: Wait>(
     requires { table.now.phasers ≡ 8 }
 {
     let (task, mut mine) = worker;
-    let mut out = Out::new(alloc)?;
-    for turn in 0..TURNS {
-        for number in 0..PHASERS as usize {
-            if !is_drained(&mut out) {
-                return Err(Refusal::SharesDiffer);
-            }
-            let _signalled = table.signal(rt, number, &mut mine, &mut out, task, None);
-            let _passed = table.pass(rt, number, &mut mine, task, task);
-            let _sent = table.send(rt, number, &mut mine, task, 0, turn as i32);
-            let _seen = table.look(rt, number, &mut mine, task, 0);
-        }
-    }
-    let so_far = table.so_far(rt, &mut mine);
-    if so_far.events < u64::from(PHASERS * WORKERS) {
-        return Err(Refusal::SharesDiffer);
-    }
+    call_all(rt, alloc, table, &mut mine, task)?;
     Ok(mine)
 }
 
-/// Makes each phaser and registers all workers' tasks on it.
-fn set_up<K: Ledgers, R: Wait>(
+/// Makes the phaser and registers all workers' tasks on it.
+fn register_all<K: Ledgers, R: Abort + Wait>(
     rt: &R,
     table: &PhaserTable<u32, K>,
+    number: usize,
     mine: &mut Shares<K>,
-) -> Result<(), Refusal>
+)
+    requires { number < table.now.phasers }
+{
+    let made = table.make(rt, number, mine, 0, Mode::SigWait, first_ops(1));
+    assert_eq!(rt; made, Ok(()));
+    for task in 1..WORKERS {
+        let registered = table.register(rt, number, mine, 0, task, Mode::SigWait);
+        assert_eq!(rt; registered, Ok(()), "task {task}");
+    }
+}
+
+/// Makes each phaser and registers all workers' tasks on it, all by the first worker's share.
+fn set_up<K: Ledgers, R: Abort + Wait>(
+    rt: &R,
+    table: &PhaserTable<u32, K>,
+    shares: &mut Vec<Shares<K>>,
+)
     requires { table.now.phasers ≡ 8 }
 {
-    for number in 0..PHASERS as usize {
-        table.make(rt, number, mine, 0, Mode::SigWait, first_ops(1))?;
-        for task in 1..WORKERS {
-            table.register(rt, number, mine, 0, task, Mode::SigWait)?;
+    assert_eq!(rt; shares.len(), WORKERS as usize);
+    if let Some(mine) = shares.get_mut(0) {
+        for number in 0..PHASERS as usize {
+            register_all(rt, table, number, mine);
         }
     }
-    Ok(())
 }
 
-/// Of the phasers' events, how many each history has; each history is explained.
-fn judged<K: Ledgers>(parts: &PhaserParts<K>) -> Result<u64, Refusal> {
-    let mut events = 0u64;
-    for state in &parts.states {
-        explain(state.history())?;
-        events = events.saturating_add(u64::from(state.history().len()));
-    }
-    Ok(events)
+/// The workers' parts, each in a thread. Returns their shares.
+fn work_all<K: Ledgers + Send + Sync, R: Threads + Wait + Sync>(
+    rt: &R,
+    alloc: Global,
+    table: &PhaserTable<u32, K>,
+    shares: Vec<Shares<K>>,
+) -> Result<Vec<Shares<K>>, Refusal>
+where
+    K::EventsByPhaser: Send + Sync,
+    K::EventsByWorker: Send + Sync,
+    K::UpByPhaser: Send + Sync,
+    K::UpByWorker: Send + Sync,
+    K::DownByPhaser: Send + Sync,
+    K::DownByWorker: Send + Sync,
+    K::Room: Send + Sync,
+    requires { table.now.phasers ≡ 8 }
+{
+    let staff = numbered(alloc, shares)?;
+    let done = thread::map_vec(rt, staff, &|worker| work(rt, alloc, table, worker))?;
+    given_back(alloc, done)
 }
 
-fn crowd<K: Ledgers + Send + Sync, R: Threads + Wait + Sync>(
+/// What is gathered once all workers have done their parts on a new table.
+fn crowd<K: Ledgers + Send + Sync, R: Abort + Threads + Wait + Sync>(
     rt: &R,
     alloc: Global,
     blanks: Blanks,
-) -> Result<(u64, Totals), Refusal>
+) -> Result<Totals, Refusal>
 where
     K::EventsByPhaser: Send + Sync,
     K::EventsByWorker: Send + Sync,
@@ -247,27 +372,14 @@ where
         K.UpByWorker.parts K.DownByPhaser.parts K.DownByWorker.parts K.Room.parts }
     requires eight { blanks.phasers ≡ 8 }
 {
-    let (books, phasers, mut shares) = open::<K>(alloc, blanks)?;
-    let table = PhaserTable::new(alloc, CROWD, books, phasers)?;
-    let Some(mine) = shares.get_mut(0) else {
-        return Err(Refusal::SharesDiffer);
-    };
-    set_up(rt, &table, mine)?;
-    let staff = numbered(alloc, shares)?;
-    let shared = &table;
-    let done = thread::map_vec(rt, staff, &|worker| work(rt, alloc, shared, worker))?;
-    let mut shares = Vec::new(alloc);
-    for mine in done {
-        shares.push(mine?)?;
-    }
-    let parts = table.into_parts();
-    let events = judged(&parts)?;
-    let totals = gather(shares, parts.phasers, parts.books)?;
-    Ok((events, totals))
+    let (table, mut shares) = fresh::<K>(alloc, CROWD, blanks)?;
+    set_up(rt, &table, &mut shares);
+    let shares = work_all(rt, alloc, &table, shares)?;
+    gathered(rt, table, shares)
 }
 
 fn named_crowd<
-    R: Threads + Wait + Sync,
+    R: Abort + Threads + Wait + Sync,
     A: Ledger + Send + Sync,
     B: Ledger + Send + Sync,
     C: Ledger + Send + Sync,
@@ -275,7 +387,7 @@ fn named_crowd<
     E: Ledger + Send + Sync,
     F: Ledger + Send + Sync,
     G: Ledger + Send + Sync,
->(rt: &R, alloc: Global, blanks: Blanks) -> Result<(u64, Totals), Refusal>
+>(rt: &R, alloc: Global, blanks: Blanks) -> Result<Totals, Refusal>
     requires names { IsNamed blanks A.name B.name C.name D.name E.name F.name G.name }
     requires parts { IsParted blanks A.parts B.parts C.parts D.parts E.parts F.parts G.parts }
     requires eight { blanks.phasers ≡ 8 }
@@ -283,8 +395,8 @@ fn named_crowd<
     crowd::<Seven<A, B, C, D, E, F, G>, R>(rt, alloc, blanks)
 }
 
-/// Names the ledgers, and answers how many events the histories have, and what the books gather.
-fn crowd_once<R: Threads + Wait + Sync>(rt: &R, alloc: Global) -> Result<(u64, Totals), Refusal> {
+/// Names the ledgers.
+fn crowd_once<R: Abort + Threads + Wait + Sync>(rt: &R, alloc: Global) -> Result<Totals, Refusal> {
     let blanks = Blanks::new(PHASERS, WORKERS);
     named_crowd::<R, Brand, Brand, Brand, Brand, Brand, Brand, Brand>(rt, alloc, blanks)
 }
@@ -294,10 +406,9 @@ fn crowd_once<R: Threads + Wait + Sync>(rt: &R, alloc: Global) -> Result<(u64, T
 #[test]
 fn four_threads_on_eight_phasers(rt: HostRuntime) -> Result<(), Fail> {
     for _run in 0..RUNS {
-        let (events, totals) = crowd_once(&rt, rt.alloc())?;
-        assert_eq!(rt; totals.events, events);
+        let totals = crowd_once(&rt, rt.alloc())?;
         assert!(rt;
-            events >= u64::from(PHASERS * WORKERS),
+            totals.events >= u64::from(PHASERS * WORKERS),
             "each task was registered"
         );
         assert!(rt; totals.up > 0, "values were sent");

@@ -1,149 +1,209 @@
 //! A waiter that is let go on by the other's signal, on one cell.
-ghost use Rattle.std.specs.Prelude.{◌≡◌};
+ghost use Rattle.std.specs.Prelude.{◌≡◌, All};
 ghost use Rattle.share_book.specs.Accounts.{nothing};
 ghost use Rattle.share_book.specs.Opening.{IsNamed, IsParted};
 
 use super::*;
 
-/// What happened, line by line. The item of a task is 100 and its number, or another where it asks
+/// What a pass is answered. The item of a task is 100 and its number, or another where it asks
 /// again.
 #[derive(Clone, Copy, Debug, PartialEq, Eq)]
-enum Line {
+enum Passing {
     Passed(u32, u32),
     Claimed(u32, u32),
     Parked,
     Refused(u32, Refusal),
-    Freed(Option<u32>),
 }
 
-fn line_of(answer: PassAnswer<u32>) -> Line {
+fn answer_of(answer: PassAnswer<u32>) -> Passing {
     match answer {
-        PassAnswer::Passed(item, phase) => Line::Passed(item, phase),
-        PassAnswer::Claimed(item, number) => Line::Claimed(item, number),
-        PassAnswer::Parked => Line::Parked,
-        PassAnswer::Refused(item, refusal) => Line::Refused(item, refusal),
+        PassAnswer::Passed(item, phase) => Passing::Passed(item, phase),
+        PassAnswer::Claimed(item, number) => Passing::Claimed(item, number),
+        PassAnswer::Parked => Passing::Parked,
+        PassAnswer::Refused(item, refusal) => Passing::Refused(item, refusal),
     }
 }
 
-/// Two calls of a task that has to wait: the first parks its item, the second has its own back.
-fn park_twice<K: Ledgers>(
+/// Task 0 asks to pass, with this item.
+fn pass<K: Ledgers>(
+    cell: &mut PhaserCell<u32, K>,
+    books: &mut Books<K>,
+    mine: &mut Shares<K>,
+    item: u32,
+) -> Passing {
+    answer_of(cell.pass(books, mine, 0, item))
+}
+
+/// The item that a call lets go on, where it isn't refused.
+fn freed(answer: Result<(), Refusal>, out: &mut Out<u32>) -> Result<Option<u32>, Refusal> {
+    answer?;
+    Ok(out.take())
+}
+
+/// The task signals. Returns the item that this lets go on.
+fn signal<K: Ledgers>(
     alloc: Global,
     cell: &mut PhaserCell<u32, K>,
     books: &mut Books<K>,
     mine: &mut Shares<K>,
-) -> Result<[Line; 2], Refusal> {
+    task: u32,
+) -> Result<Option<u32>, Refusal> {
     let mut out = Out::new(alloc)?;
-    cell.make(books, mine, 0, Mode::SigWait, Ops::none())?;
-    cell.register(books, mine, 0, 1, Mode::SigWait)?;
-    cell.signal(books, mine, &mut out, 0, None)?;
-    let first = line_of(cell.pass(books, mine, 0, 100));
-    let again = line_of(cell.pass(books, mine, 0, 102));
-    Ok([first, again])
+    let answer = cell.signal(books, mine, &mut out, task, None);
+    freed(answer, &mut out)
+}
+
+/// The task is dropped. Returns the item that this lets go on.
+fn drop_task<K: Ledgers>(
+    alloc: Global,
+    cell: &mut PhaserCell<u32, K>,
+    books: &mut Books<K>,
+    mine: &mut Shares<K>,
+    task: u32,
+) -> Result<Option<u32>, Refusal> {
+    let mut out = Out::new(alloc)?;
+    let answer = cell.drop_task(books, mine, &mut out, task);
+    freed(answer, &mut out)
+}
+
+/// Tasks 0 and 1 are registered.
+fn register_both<K: Ledgers>(
+    rt: &impl Abort,
+    cell: &mut PhaserCell<u32, K>,
+    books: &mut Books<K>,
+    mine: &mut Shares<K>,
+) {
+    assert_eq!(rt;
+        cell.make(books, mine, 0, Mode::SigWait, Ops::none()),
+        Ok(())
+    );
+    assert_eq!(rt; cell.register(books, mine, 0, 1, Mode::SigWait), Ok(()));
+}
+
+/// Two calls of task 0, which has to wait: the first parks its item, the second has its own back.
+fn park_twice<K: Ledgers>(
+    rt: &impl Abort,
+    alloc: Global,
+    cell: &mut PhaserCell<u32, K>,
+    books: &mut Books<K>,
+    mine: &mut Shares<K>,
+) {
+    const AGAIN: Passing = Passing::Refused(102, Refusal::NotNow);
+    assert_eq!(rt; signal(alloc, cell, books, mine, 0), Ok(None));
+    assert_eq!(rt; pass(cell, books, mine, 100), Passing::Parked);
+    assert_eq!(rt; pass(cell, books, mine, 102), AGAIN);
 }
 
 /// The other's signal lets it go on, and the other's drop nobody.
 fn let_go<K: Ledgers>(
+    rt: &impl Abort,
     alloc: Global,
     cell: &mut PhaserCell<u32, K>,
     books: &mut Books<K>,
     mine: &mut Shares<K>,
-) -> Result<[Line; 3], Refusal> {
-    let mut out = Out::new(alloc)?;
-    cell.signal(books, mine, &mut out, 1, None)?;
-    let freed = Line::Freed(out.take());
-    let passed = line_of(cell.pass(books, mine, 0, 100));
-    let mut out = Out::new(alloc)?;
-    cell.drop_task(books, mine, &mut out, 1)?;
-    Ok([freed, passed, Line::Freed(out.take())])
+) {
+    assert_eq!(rt; signal(alloc, cell, books, mine, 1), Ok(Some(100)));
+    assert_eq!(rt; pass(cell, books, mine, 100), Passing::Passed(100, 0));
+    assert_eq!(rt; drop_task(alloc, cell, books, mine, 1), Ok(None));
 }
 
-/// Both on a new phaser of this book, which comes back.
+/// Task 0 waits for task 1, and goes on.
+fn wait_and_go_on<K: Ledgers>(
+    rt: &impl Abort,
+    alloc: Global,
+    cell: &mut PhaserCell<u32, K>,
+    books: &mut Books<K>,
+    mine: &mut Shares<K>,
+) {
+    register_both(rt, cell, books, mine);
+    park_twice(rt, alloc, cell, books, mine);
+    let_go(rt, alloc, cell, books, mine);
+}
+
+/// The waiter, on a new phaser of this book, which comes back.
 fn on_one_phaser<K: Ledgers>(
+    rt: &impl Abort,
     alloc: Global,
     book: PhaserBook<K>,
     books: &mut Books<K>,
     mine: &mut Shares<K>,
-) -> Result<(PhaserBook<K>, [Line; 2], [Line; 3]), Refusal>
+) -> Result<PhaserBook<K>, Refusal>
     requires { (book.totals ≡ nothing) × (book.room ≡ 65536) }
 {
     let mut cell = PhaserCell::new(alloc, Limits::default(), book)?;
-    let parked = park_twice(alloc, &mut cell, books, mine)?;
-    let freed = let_go(alloc, &mut cell, books, mine)?;
+    wait_and_go_on(rt, alloc, &mut cell, books, mine);
     let PhaserCell {
         state: _,
         book,
         parked: _,
     } = cell;
-    Ok((book, parked, freed))
+    Ok(book)
 }
 
-/// What the books of one phaser and one worker add up to.
-fn gathered<K: Ledgers>(
+/// The waiter, on a phaser of the last of these books, by the first worker's share.
+fn on_last_phaser<K: Ledgers>(
+    rt: &impl Abort,
     alloc: Global,
-    book: PhaserBook<K>,
-    mine: Shares<K>,
-    books: Books<K>,
-) -> Result<Totals, Refusal> {
-    let mut phasers = Vec::new(alloc);
+    books: &mut Books<K>,
+    phasers: &mut Vec<PhaserBook<K>>,
+    shares: &mut Vec<Shares<K>>,
+) -> Result<(), Refusal>
+    requires { All (λ b. (b.totals ≡ nothing) × (b.room ≡ 65536)) phasers.old.items }
+{
+    let Some(mine) = shares.get_mut(0) else {
+        return Err(Refusal::SharesDiffer);
+    };
+    let Some(book) = phasers.pop() else {
+        return Err(Refusal::SharesDiffer);
+    };
+    let book = on_one_phaser(rt, alloc, book, books, mine)?;
     phasers.push(book)?;
-    let mut shares = Vec::new(alloc);
-    shares.push(mine)?;
-    gather(shares, phasers, books)
+    Ok(())
 }
 
-fn wait_on<K: Ledgers>(
-    alloc: Global,
-    blanks: Blanks,
-) -> Result<([Line; 2], [Line; 3], Totals), Refusal>
+/// What is gathered once the waiter has gone on.
+fn wait_on<K: Ledgers, R: Abort>(rt: &R, alloc: Global, blanks: Blanks) -> Result<Totals, Refusal>
     requires names { IsNamed blanks K.EventsByPhaser.name K.EventsByWorker.name K.UpByPhaser.name
         K.UpByWorker.name K.DownByPhaser.name K.DownByWorker.name K.Room.name }
     requires parts { IsParted blanks K.EventsByPhaser.parts K.EventsByWorker.parts K.UpByPhaser.parts
         K.UpByWorker.parts K.DownByPhaser.parts K.DownByWorker.parts K.Room.parts }
 {
     let (mut books, mut phasers, mut shares) = open::<K>(alloc, blanks)?;
-    let Some(book) = phasers.pop() else {
-        return Err(Refusal::SharesDiffer);
-    };
-    let Some(mut mine) = shares.pop() else {
-        return Err(Refusal::SharesDiffer);
-    };
-    let (book, parked, freed) = on_one_phaser(alloc, book, &mut books, &mut mine)?;
-    let totals = gathered(alloc, book, mine, books)?;
-    Ok((parked, freed, totals))
+    let waited = on_last_phaser(rt, alloc, &mut books, &mut phasers, &mut shares);
+    let totals = gather(shares, phasers, books);
+    waited?;
+    totals
 }
 
-fn named_wait<A: Ledger, B: Ledger, C: Ledger, D: Ledger, E: Ledger, F: Ledger, G: Ledger>(
-    alloc: Global,
-    blanks: Blanks,
-) -> Result<([Line; 2], [Line; 3], Totals), Refusal>
+fn named_wait<
+    R: Abort,
+    A: Ledger,
+    B: Ledger,
+    C: Ledger,
+    D: Ledger,
+    E: Ledger,
+    F: Ledger,
+    G: Ledger,
+>(rt: &R, alloc: Global, blanks: Blanks) -> Result<Totals, Refusal>
     requires names { IsNamed blanks A.name B.name C.name D.name E.name F.name G.name }
     requires parts { IsParted blanks A.parts B.parts C.parts D.parts E.parts F.parts G.parts }
 {
-    wait_on::<Seven<A, B, C, D, E, F, G>>(alloc, blanks)
+    wait_on::<Seven<A, B, C, D, E, F, G>, R>(rt, alloc, blanks)
 }
 
+// A making, a registration, two signals, a pass and a drop.
 #[test]
 fn parked_waiter(rt: HostRuntime) -> Result<(), Fail> {
-    let (parked, freed, totals) = named_wait::<Brand, Brand, Brand, Brand, Brand, Brand, Brand>(
+    const TOTALS: Totals = Totals {
+        events: 6,
+        up: 0,
+        down: 0,
+    };
+    let totals = named_wait::<HostRuntime, Brand, Brand, Brand, Brand, Brand, Brand, Brand>(
+        &rt,
         rt.alloc(),
         Blanks::new(1, 1),
     )?;
-    assert_eq!(rt; parked, [Line::Parked, Line::Refused(102, Refusal::NotNow)]);
-    assert_eq!(rt;
-        freed,
-        [
-            Line::Freed(Some(100)),
-            Line::Passed(100, 0),
-            Line::Freed(None)
-        ]
-    );
-    assert_eq!(rt;
-        totals,
-        Totals {
-            events: 6,
-            up: 0,
-            down: 0
-        }
-    );
+    assert_eq!(rt; totals, TOTALS);
     Ok(())
 }
