@@ -1,6 +1,6 @@
 //! The arguments, how many steps a history has room for; worlds driven from outside, and beside a slow one.
 use super::*;
-use std::test::Fail;
+use std::process::Abort;
 
 mod definitions;
 mod side_by_side;
@@ -8,22 +8,29 @@ mod sums;
 mod worlds;
 
 #[test]
-fn words_name_a_job(rt: HostRuntime) -> Result<(), Fail> {
-    let job = job_of(&["world_bench", "beside", "65536", "1000"]).ok_or("no job")?;
-    assert_eq!(rt; job.kind, Kind::Beside);
-    assert_eq!(rt; job.turns, 65_536);
-    assert_eq!(rt; job.worlds, 1_000);
-    Ok(())
+fn words_name_a_job(rt: HostRuntime) {
+    let job = Job {
+        kind: Kind::Beside,
+        turns: 65_536,
+        worlds: 1_000,
+    };
+    assert_eq!(rt;
+        job_of(&["world_bench", "beside", "65536", "1000"]),
+        Some(job)
+    );
+}
+
+fn names_none(rt: &impl Abort, arguments: &[&str]) {
+    assert_eq!(rt; job_of(arguments), None, "{arguments:?}");
 }
 
 #[test]
-fn bad_arguments_name_none(rt: HostRuntime) -> Result<(), Fail> {
+fn bad_arguments_name_none(rt: HostRuntime) {
     assert_eq!(rt; Kind::of_name("worlds"), None);
-    assert_eq!(rt; job_of(&["world_bench", "alone", "8"]), None);
-    assert_eq!(rt; job_of(&["world_bench", "alone", "8", "0"]), None);
-    assert_eq!(rt; job_of(&["world_bench", "alone", "65537", "1"]), None);
-    assert_eq!(rt; job_of(&["world_bench", "alone", "8", "1001"]), None);
-    Ok(())
+    names_none(&rt, &["world_bench", "alone", "8"]);
+    names_none(&rt, &["world_bench", "alone", "8", "0"]);
+    names_none(&rt, &["world_bench", "alone", "65537", "1"]);
+    names_none(&rt, &["world_bench", "alone", "8", "1001"]);
 }
 
 /// How many steps the arguments' job does.
@@ -31,18 +38,19 @@ fn steps_by(alloc: Global, arguments: &[&str]) -> Option<u64> {
     steps_of(alloc, job_of(arguments)?).ok()
 }
 
+/// 5 turns in each of 2 worlds take so many steps.
+fn few_turns_take(rt: &impl Abort, alloc: Global, kind: &str, steps: u64) {
+    let counted = steps_by(alloc, &["world_bench", kind, "5", "2"]);
+    assert_eq!(rt; counted, Some(steps), "{kind}");
+}
+
 // A turn has 8 steps, of which 3 are calls on each phaser.
 #[test]
 fn steps_of_few_turns(rt: HostRuntime) {
-    for (kind, steps) in [
-        ("calls", 60),
-        ("alone", 80),
-        ("beside", 80),
-        ("default", 80),
-    ] {
-        let counted = steps_by(rt.alloc(), &["world_bench", kind, "5", "2"]);
-        assert_eq!(rt; counted, Some(steps), "{kind}");
-    }
+    few_turns_take(&rt, rt.alloc(), "calls", 60);
+    few_turns_take(&rt, rt.alloc(), "alone", 80);
+    few_turns_take(&rt, rt.alloc(), "beside", 80);
+    few_turns_take(&rt, rt.alloc(), "default", 80);
 }
 
 // The making, two registrations and the root's drop take 4 places, and a turn takes 3. The last

@@ -2,6 +2,8 @@
 use finish_core::FinishEvent;
 use phase_model::{Look, Ops};
 use phase_modes::{Mode, Phased};
+use std::alloc::Global;
+use std::process::Abort;
 use std::test::Fail;
 use world_model::{
     Begun, FinishLine, FoldLine, PhaserLines, Reply, Step, TaskLine, TotalsLine, Tried, WorldEvent,
@@ -22,99 +24,129 @@ fn events_are_values(rt: HostRuntime) -> Result<(), Fail> {
     Ok(())
 }
 
+/// The lines of one phaser.
+fn one_phaser(
+    alloc: Global,
+    phaser: u32,
+    phases: u32,
+    folds: &[FoldLine],
+) -> Result<Vec<PhaserLines>, Fail> {
+    let mut phasers = Vec::with_capacity(alloc, 1)?;
+    phasers.push(PhaserLines {
+        phaser,
+        phases,
+        folds: folds.to_vec(alloc)?,
+    })?;
+    Ok(phasers)
+}
+
 #[test]
 fn reports_are_lists_of_lines(rt: HostRuntime) -> Result<(), Fail> {
-    let mut folds = Vec::with_capacity(rt.alloc(), 1)?;
-    folds.push(FoldLine {
+    const FOLDS: [FoldLine; 1] = [FoldLine {
         phase: 0,
         acc: 0,
         value: Look::Value(3),
-    })?;
-    let mut phasers = Vec::with_capacity(rt.alloc(), 1)?;
-    phasers.push(PhaserLines {
-        phaser: 0,
-        phases: 1,
-        folds,
-    })?;
-    let mut tasks = Vec::with_capacity(rt.alloc(), 1)?;
-    tasks.push(TaskLine {
+    }];
+    const TASKS: [TaskLine; 1] = [TaskLine {
         task: 0,
         refused: Some(12),
-    })?;
-    let report = WorldReport {
-        phasers,
-        tasks,
-        finishes: Vec::new(rt.alloc()),
-        totals: TotalsLine {
-            registered: 1,
-            signals: 0,
-            passes: 0,
-            drops: 1,
-            sends: 1,
-            up: 3,
-            down: 0,
-        },
+    }];
+    const TOTALS: TotalsLine = TotalsLine {
+        registered: 1,
+        signals: 0,
+        passes: 0,
+        drops: 1,
+        sends: 1,
+        up: 3,
+        down: 0,
     };
+    let report = WorldReport {
+        phasers: one_phaser(rt.alloc(), 0, 1, FOLDS.as_slice())?,
+        tasks: TASKS.to_vec(rt.alloc())?,
+        finishes: Vec::new(rt.alloc()),
+        totals: TOTALS,
+    };
+    is_read(&rt, &report);
+    Ok(())
+}
+
+/// The refusal on the first line of a task.
+fn first_refused(report: &WorldReport) -> Option<u8> {
+    report.tasks.first().and_then(|line| line.refused)
+}
+
+/// The fields of the report above.
+fn is_read(rt: &impl Abort, report: &WorldReport) {
     assert_eq!(rt; report.phasers.len(), 1);
-    assert_eq!(rt;
-        report.tasks.first().and_then(|line| line.refused),
-        Some(12)
-    );
+    assert_eq!(rt; first_refused(report), Some(12));
     assert_eq!(rt; report.finishes.len(), 0);
     assert_eq!(rt; report.totals.up, 3);
+}
+
+/// A report with something of each kind.
+fn two_phases(alloc: Global) -> Result<WorldReport, Fail> {
+    const FOLDS: [FoldLine; 2] = [
+        FoldLine {
+            phase: 0,
+            acc: 0,
+            value: Look::Value(-3),
+        },
+        FoldLine {
+            phase: 1,
+            acc: 0,
+            value: Look::Nothing,
+        },
+    ];
+    const TASKS: [TaskLine; 2] = [
+        TaskLine {
+            task: 0,
+            refused: None,
+        },
+        TaskLine {
+            task: 7,
+            refused: Some(12),
+        },
+    ];
+    const FINISHES: [FinishLine; 1] = [FinishLine {
+        finish: 0,
+        tasks: 1,
+    }];
+    const TOTALS: TotalsLine = TotalsLine {
+        registered: 2,
+        signals: 3,
+        passes: 4,
+        drops: 5,
+        sends: 6,
+        up: 0,
+        down: 3,
+    };
+    Ok(WorldReport {
+        phasers: one_phaser(alloc, 4, 2, FOLDS.as_slice())?,
+        tasks: TASKS.to_vec(alloc)?,
+        finishes: FINISHES.to_vec(alloc)?,
+        totals: TOTALS,
+    })
+}
+
+/// The report is printed so.
+fn is_printed(
+    rt: &impl Abort,
+    alloc: Global,
+    report: &WorldReport,
+    expected: &str,
+) -> Result<(), Fail> {
+    let printed = report.to_string(alloc)?;
+    assert_eq!(rt; printed.as_str(), expected);
     Ok(())
 }
 
 #[test]
 fn a_report_is_printed_line_by_line(rt: HostRuntime) -> Result<(), Fail> {
-    let mut folds = Vec::with_capacity(rt.alloc(), 2)?;
-    folds.push(FoldLine {
-        phase: 0,
-        acc: 0,
-        value: Look::Value(-3),
-    })?;
-    folds.push(FoldLine {
-        phase: 1,
-        acc: 0,
-        value: Look::Nothing,
-    })?;
-    let mut phasers = Vec::with_capacity(rt.alloc(), 1)?;
-    phasers.push(PhaserLines {
-        phaser: 4,
-        phases: 2,
-        folds,
-    })?;
-    let mut tasks = Vec::with_capacity(rt.alloc(), 2)?;
-    tasks.push(TaskLine {
-        task: 0,
-        refused: None,
-    })?;
-    tasks.push(TaskLine {
-        task: 7,
-        refused: Some(12),
-    })?;
-    let mut finishes = Vec::with_capacity(rt.alloc(), 1)?;
-    finishes.push(FinishLine {
-        finish: 0,
-        tasks: 1,
-    })?;
-    let report = WorldReport {
-        phasers,
-        tasks,
-        finishes,
-        totals: TotalsLine {
-            registered: 2,
-            signals: 3,
-            passes: 4,
-            drops: 5,
-            sends: 6,
-            up: 0,
-            down: 3,
-        },
-    };
-    let printed = report.to_string(rt.alloc())?;
-    assert_eq!(rt;
-        printed.as_str(),
+    let report = two_phases(rt.alloc())?;
+    is_printed(
+        &rt,
+        rt.alloc(),
+        &report,
         concat!(
             "phaser 4 phases 2\n",
             "phaser 4 phase 0 acc 0 value -3\n",
@@ -123,7 +155,6 @@ fn a_report_is_printed_line_by_line(rt: HostRuntime) -> Result<(), Fail> {
             "task 7 refused 12 OutsideScope\n",
             "finish 0 tasks 1\n",
             "totals registered 2 signals 3 passes 4 drops 5 sends 6 up 0 down 3\n"
-        )
-    );
-    Ok(())
+        ),
+    )
 }

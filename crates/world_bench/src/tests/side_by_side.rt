@@ -4,7 +4,7 @@ ghost use Rattle.std.specs.Prelude.{◌<◌};
 use super::*;
 use finish_core::FinishEvent;
 use generator::Dice;
-use peer::Plain;
+use peer::{Answer, Plain};
 use phase_model::{Op, Ops};
 use phase_modes::{Limits, Mode, Pair, Phased};
 use std::process::Abort;
@@ -110,15 +110,55 @@ fn limits_of(world: u32) -> Limits {
     }
 }
 
-/// What both say of each task.
-fn agrees(rt: &impl Abort, world: &World, plain: &Plain) {
+/// What both say of the task.
+fn agrees_on(rt: &impl Abort, world: &World, plain: &Plain, task: u32) {
+    let expected = plain.next_event(task);
+    assert_eq!(rt; world.next_event(task), expected, "task {task}");
+}
+
+/// Both say the same of each task.
+fn agree(rt: &impl Abort, world: &World, plain: &Plain) {
     for task in 0..8 {
-        assert_eq!(rt;
-            world.next_event(task),
-            plain.next_event(task),
-            "task {task}"
-        );
+        agrees_on(rt, world, plain, task);
     }
+}
+
+/// Hands an event to the world, which gives the reply of its peer.
+fn replies(rt: &impl Abort, world: &mut World, event: &WorldEvent, reply: Answer) {
+    assert_eq!(rt; world.step(event), reply, "{event:?}");
+}
+
+/// Hands an event to the world and to its peer, and compares what they reply and what they say of
+/// each task.
+fn step_both(
+    rt: &impl Abort,
+    world: &mut World,
+    plain: &mut Plain,
+    event: &WorldEvent,
+    counts: &mut Counts,
+) -> Result<(), Refusal> {
+    let reply = plain.step(event)?;
+    replies(rt, world, event, reply);
+    agree(rt, world, plain);
+    counts.add(event, reply);
+    Ok(())
+}
+
+/// Hands 50 events to the world and to a fresh peer.
+fn play_beside(
+    rt: &impl Abort,
+    alloc: Global,
+    limits: Limits,
+    world: &mut World,
+    dice: &mut Dice,
+    counts: &mut Counts,
+) -> Result<(), Refusal> {
+    let mut plain = Plain::new(alloc, limits)?;
+    for _ in 0..50 {
+        let event = dice.event(&plain)?;
+        step_both(rt, world, &mut plain, &event, counts)?;
+    }
+    Ok(())
 }
 
 /// Hands 50 events to a fresh world and to its peer.
@@ -130,28 +170,26 @@ fn play_both(
     counts: &mut Counts,
 ) -> Result<(), Refusal> {
     let mut world = fresh(alloc, limits)?;
-    let mut plain = Plain::new(alloc, limits)?;
-    for _ in 0..50 {
-        let event = dice.event(&plain)?;
-        let expected = plain.step(&event)?;
-        assert_eq!(rt; world.step(&event), expected, "{event:?}");
-        agrees(rt, &world, &plain);
-        counts.add(&event, expected);
+    play_beside(rt, alloc, limits, &mut world, dice, counts)
+}
+
+/// Plays 40 worlds.
+fn play_all(rt: &impl Abort, alloc: Global, counts: &mut Counts) -> Result<(), Refusal> {
+    let mut dice = Dice::new();
+    for world in 0..40 {
+        play_both(rt, alloc, limits_of(world), &mut dice, counts)?;
     }
     Ok(())
 }
 
 #[test]
 fn side_by_side(rt: HostRuntime) -> Result<(), Refusal> {
-    let mut dice = Dice::new();
     let mut counts = Counts {
         made: [0; 16],
         waiting: 0,
         refused: 0,
     };
-    for world in 0..40 {
-        play_both(&rt, rt.alloc(), limits_of(world), &mut dice, &mut counts)?;
-    }
+    play_all(&rt, rt.alloc(), &mut counts)?;
     for kind in 0..16 {
         assert!(rt; counts.made[kind] > 0, "none made of kind {kind}");
     }

@@ -4,8 +4,9 @@ use phase_model::{Event, History, Look, Op, Ops, explain};
 use phase_modes::{Limits, Mode, Refusal};
 use report_lines::{PhaserSums, finish_line, no_totals, phaser_sums, plus};
 use std::alloc::Global;
+use std::process::Abort;
 use std::test::Fail;
-use world_model::{FinishLine, FoldLine, TotalsLine};
+use world_model::{FinishLine, FoldLine, PhaserLines, TotalsLine};
 
 /// Two tasks send for phase 0, then task 1 for phase 1, while task 0 ends its turn.
 const EVENTS: [Event; 10] = [
@@ -52,47 +53,64 @@ fn fold(phase: u32, acc: u32, value: Look) -> FoldLine {
     FoldLine { phase, acc, value }
 }
 
-#[test]
-fn a_phaser_is_summed(rt: HostRuntime) -> Result<(), Fail> {
-    let history = history_of(rt.alloc(), EVENTS.as_slice())?;
-    explain(&history)?;
-    let sums = phaser_sums(rt.alloc(), 7, &history)?;
-    assert_eq!(rt; sums.lines.phaser, 7);
-    assert_eq!(rt; sums.lines.phases, 2);
-    let folds = [
+/// What the accumulators come to.
+fn folds() -> [FoldLine; 4] {
+    [
         fold(0, 0, Look::Value(3)),
         fold(0, 1, Look::Value(-5)),
         fold(1, 0, Look::Value(4)),
         fold(1, 1, Look::Nothing),
-    ];
-    assert!(rt; sums.lines.folds.as_slice() == folds.as_slice());
-    let totals = TotalsLine {
-        registered: 2,
-        signals: 2,
-        passes: 1,
-        drops: 1,
-        sends: 3,
-        up: 7,
-        down: 5,
-    };
-    assert_eq!(rt; sums.totals, totals);
-    assert_eq!(rt; plus(no_totals(), sums.totals), totals);
-    assert_eq!(rt; plus(totals, totals).up, 14);
+    ]
+}
+
+const TOTALS: TotalsLine = TotalsLine {
+    registered: 2,
+    signals: 2,
+    passes: 1,
+    drops: 1,
+    sends: 3,
+    up: 7,
+    down: 5,
+};
+
+/// The sums of the history of these events, as those of phaser 7.
+fn sums_of(alloc: Global, events: &[Event]) -> Result<PhaserSums, Refusal> {
+    let history = history_of(alloc, events)?;
+    explain(&history)?;
+    phaser_sums(alloc, 7, &history)
+}
+
+fn lines_are(rt: &impl Abort, lines: &PhaserLines, folds: &[FoldLine]) {
+    assert_eq!(rt; lines.phaser, 7);
+    assert_eq!(rt; lines.phases, 2);
+    assert!(rt; lines.folds.as_slice() == folds);
+}
+
+fn totals_are(rt: &impl Abort, totals: TotalsLine) {
+    assert_eq!(rt; totals, TOTALS);
+    assert_eq!(rt; plus(no_totals(), totals), TOTALS);
+    assert_eq!(rt; plus(TOTALS, TOTALS).up, 14);
+}
+
+#[test]
+fn a_phaser_is_summed(rt: HostRuntime) -> Result<(), Fail> {
+    let sums = sums_of(rt.alloc(), EVENTS.as_slice())?;
+    lines_are(&rt, &sums.lines, folds().as_slice());
+    totals_are(&rt, sums.totals);
     Ok(())
 }
 
 #[test]
-fn a_finish_is_counted(rt: HostRuntime) -> Result<(), Fail> {
-    let events = [
+fn a_finish_is_counted(rt: HostRuntime) {
+    const FINISHED: [FinishEvent; 4] = [
         FinishEvent::Opened(0),
         FinishEvent::Spawned(1),
         FinishEvent::Ended(1),
         FinishEvent::Spawned(2),
     ];
-    let line = FinishLine {
+    const LINE: FinishLine = FinishLine {
         finish: 3,
         tasks: 2,
     };
-    assert_eq!(rt; finish_line(3, events.as_slice()), line);
-    Ok(())
+    assert_eq!(rt; finish_line(3, FINISHED.as_slice()), LINE);
 }

@@ -1,4 +1,5 @@
-//! A world driven from outside: each event is a row of a table beside its reply.
+//! A world driven from outside: a table has each event beside its reply, and each question beside
+//! its answer.
 use finish_core::FinishEvent;
 use phase_model::{Look, Op, Ops};
 use phase_modes::{Limits, Mode, Pair, Phased, Refusal};
@@ -6,7 +7,7 @@ use std::alloc::Global;
 use std::process::Abort;
 use world_core::{Log, World};
 use world_model::{
-    Begun, Condition, FinishLine, FoldLine, Reply, Step, TaskLine, TotalsLine, Tried, WorldEvent,
+    Begun, Condition, FoldLine, PhaserLines, Reply, Step, TotalsLine, Tried, WorldEvent,
     WorldReport,
 };
 
@@ -15,8 +16,59 @@ mod limits;
 mod logs;
 mod reports;
 
-/// An event, and the reply that a world gives to it.
-type Row = (WorldEvent, Result<Reply, Refusal>);
+/// The phasers of a spawn, each with the child's mode there.
+#[derive(Clone, Copy)]
+enum Places {
+    Nowhere,
+    At(u32, Mode),
+    AtTwo((u32, Mode), (u32, Mode)),
+}
+
+/// An event as a table names it. A constant can't call what makes the lists of an event, so that
+/// events with a list have variants of their own.
+#[derive(Clone, Copy)]
+enum TableEvent {
+    /// The phaser is made by the task in this mode, with no accumulators.
+    Make(u32, u32, Mode),
+    /// The same with one accumulator, a sum.
+    MakeSum(u32, u32, Mode),
+    On(u32, Step),
+    Within(u32, FinishEvent),
+    Begin(u32, Begun),
+    /// The task begins to spawn the child there.
+    Spawn(u32, u32, Places),
+    /// The task notes by this number that it was refused the act.
+    Refuse(u32, Tried, u8),
+    /// The same for a phaser that the task was to make, in this mode and with no accumulators.
+    RefuseMake(u32, u32, Mode, u8),
+    /// The same for a child that it was to spawn there.
+    RefuseSpawn(u32, u32, Places, u8),
+    Fail(u32, u8),
+}
+
+/// A row of a table: an event with the reply that a world gives to it, or a question about a task
+/// with its answer.
+#[derive(Clone, Copy)]
+enum Row {
+    /// The event is made.
+    Done(TableEvent),
+    /// The event has to wait.
+    NotYet(TableEvent),
+    /// The event is refused.
+    Refused(TableEvent, Refusal),
+    /// On the phaser the task passes the phase.
+    Passed(u32, u32, u32),
+    /// In the phaser's first accumulator the task sees the value.
+    Saw(u32, u32, Look),
+    /// What the task is about.
+    Is(u32, Option<Condition>),
+    /// How many turns the task has completed.
+    Clock(u32, u32),
+    /// Whether the task can go on.
+    Able(u32, bool),
+    /// No event of the task is due.
+    NoneDue(u32),
+}
 
 /// A world in which nothing has happened; `NotNow` where the limits are none.
 fn fresh(alloc: Global, limits: Limits) -> Result<World, Refusal> {
@@ -24,62 +76,6 @@ fn fresh(alloc: Global, limits: Limits) -> Result<World, Refusal> {
         return Err(Refusal::NotNow);
     }
     World::new(alloc, limits)
-}
-
-/// Hands the events of the rows to the world, each of which gives the reply of its row.
-fn go_on(rt: &impl Abort, world: &mut World, rows: &[Row]) {
-    for (event, expected) in rows {
-        assert_eq!(rt; world.step(event), *expected, "{event:?}");
-    }
-}
-
-/// The world that these events leave, each with the reply of its row.
-fn play(rt: &impl Abort, alloc: Global, limits: Limits, rows: &[Row]) -> Result<World, Refusal> {
-    let mut world = fresh(alloc, limits)?;
-    go_on(rt, &mut world, rows);
-    Ok(world)
-}
-
-/// The event is made.
-fn done(event: WorldEvent) -> Row {
-    (event, Ok(Reply::Done))
-}
-
-/// The event has to wait.
-fn not_yet(event: WorldEvent) -> Row {
-    (event, Ok(Reply::NotYet))
-}
-
-/// The event is refused.
-fn refused(event: WorldEvent, refusal: Refusal) -> Row {
-    (event, Err(refusal))
-}
-
-/// The task passes the phase of the phaser.
-fn passed(phaser: u32, task: u32, phase: u32) -> Row {
-    (on(phaser, Step::Pass(task)), Ok(Reply::Phase(phase)))
-}
-
-fn on(phaser: u32, step: Step) -> WorldEvent {
-    WorldEvent::Phaser(phaser, step)
-}
-
-fn within(finish: u32, event: FinishEvent) -> WorldEvent {
-    WorldEvent::Finish(finish, event)
-}
-
-fn begin(task: u32, begun: Begun) -> WorldEvent {
-    WorldEvent::Begin(task, begun)
-}
-
-/// The task notes by this number that it was refused to begin the act.
-fn refuse(task: u32, begun: Begun, number: u8) -> WorldEvent {
-    WorldEvent::Refuse(task, Tried::Begun(begun), number)
-}
-
-/// The phaser is made with no accumulators.
-fn make(phaser: u32, task: u32, mode: Mode) -> WorldEvent {
-    on(phaser, Step::Make(task, mode, Ops::none()))
 }
 
 /// The pairs of a spawn, the first 16 of these.
@@ -96,6 +92,16 @@ fn named(pairs: &[(u32, Mode)]) -> Phased {
     list
 }
 
+/// The act that spawns the child there.
+fn spawn(child: u32, places: Places) -> Begun {
+    let pairs = match places {
+        Places::Nowhere => Phased::none(),
+        Places::At(phaser, mode) => named(&[(phaser, mode)]),
+        Places::AtTwo(first, second) => named(&[first, second]),
+    };
+    Begun::Async(child, pairs)
+}
+
 /// One accumulator, a sum.
 fn one_sum() -> Ops {
     let mut ops = Ops::none();
@@ -103,4 +109,111 @@ fn one_sum() -> Ops {
         ops.push(Op::Sum);
     }
     ops
+}
+
+/// The event that is named.
+fn event_of(event: TableEvent) -> WorldEvent {
+    match event {
+        TableEvent::Make(phaser, task, mode) => {
+            WorldEvent::Phaser(phaser, Step::Make(task, mode, Ops::none()))
+        }
+        TableEvent::MakeSum(phaser, task, mode) => {
+            WorldEvent::Phaser(phaser, Step::Make(task, mode, one_sum()))
+        }
+        TableEvent::On(phaser, step) => WorldEvent::Phaser(phaser, step),
+        TableEvent::Within(finish, event) => WorldEvent::Finish(finish, event),
+        TableEvent::Begin(task, begun) => WorldEvent::Begin(task, begun),
+        TableEvent::Spawn(task, child, places) => WorldEvent::Begin(task, spawn(child, places)),
+        TableEvent::Refuse(task, tried, number) => WorldEvent::Refuse(task, tried, number),
+        TableEvent::RefuseMake(task, phaser, mode, number) => {
+            WorldEvent::Refuse(task, Tried::New(phaser, mode, Ops::none()), number)
+        }
+        TableEvent::RefuseSpawn(task, child, places, number) => {
+            WorldEvent::Refuse(task, Tried::Begun(spawn(child, places)), number)
+        }
+        TableEvent::Fail(task, number) => WorldEvent::Fail(task, number),
+    }
+}
+
+/// The world gives this reply to the event.
+fn replies(rt: &impl Abort, world: &mut World, event: TableEvent, reply: Result<Reply, Refusal>) {
+    let event = event_of(event);
+    assert_eq!(rt; world.step(&event), reply, "{event:?}");
+}
+
+/// The row's event and its reply; none where the row is a question.
+fn event_in(row: &Row) -> Option<(TableEvent, Result<Reply, Refusal>)> {
+    match *row {
+        Row::Done(event) => Some((event, Ok(Reply::Done))),
+        Row::NotYet(event) => Some((event, Ok(Reply::NotYet))),
+        Row::Refused(event, refusal) => Some((event, Err(refusal))),
+        Row::Passed(phaser, task, phase) => {
+            Some((
+                TableEvent::On(phaser, Step::Pass(task)),
+                Ok(Reply::Phase(phase)),
+            ))
+        }
+        Row::Saw(phaser, task, value) => {
+            Some((
+                TableEvent::On(phaser, Step::Look(task, 0)),
+                Ok(Reply::Value(value)),
+            ))
+        }
+        Row::Is(_, _) | Row::Clock(_, _) | Row::Able(_, _) | Row::NoneDue(_) => None,
+    }
+}
+
+fn is_about(rt: &impl Abort, world: &World, task: u32, condition: Option<Condition>) {
+    assert_eq!(rt; world.condition(task), condition, "task {task}");
+}
+
+fn has_turned(rt: &impl Abort, world: &World, task: u32, turns: u32) {
+    assert_eq!(rt; world.clock(task), turns, "task {task}");
+}
+
+fn is_able(rt: &impl Abort, world: &World, task: u32, able: bool) {
+    assert_eq!(rt; world.able(task), able, "task {task}");
+}
+
+fn has_none_due(rt: &impl Abort, world: &World, task: u32) {
+    assert_eq!(rt; world.next_event(task), None, "task {task}");
+}
+
+/// The world answers the row's question so.
+fn answers(rt: &impl Abort, world: &World, row: &Row) {
+    match *row {
+        Row::Is(task, condition) => is_about(rt, world, task, condition),
+        Row::Clock(task, turns) => has_turned(rt, world, task, turns),
+        Row::Able(task, able) => is_able(rt, world, task, able),
+        Row::NoneDue(task) => has_none_due(rt, world, task),
+        Row::Done(_)
+        | Row::NotYet(_)
+        | Row::Refused(_, _)
+        | Row::Passed(_, _, _)
+        | Row::Saw(_, _, _) => {}
+    }
+}
+
+/// The world replies or answers as the row says.
+fn agrees(rt: &impl Abort, world: &mut World, row: &Row) {
+    match event_in(row) {
+        Some((event, reply)) => replies(rt, world, event, reply),
+        None => answers(rt, world, row),
+    }
+}
+
+/// The world that the tables leave, one after the other.
+fn play(
+    rt: &impl Abort,
+    alloc: Global,
+    limits: Limits,
+    tables: &[&[Row]],
+) -> Result<World, Refusal> {
+    let mut world = fresh(alloc, limits)?;
+    for table in tables {
+        for row in *table {
+            agrees(rt, &mut world, row);
+        }
+    }
+    Ok(world)
 }

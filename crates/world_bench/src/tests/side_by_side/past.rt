@@ -129,6 +129,22 @@ pub(super) fn is_live(events: &[WorldEvent], phaser: u32, task: u32) -> bool {
     joined && !events.iter().any(|event| *event == left)
 }
 
+/// Adds the phaser on which the event registers the task, where it still is.
+fn add_phaser(
+    list: &mut Vec<u32>,
+    events: &[WorldEvent],
+    task: u32,
+    event: WorldEvent,
+) -> Result<(), Refusal> {
+    if let Some((phaser, joined)) = registered_by(event)
+        && joined == task
+        && is_live(events, phaser, task)
+    {
+        list.push(phaser)?;
+    }
+    Ok(())
+}
+
 /// The phasers on which the task is registered now, in the order in which it came to them.
 pub(super) fn phasers_of(
     events: &[WorldEvent],
@@ -137,14 +153,27 @@ pub(super) fn phasers_of(
 ) -> Result<Vec<u32>, Refusal> {
     let mut list = Vec::new(alloc);
     for event in events {
-        if let Some((phaser, joined)) = registered_by(*event)
-            && joined == task
-            && is_live(events, phaser, task)
-        {
-            list.push(phaser)?;
-        }
+        add_phaser(&mut list, events, task, *event)?;
     }
     Ok(list)
+}
+
+/// Adds the finish that the task opens by the event, where it is still open.
+fn add_finish(
+    list: &mut Vec<u32>,
+    events: &[WorldEvent],
+    task: u32,
+    event: WorldEvent,
+) -> Result<(), Refusal> {
+    match event {
+        WorldEvent::Finish(finish, FinishEvent::Opened(by)) => {
+            if by == task && is_open(events, finish) {
+                list.push(finish)?;
+            }
+        }
+        _ => {}
+    }
+    Ok(())
 }
 
 /// The task's own open finishes, the innermost first.
@@ -155,14 +184,7 @@ pub(super) fn open_finishes(
 ) -> Result<Vec<u32>, Refusal> {
     let mut list = Vec::new(alloc);
     for event in events.iter().rev() {
-        match *event {
-            WorldEvent::Finish(finish, FinishEvent::Opened(by)) => {
-                if by == task && is_open(events, finish) {
-                    list.push(finish)?;
-                }
-            }
-            _ => {}
-        }
+        add_finish(&mut list, events, task, *event)?;
     }
     Ok(list)
 }

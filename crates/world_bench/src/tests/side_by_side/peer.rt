@@ -79,19 +79,63 @@ fn as_answer(reply: PhaserReply) -> Answer {
     }
 }
 
+/// A phaser for each number, of which none was made.
+fn unmade_phasers(alloc: Global, limits: Limits) -> Result<Vec<PhaserState>, Refusal> {
+    let mut phasers = Vec::new(alloc);
+    for _ in 0..limits.phasers {
+        add_unmade(&mut phasers, alloc, limits)?;
+    }
+    Ok(phasers)
+}
+
+/// A further phaser; `NotNow` where the limits are none.
+fn add_unmade(
+    phasers: &mut Vec<PhaserState>,
+    alloc: Global,
+    limits: Limits,
+) -> Result<(), Refusal> {
+    if !limits.fits() {
+        return Err(Refusal::NotNow);
+    }
+    phasers.push(PhaserState::new(alloc, limits, Ops::none())?)?;
+    Ok(())
+}
+
+/// For each task that nothing is due.
+fn nothing_due(alloc: Global, limits: Limits) -> Result<Vec<Vec<WorldEvent>>, Refusal> {
+    let mut due = Vec::new(alloc);
+    for _ in 0..limits.tasks {
+        due.push(Vec::new(alloc))?;
+    }
+    Ok(due)
+}
+
+/// Where the step makes the phaser, it begins anew with the step's accumulators.
+fn renew(
+    state: &mut PhaserState,
+    alloc: Global,
+    limits: Limits,
+    step: &Step,
+) -> Result<(), Refusal> {
+    if let Step::Make(_, _, ops) = *step
+        && limits.fits()
+    {
+        *state = PhaserState::new(alloc, limits, ops)?;
+    }
+    Ok(())
+}
+
+/// The step is made on the phaser.
+fn call(state: &mut PhaserState, alloc: Global, limits: Limits, step: Step) -> Result<(), Refusal> {
+    renew(state, alloc, limits, &step)?;
+    let _replied = state.apply(call_for(step));
+    Ok(())
+}
+
 impl Plain {
     pub(super) fn new(alloc: Global, limits: Limits) -> Result<Plain, Refusal> {
-        let mut phasers = Vec::new(alloc);
-        for _ in 0..limits.phasers {
-            if !limits.fits() {
-                return Err(Refusal::NotNow);
-            }
-            phasers.push(PhaserState::new(alloc, limits, Ops::none())?)?;
-        }
-        let mut due = Vec::new(alloc);
-        for _ in 0..limits.tasks {
-            due.push(Vec::new(alloc))?;
-        }
+        let phasers = unmade_phasers(alloc, limits)?;
+        let due = nothing_due(alloc, limits)?;
         Ok(Plain {
             alloc,
             limits,
@@ -209,14 +253,29 @@ impl Plain {
             .is_some_and(|reg| reg.mode.can_signal() && !reg.ahead)
     }
 
-    /// The refusal of an act that is begun, once it may be begun at all.
-    fn own_refusal(&self, task: u32, begun: Begun) -> Result<Option<Refusal>, Refusal> {
-        let events = self.events.as_slice();
-        let own = phasers_of(events, task, self.alloc)?;
-        let own = own.as_slice();
-        let finishes = open_finishes(events, task, self.alloc)?;
-        let leads = self.leads(task, own);
-        Ok(match begun {
+    /// The refusal of a single statement, of a task that is on these phasers.
+    fn refusal_of_single(&self, task: u32, own: &[u32]) -> Option<Refusal> {
+        let single = own.iter().all(|phaser| {
+            self.registration(*phaser, task)
+                .is_some_and(|reg| reg.mode.can_single())
+        });
+        let conditions = [
+            (own.len() == 1, Refusal::OnePhaserOnly),
+            (single, Refusal::NoSingle),
+            (!self.leads(task, own), Refusal::AlreadySignalled),
+        ];
+        first_of(conditions.as_slice())
+    }
+
+    /// The refusal of a task that is on these phasers, with these finishes open.
+    fn refusal_of_begun(
+        &self,
+        task: u32,
+        begun: Begun,
+        own: &[u32],
+        finishes: &[u32],
+    ) -> Option<Refusal> {
+        match begun {
             Begun::Async(child, pairs) => {
                 if child >= self.limits.tasks {
                     Some(Refusal::TasksFull)
@@ -224,27 +283,40 @@ impl Plain {
                     self.refusal_of_pairs(task, pairs.as_slice())
                 }
             }
-            Begun::Signal => first_of([(!leads, Refusal::AlreadySignalled)].as_slice()),
+            Begun::Signal => {
+                first_of([(!self.leads(task, own), Refusal::AlreadySignalled)].as_slice())
+            }
             Begun::Wait => {
                 let owes = own.iter().any(|phaser| self.is_behind(task, *phaser));
                 first_of([(!owes, Refusal::NotSignalled)].as_slice())
             }
             Begun::Next => None,
-            Begun::NextSingle(_) => {
-                let single = own.iter().all(|phaser| {
-                    self.registration(*phaser, task)
-                        .is_some_and(|reg| reg.mode.can_single())
-                });
-                let conditions = [
-                    (own.len() == 1, Refusal::OnePhaserOnly),
-                    (single, Refusal::NoSingle),
-                    (!leads, Refusal::AlreadySignalled),
-                ];
-                first_of(conditions.as_slice())
-            }
+            Begun::NextSingle(_) => self.refusal_of_single(task, own),
             Begun::Shut => first_of([(!finishes.is_empty(), Refusal::NoFinish)].as_slice()),
             Begun::End => first_of([(finishes.is_empty(), Refusal::FinishOpen)].as_slice()),
-        })
+        }
+    }
+
+    /// The refusal of an act that is begun, once it may be begun at all.
+    fn own_refusal(&self, task: u32, begun: Begun) -> Result<Option<Refusal>, Refusal> {
+        let events = self.events.as_slice();
+        let own = phasers_of(events, task, self.alloc)?;
+        let finishes = open_finishes(events, task, self.alloc)?;
+        Ok(self.refusal_of_begun(task, begun, own.as_slice(), finishes.as_slice()))
+    }
+
+    /// Whether the task is on as many phasers as a task may be on.
+    fn is_on_many(&self, task: u32) -> Result<bool, Refusal> {
+        let own = phasers_of(self.events.as_slice(), task, self.alloc)?;
+        Ok(own.len() >= 16)
+    }
+
+    /// The reply to a phaser that the task may make.
+    fn new_reply(&self, phaser: u32, task: u32, mode: Mode, ops: Ops) -> Result<Answer, Refusal> {
+        if phaser >= self.limits.phasers || self.is_on_many(task)? {
+            return Ok(Err(Refusal::PhasersFull));
+        }
+        Ok(self.phaser_reply(phaser, Step::Make(task, mode, ops)))
     }
 
     /// The reply to an act that the task tries.
@@ -265,13 +337,7 @@ impl Plain {
                 Some(refusal) => Err(refusal),
                 None => Ok(Reply::Done),
             }),
-            Tried::New(phaser, mode, ops) => {
-                let own = phasers_of(events, task, self.alloc)?;
-                if phaser >= self.limits.phasers || own.len() >= 16 {
-                    return Ok(Err(Refusal::PhasersFull));
-                }
-                Ok(self.phaser_reply(phaser, Step::Make(task, mode, ops)))
-            }
+            Tried::New(phaser, mode, ops) => self.new_reply(phaser, task, mode, ops),
             Tried::Open(finish) => {
                 if finish >= self.limits.finishes {
                     return Ok(Err(Refusal::FinishesFull));
@@ -485,20 +551,12 @@ impl Plain {
         Ok(due)
     }
 
-    /// The step is made on the phaser.
+    /// The step is made on the phaser, if there is one.
     fn call(&mut self, phaser: u32, step: Step) -> Result<(), Refusal> {
-        let limits = self.limits;
-        let alloc = self.alloc;
-        let Some(state) = self.phasers.get_mut(phaser as usize) else {
-            return Ok(());
-        };
-        if let Step::Make(_, _, ops) = step
-            && limits.fits()
-        {
-            *state = PhaserState::new(alloc, limits, ops)?;
+        match self.phasers.get_mut(phaser as usize) {
+            Some(state) => call(state, self.alloc, self.limits, step),
+            None => Ok(()),
         }
-        let _replied = state.apply(call_for(step));
-        Ok(())
     }
 
     /// What the acting task still has to make after the event.

@@ -1,368 +1,351 @@
 //! Worked examples of finishes and turns: each event with its reply, and the report at the end.
-use super::reports::{NOTHING, ended, phasers_are, refused_with, rest_is, sum_is, tasks_in};
+use super::Places::*;
+use super::Row::*;
+use super::TableEvent::*;
+use super::reports::{Line, NOTHING, reported};
 use super::*;
-
-/// A spawn of task 1, as a signaller of phaser 0.
-fn spawn_on_0() -> Begun {
-    Begun::Async(1, named([(0, Mode::Sig)].as_slice()))
-}
 
 /// A child may not have a phaser of an outer finish: the spawn is refused, and so the task ends.
 /// That the phaser is outside its scope may be noted, and no other number.
 #[test]
 fn outside_scope(rt: HostRuntime) -> Result<(), Refusal> {
-    let rows = [
-        done(make(0, 0, Mode::SigWait)),
-        done(within(1, FinishEvent::Opened(0))),
-        refused(begin(0, spawn_on_0()), Refusal::OutsideScope),
-        refused(refuse(0, spawn_on_0(), 11), Refusal::NotNow),
-        done(refuse(0, spawn_on_0(), 12)),
-        done(on(0, Step::Drop(0))),
-        done(within(1, FinishEvent::Shut)),
-        done(within(0, FinishEvent::Shut)),
+    const ROWS: [Row; 10] = [
+        Done(Make(0, 0, Mode::SigWait)),
+        Done(Within(1, FinishEvent::Opened(0))),
+        Refused(Spawn(0, 1, At(0, Mode::Sig)), Refusal::OutsideScope),
+        Refused(RefuseSpawn(0, 1, At(0, Mode::Sig), 11), Refusal::NotNow),
+        Done(RefuseSpawn(0, 1, At(0, Mode::Sig), 12)),
+        Done(On(0, Step::Drop(0))),
+        Done(Within(1, FinishEvent::Shut)),
+        Done(Within(0, FinishEvent::Shut)),
+        Is(0, Some(Condition::Ended)),
+        NoneDue(0),
     ];
-    let world = play(&rt, rt.alloc(), Limits::default(), rows.as_slice())?;
-    assert_eq!(rt; world.condition(0), Some(Condition::Ended));
-    assert_eq!(rt; world.next_event(0), None);
-    let report = world.report(rt.alloc())?;
-    phasers_are(&rt, &report, [(0, 0)].as_slice());
-    let tasks = [refused_with(0, 12)];
-    let finishes = [tasks_in(0, 0), tasks_in(1, 0)];
-    let totals = TotalsLine {
+    const LINES: [Line; 4] = [
+        Line::Phaser(0, 0),
+        Line::Task(0, Some(12)),
+        Line::Finish(0, 0),
+        Line::Finish(1, 0),
+    ];
+    const TOTALS: TotalsLine = TotalsLine {
         registered: 1,
         drops: 1,
         ..NOTHING
     };
-    rest_is(&rt, &report, tasks.as_slice(), finishes.as_slice(), totals);
-    Ok(())
+    reported(&rt, rt.alloc(), &[&ROWS], &LINES, TOTALS)
 }
 
 /// The owner of finish 1 waits for a task that its child spawned: the first shut has to wait.
 #[test]
 fn nested_finish(rt: HostRuntime) -> Result<(), Refusal> {
-    let rows = [
-        done(within(1, FinishEvent::Opened(0))),
-        done(begin(0, Begun::Async(1, Phased::none()))),
-        done(within(1, FinishEvent::Spawned(1))),
-        done(begin(1, Begun::Async(2, Phased::none()))),
-        done(within(1, FinishEvent::Spawned(2))),
-        done(begin(1, Begun::End)),
-        done(within(1, FinishEvent::Ended(1))),
-        done(begin(0, Begun::Shut)),
-        not_yet(within(1, FinishEvent::Shut)),
+    const ROWS: [Row; 19] = [
+        Done(Within(1, FinishEvent::Opened(0))),
+        Done(Spawn(0, 1, Nowhere)),
+        Done(Within(1, FinishEvent::Spawned(1))),
+        Done(Spawn(1, 2, Nowhere)),
+        Done(Within(1, FinishEvent::Spawned(2))),
+        Done(Begin(1, Begun::End)),
+        Done(Within(1, FinishEvent::Ended(1))),
+        Done(Begin(0, Begun::Shut)),
+        NotYet(Within(1, FinishEvent::Shut)),
+        Is(0, Some(Condition::Shutting)),
+        Able(0, false),
+        Able(2, true),
+        Done(Begin(2, Begun::Next)),
+        Done(Begin(2, Begun::End)),
+        Done(Within(1, FinishEvent::Ended(2))),
+        Done(Within(1, FinishEvent::Shut)),
+        Done(Begin(0, Begun::End)),
+        Done(Within(0, FinishEvent::Shut)),
+        Is(1, Some(Condition::Ended)),
     ];
-    let rest = [
-        done(begin(2, Begun::Next)),
-        done(begin(2, Begun::End)),
-        done(within(1, FinishEvent::Ended(2))),
-        done(within(1, FinishEvent::Shut)),
-        done(begin(0, Begun::End)),
-        done(within(0, FinishEvent::Shut)),
+    const LINES: [Line; 5] = [
+        Line::Task(0, None),
+        Line::Task(1, None),
+        Line::Task(2, None),
+        Line::Finish(0, 0),
+        Line::Finish(1, 2),
     ];
-    let mut world = play(&rt, rt.alloc(), Limits::default(), rows.as_slice())?;
-    assert_eq!(rt; world.condition(0), Some(Condition::Shutting));
-    assert!(rt; !world.able(0));
-    assert!(rt; world.able(2));
-    go_on(&rt, &mut world, rest.as_slice());
-    assert_eq!(rt; world.condition(1), Some(Condition::Ended));
-    let report = world.report(rt.alloc())?;
-    phasers_are(&rt, &report, [].as_slice());
-    let tasks = [ended(0), ended(1), ended(2)];
-    let finishes = [tasks_in(0, 0), tasks_in(1, 2)];
-    rest_is(&rt, &report, tasks.as_slice(), finishes.as_slice(), NOTHING);
-    Ok(())
+    reported(&rt, rt.alloc(), &[&ROWS], &LINES, NOTHING)
 }
 
 /// The owner leaves a phaser of its finish before it waits for the child, which waits there.
 #[test]
 fn owner_leaves_before_shut(rt: HostRuntime) -> Result<(), Refusal> {
-    let child = Begun::Async(1, named([(0, Mode::Wait)].as_slice()));
-    let rows = [
-        done(within(1, FinishEvent::Opened(0))),
-        done(make(0, 0, Mode::SigWait)),
-        done(begin(0, child)),
-        done(on(0, Step::Reg(0, 1, Mode::Wait))),
-        done(within(1, FinishEvent::Spawned(1))),
-        done(begin(1, Begun::Next)),
-        not_yet(on(0, Step::Pass(1))),
-        done(begin(0, Begun::Shut)),
-        refused(within(1, FinishEvent::Shut), Refusal::NotNow),
-        done(on(0, Step::Drop(0))),
-        not_yet(within(1, FinishEvent::Shut)),
-        passed(0, 1, 0),
-        done(begin(1, Begun::End)),
-        done(on(0, Step::Drop(1))),
-        done(within(1, FinishEvent::Ended(1))),
-        done(within(1, FinishEvent::Shut)),
-        done(begin(0, Begun::End)),
-        done(within(0, FinishEvent::Shut)),
+    const ROWS: [Row; 20] = [
+        Done(Within(1, FinishEvent::Opened(0))),
+        Done(Make(0, 0, Mode::SigWait)),
+        Done(Spawn(0, 1, At(0, Mode::Wait))),
+        Done(On(0, Step::Reg(0, 1, Mode::Wait))),
+        Done(Within(1, FinishEvent::Spawned(1))),
+        Done(Begin(1, Begun::Next)),
+        NotYet(On(0, Step::Pass(1))),
+        Done(Begin(0, Begun::Shut)),
+        Refused(Within(1, FinishEvent::Shut), Refusal::NotNow),
+        Done(On(0, Step::Drop(0))),
+        NotYet(Within(1, FinishEvent::Shut)),
+        Passed(0, 1, 0),
+        Done(Begin(1, Begun::End)),
+        Done(On(0, Step::Drop(1))),
+        Done(Within(1, FinishEvent::Ended(1))),
+        Done(Within(1, FinishEvent::Shut)),
+        Done(Begin(0, Begun::End)),
+        Done(Within(0, FinishEvent::Shut)),
+        Clock(1, 1),
+        Clock(0, 0),
     ];
-    let world = play(&rt, rt.alloc(), Limits::default(), rows.as_slice())?;
-    assert_eq!(rt; world.clock(1), 1);
-    assert_eq!(rt; world.clock(0), 0);
-    let report = world.report(rt.alloc())?;
-    phasers_are(&rt, &report, [(0, 1)].as_slice());
-    let tasks = [ended(0), ended(1)];
-    let finishes = [tasks_in(0, 0), tasks_in(1, 1)];
-    let totals = TotalsLine {
+    const LINES: [Line; 5] = [
+        Line::Phaser(0, 1),
+        Line::Task(0, None),
+        Line::Task(1, None),
+        Line::Finish(0, 0),
+        Line::Finish(1, 1),
+    ];
+    const TOTALS: TotalsLine = TotalsLine {
         registered: 2,
         passes: 1,
         drops: 2,
         ..NOTHING
     };
-    rest_is(&rt, &report, tasks.as_slice(), finishes.as_slice(), totals);
-    Ok(())
+    reported(&rt, rt.alloc(), &[&ROWS], &LINES, TOTALS)
 }
 
 /// Two tasks, each a signaller of the phaser on which the other waits; the root leaves, and waits
 /// for both.
-fn two_spawned() -> [Row; 14] {
-    let first = named([(0, Mode::Sig), (1, Mode::Wait)].as_slice());
-    let second = named([(1, Mode::Sig), (0, Mode::Wait)].as_slice());
-    [
-        done(make(0, 0, Mode::SigWait)),
-        done(make(1, 0, Mode::SigWait)),
-        done(begin(0, Begun::Async(1, first))),
-        done(on(0, Step::Reg(0, 1, Mode::Sig))),
-        done(on(1, Step::Reg(0, 1, Mode::Wait))),
-        done(within(0, FinishEvent::Spawned(1))),
-        done(begin(0, Begun::Async(2, second))),
-        done(on(1, Step::Reg(0, 2, Mode::Sig))),
-        done(on(0, Step::Reg(0, 2, Mode::Wait))),
-        done(within(0, FinishEvent::Spawned(2))),
-        done(begin(0, Begun::End)),
-        done(on(0, Step::Drop(0))),
-        done(on(1, Step::Drop(0))),
-        not_yet(within(0, FinishEvent::Shut)),
-    ]
-}
+const TWO_SPAWNED: [Row; 14] = [
+    Done(Make(0, 0, Mode::SigWait)),
+    Done(Make(1, 0, Mode::SigWait)),
+    Done(Spawn(0, 1, AtTwo((0, Mode::Sig), (1, Mode::Wait)))),
+    Done(On(0, Step::Reg(0, 1, Mode::Sig))),
+    Done(On(1, Step::Reg(0, 1, Mode::Wait))),
+    Done(Within(0, FinishEvent::Spawned(1))),
+    Done(Spawn(0, 2, AtTwo((1, Mode::Sig), (0, Mode::Wait)))),
+    Done(On(1, Step::Reg(0, 2, Mode::Sig))),
+    Done(On(0, Step::Reg(0, 2, Mode::Wait))),
+    Done(Within(0, FinishEvent::Spawned(2))),
+    Done(Begin(0, Begun::End)),
+    Done(On(0, Step::Drop(0))),
+    Done(On(1, Step::Drop(0))),
+    NotYet(Within(0, FinishEvent::Shut)),
+];
 
 /// A turn of both: the first has to wait on phaser 1 until the second has signalled there.
 fn crossed_turn(phase: u32) -> [Row; 9] {
     [
-        done(begin(1, Begun::Next)),
-        done(on(0, Step::Sig(1, None))),
-        passed(0, 1, phase),
-        not_yet(on(1, Step::Pass(1))),
-        done(begin(2, Begun::Next)),
-        done(on(1, Step::Sig(2, None))),
-        passed(1, 2, phase),
-        passed(0, 2, phase),
-        passed(1, 1, phase),
+        Done(Begin(1, Begun::Next)),
+        Done(On(0, Step::Sig(1, None))),
+        Passed(0, 1, phase),
+        NotYet(On(1, Step::Pass(1))),
+        Done(Begin(2, Begun::Next)),
+        Done(On(1, Step::Sig(2, None))),
+        Passed(1, 2, phase),
+        Passed(0, 2, phase),
+        Passed(1, 1, phase),
     ]
 }
 
 /// A turn of the second alone.
 fn lone_turn(phase: u32) -> [Row; 4] {
     [
-        done(begin(2, Begun::Next)),
-        done(on(1, Step::Sig(2, None))),
-        passed(1, 2, phase),
-        passed(0, 2, phase),
+        Done(Begin(2, Begun::Next)),
+        Done(On(1, Step::Sig(2, None))),
+        Passed(1, 2, phase),
+        Passed(0, 2, phase),
     ]
 }
 
 /// The second task's end, and the root's.
-fn last_ends() -> [Row; 5] {
-    [
-        done(begin(2, Begun::End)),
-        done(on(1, Step::Drop(2))),
-        done(on(0, Step::Drop(2))),
-        done(within(0, FinishEvent::Ended(2))),
-        done(within(0, FinishEvent::Shut)),
-    ]
-}
+const LAST_ENDS: [Row; 5] = [
+    Done(Begin(2, Begun::End)),
+    Done(On(1, Step::Drop(2))),
+    Done(On(0, Step::Drop(2))),
+    Done(Within(0, FinishEvent::Ended(2))),
+    Done(Within(0, FinishEvent::Shut)),
+];
 
 /// Two tasks that signal each other on two phasers: three turns of each.
 #[test]
 fn crossed_signals(rt: HostRuntime) -> Result<(), Refusal> {
-    let first_ends = [
-        done(begin(1, Begun::End)),
-        done(on(0, Step::Drop(1))),
-        done(on(1, Step::Drop(1))),
-        done(within(0, FinishEvent::Ended(1))),
+    const FIRST_ENDS: [Row; 7] = [
+        Clock(1, 3),
+        Clock(2, 3),
+        Is(3, None),
+        Done(Begin(1, Begun::End)),
+        Done(On(0, Step::Drop(1))),
+        Done(On(1, Step::Drop(1))),
+        Done(Within(0, FinishEvent::Ended(1))),
     ];
-    let mut world = play(&rt, rt.alloc(), Limits::default(), two_spawned().as_slice())?;
-    for phase in 0..3 {
-        go_on(&rt, &mut world, crossed_turn(phase).as_slice());
-    }
-    assert_eq!(rt; world.clock(1), 3);
-    assert_eq!(rt; world.clock(2), 3);
-    assert_eq!(rt; world.condition(3), None);
-    go_on(&rt, &mut world, first_ends.as_slice());
-    go_on(&rt, &mut world, last_ends().as_slice());
-    assert_eq!(rt; world.condition(0), Some(Condition::Ended));
-    let report = world.report(rt.alloc())?;
-    phasers_are(&rt, &report, [(0, 3), (1, 3)].as_slice());
-    let tasks = [ended(0), ended(1), ended(2)];
-    let totals = TotalsLine {
+    const LINES: [Line; 6] = [
+        Line::Phaser(0, 3),
+        Line::Phaser(1, 3),
+        Line::Task(0, None),
+        Line::Task(1, None),
+        Line::Task(2, None),
+        Line::Finish(0, 2),
+    ];
+    const TOTALS: TotalsLine = TotalsLine {
         registered: 6,
         signals: 6,
         passes: 12,
         drops: 6,
         ..NOTHING
     };
-    rest_is(
+    reported(
         &rt,
-        &report,
-        tasks.as_slice(),
-        [tasks_in(0, 2)].as_slice(),
-        totals,
-    );
-    Ok(())
+        rt.alloc(),
+        &[
+            &TWO_SPAWNED,
+            &crossed_turn(0),
+            &crossed_turn(1),
+            &crossed_turn(2),
+            &FIRST_ENDS,
+            &LAST_ENDS,
+            &[Is(0, Some(Condition::Ended))],
+        ],
+        &LINES,
+        TOTALS,
+    )
 }
 
 /// The same with a wait put first in the first child: it is refused, and the other goes on alone.
 #[test]
 fn crossed_signals_refused(rt: HostRuntime) -> Result<(), Refusal> {
-    let first_ends = [
-        refused(begin(1, Begun::Wait), Refusal::NotSignalled),
-        done(refuse(1, Begun::Wait, 6)),
-        done(on(0, Step::Drop(1))),
-        done(on(1, Step::Drop(1))),
-        done(within(0, FinishEvent::Ended(1))),
+    const FIRST_ENDS: [Row; 5] = [
+        Refused(Begin(1, Begun::Wait), Refusal::NotSignalled),
+        Done(Refuse(1, Tried::Begun(Begun::Wait), 6)),
+        Done(On(0, Step::Drop(1))),
+        Done(On(1, Step::Drop(1))),
+        Done(Within(0, FinishEvent::Ended(1))),
     ];
-    let mut world = play(&rt, rt.alloc(), Limits::default(), two_spawned().as_slice())?;
-    go_on(&rt, &mut world, first_ends.as_slice());
-    for phase in 0..3 {
-        go_on(&rt, &mut world, lone_turn(phase).as_slice());
-    }
-    go_on(&rt, &mut world, last_ends().as_slice());
-    assert_eq!(rt; world.clock(1), 0);
-    assert_eq!(rt; world.clock(2), 3);
-    let report = world.report(rt.alloc())?;
-    phasers_are(&rt, &report, [(0, 3), (1, 3)].as_slice());
-    let tasks = [ended(0), refused_with(1, 6), ended(2)];
-    let totals = TotalsLine {
+    const LINES: [Line; 6] = [
+        Line::Phaser(0, 3),
+        Line::Phaser(1, 3),
+        Line::Task(0, None),
+        Line::Task(1, Some(6)),
+        Line::Task(2, None),
+        Line::Finish(0, 2),
+    ];
+    const TOTALS: TotalsLine = TotalsLine {
         registered: 6,
         signals: 3,
         passes: 6,
         drops: 6,
         ..NOTHING
     };
-    rest_is(
+    reported(
         &rt,
-        &report,
-        tasks.as_slice(),
-        [tasks_in(0, 2)].as_slice(),
-        totals,
-    );
-    Ok(())
+        rt.alloc(),
+        &[
+            &TWO_SPAWNED,
+            &FIRST_ENDS,
+            &lone_turn(0),
+            &lone_turn(1),
+            &lone_turn(2),
+            &LAST_ENDS,
+            &[Clock(1, 0), Clock(2, 3)],
+        ],
+        &LINES,
+        TOTALS,
+    )
 }
 
 /// One statement for two proposers and a plain waiter: another number makes its task fail, the
 /// first proposer claims, and the others wait for its report.
 #[test]
 fn one_single(rt: HostRuntime) -> Result<(), Refusal> {
-    let rows = [
-        done(make(0, 0, Mode::Single)),
-        done(begin(0, Begun::Async(1, named([(0, Mode::Single)].as_slice())))),
-        done(on(0, Step::Reg(0, 1, Mode::Single))),
-        done(within(0, FinishEvent::Spawned(1))),
-        done(begin(0, Begun::Async(2, named([(0, Mode::Wait)].as_slice())))),
-        done(on(0, Step::Reg(0, 2, Mode::Wait))),
-        done(within(0, FinishEvent::Spawned(2))),
-        done(begin(0, Begun::NextSingle(7))),
-        refused(on(0, Step::Sig(0, None)), Refusal::NotNow),
-        done(on(0, Step::Sig(0, Some(7)))),
-        not_yet(on(0, Step::Pass(0))),
-        done(begin(1, Begun::NextSingle(8))),
-        refused(on(0, Step::Sig(1, Some(8))), Refusal::SingleMismatch),
-        done(WorldEvent::Fail(1, 7)),
-        done(on(0, Step::Drop(1))),
-        done(begin(2, Begun::Wait)),
-        not_yet(on(0, Step::Pass(2))),
-        refused(on(0, Step::Pass(0)), Refusal::NotNow),
-        done(on(0, Step::Claim(0))),
-        not_yet(on(0, Step::Pass(2))),
-        refused(on(0, Step::Pass(0)), Refusal::NotNow),
-        done(on(0, Step::Did(0))),
-        passed(0, 2, 0),
-        passed(0, 0, 0),
+    const ROWS: [Row; 26] = [
+        Done(Make(0, 0, Mode::Single)),
+        Done(Spawn(0, 1, At(0, Mode::Single))),
+        Done(On(0, Step::Reg(0, 1, Mode::Single))),
+        Done(Within(0, FinishEvent::Spawned(1))),
+        Done(Spawn(0, 2, At(0, Mode::Wait))),
+        Done(On(0, Step::Reg(0, 2, Mode::Wait))),
+        Done(Within(0, FinishEvent::Spawned(2))),
+        Done(Begin(0, Begun::NextSingle(7))),
+        Refused(On(0, Step::Sig(0, None)), Refusal::NotNow),
+        Done(On(0, Step::Sig(0, Some(7)))),
+        NotYet(On(0, Step::Pass(0))),
+        Done(Begin(1, Begun::NextSingle(8))),
+        Refused(On(0, Step::Sig(1, Some(8))), Refusal::SingleMismatch),
+        Done(Fail(1, 7)),
+        Done(On(0, Step::Drop(1))),
+        Done(Begin(2, Begun::Wait)),
+        NotYet(On(0, Step::Pass(2))),
+        Refused(On(0, Step::Pass(0)), Refusal::NotNow),
+        Done(On(0, Step::Claim(0))),
+        NotYet(On(0, Step::Pass(2))),
+        Refused(On(0, Step::Pass(0)), Refusal::NotNow),
+        Done(On(0, Step::Did(0))),
+        Passed(0, 2, 0),
+        Passed(0, 0, 0),
+        Clock(0, 1),
+        Is(1, Some(Condition::Ending)),
     ];
-    let world = play(&rt, rt.alloc(), Limits::default(), rows.as_slice())?;
-    assert_eq!(rt; world.clock(0), 1);
-    assert_eq!(rt; world.condition(1), Some(Condition::Ending));
-    let report = world.report(rt.alloc())?;
-    phasers_are(&rt, &report, [(0, 1)].as_slice());
-    let tasks = [ended(0), refused_with(1, 7), ended(2)];
-    let totals = TotalsLine {
+    const LINES: [Line; 5] = [
+        Line::Phaser(0, 1),
+        Line::Task(0, None),
+        Line::Task(1, Some(7)),
+        Line::Task(2, None),
+        Line::Finish(0, 2),
+    ];
+    const TOTALS: TotalsLine = TotalsLine {
         registered: 3,
         signals: 1,
         passes: 2,
         drops: 1,
         ..NOTHING
     };
-    rest_is(
-        &rt,
-        &report,
-        tasks.as_slice(),
-        [tasks_in(0, 2)].as_slice(),
-        totals,
-    );
-    Ok(())
+    reported(&rt, rt.alloc(), &[&ROWS], &LINES, TOTALS)
 }
 
 /// A turn in which both tasks send a value first.
 fn sending_turn(phase: u32, first: i32, second: i32) -> [Row; 9] {
     [
-        done(on(0, Step::Send(1, 0, first))),
-        done(begin(1, Begun::Next)),
-        done(on(0, Step::Sig(1, None))),
-        done(on(0, Step::Send(2, 0, second))),
-        done(begin(2, Begun::Next)),
-        not_yet(on(0, Step::Pass(1))),
-        done(on(0, Step::Sig(2, None))),
-        passed(0, 2, phase),
-        passed(0, 1, phase),
-    ]
-}
-
-/// Both tasks' ends, and the root's.
-fn senders_end() -> [Row; 7] {
-    [
-        done(begin(1, Begun::End)),
-        done(on(0, Step::Drop(1))),
-        done(within(0, FinishEvent::Ended(1))),
-        done(begin(2, Begun::End)),
-        done(on(0, Step::Drop(2))),
-        done(within(0, FinishEvent::Ended(2))),
-        done(within(0, FinishEvent::Shut)),
+        Done(On(0, Step::Send(1, 0, first))),
+        Done(Begin(1, Begun::Next)),
+        Done(On(0, Step::Sig(1, None))),
+        Done(On(0, Step::Send(2, 0, second))),
+        Done(Begin(2, Begun::Next)),
+        NotYet(On(0, Step::Pass(1))),
+        Done(On(0, Step::Sig(2, None))),
+        Passed(0, 2, phase),
+        Passed(0, 1, phase),
     ]
 }
 
 /// Two workers send for two phases, and the root leaves.
 #[test]
 fn two_senders(rt: HostRuntime) -> Result<(), Refusal> {
-    let pair = named([(0, Mode::SigWait)].as_slice());
-    let rows = [
-        done(on(0, Step::Make(0, Mode::SigWait, one_sum()))),
-        done(begin(0, Begun::Async(1, pair))),
-        done(on(0, Step::Reg(0, 1, Mode::SigWait))),
-        done(within(0, FinishEvent::Spawned(1))),
-        done(begin(0, Begun::Async(2, pair))),
-        done(on(0, Step::Reg(0, 2, Mode::SigWait))),
-        done(within(0, FinishEvent::Spawned(2))),
-        done(begin(0, Begun::End)),
-        done(on(0, Step::Drop(0))),
+    const SPAWNED: [Row; 9] = [
+        Done(MakeSum(0, 0, Mode::SigWait)),
+        Done(Spawn(0, 1, At(0, Mode::SigWait))),
+        Done(On(0, Step::Reg(0, 1, Mode::SigWait))),
+        Done(Within(0, FinishEvent::Spawned(1))),
+        Done(Spawn(0, 2, At(0, Mode::SigWait))),
+        Done(On(0, Step::Reg(0, 2, Mode::SigWait))),
+        Done(Within(0, FinishEvent::Spawned(2))),
+        Done(Begin(0, Begun::End)),
+        Done(On(0, Step::Drop(0))),
     ];
-    let mut world = play(&rt, rt.alloc(), Limits::default(), rows.as_slice())?;
-    go_on(&rt, &mut world, sending_turn(0, 1, 2).as_slice());
-    let seen = [(on(0, Step::Look(1, 0)), Ok(Reply::Value(Look::Value(3))))];
-    go_on(&rt, &mut world, seen.as_slice());
-    go_on(&rt, &mut world, sending_turn(1, 10, 20).as_slice());
-    go_on(&rt, &mut world, senders_end().as_slice());
-    let report = world.report(rt.alloc())?;
-    phasers_are(&rt, &report, [(0, 2)].as_slice());
-    let sums = [sum_is(0, 3), sum_is(1, 30)];
-    assert!(rt;
-        report
-            .phasers
-            .iter()
-            .all(|lines| lines.folds.as_slice() == sums.as_slice())
-    );
-    let tasks = [ended(0), ended(1), ended(2)];
-    let totals = TotalsLine {
+    const SENDERS_END: [Row; 7] = [
+        Done(Begin(1, Begun::End)),
+        Done(On(0, Step::Drop(1))),
+        Done(Within(0, FinishEvent::Ended(1))),
+        Done(Begin(2, Begun::End)),
+        Done(On(0, Step::Drop(2))),
+        Done(Within(0, FinishEvent::Ended(2))),
+        Done(Within(0, FinishEvent::Shut)),
+    ];
+    const LINES: [Line; 7] = [
+        Line::Phaser(0, 2),
+        Line::Sum(0, 0, 3),
+        Line::Sum(0, 1, 30),
+        Line::Task(0, None),
+        Line::Task(1, None),
+        Line::Task(2, None),
+        Line::Finish(0, 2),
+    ];
+    const TOTALS: TotalsLine = TotalsLine {
         registered: 3,
         signals: 4,
         passes: 4,
@@ -371,12 +354,17 @@ fn two_senders(rt: HostRuntime) -> Result<(), Refusal> {
         up: 33,
         down: 0,
     };
-    rest_is(
+    reported(
         &rt,
-        &report,
-        tasks.as_slice(),
-        [tasks_in(0, 2)].as_slice(),
-        totals,
-    );
-    Ok(())
+        rt.alloc(),
+        &[
+            &SPAWNED,
+            &sending_turn(0, 1, 2),
+            &[Saw(0, 1, Look::Value(3))],
+            &sending_turn(1, 10, 20),
+            &SENDERS_END,
+        ],
+        &LINES,
+        TOTALS,
+    )
 }

@@ -1,178 +1,147 @@
 //! Worked examples of limits and of refused acts: each event with its reply.
+use super::Places::*;
+use super::Row::*;
+use super::TableEvent::*;
 use super::*;
 
 /// Hands the rows to a fresh world with these limits.
 fn plays(rt: &impl Abort, alloc: Global, limits: Limits, rows: &[Row]) -> Result<(), Refusal> {
-    let _world = play(rt, alloc, limits, rows)?;
+    let _world = play(rt, alloc, limits, &[rows])?;
     Ok(())
-}
-
-/// A spawn of task 1, on no phaser.
-fn plain_spawn() -> Begun {
-    Begun::Async(1, Phased::none())
 }
 
 /// Limits that the root meets: of acts, tasks, finishes and phasers.
 #[test]
 fn limits_of_the_root(rt: HostRuntime) -> Result<(), Refusal> {
-    let acts = [
-        done(begin(0, Begun::Next)),
-        done(begin(0, Begun::Next)),
-        refused(begin(0, Begun::Next), Refusal::ActsFull),
-        done(refuse(0, Begun::Next, 19)),
-        done(within(0, FinishEvent::Shut)),
+    const ACTS: [Row; 5] = [
+        Done(Begin(0, Begun::Next)),
+        Done(Begin(0, Begun::Next)),
+        Refused(Begin(0, Begun::Next), Refusal::ActsFull),
+        Done(Refuse(0, Tried::Begun(Begun::Next), 19)),
+        Done(Within(0, FinishEvent::Shut)),
     ];
-    plays(
-        &rt,
-        rt.alloc(),
-        Limits {
-            acts: 2,
-            ..Limits::default()
-        },
-        acts.as_slice(),
-    )?;
-    let tasks = [
-        refused(begin(0, plain_spawn()), Refusal::TasksFull),
-        done(refuse(0, plain_spawn(), 17)),
-        done(within(0, FinishEvent::Shut)),
+    const TASKS: [Row; 3] = [
+        Refused(Spawn(0, 1, Nowhere), Refusal::TasksFull),
+        Done(RefuseSpawn(0, 1, Nowhere, 17)),
+        Done(Within(0, FinishEvent::Shut)),
     ];
-    plays(
-        &rt,
-        rt.alloc(),
-        Limits {
-            tasks: 1,
-            ..Limits::default()
-        },
-        tasks.as_slice(),
-    )?;
-    let finishes = [
-        refused(within(1, FinishEvent::Opened(0)), Refusal::FinishesFull),
-        done(WorldEvent::Refuse(0, Tried::Open(1), 18)),
-        done(within(0, FinishEvent::Shut)),
+    const FINISHES: [Row; 3] = [
+        Refused(Within(1, FinishEvent::Opened(0)), Refusal::FinishesFull),
+        Done(Refuse(0, Tried::Open(1), 18)),
+        Done(Within(0, FinishEvent::Shut)),
     ];
-    plays(
-        &rt,
-        rt.alloc(),
-        Limits {
-            finishes: 1,
-            ..Limits::default()
-        },
-        finishes.as_slice(),
-    )?;
-    let another = Tried::New(1, Mode::Sig, Ops::none());
-    let phasers = [
-        done(make(0, 0, Mode::Sig)),
-        refused(make(1, 0, Mode::Sig), Refusal::PhasersFull),
-        done(WorldEvent::Refuse(0, another, 16)),
-        done(on(0, Step::Drop(0))),
-        done(within(0, FinishEvent::Shut)),
+    const PHASERS: [Row; 5] = [
+        Done(Make(0, 0, Mode::Sig)),
+        Refused(Make(1, 0, Mode::Sig), Refusal::PhasersFull),
+        Done(RefuseMake(0, 1, Mode::Sig, 16)),
+        Done(On(0, Step::Drop(0))),
+        Done(Within(0, FinishEvent::Shut)),
     ];
-    plays(
-        &rt,
-        rt.alloc(),
-        Limits {
-            phasers: 1,
-            ..Limits::default()
-        },
-        phasers.as_slice(),
-    )
+    let mut limits = Limits::default();
+    limits.acts = 2;
+    plays(&rt, rt.alloc(), limits, &ACTS)?;
+    let mut limits = Limits::default();
+    limits.tasks = 1;
+    plays(&rt, rt.alloc(), limits, &TASKS)?;
+    let mut limits = Limits::default();
+    limits.finishes = 1;
+    plays(&rt, rt.alloc(), limits, &FINISHES)?;
+    let mut limits = Limits::default();
+    limits.phasers = 1;
+    plays(&rt, rt.alloc(), limits, &PHASERS)
 }
 
 /// Acts that the root is refused: an end inside an open finish, a shut of none, a single without a
 /// phaser, a value for a phaser that isn't there.
 #[test]
 fn refused_acts_of_the_root(rt: HostRuntime) -> Result<(), Refusal> {
-    let end = [
-        done(within(1, FinishEvent::Opened(0))),
-        refused(begin(0, Begun::End), Refusal::FinishOpen),
-        done(refuse(0, Begun::End, 20)),
-        done(within(1, FinishEvent::Shut)),
-        done(within(0, FinishEvent::Shut)),
+    const END: [Row; 5] = [
+        Done(Within(1, FinishEvent::Opened(0))),
+        Refused(Begin(0, Begun::End), Refusal::FinishOpen),
+        Done(Refuse(0, Tried::Begun(Begun::End), 20)),
+        Done(Within(1, FinishEvent::Shut)),
+        Done(Within(0, FinishEvent::Shut)),
     ];
-    plays(&rt, rt.alloc(), Limits::default(), end.as_slice())?;
-    let shut = [
-        refused(begin(0, Begun::Shut), Refusal::NoFinish),
-        done(refuse(0, Begun::Shut, 21)),
-        done(within(0, FinishEvent::Shut)),
+    const SHUT: [Row; 3] = [
+        Refused(Begin(0, Begun::Shut), Refusal::NoFinish),
+        Done(Refuse(0, Tried::Begun(Begun::Shut), 21)),
+        Done(Within(0, FinishEvent::Shut)),
     ];
-    plays(&rt, rt.alloc(), Limits::default(), shut.as_slice())?;
-    let single = [
-        refused(begin(0, Begun::NextSingle(1)), Refusal::OnePhaserOnly),
-        done(refuse(0, Begun::NextSingle(1), 8)),
-        done(within(0, FinishEvent::Shut)),
+    const SINGLE: [Row; 3] = [
+        Refused(Begin(0, Begun::NextSingle(1)), Refusal::OnePhaserOnly),
+        Done(Refuse(0, Tried::Begun(Begun::NextSingle(1)), 8)),
+        Done(Within(0, FinishEvent::Shut)),
     ];
-    plays(&rt, rt.alloc(), Limits::default(), single.as_slice())?;
-    let send = [
-        refused(on(u32::MAX, Step::Send(0, 0, 1)), Refusal::NotRegistered),
-        done(WorldEvent::Refuse(0, Tried::Send(u32::MAX, 0, 1), 1)),
-        done(within(0, FinishEvent::Shut)),
+    const SEND: [Row; 3] = [
+        Refused(On(u32::MAX, Step::Send(0, 0, 1)), Refusal::NotRegistered),
+        Done(Refuse(0, Tried::Send(u32::MAX, 0, 1), 1)),
+        Done(Within(0, FinishEvent::Shut)),
     ];
-    plays(&rt, rt.alloc(), Limits::default(), send.as_slice())
+    for rows in [&END[..], &SHUT[..], &SINGLE[..], &SEND[..]] {
+        plays(&rt, rt.alloc(), Limits::default(), rows)?;
+    }
+    Ok(())
 }
 
 /// A spawn that fails halfway: the child that was never spawned leaves its phaser first.
 #[test]
 fn unborn_child_dropped(rt: HostRuntime) -> Result<(), Refusal> {
-    let first = named([(1, Mode::Wait)].as_slice());
-    let second = named([(0, Mode::Sig), (1, Mode::Sig)].as_slice());
-    let rows = [
-        done(make(0, 0, Mode::SigWait)),
-        done(make(1, 0, Mode::SigWait)),
-        done(begin(0, Begun::Async(1, first))),
-        done(on(1, Step::Reg(0, 1, Mode::Wait))),
-        done(within(0, FinishEvent::Spawned(1))),
-        done(begin(0, Begun::Async(2, second))),
-        done(on(0, Step::Reg(0, 2, Mode::Sig))),
-        refused(on(1, Step::Reg(0, 2, Mode::Sig)), Refusal::RegsFull),
-        done(WorldEvent::Fail(0, 14)),
-        refused(on(0, Step::Drop(0)), Refusal::NotNow),
-        done(on(0, Step::Drop(2))),
-        done(on(0, Step::Drop(0))),
-        done(begin(1, Begun::Next)),
-        not_yet(on(1, Step::Pass(1))),
-        done(on(1, Step::Drop(0))),
-        not_yet(within(0, FinishEvent::Shut)),
-        passed(1, 1, 0),
-        done(begin(1, Begun::End)),
-        done(on(1, Step::Drop(1))),
-        done(within(0, FinishEvent::Ended(1))),
-        done(within(0, FinishEvent::Shut)),
+    const ROWS: [Row; 22] = [
+        Done(Make(0, 0, Mode::SigWait)),
+        Done(Make(1, 0, Mode::SigWait)),
+        Done(Spawn(0, 1, At(1, Mode::Wait))),
+        Done(On(1, Step::Reg(0, 1, Mode::Wait))),
+        Done(Within(0, FinishEvent::Spawned(1))),
+        Done(Spawn(0, 2, AtTwo((0, Mode::Sig), (1, Mode::Sig)))),
+        Done(On(0, Step::Reg(0, 2, Mode::Sig))),
+        Refused(On(1, Step::Reg(0, 2, Mode::Sig)), Refusal::RegsFull),
+        Done(Fail(0, 14)),
+        Refused(On(0, Step::Drop(0)), Refusal::NotNow),
+        Done(On(0, Step::Drop(2))),
+        Done(On(0, Step::Drop(0))),
+        Done(Begin(1, Begun::Next)),
+        NotYet(On(1, Step::Pass(1))),
+        Done(On(1, Step::Drop(0))),
+        NotYet(Within(0, FinishEvent::Shut)),
+        Passed(1, 1, 0),
+        Done(Begin(1, Begun::End)),
+        Done(On(1, Step::Drop(1))),
+        Done(Within(0, FinishEvent::Ended(1))),
+        Done(Within(0, FinishEvent::Shut)),
+        Is(2, None),
     ];
     let two_regs = Limits {
         regs: 2,
         ..Limits::default()
     };
-    let world = play(&rt, rt.alloc(), two_regs, rows.as_slice())?;
-    assert_eq!(rt; world.condition(2), None);
-    Ok(())
+    plays(&rt, rt.alloc(), two_regs, &ROWS)
 }
 
 /// A history that is full in the middle of a turn: what the turn had already made stays.
 #[test]
 fn history_full_in_next(rt: HostRuntime) -> Result<(), Refusal> {
-    let rows = [
-        done(make(0, 0, Mode::SigWait)),
-        done(on(1, Step::Make(0, Mode::SigWait, one_sum()))),
-        done(on(1, Step::Send(0, 0, 7))),
-        done(begin(0, Begun::Next)),
-        done(on(0, Step::Sig(0, None))),
-        done(on(1, Step::Sig(0, None))),
-        passed(0, 0, 0),
-        passed(1, 0, 0),
-        done(begin(0, Begun::Next)),
-        done(on(0, Step::Sig(0, None))),
-        refused(on(1, Step::Sig(0, None)), Refusal::HistoryFull),
-        refused(WorldEvent::Fail(0, 14), Refusal::NotNow),
-        done(WorldEvent::Fail(0, 15)),
-        done(on(0, Step::Drop(0))),
-        done(on(1, Step::Drop(0))),
-        done(within(0, FinishEvent::Shut)),
+    const ROWS: [Row; 17] = [
+        Done(Make(0, 0, Mode::SigWait)),
+        Done(MakeSum(1, 0, Mode::SigWait)),
+        Done(On(1, Step::Send(0, 0, 7))),
+        Done(Begin(0, Begun::Next)),
+        Done(On(0, Step::Sig(0, None))),
+        Done(On(1, Step::Sig(0, None))),
+        Passed(0, 0, 0),
+        Passed(1, 0, 0),
+        Done(Begin(0, Begun::Next)),
+        Done(On(0, Step::Sig(0, None))),
+        Refused(On(1, Step::Sig(0, None)), Refusal::HistoryFull),
+        Refused(Fail(0, 14), Refusal::NotNow),
+        Done(Fail(0, 15)),
+        Done(On(0, Step::Drop(0))),
+        Done(On(1, Step::Drop(0))),
+        Done(Within(0, FinishEvent::Shut)),
+        Clock(0, 1),
     ];
     let five_events = Limits {
         history: 5,
         ..Limits::default()
     };
-    let world = play(&rt, rt.alloc(), five_events, rows.as_slice())?;
-    assert_eq!(rt; world.clock(0), 1);
-    Ok(())
+    plays(&rt, rt.alloc(), five_events, &ROWS)
 }

@@ -1,26 +1,21 @@
 //! What the worked examples are reported as.
+use super::Row::*;
+use super::TableEvent::*;
 use super::*;
 
-/// The report has these phasers, each with so many phases.
-pub(super) fn phasers_are(rt: &impl Abort, report: &WorldReport, expected: &[(u32, u32)]) {
-    assert_eq!(rt; report.phasers.len(), expected.len());
-    for (lines, (phaser, phases)) in report.phasers.iter().zip(expected) {
-        assert_eq!(rt; lines.phaser, *phaser);
-        assert_eq!(rt; lines.phases, *phases);
-    }
-}
-
-/// The report has these tasks and finishes, and these totals.
-pub(super) fn rest_is(
-    rt: &impl Abort,
-    report: &WorldReport,
-    tasks: &[TaskLine],
-    finishes: &[FinishLine],
-    totals: TotalsLine,
-) {
-    assert!(rt; report.tasks.as_slice() == tasks);
-    assert!(rt; report.finishes.as_slice() == finishes);
-    assert_eq!(rt; report.totals, totals);
+/// A line of a report, the totals aside.
+#[derive(Clone, Copy, Debug, PartialEq, Eq)]
+pub(super) enum Line {
+    /// The phaser had so many phases.
+    Phaser(u32, u32),
+    /// The phaser's first accumulator, a sum, came to this in the phase.
+    Sum(u32, u32, i64),
+    /// Something else of the phaser's.
+    Fold(u32, FoldLine),
+    /// The task ended, by the refusal of this number where one is given.
+    Task(u32, Option<u8>),
+    /// So many tasks were spawned in the finish.
+    Finish(u32, u32),
 }
 
 /// No phaser did anything.
@@ -34,80 +29,104 @@ pub(super) const NOTHING: TotalsLine = TotalsLine {
     down: 0,
 };
 
-/// The task ended by itself.
-pub(super) fn ended(task: u32) -> TaskLine {
-    TaskLine {
-        task,
-        refused: None,
+fn fold_of(phaser: u32, line: FoldLine) -> Line {
+    match line {
+        FoldLine {
+            phase,
+            acc: 0,
+            value: Look::Value(sum),
+        } => Line::Sum(phaser, phase, sum),
+        other => Line::Fold(phaser, other),
     }
 }
 
-/// The task ended by this refusal.
-pub(super) fn refused_with(task: u32, number: u8) -> TaskLine {
-    TaskLine {
-        task,
-        refused: Some(number),
+/// Adds the lines of a phaser.
+fn add_phaser(list: &mut Vec<Line>, lines: &PhaserLines) -> Result<(), Refusal> {
+    list.push(Line::Phaser(lines.phaser, lines.phases))?;
+    for fold in &lines.folds {
+        list.push(fold_of(lines.phaser, *fold))?;
     }
+    Ok(())
 }
 
-/// So many tasks were spawned in the finish.
-pub(super) fn tasks_in(finish: u32, tasks: u32) -> FinishLine {
-    FinishLine { finish, tasks }
+/// Adds all lines but the totals.
+fn add_lines(list: &mut Vec<Line>, report: &WorldReport) -> Result<(), Refusal> {
+    for lines in &report.phasers {
+        add_phaser(list, lines)?;
+    }
+    for line in &report.tasks {
+        list.push(Line::Task(line.task, line.refused))?;
+    }
+    for line in &report.finishes {
+        list.push(Line::Finish(line.finish, line.tasks))?;
+    }
+    Ok(())
 }
 
-/// What the one accumulator, a sum, came to in a phase.
-pub(super) fn sum_is(phase: u32, sum: i64) -> FoldLine {
-    FoldLine {
-        phase,
-        acc: 0,
-        value: Look::Value(sum),
-    }
+/// The report has these lines, the totals aside.
+fn lines_are(
+    rt: &impl Abort,
+    alloc: Global,
+    report: &WorldReport,
+    expected: &[Line],
+) -> Result<(), Refusal> {
+    let mut list = Vec::new(alloc);
+    add_lines(&mut list, report)?;
+    assert_eq!(rt; list.as_slice(), expected);
+    Ok(())
+}
+
+/// The world is reported so.
+fn is_reported(
+    rt: &impl Abort,
+    alloc: Global,
+    world: &World,
+    lines: &[Line],
+    totals: TotalsLine,
+) -> Result<(), Refusal> {
+    let report = world.report(alloc)?;
+    assert_eq!(rt; report.totals, totals);
+    lines_are(rt, alloc, &report, lines)
+}
+
+/// The world that the tables leave, at the default limits, is reported so.
+pub(super) fn reported(
+    rt: &impl Abort,
+    alloc: Global,
+    tables: &[&[Row]],
+    lines: &[Line],
+    totals: TotalsLine,
+) -> Result<(), Refusal> {
+    let world = play(rt, alloc, Limits::default(), tables)?;
+    is_reported(rt, alloc, &world, lines, totals)
 }
 
 /// Nothing was done yet: the root stands there, and finish 0.
 #[test]
 fn a_fresh_world_is_reported(rt: HostRuntime) -> Result<(), Refusal> {
-    let world = fresh(rt.alloc(), Limits::default())?;
-    let report = world.report(rt.alloc())?;
-    phasers_are(&rt, &report, [].as_slice());
-    rest_is(
-        &rt,
-        &report,
-        [ended(0)].as_slice(),
-        [tasks_in(0, 0)].as_slice(),
-        NOTHING,
-    );
-    Ok(())
+    const LINES: [Line; 2] = [Line::Task(0, None), Line::Finish(0, 0)];
+    reported(&rt, rt.alloc(), &[], &LINES, NOTHING)
 }
 
 /// One task alone takes a turn, and ends.
 #[test]
 fn smallest_trace(rt: HostRuntime) -> Result<(), Refusal> {
-    let rows = [
-        done(make(0, 0, Mode::SigWait)),
-        done(begin(0, Begun::Next)),
-        done(on(0, Step::Sig(0, None))),
-        passed(0, 0, 0),
-        done(begin(0, Begun::End)),
-        done(on(0, Step::Drop(0))),
-        done(within(0, FinishEvent::Shut)),
+    const ROWS: [Row; 7] = [
+        Done(Make(0, 0, Mode::SigWait)),
+        Done(Begin(0, Begun::Next)),
+        Done(On(0, Step::Sig(0, None))),
+        Passed(0, 0, 0),
+        Done(Begin(0, Begun::End)),
+        Done(On(0, Step::Drop(0))),
+        Done(Within(0, FinishEvent::Shut)),
     ];
-    let world = play(&rt, rt.alloc(), Limits::default(), rows.as_slice())?;
-    let report = world.report(rt.alloc())?;
-    phasers_are(&rt, &report, [(0, 1)].as_slice());
-    let totals = TotalsLine {
+    const LINES: [Line; 3] = [Line::Phaser(0, 1), Line::Task(0, None), Line::Finish(0, 0)];
+    const TOTALS: TotalsLine = TotalsLine {
         registered: 1,
         signals: 1,
         passes: 1,
         drops: 1,
         ..NOTHING
     };
-    rest_is(
-        &rt,
-        &report,
-        [ended(0)].as_slice(),
-        [tasks_in(0, 0)].as_slice(),
-        totals,
-    );
-    Ok(())
+    reported(&rt, rt.alloc(), &[&ROWS], &LINES, TOTALS)
 }
