@@ -3,41 +3,70 @@ ghost use Rattle.std.specs.Prelude.{◌<◌};
 
 use super::*;
 use phase_modes::Refusal;
+use std::alloc::Global;
+use std::process::Abort;
 use std::test::Fail;
 
 const DONE: Result<(), Refusal> = Ok(());
 
 const NOT_NOW: Result<(), Refusal> = Err(Refusal::NotNow);
 
+const FULL: Result<(), Refusal> = Err(Refusal::TasksFull);
+
+/// Where a finish stands: not open, or open with tasks that run, or with none.
+#[derive(Clone, Copy, Debug, PartialEq, Eq)]
+enum Standing {
+    NotOpen,
+    Running,
+    Idle,
+}
+
+fn stands(finish: &FinishState) -> Option<Standing> {
+    match (finish.is_open(), finish.all_ended(), finish.may_shut()) {
+        (false, true, false) => Some(Standing::NotOpen),
+        (true, false, false) => Some(Standing::Running),
+        (true, true, true) => Some(Standing::Idle),
+        _ => None,
+    }
+}
+
+/// A call, its reply, and where the finish stands then.
+type Row = (FinishEvent, Result<(), Refusal>, Standing);
+
+fn answers(rt: &impl Abort, finish: &mut FinishState, rows: &[Row]) {
+    for (call, reply, expected) in rows {
+        assert_eq!(rt; make(finish, *call), *reply, "at {call:?}");
+        assert_eq!(rt; stands(finish), Some(*expected), "after {call:?}");
+    }
+}
+
+/// The finish is for so many tasks, and has this history.
+fn holds(rt: &impl Abort, finish: &FinishState, tasks: u32, events: &[FinishEvent]) {
+    assert_eq!(rt; finish.tasks(), tasks);
+    assert!(rt; finish.history() == events);
+}
+
 #[test]
 fn shut_waits_for_each_task(rt: HostRuntime) -> Result<(), Fail> {
-    let mut finish = FinishState::new(rt.alloc(), 256)?;
-    assert_eq!(rt; finish.tasks(), 256);
-    assert_eq!(rt; finish.spawned(1), NOT_NOW);
-    assert_eq!(rt; finish.shut(), NOT_NOW);
-    assert!(rt; !finish.is_open());
-    assert_eq!(rt; finish.opened(0), DONE);
-    assert!(rt; finish.is_open());
-    assert_eq!(rt; finish.spawned(1), DONE);
-    assert_eq!(rt; finish.spawned(2), DONE);
-    assert_eq!(rt; finish.spawned(1), NOT_NOW);
-    assert_eq!(rt; finish.spawned(256), Err(Refusal::TasksFull));
-    assert_eq!(rt; finish.ended(3), NOT_NOW);
-    assert_eq!(rt; finish.shut(), NOT_NOW);
-    assert_eq!(rt; finish.ended(1), DONE);
-    assert_eq!(rt; finish.ended(1), NOT_NOW);
-    assert!(rt; !finish.all_ended());
-    assert!(rt; !finish.may_shut());
-    assert_eq!(rt; finish.ended(2), DONE);
-    assert!(rt; finish.all_ended());
-    assert!(rt; finish.may_shut());
-    assert_eq!(rt; finish.shut(), DONE);
-    assert!(rt; !finish.is_open());
-    assert!(rt; !finish.may_shut());
-    assert_eq!(rt; finish.spawned(3), NOT_NOW);
-    assert_eq!(rt; finish.ended(2), NOT_NOW);
-    assert_eq!(rt; finish.opened(0), NOT_NOW);
-    let all = [
+    const ROWS: [Row; 16] = [
+        (FinishEvent::Spawned(1), NOT_NOW, Standing::NotOpen),
+        (FinishEvent::Shut, NOT_NOW, Standing::NotOpen),
+        (FinishEvent::Opened(0), DONE, Standing::Idle),
+        (FinishEvent::Spawned(1), DONE, Standing::Running),
+        (FinishEvent::Spawned(2), DONE, Standing::Running),
+        (FinishEvent::Spawned(1), NOT_NOW, Standing::Running),
+        (FinishEvent::Spawned(256), FULL, Standing::Running),
+        (FinishEvent::Ended(3), NOT_NOW, Standing::Running),
+        (FinishEvent::Shut, NOT_NOW, Standing::Running),
+        (FinishEvent::Ended(1), DONE, Standing::Running),
+        (FinishEvent::Ended(1), NOT_NOW, Standing::Running),
+        (FinishEvent::Ended(2), DONE, Standing::Idle),
+        (FinishEvent::Shut, DONE, Standing::NotOpen),
+        (FinishEvent::Spawned(3), NOT_NOW, Standing::NotOpen),
+        (FinishEvent::Ended(2), NOT_NOW, Standing::NotOpen),
+        (FinishEvent::Opened(0), NOT_NOW, Standing::NotOpen),
+    ];
+    const ALL: [FinishEvent; 6] = [
         FinishEvent::Opened(0),
         FinishEvent::Spawned(1),
         FinishEvent::Spawned(2),
@@ -45,19 +74,30 @@ fn shut_waits_for_each_task(rt: HostRuntime) -> Result<(), Fail> {
         FinishEvent::Ended(2),
         FinishEvent::Shut,
     ];
-    assert!(rt; finish.history() == all.as_slice());
+    let mut finish = FinishState::new(rt.alloc(), 256)?;
+    answers(&rt, &mut finish, ROWS.as_slice());
+    holds(&rt, &finish, 256, ALL.as_slice());
     Ok(())
 }
 
 #[test]
 fn owner_has_no_limit(rt: HostRuntime) -> Result<(), Fail> {
+    const ROWS: [Row; 5] = [
+        (FinishEvent::Opened(4_000_000_000), DONE, Standing::Idle),
+        (FinishEvent::Spawned(1), FULL, Standing::Idle),
+        (FinishEvent::Spawned(0), DONE, Standing::Running),
+        (FinishEvent::Ended(0), DONE, Standing::Idle),
+        (FinishEvent::Shut, DONE, Standing::NotOpen),
+    ];
+    const ALL: [FinishEvent; 4] = [
+        FinishEvent::Opened(4_000_000_000),
+        FinishEvent::Spawned(0),
+        FinishEvent::Ended(0),
+        FinishEvent::Shut,
+    ];
     let mut finish = FinishState::new(rt.alloc(), 1)?;
-    assert_eq!(rt; finish.opened(4_000_000_000), DONE);
-    assert_eq!(rt; finish.spawned(1), Err(Refusal::TasksFull));
-    assert_eq!(rt; finish.spawned(0), DONE);
-    assert_eq!(rt; finish.ended(0), DONE);
-    assert_eq!(rt; finish.shut(), DONE);
-    assert_eq!(rt; finish.history().len(), 4);
+    answers(&rt, &mut finish, ROWS.as_slice());
+    holds(&rt, &finish, 1, ALL.as_slice());
     Ok(())
 }
 
@@ -148,26 +188,48 @@ impl Counts {
     }
 }
 
+/// Makes the call on the finish, and on the events by the plain function, and compares.
+fn is_answered_alike(
+    rt: &impl Abort,
+    finish: &mut FinishState,
+    events: &mut Vec<FinishEvent>,
+    call: FinishEvent,
+) -> Result<Result<(), Refusal>, Fail> {
+    let may_shut = allowed(events, 8, FinishEvent::Shut);
+    assert_eq!(rt; finish.may_shut(), may_shut, "before {call:?}");
+    let expected = reply_by(events, 8, call);
+    assert_eq!(rt; make(finish, call), expected, "at {call:?}");
+    if expected.is_ok() {
+        events.push(call)?;
+    }
+    Ok(expected)
+}
+
+/// Sixty calls on a new finish. They are counted.
+fn sixty_calls(
+    rt: &impl Abort,
+    alloc: Global,
+    seed: &mut u32,
+    counts: &mut Counts,
+) -> Result<(), Fail> {
+    let mut finish = FinishState::new(alloc, 8)?;
+    let mut events = Vec::new(alloc);
+    for _call in 0..60 {
+        *seed = next(*seed);
+        let call = call_of(*seed);
+        let reply = is_answered_alike(rt, &mut finish, &mut events, call)?;
+        counts.add(call, reply);
+    }
+    holds(rt, &finish, 8, &events);
+    Ok(())
+}
+
 #[test]
 fn side_by_side_with_the_plain_function(rt: HostRuntime) -> Result<(), Fail> {
     let mut seed = 20_241;
     let mut counts = Counts::default();
     for _round in 0..40 {
-        let mut finish = FinishState::new(rt.alloc(), 8)?;
-        let mut events = Vec::new(rt.alloc());
-        for _call in 0..60 {
-            seed = next(seed);
-            let call = call_of(seed);
-            let may_shut = allowed(&events, 8, FinishEvent::Shut);
-            assert_eq!(rt; finish.may_shut(), may_shut, "before {call:?}");
-            let expected = reply_by(&events, 8, call);
-            assert_eq!(rt; make(&mut finish, call), expected, "at {call:?}");
-            if expected.is_ok() {
-                events.push(call)?;
-            }
-            counts.add(call, expected);
-        }
-        assert!(rt; finish.history() == events.as_slice());
+        sixty_calls(&rt, rt.alloc(), &mut seed, &mut counts)?;
     }
     for kind in 0..4 {
         assert!(rt; counts.done[kind] > 0, "none done of kind {kind}");
