@@ -7,6 +7,10 @@ use std::process::Abort;
 
 mod programs;
 
+fn is_written(rt: &impl Abort, bytes: &[u8], text: &str) {
+    assert_eq!(rt; bytes, text.as_bytes());
+}
+
 /// Runs the text by the picks, and compares how that ends, the lines, and what is reported.
 fn check(
     rt: &impl Abort,
@@ -29,8 +33,8 @@ fn check(
         &mut nowhere,
     );
     assert_eq!(rt; ended, status, "{text}");
-    assert_eq!(rt; out.as_slice(), lines.as_bytes(), "{text}");
-    assert_eq!(rt; reported.as_slice(), faults.as_bytes(), "{text}");
+    is_written(rt, &out, lines);
+    is_written(rt, &reported, faults);
 }
 
 /// The text's run by the picks is reported by these lines.
@@ -93,6 +97,13 @@ const SMALLEST_TRACE: &str = "{\"events\":[[1,\"p\",0,\"make\",0,\"SIG_WAIT\",[]
     \"limits\":{\"acts\":4096,\"finishes\":64,\"history\":4096,\"phasers\":64,\"regs\":256,\
     \"tasks\":256},\"version\":1}\n";
 
+fn is_trace(rt: &impl Abort, trace: Option<&Vec<u8>>, text: &str) {
+    match trace {
+        Some(trace) => is_written(rt, trace, text),
+        None => assert!(rt; false, "no trace"),
+    }
+}
+
 #[test]
 fn smallest_trace(rt: HostRuntime) {
     let mut out = Vec::new(rt.alloc());
@@ -105,8 +116,8 @@ fn smallest_trace(rt: HostRuntime) {
         &mut trace_out,
     );
     assert_eq!(rt; done, Ok(()));
-    assert_eq!(rt; out.as_slice(), SMALLEST_REPORT.as_bytes());
-    assert!(rt; matches!(&trace_out, Some(trace) if trace.as_slice() == SMALLEST_TRACE.as_bytes()));
+    is_written(&rt, &out, SMALLEST_REPORT);
+    is_trace(&rt, trace_out.as_ref(), SMALLEST_TRACE);
 }
 
 // A trace that can't be written is a fault, and then there is no report.
@@ -140,10 +151,13 @@ fn bad_text(rt: HostRuntime) {
         "",
         "refused 24 BadText at 2\n",
     );
+}
+
+#[test]
+fn a_text_that_is_refused_has_no_trace(rt: HostRuntime) {
     let mut out = Vec::new(rt.alloc());
     let mut trace_out = Some(Vec::new(rt.alloc()));
-    let refused = Err(Failure::Refused(Refusal::BadText(0)));
     let answer = schedule_bytes(rt.alloc(), b"7", &[], &mut out, &mut trace_out);
-    assert_eq!(rt; answer, refused);
-    assert!(rt; matches!(&trace_out, Some(trace) if trace.is_empty()));
+    assert_eq!(rt; answer, Err(Failure::Refused(Refusal::BadText(0))));
+    is_trace(&rt, trace_out.as_ref(), "");
 }

@@ -1,5 +1,5 @@
 //! Texts by their bytes, and programs that are stepped through.
-use job_script::{Act, Answer, Program, read_program};
+use job_script::{Act, Answer, Program, ScriptBody, read_program};
 use phase_model::Look;
 use phase_modes::{Limits, Mode, Pair, Refusal};
 use std::alloc::Global;
@@ -13,6 +13,12 @@ fn place_of(alloc: Global, text: &str) -> Result<Option<u64>, Fail> {
         Err(Refusal::BadText(place)) => Ok(Some(place)),
         Err(_) => Err(Fail::from("memory")),
     }
+}
+
+/// The place of the first fault of a program of this one act.
+fn place_alone(alloc: Global, act: &str) -> Result<Option<u64>, Fail> {
+    let text = format!(in alloc; "{{\"main\":[{act}]}}")?;
+    place_of(alloc, text.as_str())
 }
 
 /// The place of the first fault of a program whose second act this is; the third is none.
@@ -31,13 +37,12 @@ fn all_at(rt: &impl Abort, alloc: Global, texts: &[&str], place: Option<u64>) ->
 
 #[test]
 fn outer_objects(rt: HostRuntime) -> Result<(), Fail> {
-    let good = [
+    const GOOD: [&str; 3] = [
         r#"{"main":[]}"#,
         r#"{"limits":{},"main":[]}"#,
         r#"{"main":[["next"]],"limits":{"acts":1,"finishes":1,"history":4,"phasers":1,"regs":1,"tasks":1}}"#,
     ];
-    all_at(&rt, rt.alloc(), good.as_slice(), None)?;
-    let bad = [
+    const BAD: [&str; 10] = [
         "",
         "{",
         "{}",
@@ -49,12 +54,13 @@ fn outer_objects(rt: HostRuntime) -> Result<(), Fail> {
         r#"{"main":[],"acts":[]}"#,
         r#"{"main":[],"main"}"#,
     ];
-    all_at(&rt, rt.alloc(), bad.as_slice(), Some(0))
+    all_at(&rt, rt.alloc(), GOOD.as_slice(), None)?;
+    all_at(&rt, rt.alloc(), BAD.as_slice(), Some(0))
 }
 
 #[test]
 fn acts_of_the_form(rt: HostRuntime) -> Result<(), Fail> {
-    let acts = [
+    const ACTS: [&str; 14] = [
         r#"["new","p","SINGLE",["sum","least","greatest","sum"]]"#,
         r#"["new","Aa_09","WAIT",[]]"#,
         r#"["async",[],[]]"#,
@@ -70,16 +76,15 @@ fn acts_of_the_form(rt: HostRuntime) -> Result<(), Fail> {
         r#"["look","p",255]"#,
         r#"["repeat",1000,[["next"]]]"#,
     ];
-    for act in acts {
-        let text = format!(in rt.alloc(); "{{\"main\":[{act}]}}")?;
-        assert_eq!(rt; place_of(rt.alloc(), text.as_str())?, None, "{act}");
+    for act in ACTS {
+        assert_eq!(rt; place_alone(rt.alloc(), act)?, None, "{act}");
     }
     Ok(())
 }
 
 #[test]
 fn items_that_are_no_acts(rt: HostRuntime) -> Result<(), Fail> {
-    let acts = [
+    const ITEMS: [&str; 22] = [
         "7",
         "[]",
         r#"["jump"]"#,
@@ -102,60 +107,68 @@ fn items_that_are_no_acts(rt: HostRuntime) -> Result<(), Fail> {
         r#"["look","p"]"#,
         r#"["repeat",1001,[]]"#,
         r#"["repeat",-1,[]]"#,
-        r#"["repeat",1,["next"]]"#,
     ];
-    for act in acts {
-        let wanted = if act == r#"["repeat",1,["next"]]"# {
-            3
-        } else {
-            2
-        };
-        assert_eq!(rt; place_beside(rt.alloc(), act)?, Some(wanted));
+    for item in ITEMS {
+        assert_eq!(rt; place_beside(rt.alloc(), item)?, Some(2), "{item}");
     }
+    assert_eq!(rt;
+        place_beside(rt.alloc(), r#"["repeat",1,["next"]]"#)?,
+        Some(3)
+    );
     Ok(())
 }
 
+const SIXTEEN: &str =
+    r#"["p","SIG"],["p","SIG"],["p","SIG"],["p","SIG"],["p","SIG"],["p","SIG"],["p","SIG"],["p","SIG"],["p","SIG"],["p","SIG"],["p","SIG"],["p","SIG"],["p","SIG"],["p","SIG"],["p","SIG"],["p","SIG"]"#;
+
 #[test]
 fn a_spawn_on_seventeen_phasers(rt: HostRuntime) -> Result<(), Fail> {
-    let sixteen =
-        r#"["p","SIG"],["p","SIG"],["p","SIG"],["p","SIG"],["p","SIG"],["p","SIG"],["p","SIG"],["p","SIG"],["p","SIG"],["p","SIG"],["p","SIG"],["p","SIG"],["p","SIG"],["p","SIG"],["p","SIG"],["p","SIG"]"#;
-    let most = format!(in rt.alloc(); "{{\"main\":[[\"async\",[{sixteen}],[]]]}}")?;
-    assert_eq!(rt; place_of(rt.alloc(), most.as_str())?, None);
-    let past = format!(in rt.alloc(); "{{\"main\":[[\"async\",[{sixteen},[\"p\",\"SIG\"]],[]]]}}")?;
-    assert_eq!(rt; place_of(rt.alloc(), past.as_str())?, Some(1));
+    let most = format!(in rt.alloc(); "[\"async\",[{SIXTEEN}],[]]")?;
+    assert_eq!(rt; place_alone(rt.alloc(), most.as_str())?, None);
+    let past = format!(in rt.alloc(); "[\"async\",[{SIXTEEN},[\"p\",\"SIG\"]],[]]")?;
+    assert_eq!(rt; place_alone(rt.alloc(), past.as_str())?, Some(1));
     Ok(())
+}
+
+/// The place of the first fault of a text of two hundred opening brackets.
+fn place_in_brackets(alloc: Global) -> Result<Option<u64>, Fail> {
+    let mut brackets = String::new(alloc);
+    for _ in 0..200 {
+        brackets.push_str("[")?;
+    }
+    place_of(alloc, brackets.as_str())
 }
 
 #[test]
 fn oversized_texts(rt: HostRuntime) -> Result<(), Fail> {
-    let million = r#"{"main":[["repeat",1000,[["repeat",1000,[["next"]]]]]]}"#;
-    assert_eq!(rt; place_of(rt.alloc(), million)?, Some(1));
-    let mut brackets = String::new(rt.alloc());
-    for _ in 0..200 {
-        brackets.push_str("[")?;
-    }
-    assert_eq!(rt; place_of(rt.alloc(), brackets.as_str())?, Some(0));
-    let name = r#"{"main":[["new","aaaaaaaaaaaaaaaaaaaaaaaaaaaaaaaaa","SIG",[]]]}"#;
-    assert_eq!(rt; place_of(rt.alloc(), name)?, Some(1));
+    const MILLION_ACTS: &str = r#"{"main":[["repeat",1000,[["repeat",1000,[["next"]]]]]]}"#;
+    const LONG_NAME: &str = r#"{"main":[["new","aaaaaaaaaaaaaaaaaaaaaaaaaaaaaaaaa","SIG",[]]]}"#;
+    assert_eq!(rt; place_of(rt.alloc(), MILLION_ACTS)?, Some(1));
+    assert_eq!(rt; place_in_brackets(rt.alloc())?, Some(0));
+    assert_eq!(rt; place_of(rt.alloc(), LONG_NAME)?, Some(1));
     Ok(())
 }
 
 #[test]
 fn acts_are_counted_before_those_inside(rt: HostRuntime) -> Result<(), Fail> {
-    let inside = r#"{"main":[["new","p","SIG",[]],["async",[["p","SIG"]],[["next"],["wait",1]]]]}"#;
-    assert_eq!(rt; place_of(rt.alloc(), inside)?, Some(4));
-    let after = r#"{"main":[["repeat",2,[["next"],["wait"]]],["wait",1]]}"#;
-    assert_eq!(rt; place_of(rt.alloc(), after)?, Some(4));
+    const INSIDE: &str =
+        r#"{"main":[["new","p","SIG",[]],["async",[["p","SIG"]],[["next"],["wait",1]]]]}"#;
+    const AFTER: &str = r#"{"main":[["repeat",2,[["next"],["wait"]]],["wait",1]]}"#;
+    assert_eq!(rt; place_of(rt.alloc(), INSIDE)?, Some(4));
+    assert_eq!(rt; place_of(rt.alloc(), AFTER)?, Some(4));
     Ok(())
+}
+
+fn program_of(alloc: Global, text: &str) -> Result<Program, Fail> {
+    match read_program(alloc, text.as_bytes()) {
+        Ok(program) => Ok(program),
+        Err(_) => Err(Fail::from("a program")),
+    }
 }
 
 #[test]
 fn limits_of_a_program(rt: HostRuntime) -> Result<(), Fail> {
-    let text = r#"{"limits":{"acts":2},"main":[["next"],["next"],["next"]]}"#;
-    let program = read_program(rt.alloc(), text.as_bytes())
-        .ok()
-        .ok_or("a program")?;
-    let limits = Limits {
+    const LIMITS: Limits = Limits {
         acts: 2,
         finishes: 64,
         history: 4096,
@@ -163,79 +176,154 @@ fn limits_of_a_program(rt: HostRuntime) -> Result<(), Fail> {
         regs: 256,
         tasks: 256,
     };
-    assert_eq!(rt; program.limits(), limits);
+    let text = r#"{"limits":{"acts":2},"main":[["next"],["next"],["next"]]}"#;
+    let program = program_of(rt.alloc(), text)?;
+    assert_eq!(rt; program.limits(), LIMITS);
+    Ok(())
+}
+
+/// An act as a table writes it: without a child's body and phasers, and a phaser's operators.
+#[derive(Clone, Copy, Debug, PartialEq, Eq)]
+enum Shown {
+    Async,
+    AsyncAll,
+    OpenFinish,
+    ShutFinish,
+    New(Mode),
+    Signal,
+    Wait,
+    Next,
+    NextSingle(u32),
+    Send(u32, u8, i32),
+    Look(u32, u8),
+    End,
+}
+
+fn as_shown<B: Drop>(act: &Act<B>) -> Shown {
+    match act {
+        Act::Async(..) => Shown::Async,
+        Act::AsyncAll(_) => Shown::AsyncAll,
+        Act::OpenFinish => Shown::OpenFinish,
+        Act::ShutFinish => Shown::ShutFinish,
+        Act::New(mode, _) => Shown::New(*mode),
+        Act::Signal => Shown::Signal,
+        Act::Wait => Shown::Wait,
+        Act::Next => Shown::Next,
+        Act::NextSingle(number) => Shown::NextSingle(*number),
+        Act::Send(phaser, accumulator, value) => Shown::Send(*phaser, *accumulator, *value),
+        Act::Look(phaser, accumulator) => Shown::Look(*phaser, *accumulator),
+        Act::End => Shown::End,
+    }
+}
+
+/// What the task is to do after this answer.
+fn step(task: &mut ScriptBody<'_>, answer: Answer) -> Option<Shown> {
+    match task.step(answer) {
+        Ok(act) => Some(as_shown(&act)),
+        Err(_) => None,
+    }
+}
+
+/// An answer, and the act that follows it.
+type Row = (Answer, Shown);
+
+fn steps(rt: &impl Abort, task: &mut ScriptBody<'_>, rows: &[Row]) {
+    for (answer, act) in rows {
+        assert_eq!(rt; step(task, *answer), Some(*act));
+    }
+}
+
+/// The first task of the text's program makes these acts.
+fn first_task_does(rt: &impl Abort, alloc: Global, text: &str, rows: &[Row]) -> Result<(), Fail> {
+    let program = program_of(alloc, text)?;
+    let mut root = program.root();
+    steps(rt, &mut root, rows);
     Ok(())
 }
 
 #[test]
 fn each_act_in_order(rt: HostRuntime) -> Result<(), Fail> {
-    let text =
+    const TEXT: &str =
         r#"{"main":[["new","p","SIG_WAIT",["sum"]],["open"],["signal"],["wait"],["next"],["single",7],["send","p",1,-2],["look","p",3],["async_all",[]],["shut"]]}"#;
-    let program = read_program(rt.alloc(), text.as_bytes())
-        .ok()
-        .ok_or("a program")?;
-    let mut root = program.root();
-    assert!(rt; matches!(root.step(Answer::Started), Ok(Act::New(Mode::SigWait, _))));
-    assert!(rt; matches!(root.step(Answer::Made(5)), Ok(Act::OpenFinish)));
-    assert!(rt; matches!(root.step(Answer::Done), Ok(Act::Signal)));
-    assert!(rt; matches!(root.step(Answer::Done), Ok(Act::Wait)));
-    assert!(rt; matches!(root.step(Answer::Done), Ok(Act::Next)));
-    assert!(rt; matches!(root.step(Answer::Done), Ok(Act::NextSingle(7))));
-    assert!(rt; matches!(root.step(Answer::Done), Ok(Act::Send(5, 1, -2))));
-    assert!(rt; matches!(root.step(Answer::Done), Ok(Act::Look(5, 3))));
-    let seen = Answer::Saw(Look::Value(1));
-    assert!(rt; matches!(root.step(seen), Ok(Act::AsyncAll(_))));
-    assert!(rt; matches!(root.step(Answer::Spawned(1)), Ok(Act::ShutFinish)));
-    assert!(rt; matches!(root.step(Answer::Done), Ok(Act::End)));
-    assert!(rt; matches!(root.step(Answer::Done), Ok(Act::End)));
-    Ok(())
+    const ROWS: [Row; 12] = [
+        (Answer::Started, Shown::New(Mode::SigWait)),
+        (Answer::Made(5), Shown::OpenFinish),
+        (Answer::Done, Shown::Signal),
+        (Answer::Done, Shown::Wait),
+        (Answer::Done, Shown::Next),
+        (Answer::Done, Shown::NextSingle(7)),
+        (Answer::Done, Shown::Send(5, 1, -2)),
+        (Answer::Done, Shown::Look(5, 3)),
+        (Answer::Saw(Look::Value(1)), Shown::AsyncAll),
+        (Answer::Spawned(1), Shown::ShutFinish),
+        (Answer::Done, Shown::End),
+        (Answer::Done, Shown::End),
+    ];
+    first_task_does(&rt, rt.alloc(), TEXT, ROWS.as_slice())
 }
 
 #[test]
 fn repeats_in_repeats(rt: HostRuntime) -> Result<(), Fail> {
-    let text =
+    const TEXT: &str =
         r#"{"main":[["repeat",2,[["send","q",0,7],["repeat",0,[["wait"]]],["repeat",2,[["next"]]]]],["signal"]]}"#;
-    let program = read_program(rt.alloc(), text.as_bytes())
-        .ok()
-        .ok_or("a program")?;
-    let mut root = program.root();
-    for _ in 0..2 {
-        assert!(rt; matches!(root.step(Answer::Done), Ok(Act::Send(4_294_967_295, 0, 7))));
-        assert!(rt; matches!(root.step(Answer::Done), Ok(Act::Next)));
-        assert!(rt; matches!(root.step(Answer::Done), Ok(Act::Next)));
+    const ROWS: [Row; 8] = [
+        (Answer::Done, Shown::Send(4_294_967_295, 0, 7)),
+        (Answer::Done, Shown::Next),
+        (Answer::Done, Shown::Next),
+        (Answer::Done, Shown::Send(4_294_967_295, 0, 7)),
+        (Answer::Done, Shown::Next),
+        (Answer::Done, Shown::Next),
+        (Answer::Done, Shown::Signal),
+        (Answer::Done, Shown::End),
+    ];
+    first_task_does(&rt, rt.alloc(), TEXT, ROWS.as_slice())
+}
+
+/// The child that the task spawns on these phasers, once its new phaser has the number 5.
+fn spawned<'p>(
+    rt: &impl Abort,
+    task: &mut ScriptBody<'p>,
+    phasers: &[Pair],
+) -> Result<ScriptBody<'p>, Fail> {
+    match task.step(Answer::Made(5)) {
+        Ok(Act::Async(child, named)) => {
+            assert_eq!(rt; named.as_slice(), phasers);
+            Ok(child)
+        }
+        _ => Err(Fail::from("a spawn")),
     }
-    assert!(rt; matches!(root.step(Answer::Done), Ok(Act::Signal)));
-    assert!(rt; matches!(root.step(Answer::Done), Ok(Act::End)));
-    Ok(())
 }
 
 #[test]
 fn names_are_a_tasks_own(rt: HostRuntime) -> Result<(), Fail> {
-    let text =
+    const TEXT: &str =
         r#"{"main":[["new","p","SIG",[]],["async",[["p","SIG"],["q","WAIT"]],[["send","p",0,1],["new","p","SIG",[]],["send","p",0,2]]],["new","p","SIG",[]],["send","p",0,3]]}"#;
-    let program = read_program(rt.alloc(), text.as_bytes())
-        .ok()
-        .ok_or("a program")?;
+    const NAMED: [Pair; 2] = [
+        Pair {
+            phaser: 5,
+            mode: Mode::Sig,
+        },
+        Pair {
+            phaser: u32::MAX,
+            mode: Mode::Wait,
+        },
+    ];
+    const BEFORE: [Row; 1] = [(Answer::Started, Shown::New(Mode::Sig))];
+    const AFTER: [Row; 2] = [
+        (Answer::Spawned(1), Shown::New(Mode::Sig)),
+        (Answer::Made(6), Shown::Send(6, 0, 3)),
+    ];
+    const CHILD: [Row; 4] = [
+        (Answer::Started, Shown::Send(5, 0, 1)),
+        (Answer::Done, Shown::New(Mode::Sig)),
+        (Answer::Made(9), Shown::Send(9, 0, 2)),
+        (Answer::Done, Shown::End),
+    ];
+    let program = program_of(rt.alloc(), TEXT)?;
     let mut root = program.root();
-    assert!(rt; matches!(root.step(Answer::Started), Ok(Act::New(..))));
-    let (mut child, phasers) = match root.step(Answer::Made(5)) {
-        Ok(Act::Async(child, phasers)) => (child, phasers),
-        _ => return Err("a spawn")?,
-    };
-    let first = Pair {
-        phaser: 5,
-        mode: Mode::Sig,
-    };
-    let second = Pair {
-        phaser: u32::MAX,
-        mode: Mode::Wait,
-    };
-    assert!(rt; phasers.as_slice() == [first, second].as_slice());
-    assert!(rt; matches!(root.step(Answer::Spawned(1)), Ok(Act::New(..))));
-    assert!(rt; matches!(root.step(Answer::Made(6)), Ok(Act::Send(6, 0, 3))));
-    assert!(rt; matches!(child.step(Answer::Started), Ok(Act::Send(5, 0, 1))));
-    assert!(rt; matches!(child.step(Answer::Done), Ok(Act::New(..))));
-    assert!(rt; matches!(child.step(Answer::Made(9)), Ok(Act::Send(9, 0, 2))));
-    assert!(rt; matches!(child.step(Answer::Done), Ok(Act::End)));
+    steps(&rt, &mut root, BEFORE.as_slice());
+    let mut child = spawned(&rt, &mut root, NAMED.as_slice())?;
+    steps(&rt, &mut root, AFTER.as_slice());
+    steps(&rt, &mut child, CHILD.as_slice());
     Ok(())
 }
