@@ -7,9 +7,30 @@ use std::alloc::Global;
 use std::process::Abort;
 use std::test::Fail;
 
+/// The words name the events job of this file.
+fn answers<'a>(rt: &impl Abort, alloc: Global, arguments: &'a [&'a str], file: &str) {
+    let job = job_of(alloc, arguments);
+    assert!(rt;
+        matches!(&job, Ok(Job::Events { file: named }) if *named == file),
+        "{arguments:?}"
+    );
+}
+
+/// The words name the replay of this file.
+fn replays<'a>(rt: &impl Abort, alloc: Global, arguments: &'a [&'a str], file: &str) {
+    let job = job_of(alloc, arguments);
+    assert!(rt;
+        matches!(&job, Ok(Job::Replay { file: named }) if *named == file),
+        "{arguments:?}"
+    );
+}
+
+/// Words, and the file that they name.
+type Row = (&'static [&'static str], &'static str);
+
 #[test]
-fn events_words(rt: HostRuntime) -> Result<(), Fail> {
-    let good: [(&[&str], &str); 6] = [
+fn events_words(rt: HostRuntime) {
+    const ROWS: [Row; 6] = [
         (&["phaser_run", "events", "-"], "-"),
         (&["phaser_run", "events", "x.json"], "x.json"),
         (&["phaser_run", "events", "--", "--help"], "--help"),
@@ -17,25 +38,28 @@ fn events_words(rt: HostRuntime) -> Result<(), Fail> {
         (&["phaser_run", "events", "help"], "help"),
         (&["", "events", ""], ""),
     ];
-    for (arguments, file) in good {
-        let job = job_of(rt.alloc(), arguments).ok().ok_or("a job")?;
-        assert_eq!(rt; job, Job::Events { file }, "{arguments:?}");
+    for (arguments, file) in ROWS {
+        answers(&rt, rt.alloc(), arguments, file);
     }
-    Ok(())
 }
 
 #[test]
-fn replay_words(rt: HostRuntime) -> Result<(), Fail> {
-    let good: [(&[&str], &str); 2] = [
+fn replay_words(rt: HostRuntime) {
+    const ROWS: [Row; 2] = [
         (&["phaser_run", "replay", "-"], "-"),
         (&["phaser_run", "replay", "x.trace"], "x.trace"),
     ];
-    for (arguments, file) in good {
-        let job = job_of(rt.alloc(), arguments).ok().ok_or("a job")?;
-        assert_eq!(rt; job, Job::Replay { file }, "{arguments:?}");
+    for (arguments, file) in ROWS {
+        replays(&rt, rt.alloc(), arguments, file);
     }
-    Ok(())
 }
+
+/// Words of `schedule p`, with the picks and OUT that they name.
+type Scheduled = (
+    &'static [&'static str],
+    &'static [u32],
+    Option<&'static str>,
+);
 
 /// The words name the schedule of `p` with these picks and OUT.
 fn schedules<'a>(
@@ -44,7 +68,7 @@ fn schedules<'a>(
     arguments: &'a [&'a str],
     wanted: &[u32],
     out: Option<&str>,
-) -> Result<(), Fail> {
+) {
     match job_of(alloc, arguments) {
         Ok(Job::Schedule { file, picks, trace }) => {
             assert_eq!(rt; file, "p");
@@ -53,42 +77,39 @@ fn schedules<'a>(
         }
         _ => panic!(rt; "no schedule: {arguments:?}"),
     }
-    Ok(())
 }
 
 #[test]
-fn schedule_words(rt: HostRuntime) -> Result<(), Fail> {
-    let alloc = rt.alloc();
-    schedules(&rt, alloc, &["phaser_run", "schedule", "p"], &[], None)?;
-    schedules(
-        &rt,
-        alloc,
-        &["phaser_run", "schedule", "p", "--picks", "9,0,0,1,0"],
-        &[9, 0, 0, 1, 0],
-        None,
-    )?;
-    schedules(
-        &rt,
-        alloc,
-        &["phaser_run", "schedule", "--picks=007,4294967295", "p"],
-        &[7, 4_294_967_295],
-        None,
-    )?;
-    schedules(
-        &rt,
-        alloc,
-        &[
-            "phaser_run",
-            "schedule",
-            "--trace",
-            "t",
-            "p",
-            "--picks",
-            "0",
-        ],
-        &[0],
-        Some("t"),
-    )
+fn schedule_words(rt: HostRuntime) {
+    const ROWS: [Scheduled; 4] = [
+        (&["phaser_run", "schedule", "p"], &[], None),
+        (
+            &["phaser_run", "schedule", "p", "--picks", "9,0,0,1,0"],
+            &[9, 0, 0, 1, 0],
+            None,
+        ),
+        (
+            &["phaser_run", "schedule", "--picks=007,4294967295", "p"],
+            &[7, 4_294_967_295],
+            None,
+        ),
+        (
+            &[
+                "phaser_run",
+                "schedule",
+                "--trace",
+                "t",
+                "p",
+                "--picks",
+                "0",
+            ],
+            &[0],
+            Some("t"),
+        ),
+    ];
+    for (arguments, picks, out) in ROWS {
+        schedules(&rt, rt.alloc(), arguments, picks, out);
+    }
 }
 
 /// LIST spells no picks.
@@ -99,7 +120,7 @@ fn is_no_list(rt: &impl Abort, alloc: Global, list: &str) {
 
 #[test]
 fn bad_lists(rt: HostRuntime) {
-    let bad = [
+    const BAD: [&str; 16] = [
         "",
         ",",
         "1,",
@@ -117,22 +138,35 @@ fn bad_lists(rt: HostRuntime) {
         "1.0",
         "\u{661}",
     ];
-    for list in bad {
+    for list in BAD {
         is_no_list(&rt, rt.alloc(), list);
+    }
+}
+
+/// So many ones with commas between them.
+fn ones(alloc: Global, count: usize) -> Result<String, Fail> {
+    let mut list = String::new(alloc);
+    for place in 0..count {
+        list.push_str(if place == 0 { "1" } else { ",1" })?;
+    }
+    Ok(list)
+}
+
+/// How many picks LIST spells; none where it is no list.
+fn length(alloc: Global, list: &str) -> Option<usize> {
+    match picks_of(alloc, list) {
+        Ok(picks) => Some(picks.len()),
+        Err(_) => None,
     }
 }
 
 // Exactly the greatest number of picks is read; one more is refused.
 #[test]
 fn many_picks(rt: HostRuntime) -> Result<(), Fail> {
-    let mut list = String::new(rt.alloc());
-    list.push_str("1")?;
-    for _ in 1..MOST_PICKS {
-        list.push_str(",1")?;
-    }
-    let picks = picks_of(rt.alloc(), list.as_str()).ok().ok_or("picks")?;
-    assert_eq!(rt; picks.len(), 10_000);
-    list.push_str(",1")?;
-    is_no_list(&rt, rt.alloc(), list.as_str());
+    assert_eq!(rt; MOST_PICKS, 10_000);
+    let most = ones(rt.alloc(), 10_000)?;
+    assert_eq!(rt; length(rt.alloc(), most.as_str()), Some(10_000));
+    let more = ones(rt.alloc(), 10_001)?;
+    is_no_list(&rt, rt.alloc(), more.as_str());
     Ok(())
 }

@@ -1,6 +1,6 @@
 //! The words of the command line, as `clap` reads them.
-ghost use Rattle.std.specs.Prelude.{◌≡◌, ◌≢◌, List, Some, map, false, option_map, IfErr, IfOk, MatchResult};
-ghost use Rattle.clap.specs.Words.{app_of, found_of, kind_of, rows_of, rule_of};
+ghost use Rattle.std.specs.Prelude.{◌≡◌, ◌≢◌, List, Some, map, false, option_map, codes, IfErr, IfOk, MatchResult};
+ghost use Rattle.clap.specs.Words.{app_of, found_of, kind_of, new_app, rows_of, rule_of, with_rule, with_subcommand};
 ghost use Rattle.clap.specs.declared.builder.command.Command.TheViews.{out-Command as fields_of};
 ghost use Rattle.command_words.specs.CommandLine.{Asked, asked_among, asked_by, asked_in, bare_app, events_app, file_rule, option_rule, program_app, replay_app, schedule_app};
 
@@ -91,6 +91,37 @@ fn file_argument<'a>(alloc: Global, help: &'a str) -> Arg<'a>
         .required(true)
 }
 
+/// `NAME FILE`.
+fn file_command<'a>(
+    alloc: Global,
+    name: &'a str,
+    about: &'a str,
+    file: &'a str,
+    help: &'a str,
+) -> Result<Command<'a>, AllocError>
+    ensures app { IfOk result (λ c. app_of c ≡ with_rule (new_app name.now) file_rule) }
+    ensures local { IfOk result (λ c. (fields_of c).has_globals ≡ false) }
+{
+    Command::new(alloc, name)
+        .about(about)
+        .after_help(help)
+        .arg(file_argument(alloc, file))
+}
+
+/// `events FILE`.
+fn events_command<'a>(alloc: Global) -> Result<Command<'a>, AllocError>
+    ensures app { IfOk result (λ c. app_of c ≡ events_app) }
+    ensures local { IfOk result (λ c. (fields_of c).has_globals ≡ false) }
+{
+    file_command(
+        alloc,
+        "events",
+        "Applies the calls of an events file to one phaser, and prints a line for each",
+        "The events file; - reads standard input",
+        EVENTS_HELP,
+    )
+}
+
 /// `--NAME VALUE`, which needn't be there.
 fn option<'a>(alloc: Global, name: &'a str, value: &'a str, help: &'a str) -> Arg<'a>
     ensures rule { rule_of result ≡ option_rule name.now }
@@ -102,16 +133,20 @@ fn option<'a>(alloc: Global, name: &'a str, value: &'a str, help: &'a str) -> Ar
         .help(help)
 }
 
-/// `events FILE`.
-fn events_command<'a>(alloc: Global) -> Result<Command<'a>, AllocError>
-    ensures app { IfOk result (λ c. app_of c ≡ events_app) }
+/// `schedule FILE [--picks LIST]`.
+fn picks_command<'a>(alloc: Global) -> Result<Command<'a>, AllocError>
+    ensures app { IfOk result (λ c. app_of c ≡ with_rule (with_rule (new_app (codes "schedule")) file_rule)
+        (option_rule (codes "picks"))) }
     ensures local { IfOk result (λ c. (fields_of c).has_globals ≡ false) }
 {
-    let file = file_argument(alloc, "The events file; - reads standard input");
-    Command::new(alloc, "events")
-        .about("Applies the calls of an events file to one phaser, and prints a line for each")
-        .after_help(EVENTS_HELP)
-        .arg(file)
+    let command = file_command(
+        alloc,
+        "schedule",
+        "Runs a program of tasks without threads, and prints the report",
+        "The program; - reads standard input",
+        SCHEDULE_HELP,
+    )?;
+    command.arg(option(alloc, "picks", "LIST", PICKS_HELP))
 }
 
 /// `schedule FILE [--picks LIST] [--trace OUT]`.
@@ -119,15 +154,8 @@ fn schedule_command<'a>(alloc: Global) -> Result<Command<'a>, AllocError>
     ensures app { IfOk result (λ c. app_of c ≡ schedule_app) }
     ensures local { IfOk result (λ c. (fields_of c).has_globals ≡ false) }
 {
-    let file = file_argument(alloc, "The program; - reads standard input");
-    let picks = option(alloc, "picks", "LIST", PICKS_HELP);
     let trace = option(alloc, "trace", "OUT", "Writes the trace into this file");
-    Command::new(alloc, "schedule")
-        .about("Runs a program of tasks without threads, and prints the report")
-        .after_help(SCHEDULE_HELP)
-        .arg(file)?
-        .arg(picks)?
-        .arg(trace)
+    picks_command(alloc)?.arg(trace)
 }
 
 /// `replay FILE`.
@@ -135,11 +163,13 @@ fn replay_command<'a>(alloc: Global) -> Result<Command<'a>, AllocError>
     ensures app { IfOk result (λ c. app_of c ≡ replay_app) }
     ensures local { IfOk result (λ c. (fields_of c).has_globals ≡ false) }
 {
-    let file = file_argument(alloc, "The trace; - reads standard input");
-    Command::new(alloc, "replay")
-        .about("Makes the events of a trace again, and prints the report")
-        .after_help(REPLAY_HELP)
-        .arg(file)
+    file_command(
+        alloc,
+        "replay",
+        "Makes the events of a trace again, and prints the report",
+        "The trace; - reads standard input",
+        REPLAY_HELP,
+    )
 }
 
 /// The program, without its subcommands.
@@ -154,32 +184,44 @@ fn bare_command<'a>(alloc: Global) -> Command<'a>
         .disable_help_subcommand(true)
 }
 
+/// The program with the one subcommand `events`.
+fn command_with_events<'a>(alloc: Global) -> Result<Command<'a>, AllocError>
+    ensures app { IfOk result (λ c. app_of c ≡ with_subcommand bare_app events_app.top) }
+{
+    let events = events_command(alloc)?;
+    bare_command(alloc).subcommand(events)
+}
+
+/// The program with `events` and `schedule`.
+fn command_with_schedule<'a>(alloc: Global) -> Result<Command<'a>, AllocError>
+    ensures app { IfOk result (λ c.
+        app_of c ≡ with_subcommand (with_subcommand bare_app events_app.top) schedule_app.top) }
+{
+    let schedule = schedule_command(alloc)?;
+    command_with_events(alloc)?.subcommand(schedule)
+}
+
 /// The whole command line.
 fn command<'a>(alloc: Global) -> Result<Command<'a>, AllocError>
     ensures app { IfOk result (λ c. app_of c ≡ program_app) }
 {
-    bare_command(alloc)
-        .subcommand(events_command(alloc)?)?
-        .subcommand(schedule_command(alloc)?)?
-        .subcommand(replay_command(alloc)?)
+    let replay = replay_command(alloc)?;
+    command_with_schedule(alloc)?.subcommand(replay)
 }
 
 /// What the subcommand of this name is asked for.
 fn words_among<'a>(name: &str, found: &ArgMatches<'a>) -> Option<Words<'a>>
     ensures { option_map asked_by result ≡ asked_among (name.now, rows_of (found_of found.now)) }
 {
+    let file = found.get_str("file")?;
     match name {
-        "events" => Some(Words::Events {
-            file: found.get_str("file")?,
-        }),
+        "events" => Some(Words::Events { file }),
         "schedule" => Some(Words::Schedule {
-            file: found.get_str("file")?,
+            file,
             picks: found.get_str("picks"),
             trace: found.get_str("trace"),
         }),
-        "replay" => Some(Words::Replay {
-            file: found.get_str("file")?,
-        }),
+        "replay" => Some(Words::Replay { file }),
         _ => None,
     }
 }

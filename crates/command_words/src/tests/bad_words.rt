@@ -5,6 +5,15 @@ use std::alloc::Global;
 use std::process::Abort;
 use std::test::Fail;
 
+/// Words, and a part of the message that they get.
+type Row = (&'static [&'static str], &'static str);
+
+/// The message has this part, and ends its line.
+fn is_message(rt: &impl Abort, text: &str, part: &str) {
+    assert!(rt; text.contains(part), "{part}: {text}");
+    assert!(rt; text.ends_with("\n"), "{text}");
+}
+
 /// The words name no job; the message has this part.
 fn is_bad<'a>(
     rt: &impl Abort,
@@ -17,146 +26,118 @@ fn is_bad<'a>(
         Err(no_job) => {
             assert_eq!(rt; no_job.status(), Status::Usage, "{arguments:?}");
             let text = no_job.to_string(alloc)?;
-            assert!(rt; text.as_str().contains(part), "{arguments:?}: {text}");
-            assert!(rt; text.as_str().ends_with("\n"), "{arguments:?}: {text}");
+            is_message(rt, text.as_str(), part);
+            Ok(())
         }
+    }
+}
+
+fn all_bad(rt: &impl Abort, alloc: Global, rows: &[Row]) -> Result<(), Fail> {
+    for (arguments, part) in rows {
+        is_bad(rt, alloc, arguments, part)?;
     }
     Ok(())
 }
 
 #[test]
 fn bad_events(rt: HostRuntime) -> Result<(), Fail> {
-    let alloc = rt.alloc();
-    is_bad(&rt, alloc, &[], "Usage: phaser_run <COMMAND>")?;
-    is_bad(&rt, alloc, &["phaser_run"], "Usage: phaser_run <COMMAND>")?;
-    is_bad(&rt, alloc, &["phaser_run", "events"], "<FILE>")?;
-    is_bad(
-        &rt,
-        alloc,
-        &["phaser_run", "events", "a", "b"],
-        "unexpected argument 'b'",
-    )?;
-    is_bad(
-        &rt,
-        alloc,
-        &["phaser_run", "events", "--jump", "a"],
-        "unexpected argument '--jump'",
-    )?;
-    is_bad(
-        &rt,
-        alloc,
-        &["phaser_run", "events", "a", "--picks", "1"],
-        "unexpected argument '--picks'",
-    )
+    const ROWS: [Row; 6] = [
+        (&[], "Usage: phaser_run <COMMAND>"),
+        (&["phaser_run"], "Usage: phaser_run <COMMAND>"),
+        (&["phaser_run", "events"], "<FILE>"),
+        (
+            &["phaser_run", "events", "a", "b"],
+            "unexpected argument 'b'",
+        ),
+        (
+            &["phaser_run", "events", "--jump", "a"],
+            "unexpected argument '--jump'",
+        ),
+        (
+            &["phaser_run", "events", "a", "--picks", "1"],
+            "unexpected argument '--picks'",
+        ),
+    ];
+    all_bad(&rt, rt.alloc(), ROWS.as_slice())
 }
 
 #[test]
 fn bad_commands(rt: HostRuntime) -> Result<(), Fail> {
-    let alloc = rt.alloc();
-    is_bad(
-        &rt,
-        alloc,
-        &["phaser_run", "event", "a"],
-        "unrecognized subcommand 'event'",
-    )?;
-    is_bad(
-        &rt,
-        alloc,
-        &["phaser_run", "Events", "a"],
-        "unrecognized subcommand 'Events'",
-    )?;
-    is_bad(
-        &rt,
-        alloc,
-        &["phaser_run", "help"],
-        "unrecognized subcommand 'help'",
-    )
+    const ROWS: [Row; 3] = [
+        (
+            &["phaser_run", "event", "a"],
+            "unrecognized subcommand 'event'",
+        ),
+        (
+            &["phaser_run", "Events", "a"],
+            "unrecognized subcommand 'Events'",
+        ),
+        (&["phaser_run", "help"], "unrecognized subcommand 'help'"),
+    ];
+    all_bad(&rt, rt.alloc(), ROWS.as_slice())
 }
 
 #[test]
 fn bad_schedules(rt: HostRuntime) -> Result<(), Fail> {
-    let alloc = rt.alloc();
-    is_bad(&rt, alloc, &["phaser_run", "schedule"], "<FILE>")?;
-    is_bad(
-        &rt,
-        alloc,
-        &["phaser_run", "schedule", "a", "--picks"],
-        "--picks <LIST>",
-    )?;
-    is_bad(
-        &rt,
-        alloc,
-        &["phaser_run", "schedule", "a", "--picks", "1,,2"],
-        "LIST is 1 to 10,000 numbers",
-    )?;
-    is_bad(
-        &rt,
-        alloc,
-        &[
-            "phaser_run",
-            "schedule",
-            "a",
-            "--picks",
-            "1",
-            "--picks",
-            "2",
-        ],
-        "cannot be used multiple times",
-    )?;
-    is_bad(
-        &rt,
-        alloc,
-        &["phaser_run", "replay", "a", "--trace", "t"],
-        "unexpected argument '--trace'",
-    )?;
-    is_bad(&rt, alloc, &["phaser_run", "replay"], "<FILE>")
+    const ROWS: [Row; 6] = [
+        (&["phaser_run", "schedule"], "<FILE>"),
+        (
+            &["phaser_run", "schedule", "a", "--picks"],
+            "--picks <LIST>",
+        ),
+        (
+            &["phaser_run", "schedule", "a", "--picks", "1,,2"],
+            "LIST is 1 to 10,000 numbers",
+        ),
+        (
+            &[
+                "phaser_run",
+                "schedule",
+                "a",
+                "--picks",
+                "1",
+                "--picks",
+                "2",
+            ],
+            "cannot be used multiple times",
+        ),
+        (
+            &["phaser_run", "replay", "a", "--trace", "t"],
+            "unexpected argument '--trace'",
+        ),
+        (&["phaser_run", "replay"], "<FILE>"),
+    ];
+    all_bad(&rt, rt.alloc(), ROWS.as_slice())
 }
 
 #[test]
 fn help(rt: HostRuntime) -> Result<(), Fail> {
-    let alloc = rt.alloc();
-    is_bad(&rt, alloc, &["phaser_run", "--help"], "Exit status: 0 done")?;
-    is_bad(
-        &rt,
-        alloc,
-        &["phaser_run", "-h"],
-        "Applies the calls of an events file",
-    )?;
-    is_bad(
-        &rt,
-        alloc,
-        &["phaser_run", "events", "--help"],
-        "- reads standard input",
-    )?;
-    is_bad(
-        &rt,
-        alloc,
-        &["phaser_run", "schedule", "--help"],
-        "--trace <OUT>",
-    )?;
-    is_bad(
-        &rt,
-        alloc,
-        &["phaser_run", "replay", "--help"],
-        "at most 67,108,864 bytes",
-    )
+    const ROWS: [Row; 5] = [
+        (&["phaser_run", "--help"], "Exit status: 0 done"),
+        (&["phaser_run", "-h"], "Applies the calls of an events file"),
+        (
+            &["phaser_run", "events", "--help"],
+            "- reads standard input",
+        ),
+        (&["phaser_run", "schedule", "--help"], "--trace <OUT>"),
+        (
+            &["phaser_run", "replay", "--help"],
+            "at most 67,108,864 bytes",
+        ),
+    ];
+    all_bad(&rt, rt.alloc(), ROWS.as_slice())
 }
 
 // The version is a text of status 2, as help is: status 0 says that the lines were written.
 #[test]
 fn version(rt: HostRuntime) -> Result<(), Fail> {
-    let alloc = rt.alloc();
-    is_bad(
-        &rt,
-        alloc,
-        &["phaser_run", "--version"],
-        "phaser_run 0.1.0\n",
-    )?;
-    is_bad(&rt, alloc, &["phaser_run", "-V"], "phaser_run 0.1.0\n")?;
-    is_bad(
-        &rt,
-        alloc,
-        &["phaser_run", "events", "--version"],
-        "unexpected argument '--version'",
-    )
+    const ROWS: [Row; 3] = [
+        (&["phaser_run", "--version"], "phaser_run 0.1.0\n"),
+        (&["phaser_run", "-V"], "phaser_run 0.1.0\n"),
+        (
+            &["phaser_run", "events", "--version"],
+            "unexpected argument '--version'",
+        ),
+    ];
+    all_bad(&rt, rt.alloc(), ROWS.as_slice())
 }
