@@ -5,6 +5,9 @@ pub mod Named
 pub mod Numbers
 pub mod Plain
 pub mod PlainOptions
+pub mod PlainPipeline
+pub mod PlainRun
 pub mod PlainSchedule
+pub mod PlainStencil
 pub mod PlainWords
 pub mod Works

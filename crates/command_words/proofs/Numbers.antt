@@ -7,7 +7,7 @@ use Rattle.std.specs.Str.{all_ascii_digits}
 use Rattle.std.specs.Str.Parse.{ParsesUnsigned, digits_value}
 use Rattle.std.proofs.lemmas.Str.Parse.{numerals_by_value, parse_digits, tells_all_ascii_digits}
 use Rattle.phase_modes.specs.Lists.{is_empty}
-use Rattle.command_words.specs.Picks.{is_numeral, number_in}
+use Rattle.command_words.specs.Lists.{is_numeral, number_in}
 
 alike : (text : List ℕ) → list_all is_ascii_digit text ≡ all_ascii_digits text
 alike [] = refl

@@ -19,32 +19,32 @@ abbrev built_schedule : Shape
 built_schedule = second schedule_app.top (built program_app).subs
 
 -- the walk between two words
-abbrev at : Waiting → Held → ℕ → Walk
+abbrev pub at : Waiting → Held → ℕ → Walk
 at waiting h position =
     record { held = h; waiting = waiting; position = position; is_trailing = false; stopped = None }
 
 -- a word where nothing waits is a value
-idle_step : (c : List Rule) (h : Held) (position : ℕ) (word : Text) → IsWord word
+pub idle_step : (c : List Rule) (h : Held) (position : ℕ) (word : Text) → IsWord word
     → walked c [] (at idle h position) word
     ≡ to_positional c (arg_by_index c position) word (at idle h position) h
 unfolding walked
 idle_step c h position word k = simp (k.0, k.1, k.2)
 
-idle_turn : (s : Shape) (h : Held) (position : ℕ) (word : Text) → IsWord word
+pub idle_turn : (s : Shape) (h : Held) (position : ℕ) (word : Text) → IsWord word
     → turn_fault s [] (at idle h position) word ≡ step_fault s position h value
 idle_turn s h position word k = simp (k.0, k.1, k.2)
 
 -- a word where an option waits is its value
-abbrev after_option : List Rule → Text → Held → ℕ → Text → Walk
+abbrev pub after_option : List Rule → Text → Held → ℕ → Text → Walk
 after_option c id h position word =
     at (option_word (arg_by_id c id) id word h).1 (option_word (arg_by_id c id) id word h).0 position
 
-option_step : (c : List Rule) (id : Text) (h : Held) (position : ℕ) (word : Text) → IsWord word
+pub option_step : (c : List Rule) (id : Text) (h : Held) (position : ℕ) (word : Text) → IsWord word
     → walked c [] (at (option id) h position) word ≡ after_option c id h position word
 unfolding walked
 option_step c id h position word k = simp (k.0, k.1, k.2)
 
-option_turn : (s : Shape) (id : Text) (h : Held) (position : ℕ) (word : Text) → IsWord word
+pub option_turn : (s : Shape) (id : Text) (h : Held) (position : ℕ) (word : Text) → IsWord word
     → turn_fault s [] (at (option id) h position) word ≡ []
 option_turn s id h position word k = simp (k.0, k.1, k.2)
 

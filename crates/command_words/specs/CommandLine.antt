@@ -1,18 +1,20 @@
 -- The words that the program takes, by what `clap` says of a command and of its arguments.
-use Rattle.std.specs.Prelude.{◌≡◌, ◌⊎◌, ◌++◌, ℕ, List, [], ◌∷◌, Bool, true, not, ◌&&◌, ◌||◌, ◌==◌, if◌then◌else◌, Option, None, Some, option_and_then, option_map, codes}
+use Rattle.std.specs.Prelude.{◌≡◌, ◌⊎◌, ◌++◌, ◌<◌, ◌≤◌, ⊤, ℕ, List, length, [], ◌∷◌, Bool, true, not, ◌&&◌, ◌||◌, ◌==◌, if◌then◌else◌, Option, None, Some, option_and_then, option_map, codes}
 use Rattle.std.specs.Option.{option_map_or}
 use Rattle.std.specs.Str.{bytes_eq}
 use Rattle.phase_modes.specs.Lists.{is_empty}
 use Rattle.clap.specs.Words.{App, Row, Rule, Text, fault_of, first_of, new_app, new_rule, subcommand_of, with_rule, with_subcommand}
 use Rattle.job_ends.specs.declared.failure.Status.{Status}
 use Rattle.job_ends.specs.declared.failure.Status.TheVariants as statuses
-use Rattle.command_words.specs.Picks.{listed_in}
+use Rattle.command_words.specs.Lists.{first_in, listed_in, number_within, workers_in}
 use Rattle.command_words.specs.declared.words.Words.{Words}
 use Rattle.command_words.specs.declared.words.Words.TheVariants as words
 use Rattle.command_words.specs.declared.command_line.Job.{Job}
 use Rattle.command_words.specs.declared.command_line.Job.TheVariants as jobs
 use Rattle.command_words.specs.declared.command_line.NoJob.{NoJob}
-use Rattle.command_words.specs.declared.command_line.NoJob.TheVariants.{Arguments, Missing, BadList, Memory}
+use Rattle.command_words.specs.declared.command_line.NoJob.TheVariants.{Arguments, Missing, BadValue, Memory}
+use Rattle.command_words.specs.declared.command_line.Value.{Value}
+use Rattle.command_words.specs.declared.command_line.Value.TheVariants.{Picks, First, Steps, Stages, Items, Workers}
 
 -- ---- the commands
 
@@ -24,6 +26,10 @@ file_rule = record (new_rule (codes "file")) { required = true; value_names = 1 
 abbrev pub option_rule : Text → Rule
 option_rule name = record (new_rule name) { long = Some name; value_names = 1 }
 
+-- `--NAME VALUE`, which has to be there
+abbrev pub needed_rule : Text → Rule
+needed_rule name = record (option_rule name) { required = true }
+
 -- `events FILE`
 abbrev pub events_app : App
 events_app = with_rule (new_app (codes "events")) file_rule
@@ -34,9 +40,27 @@ schedule_app =
     with_rule (with_rule (with_rule (new_app (codes "schedule")) file_rule) (option_rule (codes "picks")))
     (option_rule (codes "trace"))
 
+-- `run FILE [--workers N] [--trace OUT]`
+abbrev pub run_app : App
+run_app =
+    with_rule (with_rule (with_rule (new_app (codes "run")) file_rule) (option_rule (codes "workers")))
+    (option_rule (codes "trace"))
+
 -- `replay FILE`
 abbrev pub replay_app : App
 replay_app = with_rule (new_app (codes "replay")) file_rule
+
+-- `stencil --first LIST --steps S [--workers N]`
+abbrev pub stencil_app : App
+stencil_app =
+    with_rule (with_rule (with_rule (new_app (codes "stencil")) (needed_rule (codes "first")))
+    (needed_rule (codes "steps"))) (option_rule (codes "workers"))
+
+-- `pipeline --stages K --items N [--workers N]`
+abbrev pub pipeline_app : App
+pipeline_app =
+    with_rule (with_rule (with_rule (new_app (codes "pipeline")) (needed_rule (codes "stages")))
+    (needed_rule (codes "items"))) (option_rule (codes "workers"))
 
 -- the program, which has a version, has to be given a subcommand, and has no subcommand `help`
 abbrev pub bare_app : App
@@ -48,10 +72,17 @@ bare_app = record (new_app (codes "phaser_run")) {
   };
 }
 
+-- the commands that run a program
+abbrev pub running_app : App
+running_app =
+    with_subcommand (with_subcommand (with_subcommand bare_app events_app.top) schedule_app.top) run_app.top
+
+-- the commands of a file
+abbrev pub filed_app : App
+filed_app = with_subcommand running_app replay_app.top
+
 abbrev pub program_app : App
-program_app =
-    with_subcommand (with_subcommand (with_subcommand bare_app events_app.top) schedule_app.top)
-    replay_app.top
+program_app = with_subcommand (with_subcommand filed_app stencil_app.top) pipeline_app.top
 
 -- ---- what words ask for
 
@@ -59,24 +90,58 @@ program_app =
 pub data Asked : Type 0 where
   events : Text → Asked
   schedule : Text → Option Text → Option Text → Asked
+  run : Text → Option Text → Option Text → Asked
   replay : Text → Asked
+  stencil : Text → Text → Option Text → Asked
+  pipeline : Text → Text → Option Text → Asked
 
--- a command with its words, of which LIST is the numbers that it spells; without a list there are none
+-- a command with its words, of which lists and numbers are what they spell
 pub data Work : Type 0 where
   answers : Text → Work
+  -- without a list there are no picks
   runs : Text → List ℕ → Option Text → Work
+  -- FILE, the workers, OUT
+  works : Text → ℕ → Option Text → Work
   replays : Text → Work
+  -- the first values, the steps, the workers
+  cells : List ℕ → ℕ → ℕ → Work
+  -- the stages, the items, the workers
+  stages : ℕ → ℕ → ℕ → Work
 
 -- the program FILE, with the words that needn't be there
 abbrev pub to_schedule : List Row → Text → Asked
 to_schedule rows file = schedule file (first_of (codes "picks") rows) (first_of (codes "trace") rows)
 
+abbrev pub to_run : List Row → Text → Asked
+to_run rows file = run file (first_of (codes "workers") rows) (first_of (codes "trace") rows)
+
+-- what a command of a file is asked for
+abbrev pub filed_among : Text → List Row → Option Asked
+filed_among name rows =
+    if bytes_eq name (codes "events") then option_map events (first_of (codes "file") rows)
+    else (if bytes_eq name (codes "schedule") then option_map (to_schedule rows) (first_of (codes "file") rows)
+    else (if bytes_eq name (codes "run") then option_map (to_run rows) (first_of (codes "file") rows)
+    else (if bytes_eq name (codes "replay") then option_map replay (first_of (codes "file") rows) else None)))
+
+-- what a kernel is asked for, by what it needs
+abbrev pub of_both : (Text → Text → Option Text → Asked) → Option Text → Option Text → Option Text → Option Asked
+of_both kernel (Some a) (Some b) workers = Some (kernel a b workers)
+of_both kernel _ _ workers = None
+
+abbrev pub stencil_among : List Row → Option Asked
+stencil_among rows =
+    of_both stencil (first_of (codes "first") rows) (first_of (codes "steps") rows) (first_of (codes "workers") rows)
+
+abbrev pub pipeline_among : List Row → Option Asked
+pipeline_among rows =
+    of_both pipeline (first_of (codes "stages") rows) (first_of (codes "items") rows)
+    (first_of (codes "workers") rows)
+
 -- what the subcommand of this name is asked for
 abbrev pub asked_among : Text × List Row → Option Asked
 asked_among p =
-    if bytes_eq p.0 (codes "events") then option_map events (first_of (codes "file") p.1)
-    else (if bytes_eq p.0 (codes "schedule") then option_map (to_schedule p.1) (first_of (codes "file") p.1)
-    else (if bytes_eq p.0 (codes "replay") then option_map replay (first_of (codes "file") p.1) else None))
+    if bytes_eq p.0 (codes "stencil") then stencil_among p.1
+    else (if bytes_eq p.0 (codes "pipeline") then pipeline_among p.1 else filed_among p.0 p.1)
 
 -- what the arguments ask for
 unfoldable pub asked_of : List Text → Option Asked
@@ -86,17 +151,68 @@ asked_of arguments = option_and_then asked_among (subcommand_of program_app argu
 unfoldable pub asked_in : List Text → Option Asked
 asked_in arguments = if is_empty (fault_of program_app arguments) then asked_of arguments else None
 
--- the work that is asked for; a bad list asks for none
+-- the stencil of these values, where each is one
+abbrev pub stencil_of : Option (List ℕ) → Option ℕ → Option ℕ → Option Work
+stencil_of (Some first) (Some steps) (Some workers) = Some (cells first steps workers)
+stencil_of _ _ _ = None
+
+-- the pipeline of these values, where each is one
+abbrev pub pipeline_of : Option ℕ → Option ℕ → Option ℕ → Option Work
+pipeline_of (Some k) (Some items) (Some workers) = Some (stages k items workers)
+pipeline_of _ _ _ = None
+
+-- the work that is asked for; a bad list or number asks for none
 abbrev pub work_for : Asked → Option Work
 work_for (events file) = Some (answers file)
 work_for (schedule file list trace) = option_map (λ picks. runs file picks trace) (listed_in list)
+work_for (run file workers trace) = option_map (λ n. works file n trace) (workers_in workers)
 work_for (replay file) = Some (replays file)
+work_for (stencil first steps workers) =
+    stencil_of (first_in first) (number_within 0 100 steps) (workers_in workers)
+work_for (pipeline k items workers) =
+    pipeline_of (number_within 1 15 k) (number_within 0 100 items) (workers_in workers)
+
+-- the value is named where it is none
+abbrev pub unless : {X : Type 0} → Value → Option X → Option Value
+unless v None = Some v
+unless v (Some x) = None
+
+abbrev pub earlier : Option Value → Option Value → Option Value
+earlier (Some v) o = Some v
+earlier None o = o
+
+-- the first of its values that is none
+abbrev pub first_bad : Asked → Option Value
+first_bad (events file) = None
+first_bad (schedule file list trace) = unless Picks (listed_in list)
+first_bad (run file workers trace) = unless Workers (workers_in workers)
+first_bad (replay file) = None
+first_bad (stencil first steps workers) =
+    earlier (unless First (first_in first))
+    (earlier (unless Steps (number_within 0 100 steps)) (unless Workers (workers_in workers)))
+first_bad (pipeline k items workers) =
+    earlier (unless Stages (number_within 1 15 k))
+    (earlier (unless Items (number_within 0 100 items)) (unless Workers (workers_in workers)))
+
+-- its numbers are within what is allowed
+abbrev pub IsInRange : Work → Type 0
+IsInRange (answers file) = ⊤
+IsInRange (runs file picks trace) = ⊤
+IsInRange (works file workers trace) = (0 < workers) × (workers ≤ 16)
+IsInRange (replays file) = ⊤
+IsInRange (cells first steps workers) =
+    (length first ≤ 16) × (steps ≤ 100) × (0 < workers) × (workers ≤ 16)
+IsInRange (stages k items workers) =
+    (0 < k) × (k ≤ 15) × (items ≤ 100) × (0 < workers) × (workers ≤ 16)
 
 -- FILE of a work
-abbrev pub file_of : Work → Text
-file_of (answers file) = file
-file_of (runs file picks trace) = file
-file_of (replays file) = file
+abbrev pub file_of : Work → Option Text
+file_of (answers file) = Some file
+file_of (runs file picks trace) = Some file
+file_of (works file workers trace) = Some file
+file_of (replays file) = Some file
+file_of (cells first steps workers) = None
+file_of (stages k items workers) = None
 
 -- the work that the arguments name
 abbrev pub work_in : List Text → Option Work
@@ -108,12 +224,20 @@ abbrev pub asked_by : Words → Asked
 asked_by (words.Events file) = events file.now
 asked_by (words.Schedule file picks trace) =
     schedule file.now (option_map (λ t. t.now) picks) (option_map (λ t. t.now) trace)
+asked_by (words.Run file workers trace) =
+    run file.now (option_map (λ t. t.now) workers) (option_map (λ t. t.now) trace)
 asked_by (words.Replay file) = replay file.now
+asked_by (words.Stencil first steps workers) =
+    stencil first.now steps.now (option_map (λ t. t.now) workers)
+asked_by (words.Pipeline k items workers) = pipeline k.now items.now (option_map (λ t. t.now) workers)
 
 abbrev pub work_of : Job → Work
 work_of (jobs.Events file) = answers file.now
 work_of (jobs.Schedule file picks trace) = runs file.now picks.items (option_map (λ t. t.now) trace)
+work_of (jobs.Run file workers trace) = works file.now workers (option_map (λ t. t.now) trace)
 work_of (jobs.Replay file) = replays file.now
+work_of (jobs.Stencil first steps workers) = cells first.items steps workers
+work_of (jobs.Pipeline k items workers) = stages k items workers
 
 -- a word is `-`, or does not begin with a hyphen
 abbrev pub is_plain : Text → Bool
@@ -124,12 +248,25 @@ is_plain (c ∷ cs) = not (c == 45) || is_empty cs
 abbrev pub no_job_status : NoJob → Status
 no_job_status (Arguments e) = statuses.Usage
 no_job_status Missing = statuses.Usage
-no_job_status BadList = statuses.Usage
+no_job_status (BadValue v) = statuses.Usage
 no_job_status Memory = statuses.Refused
 
--- reading LIST fails for want of memory, or because it spells no picks
-abbrev pub IsOfList : Option (List ℕ) → NoJob → Type 0
-IsOfList picks e = (e ≡ Memory) ⊎ ((e ≡ BadList) × (picks ≡ None))
+-- what a value is to be, as its line says it
+abbrev pub value_text : Value → List ℕ
+value_text Picks = codes "LIST is 1 to 10,000 numbers of 0 to 4294967295 with commas between them"
+value_text First = codes "LIST is 1 to 16 numbers of 0 to 1000000 with commas between them"
+value_text Steps = codes "S is a number of 0 to 100"
+value_text Stages = codes "K is a number of 1 to 15"
+value_text Items = codes "the items are a number of 0 to 100"
+value_text Workers = codes "the workers are a number of 1 to 16"
+
+-- reading a value fails for want of memory, or because it is none
+abbrev pub IsOfValue : {X : Type 0} → Value → Option X → NoJob → Type 0
+IsOfValue v read e = (e ≡ Memory) ⊎ ((e ≡ BadValue v) × (read ≡ None))
+
+-- there is no job for want of memory, or because a value is none: the first of them is named
+abbrev pub IsNoJobFor : Asked → NoJob → Type 0
+IsNoJobFor asked e = (e ≡ Memory) ⊎ ((v : Value) × (e ≡ BadValue v) × (first_bad asked ≡ Some v))
 
 -- ---- a command whose options stand after FILE
 
@@ -144,11 +281,26 @@ plain_words program (events file) = program ∷ codes "events" ∷ file ∷ []
 plain_words program (schedule file list out) =
     program ∷ codes "schedule" ∷ file
     ∷ (option_words (codes "--picks") list ++ option_words (codes "--trace") out)
+plain_words program (run file workers out) =
+    program ∷ codes "run" ∷ file
+    ∷ (option_words (codes "--workers") workers ++ option_words (codes "--trace") out)
 plain_words program (replay file) = program ∷ codes "replay" ∷ file ∷ []
+plain_words program (stencil first steps workers) =
+    program ∷ codes "stencil" ∷ codes "--first" ∷ first ∷ codes "--steps" ∷ steps
+    ∷ option_words (codes "--workers") workers
+plain_words program (pipeline k items workers) =
+    program ∷ codes "pipeline" ∷ codes "--stages" ∷ k ∷ codes "--items" ∷ items
+    ∷ option_words (codes "--workers") workers
 
 -- no word is taken for an option
 abbrev pub is_plainly_asked : Asked → Bool
 is_plainly_asked (events file) = is_plain file
 is_plainly_asked (schedule file list out) =
     is_plain file && (option_map_or is_plain list true && option_map_or is_plain out true)
+is_plainly_asked (run file workers out) =
+    is_plain file && (option_map_or is_plain workers true && option_map_or is_plain out true)
 is_plainly_asked (replay file) = is_plain file
+is_plainly_asked (stencil first steps workers) =
+    is_plain first && (is_plain steps && option_map_or is_plain workers true)
+is_plainly_asked (pipeline k items workers) =
+    is_plain k && (is_plain items && option_map_or is_plain workers true)

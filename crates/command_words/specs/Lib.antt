@@ -1,3 +1,3 @@
 -- The definitions that the contracts cite.
 pub mod CommandLine
-pub mod Picks
+pub mod Lists

@@ -1,12 +1,12 @@
 //! The words of the command line, as a job.
-ghost use Rattle.std.specs.Prelude.{◌≡◌, ◌⊎◌, ℕ, List, Some, None, map, option_map, true, IfErr, IfOk, MatchResult};
-ghost use Rattle.command_words.specs.CommandLine.{Asked, IsOfList, Work, asked_by, asked_in, file_of, is_plainly_asked, no_job_status, plain_words, work_for, work_in, work_of};
-ghost use Rattle.command_words.specs.Picks.{listed_in};
+ghost use Rattle.std.specs.Prelude.{◌≡◌, ℕ, List, Some, None, map, option_map, true, IfErr, IfOk, MatchResult};
+ghost use Rattle.command_words.specs.CommandLine.{Asked, IsInRange, IsNoJobFor, Work, asked_by, asked_in, file_of, first_bad, is_plainly_asked, no_job_status, pipeline, plain_words, stencil, value_text, work_for, work_in, work_of};
 
-use crate::picks::picks_of;
+use crate::lists::{first_of, picks_of, value_of, workers_of};
 use crate::words::{Words, words_of};
 use job_ends::Status;
 use std::alloc::{AllocError, Global};
+use std::fmt;
 use thiserror::Error;
 
 /// What the program is to do. A FILE `-` is standard input.
@@ -22,20 +22,85 @@ pub enum Job<'a> {
         picks: Vec<u32>,
         trace: Option<&'a str>,
     },
+    /// Runs the program by so many workers, and writes the trace into a file of the name `trace`.
+    Run {
+        file: &'a str,
+        workers: u32,
+        trace: Option<&'a str>,
+    },
     /// Replays the trace.
     Replay {
         file: &'a str,
     },
+    /// Runs the stencil over these first values for so many steps.
+    Stencil {
+        first: Vec<u32>,
+        steps: u32,
+        workers: u32,
+    },
+    /// Runs the pipeline of so many stages over so many items.
+    Pipeline {
+        stages: u32,
+        items: u32,
+        workers: u32,
+    },
 }
 
 impl<'a> Job<'a> {
-    /// FILE.
-    pub fn file(&self) -> &'a str
-        ensures { result.now ≡ file_of (work_of self.now) }
+    /// FILE, where the command has one.
+    pub fn file(&self) -> Option<&'a str>
+        ensures { option_map (λ t. t.now) result ≡ file_of (work_of self.now) }
     {
         match self {
-            Job::Events { file } | Job::Schedule { file, .. } | Job::Replay { file } => file,
+            Job::Events { file }
+            | Job::Schedule { file, .. }
+            | Job::Run { file, .. }
+            | Job::Replay { file } => Some(file),
+            Job::Stencil { .. } | Job::Pipeline { .. } => None,
         }
+    }
+}
+
+/// A value that is to be a number in a range, or a list of such numbers.
+#[derive(Clone, Copy, Debug, PartialEq, Eq)]
+pub enum Value {
+    /// LIST of a schedule.
+    Picks,
+    /// LIST of a stencil.
+    First,
+    Steps,
+    Stages,
+    Items,
+    Workers,
+}
+
+impl Value {
+    /// What the value is to be.
+    fn wanted(self) -> &'static str
+        ensures { result.now ≡ value_text self }
+    {
+        match self {
+            Value::Picks => {
+                "LIST is 1 to 10,000 numbers of 0 to 4294967295 with commas between them"
+            }
+            Value::First => "LIST is 1 to 16 numbers of 0 to 1000000 with commas between them",
+            Value::Steps => "S is a number of 0 to 100",
+            Value::Stages => "K is a number of 1 to 15",
+            Value::Items => "the items are a number of 0 to 100",
+            Value::Workers => "the workers are a number of 1 to 16",
+        }
+    }
+}
+
+impl fmt::Display for Value {
+    ghost use Rattle.std.specs.Prelude.{Some};
+    ghost use Rattle.command_words.specs.CommandLine.{value_text};
+
+    ghost output = { λ v. Some (value_text v) };
+
+    fn fmt<W: fmt::Write>(&self, f: &mut fmt::Formatter<W>) -> fmt::Result {
+        let wanted = self.wanted();
+        write!(f, "{wanted}")
     }
 }
 
@@ -48,9 +113,9 @@ pub enum NoJob {
     /// A required word is missing.
     #[error("error: a required word is missing\n")]
     Missing,
-    /// LIST isn't 1 to 10,000 numbers in digits alone with commas between them.
-    #[error("error: LIST is 1 to 10,000 numbers of 0 to 4294967295 with commas between them\n")]
-    BadList,
+    /// This value isn't in digits alone, or is out of its range.
+    #[error("error: {0}\n")]
+    BadValue(Value),
     /// Memory ran out.
     #[error("refused 23 Memory\n")]
     Memory,
@@ -62,7 +127,7 @@ impl NoJob {
         ensures { result ≡ no_job_status self.now }
     {
         match self {
-            NoJob::Arguments(_) | NoJob::Missing | NoJob::BadList => Status::Usage,
+            NoJob::Arguments(_) | NoJob::Missing | NoJob::BadValue(_) => Status::Usage,
             NoJob::Memory => Status::Refused,
         }
     }
@@ -79,48 +144,105 @@ impl From<AllocError> for NoJob {
     }
 }
 
-/// The picks that LIST spells, or none where it isn't given.
-fn listed(alloc: Global, list: Option<&str>) -> Result<Vec<u32>, NoJob>
-    ensures picks { IfOk result (λ picks. listed_in (option_map (λ t. t.now) list.entry) ≡ Some picks.items) }
-    ensures none { IfErr result (IsOfList (listed_in (option_map (λ t. t.now) list.entry))) }
+/// The stencil of these words.
+fn stencil_for<'a>(
+    alloc: Global,
+    first: &'a str,
+    steps: &'a str,
+    workers: Option<&'a str>,
+) -> Result<Job<'a>, NoJob>
+    ensures work { IfOk result (λ job. work_for (stencil first.now steps.now (option_map (λ t. t.now) workers.entry))
+        ≡ Some (work_of job)) }
+    ensures range { IfOk result (λ job. IsInRange (work_of job)) }
+    ensures none { IfErr result (IsNoJobFor (stencil first.now steps.now (option_map (λ t. t.now) workers.entry))) }
 {
-    match list {
-        Some(text) => picks_of(alloc, text),
-        None => Ok(Vec::new(alloc)),
-    }
+    let first = first_of(alloc, first)?;
+    let steps = value_of(Value::Steps, 0, 100, steps)?;
+    let workers = workers_of(workers)?;
+    Ok(Job::Stencil {
+        first,
+        steps,
+        workers,
+    })
+}
+
+/// The pipeline of these words.
+fn pipeline_for<'a>(
+    stages: &'a str,
+    items: &'a str,
+    workers: Option<&'a str>,
+) -> Result<Job<'a>, NoJob>
+    ensures work { IfOk result (λ job. work_for (pipeline stages.now items.now (option_map (λ t. t.now) workers.entry))
+        ≡ Some (work_of job)) }
+    ensures range { IfOk result (λ job. IsInRange (work_of job)) }
+    ensures none { IfErr result (IsNoJobFor (pipeline stages.now items.now (option_map (λ t. t.now) workers.entry))) }
+{
+    let stages = value_of(Value::Stages, 1, 15, stages)?;
+    let items = value_of(Value::Items, 0, 100, items)?;
+    let workers = workers_of(workers)?;
+    Ok(Job::Pipeline {
+        stages,
+        items,
+        workers,
+    })
 }
 
 /// The job of a command with its words.
 fn job_for<'a>(alloc: Global, words: Words<'a>) -> Result<Job<'a>, NoJob>
     ensures work { IfOk result (λ job. work_for (asked_by words.entry) ≡ Some (work_of job)) }
-    ensures none { IfErr result (λ e. (e ≡ NoJob.Memory)
-        ⊎ ((e ≡ NoJob.BadList) × (work_for (asked_by words.entry) ≡ None))) }
+    ensures range { IfOk result (λ job. IsInRange (work_of job)) }
+    ensures none { IfErr result (IsNoJobFor (asked_by words.entry)) }
 {
     match words {
         Words::Events { file } => Ok(Job::Events { file }),
         Words::Schedule { file, picks, trace } => {
-            let picks = listed(alloc, picks)?;
+            let picks = picks_of(alloc, picks)?;
             Ok(Job::Schedule { file, picks, trace })
         }
+        Words::Run {
+            file,
+            workers,
+            trace,
+        } => {
+            let workers = workers_of(workers)?;
+            Ok(Job::Run {
+                file,
+                workers,
+                trace,
+            })
+        }
         Words::Replay { file } => Ok(Job::Replay { file }),
+        Words::Stencil {
+            first,
+            steps,
+            workers,
+        } => stencil_for(alloc, first, steps, workers),
+        Words::Pipeline {
+            stages,
+            items,
+            workers,
+        } => pipeline_for(stages, items, workers),
     }
 }
 
 /// The job that the words name; the first is the program's own name. `Arguments` where they name
-/// none, with `clap`'s message, the help or the version; `BadList` where only LIST is bad; `Memory`
-/// where it ran out.
+/// none, with `clap`'s message, the help or the version; `BadValue` where only the values are bad,
+/// with the first that is; `Memory` where it ran out.
 pub fn job_of<'a>(alloc: Global, arguments: &'a [&'a str]) -> Result<Job<'a>, NoJob>
     // The words are those of the job's command and no more.
     ensures work { IfOk result (λ job. work_in (map (λ w. w.now) arguments.entry.now) ≡ Some (work_of job)) }
+    // Its numbers are in their ranges.
+    ensures range { IfOk result (λ job. IsInRange (work_of job)) }
     // Words that name a job are refused for want of memory alone.
     ensures named { (work : Work) → work_in (map (λ w. w.now) arguments.entry.now) ≡ Some work
         → MatchResult result (λ job. work_of job ≡ work) (λ e. e ≡ NoJob.Memory) }
-    // Of words that ask for a command, whose LIST spells no picks, only LIST is named as bad.
-    ensures bad_list { (asked : Asked) → asked_in (map (λ w. w.now) arguments.entry.now) ≡ Some asked
-        → work_for asked ≡ None → IfErr result (λ e. (e ≡ NoJob.Memory) ⊎ (e ≡ NoJob.BadList)) }
+    // Of words that ask for a command, with values that are none, only the first such value is named as bad.
+    ensures bad_value { (asked : Asked) → asked_in (map (λ w. w.now) arguments.entry.now) ≡ Some asked
+        → work_for asked ≡ None → IfErr result (IsNoJobFor asked) }
     // It is named for no other reason.
-    ensures list { IfErr result (λ e. e ≡ NoJob.BadList → (asked : Asked)
-        × (asked_in (map (λ w. w.now) arguments.entry.now) ≡ Some asked) × (work_for asked ≡ None)) }
+    ensures value { IfErr result (λ e. (v : Value) → e ≡ NoJob.BadValue v → (asked : Asked)
+        × (asked_in (map (λ w. w.now) arguments.entry.now) ≡ Some asked) × (work_for asked ≡ None)
+        × (first_bad asked ≡ Some v)) }
     // So `events FILE` names that file, and the other commands theirs with the options after it,
     // where no word of theirs looks like an option.
     ensures plain { (program : List ℕ) (asked : Asked) (work : Work)

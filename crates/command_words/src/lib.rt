@@ -2,10 +2,10 @@
 #![tactic(auto)]
 
 mod command_line;
-mod picks;
+mod lists;
 mod words;
 
-pub use command_line::{Job, NoJob, job_of};
+pub use command_line::{Job, NoJob, Value, job_of};
 
 #[cfg(test)]
 mod tests;

@@ -1,8 +1,8 @@
 //! Words that name a job, and words that name none.
 mod bad_words;
 
-use crate::picks::{MOST_PICKS, picks_of};
-use crate::{Job, NoJob, job_of};
+use crate::lists::{MOST_PICKS, picks_of};
+use crate::{Job, NoJob, Value, job_of};
 use std::alloc::Global;
 use std::process::Abort;
 use std::test::Fail;
@@ -112,10 +112,160 @@ fn schedule_words(rt: HostRuntime) {
     }
 }
 
+/// Words of `run p`, with the workers and OUT that they name.
+type Ran = (&'static [&'static str], u32, Option<&'static str>);
+
+/// The words name the run of `p` by so many workers, with this OUT.
+fn runs<'a>(
+    rt: &impl Abort,
+    alloc: Global,
+    arguments: &'a [&'a str],
+    wanted: u32,
+    out: Option<&str>,
+) {
+    match job_of(alloc, arguments) {
+        Ok(
+            Job::Run {
+                file,
+                workers,
+                trace,
+            },
+        ) => {
+            assert_eq!(rt; file, "p");
+            assert_eq!(rt; workers, wanted);
+            assert_eq!(rt; trace, out);
+        }
+        _ => panic!(rt; "no run: {arguments:?}"),
+    }
+}
+
+#[test]
+fn run_words(rt: HostRuntime) {
+    const ROWS: [Ran; 5] = [
+        (&["phaser_run", "run", "p"], 2, None),
+        (&["phaser_run", "run", "p", "--workers", "1"], 1, None),
+        (&["phaser_run", "run", "--workers=16", "p"], 16, None),
+        (&["phaser_run", "run", "--trace", "t", "p"], 2, Some("t")),
+        (
+            &["phaser_run", "run", "p", "--trace", "t", "--workers", "007"],
+            7,
+            Some("t"),
+        ),
+    ];
+    for (arguments, workers, out) in ROWS {
+        runs(&rt, rt.alloc(), arguments, workers, out);
+    }
+}
+
+/// The words name the stencil of these values, steps and workers.
+fn is_stencil<'a>(
+    rt: &impl Abort,
+    alloc: Global,
+    arguments: &'a [&'a str],
+    wanted: (&[u32], u32, u32),
+) {
+    match job_of(alloc, arguments) {
+        Ok(
+            Job::Stencil {
+                first,
+                steps,
+                workers,
+            },
+        ) => {
+            assert_eq!(rt; first.as_slice(), wanted.0);
+            assert_eq!(rt; steps, wanted.1);
+            assert_eq!(rt; workers, wanted.2);
+        }
+        _ => panic!(rt; "no stencil: {arguments:?}"),
+    }
+}
+
+/// The words name the pipeline of so many stages, items and workers.
+fn is_pipeline<'a>(
+    rt: &impl Abort,
+    alloc: Global,
+    arguments: &'a [&'a str],
+    wanted: (u32, u32, u32),
+) {
+    match job_of(alloc, arguments) {
+        Ok(
+            Job::Pipeline {
+                stages,
+                items,
+                workers,
+            },
+        ) => {
+            assert_eq!(rt; stages, wanted.0);
+            assert_eq!(rt; items, wanted.1);
+            assert_eq!(rt; workers, wanted.2);
+        }
+        _ => panic!(rt; "no pipeline: {arguments:?}"),
+    }
+}
+
+#[test]
+fn kernel_words(rt: HostRuntime) {
+    is_stencil(
+        &rt,
+        rt.alloc(),
+        &[
+            "phaser_run",
+            "stencil",
+            "--first",
+            "0,1000000",
+            "--steps",
+            "0",
+        ],
+        (&[0, 1_000_000], 0, 2),
+    );
+    is_stencil(
+        &rt,
+        rt.alloc(),
+        &[
+            "phaser_run",
+            "stencil",
+            "--workers",
+            "3",
+            "--steps=100",
+            "--first",
+            "1,2,3,4,5,6,7,8,9,10,11,12,13,14,15,16",
+        ],
+        (
+            &[1, 2, 3, 4, 5, 6, 7, 8, 9, 10, 11, 12, 13, 14, 15, 16],
+            100,
+            3,
+        ),
+    );
+    is_pipeline(
+        &rt,
+        rt.alloc(),
+        &["phaser_run", "pipeline", "--stages", "1", "--items", "0"],
+        (1, 0, 2),
+    );
+    is_pipeline(
+        &rt,
+        rt.alloc(),
+        &[
+            "phaser_run",
+            "pipeline",
+            "--items",
+            "100",
+            "--stages",
+            "15",
+            "--workers",
+            "16",
+        ],
+        (15, 100, 16),
+    );
+}
+
 /// LIST spells no picks.
 fn is_no_list(rt: &impl Abort, alloc: Global, list: &str) {
-    let picks = picks_of(alloc, list);
-    assert!(rt; matches!(&picks, Err(NoJob::BadList)), "{list:?}");
+    let picks = picks_of(alloc, Some(list));
+    assert!(rt;
+        matches!(&picks, Err(NoJob::BadValue(Value::Picks))),
+        "{list:?}"
+    );
 }
 
 #[test]
@@ -154,7 +304,7 @@ fn ones(alloc: Global, count: usize) -> Result<String, Fail> {
 
 /// How many picks LIST spells; none where it is no list.
 fn length(alloc: Global, list: &str) -> Option<usize> {
-    match picks_of(alloc, list) {
+    match picks_of(alloc, Some(list)) {
         Ok(picks) => Some(picks.len()),
         Err(_) => None,
     }

@@ -2,9 +2,9 @@
 ghost use Rattle.std.specs.Prelude.{◌≡◌, ◌≢◌, List, Some, map, false, option_map, codes, IfErr, IfOk, MatchResult};
 ghost use Rattle.clap.specs.Words.{app_of, found_of, kind_of, new_app, rows_of, rule_of, with_rule, with_subcommand};
 ghost use Rattle.clap.specs.declared.builder.command.Command.TheViews.{out-Command as fields_of};
-ghost use Rattle.command_words.specs.CommandLine.{Asked, asked_among, asked_by, asked_in, bare_app, events_app, file_rule, option_rule, program_app, replay_app, schedule_app};
+ghost use Rattle.command_words.specs.CommandLine.{Asked, asked_among, asked_by, asked_in, bare_app, events_app, file_rule, filed_among, filed_app, needed_rule, option_rule, pipeline_among, pipeline_app, program_app, replay_app, run_app, running_app, schedule_app, stencil_among, stencil_app};
 
-use crate::command_line::NoJob;
+use crate::command_line::{NoJob, Value};
 use clap::error::ErrorKind;
 use clap::{Arg, ArgMatches, Command};
 use std::alloc::{AllocError, Global};
@@ -20,15 +20,30 @@ pub(crate) enum Words<'a> {
         picks: Option<&'a str>,
         trace: Option<&'a str>,
     },
+    Run {
+        file: &'a str,
+        workers: Option<&'a str>,
+        trace: Option<&'a str>,
+    },
     Replay {
         file: &'a str,
+    },
+    Stencil {
+        first: &'a str,
+        steps: &'a str,
+        workers: Option<&'a str>,
+    },
+    Pipeline {
+        stages: &'a str,
+        items: &'a str,
+        workers: Option<&'a str>,
     },
 }
 
 /// What an error of the reading of arguments comes to.
 fn no_job_for(error: clap::Error) -> NoJob
     ensures memory { kind_of error ≡ ErrorKind.OutOfMemory → result ≡ NoJob.Memory }
-    ensures no_list { result ≢ NoJob.BadList }
+    ensures no_value { (v : Value) → result ≢ NoJob.BadValue v }
 {
     match error.kind() {
         ErrorKind::OutOfMemory => NoJob::Memory,
@@ -69,9 +84,33 @@ with the number of the first bad act, or 0.";
 const PICKS_HELP: &str =
     "The tasks that are picked first: 1 to 10,000 numbers with commas between them";
 
+/// What `run --help` says of the file and of the lines.
+const RUN_HELP: &str = "\
+The file is a program, as schedule --help says it. Its tasks are run by N workers, each a thread;
+then the trace of the run is replayed, and the report is that of the replay.
+Lines: phaser N phases K, its folds, task T ended or refused, finish F tasks N, totals.
+A file that isn't a program is refused whole: refused 24 BadText at PLACE, with the number of the
+first bad act, or 0.";
+
+/// What the options `--workers` say of N.
+const WORKERS_HELP: &str = "How many threads: 1 to 16; without it 2";
+
+/// What `stencil --help` says of the kernel and of the lines.
+const STENCIL_HELP: &str = "\
+Each cell is a task with a phaser of its own, and looks at those of its neighbours. A step makes
+a cell a quarter, rounded down, of twice itself and its neighbours; outside the row a cell is 0.
+Lines: cells and the values after the last step, totals. A task that is refused, as for want of
+history, makes the run refused: refused NUMBER NAME.";
+
+/// What `pipeline --help` says of the kernel and of the lines.
+const PIPELINE_HELP: &str = "\
+Items 1, 2, 3 and so on go through stages, each a task that adds its own number, 1 to K.
+Lines: items and the values after the last stage, totals. A task that is refused makes the run
+refused: refused NUMBER NAME.";
+
 /// What `replay --help` says of the file and of the lines.
 const REPLAY_HELP: &str = "\
-The file is the trace of schedule, at most 67,108,864 bytes. Its events are made again one by one.
+The file is the trace of schedule or run, at most 67,108,864 bytes. Its events are made again one by one.
 Lines: the report of the run. A trace that no run makes is refused: refused 25 NotExplained at
 PLACE, with the number of the first event that can't be made there.";
 
@@ -158,6 +197,118 @@ fn schedule_command<'a>(alloc: Global) -> Result<Command<'a>, AllocError>
     picks_command(alloc)?.arg(trace)
 }
 
+/// `--workers N`.
+fn workers_argument<'a>(alloc: Global) -> Arg<'a>
+    ensures rule { rule_of result ≡ option_rule (codes "workers") }
+    ensures local { result.global ≡ false }
+{
+    option(alloc, "workers", "N", WORKERS_HELP)
+}
+
+/// `run FILE [--workers N]`.
+fn threads_command<'a>(alloc: Global) -> Result<Command<'a>, AllocError>
+    ensures app { IfOk result (λ c. app_of c ≡ with_rule (with_rule (new_app (codes "run")) file_rule)
+        (option_rule (codes "workers"))) }
+    ensures local { IfOk result (λ c. (fields_of c).has_globals ≡ false) }
+{
+    let command = file_command(
+        alloc,
+        "run",
+        "Runs a program of tasks on threads, and prints the report",
+        "The program; - reads standard input",
+        RUN_HELP,
+    )?;
+    command.arg(workers_argument(alloc))
+}
+
+/// `run FILE [--workers N] [--trace OUT]`.
+fn run_command<'a>(alloc: Global) -> Result<Command<'a>, AllocError>
+    ensures app { IfOk result (λ c. app_of c ≡ run_app) }
+    ensures local { IfOk result (λ c. (fields_of c).has_globals ≡ false) }
+{
+    let trace = option(alloc, "trace", "OUT", "Writes the trace into this file");
+    threads_command(alloc)?.arg(trace)
+}
+
+/// `--NAME VALUE`, which has to be there.
+fn needed<'a>(alloc: Global, name: &'a str, value: &'a str, help: &'a str) -> Arg<'a>
+    ensures rule { rule_of result ≡ needed_rule name.now }
+    ensures local { result.global ≡ false }
+{
+    option(alloc, name, value, help).required(true)
+}
+
+/// The command of a kernel, with the first value that it needs.
+fn kernel_command<'a>(
+    alloc: Global,
+    name: &'a str,
+    about: &'a str,
+    help: &'a str,
+    first: Arg<'a>,
+) -> Result<Command<'a>, AllocError>
+    requires local { first.global ≡ false }
+    ensures app { IfOk result (λ c. app_of c ≡ with_rule (new_app name.now) (rule_of first.entry)) }
+    ensures local { IfOk result (λ c. (fields_of c).has_globals ≡ false) }
+{
+    Command::new(alloc, name)
+        .about(about)
+        .after_help(help)
+        .arg(first)
+}
+
+/// `stencil --first LIST --steps S`.
+fn steps_command<'a>(alloc: Global) -> Result<Command<'a>, AllocError>
+    ensures app { IfOk result (λ c. app_of c ≡ with_rule (with_rule (new_app (codes "stencil"))
+        (needed_rule (codes "first"))) (needed_rule (codes "steps"))) }
+    ensures local { IfOk result (λ c. (fields_of c).has_globals ≡ false) }
+{
+    let command = kernel_command(
+        alloc,
+        "stencil",
+        "Runs a stencil over a row of cells on threads, and prints the cells",
+        STENCIL_HELP,
+        needed(
+            alloc,
+            "first",
+            "LIST",
+            "The first values of the cells: 1 to 16 numbers of 0 to 1,000,000 with commas between",
+        ),
+    )?;
+    command.arg(needed(alloc, "steps", "S", "How many steps: 0 to 100"))
+}
+
+/// `stencil --first LIST --steps S [--workers N]`.
+fn stencil_command<'a>(alloc: Global) -> Result<Command<'a>, AllocError>
+    ensures app { IfOk result (λ c. app_of c ≡ stencil_app) }
+    ensures local { IfOk result (λ c. (fields_of c).has_globals ≡ false) }
+{
+    steps_command(alloc)?.arg(workers_argument(alloc))
+}
+
+/// `pipeline --stages K --items N`.
+fn items_command<'a>(alloc: Global) -> Result<Command<'a>, AllocError>
+    ensures app { IfOk result (λ c. app_of c ≡ with_rule (with_rule (new_app (codes "pipeline"))
+        (needed_rule (codes "stages"))) (needed_rule (codes "items"))) }
+    ensures local { IfOk result (λ c. (fields_of c).has_globals ≡ false) }
+{
+    let command = kernel_command(
+        alloc,
+        "pipeline",
+        "Runs a pipeline of stages on threads, and prints the items",
+        PIPELINE_HELP,
+        needed(alloc, "stages", "K", "How many stages: 1 to 15"),
+    )?;
+    command.arg(needed(alloc, "items", "N", "How many items: 0 to 100"))
+}
+
+/// `pipeline --stages K --items N [--workers N]`.
+fn pipeline_command<'a>(alloc: Global) -> Result<Command<'a>, AllocError>
+    ensures app { IfOk result (λ c. app_of c ≡ pipeline_app) }
+    ensures local { IfOk result (λ c. (fields_of c).has_globals ≡ false) }
+{
+    items_command(alloc)?.arg(workers_argument(alloc))
+}
+
 /// `replay FILE`.
 fn replay_command<'a>(alloc: Global) -> Result<Command<'a>, AllocError>
     ensures app { IfOk result (λ c. app_of c ≡ replay_app) }
@@ -201,17 +352,41 @@ fn command_with_schedule<'a>(alloc: Global) -> Result<Command<'a>, AllocError>
     command_with_events(alloc)?.subcommand(schedule)
 }
 
+/// The program with `events`, `schedule` and `run`.
+fn command_with_run<'a>(alloc: Global) -> Result<Command<'a>, AllocError>
+    ensures app { IfOk result (λ c. app_of c ≡ running_app) }
+{
+    let run = run_command(alloc)?;
+    command_with_schedule(alloc)?.subcommand(run)
+}
+
+/// The program with the commands of a file.
+fn command_with_replay<'a>(alloc: Global) -> Result<Command<'a>, AllocError>
+    ensures app { IfOk result (λ c. app_of c ≡ filed_app) }
+{
+    let replay = replay_command(alloc)?;
+    command_with_run(alloc)?.subcommand(replay)
+}
+
+/// The program with `stencil` too.
+fn command_with_stencil<'a>(alloc: Global) -> Result<Command<'a>, AllocError>
+    ensures app { IfOk result (λ c. app_of c ≡ with_subcommand filed_app stencil_app.top) }
+{
+    let stencil = stencil_command(alloc)?;
+    command_with_replay(alloc)?.subcommand(stencil)
+}
+
 /// The whole command line.
 fn command<'a>(alloc: Global) -> Result<Command<'a>, AllocError>
     ensures app { IfOk result (λ c. app_of c ≡ program_app) }
 {
-    let replay = replay_command(alloc)?;
-    command_with_schedule(alloc)?.subcommand(replay)
+    let pipeline = pipeline_command(alloc)?;
+    command_with_stencil(alloc)?.subcommand(pipeline)
 }
 
-/// What the subcommand of this name is asked for.
-fn words_among<'a>(name: &str, found: &ArgMatches<'a>) -> Option<Words<'a>>
-    ensures { option_map asked_by result ≡ asked_among (name.now, rows_of (found_of found.now)) }
+/// What a command of a file is asked for.
+fn filed_among<'a>(name: &str, found: &ArgMatches<'a>) -> Option<Words<'a>>
+    ensures { option_map asked_by result ≡ filed_among name.now (rows_of (found_of found.now)) }
 {
     let file = found.get_str("file")?;
     match name {
@@ -221,8 +396,50 @@ fn words_among<'a>(name: &str, found: &ArgMatches<'a>) -> Option<Words<'a>>
             picks: found.get_str("picks"),
             trace: found.get_str("trace"),
         }),
+        "run" => Some(Words::Run {
+            file,
+            workers: found.get_str("workers"),
+            trace: found.get_str("trace"),
+        }),
         "replay" => Some(Words::Replay { file }),
         _ => None,
+    }
+}
+
+/// What a stencil is asked for.
+fn stencil_among<'a>(found: &ArgMatches<'a>) -> Option<Words<'a>>
+    ensures { option_map asked_by result ≡ stencil_among (rows_of (found_of found.now)) }
+{
+    let first = found.get_str("first")?;
+    let steps = found.get_str("steps")?;
+    Some(Words::Stencil {
+        first,
+        steps,
+        workers: found.get_str("workers"),
+    })
+}
+
+/// What a pipeline is asked for.
+fn pipeline_among<'a>(found: &ArgMatches<'a>) -> Option<Words<'a>>
+    ensures { option_map asked_by result ≡ pipeline_among (rows_of (found_of found.now)) }
+{
+    let stages = found.get_str("stages")?;
+    let items = found.get_str("items")?;
+    Some(Words::Pipeline {
+        stages,
+        items,
+        workers: found.get_str("workers"),
+    })
+}
+
+/// What the subcommand of this name is asked for.
+fn words_among<'a>(name: &str, found: &ArgMatches<'a>) -> Option<Words<'a>>
+    ensures { option_map asked_by result ≡ asked_among (name.now, rows_of (found_of found.now)) }
+{
+    match name {
+        "stencil" => stencil_among(found),
+        "pipeline" => pipeline_among(found),
+        _ => filed_among(name, found),
     }
 }
 
@@ -233,8 +450,8 @@ pub(crate) fn words_of<'a>(alloc: Global, arguments: &'a [&'a str]) -> Result<Wo
     // Words that name a command with its words are refused for want of memory alone.
     ensures named { (asked : Asked) → asked_in (map (λ w. w.now) arguments.entry.now) ≡ Some asked
         → MatchResult result (λ words. asked_by words ≡ asked) (λ e. e ≡ NoJob.Memory) }
-    // Nothing is said of LIST here.
-    ensures no_list { IfErr result (λ e. e ≢ NoJob.BadList) }
+    // Nothing is said of values here.
+    ensures no_value { IfErr result (λ e. (v : Value) → e ≢ NoJob.BadValue v) }
 {
     let matches = match command(alloc)?.try_get_matches_from(arguments) {
         Ok(matches) => matches,

@@ -5,7 +5,7 @@ use crate::job::Job;
 use crate::kind::Kind;
 use phase_model::{Op, Ops};
 use phase_modes::{Mode, Refusal};
-use scope_locks::{Out, PhaserTable};
+use scope_locks::{Out, PhaserTable, Tickets};
 use share_book::{Ledgers, Shares};
 use std::sync::Wait;
 
@@ -27,6 +27,7 @@ fn signal<K: Ledgers, R: Wait>(
     rt: &R,
     table: &PhaserTable<u32, K>,
     number: usize,
+    tickets: &Tickets,
     mine: &mut Shares<K>,
     out: &mut Out<u32>,
     task: u32,
@@ -34,7 +35,7 @@ fn signal<K: Ledgers, R: Wait>(
     requires { number < table.now.phasers }
 {
     if is_drained(out) {
-        let _signalled = table.signal(rt, number, mine, out, task, None);
+        let _signalled = table.signal(rt, number, tickets, mine, out, task, None);
     }
 }
 
@@ -43,6 +44,7 @@ fn pass_all<K: Ledgers, R: Wait>(
     rt: &R,
     table: &PhaserTable<u32, K>,
     number: usize,
+    tickets: &Tickets,
     mine: &mut Shares<K>,
     first: u32,
     tasks: u32,
@@ -50,7 +52,7 @@ fn pass_all<K: Ledgers, R: Wait>(
     requires { number < table.now.phasers }
 {
     for task in first..tasks {
-        let _passed = table.pass(rt, number, mine, task, task);
+        let _passed = table.pass(rt, number, tickets, mine, task, task);
     }
 }
 
@@ -59,6 +61,7 @@ fn signal_all<K: Ledgers, R: Wait>(
     rt: &R,
     table: &PhaserTable<u32, K>,
     number: usize,
+    tickets: &Tickets,
     mine: &mut Shares<K>,
     out: &mut Out<u32>,
     tasks: u32,
@@ -66,7 +69,7 @@ fn signal_all<K: Ledgers, R: Wait>(
     requires { number < table.now.phasers }
 {
     for task in 0..tasks {
-        signal(rt, table, number, mine, out, task);
+        signal(rt, table, number, tickets, mine, out, task);
     }
 }
 
@@ -92,17 +95,18 @@ fn ready<K: Ledgers, R: Wait>(
     rt: &R,
     table: &PhaserTable<u32, K>,
     number: usize,
+    tickets: &Tickets,
     mine: &mut Shares<K>,
     job: Job,
 ) -> Result<(), Refusal>
     requires { number < table.now.phasers }
 {
-    table.make(rt, number, mine, 0, Mode::SigWait, one_sum())?;
+    table.make(rt, number, tickets, mine, 0, Mode::SigWait, one_sum())?;
     for task in 1..job.tasks {
-        table.register(rt, number, mine, 0, task, mode_of(job.kind, task))?;
+        table.register(rt, number, tickets, mine, 0, task, mode_of(job.kind, task))?;
     }
     if job.kind == Kind::Ahead {
-        pass_all(rt, table, number, mine, 2, job.tasks);
+        pass_all(rt, table, number, tickets, mine, 2, job.tasks);
     }
     Ok(())
 }
@@ -112,6 +116,7 @@ fn phase<K: Ledgers, R: Wait>(
     rt: &R,
     table: &PhaserTable<u32, K>,
     number: usize,
+    tickets: &Tickets,
     mine: &mut Shares<K>,
     out: &mut Out<u32>,
     job: Job,
@@ -121,21 +126,21 @@ fn phase<K: Ledgers, R: Wait>(
     match job.kind {
         Kind::Nothing => {}
         Kind::Turn => {
-            signal_all(rt, table, number, mine, out, job.tasks);
-            pass_all(rt, table, number, mine, 0, job.tasks);
+            signal_all(rt, table, number, tickets, mine, out, job.tasks);
+            pass_all(rt, table, number, tickets, mine, 0, job.tasks);
         }
         Kind::Ahead => {
-            signal(rt, table, number, mine, out, 1);
-            pass_all(rt, table, number, mine, 1, 2);
+            signal(rt, table, number, tickets, mine, out, 1);
+            pass_all(rt, table, number, tickets, mine, 1, 2);
         }
         Kind::Follow => {
-            signal(rt, table, number, mine, out, 0);
-            pass_all(rt, table, number, mine, 0, job.tasks);
+            signal(rt, table, number, tickets, mine, out, 0);
+            pass_all(rt, table, number, tickets, mine, 0, job.tasks);
         }
         Kind::Free => {
-            pass_all(rt, table, number, mine, 1, job.tasks);
-            signal(rt, table, number, mine, out, 0);
-            pass_all(rt, table, number, mine, 0, job.tasks);
+            pass_all(rt, table, number, tickets, mine, 1, job.tasks);
+            signal(rt, table, number, tickets, mine, out, 0);
+            pass_all(rt, table, number, tickets, mine, 0, job.tasks);
         }
     }
 }
@@ -145,15 +150,16 @@ pub fn call_one<K: Ledgers, R: Wait>(
     rt: &R,
     table: &PhaserTable<u32, K>,
     number: usize,
+    tickets: &Tickets,
     mine: &mut Shares<K>,
     out: &mut Out<u32>,
     job: Job,
 ) -> Result<(), Refusal>
     requires { number < table.now.phasers }
 {
-    ready(rt, table, number, mine, job)?;
+    ready(rt, table, number, tickets, mine, job)?;
     for _phase in 0..job.phases {
-        phase(rt, table, number, mine, out, job);
+        phase(rt, table, number, tickets, mine, out, job);
     }
     Ok(())
 }

@@ -8,10 +8,11 @@ use crate::calls::is_drained;
 use crate::command_line::job_of;
 use crate::kind::Kind;
 use crate::threads::{events_of, fresh, given_back, numbered};
-use phase_model::{Call, Look, Op, Ops, Reply, explain};
+use merging::merged;
+use phase_model::{Call, Look, Op, Ops, Reply};
 use phase_modes::{Limits, Mode, Refusal};
 use scope_locks::{
-    FinishParts, FinishTable, Out, PassAnswer, PhaserCell, PhaserParts, PhaserTable, ShutAnswer,
+    FinishParts, FinishTable, Out, PassAnswer, PhaserCell, PhaserTable, ShutAnswer, Tickets,
 };
 use share_book::{Blanks, Books, Ledgers, PhaserBook, Seven, Shares, Totals, gather, open};
 use std::alloc::Global;
@@ -21,10 +22,12 @@ use std::sync::Wait;
 use std::sync::ledger::Ledger;
 use std::test::*;
 use std::thread::Threads;
+use trace_model::Part;
 
 mod books;
 mod examples_on_table;
 mod finishes;
+mod merging;
 mod threads;
 mod waiter;
 
@@ -60,6 +63,7 @@ fn answer_to<K: Ledgers, R: Wait>(
     rt: &R,
     table: &PhaserTable<u32, K>,
     number: usize,
+    tickets: &Tickets,
     mine: &mut Shares<K>,
     out: &mut Out<u32>,
     ops: Ops,
@@ -69,20 +73,27 @@ fn answer_to<K: Ledgers, R: Wait>(
     requires empty { out.old ≡ [] }
 {
     match call {
-        Call::Make(task, mode) => plainly(table.make(rt, number, mine, task, mode, ops)),
+        Call::Make(task, mode) => plainly(table.make(rt, number, tickets, mine, task, mode, ops)),
         Call::Register(parent, child, mode) => {
-            plainly(table.register(rt, number, mine, parent, child, mode))
+            plainly(table.register(rt, number, tickets, mine, parent, child, mode))
         }
         Call::Signal(task, proposed) => {
-            plainly(table.signal(rt, number, mine, out, task, proposed))
+            plainly(table.signal(rt, number, tickets, mine, out, task, proposed))
         }
-        Call::Pass(task) => turned(table.pass(rt, number, mine, task, task)),
-        Call::SingleDone(task) => plainly(table.single_done(rt, number, mine, out, task)),
+        Call::Pass(task) => turned(table.pass(rt, number, tickets, mine, task, task)),
+        Call::SingleDone(task) => plainly(table.single_done(rt, number, tickets, mine, out, task)),
         Call::Send(task, accumulator, value) => {
-            plainly(table.send(rt, number, mine, task, accumulator, value))
+            plainly(table.send(rt, number, tickets, mine, task, accumulator, value))
         }
-        Call::Look(task, accumulator) => looked(table.look(rt, number, mine, task, accumulator)),
-        Call::Drop(task) => plainly(table.drop_task(rt, number, mine, out, task)),
+        Call::Look(task, accumulator) => looked(table.look(
+            rt,
+            number,
+            tickets,
+            mine,
+            task,
+            accumulator,
+        )),
+        Call::Drop(task) => plainly(table.drop_task(rt, number, tickets, mine, out, task)),
     }
 }
 
@@ -112,6 +123,7 @@ fn answer_alone<K: Ledgers, R: Wait>(
     rt: &R,
     alloc: Global,
     table: &PhaserTable<u32, K>,
+    tickets: &Tickets,
     mine: &mut Shares<K>,
     ops: Ops,
     call: Call,
@@ -121,7 +133,7 @@ fn answer_alone<K: Ledgers, R: Wait>(
     let Ok(mut out) = Out::new(alloc) else {
         return Reply::Refused(Refusal::Memory);
     };
-    answer_to(rt, table, 0, mine, &mut out, ops, call)
+    answer_to(rt, table, 0, tickets, mine, &mut out, ops, call)
 }
 
 /// Each call on phaser 0 is answered as its row says.
@@ -129,6 +141,7 @@ fn answers<K: Ledgers, R: Abort + Wait>(
     rt: &R,
     alloc: Global,
     table: &PhaserTable<u32, K>,
+    tickets: &Tickets,
     mine: &mut Shares<K>,
     ops: Ops,
     rows: &[Row],
@@ -136,7 +149,7 @@ fn answers<K: Ledgers, R: Abort + Wait>(
     requires { 0 < table.now.phasers }
 {
     for (call, expected) in rows {
-        let answer = answer_alone(rt, alloc, table, mine, ops, *call);
+        let answer = answer_alone(rt, alloc, table, tickets, mine, ops, *call);
         assert_eq!(rt; answer, *expected, "{call:?}");
     }
 }
@@ -146,6 +159,7 @@ fn answers_the_one<K: Ledgers, R: Abort + Wait>(
     rt: &R,
     alloc: Global,
     table: &PhaserTable<u32, K>,
+    tickets: &Tickets,
     shares: &mut Vec<Shares<K>>,
     ops: Ops,
     rows: &[Row],
@@ -154,18 +168,8 @@ fn answers_the_one<K: Ledgers, R: Abort + Wait>(
 {
     assert_eq!(rt; shares.len(), 1);
     if let Some(mine) = shares.get_mut(0) {
-        answers(rt, alloc, table, mine, ops, rows);
+        answers(rt, alloc, table, tickets, mine, ops, rows);
     }
-}
-
-/// How many events the phasers' histories have. Each is explained.
-fn events_explained<K: Ledgers>(rt: &impl Abort, parts: &PhaserParts<K>) -> u64 {
-    let mut events = 0u64;
-    for state in &parts.states {
-        assert_eq!(rt; explain(state.history()), Ok(()));
-        events = events.saturating_add(u64::from(state.history().len()));
-    }
-    events
 }
 
 /// The totals, which are of so many events.
@@ -179,14 +183,19 @@ fn of_events(
     Ok(totals)
 }
 
-/// What the table's books add up to, which is of as many events as its histories have.
+/// What the table's books add up to, which is of as many events as its histories have. These are
+/// merged.
 fn gathered<K: Ledgers>(
     rt: &impl Abort,
+    alloc: Global,
+    limits: Limits,
     table: PhaserTable<u32, K>,
     shares: Vec<Shares<K>>,
-) -> Result<Totals, Refusal> {
+) -> Result<Totals, Refusal>
+    requires { limits_fit limits ≡ true }
+{
     let parts = table.into_parts();
-    let events = events_explained(rt, &parts);
+    let events = merged(rt, alloc, limits, &parts.parts)?;
     of_events(rt, gather(shares, parts.phasers, parts.books), events)
 }
 
@@ -202,8 +211,8 @@ fn events_of_rows(rows: &[Row]) -> u64 {
     events
 }
 
-/// Each call on a new phaser is answered as its row says; the history that they leave is explained,
-/// and gathered. Names the ledgers.
+/// Each call on a new phaser is answered as its row says; the history that they leave is merged, and
+/// gathered. Names the ledgers.
 fn example<R: Abort + Wait>(
     rt: &R,
     alloc: Global,
@@ -264,8 +273,8 @@ fn play<K: Ledgers, R: Abort + Wait>(
     requires one { blanks.phasers ≡ 1 }
 {
     let (table, mut shares) = fresh::<K>(alloc, limits, blanks)?;
-    answers_the_one(rt, alloc, &table, &mut shares, ops, rows);
-    gathered(rt, table, shares)
+    answers_the_one(rt, alloc, &table, &Tickets::new(), &mut shares, ops, rows);
+    gathered(rt, alloc, limits, table, shares)
 }
 
 #[test]

@@ -6,7 +6,7 @@ ghost use Rattle.share_book.specs.Opening.{IsNamed, IsParted};
 use crate::calls::call_one;
 use crate::job::Job;
 use phase_modes::{Limits, Refusal};
-use scope_locks::{Out, PhaserTable};
+use scope_locks::{Out, PhaserTable, Tickets};
 use share_book::{Blanks, Ledgers, Seven, Shares, gather, open};
 use std::alloc::Global;
 use std::marker::Brand;
@@ -74,6 +74,7 @@ fn work<K: Ledgers, R: Wait>(
     rt: &R,
     alloc: Global,
     table: &PhaserTable<u32, K>,
+    tickets: &Tickets,
     job: Job,
     worker: (u32, Shares<K>),
 ) -> Result<Shares<K>, Refusal> {
@@ -83,7 +84,7 @@ fn work<K: Ledgers, R: Wait>(
     for step in 0..job.phasers {
         let number = first.saturating_add(step) as usize;
         if number < table.phasers {
-            call_one(rt, table, number, &mut mine, &mut out, job)?;
+            call_one(rt, table, number, tickets, &mut mine, &mut out, job)?;
         }
     }
     Ok(mine)
@@ -94,6 +95,7 @@ fn work_all<K: Ledgers + Send + Sync, R: Threads + Wait + Sync>(
     rt: &R,
     alloc: Global,
     table: &PhaserTable<u32, K>,
+    tickets: &Tickets,
     job: Job,
     shares: Vec<Shares<K>>,
 ) -> Result<Vec<Shares<K>>, Refusal>
@@ -107,7 +109,11 @@ where
     K::Room: Send + Sync,
 {
     let staff = numbered(alloc, shares)?;
-    let done = thread::map_vec(rt, staff, &|worker| work(rt, alloc, table, job, worker))?;
+    let done = thread::map_vec(
+        rt,
+        staff,
+        &|worker| { work(rt, alloc, table, tickets, job, worker) },
+    )?;
     given_back(alloc, done)
 }
 
@@ -140,7 +146,8 @@ where
         K.UpByWorker.parts K.DownByPhaser.parts K.DownByWorker.parts K.Room.parts }
 {
     let (table, shares) = fresh::<K>(alloc, LIMITS, blanks)?;
-    let shares = work_all(rt, alloc, &table, job, shares)?;
+    let tickets = Tickets::new();
+    let shares = work_all(rt, alloc, &table, &tickets, job, shares)?;
     events_on(table, shares)
 }
 

@@ -1,32 +1,39 @@
 //! The program: the words of the command line to a job, the job's file to lines.
 #![tactic(auto)]
 
-ghost use Rattle.std.specs.Prelude.{◌≡◌, ◌≢◌, ◌⊎◌, IfSome, Ok, ⊤};
+mod trace_file;
+
+ghost use Rattle.std.specs.Prelude.{◌≡◌, ◌≢◌, ◌⊎◌, ◌<◌, ◌≤◌, length, IfSome, Ok, ⊤};
 ghost use Rattle.events_text.specs.Form.{Form};
 ghost use Rattle.job_script.specs.Program.{Program};
 ghost use Rattle.job_ends.specs.Ends.{status_of};
-ghost use Rattle.command_words.specs.CommandLine.{no_job_status};
+ghost use Rattle.command_words.specs.CommandLine.{IsInRange, no_job_status, work_of};
 ghost use Rattle.events_job.specs.File.{file_spelled};
-ghost use Rattle.schedule_job.specs.Scheduled.{program_spelled};
+ghost use Rattle.program_texts.specs.Texts.{program_spelled};
 ghost use Rattle.replay_job.specs.Replayed.{Explains};
 
+use crate::trace_file::make_out;
 use command_words::{Job, NoJob, job_of};
 use events_job::events_from;
 use job_ends::{Failure, Reads, Status, bytes_of, write_text};
+use kernels_job::{pipeline_on, stencil_on};
 use phase_modes::Refusal;
 use replay_job::replay_on;
+use run_job::run_on;
 use schedule_job::schedule_on;
 use std::env;
 use std::fs::File;
 use std::io::{BufWriter, ErrorKind, Read};
 use std::process::ExitCode;
+use std::sync::Wait;
+use std::thread::Threads;
 
 fn main(rt: HostRuntime) -> ExitCode {
-    ExitCode::from(run(&rt).code())
+    ExitCode::from(run(&rt, &rt).code())
 }
 
 /// Reads the words, and does the job that they name.
-fn run(rt: &HostRuntime) -> Status {
+fn run<H: Threads + Wait + Sync>(rt: &HostRuntime, threads: &H) -> Status {
     let arguments: Vec<String> = match env::args(rt) {
         Ok(args) => match args.collect(rt.alloc()) {
             Ok(arguments) => arguments,
@@ -42,7 +49,7 @@ fn run(rt: &HostRuntime) -> Status {
         }
     }
     match job_of(rt.alloc(), borrowed.as_slice()) {
-        Ok(job) => open_and_do(rt, &job),
+        Ok(job) => open_and_do(rt, threads, &job),
         Err(no_job) => print_no_job(rt, &no_job),
     }
 }
@@ -81,28 +88,54 @@ fn out_of_memory(rt: &HostRuntime) -> Status
     failed(rt, Failure::Refused(Refusal::Memory))
 }
 
-/// Does the job on the file that it names, or on standard input for `-`.
-fn open_and_do(rt: &HostRuntime, job: &Job<'_>) -> Status
+/// Does the job on the file that it names, or on standard input for `-`. A job that names none
+/// reads nothing.
+fn open_and_do<H: Threads + Wait + Sync>(rt: &HostRuntime, threads: &H, job: &Job<'_>) -> Status
+    requires { IsInRange (work_of job.now) }
     ensures { result ≢ Status.Usage }
 {
-    let file = job.file();
+    let Some(file) = job.file() else {
+        let mut nothing: &[u8] = &[];
+        return do_on(rt, threads, job, &mut nothing);
+    };
     if file == "-" {
-        return do_on(rt, job, &mut rt.stdin());
+        return do_on(rt, threads, job, &mut rt.stdin());
     }
     match File::open(rt, file) {
-        Ok(mut opened) => do_on(rt, job, &mut opened),
+        Ok(mut opened) => do_on(rt, threads, job, &mut opened),
         Err(_) => failed(rt, Failure::Read),
     }
 }
 
 /// Does the job on what the reader gives.
-fn do_on<R: Read>(rt: &HostRuntime, job: &Job<'_>, reader: &mut R) -> Status
+fn do_on<H: Threads + Wait + Sync, R: Read>(
+    rt: &HostRuntime,
+    threads: &H,
+    job: &Job<'_>,
+    reader: &mut R,
+) -> Status
+    requires { IsInRange (work_of job.now) }
     ensures { result ≢ Status.Usage }
 {
     match job {
         Job::Events { .. } => answer(rt, reader),
-        Job::Schedule { picks, trace, .. } => schedule(rt, picks, *trace, reader),
+        Job::Schedule { file, picks, trace } => schedule(rt, picks, file, *trace, reader),
+        Job::Run {
+            file,
+            workers,
+            trace,
+        } => run_program(rt, threads, *workers, file, *trace, reader),
         Job::Replay { .. } => replay(rt, reader),
+        Job::Stencil {
+            first,
+            steps,
+            workers,
+        } => stencil(rt, threads, first, *steps, *workers),
+        Job::Pipeline {
+            stages,
+            items,
+            workers,
+        } => pipeline(rt, threads, *stages, *items, *workers),
     }
 }
 
@@ -122,6 +155,7 @@ fn answer<R: Read>(rt: &HostRuntime, reader: &mut R) -> Status
 fn schedule<R: Read>(
     rt: &HostRuntime,
     picks: &[u32],
+    file: &str,
     out_name: Option<&str>,
     reader: &mut R,
 ) -> Status
@@ -132,9 +166,9 @@ fn schedule<R: Read>(
     let Some(name) = out_name else {
         return schedule_into(rt, picks, &mut None::<File>, reader);
     };
-    match File::create(rt, name) {
-        Ok(file) => schedule_into(rt, picks, &mut Some(file), reader),
-        Err(_) => failed(rt, Failure::Write),
+    match make_out(rt, file, name) {
+        Ok(out) => schedule_into(rt, picks, &mut Some(out), reader),
+        Err(failure) => failed(rt, failure),
     }
 }
 
@@ -150,13 +184,116 @@ fn schedule_into<R: Read>(
     ensures usage { result ≢ Status.Usage }
 {
     let (alloc, mut reads) = (rt.alloc(), Reads::none());
-    match bytes_of(alloc, reader, &mut reads, schedule_job::MOST_BYTES) {
+    match bytes_of(alloc, reader, &mut reads, program_texts::MOST_BYTES) {
         Ok(bytes) => {
             let (mut out, mut faults) = (rt.stdout(), rt.stderr());
             schedule_on(alloc, &bytes, picks, &mut out, &mut faults, trace_out)
         }
         Err(failure) => failed(rt, failure),
     }
+}
+
+/// Makes or empties OUT, where it is named, and runs the program that the reader gives by workers.
+fn run_program<H: Threads + Wait + Sync, R: Read>(
+    rt: &HostRuntime,
+    threads: &H,
+    workers: u32,
+    file: &str,
+    out_name: Option<&str>,
+    reader: &mut R,
+) -> Status
+    requires { (0 < workers) × (workers ≤ 16) }
+    ensures done { result ≡ Status.Done → IfSome (R.remaining reader.old) (λ all.
+        (p : Program) × (program_spelled all ≡ Ok p)) }
+    ensures usage { result ≢ Status.Usage }
+{
+    let Some(name) = out_name else {
+        return run_into(rt, threads, workers, &mut None::<File>, reader);
+    };
+    match make_out(rt, file, name) {
+        Ok(out) => run_into(rt, threads, workers, &mut Some(out), reader),
+        Err(failure) => failed(rt, failure),
+    }
+}
+
+/// Runs the program that the reader gives by workers, and prints the report on standard output.
+fn run_into<H: Threads + Wait + Sync, R: Read>(
+    rt: &HostRuntime,
+    threads: &H,
+    workers: u32,
+    trace_out: &mut Option<File>,
+    reader: &mut R,
+) -> Status
+    requires { (0 < workers) × (workers ≤ 16) }
+    ensures done { result ≡ Status.Done → IfSome (R.remaining reader.old) (λ all.
+        (p : Program) × (program_spelled all ≡ Ok p)) }
+    ensures usage { result ≢ Status.Usage }
+{
+    let (alloc, mut reads) = (rt.alloc(), Reads::none());
+    match bytes_of(alloc, reader, &mut reads, program_texts::MOST_BYTES) {
+        Ok(bytes) => {
+            let (mut out, mut faults) = (rt.stdout(), rt.stderr());
+            run_on(
+                threads,
+                alloc,
+                &bytes,
+                workers,
+                &mut out,
+                &mut faults,
+                trace_out,
+            )
+        }
+        Err(failure) => failed(rt, failure),
+    }
+}
+
+/// Runs the stencil, and prints its cells on standard output.
+fn stencil<H: Threads + Wait + Sync>(
+    rt: &HostRuntime,
+    threads: &H,
+    first: &[u32],
+    steps: u32,
+    workers: u32,
+) -> Status
+    requires few { length first.now ≤ 16 }
+    requires workers { (0 < workers) × (workers ≤ 16) }
+    ensures usage { result ≢ Status.Usage }
+{
+    let (mut out, mut faults) = (rt.stdout(), rt.stderr());
+    stencil_on(
+        threads,
+        rt.alloc(),
+        first,
+        steps,
+        workers,
+        &mut out,
+        &mut faults,
+    )
+}
+
+/// Runs the pipeline, and prints its items on standard output.
+fn pipeline<H: Threads + Wait + Sync>(
+    rt: &HostRuntime,
+    threads: &H,
+    stages: u32,
+    items: u32,
+    workers: u32,
+) -> Status
+    requires stages { stages ≤ 15 }
+    requires items { items ≤ 100 }
+    requires workers { (0 < workers) × (workers ≤ 16) }
+    ensures usage { result ≢ Status.Usage }
+{
+    let (mut out, mut faults) = (rt.stdout(), rt.stderr());
+    pipeline_on(
+        threads,
+        rt.alloc(),
+        stages,
+        items,
+        workers,
+        &mut out,
+        &mut faults,
+    )
 }
 
 /// Replays the trace that the reader gives, and prints the report on standard output.

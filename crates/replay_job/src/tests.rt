@@ -7,6 +7,7 @@ use std::process::Abort;
 use std::test::Fail;
 use trace_model::{Trace, TracedEvent};
 
+mod logs;
 mod replays;
 mod texts;
 mod traces;

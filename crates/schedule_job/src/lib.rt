@@ -3,7 +3,7 @@
 
 mod scheduling;
 
-pub use scheduling::{MOST_BYTES, ending_on, schedule_bytes, schedule_on};
+pub use scheduling::{ending_on, schedule_bytes, schedule_on};
 
 #[cfg(test)]
 mod tests;

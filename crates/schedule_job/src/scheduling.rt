@@ -1,76 +1,17 @@
 //! Runs a program's text by picks, and writes the trace and the report.
-ghost use Rattle.std.specs.Prelude.{◌≡◌, ◌≢◌, ◌⊎◌, Ok, length, nat_le, OnOk, IfOk, IfErr};
+ghost use Rattle.std.specs.Prelude.{◌≡◌, ◌≢◌, Ok, OnOk, IfErr};
 ghost use Rattle.std.specs.Io.KnownBytes.{Appends, Keeps};
-ghost use Rattle.std.specs.String.{string_bytes};
-ghost use Rattle.world_model.specs.ReportLines.{report_text};
 ghost use Rattle.job_script.specs.Program.{Program as Programs};
 ghost use Rattle.job_ends.specs.Ends.{status_of, Reports, ReportsStatus};
-ghost use Rattle.schedule_job.specs.Out.{AppendsOut, KeepsOut};
-ghost use Rattle.schedule_job.specs.Scheduled.{program_spelled, report_for, trace_line, IsOfSchedule, Runs};
+ghost use Rattle.program_texts.specs.Out.{AppendsOut, KeepsOut};
+ghost use Rattle.program_texts.specs.Texts.{program_spelled, report_for, trace_line};
+ghost use Rattle.schedule_job.specs.Scheduled.{IsOfSchedule, Runs};
 
-use job_ends::{Ending, Failure, Status, put_text};
-use job_script::read_program;
-use phase_modes::Refusal;
+use job_ends::{Ending, Failure, Status};
+use program_texts::{program_of, put_run};
 use schedule_run::run_picks;
 use std::alloc::Global;
 use std::io::Write;
-use trace_model::Trace;
-use trace_text::to_json;
-use world_model::WorldReport;
-
-/// How many bytes a program's text has at most.
-pub const MOST_BYTES: usize = 1_048_576;
-
-/// Whether there are no more bytes than a program's text may have.
-fn fits(input: &[u8]) -> bool
-    ensures { result ≡ nat_le (length input.now) MOST_BYTES }
-{
-    input.len() <= MOST_BYTES
-}
-
-/// The lines of the report.
-fn lines_of(alloc: Global, report: &WorldReport) -> Result<String, Failure>
-    ensures lines { IfOk result (λ text. string_bytes text ≡ report_text report.now) }
-    ensures memory { IfErr result (λ f. f ≡ Failure.Refused Refusal.Memory) }
-{
-    match report.to_string(alloc) {
-        Ok(lines) => Ok(lines),
-        Err(_) => Err(Failure::Refused(Refusal::Memory)),
-    }
-}
-
-/// The text of the trace, with a newline.
-fn text_of(alloc: Global, trace: &Trace) -> Result<String, Failure>
-    ensures text { IfOk result (λ text. string_bytes text ≡ trace_line trace.now) }
-    ensures memory { IfErr result (λ f. f ≡ Failure.Refused Refusal.Memory) }
-{
-    let mut text = to_json(alloc, trace)?;
-    match text.push_str("\n") {
-        Ok(()) => Ok(text),
-        Err(_) => Err(Failure::Refused(Refusal::Memory)),
-    }
-}
-
-/// Writes the text of the trace to OUT, where there is an OUT.
-fn put_trace<T: Write>(
-    alloc: Global,
-    trace: &Trace,
-    trace_out: &mut Option<T>,
-) -> Result<(), Failure>
-    ensures done { OnOk result (AppendsOut T.contents trace_out.old trace_out.new (trace_line trace.now)) }
-    // Without memory for the text nothing is written.
-    ensures memory { IfErr result (λ f. status_of f ≡ Status.Refused
-        → (f ≡ Failure.Refused Refusal.Memory) × KeepsOut T.contents trace_out.old trace_out.new) }
-    ensures failure { IfErr result (λ f. (f ≡ Failure.Refused Refusal.Memory) ⊎ (f ≡ Failure.Write)) }
-{
-    match trace_out {
-        None => Ok(()),
-        Some(writer) => {
-            let text = text_of(alloc, trace)?;
-            put_text(writer, text.as_str())
-        }
-    }
-}
 
 /// Reads a program's text, runs the program by the picks, and then by rounds over its tasks, and
 /// writes the trace to OUT, where there is an OUT, and then the report. Nothing is written before
@@ -93,14 +34,9 @@ pub fn schedule_bytes<W: Write, T: Write>(
     // A text is refused at its first fault, and a write fails only for a text that has none.
     ensures failure { IfErr result (IsOfSchedule input.now) }
 {
-    if !fits(input) {
-        return Err(Failure::Refused(Refusal::BadText(0)));
-    }
-    let program = read_program(alloc, input)?;
+    let program = program_of(alloc, input)?;
     let run = run_picks(alloc, &program, picks)?;
-    let lines = lines_of(alloc, &run.report)?;
-    put_trace(alloc, &run.trace, trace_out)?;
-    put_text(out, lines.as_str())?;
+    put_run(alloc, &run.report, &run.trace, out, trace_out)?;
     Ok(())
 }
 

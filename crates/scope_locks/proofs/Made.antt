@@ -1,5 +1,5 @@
 -- What making a phaser with operators leaves of the fact that its cell keeps.
-use Rattle.std.proofs.Common.{◌≡◌, ℕ, ◌+◌, Bool, List, [], ◌∷◌, ap, sym, refl, ◌∙◌}
+use Rattle.std.proofs.Common.{◌≡◌, ℕ, ◌+◌, ◌≤◌, Bool, List, [], ◌∷◌, length, ap, sym, refl, ◌∙◌, arith}
 use Rattle.phase_modes.specs.declared.limits.Limits.{Limits}
 use Rattle.phase_modes.specs.declared.reg.Mode.{Mode}
 use Rattle.phase_model.specs.declared.history.Event.{Event}
@@ -14,7 +14,7 @@ use Rattle.share_book.specs.Accounts.{Entry}
 use Rattle.scope_locks.specs.declared.parking.Parked.{Parked}
 use Rattle.scope_locks.specs.Amounts.{amount_if}
 use Rattle.scope_locks.specs.Cells.{IsKept}
-use Rattle.scope_locks.proofs.Written.{Matches, kept, stays_waiting}
+use Rattle.scope_locks.proofs.Written.{Matches, Ticketed, ticketed, kept, stays_waiting}
 
 -- the same phaser with other operators
 abbrev with_ops : Story → List Op → Story
@@ -61,3 +61,29 @@ kept_made s s' ops b b' ps t m added e k matches is posted room = go (reply s (m
         let matches' : Matches v (make t m) added e = record { weighs = matches.weighs; is_done = matches.is_done } in
         let is' : s' ≡ after v (reply v (make t m)) = is ∙ (ap (λ (r : Reply). made_with s ops r) q ∙ sym (ap (λ (r : Reply). after v r) q)) in
         kept v s' b b' ps ps (make t m) added e k' matches' is' posted room (stays_waiting v s' b ps (make t m) k' is' refl) k'.once
+
+-- and its tickets are those of its events
+pub ticketed_made : (s s' : Story) (ops : List Op) (drawn drawn' room room' : ℕ) (t : ℕ) (m : Mode) (added : Bool) (e : Event)
+    → drawn ≡ length s.past
+    → s.limits.history ≤ room
+    → Matches s (make t m) added e
+    → s' ≡ made_with s ops (reply s (make t m))
+    → drawn' ≡ drawn + (amount_if added e).events
+    → room' ≡ room
+    → Ticketed s' drawn' room'
+ticketed_made s s' ops drawn drawn' room room' t m added e each fits matches is more same =
+    let u = after s (reply s (make t m)) in
+    let k = ticketed s u drawn drawn' room room' (make t m) added e each fits matches refl more same in
+    let long = ap (λ (v : Story). length v.past) is ∙ as_long (reply s (make t m)) in
+    let bound = ap (λ (v : Story). v.limits.history) is ∙ as_bound (reply s (make t m)) in
+    record { each = omega (arith, k.each, long); fits = omega (arith, k.fits, bound) }
+  where
+    as_long : (r : Reply) → length (made_with s ops r).past ≡ length (after s r).past
+    as_long (refused x) = refl
+    as_long not_yet = refl
+    as_long (done f) = refl
+
+    as_bound : (r : Reply) → (made_with s ops r).limits.history ≡ (after s r).limits.history
+    as_bound (refused x) = refl
+    as_bound not_yet = refl
+    as_bound (done f) = refl

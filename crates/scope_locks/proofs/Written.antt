@@ -1,8 +1,9 @@
 -- What a call leaves of the fact that a cell keeps: one step for all calls.
-use Rattle.std.proofs.Common.{◌≡◌, ℕ, ◌+◌, ◌<◌, Bool, true, false, List, [], ◌∷◌, length, Result, Ok, Err, cond, refl, ap, sym, ◌∙◌, subst, arith}
+use Rattle.std.proofs.Common.{◌≡◌, ℕ, ◌+◌, ◌<◌, ◌≤◌, Bool, true, false, List, [], ◌∷◌, length, Result, Ok, Err, cond, refl, ap, sym, ◌∙◌, subst, arith}
 use Rattle.std.specs.Prelude.{OnErr}
 use Rattle.std.specs.Result.{is_ok}
 use Rattle.std.proofs.lemmas.Bool.{leb-true, and_parts, and_from}
+use Rattle.phase_modes.specs.declared.limits.Limits.{Limits}
 use Rattle.phase_modes.specs.declared.refusal.Refusal.{Refusal}
 use Rattle.phase_modes.specs.Limits.{limits_fit}
 use Rattle.phase_modes.specs.Refusal.{first_refusal}
@@ -64,11 +65,14 @@ moved s not_yet = record { limits = refl; sums = plus_nothing (totals s.past); l
 moved s (done e) = record { limits = refl; sums = refl; longer = omega (arith, one_event e) }
 
 -- a history that takes one event more had room for it
-pub short : (s : Story) (c : Call) (e : Event) → limits_fit s.limits ≡ true → reply s c ≡ done e → length s.past < 65536
-short s c e fit k =
+pub within : (s : Story) (c : Call) (e : Event) → reply s c ≡ done e → length s.past < s.limits.history
+within s c e k =
     let allowed : is_allowed s.limits s.ops s.past e ≡ true = done_is_allowed s c e k in
     let room : has_room s.limits (e ∷ s.past) ≡ true = (and_parts (is_permitted s.limits s.ops s.past e) (has_room s.limits (e ∷ s.past)) allowed).1 in
-    omega (arith, history_fits s.limits fit, leb-true (length (e ∷ s.past) + live_count (e ∷ s.past) + reserve (e ∷ s.past)) s.limits.history room)
+    omega (arith, leb-true (length (e ∷ s.past) + live_count (e ∷ s.past) + reserve (e ∷ s.past)) s.limits.history room)
+
+pub short : (s : Story) (c : Call) (e : Event) → limits_fit s.limits ≡ true → reply s c ≡ done e → length s.past < 65536
+short s c e fit k = omega (arith, history_fits s.limits fit, within s c e k)
 
 -- whether a call has added its event, and what that amounts to
 pub record Matches (s : Story) (c : Call) (added : Bool) (e : Event) : Type 0 where
@@ -122,6 +126,31 @@ matches_pass s t added k = subst (λ b. Matches s (pass t) b (Pass t)) (sym k) (
 pub has_room_left : {T : Type 0} (s : Story) (b : Entry) (ps : List (Parked T)) (c : Call) (added : Bool) (e : Event) → IsKept s b ps → Matches s c added e → added ≡ true → 0 < b.room
 has_room_left s b ps c added e k matches n =
     omega (arith, k.room, short s c (event_for s.limits s.ops s.past c) k.fit (matches.is_done n))
+
+-- a phaser's events have so many tickets, and there is room for the tickets of as many events as it may have
+pub record Ticketed (s : Story) (drawn room : ℕ) : Type 0 where
+  pub each : drawn ≡ length s.past
+  pub fits : s.limits.history ≤ room
+
+-- where a call has added its event, there was room for its ticket
+pub ticket_fits : (s : Story) (drawn room : ℕ) (c : Call) (added : Bool) (e : Event) → drawn ≡ length s.past → s.limits.history ≤ room → Matches s c added e → added ≡ true → drawn < room
+ticket_fits s drawn room c added e each fits matches n = omega (arith, each, fits, within s c (event_for s.limits s.ops s.past c) (matches.is_done n))
+
+-- the step of all calls for the tickets: one was drawn where an event was added
+pub ticketed : (s s' : Story) (drawn drawn' room room' : ℕ) (c : Call) (added : Bool) (e : Event)
+    → drawn ≡ length s.past
+    → s.limits.history ≤ room
+    → Matches s c added e
+    → s' ≡ after s (reply s c)
+    → drawn' ≡ drawn + (amount_if added e).events
+    → room' ≡ room
+    → Ticketed s' drawn' room'
+ticketed s s' drawn drawn' room room' c added e each fits matches is more same =
+    let m = moved s (reply s c) in
+    record {
+      each = omega (arith, each, more, m.longer, ap (λ x. x.events) matches.weighs, ap (λ (v : Story). length v.past) is);
+      fits = omega (arith, fits, same, ap (λ (v : Story). v.limits.history) is, ap (λ (l : Limits). l.history) m.limits);
+    }
 
 -- the step of all calls: what the cell keeps, it keeps after it
 pub kept : {T : Type 0} (s s' : Story) (b b' : Entry) (ps ps' : List (Parked T)) (c : Call) (added : Bool) (e : Event)

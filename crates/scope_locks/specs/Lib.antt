@@ -1,4 +1,6 @@
 pub mod Amounts
 pub mod Cells
+pub mod Drawn
 pub mod Parking
 pub mod Shutting
+pub mod Telling

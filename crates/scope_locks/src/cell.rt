@@ -1,5 +1,5 @@
 //! What stands behind a phaser's lock.
-ghost use Rattle.std.specs.Prelude.{◌≡◌, Ok, ◌+◌, [], ◌<◌, ◌≤◌, true, false, IfOk, IfErr, OnErr, is_ok};
+ghost use Rattle.std.specs.Prelude.{◌≡◌, Ok, ◌+◌, [], length, vec_len, vec_capacity, ◌<◌, ◌≤◌, true, false, IfOk, IfErr, OnErr, is_ok};
 ghost use Rattle.std.specs.VecDeque.{deque_len, deque_capacity};
 ghost use Rattle.phase_modes.specs.Limits.{limits_fit};
 ghost use Rattle.phase_model.specs.Amounts.{plus};
@@ -10,12 +10,14 @@ ghost use Rattle.phaser_core.specs.Answers.{pass_result, look_result, made_with}
 ghost use Rattle.share_book.specs.Accounts.{nothing};
 ghost use Rattle.scope_locks.specs.Amounts.{amount_if};
 ghost use Rattle.scope_locks.specs.Cells.{IsKept};
+ghost use Rattle.scope_locks.specs.Drawn.{IsDrawn};
 ghost use Rattle.scope_locks.specs.Parking.{is_parked, waiting, freed, locked_pass, parking, has_gone_on, goes_on, answered, IsBack};
 
 use crate::answer::PassAnswer;
 use crate::out::Out;
 use crate::parking::{Parked, is_phase_open, may_leave, park, release_if};
 use crate::posting::{Post, post_if};
+use crate::tickets::Tickets;
 use phase_model::{Event, Look, Ops};
 use phase_modes::{Limits, Mode, Refusal};
 use phaser_core::{Passing, PhaserState};
@@ -23,15 +25,20 @@ use share_book::{Ledgers, PhaserBook, Shares};
 use std::alloc::Global;
 use std::collections::VecDeque;
 
-/// A phaser, its book, and the items of those who wait for it, at most one of each task.
+/// A phaser, the tickets of its events, its book, and the items of those who wait for it, at most
+/// one of each task.
 ///
 /// The type keeps, at each moment that the phaser's lock is free, what the field `kept` says.
 #[derive(Drop)]
 pub struct PhaserCell<T, K: Ledgers> {
     pub state: PhaserState,
+    /// One for each event of the history, the oldest first.
+    pub drawn: Vec<u64>,
     pub book: PhaserBook<K>,
     pub parked: VecDeque<Parked<T>>,
     ghost kept: { IsKept state.story book parked.items },
+    ghost ticketed: { vec_len drawn ≡ length state.story.past },
+    ghost room_for_tickets: { state.story.limits.history ≤ vec_capacity drawn },
     ghost any_ops: { state.room ≡ 4 },
     ghost seats: { 256 ≤ deque_capacity parked },
     ghost seated: { deque_len parked ≤ 256 },
@@ -80,6 +87,7 @@ impl<T, K: Ledgers> PhaserCell<T, K> {
     /// on by it.
     pub fn make<B: Post<K>>(
         &mut self,
+        tickets: &Tickets,
         books: &mut B,
         mine: &mut Shares<K>,
         task: u32,
@@ -91,18 +99,26 @@ impl<T, K: Ledgers> PhaserCell<T, K> {
             ≡ made_with self.old.state.story ops (reply self.old.state.story (make task mode)) }
         ensures mine { mine.new ≡ plus (amount_if (is_ok result) (Event.Make task mode)) mine.old }
         ensures books { B.rose books.old books.new (amount_if (is_ok result) (Event.Make task mode)) }
+        ensures tickets { IsDrawn (is_ok result) self.old.drawn.items self.new.drawn.items }
         ensures parked { self.new.parked ≡ self.old.parked }
     {
-        let PhaserCell { state, book, .. } = self;
+        let PhaserCell {
+            state,
+            drawn,
+            book,
+            ..
+        } = self;
         let _four_at_most = ops.len();
         let answer = state.make_with(task, mode, ops);
-        post_if(answer.is_ok(), book, books, mine, Event::Make(task, mode));
+        let event = Event::Make(task, mode);
+        post_if(answer.is_ok(), tickets, drawn, book, books, mine, event);
         answer
     }
 
     /// The phaser's `register`, with its refusals. Nobody is let go on by it.
     pub fn register<B: Post<K>>(
         &mut self,
+        tickets: &Tickets,
         books: &mut B,
         mine: &mut Shares<K>,
         parent: u32,
@@ -114,18 +130,25 @@ impl<T, K: Ledgers> PhaserCell<T, K> {
             ≡ after self.old.state.story (reply self.old.state.story (register parent child mode)) }
         ensures mine { mine.new ≡ plus (amount_if (is_ok result) (Event.Reg parent child mode)) mine.old }
         ensures books { B.rose books.old books.new (amount_if (is_ok result) (Event.Reg parent child mode)) }
+        ensures tickets { IsDrawn (is_ok result) self.old.drawn.items self.new.drawn.items }
         ensures parked { self.new.parked ≡ self.old.parked }
     {
-        let PhaserCell { state, book, .. } = self;
+        let PhaserCell {
+            state,
+            drawn,
+            book,
+            ..
+        } = self;
         let answer = state.register(parent, child, mode);
         let event = Event::Reg(parent, child, mode);
-        post_if(answer.is_ok(), book, books, mine, event);
+        post_if(answer.is_ok(), tickets, drawn, book, books, mine, event);
         answer
     }
 
     /// The phaser's `send`, with its refusals. Nobody is let go on by it.
     pub fn send<B: Post<K>>(
         &mut self,
+        tickets: &Tickets,
         books: &mut B,
         mine: &mut Shares<K>,
         task: u32,
@@ -139,18 +162,25 @@ impl<T, K: Ledgers> PhaserCell<T, K> {
             ≡ plus (amount_if (is_ok result) (Event.Send task accumulator value)) mine.old }
         ensures books { B.rose books.old books.new
             (amount_if (is_ok result) (Event.Send task accumulator value)) }
+        ensures tickets { IsDrawn (is_ok result) self.old.drawn.items self.new.drawn.items }
         ensures parked { self.new.parked ≡ self.old.parked }
     {
-        let PhaserCell { state, book, .. } = self;
+        let PhaserCell {
+            state,
+            drawn,
+            book,
+            ..
+        } = self;
         let answer = state.send(task, accumulator, value);
         let event = Event::Send(task, accumulator, value);
-        post_if(answer.is_ok(), book, books, mine, event);
+        post_if(answer.is_ok(), tickets, drawn, book, books, mine, event);
         answer
     }
 
     /// The phaser's `look`, with its refusals. Nobody is let go on by it.
     pub fn look<B: Post<K>>(
         &mut self,
+        tickets: &Tickets,
         books: &mut B,
         mine: &mut Shares<K>,
         task: u32,
@@ -163,13 +193,19 @@ impl<T, K: Ledgers> PhaserCell<T, K> {
             → mine.new ≡ plus (amount_if (is_ok result) (Event.Look task accumulator x)) mine.old }
         ensures books { (x : Look)
             → B.rose books.old books.new (amount_if (is_ok result) (Event.Look task accumulator x)) }
+        ensures tickets { IsDrawn (is_ok result) self.old.drawn.items self.new.drawn.items }
         ensures parked { self.new.parked ≡ self.old.parked }
     {
-        let PhaserCell { state, book, .. } = self;
+        let PhaserCell {
+            state,
+            drawn,
+            book,
+            ..
+        } = self;
         let answer = state.look(task, accumulator);
         let seen = answer.unwrap_or(Look::Nothing);
         let event = Event::Look(task, accumulator, seen);
-        post_if(answer.is_ok(), book, books, mine, event);
+        post_if(answer.is_ok(), tickets, drawn, book, books, mine, event);
         answer
     }
 
@@ -177,6 +213,7 @@ impl<T, K: Ledgers> PhaserCell<T, K> {
     /// `out`.
     pub fn signal<B: Post<K>>(
         &mut self,
+        tickets: &Tickets,
         books: &mut B,
         mine: &mut Shares<K>,
         out: &mut Out<T>,
@@ -189,18 +226,21 @@ impl<T, K: Ledgers> PhaserCell<T, K> {
             ≡ after self.old.state.story (reply self.old.state.story (signal task number)) }
         ensures mine { mine.new ≡ plus (amount_if (is_ok result) (Event.Sig task number)) mine.old }
         ensures books { B.rose books.old books.new (amount_if (is_ok result) (Event.Sig task number)) }
+        ensures tickets { IsDrawn (is_ok result) self.old.drawn.items self.new.drawn.items }
         ensures parked { self.new.parked.items ≡ waiting self.new.state.story self.old.parked.items }
         ensures out { out.new ≡ freed self.new.state.story self.old.parked.items }
         ensures refused { OnErr result (out.new ≡ []) }
     {
         let PhaserCell {
             state,
+            drawn,
             book,
             parked,
         } = self;
         let was_open = is_phase_open(state, parked);
         let answer = state.signal(task, number);
-        post_if(answer.is_ok(), book, books, mine, Event::Sig(task, number));
+        let event = Event::Sig(task, number);
+        post_if(answer.is_ok(), tickets, drawn, book, books, mine, event);
         let is_open = is_phase_open(state, parked);
         release_if(may_leave(false, was_open, is_open), state, parked, out);
         answer
@@ -210,6 +250,7 @@ impl<T, K: Ledgers> PhaserCell<T, K> {
     /// into `out`, the dropped task's own too where it was parked.
     pub fn drop_task<B: Post<K>>(
         &mut self,
+        tickets: &Tickets,
         books: &mut B,
         mine: &mut Shares<K>,
         out: &mut Out<T>,
@@ -221,12 +262,14 @@ impl<T, K: Ledgers> PhaserCell<T, K> {
             ≡ after self.old.state.story (reply self.old.state.story (drop_task task)) }
         ensures mine { mine.new ≡ plus (amount_if (is_ok result) (Event.Drop task)) mine.old }
         ensures books { B.rose books.old books.new (amount_if (is_ok result) (Event.Drop task)) }
+        ensures tickets { IsDrawn (is_ok result) self.old.drawn.items self.new.drawn.items }
         ensures parked { self.new.parked.items ≡ waiting self.new.state.story self.old.parked.items }
         ensures out { out.new ≡ freed self.new.state.story self.old.parked.items }
         ensures refused { OnErr result (out.new ≡ []) }
     {
         let PhaserCell {
             state,
+            drawn,
             book,
             parked,
         } = self;
@@ -234,7 +277,8 @@ impl<T, K: Ledgers> PhaserCell<T, K> {
         let waits = state.would_wait(task);
         let was_open = is_phase_open(state, parked);
         let answer = state.drop_task(task);
-        post_if(answer.is_ok(), book, books, mine, Event::Drop(task));
+        let event = Event::Drop(task);
+        post_if(answer.is_ok(), tickets, drawn, book, books, mine, event);
         let is_open = is_phase_open(state, parked);
         release_if(may_leave(waits, was_open, is_open), state, parked, out);
         answer
@@ -244,6 +288,7 @@ impl<T, K: Ledgers> PhaserCell<T, K> {
     /// into `out`.
     pub fn single_done<B: Post<K>>(
         &mut self,
+        tickets: &Tickets,
         books: &mut B,
         mine: &mut Shares<K>,
         out: &mut Out<T>,
@@ -255,18 +300,20 @@ impl<T, K: Ledgers> PhaserCell<T, K> {
             ≡ after self.old.state.story (reply self.old.state.story (single_done task)) }
         ensures mine { mine.new ≡ plus (amount_if (is_ok result) (Event.Did task)) mine.old }
         ensures books { B.rose books.old books.new (amount_if (is_ok result) (Event.Did task)) }
+        ensures tickets { IsDrawn (is_ok result) self.old.drawn.items self.new.drawn.items }
         ensures parked { self.new.parked.items ≡ waiting self.new.state.story self.old.parked.items }
         ensures out { out.new ≡ freed self.new.state.story self.old.parked.items }
         ensures refused { OnErr result (out.new ≡ []) }
     {
         let PhaserCell {
             state,
+            drawn,
             book,
             parked,
         } = self;
         let answer = state.single_done(task);
         let is_done = answer.is_ok();
-        post_if(is_done, book, books, mine, Event::Did(task));
+        post_if(is_done, tickets, drawn, book, books, mine, Event::Did(task));
         release_if(is_done, state, parked, out);
         answer
     }
@@ -275,6 +322,7 @@ impl<T, K: Ledgers> PhaserCell<T, K> {
     /// instead, or has it back with `NotNow` where it is parked already. Nobody is let go on by it.
     pub fn pass<B: Post<K>>(
         &mut self,
+        tickets: &Tickets,
         books: &mut B,
         mine: &mut Shares<K>,
         task: u32,
@@ -286,6 +334,7 @@ impl<T, K: Ledgers> PhaserCell<T, K> {
             ≡ after self.old.state.story (reply self.old.state.story (pass task)) }
         ensures mine { mine.new ≡ plus (amount_if (goes_on result) (Event.Pass task)) mine.old }
         ensures books { B.rose books.old books.new (amount_if (goes_on result) (Event.Pass task)) }
+        ensures tickets { IsDrawn (goes_on result) self.old.drawn.items self.new.drawn.items }
         ensures item { IsBack item result }
         ensures parked { self.new.parked.items ≡ parking (answered self.old.state.story task)
             (is_parked task self.old.parked.items)
@@ -293,11 +342,21 @@ impl<T, K: Ledgers> PhaserCell<T, K> {
     {
         let PhaserCell {
             state,
+            drawn,
             book,
             parked,
         } = self;
         let answer = state.pass(task);
-        post_if(has_gone_on(answer), book, books, mine, Event::Pass(task));
+        let event = Event::Pass(task);
+        post_if(
+            has_gone_on(answer),
+            tickets,
+            drawn,
+            book,
+            books,
+            mine,
+            event,
+        );
         settle(answer, parked, task, item)
     }
 }
@@ -318,9 +377,11 @@ impl<T: Drop, K: Ledgers> PhaserCell<T, K> {
         ensures memory { IfErr result (λ r. r ≡ Refusal.Memory) }
     {
         let state = PhaserState::blank(alloc, limits)?;
+        let drawn = Vec::with_capacity(alloc, limits.history as usize)?;
         let parked = VecDeque::with_capacity(alloc, 256)?;
         Ok(PhaserCell {
             state,
+            drawn,
             book,
             parked,
         })

@@ -12,6 +12,7 @@ mod out;
 mod parking;
 mod phasers;
 mod posting;
+mod tickets;
 
 pub use answer::{PassAnswer, ShutAnswer};
 pub use cell::PhaserCell;
@@ -21,3 +22,4 @@ pub use out::Out;
 pub use parking::Parked;
 pub use phasers::{PhaserParts, PhaserTable};
 pub use posting::Post;
+pub use tickets::Tickets;

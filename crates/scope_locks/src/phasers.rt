@@ -2,25 +2,27 @@
 //!
 //! Each call takes its phaser's lock, and inside it the books' lock for the one post that it makes.
 //! No call takes the locks of two phasers, and none takes a phaser's lock while it has the books.
-ghost use Rattle.std.specs.Prelude.{◌≡◌, ◌+◌, [], ◌<◌, ◌≤◌, true, All, IfOk, IfErr, OnErr, is_ok, map, vec_len, vec_capacity};
+ghost use Rattle.std.specs.Prelude.{◌≡◌, ◌+◌, ◌++◌, ◌∷◌, [], ◌<◌, ◌≤◌, true, All, IfOk, IfErr, OnErr, is_ok, map, vec_len, vec_capacity};
 ghost use Rattle.phase_modes.specs.Limits.{limits_fit};
-ghost use Rattle.phase_model.specs.Amounts.{plus, totals};
-ghost use Rattle.phase_model.specs.Laws.{IsLegal};
+ghost use Rattle.phase_model.specs.Amounts.{plus};
 ghost use Rattle.share_book.specs.Accounts.{nothing, IsWithin, amount_of};
 ghost use Rattle.scope_locks.specs.Amounts.{amount_if};
 ghost use Rattle.scope_locks.specs.Parking.{goes_on, IsBack};
+ghost use Rattle.scope_locks.specs.Telling.{ArePhaserParts};
+ghost use Rattle.trace_model.specs.Told.{phaser_told};
 
 use crate::answer::PassAnswer;
 use crate::cell::PhaserCell;
 use crate::lock::Lock;
 use crate::out::Out;
 use crate::posting::Locked;
+use crate::tickets::Tickets;
 use phase_model::{Event, Look, Ops};
 use phase_modes::{Limits, Mode, Refusal};
-use phaser_core::PhaserState;
 use share_book::{Books, Ledgers, PhaserBook, Shares, Totals};
 use std::alloc::Global;
 use std::sync::{Mutex, MutexGuard, Wait};
+use trace_model::Part;
 
 /// The phasers of a run, numbered from 0, and its books.
 #[derive(Drop)]
@@ -38,11 +40,11 @@ pub struct PhaserTable<T, K: Ledgers> {
 /// Room for what `into_parts` gives.
 #[derive(Drop)]
 struct Room<K: Ledgers> {
-    states: Vec<PhaserState>,
+    parts: Vec<Part>,
     phasers: Vec<PhaserBook<K>>,
-    ghost no_states: { states.items ≡ [] },
+    ghost no_parts: { parts.items ≡ [] },
     ghost no_books: { phasers.items ≡ [] },
-    ghost room_for_states: { 64 ≤ vec_capacity states },
+    ghost room_for_parts: { 64 ≤ vec_capacity parts },
     ghost room_for_books: { 64 ≤ vec_capacity phasers },
 }
 
@@ -52,17 +54,17 @@ impl<K: Ledgers> Room<K> {
         ensures memory { IfErr result (λ r. r ≡ Refusal.Memory) }
     {
         Ok(Room {
-            states: Vec::with_capacity(alloc, 64)?,
+            parts: Vec::with_capacity(alloc, 64)?,
             phasers: Vec::with_capacity(alloc, 64)?,
         })
     }
 }
 
-/// What a table of phasers held, phaser by phaser in order: the states with their histories, the
-/// phasers' books, and the books of all.
+/// What a table of phasers held, phaser by phaser in order: the histories with their tickets, as
+/// parts of a trace, the phasers' books, and the books of all.
 #[derive(Drop)]
 pub struct PhaserParts<K: Ledgers> {
-    pub states: Vec<PhaserState>,
+    pub parts: Vec<Part>,
     pub phasers: Vec<PhaserBook<K>>,
     pub books: Books<K>,
 }
@@ -86,31 +88,31 @@ fn locked_cells<T: Drop, K: Ledgers>(
     Ok(cells)
 }
 
-/// Adds a cell's state and book to those of the phasers before it.
+/// Adds a cell's history with its tickets, and its book, to those of the phasers before it.
 fn take_apart<T: Drop, K: Ledgers>(
     cell: PhaserCell<T, K>,
-    states: &mut Vec<PhaserState>,
+    parts: &mut Vec<Part>,
     of_phasers: &mut Vec<PhaserBook<K>>,
 )
-    requires room_for_state { vec_len states.old < vec_capacity states.old }
+    requires few { vec_len parts.old < 64 }
+    requires room_for_part { 64 ≤ vec_capacity parts.old }
     requires room_for_book { vec_len of_phasers.old < vec_capacity of_phasers.old }
-    requires legal { All (λ s. IsLegal s.story) states.old.items }
-    requires posted { map (λ b. b.totals) of_phasers.old.items
-        ≡ map (λ s. totals s.story.past) states.old.items }
-    ensures states { vec_len states.new ≡ vec_len states.old + 1 }
-    ensures books { vec_len of_phasers.new ≡ vec_len of_phasers.old + 1 }
-    ensures room_for_states { vec_capacity states.new ≡ vec_capacity states.old }
+    requires told { ArePhaserParts 0 parts.old.items (map (λ b. b.totals) of_phasers.old.items) }
+    ensures added { parts.new.items
+        ≡ parts.old.items ++ phaser_told (vec_len parts.old) cell.state.story cell.drawn.items ∷ [] }
+    ensures books { of_phasers.new.items ≡ of_phasers.old.items ++ cell.book ∷ [] }
+    ensures room_for_parts { vec_capacity parts.new ≡ vec_capacity parts.old }
     ensures room_for_books { vec_capacity of_phasers.new ≡ vec_capacity of_phasers.old }
-    ensures legal { All (λ s. IsLegal s.story) states.new.items }
-    ensures posted { map (λ b. b.totals) of_phasers.new.items
-        ≡ map (λ s. totals s.story.past) states.new.items }
+    ensures told { ArePhaserParts 0 parts.new.items (map (λ b. b.totals) of_phasers.new.items) }
 {
     let PhaserCell {
         state,
+        drawn,
         book,
         parked: _,
     } = cell;
-    states.push_reserved(state);
+    let number = parts.len() as u32;
+    parts.push_reserved(Part::of_phaser(number, state.into_history(), drawn));
     of_phasers.push_reserved(book);
 }
 
@@ -139,13 +141,11 @@ impl<T: Drop, K: Ledgers> PhaserTable<T, K> {
         })
     }
 
-    /// The histories, the phasers' books and the books, once no other thread has the table. Items
-    /// that were still parked are dropped.
+    /// The histories with their tickets, the phasers' books and the books, once no other thread has
+    /// the table. Items that were still parked are dropped.
     pub fn into_parts(self) -> PhaserParts<K>
-        ensures phasers { (vec_len result.states ≡ self.phasers) × (vec_len result.phasers ≡ self.phasers) }
-        ensures legal { All (λ s. IsLegal s.story) result.states.items }
-        ensures posted { map (λ b. b.totals) result.phasers.items
-            ≡ map (λ s. totals s.story.past) result.states.items }
+        ensures phasers { (vec_len result.parts ≡ self.phasers) × (vec_len result.phasers ≡ self.phasers) }
+        ensures told { ArePhaserParts 0 result.parts.items (map (λ b. b.totals) result.phasers.items) }
     {
         let PhaserTable {
             phasers: _,
@@ -154,14 +154,14 @@ impl<T: Drop, K: Ledgers> PhaserTable<T, K> {
             parts,
         } = self;
         let Room {
-            mut states,
+            mut parts,
             mut phasers,
         } = parts.into_inner();
         for cell in cells {
-            take_apart(cell.into_inner(), &mut states, &mut phasers);
+            take_apart(cell.into_inner(), &mut parts, &mut phasers);
         }
         PhaserParts {
-            states,
+            parts,
             phasers,
             books: books.into_inner(),
         }
@@ -191,6 +191,7 @@ impl<T, K: Ledgers> PhaserTable<T, K> {
         &self,
         rt: &R,
         number: usize,
+        tickets: &Tickets,
         mine: &mut Shares<K>,
         task: u32,
         mode: Mode,
@@ -204,7 +205,7 @@ impl<T, K: Ledgers> PhaserTable<T, K> {
             rt,
             books: &self.books,
         };
-        cell.make(&mut books, mine, task, mode, ops)
+        cell.make(tickets, &mut books, mine, task, mode, ops)
     }
 
     /// The cell's `register`, under the phaser's lock.
@@ -212,6 +213,7 @@ impl<T, K: Ledgers> PhaserTable<T, K> {
         &self,
         rt: &R,
         number: usize,
+        tickets: &Tickets,
         mine: &mut Shares<K>,
         parent: u32,
         child: u32,
@@ -225,7 +227,7 @@ impl<T, K: Ledgers> PhaserTable<T, K> {
             rt,
             books: &self.books,
         };
-        cell.register(&mut books, mine, parent, child, mode)
+        cell.register(tickets, &mut books, mine, parent, child, mode)
     }
 
     /// The cell's `send`, under the phaser's lock.
@@ -233,6 +235,7 @@ impl<T, K: Ledgers> PhaserTable<T, K> {
         &self,
         rt: &R,
         number: usize,
+        tickets: &Tickets,
         mine: &mut Shares<K>,
         task: u32,
         accumulator: u8,
@@ -247,7 +250,7 @@ impl<T, K: Ledgers> PhaserTable<T, K> {
             rt,
             books: &self.books,
         };
-        cell.send(&mut books, mine, task, accumulator, value)
+        cell.send(tickets, &mut books, mine, task, accumulator, value)
     }
 
     /// The cell's `look`, under the phaser's lock.
@@ -255,6 +258,7 @@ impl<T, K: Ledgers> PhaserTable<T, K> {
         &self,
         rt: &R,
         number: usize,
+        tickets: &Tickets,
         mine: &mut Shares<K>,
         task: u32,
         accumulator: u8,
@@ -268,7 +272,7 @@ impl<T, K: Ledgers> PhaserTable<T, K> {
             rt,
             books: &self.books,
         };
-        cell.look(&mut books, mine, task, accumulator)
+        cell.look(tickets, &mut books, mine, task, accumulator)
     }
 
     /// The cell's `signal`, under the phaser's lock.
@@ -276,6 +280,7 @@ impl<T, K: Ledgers> PhaserTable<T, K> {
         &self,
         rt: &R,
         number: usize,
+        tickets: &Tickets,
         mine: &mut Shares<K>,
         out: &mut Out<T>,
         task: u32,
@@ -291,7 +296,7 @@ impl<T, K: Ledgers> PhaserTable<T, K> {
             rt,
             books: &self.books,
         };
-        cell.signal(&mut books, mine, out, task, proposed)
+        cell.signal(tickets, &mut books, mine, out, task, proposed)
     }
 
     /// The cell's `single_done`, under the phaser's lock.
@@ -299,6 +304,7 @@ impl<T, K: Ledgers> PhaserTable<T, K> {
         &self,
         rt: &R,
         number: usize,
+        tickets: &Tickets,
         mine: &mut Shares<K>,
         out: &mut Out<T>,
         task: u32,
@@ -313,7 +319,7 @@ impl<T, K: Ledgers> PhaserTable<T, K> {
             rt,
             books: &self.books,
         };
-        cell.single_done(&mut books, mine, out, task)
+        cell.single_done(tickets, &mut books, mine, out, task)
     }
 
     /// The cell's `drop_task`, under the phaser's lock.
@@ -321,6 +327,7 @@ impl<T, K: Ledgers> PhaserTable<T, K> {
         &self,
         rt: &R,
         number: usize,
+        tickets: &Tickets,
         mine: &mut Shares<K>,
         out: &mut Out<T>,
         task: u32,
@@ -335,7 +342,7 @@ impl<T, K: Ledgers> PhaserTable<T, K> {
             rt,
             books: &self.books,
         };
-        cell.drop_task(&mut books, mine, out, task)
+        cell.drop_task(tickets, &mut books, mine, out, task)
     }
 
     /// The cell's `pass`, under the phaser's lock. The item comes back, or it is parked.
@@ -343,6 +350,7 @@ impl<T, K: Ledgers> PhaserTable<T, K> {
         &self,
         rt: &R,
         number: usize,
+        tickets: &Tickets,
         mine: &mut Shares<K>,
         task: u32,
         item: T,
@@ -356,6 +364,6 @@ impl<T, K: Ledgers> PhaserTable<T, K> {
             rt,
             books: &self.books,
         };
-        cell.pass(&mut books, mine, task, item)
+        cell.pass(tickets, &mut books, mine, task, item)
     }
 }

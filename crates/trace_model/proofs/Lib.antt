@@ -1,3 +1,4 @@
 pub mod Adding
 pub mod Faults
 pub mod Legal
+pub mod Telling

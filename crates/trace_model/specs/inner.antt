@@ -1,2 +1,3 @@
--- How a trace keeps its events: no public contract cites it.
+-- How a trace keeps its events, and a part its own: no public contract cites it.
 pub mod Kept
+pub mod Sources

@@ -7,10 +7,12 @@ mod event;
 mod in_world;
 mod kept;
 mod laws;
+mod log;
 mod part;
 mod trace;
 
 pub use event::{TracedEvent, TracedStep};
 pub use laws::{explained_is_legal, faultless_is_explained, worked_traces};
+pub use log::Log;
 pub use part::Part;
 pub use trace::Trace;

@@ -1,57 +1,145 @@
-//! A part of what was logged of a run.
-ghost use Rattle.std.specs.Prelude.{◌≡◌, ◌++◌, ◌∷◌, [], IfOk, IfErr};
+//! A part of what was kept of a run.
+ghost use Rattle.std.specs.Prelude.{◌≡◌, ◌<◌, ◌≤◌, ◌^◌, drop, reverse, length, slice_get, Some, vec_len};
+ghost use Rattle.trace_model.specs.Told.{step_told, phaser_told, finish_told};
 
 use crate::event::{TracedEvent, TracedStep};
-use phase_modes::Refusal;
-use std::alloc::Global;
+use crate::log::Log;
+use finish_core::FinishEvent;
+use phase_model::{Event, History, Ops};
 use std::marker::Model;
-use world_model::{Begun, Tried};
+
+/// What a part was made of.
+#[derive(Drop)]
+pub(crate) enum Source {
+    /// A phaser's number, its history, and the tickets.
+    Phaser(u32, History, Vec<u64>),
+    /// A finish's number, its history, the tickets, and how many of the first aren't of the part.
+    Finish(u32, Vec<FinishEvent>, Vec<u64>, usize),
+    /// What one task noted.
+    Log(Log),
+}
 
 /// What one phaser, one finish or one task's log has of a run: its events in order, each with its
-/// ticket. Contracts see the list.
-#[derive(Debug, Drop)]
+/// ticket. Contracts see the list. It is made of what was kept while the run went on, so nothing is
+/// copied.
+#[derive(Drop)]
 pub struct Part {
-    events: Vec<(u64, TracedEvent)>,
+    source: Source,
 }
 
 impl Model for Part {
     ghost use Rattle.std.specs.Prelude.{List};
     ghost use Rattle.trace_model.specs.Run.{Entry};
+    ghost use Rattle.trace_model.specs.inner.Sources.{entries_of, IsWhole};
 
     ghost Value = { List Entry };
 
-    ghost view = { λ p. p.events.items };
+    ghost view = { λ p. entries_of p.source };
+
+    ghost invariant = { λ p. IsWhole p.source };
+}
+
+/// The step of a phaser's event, on a phaser with these operators.
+fn step_told(ops: Ops, event: Event) -> TracedStep
+    ensures { result ≡ step_told ops event }
+{
+    match event {
+        Event::Make(task, mode) => TracedStep::Make(task, mode, ops),
+        Event::Reg(parent, child, mode) => TracedStep::Reg(parent, child, mode),
+        Event::Sig(task, number) => TracedStep::Sig(task, number),
+        Event::Claim(task) => TracedStep::Claim(task),
+        Event::Did(task) => TracedStep::Did(task),
+        Event::Pass(task) => TracedStep::Pass(task),
+        Event::Send(task, accumulator, value) => TracedStep::Send(task, accumulator, value),
+        Event::Look(task, accumulator, seen) => TracedStep::Look(task, accumulator, seen),
+        Event::Drop(task) => TracedStep::Drop(task),
+    }
+}
+
+/// The entry at this place of a phaser's history.
+fn phaser_entry(phaser: u32, history: &History, tickets: &[u64], place: usize) -> (u64, TracedEvent)
+    requires whole { length tickets.now ≡ length history.now.past }
+    requires within { place < length tickets.now }
+    ensures { slice_get (phaser_told phaser history.now tickets.now) place ≡ Some result }
+{
+    let step = step_told(history.ops(), history.events()[place]);
+    (tickets[place], TracedEvent::Phaser(phaser, step))
+}
+
+/// The entry at this place of a finish's history.
+fn finish_entry(
+    finish: u32,
+    events: &[FinishEvent],
+    tickets: &[u64],
+    place: usize,
+) -> (u64, TracedEvent)
+    requires whole { length tickets.now ≡ length events.now }
+    requires within { place < length tickets.now }
+    ensures { slice_get (finish_told finish (reverse events.now) tickets.now) place ≡ Some result }
+{
+    (tickets[place], TracedEvent::Finish(finish, events[place]))
 }
 
 impl Part {
-    /// A part with no events yet.
-    pub fn new(alloc: Global) -> Part
-        ensures { result ≡ [] }
+    /// The events of the phaser of this number, with these tickets, the oldest first.
+    pub fn of_phaser(phaser: u32, history: History, tickets: Vec<u64>) -> Part
+        requires { vec_len tickets ≡ length history.past }
+        ensures { result ≡ phaser_told phaser history tickets.items }
     {
         Part {
-            events: Vec::new(alloc),
+            source: Source::Phaser(phaser, history, tickets),
         }
     }
 
-    /// Adds an event at the end. On `Memory` the part is as it was.
-    pub fn push(&mut self, ticket: u64, event: TracedEvent) -> Result<(), Refusal>
-        ensures added { IfOk result (λ _. self.new ≡ self.old ++ (ticket, event) ∷ []) }
-        ensures memory { IfErr result (λ r. (r ≡ Refusal.Memory) × (self.new ≡ self.old)) }
+    /// The events of the finish of this number, with these tickets, the oldest first; but for the
+    /// first few, which are left out.
+    pub fn of_finish(finish: u32, events: Vec<FinishEvent>, tickets: Vec<u64>, first: usize) -> Part
+        requires { vec_len tickets ≡ length events.items }
+        ensures { result ≡ drop first (finish_told finish (reverse events.items) tickets.items) }
     {
-        // The prover has to be shown the types inside an event: it doesn't find them by itself.
-        let _step: Option<TracedStep> = None;
-        let _begun: Option<Begun> = None;
-        let _tried: Option<Tried> = None;
-        match self.events.push((ticket, event)) {
-            Ok(()) => Ok(()),
-            Err(_) => Err(Refusal::Memory),
+        Part {
+            source: Source::Finish(finish, events, tickets, first),
         }
     }
 
-    /// The events in order, each with its ticket.
-    pub fn events(&self) -> &[(u64, TracedEvent)]
-        ensures { result.now ≡ self.now }
+    /// The entries of a task's log.
+    pub fn of_log(log: Log) -> Part
+        ensures { result ≡ log.entries }
     {
-        self.events.as_slice()
+        Part {
+            source: Source::Log(log),
+        }
+    }
+
+    /// How many events there are.
+    pub fn len(&self) -> usize
+        ensures { result ≡ length self.now }
+    {
+        match &self.source {
+            Source::Phaser(_, _, tickets) => tickets.len(),
+            Source::Finish(_, _, tickets, first) => tickets.len().saturating_sub(*first),
+            Source::Log(log) => log.entries().len(),
+        }
+    }
+
+    /// The event at this place, counted from 0, with its ticket.
+    pub fn entry(&self, place: usize) -> (u64, TracedEvent)
+        requires { place < length self.now }
+        ensures { slice_get self.now place ≡ Some result }
+    {
+        match &self.source {
+            Source::Phaser(phaser, history, tickets) => {
+                phaser_entry(*phaser, history, tickets.as_slice(), place)
+            }
+            Source::Finish(finish, events, tickets, first) => {
+                finish_entry(
+                    *finish,
+                    events.as_slice(),
+                    tickets.as_slice(),
+                    *first + place,
+                )
+            }
+            Source::Log(log) => log.entries()[place],
+        }
     }
 }

@@ -63,13 +63,13 @@ rising : (ms : List Mark) → merge_fault ms ≡ None → IsNonDecreasingBy (λ 
 rising [] h up = refl
 rising (m ∷ ms) h up = strictly ms m 2 (fine None 1 m ms h).1 up
 
-rises_tail : (e : Entry) (es : List Entry) → rises (e ∷ es) ≡ true → rises es ≡ true
+pub rises_tail : (e : Entry) (es : List Entry) → rises (e ∷ es) ≡ true → rises es ≡ true
 rises_tail e [] h = refl
 rises_tail e (x ∷ es) h = (and_parts (nat_lt e.0 x.0) (rises (x ∷ es)) h).1
 
 -- ---- a ticket stands once where tickets strictly rise
 
-abbrev has : ℕ → Entry → ℕ
+abbrev pub has : ℕ → Entry → ℕ
 has k e = if e.0 == k then 1 else 0
 
 none_above : (e : Entry) (es : List Entry) → rises (e ∷ es) ≡ true → (k : ℕ) → k ≤ e.0 → sum_by (has k) es ≡ 0
@@ -81,7 +81,7 @@ none_above e (x ∷ es) h k le =
     let no : has k x ≡ 0 = rw other refl in
     omega (arith, sum_by-cons (has k) x es, no, none_above x es p.1 k (omega (arith, less, le)))
 
-once : (es : List Entry) → rises es ≡ true → (k : ℕ) → sum_by (has k) es ≤ 1
+pub once : (es : List Entry) → rises es ≡ true → (k : ℕ) → sum_by (has k) es ≤ 1
 once [] h k = omega arith
 once (e ∷ es) h k = elim (eqb_tells e.0 k) [
   | inl same ↦
@@ -122,11 +122,11 @@ part_rises (e ∷ x ∷ es) most in_time single =
 
 -- ---- and so it stands in the trace in its order
 
-abbrev Among : Entry → List Entry → Type 0
+abbrev pub Among : Entry → List Entry → Type 0
 Among x [] = ⊥
 Among x (e ∷ es) = (x ≡ e) ⊎ Among x es
 
-among : (es : List Entry) (x : Entry) → Contains es x → Among x es
+pub among : (es : List Entry) (x : Entry) → Contains es x → Among x es
 among [] x c = absurd (omega (arith, c.1))
 among (e ∷ es) x (zero, less, is) = inl (sym is)
 among (e ∷ es) x (suc k, less, is) = inr (among es x (k, omega (arith, less), is))
@@ -136,7 +136,7 @@ contained [] x c = absurd c
 contained (e ∷ es) x (inl is) = subst (λ y. Contains (e ∷ es) y) (sym is) (head_of e es)
 contained (e ∷ es) x (inr later) = tail_of e es x (contained es x later)
 
-greater : (x : Entry) (xs : List Entry) → rises (x ∷ xs) ≡ true → (y : Entry) → Among y xs → x.0 < y.0
+pub greater : (x : Entry) (xs : List Entry) → rises (x ∷ xs) ≡ true → (y : Entry) → Among y xs → x.0 < y.0
 greater x [] h y c = absurd c
 greater x (z ∷ xs) h y (inl is) = let p = and_parts (nat_lt x.0 z.0) (rises (z ∷ xs)) h in omega (arith, ltb-true x.0 z.0 p.0, ap (λ (e : Entry). e.0) is)
 greater x (z ∷ xs) h y (inr later) = let p = and_parts (nat_lt x.0 z.0) (rises (z ∷ xs)) h in omega (arith, ltb-true x.0 z.0 p.0, greater z xs p.1 y later)

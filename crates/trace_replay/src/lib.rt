@@ -4,6 +4,7 @@
 
 mod merging;
 mod replaying;
+mod turns;
 
 pub use merging::merge;
 pub use replaying::replay;

@@ -4,6 +4,7 @@ ghost use Rattle.phase_modes.specs.Limits.{limits_fit};
 ghost use Rattle.trace_model.specs.Parts.{rises, IsTraceOf};
 ghost use Rattle.trace_replay.specs.Merging.{marked_after, all_marked, IsMerged, is_fault, Traces, Merges};
 
+use crate::turns::merged_in_turn;
 use phase_modes::{Limits, Refusal};
 use std::alloc::{AllocError, Global};
 use trace_model::{Part, Trace, TracedEvent, TracedStep};
@@ -18,7 +19,7 @@ struct Mark {
 }
 
 /// Adds the events of a part, marked.
-fn mark_part(marks: &mut Vec<Mark>, part: &[(u64, TracedEvent)]) -> Result<(), AllocError>
+fn mark_part(marks: &mut Vec<Mark>, part: &Part) -> Result<(), AllocError>
     ensures { IfOk result (λ _. marks.new.items ≡ marks.old.items ++ marked_after 0 part.now) }
 {
     // The prover has to be shown the types inside an event: it doesn't find them by itself.
@@ -26,8 +27,8 @@ fn mark_part(marks: &mut Vec<Mark>, part: &[(u64, TracedEvent)]) -> Result<(), A
     let _begun: Option<Begun> = None;
     let _tried: Option<Tried> = None;
     let mut most = 0;
-    for entry in part {
-        let (ticket, event) = *entry;
+    for place in 0..part.len() {
+        let (ticket, event) = part.entry(place);
         let late = ticket < most;
         marks.push(Mark {
             ticket,
@@ -47,7 +48,7 @@ fn all_marks(alloc: Global, parts: &[Part]) -> Result<Vec<Mark>, AllocError>
 {
     let mut marks = Vec::new(alloc);
     for part in parts {
-        mark_part(&mut marks, part.events())?;
+        mark_part(&mut marks, part)?;
     }
     Ok(marks)
 }
@@ -99,6 +100,9 @@ pub fn merge(alloc: Global, limits: Limits, parts: &[Part]) -> Result<Trace, Ref
     ensures of_parts { IfOk result (λ r. (r.limits ≡ limits) × IsTraceOf parts.now r.events) }
     ensures rising { IfOk result (λ r. rises r.events ≡ true) }
 {
+    if let Some(trace) = merged_in_turn(alloc, limits, parts)? {
+        return Ok(trace);
+    }
     let marks = in_order(alloc, parts)?;
     trace_of(alloc, limits, &marks)
 }

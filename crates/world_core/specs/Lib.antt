@@ -3,5 +3,4 @@ pub mod TaskState
 pub mod WorldState
 pub mod Kept
 pub mod StandsFor
-pub mod TaskLog
 pub mod inner

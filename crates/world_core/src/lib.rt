@@ -7,10 +7,9 @@ mod plan;
 mod reporting;
 mod tables;
 mod task;
-mod task_log;
 mod world;
 
 pub use tables::Unused;
 // For those who run tasks without a world: no crate here uses it.
-pub use task_log::Log;
+pub use trace_model::Log;
 pub use world::World;

@@ -111,9 +111,102 @@ fn bad_schedules(rt: HostRuntime) -> Result<(), Fail> {
 }
 
 #[test]
+fn bad_runs(rt: HostRuntime) -> Result<(), Fail> {
+    const WORKERS: &str = "error: the workers are a number of 1 to 16\n";
+    const ROWS: [Row; 9] = [
+        (&["phaser_run", "run"], "<FILE>"),
+        (&["phaser_run", "run", "a", "--workers"], "--workers <N>"),
+        (&["phaser_run", "run", "a", "--workers", "0"], WORKERS),
+        (&["phaser_run", "run", "a", "--workers", "17"], WORKERS),
+        (&["phaser_run", "run", "a", "--workers", "two"], WORKERS),
+        (&["phaser_run", "run", "a", "--workers", "+2"], WORKERS),
+        (&["phaser_run", "run", "a", "--workers", ""], WORKERS),
+        (
+            &["phaser_run", "run", "a", "--workers", "1", "--workers", "1"],
+            "cannot be used multiple times",
+        ),
+        (
+            &["phaser_run", "run", "a", "--picks", "1"],
+            "unexpected argument '--picks'",
+        ),
+    ];
+    all_bad(&rt, rt.alloc(), ROWS.as_slice())
+}
+
+#[test]
+fn bad_kernels(rt: HostRuntime) -> Result<(), Fail> {
+    const LIST: &str = "error: LIST is 1 to 16 numbers of 0 to 1000000 with commas between them\n";
+    const ROWS: [Row; 11] = [
+        (&["phaser_run", "stencil"], "--first <LIST>"),
+        (&["phaser_run", "stencil", "--first", "1"], "--steps <S>"),
+        (
+            &[
+                "phaser_run",
+                "stencil",
+                "--first",
+                "1000001",
+                "--steps",
+                "1",
+            ],
+            LIST,
+        ),
+        (
+            &[
+                "phaser_run",
+                "stencil",
+                "--first",
+                "1,2,3,4,5,6,7,8,9,10,11,12,13,14,15,16,17",
+                "--steps",
+                "1",
+            ],
+            LIST,
+        ),
+        // Of several bad values the first is named.
+        (
+            &["phaser_run", "stencil", "--steps", "101", "--first", ","],
+            LIST,
+        ),
+        (
+            &["phaser_run", "stencil", "--first", "1", "--steps", "101"],
+            "error: S is a number of 0 to 100\n",
+        ),
+        (
+            &[
+                "phaser_run",
+                "stencil",
+                "--first",
+                "1",
+                "--steps",
+                "1",
+                "--trace",
+                "t",
+            ],
+            "unexpected argument '--trace'",
+        ),
+        (&["phaser_run", "pipeline", "--stages", "1"], "--items <N>"),
+        (
+            &["phaser_run", "pipeline", "--stages", "0", "--items", "1"],
+            "error: K is a number of 1 to 15\n",
+        ),
+        (
+            &["phaser_run", "pipeline", "--stages", "16", "--items", "1"],
+            "error: K is a number of 1 to 15\n",
+        ),
+        (
+            &["phaser_run", "pipeline", "--stages", "1", "--items", "101"],
+            "error: the items are a number of 0 to 100\n",
+        ),
+    ];
+    all_bad(&rt, rt.alloc(), ROWS.as_slice())
+}
+
+#[test]
 fn help(rt: HostRuntime) -> Result<(), Fail> {
-    const ROWS: [Row; 5] = [
+    const ROWS: [Row; 8] = [
         (&["phaser_run", "--help"], "Exit status: 0 done"),
+        (&["phaser_run", "run", "--help"], "--workers <N>"),
+        (&["phaser_run", "stencil", "--help"], "--first <LIST>"),
+        (&["phaser_run", "pipeline", "--help"], "--stages <K>"),
         (&["phaser_run", "-h"], "Applies the calls of an events file"),
         (
             &["phaser_run", "events", "--help"],

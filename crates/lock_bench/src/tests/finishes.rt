@@ -2,6 +2,8 @@
 ghost use Rattle.std.specs.Prelude.{◌≡◌, ◌<◌, IfOk};
 
 use super::*;
+use finish_core::FinishEvent;
+use trace_model::TracedEvent;
 
 /// What a shut answered, with the item that came back.
 #[derive(Clone, Copy, Debug, PartialEq, Eq)]
@@ -35,46 +37,52 @@ fn two_finishes(alloc: Global) -> Result<FinishTable<u32, u32>, Refusal>
 }
 
 /// What the owner's shut is answered.
-fn shut<R: Wait>(rt: &R, table: &FinishTable<u32, u32>, number: usize, item: u32) -> Shutting
+fn shut<R: Wait>(
+    rt: &R,
+    table: &FinishTable<u32, u32>,
+    tickets: &Tickets,
+    number: usize,
+    item: u32,
+) -> Shutting
     requires { number < table.now.finishes }
 {
-    answer_of(table.shut(rt, number, item))
+    answer_of(table.shut(rt, number, tickets, item))
 }
 
 /// The root's finish is open, and the other isn't.
-fn root_is_open<R: Abort + Wait>(rt: &R, table: &FinishTable<u32, u32>)
+fn root_is_open<R: Abort + Wait>(rt: &R, table: &FinishTable<u32, u32>, tickets: &Tickets)
     requires { table.now.finishes ≡ 2 }
 {
     const NOT_OPEN: Shutting = Shutting::Refused(100, Refusal::NotNow);
-    assert_eq!(rt; shut(rt, table, 1, 100), NOT_OPEN);
-    assert_eq!(rt; table.opened(rt, 0, 0), Err(Refusal::NotNow));
-    assert_eq!(rt; shut(rt, table, 0, 100), Shutting::Done(100));
+    assert_eq!(rt; shut(rt, table, tickets, 1, 100), NOT_OPEN);
+    assert_eq!(rt; table.opened(rt, 0, tickets, 0), Err(Refusal::NotNow));
+    assert_eq!(rt; shut(rt, table, tickets, 0, 100), Shutting::Done(100));
 }
 
 /// The root's finish is open from the start; before the other is opened it can't be shut.
 #[test]
 fn finishes_at_first(rt: HostRuntime) -> Result<(), Fail> {
     let table = two_finishes(rt.alloc())?;
-    root_is_open(&rt, &table);
+    root_is_open(&rt, &table, &Tickets::new());
     Ok(())
 }
 
 /// Finish 1 is opened, and has two tasks.
-fn opens_with_two<R: Abort + Wait>(rt: &R, table: &FinishTable<u32, u32>)
+fn opens_with_two<R: Abort + Wait>(rt: &R, table: &FinishTable<u32, u32>, tickets: &Tickets)
     requires { table.now.finishes ≡ 2 }
 {
-    assert_eq!(rt; table.opened(rt, 1, 0), Ok(()));
-    assert_eq!(rt; table.spawned(rt, 1, 1), Ok(()));
-    assert_eq!(rt; table.spawned(rt, 1, 2), Ok(()));
+    assert_eq!(rt; table.opened(rt, 1, tickets, 0), Ok(()));
+    assert_eq!(rt; table.spawned(rt, 1, tickets, 1), Ok(()));
+    assert_eq!(rt; table.spawned(rt, 1, tickets, 2), Ok(()));
 }
 
 /// The owner is parked, and has its item back where it asks again.
-fn parks_its_owner<R: Abort + Wait>(rt: &R, table: &FinishTable<u32, u32>)
+fn parks_its_owner<R: Abort + Wait>(rt: &R, table: &FinishTable<u32, u32>, tickets: &Tickets)
     requires { table.now.finishes ≡ 2 }
 {
     const AGAIN: Shutting = Shutting::Refused(101, Refusal::NotNow);
-    assert_eq!(rt; shut(rt, table, 1, 100), Shutting::Parked);
-    assert_eq!(rt; shut(rt, table, 1, 101), AGAIN);
+    assert_eq!(rt; shut(rt, table, tickets, 1, 100), Shutting::Parked);
+    assert_eq!(rt; shut(rt, table, tickets, 1, 101), AGAIN);
 }
 
 /// The log that a task's end gives back, where it is refused, and the owner that it lets go on.
@@ -85,13 +93,14 @@ fn end<R: Wait>(
     rt: &R,
     alloc: Global,
     table: &FinishTable<u32, u32>,
+    tickets: &Tickets,
     task: u32,
     log: u32,
 ) -> Result<Back, Refusal>
     requires { table.now.finishes ≡ 2 }
 {
     let mut out = Out::new(alloc)?;
-    let refused = table.ended(rt, 1, task, log, &mut out).err();
+    let refused = table.ended(rt, 1, tickets, task, log, &mut out).err();
     Ok((refused, out.take()))
 }
 
@@ -100,12 +109,13 @@ fn end_all<R: Abort + Wait>(
     rt: &R,
     alloc: Global,
     table: &FinishTable<u32, u32>,
+    tickets: &Tickets,
     rows: &[(u32, u32, Back)],
 )
     requires { table.now.finishes ≡ 2 }
 {
     for (task, log, back) in rows {
-        let came = end(rt, alloc, table, *task, *log);
+        let came = end(rt, alloc, table, tickets, *task, *log);
         assert_eq!(rt; came, Ok(*back), "task {task}");
     }
 }
@@ -118,10 +128,23 @@ fn are_logs(parts: &FinishParts<u32>, finish: usize, logs: &[u32]) -> bool {
     }
 }
 
+/// The root's finish tells nothing of its opening, and of finish 1 each event is told, with the
+/// tickets that were drawn.
+fn tell_five(rt: &impl Abort, parts: &[Part]) {
+    assert_eq!(rt; parts.len(), 2);
+    assert_eq!(rt; parts[0].len(), 0);
+    assert_eq!(rt; parts[1].len(), 5);
+    let opened = TracedEvent::Finish(1, FinishEvent::Opened(0));
+    let ended = TracedEvent::Finish(1, FinishEvent::Ended(1));
+    assert!(rt; parts[1].entry(0) == (1, opened));
+    assert!(rt; parts[1].entry(4) == (5, ended));
+}
+
 /// The tasks that ended in finish 1 left these logs, the first first.
 fn leaves_logs(rt: &impl Abort, table: FinishTable<u32, u32>, logs: &[u32]) {
     let parts = table.into_parts();
     assert!(rt; are_logs(&parts, 1, logs));
+    tell_five(rt, &parts.parts);
 }
 
 /// Task 3 isn't of the finish; the last of its two tasks lets the owner go on.
@@ -133,9 +156,10 @@ fn parked_owner(rt: HostRuntime) -> Result<(), Fail> {
         (1, 11, (None, Some(100))),
     ];
     let table = two_finishes(rt.alloc())?;
-    opens_with_two(&rt, &table);
-    parks_its_owner(&rt, &table);
-    end_all(&rt, rt.alloc(), &table, ENDS.as_slice());
+    let tickets = Tickets::new();
+    opens_with_two(&rt, &table, &tickets);
+    parks_its_owner(&rt, &table, &tickets);
+    end_all(&rt, rt.alloc(), &table, &tickets, ENDS.as_slice());
     leaves_logs(&rt, table, &[22, 11]);
     Ok(())
 }

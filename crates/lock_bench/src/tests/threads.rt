@@ -1,5 +1,5 @@
 //! Threads that call at the same time: two phasers are locked apart, and four threads on eight
-//! phasers leave histories that are explained and books that are gathered.
+//! phasers leave histories that are merged by their tickets, and books that are gathered.
 ghost use Rattle.std.specs.Prelude.{◌≡◌, [], ◌<◌, true};
 ghost use Rattle.share_book.specs.Opening.{IsNamed, IsParted};
 
@@ -50,6 +50,7 @@ fn call<K: Ledgers, R: Wait>(
     rt: &R,
     table: &PhaserTable<u32, K>,
     number: usize,
+    tickets: &Tickets,
     held: &AtomicU64,
     answered: &AtomicU64,
     mine: &mut Shares<K>,
@@ -57,7 +58,7 @@ fn call<K: Ledgers, R: Wait>(
     requires { number < table.now.phasers }
 {
     let seen = saw(held, MOST_LOOKS);
-    let made = table.make(rt, number, mine, 0, Mode::SigWait, Ops::none());
+    let made = table.make(rt, number, tickets, mine, 0, Mode::SigWait, Ops::none());
     answered.store(1, Ordering::SeqCst);
     seen && made.is_ok()
 }
@@ -83,12 +84,14 @@ where
 {
     let held = AtomicU64::new(0);
     let answered = AtomicU64::new(0);
+    let tickets = Tickets::new();
+    let drawn = &tickets;
     let first = &held;
     let second = &answered;
     thread::join(
         rt,
         move || hold(rt, table, first, second, looks),
-        move || call(rt, table, number, first, second, &mut mine),
+        move || call(rt, table, number, drawn, first, second, &mut mine),
     )
 }
 
@@ -204,6 +207,7 @@ fn call_one<K: Ledgers, R: Wait>(
     rt: &R,
     table: &PhaserTable<u32, K>,
     number: usize,
+    tickets: &Tickets,
     mine: &mut Shares<K>,
     out: &mut Out<u32>,
     task: u32,
@@ -214,10 +218,10 @@ fn call_one<K: Ledgers, R: Wait>(
     if !is_drained(out) {
         return Err(Refusal::SharesDiffer);
     }
-    let _signalled = table.signal(rt, number, mine, out, task, None);
-    let _passed = turned(table.pass(rt, number, mine, task, task));
-    let _sent = table.send(rt, number, mine, task, 0, value);
-    let _seen = table.look(rt, number, mine, task, 0);
+    let _signalled = table.signal(rt, number, tickets, mine, out, task, None);
+    let _passed = turned(table.pass(rt, number, tickets, mine, task, task));
+    let _sent = table.send(rt, number, tickets, mine, task, 0, value);
+    let _seen = table.look(rt, number, tickets, mine, task, 0);
     Ok(())
 }
 
@@ -225,6 +229,7 @@ fn call_one<K: Ledgers, R: Wait>(
 fn call_each<K: Ledgers, R: Wait>(
     rt: &R,
     table: &PhaserTable<u32, K>,
+    tickets: &Tickets,
     mine: &mut Shares<K>,
     out: &mut Out<u32>,
     task: u32,
@@ -233,7 +238,7 @@ fn call_each<K: Ledgers, R: Wait>(
     requires { table.now.phasers ≡ 8 }
 {
     for number in 0..PHASERS as usize {
-        call_one(rt, table, number, mine, out, task, value)?;
+        call_one(rt, table, number, tickets, mine, out, task, value)?;
     }
     Ok(())
 }
@@ -256,6 +261,7 @@ fn check_registrations<K: Ledgers, R: Wait>(
 fn call_in_turns<K: Ledgers, R: Wait>(
     rt: &R,
     table: &PhaserTable<u32, K>,
+    tickets: &Tickets,
     mine: &mut Shares<K>,
     out: &mut Out<u32>,
     task: u32,
@@ -263,7 +269,7 @@ fn call_in_turns<K: Ledgers, R: Wait>(
     requires { table.now.phasers ≡ 8 }
 {
     for turn in 0..TURNS {
-        call_each(rt, table, mine, out, task, turn as i32)?;
+        call_each(rt, table, tickets, mine, out, task, turn as i32)?;
     }
     check_registrations(rt, table, mine)
 }
@@ -273,13 +279,14 @@ fn call_all<K: Ledgers, R: Wait>(
     rt: &R,
     alloc: Global,
     table: &PhaserTable<u32, K>,
+    tickets: &Tickets,
     mine: &mut Shares<K>,
     task: u32,
 ) -> Result<(), Refusal>
     requires { table.now.phasers ≡ 8 }
 {
     let mut out = Out::new(alloc)?;
-    call_in_turns(rt, table, mine, &mut out, task)
+    call_in_turns(rt, table, tickets, mine, &mut out, task)
 }
 
 /// One worker's part: on each phaser in turn it signals, asks to pass, sends and looks, as the task
@@ -288,12 +295,13 @@ fn work<K: Ledgers, R: Wait>(
     rt: &R,
     alloc: Global,
     table: &PhaserTable<u32, K>,
+    tickets: &Tickets,
     worker: (u32, Shares<K>),
 ) -> Result<Shares<K>, Refusal>
     requires { table.now.phasers ≡ 8 }
 {
     let (task, mut mine) = worker;
-    call_all(rt, alloc, table, &mut mine, task)?;
+    call_all(rt, alloc, table, tickets, &mut mine, task)?;
     Ok(mine)
 }
 
@@ -302,14 +310,15 @@ fn register_all<K: Ledgers, R: Abort + Wait>(
     rt: &R,
     table: &PhaserTable<u32, K>,
     number: usize,
+    tickets: &Tickets,
     mine: &mut Shares<K>,
 )
     requires { number < table.now.phasers }
 {
-    let made = table.make(rt, number, mine, 0, Mode::SigWait, first_ops(1));
+    let made = table.make(rt, number, tickets, mine, 0, Mode::SigWait, first_ops(1));
     assert_eq!(rt; made, Ok(()));
     for task in 1..WORKERS {
-        let registered = table.register(rt, number, mine, 0, task, Mode::SigWait);
+        let registered = table.register(rt, number, tickets, mine, 0, task, Mode::SigWait);
         assert_eq!(rt; registered, Ok(()), "task {task}");
     }
 }
@@ -318,6 +327,7 @@ fn register_all<K: Ledgers, R: Abort + Wait>(
 fn set_up<K: Ledgers, R: Abort + Wait>(
     rt: &R,
     table: &PhaserTable<u32, K>,
+    tickets: &Tickets,
     shares: &mut Vec<Shares<K>>,
 )
     requires { table.now.phasers ≡ 8 }
@@ -325,7 +335,7 @@ fn set_up<K: Ledgers, R: Abort + Wait>(
     assert_eq!(rt; shares.len(), WORKERS as usize);
     if let Some(mine) = shares.get_mut(0) {
         for number in 0..PHASERS as usize {
-            register_all(rt, table, number, mine);
+            register_all(rt, table, number, tickets, mine);
         }
     }
 }
@@ -335,6 +345,7 @@ fn work_all<K: Ledgers + Send + Sync, R: Threads + Wait + Sync>(
     rt: &R,
     alloc: Global,
     table: &PhaserTable<u32, K>,
+    tickets: &Tickets,
     shares: Vec<Shares<K>>,
 ) -> Result<Vec<Shares<K>>, Refusal>
 where
@@ -348,7 +359,7 @@ where
     requires { table.now.phasers ≡ 8 }
 {
     let staff = numbered(alloc, shares)?;
-    let done = thread::map_vec(rt, staff, &|worker| work(rt, alloc, table, worker))?;
+    let done = thread::map_vec(rt, staff, &|worker| work(rt, alloc, table, tickets, worker))?;
     given_back(alloc, done)
 }
 
@@ -373,9 +384,10 @@ where
     requires eight { blanks.phasers ≡ 8 }
 {
     let (table, mut shares) = fresh::<K>(alloc, CROWD, blanks)?;
-    set_up(rt, &table, &mut shares);
-    let shares = work_all(rt, alloc, &table, shares)?;
-    gathered(rt, table, shares)
+    let tickets = Tickets::new();
+    set_up(rt, &table, &tickets, &mut shares);
+    let shares = work_all(rt, alloc, &table, &tickets, shares)?;
+    gathered(rt, alloc, CROWD, table, shares)
 }
 
 fn named_crowd<
@@ -401,8 +413,8 @@ fn crowd_once<R: Abort + Threads + Wait + Sync>(rt: &R, alloc: Global) -> Result
     named_crowd::<R, Brand, Brand, Brand, Brand, Brand, Brand, Brand>(rt, alloc, blanks)
 }
 
-/// Four threads make some 100,000 calls on eight phasers. Whatever their order, each history is
-/// explained, and the gathered totals are those of all histories.
+/// Four threads make some 100,000 calls on eight phasers. Whatever their order, the histories are
+/// merged by their tickets to one trace, and the gathered totals are those of all histories.
 #[test]
 fn four_threads_on_eight_phasers(rt: HostRuntime) -> Result<(), Fail> {
     for _run in 0..RUNS {

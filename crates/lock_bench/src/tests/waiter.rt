@@ -27,11 +27,12 @@ fn answer_of(answer: PassAnswer<u32>) -> Passing {
 /// Task 0 asks to pass, with this item.
 fn pass<K: Ledgers>(
     cell: &mut PhaserCell<u32, K>,
+    tickets: &Tickets,
     books: &mut Books<K>,
     mine: &mut Shares<K>,
     item: u32,
 ) -> Passing {
-    answer_of(cell.pass(books, mine, 0, item))
+    answer_of(cell.pass(tickets, books, mine, 0, item))
 }
 
 /// The item that a call lets go on, where it isn't refused.
@@ -44,12 +45,13 @@ fn freed(answer: Result<(), Refusal>, out: &mut Out<u32>) -> Result<Option<u32>,
 fn signal<K: Ledgers>(
     alloc: Global,
     cell: &mut PhaserCell<u32, K>,
+    tickets: &Tickets,
     books: &mut Books<K>,
     mine: &mut Shares<K>,
     task: u32,
 ) -> Result<Option<u32>, Refusal> {
     let mut out = Out::new(alloc)?;
-    let answer = cell.signal(books, mine, &mut out, task, None);
+    let answer = cell.signal(tickets, books, mine, &mut out, task, None);
     freed(answer, &mut out)
 }
 
@@ -57,12 +59,13 @@ fn signal<K: Ledgers>(
 fn drop_task<K: Ledgers>(
     alloc: Global,
     cell: &mut PhaserCell<u32, K>,
+    tickets: &Tickets,
     books: &mut Books<K>,
     mine: &mut Shares<K>,
     task: u32,
 ) -> Result<Option<u32>, Refusal> {
     let mut out = Out::new(alloc)?;
-    let answer = cell.drop_task(books, mine, &mut out, task);
+    let answer = cell.drop_task(tickets, books, mine, &mut out, task);
     freed(answer, &mut out)
 }
 
@@ -70,14 +73,18 @@ fn drop_task<K: Ledgers>(
 fn register_both<K: Ledgers>(
     rt: &impl Abort,
     cell: &mut PhaserCell<u32, K>,
+    tickets: &Tickets,
     books: &mut Books<K>,
     mine: &mut Shares<K>,
 ) {
     assert_eq!(rt;
-        cell.make(books, mine, 0, Mode::SigWait, Ops::none()),
+        cell.make(tickets, books, mine, 0, Mode::SigWait, Ops::none()),
         Ok(())
     );
-    assert_eq!(rt; cell.register(books, mine, 0, 1, Mode::SigWait), Ok(()));
+    assert_eq!(rt;
+        cell.register(tickets, books, mine, 0, 1, Mode::SigWait),
+        Ok(())
+    );
 }
 
 /// Two calls of task 0, which has to wait: the first parks its item, the second has its own back.
@@ -85,13 +92,14 @@ fn park_twice<K: Ledgers>(
     rt: &impl Abort,
     alloc: Global,
     cell: &mut PhaserCell<u32, K>,
+    tickets: &Tickets,
     books: &mut Books<K>,
     mine: &mut Shares<K>,
 ) {
     const AGAIN: Passing = Passing::Refused(102, Refusal::NotNow);
-    assert_eq!(rt; signal(alloc, cell, books, mine, 0), Ok(None));
-    assert_eq!(rt; pass(cell, books, mine, 100), Passing::Parked);
-    assert_eq!(rt; pass(cell, books, mine, 102), AGAIN);
+    assert_eq!(rt; signal(alloc, cell, tickets, books, mine, 0), Ok(None));
+    assert_eq!(rt; pass(cell, tickets, books, mine, 100), Passing::Parked);
+    assert_eq!(rt; pass(cell, tickets, books, mine, 102), AGAIN);
 }
 
 /// The other's signal lets it go on, and the other's drop nobody.
@@ -99,12 +107,16 @@ fn let_go<K: Ledgers>(
     rt: &impl Abort,
     alloc: Global,
     cell: &mut PhaserCell<u32, K>,
+    tickets: &Tickets,
     books: &mut Books<K>,
     mine: &mut Shares<K>,
 ) {
-    assert_eq!(rt; signal(alloc, cell, books, mine, 1), Ok(Some(100)));
-    assert_eq!(rt; pass(cell, books, mine, 100), Passing::Passed(100, 0));
-    assert_eq!(rt; drop_task(alloc, cell, books, mine, 1), Ok(None));
+    assert_eq!(rt; signal(alloc, cell, tickets, books, mine, 1), Ok(Some(100)));
+    assert_eq!(rt;
+        pass(cell, tickets, books, mine, 100),
+        Passing::Passed(100, 0)
+    );
+    assert_eq!(rt; drop_task(alloc, cell, tickets, books, mine, 1), Ok(None));
 }
 
 /// Task 0 waits for task 1, and goes on.
@@ -112,12 +124,13 @@ fn wait_and_go_on<K: Ledgers>(
     rt: &impl Abort,
     alloc: Global,
     cell: &mut PhaserCell<u32, K>,
+    tickets: &Tickets,
     books: &mut Books<K>,
     mine: &mut Shares<K>,
 ) {
-    register_both(rt, cell, books, mine);
-    park_twice(rt, alloc, cell, books, mine);
-    let_go(rt, alloc, cell, books, mine);
+    register_both(rt, cell, tickets, books, mine);
+    park_twice(rt, alloc, cell, tickets, books, mine);
+    let_go(rt, alloc, cell, tickets, books, mine);
 }
 
 /// The waiter, on a new phaser of this book, which comes back.
@@ -131,9 +144,10 @@ fn on_one_phaser<K: Ledgers>(
     requires { (book.totals ≡ nothing) × (book.room ≡ 65536) }
 {
     let mut cell = PhaserCell::new(alloc, Limits::default(), book)?;
-    wait_and_go_on(rt, alloc, &mut cell, books, mine);
+    wait_and_go_on(rt, alloc, &mut cell, &Tickets::new(), books, mine);
     let PhaserCell {
         state: _,
+        drawn: _,
         book,
         parked: _,
     } = cell;

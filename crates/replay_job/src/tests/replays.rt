@@ -4,7 +4,7 @@ use phase_modes::{Limits, Phased, Refusal};
 use std::alloc::Global;
 use std::process::Abort;
 use std::test::Fail;
-use trace_model::{Part, Trace, TracedEvent};
+use trace_model::{Log, Part, Trace, TracedEvent};
 use trace_replay::{merge, replay};
 use world_model::Begun;
 
@@ -17,12 +17,14 @@ fn end(task: u32) -> TracedEvent {
 
 /// A part with these tickets, whose events are the ends of this task.
 fn part_of(alloc: Global, task: u32, tickets: &[u64]) -> Result<Part, Fail> {
-    let mut part = Part::new(alloc);
+    let mut log = Log::new(alloc, 2).map_err(|_| Fail::from("memory"))?;
     for ticket in tickets {
-        part.push(*ticket, end(task))
-            .map_err(|_| Fail::from("memory"))?;
+        if !log.has_room() {
+            return Err(Fail::from("no room"));
+        }
+        log.add(*ticket, end(task));
     }
-    Ok(part)
+    Ok(Part::of_log(log))
 }
 
 /// Two parts with these tickets, of the tasks 1 and 2.
@@ -78,6 +80,13 @@ fn is_merged(
 fn parts_by_rising_ticket(rt: HostRuntime) -> Result<(), Fail> {
     let entries = [(1, end(2)), (2, end(1)), (5, end(1)), (9, end(2))];
     is_merged(&rt, rt.alloc(), &[2, 5], &[1, 9], entries.as_slice())
+}
+
+/// The same where no ticket is left out.
+#[test]
+fn parts_in_turn(rt: HostRuntime) -> Result<(), Fail> {
+    let entries = [(1, end(2)), (2, end(1)), (3, end(2)), (4, end(1))];
+    is_merged(&rt, rt.alloc(), &[2, 4], &[1, 3], entries.as_slice())
 }
 
 /// Two parts with these tickets are first at fault at this place, or have no fault.

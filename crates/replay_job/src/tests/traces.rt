@@ -6,7 +6,7 @@ use phase_modes::{Limits, Refusal};
 use std::alloc::Global;
 use std::process::Abort;
 use std::test::Fail;
-use trace_model::{Part, Trace, TracedEvent, TracedStep};
+use trace_model::{Log, Part, Trace, TracedEvent, TracedStep};
 use world_model::{Reply, Step, Tried, WorldEvent};
 
 /// A long event, here of this task.
@@ -27,15 +27,15 @@ fn has_events(rt: &impl Abort, trace: &Trace, events: usize, limits: Limits) {
 /// The trace has one event, which is the part's first too.
 fn is_first_of(rt: &impl Abort, part: &Part, trace: &Trace) {
     assert_eq!(rt; trace.len(), 1);
-    assert!(rt; 0 < part.events().len());
-    assert!(rt; part.events()[0] == trace.entry(0));
+    assert!(rt; 0 < part.len());
+    assert!(rt; part.entry(0) == trace.entry(0));
 }
 
 /// A part with this event.
 fn part_with(alloc: Global, ticket: u64, event: TracedEvent) -> Result<Part, Fail> {
-    let mut part = Part::new(alloc);
-    part.push(ticket, event).map_err(|_| Fail::from("memory"))?;
-    Ok(part)
+    let mut log = Log::new(alloc, 1).map_err(|_| Fail::from("memory"))?;
+    log.add(ticket, event);
+    Ok(Part::of_log(log))
 }
 
 /// A trace keeps its first event as a part does, and the next one after it.

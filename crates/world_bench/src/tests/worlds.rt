@@ -5,7 +5,7 @@ use phase_model::{Look, Op, Ops};
 use phase_modes::{Limits, Mode, Pair, Phased, Refusal};
 use std::alloc::Global;
 use std::process::Abort;
-use world_core::{Log, World};
+use world_core::World;
 use world_model::{
     Begun, Condition, FoldLine, PhaserLines, Reply, Step, TotalsLine, Tried, WorldEvent,
     WorldReport,
@@ -13,7 +13,6 @@ use world_model::{
 
 mod examples;
 mod limits;
-mod logs;
 mod reports;
 
 /// The phasers of a spawn, each with the child's mode there.

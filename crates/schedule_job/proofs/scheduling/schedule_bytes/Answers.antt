@@ -1,7 +1,6 @@
 -- The program that was read is the one that the bytes spell, and what was written are the texts of its run.
-use Rattle.std.proofs.Common.{rules, ap, ◌∙◌}
+use Rattle.std.proofs.Common.{rules, ap}
 use Rattle.world_model.specs.ReportLines.{report_text}
-use Rattle.schedule_job.proofs.Spelled.{within}
 use Rattle.schedule_job.proofs.scheduling.schedule_bytes.Goals as goal
 
 pub returns-clause-done : goal.returns-clause-done
@@ -10,7 +9,7 @@ returns-clause-done g c =
     let lines = ap report_text ran.report in (
       c.in_ok-program.program,
       c.in_ok-run.run'.trace,
-      within c.args.input.now (search rules) ∙ c.in_ok-program.ensures,
+      search rules,
       record {
         rounds = ran.by_picks.0;
         picked = ran.by_picks.1;

@@ -1,4 +1,4 @@
-use Rattle.std.proofs.Common.{ap, sym, ◌∙◌, rules}
+use Rattle.std.proofs.Common.{ap, sym, ◌∙◌, rules, subst}
 use Rattle.std.specs.Result.{is_ok}
 use Rattle.std.proofs.lemmas.Bool.{false≢true}
 use Rattle.phase_model.specs.declared.call.Call.TheVariants.{Drop as drop_task}
@@ -6,7 +6,8 @@ use Rattle.phase_model.specs.Waiting.{would_wait}
 use Rattle.scope_locks.specs.Parking.{is_phase_open}
 use Rattle.scope_locks.proofs.Freeing.{neither_leaves, drop_frees_nobody}
 use Rattle.scope_locks.proofs.Parks.{all_waiting, once_waiting}
-use Rattle.scope_locks.proofs.Written.{matches_result, kept, none_where_refused}
+use Rattle.scope_locks.proofs.Written.{matches_result, kept, ticketed, ticket_fits, none_where_refused}
+use Rattle.scope_locks.specs.Drawn.{IsDrawn}
 use Rattle.scope_locks.proofs.cell.PhaserCell.drop_task.Goals as goal
 
 pub release_if-requires-clause-nobody : goal.release_if-requires-clause-nobody
@@ -18,6 +19,13 @@ release_if-requires-clause-nobody g c = λ n.
     drop_frees_nobody s s' cell.book ps c.args.task cell.kept c.drop_task-answer.ensures.history
     (neither_leaves (would_wait s c.args.task) (is_phase_open s ps) (is_phase_open s' ps) (λ waits. false≢true (sym n ∙ c.may_leave.ensures.waited (search (rules, c.would_wait-waits.ensures ∙ waits)))) (λ was now. false≢true (sym n ∙ c.may_leave.ensures.closed (cc) (cc))))
 
+pub post_if-requires-clause-room_for_ticket : goal.post_if-requires-clause-room_for_ticket
+post_if-requires-clause-room_for_ticket g c =
+    let cell = c.args.self.now in
+    let s = cell.state.story in
+    let matches = matches_result s (drop_task c.args.task) c.is_ok.result (c.is_ok.ensures.value ∙ ap (λ a. is_ok a) c.drop_task-answer.ensures.reply) in
+    ticket_fits s _ _ (drop_task c.args.task) _ _ cell.ticketed cell.room_for_tickets matches
+
 pub invariant_of-self : goal.invariant_of-self
 invariant_of-self g c =
     let cell = c.args.self.now in
@@ -26,8 +34,11 @@ invariant_of-self g c =
     let matches = matches_result s (drop_task c.args.task) c.is_ok.result (c.is_ok.ensures.value ∙ ap (λ a. is_ok a) c.drop_task-answer.ensures.reply) in
     let s' = c.drop_task-answer.new.self.story in
     let left = c.release_if.ensures.parked in
+    let drawn = ticketed s _ _ _ _ _ (drop_task c.args.task) _ _ cell.ticketed cell.room_for_tickets matches is c.post_if.ensures.drawn c.post_if.ensures.room_for_tickets in
     record {
       kept = kept s _ cell.book _ cell.parked.items _ (drop_task c.args.task) _ _ cell.kept matches is c.post_if.ensures.book c.post_if.ensures.room (all_waiting s' cell.parked.items _ left) (once_waiting s' cell.parked.items _ cell.kept.once left);
+      ticketed = drawn.each;
+      room_for_tickets = drawn.fits;
       any_ops = c.drop_task-answer.ensures.room ∙ cell.any_ops;
       seats = c.release_if.ensures.seats;
       seated = c.release_if.ensures.seated;
@@ -37,3 +48,6 @@ pub returns-clause-refused : goal.returns-clause-refused
 returns-clause-refused g c =
     let cell = c.args.self.now in
     none_where_refused cell.state.story _ cell.book cell.parked.items (drop_task c.args.task) _ _ cell.kept c.drop_task-answer.ensures.history c.drop_task-answer.ensures.reply c.release_if.ensures.out
+
+pub returns-clause-tickets : goal.returns-clause-tickets
+returns-clause-tickets g c = subst (λ b. IsDrawn b c.args.self.now.drawn.items c.post_if.new.drawn.items) c.is_ok.ensures.value c.post_if.ensures.tickets

@@ -1,11 +1,12 @@
-use Rattle.std.proofs.Common.{ap, sym, ◌∙◌}
+use Rattle.std.proofs.Common.{ap, sym, ◌∙◌, subst}
 use Rattle.std.specs.Result.{is_ok}
 use Rattle.std.proofs.lemmas.Bool.{false≢true}
 use Rattle.phase_model.specs.declared.call.Call.TheVariants.{Signal as signal}
 use Rattle.scope_locks.specs.Parking.{is_phase_open}
 use Rattle.scope_locks.proofs.Freeing.{closes_nothing, signal_frees_nobody}
 use Rattle.scope_locks.proofs.Parks.{all_waiting, once_waiting}
-use Rattle.scope_locks.proofs.Written.{matches_result, kept, none_where_refused}
+use Rattle.scope_locks.proofs.Written.{matches_result, kept, ticketed, ticket_fits, none_where_refused}
+use Rattle.scope_locks.specs.Drawn.{IsDrawn}
 use Rattle.scope_locks.proofs.cell.PhaserCell.signal.Goals as goal
 
 pub release_if-requires-clause-nobody : goal.release_if-requires-clause-nobody
@@ -17,6 +18,13 @@ release_if-requires-clause-nobody g c = λ n.
     signal_frees_nobody s s' cell.book ps c.args.task c.args.number cell.kept c.signal-answer.ensures.history
     (closes_nothing (is_phase_open s ps) (is_phase_open s' ps) (λ was now. false≢true (sym n ∙ c.may_leave.ensures.closed (cc) (cc))))
 
+pub post_if-requires-clause-room_for_ticket : goal.post_if-requires-clause-room_for_ticket
+post_if-requires-clause-room_for_ticket g c =
+    let cell = c.args.self.now in
+    let s = cell.state.story in
+    let matches = matches_result s (signal c.args.task c.args.number) c.is_ok.result (c.is_ok.ensures.value ∙ ap (λ a. is_ok a) c.signal-answer.ensures.reply) in
+    ticket_fits s _ _ (signal c.args.task c.args.number) _ _ cell.ticketed cell.room_for_tickets matches
+
 pub invariant_of-self : goal.invariant_of-self
 invariant_of-self g c =
     let cell = c.args.self.now in
@@ -25,8 +33,11 @@ invariant_of-self g c =
     let matches = matches_result s (signal c.args.task c.args.number) c.is_ok.result (c.is_ok.ensures.value ∙ ap (λ a. is_ok a) c.signal-answer.ensures.reply) in
     let s' = c.signal-answer.new.self.story in
     let left = c.release_if.ensures.parked in
+    let drawn = ticketed s _ _ _ _ _ (signal c.args.task c.args.number) _ _ cell.ticketed cell.room_for_tickets matches is c.post_if.ensures.drawn c.post_if.ensures.room_for_tickets in
     record {
       kept = kept s _ cell.book _ cell.parked.items _ (signal c.args.task c.args.number) _ _ cell.kept matches is c.post_if.ensures.book c.post_if.ensures.room (all_waiting s' cell.parked.items _ left) (once_waiting s' cell.parked.items _ cell.kept.once left);
+      ticketed = drawn.each;
+      room_for_tickets = drawn.fits;
       any_ops = c.signal-answer.ensures.room ∙ cell.any_ops;
       seats = c.release_if.ensures.seats;
       seated = c.release_if.ensures.seated;
@@ -36,3 +47,6 @@ pub returns-clause-refused : goal.returns-clause-refused
 returns-clause-refused g c =
     let cell = c.args.self.now in
     none_where_refused cell.state.story _ cell.book cell.parked.items (signal c.args.task c.args.number) _ _ cell.kept c.signal-answer.ensures.history c.signal-answer.ensures.reply c.release_if.ensures.out
+
+pub returns-clause-tickets : goal.returns-clause-tickets
+returns-clause-tickets g c = subst (λ b. IsDrawn b c.args.self.now.drawn.items c.post_if.new.drawn.items) c.is_ok.ensures.value c.post_if.ensures.tickets

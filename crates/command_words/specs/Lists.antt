@@ -1,0 +1,56 @@
+-- Numbers in digits alone, and lists of them.
+use Rattle.std.specs.Prelude.{ℕ, Bool, List, [], ◌∷◌, ◌&&◌, ◌==◌, ◌^◌, not, nat_le, nat_lt, if◌then◌else◌, length, Option, Some, None, option_map, option_and_then}
+use Rattle.std.specs.List.{list_all, slice_split}
+use Rattle.std.specs.Char.{is_ascii_digit}
+use Rattle.std.specs.Str.Parse.{digits_value}
+use Rattle.phase_modes.specs.Lists.{is_empty}
+use Rattle.command_words.specs.declared.lists.TheConstants.{MOST_PICKS, GREATEST_PICK, MOST_CELLS, GREATEST_CELL}
+
+-- the texts between the commas (44)
+abbrev pub pieces : List ℕ → List (List ℕ)
+pieces text = slice_split (λ c. c == 44) text
+
+-- one digit or more, and nothing else
+abbrev pub is_numeral : List ℕ → Bool
+is_numeral text = not (is_empty text) && list_all is_ascii_digit text
+
+-- the number that digits alone spell, where it has 32 bits
+abbrev pub number_in : List ℕ → Option ℕ
+number_in text =
+    if is_numeral text && nat_lt (digits_value 10 text) (2 ^ 32) then Some (digits_value 10 text) else None
+
+-- the same, where it isn't out of range
+abbrev pub within : ℕ → ℕ → ℕ → Option ℕ
+within least greatest n = if nat_le least n && nat_le n greatest then Some n else None
+
+abbrev pub number_within : ℕ → ℕ → List ℕ → Option ℕ
+number_within least greatest text = option_and_then (within least greatest) (number_in text)
+
+-- the number of each text, where each has one that is no greater
+abbrev pub numbers_in : ℕ → List (List ℕ) → Option (List ℕ)
+numbers_in greatest [] = Some []
+numbers_in greatest (p ∷ ps) =
+    option_and_then (λ n. option_map (λ ns. n ∷ ns) (numbers_in greatest ps)) (number_within 0 greatest p)
+
+-- the numbers of a list: in digits alone with commas between them, no more and none greater than are allowed
+unfoldable pub list_in : ℕ → ℕ → List ℕ → Option (List ℕ)
+list_in most greatest text =
+    if nat_le (length (pieces text)) most then numbers_in greatest (pieces text) else None
+
+-- the picks of LIST
+abbrev pub picks_in : List ℕ → Option (List ℕ)
+picks_in text = list_in MOST_PICKS GREATEST_PICK text
+
+-- the same, where LIST needn't be given: without it there are none
+abbrev pub listed_in : Option (List ℕ) → Option (List ℕ)
+listed_in None = Some []
+listed_in (Some text) = picks_in text
+
+-- the first values of a stencil
+abbrev pub first_in : List ℕ → Option (List ℕ)
+first_in text = list_in MOST_CELLS GREATEST_CELL text
+
+-- how many workers: two, where that isn't given
+abbrev pub workers_in : Option (List ℕ) → Option ℕ
+workers_in None = Some 2
+workers_in (Some text) = number_within 1 16 text

@@ -1,0 +1,124 @@
+//! Numbers in digits alone, and lists of them with commas between.
+ghost use Rattle.std.specs.Prelude.{◌≡◌, ◌<◌, ◌≤◌, length, Some, IfErr, IfOk, option_map};
+ghost use Rattle.std.specs.Char.{is_ascii_digit};
+ghost use Rattle.std.specs.List.{list_all};
+ghost use Rattle.command_words.specs.CommandLine.{IsOfValue};
+ghost use Rattle.command_words.specs.Lists.{first_in, list_in, listed_in, number_in, number_within, workers_in};
+
+use crate::command_line::{NoJob, Value};
+use std::alloc::Global;
+
+/// How many picks a list has at most.
+pub(crate) const MOST_PICKS: usize = 10_000;
+
+/// The greatest pick.
+pub(crate) const GREATEST_PICK: u32 = 4_294_967_295;
+
+/// How many cells a stencil has at most.
+pub(crate) const MOST_CELLS: usize = 16;
+
+/// The greatest first value of a cell.
+pub(crate) const GREATEST_CELL: u32 = 1_000_000;
+
+/// Whether each byte is a digit.
+fn is_digits(text: &str) -> bool
+    ensures { result ≡ list_all is_ascii_digit text.now }
+{
+    text.as_bytes().iter().all(|byte| byte.is_ascii_digit())
+}
+
+/// The number that digits alone spell, where it has 32 bits.
+#[tactic(auto, using(crate::proofs::Numbers::of_digits, crate::proofs::Numbers::of_others))]
+fn number_of(text: &str) -> Option<u32>
+    ensures { result ≡ number_in text.now }
+{
+    if is_digits(text) {
+        text.parse().ok()
+    } else {
+        None
+    }
+}
+
+/// The same, where it isn't out of range.
+pub(crate) fn number_within(least: u32, greatest: u32, text: &str) -> Option<u32>
+    ensures { result ≡ number_within least greatest text.now }
+{
+    let number = number_of(text)?;
+    if least <= number && number <= greatest {
+        Some(number)
+    } else {
+        None
+    }
+}
+
+/// The numbers of a list, no more and none greater than are allowed; where it is none, the value
+/// of this name is bad.
+pub(crate) fn list_of(
+    alloc: Global,
+    name: Value,
+    most: usize,
+    greatest: u32,
+    list: &str,
+) -> Result<Vec<u32>, NoJob>
+    ensures numbers { IfOk result (λ numbers. list_in most greatest list.now ≡ Some numbers.items) }
+    ensures few { IfOk result (λ numbers. length numbers.items ≤ most) }
+    ensures none { IfErr result (IsOfValue name (list_in most greatest list.now)) }
+{
+    let mut numbers = Vec::new(alloc);
+    for piece in list.split(',') {
+        let Some(number) = number_within(0, greatest, piece) else {
+            return Err(NoJob::BadValue(name));
+        };
+        if numbers.len() == most {
+            return Err(NoJob::BadValue(name));
+        }
+        if numbers.push(number).is_err() {
+            return Err(NoJob::Memory);
+        }
+    }
+    Ok(numbers)
+}
+
+/// The picks that LIST spells, or none where it isn't given.
+pub(crate) fn picks_of(alloc: Global, list: Option<&str>) -> Result<Vec<u32>, NoJob>
+    ensures picks { IfOk result (λ picks. listed_in (option_map (λ t. t.now) list.entry) ≡ Some picks.items) }
+    ensures none { IfErr result (IsOfValue Value.Picks (listed_in (option_map (λ t. t.now) list.entry))) }
+{
+    match list {
+        Some(text) => list_of(alloc, Value::Picks, MOST_PICKS, GREATEST_PICK, text),
+        None => Ok(Vec::new(alloc)),
+    }
+}
+
+/// The first values of a stencil.
+pub(crate) fn first_of(alloc: Global, list: &str) -> Result<Vec<u32>, NoJob>
+    ensures first { IfOk result (λ first. first_in list.now ≡ Some first.items) }
+    ensures few { IfOk result (λ first. length first.items ≤ MOST_CELLS) }
+    ensures none { IfErr result (IsOfValue Value.First (first_in list.now)) }
+{
+    list_of(alloc, Value::First, MOST_CELLS, GREATEST_CELL, list)
+}
+
+/// The number that the text spells, where it isn't out of range; else the value of this name is bad.
+pub(crate) fn value_of(name: Value, least: u32, greatest: u32, text: &str) -> Result<u32, NoJob>
+    ensures number { IfOk result (λ n. number_within least greatest text.now ≡ Some n) }
+    ensures within { IfOk result (λ n. (least ≤ n) × (n ≤ greatest)) }
+    ensures none { IfErr result (IsOfValue name (number_within least greatest text.now)) }
+{
+    match number_within(least, greatest, text) {
+        Some(number) => Ok(number),
+        None => Err(NoJob::BadValue(name)),
+    }
+}
+
+/// How many workers: two, where that isn't given.
+pub(crate) fn workers_of(text: Option<&str>) -> Result<u32, NoJob>
+    ensures workers { IfOk result (λ n. workers_in (option_map (λ t. t.now) text.entry) ≡ Some n) }
+    ensures within { IfOk result (λ n. (0 < n) × (n ≤ 16)) }
+    ensures none { IfErr result (IsOfValue Value.Workers (workers_in (option_map (λ t. t.now) text.entry))) }
+{
+    match text {
+        Some(text) => value_of(Value::Workers, 1, 16, text),
+        None => Ok(2),
+    }
+}

@@ -1,0 +1,199 @@
+-- The tasks of a stencil go by it.
+use Rattle.std.proofs.Common.{ℕ, zero, suc, pos, ◌+◌, ◌-◌, ◌≡◌, ◌≤◌, ◌<◌, ◌∙◌, min, Bool, true, false, if◌then◌else◌, List, [], ◌∷◌, ◌++◌, length, map, flat_map, get_or, replicate, nat_lt, refl, sym, ap, subst, add-one, arith}
+use Rattle.std.proofs.Math.Nat.{min-eq_left}
+use Rattle.std.proofs.lemmas.Bool.{le-leb, lt-ltb, le-ltb, ltb-false}
+use Rattle.std.specs.List.{range_with_len}
+use Rattle.std.proofs.lemmas.List.{get_or_past, get_or_append_left}
+use Rattle.std.proofs.lemmas.List.FromFn.{get_or-map-range_with_len, length-map-range_with_len}
+use Rattle.phase_model.specs.declared.op.Look.TheVariants.{Value}
+use Rattle.phase_model.specs.declared.op.Op.TheVariants.{Sum}
+use Rattle.phase_modes.specs.declared.reg.Mode.TheVariants.{SigWait}
+use Rattle.job_script.specs.declared.act.Act.TheVariants.{New, Async, Send, Look, End}
+use Rattle.job_script.specs.declared.act.Answer.{Answer}
+use Rattle.job_script.specs.declared.act.Answer.TheVariants.{Started, Done, Made, Spawned, Saw}
+use Rattle.job_kernels.specs.declared.stencil_body.Moment.{Moment}
+use Rattle.job_kernels.specs.declared.stencil_body.Moment.TheVariants.{Sends, Turns, LooksLeft, LooksRight}
+use Rattle.job_kernels.specs.declared.stencil_body.Role.TheVariants as kinds
+use Rattle.job_kernels.specs.declared.stencil_body.StencilBody.{StencilBody}
+use Rattle.job_kernels.specs.Stencil.{weighed, cell_after, stencil_step, stencil, AtMost}
+use Rattle.job_kernels.specs.Tasks.{value_of, Does, Line, GoesBy}
+use Rattle.job_kernels.specs.StencilTasks.{greatest, looks_right, stencil_next, cell_task, phasers_of, root_task}
+use Rattle.job_kernels.specs.StencilLines.{cells_at, step_lines, cell_lines, making, spawning}
+use Rattle.job_kernels.proofs.Bounds.{stays_at_most}
+
+-- what is seen of a number that is small enough
+pub value-small : (x : ℕ) → x ≤ greatest → value_of greatest (Saw (Value (pos x))) ≡ x
+value-small x h = rw (le-leb x greatest h) refl
+
+-- the task of a cell with these fields
+abbrev pub cell : ℕ → ℕ → ℕ → ℕ → ℕ → Moment → StencilBody
+cell i n steps v l m = record {
+  role = kinds.Cell (record {
+    place = i;
+    cells = n;
+    steps = steps;
+    value = v;
+    left = l;
+    moment = m;
+  });
+}
+
+abbrev pub Goes : Does StencilBody → List (Line StencilBody) → Type 0
+Goes does lines = GoesBy stencil_next does lines
+
+-- it sends what it holds
+sends_goes : (i n steps x v l : ℕ) (lines : List (Line StencilBody)) → x ≡ v → v ≤ greatest →
+    Goes (stencil_next Done (cell i n steps v l Turns)) lines →
+    Goes (stencil_next Done (cell i n steps x l Sends)) ((Send i 0 (pos v), Done) ∷ lines)
+sends_goes i n steps x v l lines e h rest =
+    let P : ℕ → Type 0 = λ y. Goes (stencil_next Done (cell i n steps y l Sends)) ((Send i 0 (pos v), Done) ∷ lines) in
+    subst P (sym e) (ap (λ y. Send i 0 (pos y)) (min-eq_left h), rest)
+
+-- from the look to the right on
+right_goes : (b : Bool) (m : Moment) (row : List ℕ) (i n r steps own l v : ℕ) (lines : List (Line StencilBody)) →
+    weighed l own (if b then get_or row r 0 else 0) ≡ v → v ≤ greatest → get_or row r 0 ≤ greatest →
+    Goes (stencil_next Done (cell i n steps v l Turns)) lines →
+    let does = looks_right (if b then r ∷ [] else []) (record { place = i; cells = n; steps = steps; value = own; left = l; moment = m }) in
+    Goes (does.0, record { role = kinds.Cell does.1 })
+    ((map (λ j. (Look j 0, Saw (Value (pos (get_or row j 0))))) (if b then r ∷ [] else []) ++ (Send i 0 (pos v), Done) ∷ []) ++ lines)
+right_goes true m row i n r steps own l v lines e small h rest =
+    (refl, sends_goes i n steps (weighed l own (value_of greatest (Saw (Value (pos (get_or row r 0)))))) v l lines (ap (weighed l own) (value-small (get_or row r 0) h) ∙ e) small rest)
+right_goes false m row i n r steps own l v lines e small h rest =
+    sends_goes i n steps (weighed l own 0) v l lines e small rest
+
+-- the rows keep their length
+pub length-stencil : (steps : ℕ) (cells : List ℕ) → length (stencil steps cells) ≡ length cells
+length-stencil zero cells = refl
+length-stencil (suc steps) cells = length-map-range_with_len (cell_after (stencil steps cells)) 0 (length (stencil steps cells)) ∙ length-stencil steps cells
+
+-- a cell of the next row
+pub step_at : (row : List ℕ) (n i : ℕ) → length row ≡ n → i < n → get_or (stencil_step row) i 0 ≡ cell_after row i
+step_at row n i e h = get_or-map-range_with_len (cell_after row) 0 (length row) i i 0 (omega (arith, e)) (omega arith)
+
+-- a neighbour outside the row counts as 0
+pub right_value : (b : Bool) (row : List ℕ) (n r : ℕ) → length row ≡ n → nat_lt r n ≡ b →
+    (if b then get_or row r 0 else 0) ≡ get_or row r 0
+right_value true row n r e t = refl
+right_value false row n r e t = sym (get_or_past row r 0 (omega (arith, e, ltb-false r n t)))
+
+-- from the end of a turn on
+go : (first : List ℕ) (i : ℕ) → AtMost greatest first → i < length first → (t k l : ℕ) →
+    Goes (stencil_next Done (cell i (length first) k (get_or (stencil t first) i 0) l Turns))
+    (flat_map (step_lines (cells_at first) (length first) i) (range_with_len t k))
+go first i h lt t zero l = refl
+go first zero h lt t (suc k) l =
+    let row : List ℕ = stencil t first in
+    let n : ℕ = length first in
+    let v : ℕ = get_or (stencil (suc t) first) 0 0 in
+    let lines : List (Line StencilBody) = flat_map (step_lines (cells_at first) (length first) 0) (range_with_len (t + 1) k) in
+    let rest : Goes (stencil_next Done (cell 0 n k v 0 Turns)) lines =
+    let P : ℕ → Type 0 = λ u. Goes (stencil_next Done (cell 0 n k v 0 Turns)) (flat_map (step_lines (cells_at first) (length first) 0) (range_with_len u k)) in
+    subst P (sym (add-one t)) (go first 0 h lt (suc t) k 0) in
+    let value : weighed 0 (get_or row 0 0) (if nat_lt (0 + 1) n then get_or row (0 + 1) 0 else 0) ≡ v =
+    ap (weighed 0 (get_or row 0 0)) (right_value (nat_lt (0 + 1) n) row n (0 + 1) (length-stencil t first) refl)
+    ∙ sym (step_at row n 0 (length-stencil t first) lt) in (
+      refl,
+      right_goes (nat_lt (0 + 1) n) LooksLeft row 0 n (0 + 1) k (get_or row 0 0) 0 v lines value
+          (stays_at_most greatest (suc t) first h 0) (stays_at_most greatest t first h (0 + 1)) rest,
+    )
+go first (suc j) h lt t (suc k) l =
+    let i : ℕ = suc j in
+    let row : List ℕ = stencil t first in
+    let n : ℕ = length first in
+    let v : ℕ = get_or (stencil (suc t) first) i 0 in
+    let left : ℕ = value_of greatest (Saw (Value (pos (get_or row j 0)))) in
+    let lines : List (Line StencilBody) = flat_map (step_lines (cells_at first) (length first) i) (range_with_len (t + 1) k) in
+    let rest : Goes (stencil_next Done (cell i n k v left Turns)) lines =
+    let P : ℕ → Type 0 = λ u. Goes (stencil_next Done (cell i n k v left Turns)) (flat_map (step_lines (cells_at first) (length first) i) (range_with_len u k)) in
+    subst P (sym (add-one t)) (go first i h lt (suc t) k left) in
+    let value : weighed left (get_or row i 0) (if nat_lt (i + 1) n then get_or row (i + 1) 0 else 0) ≡ v =
+    ap (λ x. weighed x (get_or row i 0) (if nat_lt (i + 1) n then get_or row (i + 1) 0 else 0)) (value-small (get_or row j 0) (stays_at_most greatest t first h j))
+    ∙ (ap (weighed (get_or row j 0) (get_or row i 0)) (right_value (nat_lt (i + 1) n) row n (i + 1) (length-stencil t first) refl)
+    ∙ sym (step_at row n i (length-stencil t first) lt)) in (
+      refl,
+      (
+        refl,
+        right_goes (nat_lt (i + 1) n) LooksRight row i n (i + 1) k (get_or row i 0) left v lines value
+            (stays_at_most greatest (suc t) first h i) (stays_at_most greatest t first h (i + 1)) rest,
+      ),
+    )
+
+pub cells_go_by_stencil : (first : List ℕ) (steps i : ℕ) → AtMost greatest first → i < length first →
+    GoesBy stencil_next (stencil_next Started (cell_task first (length first) steps i)) (cell_lines (cells_at first) (length first) steps i)
+cells_go_by_stencil first steps i h lt =
+    sends_goes i (length first) steps (min (get_or first i 0) greatest) (get_or first i 0) 0
+    (flat_map (step_lines (cells_at first) (length first) i) (range_with_len 0 steps)) (min-eq_left (h i)) (h i) (go first i h lt 0 steps 0)
+
+-- ---- the root
+
+-- the root with these fields
+abbrev root : List ℕ → ℕ → ℕ → ℕ → ℕ → StencilBody
+root cells n steps m s = record {
+  role = kinds.Root (record {
+    first = cells;
+    cells = n;
+    steps = steps;
+    made = m;
+    spawned = s;
+  });
+}
+
+-- the cells in a row of sixteen
+abbrev padded : List ℕ → List ℕ
+padded first = first ++ replicate (16 - length first) 0
+
+root_makes : (heard : Answer) (cells : List ℕ) (n steps m s : ℕ) → m < n →
+    stencil_next heard (root cells n steps m s) ≡ (New SigWait (Sum ∷ []), root cells n steps (m + 1) s)
+root_makes heard cells n steps m s h = rw (lt-ltb m n h) refl
+
+root_spawns : (heard : Answer) (cells : List ℕ) (n steps s : ℕ) → s < n →
+    stencil_next heard (root cells n steps n s)
+    ≡ (Async (cell_task cells n steps s) (phasers_of n s), root cells n steps n (s + 1))
+root_spawns heard cells n steps s h = rw (le-ltb n n (omega arith), lt-ltb s n h) refl
+
+root_ends : (heard : Answer) (cells : List ℕ) (n steps : ℕ) → stencil_next heard (root cells n steps n n) ≡ (End, root cells n steps n n)
+root_ends heard cells n steps = rw (le-ltb n n (omega arith)) refl
+
+-- the places behind the row hold nothing that a cell begins with
+cell_task_padded : (first : List ℕ) (n steps i : ℕ) → i < length first → cell_task (padded first) n steps i ≡ cell_task first n steps i
+cell_task_padded first n steps i h =
+    ap (λ v. cell i n steps (min v greatest) 0 Sends) (get_or_append_left first (replicate (16 - length first) 0) 0 i h)
+
+spawns_go : (first : List ℕ) (steps k s : ℕ) (heard : Answer) → s + k ≡ length first →
+    Goes (stencil_next heard (root (padded first) (length first) steps (length first) s))
+    (map (spawning first steps) (range_with_len s k))
+spawns_go first steps zero s heard e =
+    let n : ℕ = length first in
+    let P : ℕ → Type 0 = λ u. (stencil_next heard (root (padded first) n steps n u)).0 ≡ End in
+    let same : n ≡ s = omega (arith, e) in
+    subst P same (ap (λ d. d.0) (root_ends heard (padded first) n steps))
+spawns_go first steps (suc k) s heard e =
+    let n : ℕ = length first in
+    let here : s < n = omega (arith, e) in
+    let lines : List (Line StencilBody) = map (spawning first steps) (range_with_len (s + 1) k) in
+    let P : Does StencilBody → Type 0 = λ d. Goes d (spawning first steps s ∷ lines) in
+    subst P (sym (root_spawns heard (padded first) n steps s here)) (
+      ap (λ b. Async b (phasers_of n s)) (cell_task_padded first n steps s here),
+      spawns_go first steps k (s + 1) (Spawned (s + 1)) (omega (arith, e)),
+    )
+
+makes_go : (first : List ℕ) (steps k m : ℕ) (heard : Answer) → m + k ≡ length first →
+    Goes (stencil_next heard (root (padded first) (length first) steps m 0))
+    (map making (range_with_len m k) ++ map (spawning first steps) (range_with_len 0 (length first)))
+makes_go first steps zero m heard e =
+    let n : ℕ = length first in
+    let P : ℕ → Type 0 = λ u. Goes (stencil_next heard (root (padded first) n steps u 0)) (map (spawning first steps) (range_with_len 0 n)) in
+    let same : n ≡ m = omega (arith, e) in
+    subst P same (spawns_go first steps n 0 heard (omega arith))
+makes_go first steps (suc k) m heard e =
+    let n : ℕ = length first in
+    let here : m < n = omega (arith, e) in
+    let lines : List (Line StencilBody) = map making (range_with_len (m + 1) k) ++ map (spawning first steps) (range_with_len 0 n) in
+    let P : Does StencilBody → Type 0 = λ d. Goes d (making m ∷ lines) in
+    subst P (sym (root_makes heard (padded first) n steps m 0 here))
+    (refl, makes_go first steps k (m + 1) (Made m) (omega (arith, e)))
+
+pub root_spawns_cells : (first : List ℕ) (steps : ℕ) → length first ≤ 16 →
+    GoesBy stencil_next (stencil_next Started (root_task first steps))
+    (map making (range_with_len 0 (length first)) ++ map (spawning first steps) (range_with_len 0 (length first)))
+root_spawns_cells first steps h = makes_go first steps (length first) 0 Started (omega arith)

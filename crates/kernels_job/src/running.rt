@@ -1,0 +1,130 @@
+//! Runs a kernel by workers, and prints what it came to.
+ghost use Rattle.std.specs.Prelude.{◌≡◌, ◌≢◌, ◌<◌, ◌≤◌, Result, Ok, None, length};
+ghost use Rattle.std.specs.Io.KnownBytes.{Appends, Keeps};
+ghost use Rattle.phase_modes.specs.declared.refusal.Refusal.{Refusal as Refusals};
+ghost use Rattle.world_model.specs.Report.{Report};
+ghost use Rattle.job_kernels.specs.Results.{refusal_of};
+ghost use Rattle.job_ends.specs.Ends.{ReportsStatus};
+ghost use Rattle.kernels_job.specs.Printed.{kernel_text, IsOfEnd};
+ghost use Rattle.kernels_job.specs.Worked.{IsKernelRun};
+
+use crate::printing::{Kernel, ending_on};
+use job_ends::Status;
+use job_kernels::{PipelineBody, StencilBody};
+use phase_modes::{Limits, Refusal};
+use phased_rt::{Body, OpenGate, run};
+use std::alloc::Global;
+use std::io::Write;
+use std::sync::Wait;
+use std::thread::Threads;
+use world_model::WorldReport;
+
+/// The report of the root's run under the default limits.
+fn report_of<B: Body + Send, R: Threads + Wait + Sync>(
+    rt: &R,
+    alloc: Global,
+    root: B,
+    workers: u32,
+) -> Result<WorldReport, Refusal>
+    requires { (0 < workers) × (workers ≤ 16) }
+    ensures { IsKernelRun result }
+{
+    let report = run(rt, alloc, root, Limits::default(), workers, &OpenGate)?;
+    Ok(report.world)
+}
+
+/// Runs the root by as many workers, and ends the command of its kernel.
+fn kernel_on<B: Body + Send, R: Threads + Wait + Sync, W: Write, F: Write>(
+    rt: &R,
+    alloc: Global,
+    kernel: Kernel,
+    root: B,
+    workers: u32,
+    out: &mut W,
+    faults: &mut F,
+) -> Status
+    requires { (0 < workers) × (workers ≤ 16) }
+    ensures done { result ≡ Status.Done → (r : Report) × IsKernelRun (Ok r) × (refusal_of r ≡ None)
+        × Appends (W.contents out.old) (W.contents out.new) (kernel_text kernel r) }
+    ensures quiet { result ≡ Status.Done → Keeps (F.contents faults.old) (F.contents faults.new) }
+    ensures refused { result ≡ Status.Refused → Keeps (W.contents out.old) (W.contents out.new) }
+    ensures reported { result ≢ Status.Done → (ran : Result Report Refusals) × IsKernelRun ran
+        × ReportsStatus (IsOfEnd ran) result (F.contents faults.old) (F.contents faults.new) }
+    ensures usage { result ≢ Status.Usage }
+{
+    let ran = report_of(rt, alloc, root, workers);
+    ending_on(alloc, kernel, ran, out, faults).status
+}
+
+/// Runs the stencil over these first values for so many steps, by as many workers, each in a thread
+/// of its own, and prints its cells. The line of a failure goes to `faults`; where it can't be
+/// written, the status stays what it is.
+pub fn stencil_on<R: Threads + Wait + Sync, W: Write, F: Write>(
+    rt: &R,
+    alloc: Global,
+    first: &[u32],
+    steps: u32,
+    workers: u32,
+    out: &mut W,
+    faults: &mut F,
+) -> Status
+    requires few { length first.now ≤ 16 }
+    requires workers { (0 < workers) × (workers ≤ 16) }
+    // Exactly the cells and the totals of one run, in which no task was refused.
+    ensures done { result ≡ Status.Done → (r : Report) × IsKernelRun (Ok r) × (refusal_of r ≡ None)
+        × Appends (W.contents out.old) (W.contents out.new) (kernel_text (Kernel.Stencil steps) r) }
+    ensures quiet { result ≡ Status.Done → Keeps (F.contents faults.old) (F.contents faults.new) }
+    ensures refused { result ≡ Status.Refused → Keeps (W.contents out.old) (W.contents out.new) }
+    // What is reported is the line of a failure of one run with this status.
+    ensures reported { result ≢ Status.Done → (ran : Result Report Refusals) × IsKernelRun ran
+        × ReportsStatus (IsOfEnd ran) result (F.contents faults.old) (F.contents faults.new) }
+    ensures usage { result ≢ Status.Usage }
+{
+    let root = StencilBody::root(first, steps);
+    kernel_on(
+        rt,
+        alloc,
+        Kernel::Stencil(steps),
+        root,
+        workers,
+        out,
+        faults,
+    )
+}
+
+/// Runs the pipeline of so many stages over so many items, by as many workers, each in a thread of
+/// its own, and prints its items. The line of a failure goes to `faults`; where it can't be written,
+/// the status stays what it is.
+pub fn pipeline_on<R: Threads + Wait + Sync, W: Write, F: Write>(
+    rt: &R,
+    alloc: Global,
+    stages: u32,
+    items: u32,
+    workers: u32,
+    out: &mut W,
+    faults: &mut F,
+) -> Status
+    requires stages { stages ≤ 15 }
+    requires items { items ≤ 100 }
+    requires workers { (0 < workers) × (workers ≤ 16) }
+    // Exactly the items and the totals of one run, in which no task was refused.
+    ensures done { result ≡ Status.Done → (r : Report) × IsKernelRun (Ok r) × (refusal_of r ≡ None)
+        × Appends (W.contents out.old) (W.contents out.new) (kernel_text (Kernel.Pipeline stages) r) }
+    ensures quiet { result ≡ Status.Done → Keeps (F.contents faults.old) (F.contents faults.new) }
+    ensures refused { result ≡ Status.Refused → Keeps (W.contents out.old) (W.contents out.new) }
+    // What is reported is the line of a failure of one run with this status.
+    ensures reported { result ≢ Status.Done → (ran : Result Report Refusals) × IsKernelRun ran
+        × ReportsStatus (IsOfEnd ran) result (F.contents faults.old) (F.contents faults.new) }
+    ensures usage { result ≢ Status.Usage }
+{
+    let root = PipelineBody::root(stages, items);
+    kernel_on(
+        rt,
+        alloc,
+        Kernel::Pipeline(stages),
+        root,
+        workers,
+        out,
+        faults,
+    )
+}

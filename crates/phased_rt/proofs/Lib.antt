@@ -1,0 +1,5 @@
+pub mod Adding
+pub mod Refusals
+pub mod Seats
+pub mod Sums
+pub mod Totalled

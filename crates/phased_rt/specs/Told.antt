@@ -1,0 +1,30 @@
+-- What a run's trace was put together from.
+use Rattle.std.specs.Prelude.{◌≡◌, ℕ, false, List, ◌++◌, length, All}
+use Rattle.phase_modes.specs.declared.limits.Limits.{Limits}
+use Rattle.phase_model.specs.Amounts.{Amount}
+use Rattle.share_book.specs.declared.gathering.Totals.{Totals}
+use Rattle.share_book.specs.Accounts.{sum, amount_of}
+use Rattle.scope_locks.specs.Telling.{ArePhaserParts, AreFinishParts}
+use Rattle.trace_model.specs.Parts.{IsTraceOf}
+use Rattle.trace_model.specs.Run.{Entry}
+use Rattle.phased_rt.specs.Totals.{is_phasers}
+
+-- none of the entries is of a phaser
+abbrev pub IsApart : List Entry → Type 0
+IsApart es = All (λ e. is_phasers e.1 ≡ false) es
+
+-- the trace is one of the parts that the locks held, phaser by phaser and finish by finish, and of the tasks'
+-- logs; the totals are what the phasers' books came to, each what its history adds up to
+pub record IsToldBy (l : Limits) (es : List Entry) (t : Totals) : Type 0 where
+  pub phasers : List (List Entry)
+  pub sums : List Amount
+  pub finishes : List (List Entry)
+  pub ended : List ℕ
+  pub logs : List (List Entry)
+  pub merged : IsTraceOf ((phasers ++ finishes) ++ logs) es
+  pub of_phasers : ArePhaserParts 0 phasers sums
+  pub of_finishes : AreFinishParts 0 finishes ended
+  pub of_tasks : All (λ p. IsApart p) logs
+  pub all_phasers : length phasers ≡ l.phasers
+  pub all_finishes : length finishes ≡ l.finishes
+  pub added : amount_of t ≡ sum sums

@@ -1,0 +1,43 @@
+//! Tasks over phasers and finishes, run by several workers.
+//!
+//! # A caller
+//!
+//! A task is a `Body`: it hears what its last act came to, and gives its next one.
+//!
+//! ```rust
+//! let report = run(rt, alloc, root, Limits::default(), 4, &OpenGate)?;
+//! println!(rt; "{}", report.world)?;
+//! ```
+//!
+//! # How it goes
+//!
+//! Each worker takes a task from the queue and makes its events one by one, each under the lock of
+//! one phaser or finish. A task that has to wait is parked behind that lock, and whoever makes the
+//! event that lets it go on puts it into the queue. No lock is held while a body runs.
+//!
+//! # What is promised
+//!
+//! Where `run` answers Ok, its trace is one of the histories that the locks held and of what the
+//! tasks noted, a world explains it, and the report is that of its history: each wait of the run
+//! passed when its phase was closed, and each fold is of exactly the values sent. The contract says
+//! no more than the trace does: not that it ends, nor in which order tasks go on.
+#![tactic(auto)]
+
+mod acting;
+mod body;
+mod calls;
+mod crew;
+mod diary;
+mod driving;
+mod holding;
+mod reporting;
+mod running;
+mod task;
+mod trying;
+mod worker;
+
+pub use body::{Body, Gate, OpenGate};
+pub use job_script::{Act, Answer};
+pub use phase_modes::Phased;
+pub use reporting::Report;
+pub use running::run;

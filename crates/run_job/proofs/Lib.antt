@@ -1,0 +1,2 @@
+-- What is known of a run's history.
+pub mod Turned

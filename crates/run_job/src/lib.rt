@@ -1,0 +1,9 @@
+//! Runs a program's text by workers, and writes the trace and the report of the run.
+#![tactic(auto)]
+
+mod working;
+
+pub use working::{ending_on, run_bytes, run_on};
+
+#[cfg(test)]
+mod tests;

@@ -1,0 +1,258 @@
+//! The run queue with real threads.
+ghost use Rattle.std.specs.Prelude.{◌≡◌, ◌<◌, ◌≤◌, vec_len};
+ghost use Rattle.task_queue.specs.Accounts.{AreTogether};
+
+use phase_modes::Refusal;
+use std::alloc::Global;
+use std::sync::Wait;
+use std::sync::atomic::{AtomicU64, Ordering};
+use std::thread;
+use std::thread::Threads;
+use task_queue::{RunQueue, Seat};
+
+// Whether an item was put from the seat at this place.
+fn put_at<R: Wait>(
+    rt: &R,
+    queue: &RunQueue<u32>,
+    seats: &mut Vec<Seat<u32>>,
+    at: usize,
+    item: u32,
+) -> bool
+    requires at { at < vec_len seats.old }
+    requires together { AreTogether seats.old.items }
+    ensures length { vec_len seats.new ≡ vec_len seats.old }
+    ensures together { AreTogether seats.new.items }
+{
+    queue.put(rt, &mut seats[at], item).is_ok()
+}
+
+// Whether this item was taken with the seat at this place.
+fn take_at<R: Wait>(
+    rt: &R,
+    queue: &RunQueue<u32>,
+    seats: &mut Vec<Seat<u32>>,
+    at: usize,
+    item: Option<u32>,
+) -> bool
+    requires at { at < vec_len seats.old }
+    requires together { AreTogether seats.old.items }
+    ensures length { vec_len seats.new ≡ vec_len seats.old }
+    ensures together { AreTogether seats.new.items }
+{
+    queue.take(rt, &mut seats[at]) == item
+}
+
+#[test]
+fn first_in_first_out(rt: HostRuntime) -> Result<(), Refusal> {
+    let (queue, mut seats) = RunQueue::new(rt.alloc(), 1, 2)?;
+    for item in 0..100u32 {
+        assert!(rt; put_at(&rt, &queue, &mut seats, 0, item));
+    }
+    for item in 0..60u32 {
+        assert!(rt; take_at(&rt, &queue, &mut seats, 0, Some(item)));
+    }
+    queue.close(&rt);
+    let rest = queue.into_rest(seats)?;
+    assert!(rt; rest.len() == 40);
+    assert!(rt; rest[0] == 60 && rest[39] == 99);
+    Ok(())
+}
+
+// Puts the first half of what there is to put from this seat, and then takes until the queue is
+// closed. Whoever takes an item of the first half puts its fellow, that many further on, and whoever
+// is done with the last of all closes the queue. Nobody takes while it still owes a put, so not all
+// can wait. Whoever fails closes the queue for the others.
+fn work<R: Wait>(
+    rt: &R,
+    alloc: Global,
+    queue: &RunQueue<u32>,
+    left: &AtomicU64,
+    job: (u32, u32, u32, Seat<u32>),
+) -> Result<Vec<u32>, Refusal> {
+    let (first, share, half, mut seat) = job;
+    let worked = put_and_take(rt, alloc, queue, left, (first, share, half), &mut seat);
+    if worked.is_err() {
+        queue.close(rt);
+    }
+    worked
+}
+
+fn put_and_take<R: Wait>(
+    rt: &R,
+    alloc: Global,
+    queue: &RunQueue<u32>,
+    left: &AtomicU64,
+    range: (u32, u32, u32),
+    seat: &mut Seat<u32>,
+) -> Result<Vec<u32>, Refusal> {
+    let (first, share, half) = range;
+    let mut items = Vec::new(alloc);
+    for step in 0..share {
+        put_one(rt, queue, seat, first.wrapping_add(step))?;
+    }
+    for _ in rt.forever() {
+        let Some(item) = queue.take(rt, seat) else {
+            break;
+        };
+        items.push(item)?;
+        if item < half {
+            put_one(rt, queue, seat, item.wrapping_add(half))?;
+        }
+        count_down(rt, queue, left);
+    }
+    Ok(items)
+}
+
+fn put_one<R: Wait>(
+    rt: &R,
+    queue: &RunQueue<u32>,
+    seat: &mut Seat<u32>,
+    item: u32,
+) -> Result<(), Refusal> {
+    if queue.put(rt, seat, item).is_err() {
+        return Err(Refusal::Memory);
+    }
+    Ok(())
+}
+
+fn count_down<R: Wait>(rt: &R, queue: &RunQueue<u32>, left: &AtomicU64) {
+    if left.fetch_sub(1, Ordering::SeqCst) == 1 {
+        queue.close(rt);
+    }
+}
+
+// Each worker puts this many items, and each of them brings a second one: each comes out once, and
+// nothing is left.
+fn each_once<R: Threads + Wait + Sync>(
+    rt: &R,
+    alloc: Global,
+    workers: u32,
+    share: u32,
+) -> Result<bool, Refusal>
+    requires { workers ≤ 16 }
+{
+    let (queue, seats) = RunQueue::new(alloc, workers, 4)?;
+    let half = workers.wrapping_mul(share);
+    let all = half.wrapping_mul(2);
+    let left = AtomicU64::new(all as u64);
+    let mut jobs = Vec::new(alloc);
+    let mut first = 0u32;
+    for seat in seats {
+        jobs.push((first, share, half, seat))?;
+        first = first.wrapping_add(share);
+    }
+    let done = thread::map_vec(rt, jobs, &|job| work(rt, alloc, &queue, &left, job))?;
+    let mut table = vec![in alloc; 0u32; all as usize]?;
+    let mut sum = 0u64;
+    for took in done {
+        let items = took?;
+        for item in items {
+            sum = sum.wrapping_add(item as u64);
+            if let Some(times) = table.get_mut(item as usize) {
+                *times = times.wrapping_add(1);
+            }
+        }
+    }
+    let most = all as u64;
+    Ok(table.iter().all(|&times| times == 1) && sum == most.wrapping_mul(most.wrapping_sub(1)) / 2)
+}
+
+#[test]
+fn one_worker_takes_each_once(rt: HostRuntime) -> Result<(), Refusal> {
+    assert!(rt; each_once(&rt, rt.alloc(), 1, 5_000)?);
+    Ok(())
+}
+
+#[test]
+fn two_workers_take_each_once(rt: HostRuntime) -> Result<(), Refusal> {
+    assert!(rt; each_once(&rt, rt.alloc(), 2, 2_500)?);
+    Ok(())
+}
+
+#[test]
+fn sixteen_workers_take_each_once(rt: HostRuntime) -> Result<(), Refusal> {
+    assert!(rt; each_once(&rt, rt.alloc(), 16, 312)?);
+    Ok(())
+}
+
+#[test]
+fn close_wakes_all(rt: HostRuntime) -> Result<(), Refusal> {
+    let alloc = rt.alloc();
+    let (queue, seats) = RunQueue::new(alloc, 16, 4)?;
+    let waiting = AtomicU64::new(0);
+    let queue_in = &queue;
+    let jobs = seats;
+    let slept = thread::map_vec(
+        &rt,
+        jobs,
+        &|seat| sleep_or_close(&rt, queue_in, &waiting, seat),
+    )?;
+    assert!(rt; slept.len() == 16);
+    assert!(rt; slept.iter().all(|&none| none));
+    Ok(())
+}
+
+// The last of 16 closes the queue, the others wait for an item. Whether nobody got one.
+fn sleep_or_close<R: Wait>(
+    rt: &R,
+    queue: &RunQueue<u32>,
+    waiting: &AtomicU64,
+    mut seat: Seat<u32>,
+) -> bool {
+    if waiting.fetch_add(1, Ordering::SeqCst) == 15 {
+        queue.close(rt);
+    }
+    queue.take(rt, &mut seat).is_none()
+}
+
+#[test]
+fn seats_are_counted(rt: HostRuntime) -> Result<(), Refusal> {
+    let (queue, mut seats) = RunQueue::new(rt.alloc(), 2, 1)?;
+    assert!(rt;
+        queue
+            .put(&rt, &mut seats[0], Box::new(rt.alloc(), 7u32)?)
+            .is_ok()
+    );
+    let _gone = seats.pop();
+    assert!(rt; queue.into_rest(seats).err() == Some(Refusal::SharesDiffer));
+    Ok(())
+}
+
+#[test]
+fn what_others_put_is_stolen(rt: HostRuntime) -> Result<(), Refusal> {
+    let (queue, mut seats) = RunQueue::new(rt.alloc(), 3, 1)?;
+    assert!(rt; put_at(&rt, &queue, &mut seats, 1, 5));
+    assert!(rt; put_at(&rt, &queue, &mut seats, 2, 6));
+    assert!(rt; put_at(&rt, &queue, &mut seats, 2, 7));
+    assert!(rt; take_at(&rt, &queue, &mut seats, 0, Some(5)));
+    assert!(rt; take_at(&rt, &queue, &mut seats, 0, Some(6)));
+    queue.close(&rt);
+    assert!(rt; take_at(&rt, &queue, &mut seats, 1, Some(7)));
+    assert!(rt; take_at(&rt, &queue, &mut seats, 1, None));
+    assert!(rt; queue.into_rest(seats)?.is_empty());
+    Ok(())
+}
+
+// The seats the other way round.
+fn turned<T>(seats: Vec<Seat<T>>) -> Vec<Seat<T>>
+    requires { AreTogether seats.items }
+    ensures length { vec_len result ≡ vec_len seats }
+    ensures together { AreTogether result.items }
+{
+    let mut seats = seats;
+    seats.reverse();
+    seats
+}
+
+#[test]
+fn seats_come_back_in_any_order(rt: HostRuntime) -> Result<(), Refusal> {
+    let (queue, mut seats) = RunQueue::new(rt.alloc(), 3, 1)?;
+    assert!(rt; put_at(&rt, &queue, &mut seats, 0, 1));
+    assert!(rt; put_at(&rt, &queue, &mut seats, 1, 2));
+    assert!(rt; put_at(&rt, &queue, &mut seats, 2, 3));
+    assert!(rt; put_at(&rt, &queue, &mut seats, 2, 4));
+    let rest = queue.into_rest(turned(seats))?;
+    assert!(rt; rest.len() == 4);
+    assert!(rt; rest[0] == 1 && rest[1] == 2 && rest[2] == 3 && rest[3] == 4);
+    Ok(())
+}

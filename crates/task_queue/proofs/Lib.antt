@@ -1,0 +1,4 @@
+pub mod Fairs
+pub mod Emptying
+pub mod Ordering
+pub mod Taking

@@ -1,0 +1,139 @@
+//! The queue of all workers.
+ghost use Rattle.std.specs.Prelude.{◌≡◌, ◌<◌, ◌≤◌, IfOk, IfErr, MatchResult, MatchOption, vec_len, ◌⊎◌, ◌≢◌};
+ghost use Rattle.task_queue.specs.Accounts.{HasPut, IsSame, HasTaken, AreFresh, AreTogether, IsConserved};
+
+use crate::closing::rest_of;
+use crate::opening::seat_all;
+use crate::seat::Seat;
+use phase_modes::Refusal;
+use std::alloc::Global;
+use std::marker::PhantomData;
+use std::sync::{Condvar, Mutex, Wait};
+
+// What was seen of the queue at one moment: the number of puts, which begins again at 0 after its
+// last value, and whether the queue is closed.
+#[derive(Clone, Copy, PartialEq, Eq)]
+struct Seen {
+    puts: u64,
+    closed: bool,
+}
+
+/// A queue of items with a first-in-first-out deque for each of its workers.
+#[derive(Drop)]
+pub struct RunQueue<T> {
+    alloc: Global,
+    workers: usize,
+    seen: Mutex<Seen>,
+    moved: Condvar,
+    // Its items go from thread to thread, and none is read by two at once.
+    items: PhantomData<Mutex<T>>,
+}
+
+impl<T: Drop> RunQueue<T> {
+    /// A queue, and a seat for each of its 1 to 16 workers. `room` items fit into each deque before
+    /// it grows. `Memory` where memory is refused.
+    pub fn new(
+        alloc: Global,
+        workers: u32,
+        room: usize,
+    ) -> Result<(RunQueue<T>, Vec<Seat<T>>), Refusal>
+        requires { workers ≤ 16 }
+        ensures workers { IfOk result (λ r. (r.0.workers ≡ workers) × (vec_len r.1 ≡ workers)) }
+        ensures seats { IfOk result (λ r. AreTogether r.1.items × AreFresh r.1.items) }
+        ensures memory { IfErr result (λ e. e ≡ Refusal.Memory) }
+    {
+        let Ok(seats) = seat_all(alloc, workers, room) else {
+            return Err(Refusal::Memory);
+        };
+        let queue = RunQueue {
+            alloc,
+            workers: workers as usize,
+            seen: Mutex::new(Seen {
+                puts: 0,
+                closed: false,
+            }),
+            moved: Condvar::new(),
+            items: PhantomData,
+        };
+        Ok((queue, seats))
+    }
+
+    /// What the deques still hold, worker by worker, once all seats are back, in whatever order.
+    /// `SharesDiffer` where their number isn't that of the workers, `Memory` where memory is refused;
+    /// the items are dropped then.
+    pub fn into_rest(self, seats: Vec<Seat<T>>) -> Result<Vec<T>, Refusal>
+        requires { vec_len seats ≡ self.workers → AreTogether seats.items }
+        ensures left { IfOk result (λ rest. IsConserved seats.items rest.items) }
+        ensures number { IfOk result (λ _. vec_len seats ≡ self.workers) }
+        ensures differ { IfErr result (λ e. ((e ≡ Refusal.Memory) × (vec_len seats ≡ self.workers))
+            ⊎ ((e ≡ Refusal.SharesDiffer) × (vec_len seats ≢ self.workers))) }
+    {
+        if seats.len() != self.workers {
+            return Err(Refusal::SharesDiffer);
+        }
+        let Ok(rest) = rest_of(self.alloc, seats) else {
+            return Err(Refusal::Memory);
+        };
+        Ok(rest)
+    }
+}
+
+impl<T> RunQueue<T> {
+    /// Puts an item last into the deque of this seat's worker, and wakes all that wait for one. The
+    /// item comes back where the deque refuses it, for memory or another cause.
+    pub fn put<R: Wait>(&self, rt: &R, seat: &mut Seat<T>, item: T) -> Result<(), T>
+        ensures { MatchResult result (λ _. HasPut seat.old item seat.new)
+            (λ x. (x ≡ item) × IsSame seat.old seat.new) }
+    {
+        seat.put(item)?;
+        self.count(rt);
+        Ok(())
+    }
+
+    /// Takes the first item of this worker's deque, or else of the next worker's that has one; waits
+    /// where there is none. None once the queue is closed and no item was found after that.
+    ///
+    /// Where all workers wait nobody is left to wake them: a worker that others wait for puts first,
+    /// and one that is done or fails closes the queue.
+    pub fn take<R: Wait>(&self, rt: &R, seat: &mut Seat<T>) -> Option<T>
+        ensures { MatchOption result (IsSame seat.old seat.new)
+            (λ x. HasTaken seat.old x seat.new) }
+    {
+        for _ in rt.forever() {
+            let seen = self.look(rt);
+            if let Some(item) = seat.take(rt) {
+                return Some(item);
+            }
+            if seen.closed {
+                return None;
+            }
+            self.wait(rt, seen);
+        }
+        unreachable!()
+    }
+
+    /// Closes the queue: whoever waits or comes to take gets what is left, and then None.
+    pub fn close<R: Wait>(&self, rt: &R) {
+        self.seen.lock(rt).closed = true;
+        self.moved.notify_all();
+    }
+
+    // One more was put.
+    fn count<R: Wait>(&self, rt: &R) {
+        let mut seen = self.seen.lock(rt);
+        seen.puts = seen.puts.wrapping_add(1);
+        drop(seen);
+        self.moved.notify_all();
+    }
+
+    fn look<R: Wait>(&self, rt: &R) -> Seen {
+        *self.seen.lock(rt)
+    }
+
+    // Waits until something was put, or the queue was closed, since it was seen so.
+    fn wait<R: Wait>(&self, rt: &R, last: Seen) {
+        let _now = self.moved.wait_while(rt, self.seen.lock(rt), |now| {
+            now.puts == last.puts && now.closed == last.closed
+        });
+    }
+}

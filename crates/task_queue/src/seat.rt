@@ -1,0 +1,52 @@
+//! A worker's seat at the queue.
+ghost use Rattle.std.specs.Prelude.{◌≡◌, ◌++◌, ◌∷◌, [], MatchResult, MatchOption};
+ghost use Rattle.task_queue.specs.Accounts.{HasPut, IsSame, HasTaken};
+
+use crate::deque;
+use crate::deque::Deque;
+use crate::reach::Reach;
+use crate::steals::steal_any;
+use std::marker::Model;
+use std::sync::Wait;
+
+/// A worker's place at a queue: its own deque, and a reach to each worker's deque. Contracts see
+/// whose it is, what was put from it, and what was taken with it from each deque.
+#[derive(Drop)]
+pub struct Seat<T> {
+    pub(crate) worker: usize,
+    pub(crate) own: Deque<T>,
+    pub(crate) reaches: Vec<Reach<T>>,
+}
+
+impl<T> Model for Seat<T> {
+    ghost use Rattle.task_queue.specs.Account.{Account};
+
+    ghost Value = { Account T };
+
+    ghost use Rattle.task_queue.specs.Seats.{account_of, IsSeated};
+
+    ghost view = { λ s. account_of s.worker s.own s.reaches.items };
+
+    ghost invariant = { λ s. IsSeated s.worker s.own s.reaches.items };
+}
+
+impl<T> Seat<T> {
+    // Puts an item last into its own deque, or hands it back where the deque refuses it.
+    pub(crate) fn put(&mut self, item: T) -> Result<(), T>
+        ensures { MatchResult result (λ _. HasPut self.old item self.new)
+            (λ x. (x ≡ item) × IsSame self.old self.new) }
+    {
+        deque::put(&mut self.own, item)
+    }
+
+    // Takes the first item of its own deque, or else of the next worker's that has one.
+    pub(crate) fn take<R: Wait>(&mut self, rt: &R) -> Option<T>
+        ensures { MatchOption result (IsSame self.old self.new)
+            (λ x. HasTaken self.old x self.new) }
+    {
+        if let Some(item) = deque::take(&mut self.own) {
+            return Some(item);
+        }
+        steal_any(rt, self.reaches.as_mut_slice(), self.worker)
+    }
+}
