@@ -12,7 +12,7 @@ use world_model::{Begun, Tried};
 /// acts it is, and its entries, the oldest first.
 ///
 /// All memory is taken by `new`: it is not touched before it is needed.
-// An entry has the room of any event, also of a spawn with four registrations. Shorter entries
+// An entry has the room of any event, also of a spawn with all its registrations. Shorter entries
 // would spare room that is reserved and in most tasks never touched, and a spawn would need a
 // second list.
 #[derive(Drop)]
