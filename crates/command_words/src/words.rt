@@ -64,7 +64,8 @@ Calls, with task numbers t and q, and a mode SIG, WAIT, SIG_WAIT or SINGLE:
   [\"pass\",t]   [\"did\",t]   [\"send\",t,acc,value]   [\"look\",t,acc]   [\"drop\",t]
 Lines: ok, ok phase P, claim N, value V, none, not yet, refused NUMBER NAME.
 A file that isn't of this form is refused whole: refused 24 BadText at PLACE,
-with the number of the first bad call, or 0.";
+with the number of the first bad call, or 0.
+Exit status: 0 done, 1 refused, 2 bad words or this help, 3 a read or a write failed.";
 
 /// What `schedule --help` says of the file, the picks and the lines.
 const SCHEDULE_HELP: &str = "\
@@ -78,7 +79,8 @@ A pick is the number of a task, which makes one event, if it can. After LIST the
 by number, round after round, until all have ended.
 Lines: phaser N phases K, its folds, task T ended or refused, finish F tasks N, totals.
 A file that isn't of this form is refused whole: refused 24 BadText at PLACE,
-with the number of the first bad act, or 0.";
+with the number of the first bad act, or 0.
+Exit status: 0 done, 1 refused, 2 bad words or this help, 3 a read or a write failed.";
 
 /// What `schedule --help` says of LIST.
 const PICKS_HELP: &str =
@@ -90,7 +92,11 @@ The file is a program, as schedule --help says it. Its tasks are run by N worker
 then the trace of the run is replayed, and the report is that of the replay.
 Lines: phaser N phases K, its folds, task T ended or refused, finish F tasks N, totals.
 A file that isn't a program is refused whole: refused 24 BadText at PLACE, with the number of the
-first bad act, or 0.";
+first bad act, or 0.
+Exit status: 0 done, 1 refused, 2 bad words or this help, 3 a read or a write failed.";
+
+/// What the options `--trace` say of OUT.
+const TRACE_HELP: &str = "Writes the trace into this file, which is made or emptied; not into FILE";
 
 /// What the options `--workers` say of N.
 const WORKERS_HELP: &str = "How many threads: 1 to 16; without it 2";
@@ -100,19 +106,22 @@ const STENCIL_HELP: &str = "\
 Each cell is a task with a phaser of its own, and looks at those of its neighbours. A step makes
 a cell a quarter, rounded down, of twice itself and its neighbours; outside the row a cell is 0.
 Lines: cells and the values after the last step, totals. A task that is refused, as for want of
-history, makes the run refused: refused NUMBER NAME.";
+history, makes the run refused: refused NUMBER NAME.
+Exit status: 0 done, 1 refused, 2 bad words or this help, 3 a read or a write failed.";
 
 /// What `pipeline --help` says of the kernel and of the lines.
 const PIPELINE_HELP: &str = "\
 Items 1, 2, 3 and so on go through stages, each a task that adds its own number, 1 to K.
 Lines: items and the values after the last stage, totals. A task that is refused makes the run
-refused: refused NUMBER NAME.";
+refused: refused NUMBER NAME.
+Exit status: 0 done, 1 refused, 2 bad words or this help, 3 a read or a write failed.";
 
 /// What `replay --help` says of the file and of the lines.
 const REPLAY_HELP: &str = "\
 The file is the trace of schedule or run, at most 67,108,864 bytes. Its events are made again one by one.
 Lines: the report of the run. A trace that no run makes is refused: refused 25 NotExplained at
-PLACE, with the number of the first event that can't be made there.";
+PLACE, with the number of the first event that can't be made there.
+Exit status: 0 done, 1 refused, 2 bad words or this help, 3 a read or a write failed.";
 
 /// What `--help` says of the exit status.
 const PROGRAM_HELP: &str = "\
@@ -193,7 +202,7 @@ fn schedule_command<'a>(alloc: Global) -> Result<Command<'a>, AllocError>
     ensures app { IfOk result (λ c. app_of c ≡ schedule_app) }
     ensures local { IfOk result (λ c. (fields_of c).has_globals ≡ false) }
 {
-    let trace = option(alloc, "trace", "OUT", "Writes the trace into this file");
+    let trace = option(alloc, "trace", "OUT", TRACE_HELP);
     picks_command(alloc)?.arg(trace)
 }
 
@@ -226,7 +235,7 @@ fn run_command<'a>(alloc: Global) -> Result<Command<'a>, AllocError>
     ensures app { IfOk result (λ c. app_of c ≡ run_app) }
     ensures local { IfOk result (λ c. (fields_of c).has_globals ≡ false) }
 {
-    let trace = option(alloc, "trace", "OUT", "Writes the trace into this file");
+    let trace = option(alloc, "trace", "OUT", TRACE_HELP);
     threads_command(alloc)?.arg(trace)
 }
 
