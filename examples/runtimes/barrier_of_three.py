@@ -1,15 +1,17 @@
 #!/usr/bin/env python3
-"""A barrier of one's own, of two threads, that leaves a trace: examples/traces/own_runtime.py > TRACE"""
+"""A barrier of three threads of its own, which leaves a trace: barrier_of_three.py [--early-pass] > TRACE"""
 import itertools
 import json
+import sys
 import threading
 
-TURNS = 3
-events, tickets, barrier = [], itertools.count(1), threading.Condition()
-signalled = {1: 0, 2: 0}  # how often each task that is registered has signalled
+TASKS, TURNS = (1, 2, 3), 3
+MISSED = 1 if "--early-pass" in sys.argv else 0  # how many signals a pass doesn't wait for: the fault to be found
+barrier, tickets, events = threading.Condition(), itertools.count(1), []
+signalled = dict.fromkeys(TASKS, 0)  # how often each thread at the barrier has signalled
 
 
-def log(*event):  # the lock is held: so the tickets rise as the events are made
+def log(*event):  # the caller has the lock, or is the only thread: so the tickets rise as the events are made
     events.append([next(tickets), *event])
 
 
@@ -20,7 +22,7 @@ def work(task):
             signalled[task] += 1
             log("p", 0, "sig", task)
             barrier.notify_all()
-            barrier.wait_for(lambda: all(count > phase for count in signalled.values()))
+            barrier.wait_for(lambda: sum(count <= phase for count in signalled.values()) <= MISSED)
             log("p", 0, "pass", task)
     with barrier:
         log("t", task, "begin", ["end"])
@@ -31,13 +33,13 @@ def work(task):
 
 
 log("p", 0, "make", 0, "SIG_WAIT", [])
-for child in (1, 2):
+for child in TASKS:
     log("t", 0, "begin", ["async", child, [[0, "SIG_WAIT"]]])
     log("p", 0, "reg", 0, child, "SIG_WAIT")
     log("f", 0, "spawned", child)
 log("t", 0, "begin", ["end"])
 log("p", 0, "drop", 0)
-threads = [threading.Thread(target=work, args=(child,)) for child in (1, 2)]
+threads = [threading.Thread(target=work, args=(child,)) for child in TASKS]
 for thread in threads:
     thread.start()
 for thread in threads:
