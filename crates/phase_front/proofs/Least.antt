@@ -1,7 +1,7 @@
 -- The least place with a count, before and after a change.
-use Rattle.std.proofs.Common.{◌≡◌, ℕ, ◌+◌, ◌-◌, ◌<◌, ◌≤◌, List, Some, None, length, set, get_or, min, inl, inr, refl, ap, ◌∙◌, arith}
+use Rattle.std.proofs.Common.{◌≡◌, ℕ, ◌+◌, ◌-◌, ◌<◌, ◌≤◌, List, Some, None, length, set, get_or, min, inl, inr, ap, ◌∙◌, arith}
 use Rattle.std.proofs.lemmas.Bool.{cases_lt, cases_order}
-use Rattle.std.proofs.lemmas.List.{get_or_past, get_or-set_same, get_or-set_other, get_or_read_under, length-set, set_comm}
+use Rattle.std.proofs.lemmas.List.{get_or_past, get_or-set_same, get_or-set_other, length-set, set_comm}
 use Rattle.phase_front.specs.Fronts.{IsKept, KeepsLeast}
 
 -- a place with a count is one of the list
@@ -100,16 +100,15 @@ pub kept_last : (xs : List ℕ) (p m : ℕ) → IsKept p xs → p + 1 < length x
 kept_last xs p m kept inside some = rw (set_comm xs (p + 1) p m 0 (λ e. omega (arith, e))) (kept_next xs p m kept inside some)
 
 -- it doesn't matter which place is counted first
-pub counted_first : (xs : List ℕ) (p next here : ℕ) → p + 1 < length xs → next ≡ get_or xs (p + 1) next → here ≡ get_or (set xs (p + 1) (next + 1)) p here
-    → set (set xs (p + 1) (next + 1)) p (here - 1) ≡ set (set xs p (get_or xs p 0 - 1)) (p + 1) (get_or xs (p + 1) 0 + 1)
-counted_first xs p next here inside at_next at_here =
-    let ys : List ℕ = set xs (p + 1) (next + 1) in
-    let long : length ys ≡ length xs = length-set xs (p + 1) (next + 1) in
-    let before : next ≡ get_or xs (p + 1) 0 = get_or_read_under xs (p + 1) (length xs) next 0 at_next inside refl in
-    let after : here ≡ get_or ys p 0 = get_or_read_under ys p (length ys) here 0 at_here (omega (arith, long, inside)) refl in
-    let left : here ≡ get_or xs p 0 = after ∙ get_or-set_other xs (p + 1) p (next + 1) 0 (λ e. omega (arith, e)) in
-    set_comm xs (p + 1) p (next + 1) (here - 1) (λ e. omega (arith, e))
-    ∙ (ap (λ a. set (set xs p (a - 1)) (p + 1) (next + 1)) left ∙ ap (λ b. set (set xs p (get_or xs p 0 - 1)) (p + 1) (b + 1)) before)
+pub counted_first : (xs : List ℕ) (p : ℕ)
+    → set (set xs (p + 1) (get_or xs (p + 1) 0 + 1)) p (get_or (set xs (p + 1) (get_or xs (p + 1) 0 + 1)) p 0 - 1)
+    ≡ set (set xs p (get_or xs p 0 - 1)) (p + 1) (get_or xs (p + 1) 0 + 1)
+counted_first xs p =
+    let next : ℕ = get_or xs (p + 1) 0 + 1 in
+    let left : get_or (set xs (p + 1) next) p 0 ≡ get_or xs p 0 =
+    get_or-set_other xs (p + 1) p next 0 (λ e. omega (arith, e)) in
+    ap (λ n. set (set xs (p + 1) next) p (n - 1)) left
+    ∙ set_comm xs (p + 1) p next (get_or xs p 0 - 1) (λ e. omega (arith, e))
 
 -- once the last one of the least place is gone, nobody stands below it or there
 pub nobody_below : (xs : List ℕ) (p : ℕ) → IsKept p xs → (k : ℕ) → k < p → get_or (set xs p 0) k 0 ≡ 0

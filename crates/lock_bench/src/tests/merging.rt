@@ -81,7 +81,8 @@ fn has_in_order(trace: &Trace, phaser: u32, part: &Part) -> bool {
     for place in 0..trace.len() {
         let entry = trace.entry(place);
         if step_on(phaser, entry.1).is_some() {
-            if next >= part.len() || part.entry(next) != entry {
+            let stands = next < part.len() && part.entry(next) == entry;
+            if !stands || part.ticket(next) != entry.0 {
                 return false;
             }
             next += 1;
