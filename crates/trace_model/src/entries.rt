@@ -74,12 +74,12 @@ impl Entries {
     }
 
     /// Adds an event at the end. On `Memory` the list is as it was.
-    pub(crate) fn push(&mut self, ticket: u64, event: TracedEvent) -> Result<(), Refusal>
-        ensures added { IfOk result (λ _. self.new ≡ self.old ++ (ticket, event) ∷ []) }
+    pub(crate) fn push(&mut self, ticket: u64, event: &TracedEvent) -> Result<(), Refusal>
+        ensures added { IfOk result (λ _. self.new ≡ self.old ++ (ticket, event.now) ∷ []) }
         ensures memory { IfErr result (λ r. (r ≡ Refusal.Memory) × (self.new ≡ self.old)) }
     {
-        let Some(kept) = Kept::of(&event) else {
-            return self.push_long(ticket, event);
+        let Some(kept) = Kept::of(event) else {
+            return self.push_long(ticket, *event);
         };
         self.kept.push((ticket, kept))?;
         Ok(())

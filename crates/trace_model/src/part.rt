@@ -1,11 +1,14 @@
 //! A part of what was kept of a run.
-ghost use Rattle.std.specs.Prelude.{◌≡◌, ◌<◌, ◌≤◌, ◌^◌, drop, reverse, length, slice_get, Some, vec_len};
+ghost use Rattle.std.specs.Prelude.{◌≡◌, ◌<◌, ◌≤◌, ◌^◌, drop, reverse, length, slice_get, Some, IfSome, IfOk, IfErr, vec_len};
+ghost use Rattle.trace_model.specs.Run.{with_event};
 ghost use Rattle.trace_model.specs.Told.{step_told, phaser_told, finish_told};
 
 use crate::event::{TracedEvent, TracedStep};
 use crate::log::Log;
+use crate::trace::Trace;
 use finish_core::FinishEvent;
 use phase_model::{Event, History, Ops};
+use phase_modes::Refusal;
 use std::marker::Model;
 
 /// What a part was made of.
@@ -141,5 +144,34 @@ impl Part {
             }
             Source::Log(log) => log.entries()[place],
         }
+    }
+
+    /// The ticket of the event at this place, counted from 0; the event isn't read.
+    pub fn ticket(&self, place: usize) -> u64
+        requires { place < length self.now }
+        ensures { IfSome (slice_get self.now place) (λ e. result ≡ e.0) }
+    {
+        match &self.source {
+            Source::Phaser(_, _, tickets) => tickets[place],
+            Source::Finish(_, _, tickets, first) => tickets[*first + place],
+            Source::Log(log) => log.entries()[place].0,
+        }
+    }
+
+    /// Adds the event at this place, counted from 0, at the end of a trace, with its ticket. On
+    /// `Memory` the trace is as it was.
+    // An entry of a log is looked at where it stands: nearly all are kept in less room.
+    pub fn add_to(&self, place: usize, trace: &mut Trace) -> Result<(), Refusal>
+        requires { place < length self.now }
+        ensures added { IfOk result (λ _. IfSome (slice_get self.now place)
+            (λ e. trace.new ≡ with_event trace.old e)) }
+        ensures memory { IfErr result (λ r. (r ≡ Refusal.Memory) × (trace.new ≡ trace.old)) }
+    {
+        if let Source::Log(log) = &self.source {
+            let entry = &log.entries()[place];
+            return trace.put(entry.0, &entry.1);
+        }
+        let (ticket, event) = self.entry(place);
+        trace.push(ticket, event)
     }
 }

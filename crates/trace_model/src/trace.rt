@@ -57,6 +57,14 @@ impl Trace {
         ensures added { IfOk result (λ _. self.new ≡ with_event self.old (ticket, event)) }
         ensures memory { IfErr result (λ r. (r ≡ Refusal.Memory) × (self.new ≡ self.old)) }
     {
+        self.put(ticket, &event)
+    }
+
+    /// The same with an event that stands elsewhere.
+    pub(crate) fn put(&mut self, ticket: u64, event: &TracedEvent) -> Result<(), Refusal>
+        ensures added { IfOk result (λ _. self.new ≡ with_event self.old (ticket, event.now)) }
+        ensures memory { IfErr result (λ r. (r ≡ Refusal.Memory) × (self.new ≡ self.old)) }
+    {
         self.events.push(ticket, event)
     }
 

@@ -23,8 +23,7 @@ fn events_in(parts: &[Part]) -> usize {
 /// Notes the part at its tickets, as far as the table goes.
 fn note(turns: &mut [u32], number: u32, part: &Part) {
     for place in 0..part.len() {
-        let (ticket, _) = part.entry(place);
-        if let Some(turn) = turns.get_mut(ticket as usize) {
+        if let Some(turn) = turns.get_mut(part.ticket(place) as usize) {
             *turn = number;
         }
     }
@@ -86,11 +85,11 @@ fn in_turn(
             if place >= part.len() {
                 return Ok(None);
             }
-            let (ticket, event) = part.entry(place);
+            let ticket = part.ticket(place);
             if ticket <= last {
                 return Ok(None);
             }
-            trace.push(ticket, event)?;
+            part.add_to(place, &mut trace)?;
             next[number] = place + 1;
             last = ticket;
         }

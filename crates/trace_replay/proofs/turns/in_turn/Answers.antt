@@ -1,9 +1,12 @@
-use Rattle.std.proofs.Common.{◌≡◌, ℕ, ◌+◌, List, length, get_or, set, Vec, Global, sym, ap, subst, ◌∙◌, arith}
+use Rattle.std.proofs.Common.{◌≡◌, ℕ, ◌+◌, ◌<◌, List, length, get_or, set, Vec, Global, Option, Some, IfSome, sym, ap, subst, ◌∙◌, arith}
+use Rattle.std.specs.List.{slice_get}
 use Rattle.std.proofs.lemmas.List.{length-replicate, length-set}
+use Rattle.std.proofs.lemmas.Option.{slice_get-get_or}
+use Rattle.trace_model.specs.declared.event.TracedEvent.TheVariants as traced
 use Rattle.trace_model.specs.Run.{Entry, Run, with_event}
 use Rattle.trace_replay.proofs.Turning.{IsOnWay, begins, goes_on, ends}
 use Rattle.trace_replay.proofs.turns.in_turn.Goals as goal
-use Rattle.trace_replay.proofs.turns.in_turn.Goals.{then-number-parts+else-place-len+else-ticket-last+in_ok-push, else-number-parts}
+use Rattle.trace_replay.proofs.turns.in_turn.Goals.{then-number-parts+else-place-len+else-ticket-last+in_ok-add_to, else-number-parts}
 
 pub loop-turn-init : goal.loop-turn-init
 loop-turn-init c =
@@ -19,21 +22,28 @@ pub loop-turn-preserved : goal.loop-turn-preserved
 loop-turn-preserved c =
     let i = c.loop-turn.invariant in
     elim c.if-number-parts.branch [
-      | then-number-parts+else-place-len+else-ticket-last+in_ok-push w ↦
+      | then-number-parts+else-place-len+else-ticket-last+in_ok-add_to w ↦
           let number = get_or c.args.turns.now c.loop-turn.turn-index 0 in
           let ns = c.loop-turn.next.items in
           let place = w.index-place.result.now in
-          let e = w.entry-ticket.result in
+          let part = w.index-parts-number.result in
+          let e : Entry = get_or part place (0, traced.Fail 0 0) in
+          let inside : place < length part = omega (arith, w.if-place-len.false, w.len.ensures) in
+          let here : slice_get part place ≡ Some e = slice_get-get_or part place (0, traced.Fail 0 0) inside in
+          let ticketed : w.ticket-ticket.result ≡ e.0 = subst (λ (o : Option Entry). IfSome o (λ x. w.ticket-ticket.result ≡ x.0)) here w.ticket-ticket.ensures in
+          let old = c.loop-turn.trace in
+          let added : w.add_to.new.trace ≡ with_event old e =
+          subst (λ (o : Option Entry). IfSome o (λ x. w.add_to.new.trace ≡ with_event old x)) here w.in_ok-add_to.ensures.added in
           let es = c.loop-turn.trace.events in
-          let traced : c.if-number-parts.trace ≡ with_event c.loop-turn.trace e = w.trace-is ∙ w.in_ok-push.ensures.added in
+          let more : c.if-number-parts.trace ≡ with_event old e = w.trace-is ∙ added in
           let moved : c.if-number-parts.next.items ≡ set ns number (place + 1) = ap (λ (v : Vec ℕ Global). v.items) w.next-is in
-          let way = goes_on c.args.parts.now ns c.loop-turn.last es number place w.index-parts-number.result e i.way w.if-number-parts.true (omega (arith, i.places, w.if-number-parts.true)) (sym w.index-parts-number.is) (sym w.index-place.ensures) w.entry-ticket.ensures w.if-ticket-last.false in
+          let way = goes_on c.args.parts.now ns c.loop-turn.last es number place part e i.way w.if-number-parts.true (omega (arith, i.places, w.if-number-parts.true)) (sym w.index-parts-number.is) (sym w.index-place.ensures) here (omega (arith, ticketed, w.if-ticket-last.false)) in
           record {
-            limits = ap (λ (r : Run). r.limits) traced ∙ i.limits;
+            limits = ap (λ (r : Run). r.limits) more ∙ i.limits;
             places = ap (λ (l : List ℕ). length l) moved ∙ (length-set ns number (place + 1) ∙ i.places);
             way = subst (λ (xs : List ℕ). IsOnWay c.args.parts.now xs c.if-number-parts.last c.if-number-parts.trace.events) (sym moved)
-                (subst (λ (t : ℕ). IsOnWay c.args.parts.now (set ns number (place + 1)) t c.if-number-parts.trace.events) (sym w.last-is)
-                (subst (λ (xs : List Entry). IsOnWay c.args.parts.now (set ns number (place + 1)) e.0 xs) (sym (ap (λ (r : Run). r.events) traced)) way));
+                (subst (λ (t : ℕ). IsOnWay c.args.parts.now (set ns number (place + 1)) t c.if-number-parts.trace.events) (sym (w.last-is ∙ ticketed))
+                (subst (λ (xs : List Entry). IsOnWay c.args.parts.now (set ns number (place + 1)) e.0 xs) (sym (ap (λ (r : Run). r.events) more)) way));
           }
       | else-number-parts w ↦ rw (w.trace-is, w.next-is, w.last-is) i
     ]
