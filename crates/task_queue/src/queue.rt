@@ -1,4 +1,13 @@
 //! The queue of all workers.
+//!
+//! No wake-up is lost. `put` pushes, counts under the lock, and wakes one sleeper if the lock
+//! counts any. A seeker reads the count, searches, and sleeps only if the count is unchanged under
+//! the lock, under which it is counted as a sleeper. So its search finds what was counted before it
+//! read, unless another took that; what is counted later keeps it awake, or finds it counted. So
+//! does the flag. One for one is enough: who is woken searches again, and if it takes another item
+//! than the one that woke it, the `put` of that other wakes one too. A sleeper that read the count
+//! only after a `put`, and is woken by it in place of an earlier one, sleeps again: its search had
+//! found the item taken.
 ghost use Rattle.std.specs.Prelude.{◌≡◌, ◌<◌, ◌≤◌, IfOk, IfErr, MatchResult, MatchOption, vec_len, ◌⊎◌, ◌≢◌};
 ghost use Rattle.task_queue.specs.Accounts.{HasPut, IsSame, HasTaken, AreFresh, AreTogether, IsConserved};
 
@@ -11,10 +20,11 @@ use std::marker::PhantomData;
 use std::sync::{Condvar, Mutex, Wait};
 
 // What was seen of the queue at one moment: the number of puts, which begins again at 0 after its
-// last value, and whether the queue is closed.
-#[derive(Clone, Copy, PartialEq, Eq)]
+// last value, how many are counted as sleepers, and whether the queue is closed.
+#[derive(Clone, Copy)]
 struct Seen {
     puts: u64,
+    sleepers: u64,
     closed: bool,
 }
 
@@ -50,6 +60,7 @@ impl<T: Drop> RunQueue<T> {
             workers: workers as usize,
             seen: Mutex::new(Seen {
                 puts: 0,
+                sleepers: 0,
                 closed: false,
             }),
             moved: Condvar::new(),
@@ -79,14 +90,16 @@ impl<T: Drop> RunQueue<T> {
 }
 
 impl<T> RunQueue<T> {
-    /// Puts an item last into the deque of this seat's worker, and wakes all that wait for one. The
-    /// item comes back where the deque refuses it, for memory or another cause.
+    /// Puts an item last into the deque of this seat's worker, and wakes one of those that wait for
+    /// one. The item comes back where the deque refuses it, for memory or another cause.
     pub fn put<R: Wait>(&self, rt: &R, seat: &mut Seat<T>, item: T) -> Result<(), T>
         ensures { MatchResult result (λ _. HasPut seat.old item seat.new)
             (λ x. (x ≡ item) × IsSame seat.old seat.new) }
     {
         seat.put(item)?;
-        self.count(rt);
+        if self.count(rt) {
+            self.moved.notify_one();
+        }
         Ok(())
     }
 
@@ -99,9 +112,26 @@ impl<T> RunQueue<T> {
         ensures { MatchOption result (IsSame seat.old seat.new)
             (λ x. HasTaken seat.old x seat.new) }
     {
+        if let Some(item) = seat.pop() {
+            return Some(item);
+        }
+        self.seek(rt, seat)
+    }
+
+    /// Closes the queue: whoever waits or comes to take gets what is left, and then None.
+    pub fn close<R: Wait>(&self, rt: &R) {
+        self.seen.lock(rt).closed = true;
+        self.moved.notify_all();
+    }
+
+    // Takes from another worker's deque, for a worker whose own is empty; waits where there is none.
+    fn seek<R: Wait>(&self, rt: &R, seat: &mut Seat<T>) -> Option<T>
+        ensures { MatchOption result (IsSame seat.old seat.new)
+            (λ x. HasTaken seat.old x seat.new) }
+    {
         for _ in rt.forever() {
             let seen = self.look(rt);
-            if let Some(item) = seat.take(rt) {
+            if let Some(item) = seat.steal(rt) {
                 return Some(item);
             }
             if seen.closed {
@@ -112,28 +142,24 @@ impl<T> RunQueue<T> {
         unreachable!()
     }
 
-    /// Closes the queue: whoever waits or comes to take gets what is left, and then None.
-    pub fn close<R: Wait>(&self, rt: &R) {
-        self.seen.lock(rt).closed = true;
-        self.moved.notify_all();
-    }
-
-    // One more was put.
-    fn count<R: Wait>(&self, rt: &R) {
+    // One more was put. Whether somebody sleeps.
+    fn count<R: Wait>(&self, rt: &R) -> bool {
         let mut seen = self.seen.lock(rt);
         seen.puts = seen.puts.wrapping_add(1);
-        drop(seen);
-        self.moved.notify_all();
+        seen.sleepers != 0
     }
 
     fn look<R: Wait>(&self, rt: &R) -> Seen {
         *self.seen.lock(rt)
     }
 
-    // Waits until something was put, or the queue was closed, since it was seen so.
+    // Sleeps until something was put, or the queue was closed, since it was seen so.
     fn wait<R: Wait>(&self, rt: &R, last: Seen) {
-        let _now = self.moved.wait_while(rt, self.seen.lock(rt), |now| {
+        let mut seen = self.seen.lock(rt);
+        seen.sleepers = seen.sleepers.wrapping_add(1);
+        let mut seen = self.moved.wait_while(rt, seen, |now| {
             now.puts == last.puts && now.closed == last.closed
         });
+        seen.sleepers = seen.sleepers.wrapping_sub(1);
     }
 }

@@ -39,14 +39,20 @@ impl<T> Seat<T> {
         deque::put(&mut self.own, item)
     }
 
-    // Takes the first item of its own deque, or else of the next worker's that has one.
-    pub(crate) fn take<R: Wait>(&mut self, rt: &R) -> Option<T>
+    // Takes the first item of its own deque. Nobody else puts into that, so that it stays empty once
+    // it was found so, until its owner puts.
+    pub(crate) fn pop(&mut self) -> Option<T>
         ensures { MatchOption result (IsSame self.old self.new)
             (λ x. HasTaken self.old x self.new) }
     {
-        if let Some(item) = deque::take(&mut self.own) {
-            return Some(item);
-        }
+        deque::take(&mut self.own)
+    }
+
+    // Takes the first item of the next worker's deque that has one.
+    pub(crate) fn steal<R: Wait>(&mut self, rt: &R) -> Option<T>
+        ensures { MatchOption result (IsSame self.old self.new)
+            (λ x. HasTaken self.old x self.new) }
+    {
         steal_any(rt, self.reaches.as_mut_slice(), self.worker)
     }
 }

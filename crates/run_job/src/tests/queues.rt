@@ -206,6 +206,68 @@ fn sleep_or_close<R: Wait>(
 }
 
 #[test]
+fn each_put_wakes_one(rt: HostRuntime) -> Result<(), Refusal> {
+    let (queue, seats) = RunQueue::new(rt.alloc(), 4, 4)?;
+    let turns = AtomicU64::new(0);
+    let taken = AtomicU64::new(0);
+    let queue_in = &queue;
+    let done = thread::map_vec(
+        &rt,
+        seats,
+        &|seat| give_or_take(&rt, queue_in, &turns, &taken, seat),
+    )?;
+    assert!(rt; done.iter().all(|&none| none));
+    assert!(rt; taken.load(Ordering::SeqCst) == 200);
+    Ok(())
+}
+
+// The first to come gives 200 items to the others, one after another. Whether nothing is left then.
+fn give_or_take<R: Wait>(
+    rt: &R,
+    queue: &RunQueue<u32>,
+    turns: &AtomicU64,
+    taken: &AtomicU64,
+    mut seat: Seat<u32>,
+) -> bool {
+    if turns.fetch_add(1, Ordering::SeqCst) == 0 {
+        give(rt, queue, taken, &mut seat);
+    } else {
+        take_all(rt, queue, taken, &mut seat);
+    }
+    queue.take(rt, &mut seat).is_none()
+}
+
+// Puts each item only once the one before was taken, so that mostly the others sleep, and closes the
+// queue. It takes none itself: an item whose put wakes nobody would never be taken.
+fn give<R: Wait>(rt: &R, queue: &RunQueue<u32>, taken: &AtomicU64, seat: &mut Seat<u32>) {
+    for item in 0..200u32 {
+        if queue.put(rt, seat, item).is_err() {
+            break;
+        }
+        wait_for(rt, taken, item as u64 + 1);
+    }
+    queue.close(rt);
+}
+
+fn wait_for<R: Wait>(rt: &R, taken: &AtomicU64, wanted: u64) {
+    for _ in rt.forever() {
+        if taken.load(Ordering::SeqCst) >= wanted {
+            return;
+        }
+        thread::yield_now();
+    }
+}
+
+fn take_all<R: Wait>(rt: &R, queue: &RunQueue<u32>, taken: &AtomicU64, seat: &mut Seat<u32>) {
+    for _ in rt.forever() {
+        if queue.take(rt, seat).is_none() {
+            return;
+        }
+        taken.fetch_add(1, Ordering::SeqCst);
+    }
+}
+
+#[test]
 fn seats_are_counted(rt: HostRuntime) -> Result<(), Refusal> {
     let (queue, mut seats) = RunQueue::new(rt.alloc(), 2, 1)?;
     assert!(rt;
