@@ -11,7 +11,7 @@ use Rattle.world_model.specs.declared.event.WorldEvent.TheVariants.{Phaser, Fini
 use Rattle.world_model.specs.Laws.{OfEachWorld}
 use Rattle.world_model.specs.Scopes.{inner, owner, enclosing}
 use Rattle.world_model.specs.Parts.{phaser_past, finish_past}
-use Rattle.world_model.specs.Tasks.{is_ended, phasers_of}
+use Rattle.world_model.specs.Tasks.{is_born, is_ended, phasers_of}
 use Rattle.world_model.specs.Acts.{most_phasers_held}
 use Rattle.world_model.specs.Numbers.{is_finish}
 
@@ -38,3 +38,9 @@ ShutsLeaveNobody = OfEachWorld (λ l w.
     (later before : List WorldEvent) (f : ℕ) → w ≡ later ++ Finish f Shutting ∷ before
     → ((t : ℕ) → Inside before f t → is_ended t before ≡ true)
     × ((t n : ℕ) → enclosing n before ≡ f → is_live t (phaser_past n before) ≡ false))
+
+-- where the root has ended, each task has, and none is registered on any phaser
+abbrev pub EndedRootsLeaveNobody : Type 0
+EndedRootsLeaveNobody = OfEachWorld (λ l w. is_ended 0 w ≡ true
+    → ((t : ℕ) → is_born t w ≡ true → is_ended t w ≡ true)
+    × ((t n : ℕ) → is_live t (phaser_past n w) ≡ false))

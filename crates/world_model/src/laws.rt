@@ -3,7 +3,7 @@
 ghost use Rattle.world_model.specs.ClockLaws.{ClocksAgree, ClocksFit};
 ghost use Rattle.world_model.specs.Laws.{FinishesAreLegal, PhasersAreFolded, PhasersAreLegal, PhasersAreOrdered};
 ghost use Rattle.world_model.specs.ProgressLaws.{AbleIsComputed, NextsAreExpected, NobodyIsStuck};
-ghost use Rattle.world_model.specs.ScopeLaws.{PhasersHeldAreFew, RegistrationsAreWithin, ShutsLeaveNobody};
+ghost use Rattle.world_model.specs.ScopeLaws.{EndedRootsLeaveNobody, PhasersHeldAreFew, RegistrationsAreWithin, ShutsLeaveNobody};
 
 /// The history of each phaser is legal.
 pub fn phasers_are_legal()
@@ -43,6 +43,11 @@ pub fn phasers_held_are_few()
 /// encloses.
 pub fn shuts_leave_nobody()
     ensures { ShutsLeaveNobody }
+{}
+
+/// Where the root has ended, each task has, and none is registered on any phaser.
+pub fn ended_roots_leave_nobody()
+    ensures { EndedRootsLeaveNobody }
 {}
 
 /// On a phaser, a task that goes on has ended as many turns as its clock was raised since the
