@@ -1,4 +1,5 @@
 pub mod Adding
+pub mod Emptied
 pub mod Refusals
 pub mod Seats
 pub mod Sums

@@ -4,13 +4,14 @@ ghost use Rattle.phased_rt.specs.Totals.{is_phasers};
 ghost use Rattle.task_queue.specs.Accounts.{IsSeatOf};
 
 use crate::body::{Body, Gate};
-use crate::task::{Item, Plan, Task};
+use crate::task::{Item, Task};
 use crate::worker::{Shared, Worker};
 use job_script::{Act, Answer};
 use phase_model::Ops;
 use phase_modes::{Mode, Phased, Refusal};
 use share_book::{Ledgers, Shares};
 use std::sync::Wait;
+use task_standing::Plan;
 use trace_model::TracedEvent;
 use world_model::{Begun, Tried};
 
@@ -24,23 +25,23 @@ impl<B: Body, K: Ledgers> Shared<B, K> {
 
     /// The task gives up what it is about, and comes to its end.
     pub(crate) fn fail(&self, task: &mut Task<B>, refusal: Refusal) -> Result<(), Refusal> {
-        self.note(task, TracedEvent::Fail(task.number, refusal.number()))?;
-        task.plan = Plan::Ending;
+        self.note(task, TracedEvent::Fail(task.number(), refusal.number()))?;
+        task.standing.give_up();
         Ok(())
     }
 
     /// The act is refused, and the task comes to its end.
     fn refuse(&self, task: &mut Task<B>, tried: Tried, refusal: Refusal) -> Result<(), Refusal> {
-        let entry = TracedEvent::Refuse(task.number, tried, refusal.number());
+        let entry = TracedEvent::Refuse(task.number(), tried, refusal.number());
         self.note(task, entry)?;
-        task.plan = Plan::Ending;
+        task.standing.give_up();
         Ok(())
     }
 
     /// Whether the task may make the act, as far as it knows itself; where it may not, it comes to
     /// its end.
     fn may_try(&self, task: &mut Task<B>, tried: Tried) -> Result<bool, Refusal> {
-        match task.may_try(self.limits, &tried) {
+        match task.standing.may_try(self.limits, &tried) {
             Ok(()) => Ok(true),
             Err(refusal) => {
                 self.refuse(task, tried, refusal)?;
@@ -60,7 +61,7 @@ impl<B: Body, K: Ledgers> Shared<B, K> {
     ) -> Result<(), Refusal> {
         let phaser = self.numbers.phaser();
         if self.may_try(task, Tried::New(phaser, mode, ops))? {
-            self.make_on(rt, shares, phaser, task.number, mode, ops)?;
+            self.make_on(rt, shares, phaser, task.number(), mode, ops)?;
             task.note_making(phaser, mode)?;
         }
         Ok(())
@@ -68,13 +69,13 @@ impl<B: Body, K: Ledgers> Shared<B, K> {
 
     /// Opens a finish. The memory that the task needs to know it is taken before.
     fn open<R: Wait>(&self, rt: &R, task: &mut Task<B>) -> Result<(), Refusal> {
-        if task.open.reserve(1).is_err() {
+        if task.standing.reserve_opening().is_err() {
             return self.fail(task, Refusal::Memory);
         }
         let finish = self.numbers.finish();
         if self.may_try(task, Tried::Open(finish))? {
-            self.open_on(rt, task.number, finish)?;
-            task.note_opening(finish)?;
+            self.open_on(rt, task.number(), finish)?;
+            task.standing.note_opening(finish)?;
         }
         Ok(())
     }
@@ -93,7 +94,7 @@ impl<B: Body, K: Ledgers> Shared<B, K> {
         if !self.may_try(task, tried)? {
             return Ok(());
         }
-        match self.send_on(rt, shares, task.number, phaser, accumulator, value) {
+        match self.send_on(rt, shares, task.number(), phaser, accumulator, value) {
             Ok(()) => {
                 task.note_act(Answer::Done);
                 Ok(())
@@ -115,7 +116,7 @@ impl<B: Body, K: Ledgers> Shared<B, K> {
         if !self.may_try(task, tried)? {
             return Ok(());
         }
-        match self.look_on(rt, shares, task.number, phaser, accumulator) {
+        match self.look_on(rt, shares, task.number(), phaser, accumulator) {
             Ok(seen) => {
                 task.note_act(Answer::Saw(seen));
                 Ok(())
@@ -129,8 +130,8 @@ impl<B: Body, K: Ledgers> Shared<B, K> {
         if !self.may_try(task, Tried::Begun(begun))? {
             return Ok(false);
         }
-        self.note(task, TracedEvent::Begin(task.number, begun))?;
-        task.note_beginning(plan);
+        self.note(task, TracedEvent::Begin(task.number(), begun))?;
+        task.standing.begin(plan);
         Ok(true)
     }
 
@@ -143,11 +144,11 @@ impl<B: Body, K: Ledgers> Shared<B, K> {
     /// Begins to spawn a child. The child's memory is taken before the act is looked at.
     fn spawn(&self, item: &mut Item<B>, body: B, pairs: Phased) -> Result<(), Refusal> {
         let number = self.numbers.task();
-        let home = item.task.inner();
+        let home = item.task.standing.inner();
         let Ok(child) = Task::new(self.alloc, number, body, home, self.limits.acts) else {
             return self.fail(&mut item.task, Refusal::Memory);
         };
-        let plan = Plan::Spawning(pairs, 0);
+        let plan = Plan::Spawning(number, pairs, 0);
         if self.begin(&mut item.task, Begun::Async(number, pairs), plan)? {
             item.unborn = Some(child);
         }
@@ -166,7 +167,7 @@ impl<B: Body, K: Ledgers> Shared<B, K> {
         match act {
             Act::Async(body, pairs) => self.spawn(item, body, pairs),
             Act::AsyncAll(body) => {
-                let pairs = task.holding.pairs();
+                let pairs = task.standing.pairs();
                 self.spawn(item, body, pairs)
             }
             Act::OpenFinish => self.open(rt, task),
@@ -197,9 +198,9 @@ impl<B: Body, K: Ledgers> Shared<B, K> {
     ) -> Result<(), Refusal>
         ensures seat { IsSeatOf worker.old.seat worker.new.seat }
     {
-        gate.enter(worker.number, item.task.number);
+        gate.enter(worker.number, item.task.number());
         let act = item.task.next_act();
-        gate.leave(worker.number, item.task.number);
+        gate.leave(worker.number, item.task.number());
         match act {
             Ok(act) => self.act(rt, &mut worker.shares, item, act),
             Err(refusal) => self.fail(&mut item.task, refusal),

@@ -116,7 +116,7 @@ impl<B: Body, K: Ledgers> Shared<B, K> {
         if number >= self.phasers.phasers {
             return PassAnswer::Refused(item, Refusal::NotRegistered);
         }
-        let task = item.task.number;
+        let task = item.task.number();
         self.phasers
             .pass(rt, number, &self.tickets, shares, task, item)
     }

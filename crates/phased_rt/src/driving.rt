@@ -5,13 +5,13 @@ ghost use Rattle.task_queue.specs.Accounts.{IsSeatOf};
 
 use crate::body::{Body, Gate};
 use crate::crew::Crew;
-use crate::task::{Due, Item, Plan, Task};
+use crate::task::{Item, Task};
 use crate::worker::{Shared, Worker};
-use job_script::Answer;
 use phase_modes::{Pair, Refusal};
 use scope_locks::{PassAnswer, ShutAnswer};
 use share_book::Ledgers;
 use std::sync::Wait;
+use task_standing::Due;
 
 /// How many steps and events of a task a worker makes before it takes another, if there is one. A
 /// task that parks or ends comes to fewer. So the queue is asked once for many events, and whoever
@@ -54,9 +54,9 @@ impl<B: Body, K: Ledgers> Shared<B, K> {
         ensures seat { IsSeatOf worker.old.seat worker.new.seat }
     {
         let mut item = item;
-        match self.signal_on(rt, worker, item.task.number, phaser, number) {
+        match self.signal_on(rt, worker, item.task.number(), phaser, number) {
             Ok(()) => {
-                item.task.note_signal(phaser);
+                item.task.standing.note_signal(phaser);
                 Ok(Some(item))
             }
             Err(refusal) => {
@@ -79,7 +79,7 @@ impl<B: Body, K: Ledgers> Shared<B, K> {
     {
         let mut item = item;
         item.task.body.single(number);
-        self.report_on(rt, worker, item.task.number, phaser)?;
+        self.report_on(rt, worker, item.task.number(), phaser)?;
         Ok(Some(item))
     }
 
@@ -95,7 +95,7 @@ impl<B: Body, K: Ledgers> Shared<B, K> {
         match self.pass_on(rt, &mut worker.shares, item, phaser) {
             PassAnswer::Passed(passed, _) => {
                 let mut item = passed;
-                item.task.note_pass(phaser);
+                item.task.standing.note_pass(phaser);
                 Ok(Some(item))
             }
             PassAnswer::Claimed(item, number) => self.run_single(rt, worker, item, phaser, number),
@@ -112,13 +112,13 @@ impl<B: Body, K: Ledgers> Shared<B, K> {
         rt: &R,
         worker: &mut Worker<B, K>,
         item: Item<B>,
+        child: u32,
         pair: Pair,
     ) -> Result<Next<B>, Refusal>
         ensures seat { IsSeatOf worker.old.seat worker.new.seat }
     {
         let mut item = item;
-        let child = item.child()?;
-        match self.register_on(rt, &mut worker.shares, item.task.number, child, pair) {
+        match self.register_on(rt, &mut worker.shares, item.task.number(), child, pair) {
             Ok(()) => {
                 item.note_registration(pair)?;
                 Ok(Some(item))
@@ -145,8 +145,9 @@ impl<B: Body, K: Ledgers> Shared<B, K> {
         let Some(child) = unborn else {
             return Err(Refusal::NotNow);
         };
-        self.spawn_on(rt, child.number, finish)?;
-        task.note_birth(child.number);
+        let number = child.number();
+        self.spawn_on(rt, number, finish)?;
+        task.note_birth(number);
         self.give(rt, worker, Item::of(child))?;
         Ok(Some(Item::of(task)))
     }
@@ -162,8 +163,8 @@ impl<B: Body, K: Ledgers> Shared<B, K> {
         ensures seat { IsSeatOf worker.old.seat worker.new.seat }
     {
         let mut item = item;
-        self.drop_on(rt, worker, item.task.number, phaser)?;
-        item.task.holding.leave(phaser);
+        self.drop_on(rt, worker, item.task.number(), phaser)?;
+        item.task.standing.leave(phaser);
         Ok(Some(item))
     }
 
@@ -173,12 +174,12 @@ impl<B: Body, K: Ledgers> Shared<B, K> {
         rt: &R,
         worker: &mut Worker<B, K>,
         item: Item<B>,
+        child: u32,
         phaser: u32,
     ) -> Result<Next<B>, Refusal>
         ensures seat { IsSeatOf worker.old.seat worker.new.seat }
     {
         let mut item = item;
-        let child = item.child()?;
         self.drop_on(rt, worker, child, phaser)?;
         item.note_child_gone(phaser);
         Ok(Some(item))
@@ -188,7 +189,7 @@ impl<B: Body, K: Ledgers> Shared<B, K> {
         match self.shut_on(rt, item, finish) {
             ShutAnswer::Done(shut) => {
                 let mut item = shut;
-                item.task.note_shut();
+                item.task.standing.note_shut();
                 Ok(Some(item))
             }
             ShutAnswer::Parked => Ok(None),
@@ -207,7 +208,8 @@ impl<B: Body, K: Ledgers> Shared<B, K> {
         ensures seat { IsSeatOf worker.old.seat worker.new.seat }
     {
         let Item { task, unborn: _ } = item;
-        let Task { number, log, .. } = Box::into_inner(task);
+        let number = task.number();
+        let Task { log, .. } = Box::into_inner(task);
         self.end_on(rt, worker, number, log, finish)?;
         Ok(None)
     }
@@ -252,9 +254,9 @@ impl<B: Body, K: Ledgers> Shared<B, K> {
             }
             Due::Signal(phaser, number) => self.signal(rt, worker, item, phaser, number),
             Due::Pass(phaser) => self.pass(rt, worker, item, phaser),
-            Due::Register(pair) => self.register(rt, worker, item, pair),
-            Due::Spawn(finish) => self.bear(rt, worker, item, finish),
-            Due::DropChild(phaser) => self.drop_child(rt, worker, item, phaser),
+            Due::Register(child, pair) => self.register(rt, worker, item, child, pair),
+            Due::Spawn(_, finish) => self.bear(rt, worker, item, finish),
+            Due::DropChild(child, phaser) => self.drop_child(rt, worker, item, child, phaser),
             Due::Leave(phaser) => self.leave(rt, worker, item, phaser),
             Due::Shut(finish) => self.shut(rt, item, finish),
             Due::End(finish) => self.end(rt, worker, item, finish),

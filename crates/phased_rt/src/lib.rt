@@ -29,11 +29,9 @@ mod calls;
 mod crew;
 mod diary;
 mod driving;
-mod holding;
 mod reporting;
 mod running;
 mod task;
-mod trying;
 mod worker;
 
 pub use body::{Body, Gate, OpenGate};

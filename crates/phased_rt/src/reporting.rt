@@ -4,6 +4,7 @@ ghost use Rattle.phase_modes.specs.Limits.{limits_fit};
 ghost use Rattle.world_model.specs.Report.{report_of};
 ghost use Rattle.trace_model.specs.Explained.{past, is_explained};
 ghost use Rattle.trace_model.specs.Parts.{IsTraceOf};
+ghost use Rattle.phased_rt.specs.Left.{IsLeftByAll};
 ghost use Rattle.phased_rt.specs.Refused.{IsRunRefused};
 
 use phase_modes::{Limits, Refusal};
@@ -36,6 +37,7 @@ pub(crate) fn reported(
     ensures of_parts { IfOk result (λ r. IsTraceOf parts.now r.1.events) }
     ensures explained { IfOk result (λ r. is_explained r.1 ≡ true) }
     ensures world { IfOk result (λ r. r.0 ≡ report_of limits (past (reverse r.1.events))) }
+    ensures left { IfOk result (λ r. IsLeftByAll r.1.events) }
     ensures refused { IfErr result (λ e. IsRunRefused e) }
 {
     let trace = merge(alloc, limits, parts)?;

@@ -7,6 +7,7 @@ ghost use Rattle.task_queue.specs.Accounts.{AreTogether, IsConserved};
 ghost use Rattle.world_model.specs.Report.{report_of};
 ghost use Rattle.trace_model.specs.Explained.{past, is_explained};
 ghost use Rattle.phased_rt.specs.Back.{AreBack, AreSeatsIn};
+ghost use Rattle.phased_rt.specs.Left.{IsLeftByAll};
 ghost use Rattle.phased_rt.specs.Refused.{IsRunRefused};
 ghost use Rattle.phased_rt.specs.Told.{IsApart, IsToldBy};
 ghost use Rattle.phased_rt.specs.Totals.{AreTotals};
@@ -212,6 +213,7 @@ where
     ensures limits { IfOk result (λ r. r.trace.limits ≡ shared.limits) }
     ensures explained { IfOk result (λ r. is_explained r.trace ≡ true) }
     ensures world { IfOk result (λ r. r.world ≡ report_of shared.limits (past (reverse r.trace.events))) }
+    ensures left { IfOk result (λ r. IsLeftByAll r.trace.events) }
     ensures told { IfOk result (λ r. IsToldBy shared.limits r.trace.events r.totals) }
     ensures totals { IfOk result (λ r. AreTotals shared.limits r.trace.events r.world.totals r.totals) }
     ensures refused { IfErr result (λ e. IsRunRefused e) }
@@ -259,6 +261,7 @@ where
     ensures limits { IfOk result (λ r. r.trace.limits ≡ limits) }
     ensures explained { IfOk result (λ r. is_explained r.trace ≡ true) }
     ensures world { IfOk result (λ r. r.world ≡ report_of limits (past (reverse r.trace.events))) }
+    ensures left { IfOk result (λ r. IsLeftByAll r.trace.events) }
     ensures told { IfOk result (λ r. IsToldBy limits r.trace.events r.totals) }
     ensures totals { IfOk result (λ r. AreTotals limits r.trace.events r.world.totals r.totals) }
     ensures refused { IfErr result (λ e. IsRunRefused e) }
@@ -341,6 +344,7 @@ fn summed<K: Ledgers>(
     ensures limits { IfOk result (λ r. r.trace.limits ≡ limits) }
     ensures explained { IfOk result (λ r. is_explained r.trace ≡ true) }
     ensures world { IfOk result (λ r. r.world ≡ report_of limits (past (reverse r.trace.events))) }
+    ensures left { IfOk result (λ r. IsLeftByAll r.trace.events) }
     ensures told { IfOk result (λ r. IsToldBy limits r.trace.events r.totals) }
     ensures totals { IfOk result (λ r. AreTotals limits r.trace.events r.world.totals r.totals) }
     ensures refused { IfErr result (λ e. IsRunRefused e) }
@@ -384,6 +388,7 @@ fn told_of<K: Ledgers, B: Body>(
     ensures limits { IfOk result (λ r. r.trace.limits ≡ limits) }
     ensures explained { IfOk result (λ r. is_explained r.trace ≡ true) }
     ensures world { IfOk result (λ r. r.world ≡ report_of limits (past (reverse r.trace.events))) }
+    ensures left { IfOk result (λ r. IsLeftByAll r.trace.events) }
     ensures told { IfOk result (λ r. IsToldBy limits r.trace.events r.totals) }
     ensures totals { IfOk result (λ r. AreTotals limits r.trace.events r.world.totals r.totals) }
     ensures refused { IfErr result (λ e. IsRunRefused e) }
@@ -424,6 +429,7 @@ fn run_over<
     ensures limits { IfOk result (λ r. r.trace.limits ≡ limits) }
     ensures explained { IfOk result (λ r. is_explained r.trace ≡ true) }
     ensures world { IfOk result (λ r. r.world ≡ report_of limits (past (reverse r.trace.events))) }
+    ensures left { IfOk result (λ r. IsLeftByAll r.trace.events) }
     ensures told { IfOk result (λ r. IsToldBy limits r.trace.events r.totals) }
     ensures totals { IfOk result (λ r. AreTotals limits r.trace.events r.world.totals r.totals) }
     ensures refused { IfErr result (λ e. IsRunRefused e) }
@@ -452,6 +458,7 @@ pub fn run<B: Body + Send, G: Gate + Sync, R: Threads + Wait + Sync>(
     ensures limits { IfOk result (λ r. r.trace.limits ≡ limits) }
     ensures explained { IfOk result (λ r. is_explained r.trace ≡ true) }
     ensures world { IfOk result (λ r. r.world ≡ report_of limits (past (reverse r.trace.events))) }
+    ensures left { IfOk result (λ r. IsLeftByAll r.trace.events) }
     ensures told { IfOk result (λ r. IsToldBy limits r.trace.events r.totals) }
     ensures totals { IfOk result (λ r. AreTotals limits r.trace.events r.world.totals r.totals) }
     ensures refused { IfErr result (λ e. IsRunRefused e) }

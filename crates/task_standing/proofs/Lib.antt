@@ -1,0 +1,4 @@
+pub mod Asked
+pub mod Finding
+pub mod Handing
+pub mod Marking

@@ -1,0 +1,8 @@
+-- None of those that were come to passes, so the first is one of the rest.
+use Rattle.std.proofs.Common.{◌≡◌, ◌==◌, drop}
+use Rattle.std.specs.Prelude.{find}
+use Rattle.task_standing.proofs.standing.Standing.held.Given as goal
+
+abbrev pub invariant-loop-i : goal.invariant-loop-i
+invariant-loop-i l =
+    find (λ h. h.phaser == l.phaser) l.self.holding ≡ find (λ h. h.phaser == l.phaser) (drop l.i l.self.holding)

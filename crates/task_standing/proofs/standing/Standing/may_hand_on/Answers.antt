@@ -1,0 +1,7 @@
+use Rattle.task_standing.proofs.Handing.{pair_unmet}
+use Rattle.task_standing.proofs.standing.Standing.may_hand_on.Goals as goal
+
+pub returns-in-Err : goal.returns-in-Err
+returns-in-Err c =
+    pair_unmet c.args.self.now c.args.pairs.now c.loop-i.i _ c.in-Err.refusal c.loop-i-test.true
+    c.loop-i.invariant c.in-Err.ensures

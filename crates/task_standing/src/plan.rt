@@ -1,0 +1,47 @@
+//! What a task is about, and the event that comes next of it.
+use phase_modes::{Pair, Phased};
+
+/// What a task is about. Where nothing is left to make of it the task may begin an act, whatever
+/// plan it has.
+#[derive(Clone, Copy, Debug, PartialEq, Eq)]
+pub enum Plan {
+    /// Nothing.
+    Idle,
+    /// To signal wherever a signal is owed, with this number; in a turn, then to pass everywhere.
+    Signalling(Option<u32>, bool),
+    /// To pass the phasers that it holds, from this place on.
+    Turning(u32),
+    /// To register the unborn child of this number for the pairs from this place on, and then to
+    /// spawn it.
+    Spawning(u32, Phased, u32),
+    /// To leave the phasers of its innermost finish, and then to shut that.
+    Shutting,
+    /// To leave all phasers, to shut its open finishes, the innermost first, and to end.
+    Ending,
+}
+
+/// The event that comes next of a task.
+#[derive(Clone, Copy, Debug, PartialEq, Eq)]
+pub enum Due {
+    /// None: the task may begin an act.
+    Step,
+    /// A signal on the phaser of this number, with this number where it proposes a single.
+    Signal(u32, Option<u32>),
+    /// A pass of the phaser of this number; where the task may, the claim of a single and its
+    /// report come before it.
+    Pass(u32),
+    /// The registration of the child of this number.
+    Register(u32, Pair),
+    /// The birth of the child of the first number, in the finish of the second.
+    Spawn(u32, u32),
+    /// The child of the first number, which was never born, leaves the phaser of the second.
+    DropChild(u32, u32),
+    /// The task leaves the phaser of this number.
+    Leave(u32),
+    /// The shut of the finish of this number.
+    Shut(u32),
+    /// The task's end, in the finish of this number.
+    End(u32),
+    /// The shut of finish 0, by the root: the end of the run.
+    Close,
+}
