@@ -1,5 +1,6 @@
 -- What running a program's text writes, and how it fails.
-use Rattle.std.specs.Prelude.{◌≡◌, ℕ, List, true, Ok, Err, ⊤}
+use Rattle.std.specs.Prelude.{◌≡◌, ℕ, List, map, length, true, Ok, Err, ⊤}
+use Rattle.std.specs.List.{range_with_len}
 use Rattle.phase_modes.specs.declared.refusal.Refusal.TheVariants.{Memory, BadText}
 use Rattle.trace_model.specs.Run.{Run}
 use Rattle.trace_model.specs.Explained.{is_explained}
@@ -19,6 +20,8 @@ pub record IsRunOf (p : Program) (picks : List ℕ) (t : Run) : Type 0 where
   -- a world makes each of its events there, and the run has ended
   pub explained : is_explained t ≡ true
   pub follows_it : follows p (history t) ≡ true
+  -- its tickets are 1, 2, 3 and so on
+  pub tickets : map (λ e. e.0) t.events ≡ range_with_len 1 (length t.events)
 
 -- the bytes spell a program, and this is known of the trace of a run of it
 abbrev pub Runs : List ℕ → List ℕ → (Program → Run → Type 0) → Type 0

@@ -11,3 +11,4 @@ pub mod Seats
 pub mod Settling
 pub mod Standing
 pub mod Tasks
+pub mod Tickets

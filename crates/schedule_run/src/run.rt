@@ -1,5 +1,6 @@
 //! A program run by picks: what came of it, and its trace.
-ghost use Rattle.std.specs.Prelude.{ℕ, ◌≡◌, reverse, IfOk, IfErr, true};
+ghost use Rattle.std.specs.Prelude.{ℕ, ◌≡◌, map, length, reverse, IfOk, IfErr, true};
+ghost use Rattle.std.specs.List.{range_with_len};
 ghost use Rattle.phase_modes.specs.declared.refusal.Refusal.TheVariants.{Memory as NoMemory};
 ghost use Rattle.world_model.specs.Report.{report_of};
 ghost use Rattle.schedule_model.specs.Follows.{follows};
@@ -28,6 +29,9 @@ pub struct Run {
 pub fn run_picks(alloc: Global, program: &Program, picks: &[u32]) -> Result<Run, Refusal>
     ensures limits { IfOk result (λ r. r.trace.limits ≡ program.now.limits) }
     ensures explained { IfOk result (λ r. is_explained r.trace ≡ true) }
+    // The tickets are 1, 2, 3 and so on.
+    ensures tickets { IfOk result (λ r. map (λ e. e.0) r.trace.events
+        ≡ range_with_len 1 (length r.trace.events)) }
     ensures by_picks { IfOk result (λ r. (n : ℕ)
         × (past (reverse r.trace.events) ≡ run_within n program.now picks.now)) }
     ensures follows { IfOk result (λ r. follows program.now (past (reverse r.trace.events)) ≡ true) }

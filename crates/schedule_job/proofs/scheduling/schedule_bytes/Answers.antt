@@ -16,6 +16,7 @@ returns-clause-done g c =
         limits = ran.limits;
         explained = ran.explained;
         follows_it = ran.follows;
+        tickets = ran.tickets;
       },
       (search (rules, lines), search rules),
     )

@@ -1,4 +1,5 @@
-use Rattle.std.proofs.Common.{◌≡◌, true, reverse, sym, subst, ap, ◌∙◌}
+use Rattle.std.proofs.Common.{◌≡◌, true, map, length, reverse, sym, subst, ap, ◌∙◌}
+use Rattle.std.specs.List.{range_with_len}
 use Rattle.world_model.specs.Report.{report_of}
 use Rattle.schedule_model.specs.Follows.{follows}
 use Rattle.schedule_model.specs.Laws.{AllGiveUp}
@@ -6,6 +7,7 @@ use Rattle.schedule_model.specs.Picks.{run_within}
 use Rattle.trace_model.specs.Run as traces
 use Rattle.trace_model.specs.Explained.{is_explained, past}
 use Rattle.schedule_run.proofs.Overs.{said_limits, said_explained, said_events, said_follows, said_give_up, said_report}
+use Rattle.schedule_run.proofs.Tickets.{said_tickets}
 use Rattle.schedule_run.proofs.run.run_picks.Goals as goal
 
 pub returns-clause-limits : goal.returns-clause-limits
@@ -18,6 +20,12 @@ returns-clause-explained c =
     let b = c.in_ok-runner.ensures.run in
     subst (λ (t : traces.Run). is_explained t ≡ true) (sym c.into_trace-trace.ensures)
     (said_explained c.args.program.now (run_within b.0 c.args.program.now c.args.picks.now) c.in_ok-runner.runner b.2 b.1)
+
+pub returns-clause-tickets : goal.returns-clause-tickets
+returns-clause-tickets c =
+    let b = c.in_ok-runner.ensures.run in
+    subst (λ (t : traces.Run). map (λ e. e.0) t.events ≡ range_with_len 1 (length t.events)) (sym c.into_trace-trace.ensures)
+    (said_tickets c.args.program.now (run_within b.0 c.args.program.now c.args.picks.now) c.in_ok-runner.runner b.2)
 
 pub returns-clause-by_picks : goal.returns-clause-by_picks
 returns-clause-by_picks c =
