@@ -28,7 +28,13 @@ use std::process::ExitCode;
 use std::sync::Wait;
 use std::thread::Threads;
 
+/// A standard stream that is closed leaves its number to the next file that is opened, and what is
+/// written to the stream would go into that file. So each number that is free is taken first, by a
+/// folder, of which nothing can be read and to which nothing can be written.
 fn main(rt: HostRuntime) -> ExitCode {
+    let _first = File::open(&rt, "/");
+    let _second = File::open(&rt, "/");
+    let _third = File::open(&rt, "/");
     ExitCode::from(run(&rt, &rt).code())
 }
 

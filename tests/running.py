@@ -1,0 +1,60 @@
+"""What the scripts of this folder share: how they are called, and how they call the program."""
+import argparse
+import collections
+import concurrent.futures
+import os
+import pathlib
+import subprocess
+import tempfile
+
+TOP = pathlib.Path(__file__).resolve().parent.parent
+PROGRAM = TOP / "crates/phaser_run/out/phaser_run"
+
+# What the program printed, and its exit status; None where it had to be stopped.
+Gave = collections.namedtuple("Gave", "out err status")
+
+
+def path_of(name):
+    return pathlib.Path(name).resolve()
+
+
+def words_of(text, at_once=True):
+    """The words that the scripts take, to which each adds its own. One that runs one case at a time takes no
+    number of jobs."""
+    layout = argparse.RawDescriptionHelpFormatter
+    words = argparse.ArgumentParser(description=text, formatter_class=layout)
+    words.add_argument("--program", default=PROGRAM, type=path_of, help="what is run (%(default)s)")
+    if at_once:
+        words.add_argument("--jobs", default=os.cpu_count(), type=int, help="how many at once (%(default)s)")
+    return words
+
+
+def is_there(program):
+    """Whether there is a program to run."""
+    return program.is_file() and os.access(program, os.X_OK)
+
+
+def gave(seconds, program, *words, **more):
+    """What the program gives on these words in so many seconds; more is for subprocess.run."""
+    how = {"stdin": subprocess.DEVNULL, "stdout": subprocess.PIPE, "stderr": subprocess.PIPE, **more}
+    try:
+        ran = subprocess.run([program, *map(str, words)], timeout=seconds, **how)
+    except subprocess.TimeoutExpired:
+        return Gave("", "it did not end within %d seconds" % seconds, None)
+    out, err = (text.decode(errors="replace") for text in (ran.stdout, ran.stderr))
+    return Gave(out, err, ran.returncode)
+
+
+def run_on_threads(seconds, program, file, workers):
+    """What a run of the file's program by so many workers gave, and what the replay of its trace did. Where
+    the run isn't done nothing is replayed."""
+    with tempfile.TemporaryDirectory(prefix="phaser_run-tests-") as folder:
+        trace = pathlib.Path(folder, "trace.json")
+        ran = gave(seconds, program, "run", file, "--workers", workers, "--trace", trace)
+        return ran, gave(seconds, program, "replay", trace) if ran.status == 0 else ran
+
+
+def each(jobs, judge, cases):
+    """What is judged of each case, in their order, so many at once."""
+    with concurrent.futures.ThreadPoolExecutor(max_workers=jobs) as several:
+        yield from several.map(judge, cases)
