@@ -3,7 +3,9 @@
 
 turns TASKS TURNS PHASERS   on each phaser, so many tasks that do next so often
 cells CELLS STEPS           a stencil of so many cells
+ring TASKS TURNS            each task has a phaser, and does next so often there and, as one who waits, at its left neighbour's
 spawns TASKS ACTS           so many tasks, each with a body of so many acts, of which it makes one
+children TASKS              so many tasks, each of which ends at once
 nothing                     no act at all
 """
 import json
@@ -38,16 +40,29 @@ def cells(count, steps):
     return main
 
 
+def ring(tasks, count):
+    main = [["new", "p%d" % task, "SIG_WAIT", []] for task in range(tasks)]
+    for task in range(tasks):
+        pairs = [["p%d" % task, "SIG"], ["p%d" % ((task - 1) % tasks), "WAIT"]]
+        main.append(["async", pairs, times(count, [["next"]])])
+    return main
+
+
 def spawns(tasks, acts):
     # A look at a phaser that the task doesn't know is refused, and ends it.
     return times(tasks, [["async", [], [["look", "unknown", 0]] + times(acts - 1, [["next"]])]])
 
 
+def children(tasks):
+    return times(tasks, [["async", [], []]])
+
+
 def main(kind, *numbers):
-    made = {"turns": turns, "cells": cells, "spawns": spawns, "nothing": lambda: []}[kind]
+    kinds = (turns, cells, ring, spawns, children)
+    made = {"nothing": lambda: [], **{make.__name__: make for make in kinds}}[kind]
     program = {"main": made(*map(int, numbers))}
     if kind != "nothing":
-        program["limits"] = {**LIMITS, "tasks": 4096} if kind == "spawns" else LIMITS
+        program["limits"] = {**LIMITS, "tasks": 4096} if kind in ("spawns", "children") else LIMITS
     print(json.dumps(program, separators=(",", ":")))
 
 
