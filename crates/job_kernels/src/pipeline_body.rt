@@ -4,6 +4,7 @@ ghost use Rattle.std.specs.Prelude.{◌≡◌, ◌≤◌, ◌<◌, ◌+◌, Some
 ghost use Rattle.job_kernels.specs.PipelineTasks.{source_next, stage_turns, stage_sends, stage_at, stage_next, sink_turns, sink_next, spawn_source, spawn_stage, spawn_sink, spawn, root_next, root_task, pipeline_next};
 
 use crate::heard::{operator, pair, seen_in};
+use body_follows::Goes;
 use job_script::{Act, Answer};
 use phase_model::Op;
 use phase_modes::{Mode, Phased, Refusal};
@@ -280,4 +281,15 @@ impl Body for PipelineBody {
     fn single(&mut self, _number: u32)
         ensures { self.new ≡ self.old }
     {}
+}
+
+impl Goes for PipelineBody {
+    ghost next = { pipeline_next };
+
+    fn go(&mut self, heard: Answer) -> Act<PipelineBody> {
+        let Ok(act) = self.step(heard) else {
+            unreachable!()
+        };
+        act
+    }
 }

@@ -5,6 +5,7 @@ ghost use Rattle.job_kernels.specs.StencilTasks.{right_of, left_of, sends, turns
 
 use crate::heard::{operator, pair, value_of};
 use crate::stencil::{cell_at, weighed};
+use body_follows::Goes;
 use job_script::{Act, Answer};
 use phase_model::Op;
 use phase_modes::{Mode, Phased, Refusal};
@@ -228,4 +229,15 @@ impl Body for StencilBody {
     fn single(&mut self, _number: u32)
         ensures { self.new ≡ self.old }
     {}
+}
+
+impl Goes for StencilBody {
+    ghost next = { stencil_next };
+
+    fn go(&mut self, heard: Answer) -> Act<StencilBody> {
+        let Ok(act) = self.step(heard) else {
+            unreachable!()
+        };
+        act
+    }
 }

@@ -3,7 +3,6 @@ use Rattle.std.specs.Prelude.{List}
 use Rattle.phase_modes.specs.declared.phased.Pair.{Pair}
 use Rattle.job_script.specs.declared.act.Act as tasks
 use Rattle.job_script.specs.declared.act.Act.TheVariants as acts
-use Rattle.job_script.specs.Steps.{Script}
 use Rattle.world_model.specs.declared.event.Begun.TheVariants.{Async, Signal, Wait, Next, NextSingle, Shut, End}
 use Rattle.world_model.specs.declared.event.Tried.{Tried}
 use Rattle.world_model.specs.declared.event.Tried.TheVariants.{Begun as Beginning, New, Open, Send as Sending, Look as Looking}
@@ -12,7 +11,7 @@ use Rattle.schedule_run.specs.declared.acts.Numbers as stored
 use Rattle.schedule_run.specs.declared.acts.MadeAct.{MadeAct}
 
 -- the act as it is tried by a task that holds these phasers, where these numbers are drawn for it
-abbrev pub tried_of : List Pair → Numbers → tasks.Act Script → Tried
+abbrev pub tried_of : {B : Type 0} → List Pair → Numbers → tasks.Act B → Tried
 tried_of own new (acts.New m ops) = New new.phaser m ops
 tried_of own new (acts.Async child pairs) = Beginning (Async new.task pairs)
 tried_of own new (acts.AsyncAll child) = Beginning (Async new.task own)

@@ -8,14 +8,14 @@ ghost use Rattle.schedule_model.specs.Scripts.{act_of};
 ghost use Rattle.schedule_run.specs.Given.{made_view, numbers_view, tried_of};
 
 use finish_core::FinishEvent;
-use job_script::{Act, ScriptBody};
+use job_script::Act;
 use phase_model::Op;
 use phase_modes::{Mode, Pair, Phased};
 use world_model::{Begun, Step, Tried, WorldEvent};
 
 /// An act that a task made or was refused.
 #[derive(Clone, Copy, Debug, PartialEq, Eq)]
-pub(crate) struct MadeAct {
+pub struct MadeAct {
     pub task: u32,
     pub act: Tried,
 }
@@ -31,7 +31,7 @@ pub(crate) struct Numbers {
 // ---- what a body gives
 
 /// The act as it is tried by a task that holds these phasers, where these numbers are drawn for it.
-pub(crate) fn tried_of(own: Phased, new: Numbers, act: &Act<ScriptBody<'_>>) -> Tried
+pub(crate) fn tried_of<B: Drop>(own: Phased, new: Numbers, act: &Act<B>) -> Tried
     ensures { result ≡ tried_of own (numbers_view new) act.now }
 {
     match act {
@@ -71,7 +71,7 @@ pub(crate) fn event_of(task: u32, act: Tried) -> WorldEvent
 
 /// The act of which the event is the first, or which it refuses; none for what continues an act,
 /// and for a failure.
-pub(crate) fn act_of(event: &WorldEvent) -> Option<MadeAct>
+pub fn act_of(event: &WorldEvent) -> Option<MadeAct>
     ensures { option_map made_view result ≡ act_of event.now }
 {
     match event {

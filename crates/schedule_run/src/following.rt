@@ -29,8 +29,9 @@ use trace_model::Trace;
 use world_model::{Begun, Step, Tried, WorldEvent};
 
 /// Whether a task's act is the one that its body gives after so many events of a trace, the numbers
-/// that it drew being any.
-fn is_given(trace: &Trace, count: usize, made: &MadeAct, act: &Act<ScriptBody<'_>>) -> bool
+/// that it drew being any. Of a spawn on all phasers it goes over the events before it, once for each
+/// phaser that the task ever came to.
+pub fn is_given<B: Drop>(trace: &Trace, count: usize, made: &MadeAct, act: &Act<B>) -> bool
     requires { count ≤ length trace.now.events }
     ensures { result ≡ same_act made.now.act
         (tried_of (own_pairs made.now.task (history (take count trace.now.events)))

@@ -9,7 +9,8 @@ mod recording;
 mod run;
 mod running;
 
-pub use following::follows;
+pub use acts::{MadeAct, act_of};
+pub use following::{follows, is_given};
 pub use run::{Run, run_picks};
 
 #[cfg(test)]

@@ -1,0 +1,5 @@
+pub mod Told
+pub mod Named
+pub mod Prefixes
+pub mod Gone
+pub mod Spawns

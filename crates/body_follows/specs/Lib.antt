@@ -1,0 +1,4 @@
+-- The definitions that contracts cite, in the order in which they are read.
+pub mod Going
+-- What the bodies of a trace stand for while it is gone through.
+pub mod inner

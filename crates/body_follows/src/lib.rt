@@ -1,0 +1,10 @@
+//! Whether the tasks of a run's trace went by their bodies: each act that a task made or was refused
+//! is the one that its body gives next, where the body hears what each act before it came to.
+#![tactic(auto)]
+
+mod bodies;
+mod following;
+mod going;
+
+pub use following::goes_by;
+pub use going::Goes;
