@@ -1,0 +1,131 @@
+-- That tasks go by a body, act by act: each act is the one that its body gives, and not only the same.
+use Rattle.std.proofs.Common.{ℕ, ℤ, ◌≡◌, Bool, true, false, ◌&&◌, ◌==◌, List, [], ◌∷◌, Option, Some, None, refl, ap, ◌∙◌}
+use Rattle.std.specs.Ordering.{int_eq}
+use Rattle.std.proofs.lemmas.Bool.{and_parts, eqb-true, false≢true}
+use Rattle.std.proofs.lemmas.Bool.Decides.{Decides-int_eq}
+use Rattle.phase_modes.specs.declared.limits.Limits.{Limits}
+use Rattle.phase_modes.specs.declared.phased.Pair.{Pair}
+use Rattle.phase_modes.specs.declared.reg.Mode.{Mode}
+use Rattle.phase_modes.specs.declared.reg.Mode.TheVariants as modes
+use Rattle.phase_modes.specs.Mode.{is_within}
+use Rattle.phase_model.specs.declared.op.Op.{Op}
+use Rattle.phase_model.specs.declared.op.Op.TheVariants.{Sum, Least, Greatest}
+use Rattle.job_script.specs.declared.act.Act.{Act}
+use Rattle.job_script.specs.declared.act.Answer.{Answer}
+use Rattle.world_model.specs.declared.event.Begun.{Begun}
+use Rattle.world_model.specs.declared.event.Begun.TheVariants.{Async, Signal, Wait, Next, NextSingle, Shut, End}
+use Rattle.world_model.specs.declared.event.Tried.{Tried}
+use Rattle.world_model.specs.declared.event.Tried.TheVariants.{Begun as Beginning, New, Open, Send as Sending, Look as Looking}
+use Rattle.world_model.specs.declared.event.WorldEvent.{WorldEvent}
+use Rattle.world_model.specs.Continuing.{same_mode}
+use Rattle.world_model.specs.Drawing.{own_pairs}
+use Rattle.world_model.specs.Replies.{is_legal_world}
+use Rattle.world_model.specs.Report.{refused_by}
+use Rattle.world_model.specs.Tasks.{is_ended}
+use Rattle.schedule_model.specs.Follows.{drawn, same_act, same_begun, same_op, same_ops, same_pairs}
+use Rattle.schedule_model.specs.Scripts.{Made as MadeAct, Numbers, act_of}
+use Rattle.schedule_run.specs.Given.{tried_of}
+use Rattle.body_follows.specs.Going.{Does, does, goes_by, is_next}
+use Rattle.kernel_laws.specs.Going.{IsSmooth}
+
+-- the act as the world knows it, where t makes it and these numbers are drawn for it
+abbrev pub tried_as : {B : Type 0} → List WorldEvent → ℕ → Numbers → Act B → Tried
+tried_as w t new act = tried_of (own_pairs t w) new act
+
+-- the act is the next one of its task
+abbrev pub IsNext : {B : Type 0} → (Answer → B → Does B) → B → List WorldEvent → Option MadeAct → Type 0
+IsNext next root w None = Unit {0}
+IsNext next root w (Some m) = m.act ≡ tried_as w m.task (drawn m.act) (does next root w m.task).0
+
+-- each act that is made or refused is its task's next one
+abbrev pub GoBy : {B : Type 0} → (Answer → B → Does B) → B → List WorldEvent → Type 0
+GoBy next root [] = Unit {0}
+GoBy next root (e ∷ w) = IsNext next root w (act_of e) × GoBy next root w
+
+-- the history is smooth, its acts being those of the body
+pub record GoesSmoothly {B : Type 0} (next : Answer → B → Does B) (root : B) (l : Limits) (w : List WorldEvent) : Type 0 where
+  pub legal : is_legal_world l w ≡ true
+  pub goes : GoBy next root w
+  pub unrefused : (t : ℕ) → refused_by t w ≡ None
+
+-- ---- what is the same is equal
+
+mode_is : (m n : Mode) → same_mode m n ≡ true → m ≡ n
+mode_is modes.Sig modes.Sig k = refl
+mode_is modes.Wait modes.Wait k = refl
+mode_is modes.SigWait modes.SigWait k = refl
+mode_is modes.Single modes.Single k = refl
+mode_is m n k = absurd cc
+
+op_is : (x y : Op) → same_op x y ≡ true → x ≡ y
+op_is Sum Sum k = refl
+op_is Least Least k = refl
+op_is Greatest Greatest k = refl
+op_is x y k = absurd cc
+
+ops_are : (xs ys : List Op) → same_ops xs ys ≡ true → xs ≡ ys
+ops_are [] [] k = refl
+ops_are (x ∷ xs) (y ∷ ys) k =
+    let parts = and_parts (same_op x y) (same_ops xs ys) k in
+    ap (λ z. z ∷ xs) (op_is x y parts.0) ∙ ap (λ zs. y ∷ zs) (ops_are xs ys parts.1)
+ops_are [] (y ∷ ys) k = absurd (false≢true k)
+ops_are (x ∷ xs) [] k = absurd (false≢true k)
+
+pair_is : (x y : Pair) → x.phaser ≡ y.phaser → x.mode ≡ y.mode → x ≡ y
+pair_is x y p m = ap (λ n. record { phaser = n; mode = x.mode }) p ∙ ap (λ o. record { phaser = y.phaser; mode = o }) m
+
+pairs_are : (xs ys : List Pair) → same_pairs xs ys ≡ true → xs ≡ ys
+pairs_are [] [] k = refl
+pairs_are (x ∷ xs) (y ∷ ys) k =
+    let parts = and_parts (x.phaser == y.phaser && same_mode x.mode y.mode) (same_pairs xs ys) k in
+    let first = and_parts (x.phaser == y.phaser) (same_mode x.mode y.mode) parts.0 in
+    ap (λ z. z ∷ xs) (pair_is x y (eqb-true x.phaser y.phaser first.0) (mode_is x.mode y.mode first.1))
+    ∙ ap (λ zs. y ∷ zs) (pairs_are xs ys parts.1)
+pairs_are [] (y ∷ ys) k = absurd (false≢true k)
+pairs_are (x ∷ xs) [] k = absurd (false≢true k)
+
+begun_is : (b c : Begun) → same_begun b c ≡ true → b ≡ c
+begun_is (Async c xs) (Async d ys) k =
+    let parts = and_parts (c == d) (same_pairs xs ys) k in
+    ap (λ n. Async n xs) (eqb-true c d parts.0) ∙ ap (λ zs. Async d zs) (pairs_are xs ys parts.1)
+begun_is Signal Signal k = refl
+begun_is Wait Wait k = refl
+begun_is Next Next k = refl
+begun_is (NextSingle n) (NextSingle m) k = ap NextSingle (eqb-true n m k)
+begun_is Shut Shut k = refl
+begun_is End End k = refl
+begun_is b c k = absurd cc
+
+pub act_is : (a b : Tried) → same_act a b ≡ true → a ≡ b
+act_is (Beginning b) (Beginning c) k = ap Beginning (begun_is b c k)
+act_is (New n m ops) (New i o qs) k =
+    let parts = and_parts (n == i && same_mode m o) (same_ops ops qs) k in
+    let first = and_parts (n == i) (same_mode m o) parts.0 in
+    ap (λ x. New x m ops) (eqb-true n i first.0)
+    ∙ (ap (λ x. New i x ops) (mode_is m o first.1) ∙ ap (λ x. New i o x) (ops_are ops qs parts.1))
+act_is (Open f) (Open g) k = ap Open (eqb-true f g k)
+act_is (Sending n a v) (Sending m b u) k =
+    let parts = and_parts (n == m && a == b) (int_eq v u) k in
+    let first = and_parts (n == m) (a == b) parts.0 in
+    ap (λ x. Sending x a v) (eqb-true n m first.0)
+    ∙ (ap (λ x. Sending m x v) (eqb-true a b first.1) ∙ ap (λ x. Sending m b x) ((Decides-int_eq v u).0 parts.1))
+act_is (Looking n a) (Looking m b) k =
+    let parts = and_parts (n == m) (a == b) k in
+    ap (λ x. Looking x a) (eqb-true n m parts.0) ∙ ap (λ x. Looking m x) (eqb-true a b parts.1)
+act_is a b k = absurd cc
+
+-- ---- so a history that goes by a body goes by it act by act
+
+module _ {B : Type 0} (next : Answer → B → Does B) (root : B) where
+  next_is : (w : List WorldEvent) (o : Option MadeAct) → is_next next root w o ≡ true → IsNext next root w o
+  next_is w None k = tt
+  next_is w (Some m) k = act_is m.act (tried_as w m.task (drawn m.act) (does next root w m.task).0) k
+
+  goes : (w : List WorldEvent) → goes_by next root w ≡ true → GoBy next root w
+  goes [] k = tt
+  goes (e ∷ w) k =
+      let parts = and_parts (is_next next root w (act_of e)) (goes_by next root w) k in
+      (next_is w (act_of e) parts.0, goes w parts.1)
+
+  pub smoothly : (l : Limits) (w : List WorldEvent) → IsSmooth next root l w → GoesSmoothly next root l w
+  smoothly l w s = record { legal = s.legal; goes = goes w s.goes; unrefused = s.unrefused }

@@ -1,0 +1,16 @@
+-- What a run of the pipeline comes to, in whatever order its tasks go on.
+use Rattle.std.specs.Prelude.{ℕ, pos, ◌≡◌, ◌≤◌, List, map}
+use Rattle.phase_modes.specs.declared.limits.Limits.{Limits}
+use Rattle.world_model.specs.declared.event.WorldEvent.{WorldEvent}
+use Rattle.world_model.specs.Report.{report_of}
+use Rattle.job_kernels.specs.Results.{items_of}
+use Rattle.job_kernels.specs.Pipeline.{pipeline}
+use Rattle.job_kernels.specs.PipelineTasks.{root_task, pipeline_next}
+use Rattle.kernel_laws.specs.Going.{IsWhole}
+
+-- a whole run comes to the items of the pipeline, in order
+abbrev pub RunsComeToPipeline : Type 0
+RunsComeToPipeline = (l : Limits) (stages items : ℕ) (w : List WorldEvent)
+    → stages ≤ 15 → items ≤ 100
+    → IsWhole pipeline_next (root_task stages items) l w
+    → items_of stages (report_of l w) ≡ map pos (pipeline stages items)

@@ -1,0 +1,9 @@
+//! The worked examples: two whole runs, so that there are histories of which the laws speak. The
+//! function does nothing: its contract says it, and the check computes it.
+ghost use Rattle.kernel_laws.specs.Examples.{OneItemIsWhole, StepOfTwoIsWhole};
+
+/// A step of a stencil of two cells, and an item behind one stage of a pipeline.
+pub fn worked_runs()
+    ensures step_of_two { StepOfTwoIsWhole }
+    ensures one_item { OneItemIsWhole }
+{}
