@@ -1,0 +1,3 @@
+pub mod Unrefused
+pub mod Whole
+pub mod Texts

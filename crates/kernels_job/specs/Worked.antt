@@ -1,16 +1,27 @@
 -- What the run of a kernel comes to.
-use Rattle.std.specs.Prelude.{◌≡◌, true, reverse, Result, Ok, Err}
+use Rattle.std.specs.Prelude.{◌≡◌, true, List, ◌++◌, reverse, map, pos, flat_map, codes, ℕ, Result, Ok, Err}
 use Rattle.phase_modes.specs.Limits.{default_limits}
 use Rattle.phase_modes.specs.declared.refusal.Refusal.{Refusal}
+use Rattle.job_script.specs.declared.act.Answer.{Answer}
+use Rattle.world_model.specs.declared.report.TotalsLine.{TotalsLine}
 use Rattle.world_model.specs.Report.{Report, report_of}
+use Rattle.world_model.specs.ReportLines.{totals_row}
 use Rattle.trace_model.specs.Run.{Run}
 use Rattle.trace_model.specs.Explained.{past, is_explained}
+use Rattle.body_follows.specs.Going.{Does, goes_by}
 use Rattle.phased_rt.specs.Refused.{IsRunRefused}
+use Rattle.kernels_job.specs.Printed.{value_text}
 
--- the report is that of a trace under the default limits that a world explains; without one, memory ran out or
--- no world explains the run
-abbrev pub IsKernelRun : Result Report Refusal → Type 0
-IsKernelRun (Ok r) =
+-- the report is that of a trace under the default limits that a world explains, and in which each task goes by its body;
+-- without one, memory ran out or the run can't be told so
+abbrev pub IsKernelRun : {B : Type 0} → (Answer → B → Does B) → B → Result Report Refusal → Type 0
+IsKernelRun next root (Ok r) =
     (t : Run) × (t.limits ≡ default_limits) × (is_explained t ≡ true)
+    × (goes_by next root (past (reverse t.events)) ≡ true)
     × (r ≡ report_of default_limits (past (reverse t.events)))
-IsKernelRun (Err e) = IsRunRefused e
+IsKernelRun next root (Err e) = IsRunRefused e
+
+-- these values after this word, each after a blank, and the totals on a line of their own
+abbrev pub values_text : List ℕ → List ℕ → TotalsLine → List ℕ
+values_text word values totals =
+    word ++ flat_map value_text (map (λ n. pos n) values) ++ (codes "\n" ++ totals_row totals)

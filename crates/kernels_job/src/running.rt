@@ -1,40 +1,50 @@
 //! Runs a kernel by workers, and prints what it came to.
-ghost use Rattle.std.specs.Prelude.{◌≡◌, ◌≢◌, ◌<◌, ◌≤◌, Result, Ok, None, length};
+ghost use Rattle.std.specs.Prelude.{◌≡◌, ◌≢◌, ◌<◌, ◌≤◌, Result, Ok, None, codes, length};
 ghost use Rattle.std.specs.Io.KnownBytes.{Appends, Keeps};
 ghost use Rattle.phase_modes.specs.declared.refusal.Refusal.{Refusal as Refusals};
 ghost use Rattle.world_model.specs.Report.{Report};
+ghost use Rattle.world_model.specs.declared.report.TotalsLine.{TotalsLine};
+ghost use Rattle.job_kernels.specs.Pipeline.{pipeline};
+ghost use Rattle.job_kernels.specs.PipelineTasks as piping;
+ghost use Rattle.job_kernels.specs.Stencil.{stencil, AtMost};
+ghost use Rattle.job_kernels.specs.StencilTasks as cells;
 ghost use Rattle.job_kernels.specs.Results.{refusal_of};
 ghost use Rattle.job_ends.specs.Ends.{ReportsStatus};
 ghost use Rattle.kernels_job.specs.Printed.{kernel_text, IsOfEnd};
-ghost use Rattle.kernels_job.specs.Worked.{IsKernelRun};
+ghost use Rattle.kernels_job.specs.Worked.{IsKernelRun, values_text};
 
 use crate::printing::{Kernel, ending_on};
+use body_follows::{Goes, goes_by};
 use job_ends::Status;
 use job_kernels::{PipelineBody, StencilBody};
 use phase_modes::{Limits, Refusal};
-use phased_rt::{Body, OpenGate, run};
+use phased_rt::{OpenGate, run};
 use std::alloc::Global;
 use std::io::Write;
 use std::sync::Wait;
 use std::thread::Threads;
 use world_model::WorldReport;
 
-/// The report of the root's run under the default limits.
-fn report_of<B: Body + Send, R: Threads + Wait + Sync>(
+/// The report of the root's run under the default limits, once its trace was seen to go by the root's
+/// body and those that come of it.
+fn report_of<B: Goes + Copy + Send, R: Threads + Wait + Sync>(
     rt: &R,
     alloc: Global,
     root: B,
     workers: u32,
 ) -> Result<WorldReport, Refusal>
     requires { (0 < workers) × (workers ≤ 16) }
-    ensures { IsKernelRun result }
+    ensures { IsKernelRun B.next root result }
 {
     let report = run(rt, alloc, root, Limits::default(), workers, &OpenGate)?;
-    Ok(report.world)
+    match goes_by(alloc, root, &report.trace) {
+        Ok(()) => Ok(report.world),
+        Err(refusal) => Err(refusal),
+    }
 }
 
 /// Runs the root by as many workers, and ends the command of its kernel.
-fn kernel_on<B: Body + Send, R: Threads + Wait + Sync, W: Write, F: Write>(
+fn kernel_on<B: Goes + Copy + Send, R: Threads + Wait + Sync, W: Write, F: Write>(
     rt: &R,
     alloc: Global,
     kernel: Kernel,
@@ -44,11 +54,11 @@ fn kernel_on<B: Body + Send, R: Threads + Wait + Sync, W: Write, F: Write>(
     faults: &mut F,
 ) -> Status
     requires { (0 < workers) × (workers ≤ 16) }
-    ensures done { result ≡ Status.Done → (r : Report) × IsKernelRun (Ok r) × (refusal_of r ≡ None)
+    ensures done { result ≡ Status.Done → (r : Report) × IsKernelRun B.next root (Ok r) × (refusal_of r ≡ None)
         × Appends (W.contents out.old) (W.contents out.new) (kernel_text kernel r) }
     ensures quiet { result ≡ Status.Done → Keeps (F.contents faults.old) (F.contents faults.new) }
     ensures refused { result ≡ Status.Refused → Keeps (W.contents out.old) (W.contents out.new) }
-    ensures reported { result ≢ Status.Done → (ran : Result Report Refusals) × IsKernelRun ran
+    ensures reported { result ≢ Status.Done → (ran : Result Report Refusals) × IsKernelRun B.next root ran
         × ReportsStatus (IsOfEnd ran) result (F.contents faults.old) (F.contents faults.new) }
     ensures usage { result ≢ Status.Usage }
 {
@@ -71,12 +81,16 @@ pub fn stencil_on<R: Threads + Wait + Sync, W: Write, F: Write>(
     requires few { length first.now ≤ 16 }
     requires workers { (0 < workers) × (workers ≤ 16) }
     // Exactly the cells and the totals of one run, in which no task was refused.
-    ensures done { result ≡ Status.Done → (r : Report) × IsKernelRun (Ok r) × (refusal_of r ≡ None)
+    ensures done { result ≡ Status.Done → (r : Report) × IsKernelRun cells.stencil_next (cells.root_task first.now steps) (Ok r) × (refusal_of r ≡ None)
         × Appends (W.contents out.old) (W.contents out.new) (kernel_text (Kernel.Stencil steps) r) }
+    // They are the cells of the stencil.
+    ensures cells { result ≡ Status.Done → AtMost cells.greatest first.now
+        → (t : TotalsLine) × Appends (W.contents out.old) (W.contents out.new)
+        (values_text (codes "cells") (stencil steps first.now) t) }
     ensures quiet { result ≡ Status.Done → Keeps (F.contents faults.old) (F.contents faults.new) }
     ensures refused { result ≡ Status.Refused → Keeps (W.contents out.old) (W.contents out.new) }
     // What is reported is the line of a failure of one run with this status.
-    ensures reported { result ≢ Status.Done → (ran : Result Report Refusals) × IsKernelRun ran
+    ensures reported { result ≢ Status.Done → (ran : Result Report Refusals) × IsKernelRun cells.stencil_next (cells.root_task first.now steps) ran
         × ReportsStatus (IsOfEnd ran) result (F.contents faults.old) (F.contents faults.new) }
     ensures usage { result ≢ Status.Usage }
 {
@@ -108,12 +122,16 @@ pub fn pipeline_on<R: Threads + Wait + Sync, W: Write, F: Write>(
     requires items { items ≤ 100 }
     requires workers { (0 < workers) × (workers ≤ 16) }
     // Exactly the items and the totals of one run, in which no task was refused.
-    ensures done { result ≡ Status.Done → (r : Report) × IsKernelRun (Ok r) × (refusal_of r ≡ None)
+    ensures done { result ≡ Status.Done → (r : Report) × IsKernelRun piping.pipeline_next (piping.root_task stages items) (Ok r) × (refusal_of r ≡ None)
         × Appends (W.contents out.old) (W.contents out.new) (kernel_text (Kernel.Pipeline stages) r) }
+    // They are the items of the pipeline, in order.
+    ensures items { result ≡ Status.Done
+        → (t : TotalsLine) × Appends (W.contents out.old) (W.contents out.new)
+        (values_text (codes "items") (pipeline stages items) t) }
     ensures quiet { result ≡ Status.Done → Keeps (F.contents faults.old) (F.contents faults.new) }
     ensures refused { result ≡ Status.Refused → Keeps (W.contents out.old) (W.contents out.new) }
     // What is reported is the line of a failure of one run with this status.
-    ensures reported { result ≢ Status.Done → (ran : Result Report Refusals) × IsKernelRun ran
+    ensures reported { result ≢ Status.Done → (ran : Result Report Refusals) × IsKernelRun piping.pipeline_next (piping.root_task stages items) ran
         × ReportsStatus (IsOfEnd ran) result (F.contents faults.old) (F.contents faults.new) }
     ensures usage { result ≢ Status.Usage }
 {

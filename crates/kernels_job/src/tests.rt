@@ -1,4 +1,5 @@
 //! What is printed of small runs, and of runs that were refused.
+mod going;
 mod on_workers;
 mod on_world;
 

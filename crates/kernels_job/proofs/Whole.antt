@@ -1,0 +1,70 @@
+-- The run of a kernel in which no task was refused is whole: so the laws of whole runs hold of it.
+use Rattle.std.proofs.Common.{◌≡◌, true, List, [], ◌∷◌, None, Ok, reverse, refl, sym, ap, subst, arith, ◌∙◌, inl, inr}
+use Rattle.std.proofs.lemmas.Bool.{and_parts, false≢true, or_cases, or_right}
+use Rattle.phase_modes.specs.Limits.{default_limits}
+use Rattle.phase_modes.specs.declared.refusal.Refusal.{Refusal}
+use Rattle.phase_modes.specs.declared.refusal.Refusal.TheVariants.{Memory, NotExplained}
+use Rattle.phased_rt.specs.Refused.{IsRunRefused}
+use Rattle.finish_core.specs.declared.event.FinishEvent.TheVariants.{Shut}
+use Rattle.job_script.specs.declared.act.Answer.{Answer}
+use Rattle.world_model.specs.declared.event.WorldEvent.{WorldEvent}
+use Rattle.world_model.specs.Replies.{is_legal_world}
+use Rattle.world_model.specs.Report.{Report, report_of}
+use Rattle.world_model.specs.Tasks.{ends, is_ended}
+use Rattle.trace_model.specs.Explained.{all_follow, ends_run, event_of, is_over, past}
+use Rattle.trace_model.specs.Run.{Entry}
+use Rattle.trace_model.specs.declared.event.TracedEvent.{TracedEvent}
+use Rattle.trace_model.specs.declared.event.TracedEvent.TheVariants.{Finish}
+use Rattle.trace_model.proofs.Legal.{explained_legal}
+use Rattle.body_follows.specs.Going.{Does, IsRefusedAt}
+use Rattle.job_kernels.specs.Results.{refusal_of}
+use Rattle.kernel_laws.specs.Going.{IsWhole}
+use Rattle.kernels_job.specs.Worked.{IsKernelRun}
+use Rattle.kernels_job.proofs.Unrefused.{unrefused}
+
+-- the event that ends the run ends the root
+ends_root : (e : TracedEvent) → ends_run e ≡ true → ends 0 (event_of e) ≡ true
+ends_root (Finish f Shut) h = rw h refl
+ends_root e h = absurd cc
+
+over_ended : (es : List Entry) → is_over es ≡ true → is_ended 0 (past es) ≡ true
+over_ended [] h = absurd (false≢true h)
+over_ended (e ∷ es) h =
+    elim (or_cases (ends_run e.1) (is_over es) h) [
+      | inl x ↦ rw (ends_root e.1 x) refl
+      | inr y ↦ or_right (ends 0 (event_of e.1)) (is_ended 0 (past es)) (over_ended es y)
+    ]
+
+-- a whole history, and its report
+pub record IsReported {B : Type 0} (next : Answer → B → Does B) (root : B) (r : Report) : Type 0 where
+  pub history : List WorldEvent
+  pub whole : IsWhole next root default_limits history
+  pub is : r ≡ report_of default_limits history
+
+pub reported : {B : Type 0} (next : Answer → B → Does B) (root : B) (r : Report) → IsKernelRun next root (Ok r)
+    → refusal_of r ≡ None → IsReported next root r
+reported next root r (t, limits, explained, goes, is) none =
+    let es = reverse t.events in
+    let w : List WorldEvent = past es in
+    let legal : is_legal_world default_limits w ≡ true =
+    subst (λ l. is_legal_world l w ≡ true) limits (explained_legal t explained) in
+    let over = (and_parts (all_follow t.limits es) (is_over es) explained).1 in
+    record {
+      history = w;
+      whole = record {
+        smooth = record {
+          legal = legal;
+          goes = goes;
+          unrefused = unrefused default_limits w legal (omega arith) (sym (ap (λ x. refusal_of x) is) ∙ none);
+        };
+        ended = over_ended es over;
+      };
+      is = is;
+    }
+
+-- a run whose trace doesn't go by the body is refused
+pub refused_so : {B : Type 0} (next : Answer → B → Does B) (root : B) (es : List Entry) (e : Refusal)
+    → IsRefusedAt next root es e → IsRunRefused e
+refused_so next root es Memory h = inl refl
+refused_so next root es (NotExplained k) h = inr (k, refl)
+refused_so next root es e h = absurd h

@@ -1,0 +1,60 @@
+//! Whether the trace of a run goes by the body that was run, and by another.
+ghost use Rattle.std.specs.Prelude.{◌≤◌, ◌<◌};
+
+use body_follows::goes_by;
+use job_kernels::{PipelineBody, StencilBody};
+use phase_modes::{Limits, Refusal};
+use phased_rt::{OpenGate, run};
+use std::alloc::Global;
+use std::process::Abort;
+use std::sync::Wait;
+use std::test::Fail;
+use std::thread::Threads;
+use trace_model::{Trace, TracedEvent, TracedStep};
+
+/// The place of the first value that is sent, counted from 1; 0 where none is.
+fn first_send(trace: &Trace) -> u64 {
+    for place in 0..trace.len() {
+        if let (_, TracedEvent::Phaser(_, TracedStep::Send(_, _, _))) = trace.entry(place) {
+            return place as u64 + 1;
+        }
+    }
+    0
+}
+
+/// A run of one cell of 4 goes by its body; by that of a cell of 5 it does up to the first value.
+fn cells_go<R: Threads + Wait + Sync + Abort>(
+    rt: &R,
+    alloc: Global,
+    workers: u32,
+) -> Result<(), Fail>
+    requires { (0 < workers) × (workers ≤ 16) }
+{
+    let root = StencilBody::root(&[4], 2);
+    let report = run(rt, alloc, root, Limits::default(), workers, &OpenGate)?;
+    assert_eq!(rt; goes_by(alloc, root, &report.trace), Ok(()), "{workers} workers");
+    let other = goes_by(alloc, StencilBody::root(&[5], 2), &report.trace);
+    let place = first_send(&report.trace);
+    assert_eq!(rt; other, Err(Refusal::NotExplained(place)), "{workers} workers");
+    Ok(())
+}
+
+#[test]
+fn stencil_goes_by_its_body(rt: HostRuntime) -> Result<(), Fail> {
+    for workers in [1, 2, 16] {
+        cells_go(&rt, rt.alloc(), workers)?;
+    }
+    Ok(())
+}
+
+/// A run of a pipeline goes by its body, and not by that of a pipeline of one stage more, whose root
+/// makes one phaser more: by that it does up to the root's first spawn, its fourth event.
+#[test]
+fn pipeline_goes_by_its_body(rt: HostRuntime) -> Result<(), Fail> {
+    let root = PipelineBody::root(2, 3);
+    let report = run(&rt, rt.alloc(), root, Limits::default(), 2, &OpenGate)?;
+    assert_eq!(&rt; goes_by(rt.alloc(), root, &report.trace), Ok(()));
+    let other = goes_by(rt.alloc(), PipelineBody::root(3, 3), &report.trace);
+    assert_eq!(&rt; other, Err(Refusal::NotExplained(4)));
+    Ok(())
+}
