@@ -71,7 +71,7 @@ impl Root {
     {
         if self.made < self.cells {
             self.made += 1;
-            return Act::New(Mode::SigWait, operator(Op::Sum), None);
+            return Act::New(Mode::SigWait, operator(Op::Sum));
         }
         let place = self.spawned;
         if place < self.cells {

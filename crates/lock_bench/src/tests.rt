@@ -9,11 +9,10 @@ use crate::command_line::job_of;
 use crate::kind::Kind;
 use crate::threads::{events_of, fresh, given_back, numbered};
 use merging::merged;
-use phase_model::{Bound, Call, Look, Op, Ops, Reply, Terms};
+use phase_model::{Call, Look, Op, Ops, Reply};
 use phase_modes::{Limits, Mode, Refusal};
 use scope_locks::{
-    FinishParts, FinishTable, Out, PassAnswer, PhaserCell, PhaserTable, ShutAnswer, SignalAnswer,
-    Tickets,
+    FinishParts, FinishTable, Out, PassAnswer, PhaserCell, PhaserTable, ShutAnswer, Tickets,
 };
 use share_book::{Blanks, Books, Ledgers, PhaserBook, Seven, Shares, Totals, gather, open};
 use std::alloc::Global;
@@ -42,14 +41,6 @@ fn plainly(answer: Result<(), Refusal>) -> Reply {
     }
 }
 
-fn signalled(answer: SignalAnswer<u32>) -> Reply {
-    match answer {
-        SignalAnswer::Signalled(_) => Reply::Done,
-        SignalAnswer::Parked => Reply::NotYet,
-        SignalAnswer::Refused(_, refusal) => Reply::Refused(refusal),
-    }
-}
-
 fn turned(answer: PassAnswer<u32>) -> Reply {
     match answer {
         PassAnswer::Passed(_, phase) => Reply::Phase(phase),
@@ -66,7 +57,7 @@ fn looked(answer: Result<Look, Refusal>) -> Reply {
     }
 }
 
-/// Makes the call on a phaser of the table, a making with these terms. The item of a task is
+/// Makes the call on a phaser of the table, a making with these operators. The item of a task is
 /// its number.
 fn answer_to<K: Ledgers, R: Wait>(
     rt: &R,
@@ -75,24 +66,21 @@ fn answer_to<K: Ledgers, R: Wait>(
     tickets: &Tickets,
     mine: &mut Shares<K>,
     out: &mut Out<u32>,
-    terms: Terms,
+    ops: Ops,
     call: Call,
 ) -> Reply
     requires number { number < table.now.phasers }
     requires empty { out.old ≡ [] }
 {
     match call {
-        Call::Make(task, mode) => {
-            let Terms { ops, bound } = terms;
-            plainly(table.make(rt, number, tickets, mine, task, mode, ops, bound))
-        }
+        Call::Make(task, mode) => plainly(table.make(rt, number, tickets, mine, task, mode, ops)),
         Call::Register(parent, child, mode) => {
             plainly(table.register(rt, number, tickets, mine, parent, child, mode))
         }
         Call::Signal(task, proposed) => {
-            signalled(table.signal(rt, number, tickets, mine, out, task, proposed, task))
+            plainly(table.signal(rt, number, tickets, mine, out, task, proposed))
         }
-        Call::Pass(task) => turned(table.pass(rt, number, tickets, mine, out, task, task)),
+        Call::Pass(task) => turned(table.pass(rt, number, tickets, mine, task, task)),
         Call::SingleDone(task) => plainly(table.single_done(rt, number, tickets, mine, out, task)),
         Call::Send(task, accumulator, value) => {
             plainly(table.send(rt, number, tickets, mine, task, accumulator, value))
@@ -137,7 +125,7 @@ fn answer_alone<K: Ledgers, R: Wait>(
     table: &PhaserTable<u32, K>,
     tickets: &Tickets,
     mine: &mut Shares<K>,
-    terms: Terms,
+    ops: Ops,
     call: Call,
 ) -> Reply
     requires { 0 < table.now.phasers }
@@ -145,7 +133,7 @@ fn answer_alone<K: Ledgers, R: Wait>(
     let Ok(mut out) = Out::new(alloc) else {
         return Reply::Refused(Refusal::Memory);
     };
-    answer_to(rt, table, 0, tickets, mine, &mut out, terms, call)
+    answer_to(rt, table, 0, tickets, mine, &mut out, ops, call)
 }
 
 /// Each call on phaser 0 is answered as its row says.
@@ -155,13 +143,13 @@ fn answers<K: Ledgers, R: Abort + Wait>(
     table: &PhaserTable<u32, K>,
     tickets: &Tickets,
     mine: &mut Shares<K>,
-    terms: Terms,
+    ops: Ops,
     rows: &[Row],
 )
     requires { 0 < table.now.phasers }
 {
     for (call, expected) in rows {
-        let answer = answer_alone(rt, alloc, table, tickets, mine, terms, *call);
+        let answer = answer_alone(rt, alloc, table, tickets, mine, ops, *call);
         assert_eq!(rt; answer, *expected, "{call:?}");
     }
 }
@@ -173,14 +161,14 @@ fn answers_the_one<K: Ledgers, R: Abort + Wait>(
     table: &PhaserTable<u32, K>,
     tickets: &Tickets,
     shares: &mut Vec<Shares<K>>,
-    terms: Terms,
+    ops: Ops,
     rows: &[Row],
 )
     requires { 0 < table.now.phasers }
 {
     assert_eq!(rt; shares.len(), 1);
     if let Some(mine) = shares.get_mut(0) {
-        answers(rt, alloc, table, tickets, mine, terms, rows);
+        answers(rt, alloc, table, tickets, mine, ops, rows);
     }
 }
 
@@ -223,8 +211,8 @@ fn events_of_rows(rows: &[Row]) -> u64 {
     events
 }
 
-/// Each call on a new unbounded phaser is answered as its row says; the history that they leave is
-/// merged, and gathered.
+/// Each call on a new phaser is answered as its row says; the history that they leave is merged, and
+/// gathered. Names the ledgers.
 fn example<R: Abort + Wait>(
     rt: &R,
     alloc: Global,
@@ -232,23 +220,12 @@ fn example<R: Abort + Wait>(
     ops: Ops,
     rows: &[Row],
 ) -> Result<(), Fail> {
-    example_with(rt, alloc, limits, Terms { ops, bound: None }, rows)
-}
-
-/// The same for a phaser that is made with these terms. Names the ledgers.
-fn example_with<R: Abort + Wait>(
-    rt: &R,
-    alloc: Global,
-    limits: Limits,
-    terms: Terms,
-    rows: &[Row],
-) -> Result<(), Fail> {
     if !limits.fits() {
         return Err(Fail::from("the limits are none"));
     }
     let blanks = Blanks::new(1, 1);
     let totals = named::<R, Brand, Brand, Brand, Brand, Brand, Brand, Brand>(
-        rt, alloc, blanks, limits, terms, rows,
+        rt, alloc, blanks, limits, ops, rows,
     )?;
     assert_eq!(rt; totals.events, events_of_rows(rows));
     Ok(())
@@ -268,7 +245,7 @@ fn named<
     alloc: Global,
     blanks: Blanks,
     limits: Limits,
-    terms: Terms,
+    ops: Ops,
     rows: &[Row],
 ) -> Result<Totals, Refusal>
     requires names { IsNamed blanks A.name B.name C.name D.name E.name F.name G.name }
@@ -276,7 +253,7 @@ fn named<
     requires limits { limits_fit limits ≡ true }
     requires one { blanks.phasers ≡ 1 }
 {
-    play::<Seven<A, B, C, D, E, F, G>, R>(rt, alloc, blanks, limits, terms, rows)
+    play::<Seven<A, B, C, D, E, F, G>, R>(rt, alloc, blanks, limits, ops, rows)
 }
 
 /// What is gathered once each call was answered as its row says.
@@ -285,7 +262,7 @@ fn play<K: Ledgers, R: Abort + Wait>(
     alloc: Global,
     blanks: Blanks,
     limits: Limits,
-    terms: Terms,
+    ops: Ops,
     rows: &[Row],
 ) -> Result<Totals, Refusal>
     requires names { IsNamed blanks K.EventsByPhaser.name K.EventsByWorker.name K.UpByPhaser.name
@@ -296,7 +273,7 @@ fn play<K: Ledgers, R: Abort + Wait>(
     requires one { blanks.phasers ≡ 1 }
 {
     let (table, mut shares) = fresh::<K>(alloc, limits, blanks)?;
-    answers_the_one(rt, alloc, &table, &Tickets::new(), &mut shares, terms, rows);
+    answers_the_one(rt, alloc, &table, &Tickets::new(), &mut shares, ops, rows);
     gathered(rt, alloc, limits, table, shares)
 }
 

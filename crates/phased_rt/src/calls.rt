@@ -6,9 +6,9 @@ use crate::body::Body;
 use crate::diary::Diary;
 use crate::task::Item;
 use crate::worker::{Shared, Worker};
-use phase_model::{Look, Terms};
+use phase_model::{Look, Ops};
 use phase_modes::{Mode, Pair, Refusal};
-use scope_locks::{PassAnswer, ShutAnswer, SignalAnswer};
+use scope_locks::{PassAnswer, ShutAnswer};
 use share_book::{Ledgers, Shares};
 use std::sync::Wait;
 
@@ -20,16 +20,14 @@ impl<B: Body, K: Ledgers> Shared<B, K> {
         phaser: u32,
         task: u32,
         mode: Mode,
-        terms: &Terms,
+        ops: Ops,
     ) -> Result<(), Refusal> {
         let number = phaser as usize;
         if number >= self.phasers.phasers {
             return Err(Refusal::PhasersFull);
         }
-        let tickets = &self.tickets;
-        let ops = terms.ops;
         self.phasers
-            .make(rt, number, tickets, shares, task, mode, ops, terms.bound)
+            .make(rt, number, &self.tickets, shares, task, mode, ops)
     }
 
     pub(crate) fn register_on<R: Wait>(
@@ -80,22 +78,20 @@ impl<B: Body, K: Ledgers> Shared<B, K> {
             .look(rt, number, &self.tickets, shares, task, accumulator)
     }
 
-    /// The item comes back, or it is parked.
     pub(crate) fn signal_on<R: Wait>(
         &self,
         rt: &R,
         worker: &mut Worker<B, K>,
-        item: Item<B>,
+        task: u32,
         phaser: u32,
         proposed: Option<u32>,
-    ) -> Result<SignalAnswer<Item<B>>, Refusal>
+    ) -> Result<(), Refusal>
         ensures seat { IsSeatOf worker.old.seat worker.new.seat }
     {
         let number = phaser as usize;
         if number >= self.phasers.phasers {
-            return Ok(SignalAnswer::Refused(item, Refusal::NotRegistered));
+            return Err(Refusal::NotRegistered);
         }
-        let task = item.task.number();
         let Worker {
             seat,
             kept,
@@ -103,41 +99,26 @@ impl<B: Body, K: Ledgers> Shared<B, K> {
             out,
             ..
         } = worker;
-        let tickets = &self.tickets;
-        let answer = self
-            .phasers
-            .signal(rt, number, tickets, shares, out, task, proposed, item);
-        self.flush(rt, seat, kept, out)?;
-        Ok(answer)
+        self.phasers
+            .signal(rt, number, &self.tickets, shares, out, task, proposed)?;
+        self.flush(rt, seat, kept, out)
     }
 
     /// The item comes back, or it is parked.
     pub(crate) fn pass_on<R: Wait>(
         &self,
         rt: &R,
-        worker: &mut Worker<B, K>,
+        shares: &mut Shares<K>,
         item: Item<B>,
         phaser: u32,
-    ) -> Result<PassAnswer<Item<B>>, Refusal>
-        ensures seat { IsSeatOf worker.old.seat worker.new.seat }
-    {
+    ) -> PassAnswer<Item<B>> {
         let number = phaser as usize;
         if number >= self.phasers.phasers {
-            return Ok(PassAnswer::Refused(item, Refusal::NotRegistered));
+            return PassAnswer::Refused(item, Refusal::NotRegistered);
         }
         let task = item.task.number();
-        let Worker {
-            seat,
-            kept,
-            shares,
-            out,
-            ..
-        } = worker;
-        let answer = self
-            .phasers
-            .pass(rt, number, &self.tickets, shares, out, task, item);
-        self.flush(rt, seat, kept, out)?;
-        Ok(answer)
+        self.phasers
+            .pass(rt, number, &self.tickets, shares, task, item)
     }
 
     pub(crate) fn report_on<R: Wait>(

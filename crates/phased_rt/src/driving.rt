@@ -8,7 +8,7 @@ use crate::crew::Crew;
 use crate::task::{Item, Task};
 use crate::worker::{Shared, Worker};
 use phase_modes::{Pair, Refusal};
-use scope_locks::{PassAnswer, ShutAnswer, SignalAnswer};
+use scope_locks::{PassAnswer, ShutAnswer};
 use share_book::Ledgers;
 use std::sync::Wait;
 use task_standing::Due;
@@ -43,7 +43,6 @@ impl<B: Body, K: Ledgers> Shared<B, K> {
         Ok(Some(item))
     }
 
-    /// A task that is parked signals again once it is let go on: its signal is still due.
     fn signal<R: Wait>(
         &self,
         rt: &R,
@@ -54,14 +53,13 @@ impl<B: Body, K: Ledgers> Shared<B, K> {
     ) -> Result<Next<B>, Refusal>
         ensures seat { IsSeatOf worker.old.seat worker.new.seat }
     {
-        match self.signal_on(rt, worker, item, phaser, number)? {
-            SignalAnswer::Signalled(signalled) => {
-                let mut item = signalled;
+        let mut item = item;
+        match self.signal_on(rt, worker, item.task.number(), phaser, number) {
+            Ok(()) => {
                 item.task.standing.note_signal(phaser);
                 Ok(Some(item))
             }
-            SignalAnswer::Parked => Ok(None),
-            SignalAnswer::Refused(item, refusal) => {
+            Err(refusal) => {
                 let may_fail = matches!(refusal, Refusal::SingleMismatch | Refusal::HistoryFull);
                 self.give_up(item, refusal, may_fail)
             }
@@ -94,7 +92,7 @@ impl<B: Body, K: Ledgers> Shared<B, K> {
     ) -> Result<Next<B>, Refusal>
         ensures seat { IsSeatOf worker.old.seat worker.new.seat }
     {
-        match self.pass_on(rt, worker, item, phaser)? {
+        match self.pass_on(rt, &mut worker.shares, item, phaser) {
             PassAnswer::Passed(passed, _) => {
                 let mut item = passed;
                 item.task.standing.note_pass(phaser);

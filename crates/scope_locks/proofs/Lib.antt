@@ -1,6 +1,5 @@
 pub mod Ends
 pub mod Freeing
-pub mod HeldPhase
 pub mod Lists
 pub mod Made
 pub mod Parks

@@ -37,30 +37,22 @@ fn step_on(phaser: u32, event: TracedEvent) -> Option<TracedStep> {
     }
 }
 
-/// What a phaser has that nobody has made.
-fn no_terms() -> Terms {
-    Terms {
-        ops: Ops::none(),
-        bound: None,
-    }
-}
-
-/// What a making brings.
-fn terms_of(step: TracedStep) -> Terms {
+/// The operators that a making brings.
+fn ops_of(step: TracedStep) -> Ops {
     match step {
-        TracedStep::Make(_, _, terms) => terms,
-        _ => no_terms(),
+        TracedStep::Make(_, _, ops) => ops,
+        _ => Ops::none(),
     }
 }
 
-/// What the part begins with.
-fn first_terms_of(phaser: u32, part: &Part) -> Terms {
+/// The operators with which the part begins.
+fn first_ops_of(phaser: u32, part: &Part) -> Ops {
     if part.len() == 0 {
-        return no_terms();
+        return Ops::none();
     }
     match step_on(phaser, part.entry(0).1) {
-        Some(step) => terms_of(step),
-        None => no_terms(),
+        Some(step) => ops_of(step),
+        None => Ops::none(),
     }
 }
 
@@ -74,8 +66,7 @@ fn projection(
 ) -> Result<History, Refusal>
     requires { limits_fit limits ≡ true }
 {
-    let Terms { ops, bound } = first_terms_of(phaser, part);
-    let mut history = History::new(alloc, limits, ops, bound)?;
+    let mut history = History::new(alloc, limits, first_ops_of(phaser, part))?;
     for place in 0..trace.len() {
         if let Some(step) = step_on(phaser, trace.entry(place).1) {
             add(&mut history, step);

@@ -41,7 +41,7 @@ impl Body for Proposer {
     fn step(&mut self, _answer: Answer) -> Result<Act<Proposer>, Refusal> {
         if !self.made {
             self.made = true;
-            return Ok(Act::New(Mode::Single, Ops::none(), None));
+            return Ok(Act::New(Mode::Single, Ops::none()));
         }
         if self.spawns > 0 {
             self.spawns -= 1;
