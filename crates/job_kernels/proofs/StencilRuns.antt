@@ -50,15 +50,15 @@ sends_goes i n steps x v l lines e h rest =
     subst P (sym e) (ap (λ y. Send i 0 (pos y)) (min-eq_left h), rest)
 
 -- from the look to the right on
-right_goes : (b : Bool) (m : Moment) (row : List ℕ) (i n r steps own l v : ℕ) (lines : List (Line StencilBody)) →
-    weighed l own (if b then get_or row r 0 else 0) ≡ v → v ≤ greatest → get_or row r 0 ≤ greatest →
+right_goes : (b : Bool) (m : Moment) (values : List ℕ) (i n r steps own l v : ℕ) (lines : List (Line StencilBody)) →
+    weighed l own (if b then get_or values r 0 else 0) ≡ v → v ≤ greatest → get_or values r 0 ≤ greatest →
     Goes (stencil_next Done (cell i n steps v l Turns)) lines →
     let does = looks_right (if b then r ∷ [] else []) (record { place = i; cells = n; steps = steps; value = own; left = l; moment = m }) in
     Goes (does.0, record { role = kinds.Cell does.1 })
-    ((map (λ j. (Look j 0, Saw (Value (pos (get_or row j 0))))) (if b then r ∷ [] else []) ++ (Send i 0 (pos v), Done) ∷ []) ++ lines)
-right_goes true m row i n r steps own l v lines e small h rest =
-    (refl, sends_goes i n steps (weighed l own (value_of greatest (Saw (Value (pos (get_or row r 0)))))) v l lines (ap (weighed l own) (value-small (get_or row r 0) h) ∙ e) small rest)
-right_goes false m row i n r steps own l v lines e small h rest =
+    ((map (λ j. (Look j 0, Saw (Value (pos (get_or values j 0))))) (if b then r ∷ [] else []) ++ (Send i 0 (pos v), Done) ∷ []) ++ lines)
+right_goes true m values i n r steps own l v lines e small h rest =
+    (refl, sends_goes i n steps (weighed l own (value_of greatest (Saw (Value (pos (get_or values r 0)))))) v l lines (ap (weighed l own) (value-small (get_or values r 0) h) ∙ e) small rest)
+right_goes false m values i n r steps own l v lines e small h rest =
     sends_goes i n steps (weighed l own 0) v l lines e small rest
 
 -- the rows keep their length
@@ -67,14 +67,14 @@ length-stencil zero cells = refl
 length-stencil (suc steps) cells = length-map-range_with_len (cell_after (stencil steps cells)) 0 (length (stencil steps cells)) ∙ length-stencil steps cells
 
 -- a cell of the next row
-pub step_at : (row : List ℕ) (n i : ℕ) → length row ≡ n → i < n → get_or (stencil_step row) i 0 ≡ cell_after row i
-step_at row n i e h = get_or-map-range_with_len (cell_after row) 0 (length row) i i 0 (omega (arith, e)) (omega arith)
+pub step_at : (values : List ℕ) (n i : ℕ) → length values ≡ n → i < n → get_or (stencil_step values) i 0 ≡ cell_after values i
+step_at values n i e h = get_or-map-range_with_len (cell_after values) 0 (length values) i i 0 (omega (arith, e)) (omega arith)
 
 -- a neighbour outside the row counts as 0
-pub right_value : (b : Bool) (row : List ℕ) (n r : ℕ) → length row ≡ n → nat_lt r n ≡ b →
-    (if b then get_or row r 0 else 0) ≡ get_or row r 0
-right_value true row n r e t = refl
-right_value false row n r e t = sym (get_or_past row r 0 (omega (arith, e, ltb-false r n t)))
+pub right_value : (b : Bool) (values : List ℕ) (n r : ℕ) → length values ≡ n → nat_lt r n ≡ b →
+    (if b then get_or values r 0 else 0) ≡ get_or values r 0
+right_value true values n r e t = refl
+right_value false values n r e t = sym (get_or_past values r 0 (omega (arith, e, ltb-false r n t)))
 
 -- from the end of a turn on
 go : (first : List ℕ) (i : ℕ) → AtMost greatest first → i < length first → (t k l : ℕ) →
@@ -82,38 +82,38 @@ go : (first : List ℕ) (i : ℕ) → AtMost greatest first → i < length first
     (flat_map (step_lines (cells_at first) (length first) i) (range_with_len t k))
 go first i h lt t zero l = refl
 go first zero h lt t (suc k) l =
-    let row : List ℕ = stencil t first in
+    let values : List ℕ = stencil t first in
     let n : ℕ = length first in
     let v : ℕ = get_or (stencil (suc t) first) 0 0 in
     let lines : List (Line StencilBody) = flat_map (step_lines (cells_at first) (length first) 0) (range_with_len (t + 1) k) in
     let rest : Goes (stencil_next Done (cell 0 n k v 0 Turns)) lines =
     let P : ℕ → Type 0 = λ u. Goes (stencil_next Done (cell 0 n k v 0 Turns)) (flat_map (step_lines (cells_at first) (length first) 0) (range_with_len u k)) in
     subst P (sym (add-one t)) (go first 0 h lt (suc t) k 0) in
-    let value : weighed 0 (get_or row 0 0) (if nat_lt (0 + 1) n then get_or row (0 + 1) 0 else 0) ≡ v =
-    ap (weighed 0 (get_or row 0 0)) (right_value (nat_lt (0 + 1) n) row n (0 + 1) (length-stencil t first) refl)
-    ∙ sym (step_at row n 0 (length-stencil t first) lt) in (
+    let value : weighed 0 (get_or values 0 0) (if nat_lt (0 + 1) n then get_or values (0 + 1) 0 else 0) ≡ v =
+    ap (weighed 0 (get_or values 0 0)) (right_value (nat_lt (0 + 1) n) values n (0 + 1) (length-stencil t first) refl)
+    ∙ sym (step_at values n 0 (length-stencil t first) lt) in (
       refl,
-      right_goes (nat_lt (0 + 1) n) LooksLeft row 0 n (0 + 1) k (get_or row 0 0) 0 v lines value
+      right_goes (nat_lt (0 + 1) n) LooksLeft values 0 n (0 + 1) k (get_or values 0 0) 0 v lines value
           (stays_at_most greatest (suc t) first h 0) (stays_at_most greatest t first h (0 + 1)) rest,
     )
 go first (suc j) h lt t (suc k) l =
     let i : ℕ = suc j in
-    let row : List ℕ = stencil t first in
+    let values : List ℕ = stencil t first in
     let n : ℕ = length first in
     let v : ℕ = get_or (stencil (suc t) first) i 0 in
-    let left : ℕ = value_of greatest (Saw (Value (pos (get_or row j 0)))) in
+    let left : ℕ = value_of greatest (Saw (Value (pos (get_or values j 0)))) in
     let lines : List (Line StencilBody) = flat_map (step_lines (cells_at first) (length first) i) (range_with_len (t + 1) k) in
     let rest : Goes (stencil_next Done (cell i n k v left Turns)) lines =
     let P : ℕ → Type 0 = λ u. Goes (stencil_next Done (cell i n k v left Turns)) (flat_map (step_lines (cells_at first) (length first) i) (range_with_len u k)) in
     subst P (sym (add-one t)) (go first i h lt (suc t) k left) in
-    let value : weighed left (get_or row i 0) (if nat_lt (i + 1) n then get_or row (i + 1) 0 else 0) ≡ v =
-    ap (λ x. weighed x (get_or row i 0) (if nat_lt (i + 1) n then get_or row (i + 1) 0 else 0)) (value-small (get_or row j 0) (stays_at_most greatest t first h j))
-    ∙ (ap (weighed (get_or row j 0) (get_or row i 0)) (right_value (nat_lt (i + 1) n) row n (i + 1) (length-stencil t first) refl)
-    ∙ sym (step_at row n i (length-stencil t first) lt)) in (
+    let value : weighed left (get_or values i 0) (if nat_lt (i + 1) n then get_or values (i + 1) 0 else 0) ≡ v =
+    ap (λ x. weighed x (get_or values i 0) (if nat_lt (i + 1) n then get_or values (i + 1) 0 else 0)) (value-small (get_or values j 0) (stays_at_most greatest t first h j))
+    ∙ (ap (weighed (get_or values j 0) (get_or values i 0)) (right_value (nat_lt (i + 1) n) values n (i + 1) (length-stencil t first) refl)
+    ∙ sym (step_at values n i (length-stencil t first) lt)) in (
       refl,
       (
         refl,
-        right_goes (nat_lt (i + 1) n) LooksRight row i n (i + 1) k (get_or row i 0) left v lines value
+        right_goes (nat_lt (i + 1) n) LooksRight values i n (i + 1) k (get_or values i 0) left v lines value
             (stays_at_most greatest (suc t) first h i) (stays_at_most greatest t first h (i + 1)) rest,
       ),
     )

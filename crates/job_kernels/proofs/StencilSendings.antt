@@ -29,18 +29,18 @@ back_send i n steps x v l w lines e small goes =
     (sym value ∙ ap pos least, held.1)
 
 -- from the look to the right on
-back_right : (b : Bool) (m : Moment) (row : List ℕ) (i n r steps own l v : ℕ) (x : ℕ → ℤ) (w : ℤ) (lines : List (Line StencilBody)) →
-    weighed l own (if b then get_or row r 0 else 0) ≡ v → v ≤ greatest → get_or row r 0 ≤ greatest →
-    (b ≡ true → x r ≡ pos (get_or row r 0)) →
+back_right : (b : Bool) (m : Moment) (values : List ℕ) (i n r steps own l v : ℕ) (x : ℕ → ℤ) (w : ℤ) (lines : List (Line StencilBody)) →
+    weighed l own (if b then get_or values r 0 else 0) ≡ v → v ≤ greatest → get_or values r 0 ≤ greatest →
+    (b ≡ true → x r ≡ pos (get_or values r 0)) →
     let does = looks_right (if b then r ∷ [] else []) (record { place = i; cells = n; steps = steps; value = own; left = l; moment = m }) in
     Goes (does.0, record { role = kinds.Cell does.1 })
     ((map (λ j. (Look j 0, Saw (Value (x j)))) (if b then r ∷ [] else []) ++ (Send i 0 w, Done) ∷ []) ++ lines) →
     (w ≡ pos v) × Goes (stencil_next Done (cell i n steps v l Turns)) lines
-back_right true m row i n r steps own l v x w lines e small h same goes =
+back_right true m values i n r steps own l v x w lines e small h same goes =
     let P : ℤ → Type 0 = λ z. Goes (stencil_next (Saw (Value z)) (cell i n steps own l Weighs)) ((Send i 0 w, Done) ∷ lines) in
-    let seen : P (pos (get_or row r 0)) = subst P (same refl) goes.1 in
-    back_send i n steps (weighed l own (value_of greatest (Saw (Value (pos (get_or row r 0)))))) v l w lines (ap (weighed l own) (value-small (get_or row r 0) h) ∙ e) small seen
-back_right false m row i n r steps own l v x w lines e small h same goes =
+    let seen : P (pos (get_or values r 0)) = subst P (same refl) goes.1 in
+    back_send i n steps (weighed l own (value_of greatest (Saw (Value (pos (get_or values r 0)))))) v l w lines (ap (weighed l own) (value-small (get_or values r 0) h) ∙ e) small seen
+back_right false m values i n r steps own l v x w lines e small h same goes =
     back_send i n steps (weighed l own 0) v l w lines e small goes
 
 -- cell i has come to phase t with k steps left
@@ -63,34 +63,34 @@ next_step : (first : List ℕ) (sent : ℕ → ℕ → ℤ) (t k i : ℕ) → At
     ((j : ℕ) → j < length first → sent t j ≡ cells_at first t j) → i < length first →
     Reached first sent i t (suc k) → Reached first sent i (suc t) k
 next_step first sent t k zero h so lt at =
-    let row : List ℕ = stencil t first in
+    let values : List ℕ = stencil t first in
     let n : ℕ = length first in
     let v : ℕ = get_or (stencil (suc t) first) 0 0 in
     let lines : List (Line StencilBody) = flat_map (step_lines sent n 0) (range_with_len (t + 1) k) in
-    let value : weighed 0 (get_or row 0 0) (if nat_lt (0 + 1) n then get_or row (0 + 1) 0 else 0) ≡ v =
-    ap (weighed 0 (get_or row 0 0)) (right_value (nat_lt (0 + 1) n) row n (0 + 1) (length-stencil t first) refl)
-    ∙ sym (step_at row n 0 (length-stencil t first) lt) in
+    let value : weighed 0 (get_or values 0 0) (if nat_lt (0 + 1) n then get_or values (0 + 1) 0 else 0) ≡ v =
+    ap (weighed 0 (get_or values 0 0)) (right_value (nat_lt (0 + 1) n) values n (0 + 1) (length-stencil t first) refl)
+    ∙ sym (step_at values n 0 (length-stencil t first) lt) in
     let after : (sent (suc t) 0 ≡ pos v) × Goes (stencil_next Done (cell 0 n k v 0 Turns)) lines =
-    back_right (nat_lt (0 + 1) n) LooksLeft row 0 n (0 + 1) k (get_or row 0 0) 0 v (sent t) (sent (suc t) 0) lines value
+    back_right (nat_lt (0 + 1) n) LooksLeft values 0 n (0 + 1) k (get_or values 0 0) 0 v (sent t) (sent (suc t) 0) lines value
     (stays_at_most greatest (suc t) first h 0) (stays_at_most greatest t first h (0 + 1))
     (λ there. so (0 + 1) (ltb-true (0 + 1) n there)) at.goes.1 in
     record { sends = after.0; left = 0; goes = further first sent 0 t k v 0 after.1 }
 next_step first sent t k (suc j) h so lt at =
     let i : ℕ = suc j in
-    let row : List ℕ = stencil t first in
+    let values : List ℕ = stencil t first in
     let n : ℕ = length first in
     let v : ℕ = get_or (stencil (suc t) first) i 0 in
-    let l : ℕ = value_of greatest (Saw (Value (pos (get_or row j 0)))) in
+    let l : ℕ = value_of greatest (Saw (Value (pos (get_or values j 0)))) in
     let lines : List (Line StencilBody) = flat_map (step_lines sent n i) (range_with_len (t + 1) k) in
-    let value : weighed l (get_or row i 0) (if nat_lt (i + 1) n then get_or row (i + 1) 0 else 0) ≡ v =
-    ap (λ y. weighed y (get_or row i 0) (if nat_lt (i + 1) n then get_or row (i + 1) 0 else 0)) (value-small (get_or row j 0) (stays_at_most greatest t first h j))
-    ∙ (ap (weighed (get_or row j 0) (get_or row i 0)) (right_value (nat_lt (i + 1) n) row n (i + 1) (length-stencil t first) refl)
-    ∙ sym (step_at row n i (length-stencil t first) lt)) in
-    let P : ℤ → Type 0 = λ z. Goes (stencil_next (Saw (Value z)) (cell i n k (get_or row i 0) at.left LooksRight))
+    let value : weighed l (get_or values i 0) (if nat_lt (i + 1) n then get_or values (i + 1) 0 else 0) ≡ v =
+    ap (λ y. weighed y (get_or values i 0) (if nat_lt (i + 1) n then get_or values (i + 1) 0 else 0)) (value-small (get_or values j 0) (stays_at_most greatest t first h j))
+    ∙ (ap (weighed (get_or values j 0) (get_or values i 0)) (right_value (nat_lt (i + 1) n) values n (i + 1) (length-stencil t first) refl)
+    ∙ sym (step_at values n i (length-stencil t first) lt)) in
+    let P : ℤ → Type 0 = λ z. Goes (stencil_next (Saw (Value z)) (cell i n k (get_or values i 0) at.left LooksRight))
     ((map (λ y. (Look y 0, Saw (Value (sent t y)))) (right_of n i) ++ (Send i 0 (sent (suc t) i), Done) ∷ []) ++ lines) in
-    let seen : P (pos (get_or row j 0)) = subst P (so j (omega arith)) at.goes.1.1 in
+    let seen : P (pos (get_or values j 0)) = subst P (so j (omega arith)) at.goes.1.1 in
     let after : (sent (suc t) i ≡ pos v) × Goes (stencil_next Done (cell i n k v l Turns)) lines =
-    back_right (nat_lt (i + 1) n) LooksRight row i n (i + 1) k (get_or row i 0) l v (sent t) (sent (suc t) i) lines value
+    back_right (nat_lt (i + 1) n) LooksRight values i n (i + 1) k (get_or values i 0) l v (sent t) (sent (suc t) i) lines value
     (stays_at_most greatest (suc t) first h i) (stays_at_most greatest t first h (i + 1))
     (λ there. so (i + 1) (ltb-true (i + 1) n there)) seen in
     record { sends = after.0; left = l; goes = further first sent i t k v l after.1 }

@@ -1,4 +1,4 @@
-//! Whether the trace of a run goes by the body that was run, and by another.
+//! Whether the trace of a run goes by the body that was run, and by another, and is replayed.
 ghost use Rattle.std.specs.Prelude.{◌≤◌, ◌<◌};
 
 use body_follows::goes_by;
@@ -11,6 +11,8 @@ use std::sync::Wait;
 use std::test::Fail;
 use std::thread::Threads;
 use trace_model::{Trace, TracedEvent, TracedStep};
+use trace_replay::replay;
+use world_model::WorldReport;
 
 /// The place of the first value that is sent, counted from 1; 0 where none is.
 fn first_send(trace: &Trace) -> u64 {
@@ -20,6 +22,14 @@ fn first_send(trace: &Trace) -> u64 {
         }
     }
     0
+}
+
+/// The lines of a report.
+fn text_of(alloc: Global, report: &WorldReport) -> Result<String, Refusal> {
+    match format!(in alloc; "{report}") {
+        Ok(text) => Ok(text),
+        Err(_) => Err(Refusal::Memory),
+    }
 }
 
 /// A run of one cell of 4 goes by its body; by that of a cell of 5 it does up to the first value.
@@ -44,6 +54,18 @@ fn cells_go<R: Threads + Wait + Sync + Abort>(
         Err(Refusal::NotExplained(place)),
         "{workers} workers"
     );
+    Ok(())
+}
+
+/// The trace of the run of eight cells by 16 workers is replayed to the run's report.
+#[test]
+fn stencil_eight_cells_is_replayed(rt: HostRuntime) -> Result<(), Fail> {
+    let root = StencilBody::root(&[0, 0, 0, 256, 0, 0, 0, 0], 5);
+    let report = run(&rt, rt.alloc(), root, Limits::default(), 16, &OpenGate)?;
+    let replayed = replay(rt.alloc(), &report.trace)?;
+    let ours = text_of(rt.alloc(), &report.world)?;
+    let theirs = text_of(rt.alloc(), &replayed)?;
+    assert_eq!(&rt; theirs.as_str(), ours.as_str());
     Ok(())
 }
 
