@@ -5,7 +5,7 @@
 
 use phase_model::{Look, Op, Ops};
 use phase_modes::{Limits, Mode, Refusal};
-use phaser_core::{Passing, PhaserState};
+use phaser_core::{Passing, PhaserState, Signalling};
 use std::alloc::Global;
 
 const TASKS: usize = 3;
@@ -14,12 +14,20 @@ const TASKS: usize = 3;
 fn barrier(alloc: Global) -> Result<PhaserState, Refusal> {
     let mut ops = Ops::none();
     ops.push(Op::Sum);
-    let mut phaser = PhaserState::new(alloc, Limits::default(), ops)?;
+    let mut phaser = PhaserState::new(alloc, Limits::default(), ops, None)?;
     phaser.make(0, Mode::Single)?;
     for task in 1..TASKS {
         phaser.register(0, task as u32, Mode::Single)?;
     }
     Ok(phaser)
+}
+
+/// The task signals, and proposes the statement. Without a bound it never waits for that.
+fn signals(phaser: &mut PhaserState, task: u32, statement: u32) -> anyhow::Result<()> {
+    match phaser.signal(task, Some(statement))? {
+        Signalling::Signalled => Ok(()),
+        Signalling::NotYet => Err(Refusal::NotNow.into()),
+    }
 }
 
 /// The task asks to end its turn. Whether it ended it: if not, it asks again after another's call.
@@ -45,7 +53,7 @@ fn phase(
     let mut ended = [false; TASKS];
     for (task, change) in changes.iter().enumerate() {
         phaser.send(task as u32, 0, *change)?;
-        phaser.signal(task as u32, Some(statement))?;
+        signals(phaser, task as u32, statement)?;
         ended[task] = asks(rt, phaser, task as u32)?;
     }
     for (task, ended) in ended.iter_mut().enumerate() {

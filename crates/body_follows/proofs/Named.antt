@@ -27,7 +27,7 @@ of w t m a is k = subst (λ (u : ℕ). is_idle u w ≡ true) (same (record { tas
 -- it is idle
 actor_idle : (l : Limits) (w : List WorldEvent) (e : WorldEvent) (m : Made) → is_accepted l w e ≡ true
     → act_of e ≡ Some m → is_idle m.task w ≡ true
-actor_idle l w (Phaser n (Make t mode ops)) m k is = of w t m (New n mode ops) is (idle_in_act l w t (New n mode ops) k)
+actor_idle l w (Phaser n (Make t mode terms)) m k is = of w t m (New n mode terms) is (idle_in_act l w t (New n mode terms) k)
 actor_idle l w (Phaser n (Send t a v)) m k is = of w t m (Sending n a v) is (idle_in_act l w t (Sending n a v) k)
 actor_idle l w (Phaser n (Look t a)) m k is = of w t m (Looking n a) is (idle_in_act l w t (Looking n a) k)
 actor_idle l w (Phaser n (Reg q t mode)) m k is = absurd cc

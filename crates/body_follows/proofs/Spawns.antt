@@ -92,7 +92,7 @@ module _ {B : Type 0} (next : Answer → B → Does B) where
       same x y h = cc
   handed_does acts.OpenFinish body before k = absurd cc
   handed_does acts.ShutFinish body before k = absurd cc
-  handed_does (acts.New m ops) body before k = absurd cc
+  handed_does (acts.New m ops bound) body before k = absurd cc
   handed_does acts.Signal body before k = absurd cc
   handed_does acts.Wait body before k = absurd cc
   handed_does acts.Next body before k = absurd cc
@@ -108,7 +108,7 @@ module _ {B : Type 0} (next : Answer → B → Does B) where
   not_the_same c pairs own new (acts.AsyncAll b) k = absurd cc
   not_the_same c pairs own new acts.OpenFinish k = refl
   not_the_same c pairs own new acts.ShutFinish k = refl
-  not_the_same c pairs own new (acts.New m ops) k = refl
+  not_the_same c pairs own new (acts.New m ops bound) k = refl
   not_the_same c pairs own new acts.Signal k = refl
   not_the_same c pairs own new acts.Wait k = refl
   not_the_same c pairs own new acts.Next k = refl

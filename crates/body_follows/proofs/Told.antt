@@ -19,7 +19,7 @@ use Rattle.world_model.specs.declared.event.Tried.TheVariants.{Look as TriedLook
 use Rattle.world_model.specs.declared.event.WorldEvent.{WorldEvent}
 use Rattle.world_model.specs.Acts.{act_conditions, unless}
 use Rattle.world_model.specs.PartReplies.{returned}
-use Rattle.world_model.specs.Parts.{ops_of, phaser_past}
+use Rattle.world_model.specs.Parts.{ops_of, phaser_past, terms_of}
 use Rattle.world_model.specs.Replies.{reply}
 use Rattle.trace_model.specs.Explained.{event_of, is_answered, is_seen}
 use Rattle.trace_model.specs.declared.event.TracedEvent.{TracedEvent}
@@ -39,7 +39,7 @@ look_told : (l : Limits) (w : List WorldEvent) (n t a : ℕ) (x : Look)
     → told_by (Phaser n (Seen t a x)) ≡ heard w (event_of (Phaser n (Seen t a x)))
 look_told l w n t a x k =
     ap Saw (by (first_refusal (act_conditions l w t (TriedLook n a)))
-    (first_refusal (conditions l (ops_of n w) (phaser_past n w) (look t a)))
+    (first_refusal (conditions l (terms_of n w) (phaser_past n w) (look t a)))
     (has_room l (Looked t a seen ∷ phaser_past n w)) k)
   where
     seen : Look
@@ -54,7 +54,7 @@ look_told l w n t a x k =
 
 pub told_heard : (l : Limits) (w : List WorldEvent) (e : TracedEvent) → is_answered e (reply l w (event_of e)) ≡ true
     → told_by e ≡ heard w (event_of e)
-told_heard l w (Phaser n (Make t m ops)) k = refl
+told_heard l w (Phaser n (Make t m terms)) k = refl
 told_heard l w (Phaser n (Reg q t m)) k = refl
 told_heard l w (Phaser n (Sig t y)) k = refl
 told_heard l w (Phaser n (Claim t)) k = refl

@@ -32,7 +32,7 @@ Does B = Act B × B
 
 -- what its task hears of the event with which an act begins
 abbrev pub heard : List WorldEvent → WorldEvent → Answer
-heard w (Phaser n (Make t mode ops)) = Made n
+heard w (Phaser n (Make t mode terms)) = Made n
 heard w (Phaser n (Look t a)) =
     let h = phaser_past n w in Saw (look_of (ops_of n w) a (waits t h) h)
 heard w (Begin t (Async c pairs)) = Spawned c
@@ -75,7 +75,7 @@ goes_by next root (e ∷ w) = is_next next root w (act_of e) && goes_by next roo
 
 -- what an event of a trace tells the task of its act
 abbrev pub told_by : TracedEvent → Answer
-told_by (traced.Phaser n (steps.Make t mode ops)) = Made n
+told_by (traced.Phaser n (steps.Make t mode terms)) = Made n
 told_by (traced.Phaser n (steps.Look t a seen)) = Saw seen
 told_by (traced.Begin t (Async c pairs)) = Spawned c
 told_by _ = Done

@@ -68,7 +68,7 @@ fn register_all(state: &mut PhaserState, tasks: u32) -> Result<(), Refusal> {
 fn ready(alloc: Global, tasks: u32) -> Result<PhaserState, Refusal> {
     let mut ops = Ops::none();
     ops.push(Op::Sum);
-    let mut state = PhaserState::new(alloc, LIMITS, ops)?;
+    let mut state = PhaserState::new(alloc, LIMITS, ops, None)?;
     register_all(&mut state, tasks)?;
     Ok(state)
 }

@@ -56,7 +56,7 @@ pub fn answer<W: Write>(alloc: Global, input: &[u8], out: &mut W) -> Result<(), 
         return Err(Failure::Refused(Refusal::BadText(0)));
     }
     let file = read_events(alloc, input)?;
-    let mut state = PhaserState::new(alloc, file.limits, file.ops)?;
+    let mut state = PhaserState::new(alloc, file.limits, file.ops, file.bound)?;
     match write_replies(&mut state, &file.calls, out) {
         Ok(()) => Ok(()),
         Err(_) => Err(Failure::Write),

@@ -7,14 +7,15 @@ use Rattle.phase_modes.specs.declared.limits.Limits.{Limits}
 use Rattle.phase_model.specs.declared.op.Op.{Op}
 use Rattle.phase_model.specs.declared.call.Call.{Call}
 use Rattle.phase_model.specs.declared.call.Call.TheVariants.{Make as make, Register as register, Signal as signal, Pass as pass, SingleDone as single_done, Send as send, Look as look, Drop as drop_task}
-use Rattle.text_words.specs.Words.{◌>>=◌, ends_at, word_at, number_at, accumulator_at, value_at, mode_at, numbered_in, ops_in, has_only, limits_of}
+use Rattle.text_words.specs.Words.{◌>>=◌, ends_at, word_at, number_at, accumulator_at, value_at, mode_at, numbered_in, ops_in, bound_in, has_only, limits_of}
 
 -- ---- what a text says
 
--- the limits of a phaser, the operators of its accumulators, and the calls on it, in order
+-- the limits of a phaser, the operators of its accumulators, its bound, if it has one, and the calls on it, in order
 pub record Form : Type 0 where
   pub limits : Limits
   pub ops : List Op
+  pub bound : Option ℕ
   pub calls : List Call
 
 -- ---- calls
@@ -82,21 +83,28 @@ abbrev pub ops_or : Option Data → Option (List Op)
 ops_or None = Some []
 ops_or (Some d) = ops_in d
 
--- the limits, the operators and the list of the calls, where nothing is wrong outside the calls
-unfoldable pub outer_in : Data → Option (Limits × List Op × Items)
+-- the bound, or none where the key is absent
+abbrev pub bound_or : Option Data → Option (Option ℕ)
+bound_or None = Some None
+bound_or (Some d) = bound_in d >>= λ b. Some (Some b)
+
+-- the limits, the operators, the bound and the list of the calls, where nothing is wrong outside the calls
+unfoldable pub outer_in : Data → Option (Limits × List Op × Option ℕ × Items)
 outer_in d =
-    if not (has_only (codes "limits" ∷ codes "accs" ∷ codes "calls" ∷ []) d) then None
+    if not (has_only (codes "limits" ∷ codes "accs" ∷ codes "bound" ∷ codes "calls" ∷ []) d) then None
     else (limits_of d >>= λ limits.
     ops_or (get (codes "accs") d) >>= λ ops.
-    get (codes "calls") d >>= as_array >>= λ calls. Some (limits, ops, calls))
+    bound_or (get (codes "bound") d) >>= λ bound.
+    get (codes "calls") d >>= as_array >>= λ calls. Some (limits, ops, bound, calls))
 
-abbrev pub with_outer : Limits → List Op → Result (List Call) ℕ → Result Form ℕ
-with_outer limits ops (Ok calls) = Ok (record { limits = limits; ops = ops; calls = calls })
-with_outer limits ops (Err p) = Err p
+abbrev pub with_outer : Limits → List Op → Option ℕ → Result (List Call) ℕ → Result Form ℕ
+with_outer limits ops bound (Ok calls) =
+    Ok (record { limits = limits; ops = ops; bound = bound; calls = calls })
+with_outer limits ops bound (Err p) = Err p
 
-abbrev pub form_of_outer : Option (Limits × List Op × Items) → Result Form ℕ
+abbrev pub form_of_outer : Option (Limits × List Op × Option ℕ × Items) → Result Form ℕ
 form_of_outer None = Err 0
-form_of_outer (Some o) = with_outer o.0 o.1 (numbered_in call_in 1 o.2)
+form_of_outer (Some o) = with_outer o.0 o.1 o.2 (numbered_in call_in 1 o.3)
 
 -- the file that a JSON value spells, or the place of its first fault
 abbrev pub form : Data → Result Form ℕ

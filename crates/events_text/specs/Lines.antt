@@ -12,7 +12,7 @@ text_of rs = flat_map (λ r. line_text r ++ codes "\n") rs
 
 -- the phaser of a file, before its first call
 abbrev pub story_of : Form → Story
-story_of f = record { limits = f.limits; ops = f.ops; past = [] }
+story_of f = record { limits = f.limits; terms = record { ops = f.ops; bound = f.bound }; past = [] }
 
 -- all that is printed for a file: the replies to its calls
 abbrev pub text_for : Form → List ℕ

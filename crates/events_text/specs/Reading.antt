@@ -4,4 +4,4 @@ use Rattle.events_text.specs.Form.{Form}
 
 -- the file without where it lies in memory
 abbrev pub form_view : EventsFile → Form
-form_view f = record { limits = f.limits; ops = f.ops; calls = f.calls.items }
+form_view f = record { limits = f.limits; ops = f.ops; bound = f.bound; calls = f.calls.items }

@@ -7,7 +7,7 @@ ghost use Rattle.phase_modes.specs.Limits.{limits_fit};
 
 mod reading;
 
-use phase_model::{Call, Ops};
+use phase_model::{Bound, Call, Ops};
 use phase_modes::Limits;
 pub use reading::read_events;
 
@@ -18,6 +18,8 @@ pub struct EventsFile {
     pub limits: Limits,
     /// The operators of its accumulators.
     pub ops: Ops,
+    /// Its bound, if it has one.
+    pub bound: Option<Bound>,
     /// The calls, in order.
     pub calls: Vec<Call>,
     ghost fit: { limits_fit limits ≡ true },

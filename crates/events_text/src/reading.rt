@@ -1,4 +1,4 @@
-//! An events file, and how it is read: JSON to limits, operators and calls.
+//! An events file, and how it is read: JSON to limits, operators, a bound and calls.
 ghost use Rattle.std.specs.Prelude.{◌≡◌, option_map, IfSome, true};
 ghost use Rattle.serde_json.specs.View.{view, items_view};
 ghost use Rattle.phase_modes.specs.Limits.{limits_fit};
@@ -8,13 +8,13 @@ ghost use Rattle.events_text.specs.Form.{make_in, register_in, signal_in, pass_i
 ghost use Rattle.events_text.specs.Reading.{form_view};
 
 use crate::EventsFile;
-use phase_model::{Call, Ops};
+use phase_model::{Bound, Call, Ops};
 use phase_modes::{Limits, Refusal};
 use serde_json::Value;
 use std::alloc::Global;
 use text_words::{
-    accumulator_at, has_only_keys, json_of, limits_of, mode_at, number_at, ops_of, value_at,
-    word_at,
+    accumulator_at, bound_of, has_only_keys, json_of, limits_of, mode_at, number_at, ops_of,
+    value_at, word_at,
 };
 
 // ---- calls
@@ -158,17 +158,18 @@ fn calls_of(alloc: Global, items: &[Value]) -> Result<Vec<Call>, Refusal>
 struct Outer<'a> {
     limits: Limits,
     ops: Ops,
+    bound: Option<Bound>,
     calls: &'a Vec<Value>,
 }
 
 /// The outer object, where nothing is wrong outside the calls.
 #[tactic(auto, unfolding(crate::specs::Form::outer_in))]
 fn outer_of(file: &Value) -> Option<Outer<'_>>
-    ensures outer { option_map (λ o. (o.limits, o.ops, items_view o.calls.now.items)) result
+    ensures outer { option_map (λ o. (o.limits, o.ops, o.bound, items_view o.calls.now.items)) result
         ≡ outer_in (view file.now) }
     ensures fit { IfSome result (λ o. limits_fit o.limits ≡ true) }
 {
-    if !has_only_keys(file, &["limits", "accs", "calls"]) {
+    if !has_only_keys(file, &["limits", "accs", "bound", "calls"]) {
         return None;
     }
     let limits = limits_of(file)?;
@@ -176,8 +177,17 @@ fn outer_of(file: &Value) -> Option<Outer<'_>>
         None => Ops::none(),
         Some(value) => ops_of(value)?,
     };
+    let bound = match file.get("bound") {
+        None => None,
+        Some(value) => Some(bound_of(value)?),
+    };
     let calls = file.get("calls")?.as_array()?;
-    Some(Outer { limits, ops, calls })
+    Some(Outer {
+        limits,
+        ops,
+        bound,
+        calls,
+    })
 }
 
 /// The file that the value spells.
@@ -192,6 +202,7 @@ fn form_of_value(alloc: Global, value: &Value) -> Result<EventsFile, Refusal>
     Ok(EventsFile {
         limits: outer.limits,
         ops: outer.ops,
+        bound: outer.bound,
         calls,
     })
 }

@@ -162,7 +162,7 @@ abbrev root : ℕ → ℕ → ℕ → ℕ → PipelineBody
 root items stages m s = record { role = kinds.Root (record { stages = stages; items = items; made = m; spawned = s }) }
 
 root_makes : (heard : Answer) (items stages m s : ℕ) → m ≤ stages →
-    pipeline_next heard (root items stages m s) ≡ (New SigWait (Least ∷ []), root items stages (m + 1) s)
+    pipeline_next heard (root items stages m s) ≡ (New SigWait (Least ∷ []) None, root items stages (m + 1) s)
 root_makes heard items stages m s h = rw (le-leb m stages h) refl
 
 root_spawns : (heard : Answer) (items stages s : ℕ) → s ≤ stages + 1 →

@@ -1,5 +1,5 @@
 -- The tasks of a stencil go by it.
-use Rattle.std.proofs.Common.{ℕ, zero, suc, pos, ◌+◌, ◌-◌, ◌≡◌, ◌≤◌, ◌<◌, ◌∙◌, min, Bool, true, false, if◌then◌else◌, List, [], ◌∷◌, ◌++◌, length, map, flat_map, get_or, replicate, nat_lt, refl, sym, ap, subst, add-one, arith}
+use Rattle.std.proofs.Common.{ℕ, zero, suc, pos, ◌+◌, ◌-◌, ◌≡◌, ◌≤◌, ◌<◌, ◌∙◌, min, Bool, true, false, if◌then◌else◌, List, [], ◌∷◌, ◌++◌, length, map, flat_map, get_or, replicate, nat_lt, None, refl, sym, ap, subst, add-one, arith}
 use Rattle.std.proofs.Math.Nat.{min-eq_left}
 use Rattle.std.proofs.lemmas.Bool.{le-leb, lt-ltb, le-ltb, ltb-false}
 use Rattle.std.specs.List.{range_with_len}
@@ -143,7 +143,7 @@ abbrev padded : List ℕ → List ℕ
 padded first = first ++ replicate (16 - length first) 0
 
 root_makes : (heard : Answer) (cells : List ℕ) (n steps m s : ℕ) → m < n →
-    stencil_next heard (root cells n steps m s) ≡ (New SigWait (Sum ∷ []), root cells n steps (m + 1) s)
+    stencil_next heard (root cells n steps m s) ≡ (New SigWait (Sum ∷ []) None, root cells n steps (m + 1) s)
 root_makes heard cells n steps m s h = rw (lt-ltb m n h) refl
 
 root_spawns : (heard : Answer) (cells : List ℕ) (n steps s : ℕ) → s < n →

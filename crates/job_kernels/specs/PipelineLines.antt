@@ -94,7 +94,7 @@ TasksSendPipeline = (items stages : ℕ) (sent : ℕ → ℕ → Look) → items
 
 -- phaser p is made
 abbrev pub making : ℕ → Line PipelineBody
-making p = (acts.New SigWait (Least ∷ []), Made p)
+making p = (acts.New SigWait (Least ∷ []) None, Made p)
 
 -- the task of this place is spawned: the source, a stage or the sink
 abbrev pub spawning : ℕ → ℕ → ℕ → Line PipelineBody

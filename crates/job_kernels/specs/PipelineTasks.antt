@@ -95,7 +95,7 @@ spawn items stages (suc k) = if nat_lt k stages then spawn_stage items k else sp
 -- stages and the sink, and ends
 abbrev pub root_next : Root → Act PipelineBody × Root
 root_next r =
-    if nat_le r.made r.stages then (New SigWait (Least ∷ []), record r { made = r.made + 1 })
+    if nat_le r.made r.stages then (New SigWait (Least ∷ []) None, record r { made = r.made + 1 })
     else if nat_le r.spawned (r.stages + 1) then
     (spawn r.items r.stages r.spawned, record r { spawned = r.spawned + 1 })
     else (End, r)

@@ -1,5 +1,5 @@
 -- What the tasks of a stencil go by: the laws that tie them to the stencil.
-use Rattle.std.specs.Prelude.{ℕ, ℤ, suc, pos, ◌≡◌, ◌+◌, ◌≤◌, ◌<◌, List, [], ◌∷◌, ◌++◌, length, map, flat_map, slice_index}
+use Rattle.std.specs.Prelude.{ℕ, ℤ, suc, pos, ◌≡◌, ◌+◌, ◌≤◌, ◌<◌, List, [], ◌∷◌, ◌++◌, length, map, flat_map, slice_index, None}
 use Rattle.std.specs.List.{range_with_len}
 use Rattle.phase_modes.specs.declared.reg.Mode.TheVariants.{SigWait}
 use Rattle.phase_model.specs.declared.op.Look.TheVariants.{Value}
@@ -59,7 +59,7 @@ CellsSendStencil = (first : List ℕ) (steps : ℕ) (sent : ℕ → ℕ → ℤ)
 
 -- the phaser of cell j is made, and the task of cell i spawned
 abbrev pub making : ℕ → Line StencilBody
-making j = (New SigWait (Sum ∷ []), Made j)
+making j = (New SigWait (Sum ∷ []) None, Made j)
 
 abbrev pub spawning : List ℕ → ℕ → ℕ → Line StencilBody
 spawning first steps i =

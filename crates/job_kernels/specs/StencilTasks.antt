@@ -1,5 +1,5 @@
 -- The stencil as tasks: what each does next, and what it is after that.
-use Rattle.std.specs.Prelude.{ℕ, zero, suc, pos, ◌+◌, ◌-◌, min, nat_lt, if◌then◌else◌, List, [], ◌∷◌, ◌++◌, length, map, replicate, slice_index}
+use Rattle.std.specs.Prelude.{ℕ, zero, suc, pos, ◌+◌, ◌-◌, min, nat_lt, if◌then◌else◌, List, [], ◌∷◌, ◌++◌, length, map, replicate, slice_index, None}
 use Rattle.phase_modes.specs.declared.reg.Mode.TheVariants.{SigWait, Wait}
 use Rattle.phase_modes.specs.declared.phased.Pair.{Pair}
 use Rattle.phase_model.specs.declared.op.Op.TheVariants.{Sum}
@@ -95,7 +95,7 @@ phasers_of cells i = pair_on i SigWait ∷ map (λ j. pair_on j Wait) (neighbour
 -- the root makes a phaser for each cell, then spawns the task of each, and ends
 abbrev pub root_next : Root → Act StencilBody × Root
 root_next r =
-    if nat_lt r.made r.cells then (New SigWait (Sum ∷ []), record r { made = r.made + 1 })
+    if nat_lt r.made r.cells then (New SigWait (Sum ∷ []) None, record r { made = r.made + 1 })
     else if nat_lt r.spawned r.cells then (
       Async (cell_task r.first r.cells r.steps r.spawned) (phasers_of r.cells r.spawned),
       record r { spawned = r.spawned + 1 },

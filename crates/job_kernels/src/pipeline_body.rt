@@ -82,7 +82,7 @@ impl Root {
         let stages = u32::from(self.stages);
         if self.made <= stages {
             self.made += 1;
-            return Act::New(Mode::SigWait, operator(Op::Least));
+            return Act::New(Mode::SigWait, operator(Op::Least), None);
         }
         let place = self.spawned;
         if place > stages + 1 {

@@ -71,7 +71,7 @@ impl Root {
     {
         if self.made < self.cells {
             self.made += 1;
-            return Act::New(Mode::SigWait, operator(Op::Sum));
+            return Act::New(Mode::SigWait, operator(Op::Sum), None);
         }
         let place = self.spawned;
         if place < self.cells {

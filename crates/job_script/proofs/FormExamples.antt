@@ -1,6 +1,6 @@
 -- The worked examples of texts, computed.
 use Rattle.std.specs.Prelude.{refl}
-use Rattle.job_script.specs.TextExamples.{MillionActs, BothTooLong, OnlyInnerTooLong, WrongInLong, BodyTooLong, LongestBody, ChildTooLong, LongName, LongestName, NumberedNames, TooManyNames, SixtyFourNames, TooManyNamesWithin, UnknownKey, NoMain, NullLimits}
+use Rattle.job_script.specs.TextExamples.{MillionActs, BothTooLong, OnlyInnerTooLong, WrongInLong, BodyTooLong, LongestBody, ChildTooLong, LongName, LongestName, NumberedNames, TooManyNames, SixtyFourNames, TooManyNamesWithin, LeastBound, GreatestBound, WrongBounds, TwoBounds, UnknownKey, NoMain, NullLimits}
 use Rattle.job_script.proofs.OnTexts.{texts}
 
 pub million_acts : MillionActs
@@ -54,6 +54,22 @@ sixty_four_names = refl
 pub too_many_names_within : TooManyNamesWithin
 unfolding texts
 too_many_names_within = refl
+
+pub least_bound : LeastBound
+unfolding texts
+least_bound = refl
+
+pub greatest_bound : GreatestBound
+unfolding texts
+greatest_bound = refl
+
+pub wrong_bounds : WrongBounds
+unfolding texts
+wrong_bounds = (refl, refl, refl)
+
+pub two_bounds : TwoBounds
+unfolding texts
+two_bounds = refl
 
 pub unknown_key : UnknownKey
 unfolding texts

@@ -1,11 +1,11 @@
 -- What an act says by itself: its names aren't numbered yet, and the acts inside it aren't read.
-use Rattle.std.specs.Prelude.{ℕ, not, List, if◌then◌else◌, Option, Some, None, codes}
+use Rattle.std.specs.Prelude.{ℕ, ◌+◌, not, List, if◌then◌else◌, Option, Some, None, codes}
 use Rattle.std.specs.Str.{bytes_eq}
 use Rattle.serde_json.specs.Data.{Data, Items, no_items}
 use Rattle.serde_json.specs.Find.{at, as_array}
 use Rattle.phase_modes.specs.declared.reg.Mode.{Mode}
-use Rattle.phase_model.specs.declared.op.Op.{Op}
-use Rattle.text_words.specs.Words.{◌>>=◌, number_in, ends_at, word_at, number_at, accumulator_at, value_at, mode_at, ops_at, all_in, at_most}
+use Rattle.phase_model.specs.declared.terms.Terms.{Terms}
+use Rattle.text_words.specs.Words.{◌>>=◌, number_in, ends_at, word_at, number_at, accumulator_at, bound_at, value_at, mode_at, ops_at, all_in, at_most}
 use Rattle.job_script.specs.declared.head.Head.{Head}
 use Rattle.job_script.specs.declared.head.Head.TheVariants as heads
 use Rattle.job_script.specs.Names.{Seen, NameMode, name_at, number_of, numbered}
@@ -13,7 +13,7 @@ use Rattle.job_script.specs.Names.{Seen, NameMode, name_at, number_of, numbered}
 -- An act as it is written. `send` is a send or a look at the phaser of the name; the items are the acts inside.
 pub data Said : Type 0 where
   plain : Head → Said
-  new : List ℕ → Mode → List Op → Said
+  new : List ℕ → Mode → Terms → Said
   send : Head → List ℕ → Said
   async : List NameMode → Items → Said
   async_all : Items → Said
@@ -27,11 +27,18 @@ items_at i d = at i d >>= as_array
 unfoldable pub plain_in : Head → Data → Option Said
 plain_in h d = if ends_at 1 d then Some (plain h) else None
 
--- ["new", name, mode, [ops]]
+-- what follows so many items: nothing, or a bound alone
+abbrev pub bound_after : ℕ → Data → Option (Option ℕ)
+bound_after n d =
+    if ends_at n d then Some None
+    else (if ends_at (n + 1) d then (bound_at n d >>= λ b. Some (Some b))
+    else None)
+
+-- ["new", name, mode, [ops]] or ["new", name, mode, [ops], bound]
 unfoldable pub new_in : Data → Option Said
 new_in d =
-    if not (ends_at 4 d) then None
-    else (name_at 1 d >>= λ name. mode_at 2 d >>= λ m. ops_at 3 d >>= λ ops. Some (new name m ops))
+    bound_after 4 d >>= λ bound. name_at 1 d >>= λ name. mode_at 2 d >>= λ m.
+    ops_at 3 d >>= λ ops. Some (new name m (record { ops = ops; bound = bound }))
 
 -- ["single", n]
 unfoldable pub single_in : Data → Option Said
@@ -101,7 +108,7 @@ with_name n h = h
 -- what the act at place p is, and what is seen with its names
 abbrev pub head_of : Seen → ℕ → Said → Head × Seen
 head_of s p (plain h) = (h, s)
-head_of s p (new name m ops) = let one = number_of s p name in (heads.New one.0 m ops, one.1)
+head_of s p (new name m terms) = let one = number_of s p name in (heads.New one.0 m terms, one.1)
 head_of s p (send h name) = let one = number_of s p name in (with_name one.0 h, one.1)
 head_of s p (async xs body) = let all = numbered s p xs in (heads.Async all.0, all.1)
 head_of s p (async_all body) = (heads.AsyncAll, s)

@@ -1,8 +1,9 @@
 -- Worked examples of texts: the program that each spells, or the place of its first fault.
-use Rattle.std.specs.Prelude.{ℕ, zero, suc, ◌+◌, ◌%◌, ◌/◌, ◌≡◌, List, [], ◌∷◌, ◌++◌, Ok, Err, codes, replicate}
+use Rattle.std.specs.Prelude.{ℕ, zero, suc, ◌+◌, ◌%◌, ◌/◌, ◌≡◌, List, [], ◌∷◌, ◌++◌, Some, None, Ok, Err, codes, replicate}
 use Rattle.serde_json.specs.Data.{Data, Items, no_items, item, null, number, string, array, object, no_members, member, unsigned}
 use Rattle.phase_modes.specs.Limits.{default_limits}
 use Rattle.phase_modes.specs.declared.reg.Mode.TheVariants.{SigWait}
+use Rattle.phase_model.specs.declared.terms.Terms.{Terms}
 use Rattle.job_script.specs.declared.head.Head.TheVariants.{Next, New, Repeat}
 use Rattle.job_script.specs.Acts.{no_acts, act}
 use Rattle.job_script.specs.Form.{form}
@@ -35,6 +36,15 @@ repeated k inner = list (string (codes "repeat") ∷ number (unsigned k) ∷ lis
 -- ["new", name, "SIG_WAIT", []]
 abbrev pub new_named : List ℕ → Data
 new_named name = list (string (codes "new") ∷ string name ∷ string (codes "SIG_WAIT") ∷ list [] ∷ [])
+
+-- the same with a bound
+abbrev pub new_bounded : Data → Data
+new_bounded b =
+    list (string (codes "new") ∷ string (codes "p") ∷ string (codes "SIG_WAIT") ∷ list [] ∷ b ∷ [])
+
+-- no accumulators and no bound
+abbrev pub plain : Terms
+plain = record { ops = []; bound = None }
 
 -- ["async", [], [..]]
 abbrev pub spawn : List Data → Data
@@ -98,7 +108,7 @@ LongName = form (program (new_named (replicate 33 97) ∷ [])) ≡ Err 1
 abbrev pub LongestName : Type 0
 LongestName =
     form (program (new_named (replicate 32 97) ∷ []))
-    ≡ Ok (record { limits = default_limits; main = act (New 0 SigWait []) no_acts no_acts })
+    ≡ Ok (record { limits = default_limits; main = act (New 0 SigWait plain) no_acts no_acts })
 
 -- names are numbered in the order in which they first stand
 abbrev pub NumberedNames : Type 0
@@ -106,8 +116,8 @@ NumberedNames =
     form (program (new_named (codes "q") ∷ new_named (codes "p") ∷ new_named (codes "q") ∷ []))
     ≡ Ok (record {
       limits = default_limits;
-      main = act (New 0 SigWait []) no_acts
-          (act (New 1 SigWait []) no_acts (act (New 0 SigWait []) no_acts no_acts));
+      main = act (New 0 SigWait plain) no_acts
+          (act (New 1 SigWait plain) no_acts (act (New 0 SigWait plain) no_acts no_acts));
     })
 
 -- the act in which the sixty-fifth name first stands
@@ -121,6 +131,38 @@ SixtyFourNames = form (program (next_act ∷ names 64 ++ new_named (codes "00") 
 -- a list in which a name is one too many has a length, so the repeat round it is reported
 abbrev pub TooManyNamesWithin : Type 0
 TooManyNamesWithin = form (program (next_act ∷ repeated 1000 (names 65) ∷ [])) ≡ Err 2
+
+-- ---- bounds
+
+abbrev pub LeastBound : Type 0
+LeastBound =
+    form (program (new_bounded (number (unsigned 1)) ∷ []))
+    ≡ Ok (record {
+      limits = default_limits;
+      main = act (New 0 SigWait (record { ops = []; bound = Some 1 })) no_acts no_acts;
+    })
+
+abbrev pub GreatestBound : Type 0
+GreatestBound =
+    form (program (new_bounded (number (unsigned 65536)) ∷ []))
+    ≡ Ok (record {
+      limits = default_limits;
+      main = act (New 0 SigWait (record { ops = []; bound = Some 65536 })) no_acts no_acts;
+    })
+
+-- no bound is out of its range, or null
+abbrev pub WrongBounds : Type 0
+WrongBounds =
+    (form (program (next_act ∷ new_bounded (number (unsigned 0)) ∷ [])) ≡ Err 2)
+    × (form (program (next_act ∷ new_bounded (number (unsigned 65537)) ∷ [])) ≡ Err 2)
+    × (form (program (next_act ∷ new_bounded null ∷ [])) ≡ Err 2)
+
+-- nothing stands after the bound
+abbrev pub TwoBounds : Type 0
+TwoBounds =
+    form (program (list (string (codes "new") ∷ string (codes "p") ∷ string (codes "SIG_WAIT") ∷ list []
+    ∷ number (unsigned 1) ∷ number (unsigned 1) ∷ []) ∷ []))
+    ≡ Err 1
 
 -- ---- the outer object
 

@@ -1,5 +1,5 @@
 //! What a task is given to do, and what comes back to it of what it did.
-use phase_model::{Look, Ops};
+use phase_model::{Bound, Look, Ops};
 use phase_modes::{Mode, Phased};
 
 /// An act of a task. `B` is the body of a child. Phasers are named by their numbers, accumulators
@@ -15,8 +15,9 @@ pub enum Act<B: Drop> {
     OpenFinish,
     /// Shuts the innermost finish, once all tasks spawned in it have ended.
     ShutFinish,
-    /// Makes a phaser with these operators, on which the task is registered in this mode.
-    New(Mode, Ops),
+    /// Makes a phaser with these operators and this bound, if it is bounded, on which the task is
+    /// registered in this mode.
+    New(Mode, Ops, Option<Bound>),
     /// Signals on each phaser on which the task can signal.
     Signal,
     /// Ends the turn on each phaser, which the task has signalled before.

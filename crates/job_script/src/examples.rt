@@ -1,6 +1,6 @@
 //! Worked examples of texts: the program that each spells, or the place of its first fault. Each
 //! function does nothing: its contract says it, and the check computes it.
-ghost use Rattle.job_script.specs.TextExamples.{BodyTooLong, BothTooLong, ChildTooLong, LongName, LongestBody, LongestName, MillionActs, NoMain, NullLimits, NumberedNames, OnlyInnerTooLong, SixtyFourNames, TooManyNames, TooManyNamesWithin, UnknownKey, WrongInLong};
+ghost use Rattle.job_script.specs.TextExamples.{BodyTooLong, BothTooLong, ChildTooLong, GreatestBound, LeastBound, LongName, LongestBody, LongestName, MillionActs, NoMain, NullLimits, NumberedNames, OnlyInnerTooLong, SixtyFourNames, TooManyNames, TooManyNamesWithin, TwoBounds, UnknownKey, WrongBounds, WrongInLong};
 
 /// Lists that are too long, and lists that are not.
 pub fn worked_lengths()
@@ -21,6 +21,14 @@ pub fn worked_names()
     ensures too_many_names { TooManyNames }
     ensures sixty_four_names { SixtyFourNames }
     ensures too_many_names_within { TooManyNamesWithin }
+{}
+
+/// Bounds: how large they may be, and that nothing follows one.
+pub fn worked_bounds()
+    ensures least_bound { LeastBound }
+    ensures greatest_bound { GreatestBound }
+    ensures wrong_bounds { WrongBounds }
+    ensures two_bounds { TwoBounds }
 {}
 
 /// Outer objects that are not of the form.

@@ -1,7 +1,7 @@
 //! What an act of a program is, the acts inside it aside.
 ghost use Rattle.std.specs.Prelude.{◌≡◌, ◌<◌, ◌≤◌, ◌++◌, ◌∷◌, length, []};
 
-use phase_model::Ops;
+use phase_model::Terms;
 use phase_modes::Mode;
 use std::marker::Model;
 
@@ -76,7 +76,7 @@ impl NamedList {
 #[derive(Drop)]
 pub(crate) enum Head {
     /// Makes a phaser, which has the name from then on.
-    New(u8, Mode, Ops),
+    New(u8, Mode, Terms),
     /// Spawns a child; its body stands beside the head.
     Async(NamedList),
     /// The same, on all phasers of the task.

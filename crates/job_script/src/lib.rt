@@ -14,7 +14,7 @@ mod seen;
 mod stored;
 
 pub use act::{Act, Answer};
-pub use examples::{worked_lengths, worked_names, worked_outer_objects};
+pub use examples::{worked_bounds, worked_lengths, worked_names, worked_outer_objects};
 pub use program::Program;
 pub use reading::read_program;
 pub use script_body::ScriptBody;

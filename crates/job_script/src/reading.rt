@@ -96,9 +96,9 @@ fn head_of<'v>(
 {
     Ok(match said {
         Said::Plain(head) => (head, None),
-        Said::New(name, mode, ops) => {
+        Said::New(name, mode, terms) => {
             let number = seen.number_of(alloc, place, name)?;
-            (Head::New(number, mode, ops), None)
+            (Head::New(number, mode, terms), None)
         }
         Said::At(head, name) => {
             let number = seen.number_of(alloc, place, name)?;

@@ -6,15 +6,17 @@ ghost use Rattle.serde_json.specs.View.{view, items_view};
 ghost use Rattle.text_words.specs.Words.{all_in, at_most};
 ghost use Rattle.phase_modes.specs.declared.refusal.Refusal.TheVariants.{Memory as NoMemory};
 ghost use Rattle.job_script.specs.Names.{is_name_byte, is_name, name_in, name_at};
-ghost use Rattle.job_script.specs.ActForms.{items_at, plain_in, new_in, single_in, send_in, look_in, pair_in, async_in, async_all_in, repeat_in, said_in};
+ghost use Rattle.job_script.specs.ActForms.{items_at, bound_after, plain_in, new_in, single_in, send_in, look_in, pair_in, async_in, async_all_in, repeat_in, said_in};
 ghost use Rattle.job_script.specs.inner.SaidViews.{said_view, pair_view, HasFew};
 
 use crate::head::Head;
-use phase_model::Ops;
+use phase_model::{Bound, Terms};
 use phase_modes::{Mode, Refusal};
 use serde_json::Value;
 use std::alloc::Global;
-use text_words::{accumulator_at, mode_at, number_at, number_of, ops_at, value_at, word_at};
+use text_words::{
+    accumulator_at, bound_at, mode_at, number_at, number_of, ops_at, value_at, word_at,
+};
 
 /// A phaser's name as it is written, and the mode in which a child is to be registered on it.
 #[derive(Clone, Copy)]
@@ -27,7 +29,7 @@ pub(crate) struct NameMode<'v> {
 #[derive(Drop)]
 pub(crate) enum Said<'v> {
     Plain(Head),
-    New(&'v str, Mode, Ops),
+    New(&'v str, Mode, Terms),
     /// A `send` or a `look`, for the phaser of the name.
     At(Head, &'v str),
     Async(Vec<NameMode<'v>>, &'v Vec<Value>),
@@ -86,18 +88,30 @@ fn plain_of<'v>(head: Head, list: &'v Value) -> Option<Said<'v>>
     Some(Said::Plain(head))
 }
 
+/// What follows the operators of a `new`: nothing, or a bound alone.
+fn bound_after_operators(list: &Value) -> Option<Option<Bound>>
+    ensures { result ≡ bound_after 4 (view list.now) }
+{
+    if list.get(4).is_none() {
+        return Some(None);
+    }
+    if list.get(5).is_some() {
+        return None;
+    }
+    let bound = bound_at(list, 4)?;
+    Some(Some(bound))
+}
+
 #[tactic(auto, unfolding(crate::specs::ActForms::new_in))]
 fn new_of(list: &Value) -> Option<Said<'_>>
     ensures said { option_map said_view result ≡ new_in (view list.now) }
     ensures few { IfSome result HasFew }
 {
-    if list.get(4).is_some() {
-        return None;
-    }
+    let bound = bound_after_operators(list)?;
     let name = name_at(list, 1)?;
     let mode = mode_at(list, 2)?;
     let ops = ops_at(list, 3)?;
-    Some(Said::New(name, mode, ops))
+    Some(Said::New(name, mode, Terms { ops, bound }))
 }
 
 #[tactic(auto, unfolding(crate::specs::ActForms::single_in))]

@@ -99,7 +99,7 @@ fn act_for<'p>(meanings: &[u32; 64], item: &'p Item) -> Act<ScriptBody<'p>>
     ensures { result ≡ act_for meanings.now item.now.head item.now.body }
 {
     match &item.head {
-        Head::New(_, mode, ops) => Act::New(*mode, *ops),
+        Head::New(_, mode, terms) => Act::New(*mode, terms.ops, terms.bound),
         Head::Async(list) => {
             let pairs = pairs_of(meanings, list);
             Act::Async(ScriptBody::begun(&item.body, *meanings), pairs)

@@ -1,5 +1,5 @@
 -- That tasks go by a body, act by act: each act is the one that its body gives, and not only the same.
-use Rattle.std.proofs.Common.{ℕ, ℤ, ◌≡◌, Bool, true, false, ◌&&◌, ◌==◌, List, [], ◌∷◌, Option, Some, None, refl, ap, ◌∙◌}
+use Rattle.std.proofs.Common.{ℕ, ◌≡◌, true, ◌&&◌, ◌==◌, List, [], ◌∷◌, Option, Some, None, refl, ap, ◌∙◌}
 use Rattle.std.specs.Ordering.{int_eq}
 use Rattle.std.proofs.lemmas.Bool.{and_parts, eqb-true, false≢true}
 use Rattle.std.proofs.lemmas.Bool.Decides.{Decides-int_eq}
@@ -7,9 +7,9 @@ use Rattle.phase_modes.specs.declared.limits.Limits.{Limits}
 use Rattle.phase_modes.specs.declared.phased.Pair.{Pair}
 use Rattle.phase_modes.specs.declared.reg.Mode.{Mode}
 use Rattle.phase_modes.specs.declared.reg.Mode.TheVariants as modes
-use Rattle.phase_modes.specs.Mode.{is_within}
 use Rattle.phase_model.specs.declared.op.Op.{Op}
 use Rattle.phase_model.specs.declared.op.Op.TheVariants.{Sum, Least, Greatest}
+use Rattle.phase_model.specs.declared.terms.Terms.{Terms}
 use Rattle.job_script.specs.declared.act.Act.{Act}
 use Rattle.job_script.specs.declared.act.Answer.{Answer}
 use Rattle.world_model.specs.declared.event.Begun.{Begun}
@@ -17,12 +17,11 @@ use Rattle.world_model.specs.declared.event.Begun.TheVariants.{Async, Signal, Wa
 use Rattle.world_model.specs.declared.event.Tried.{Tried}
 use Rattle.world_model.specs.declared.event.Tried.TheVariants.{Begun as Beginning, New, Open, Send as Sending, Look as Looking}
 use Rattle.world_model.specs.declared.event.WorldEvent.{WorldEvent}
-use Rattle.world_model.specs.Continuing.{same_mode}
+use Rattle.world_model.specs.Continuing.{same_mode, same_number}
 use Rattle.world_model.specs.Drawing.{own_pairs}
 use Rattle.world_model.specs.Replies.{is_legal_world}
 use Rattle.world_model.specs.Report.{refused_by}
-use Rattle.world_model.specs.Tasks.{is_ended}
-use Rattle.schedule_model.specs.Follows.{drawn, same_act, same_begun, same_op, same_ops, same_pairs}
+use Rattle.schedule_model.specs.Follows.{drawn, same_act, same_begun, same_op, same_ops, same_pairs, same_terms}
 use Rattle.schedule_model.specs.Scripts.{Made as MadeAct, Numbers, act_of}
 use Rattle.schedule_run.specs.Given.{tried_of}
 use Rattle.body_follows.specs.Going.{Does, does, goes_by, is_next}
@@ -71,6 +70,18 @@ ops_are (x ∷ xs) (y ∷ ys) k =
 ops_are [] (y ∷ ys) k = absurd (false≢true k)
 ops_are (x ∷ xs) [] k = absurd (false≢true k)
 
+number_is : (x y : Option ℕ) → same_number x y ≡ true → x ≡ y
+number_is None None k = refl
+number_is (Some n) (Some m) k = ap (λ i. Some i) (eqb-true n m k)
+number_is None (Some m) k = absurd (false≢true k)
+number_is (Some n) None k = absurd (false≢true k)
+
+terms_are : (x y : Terms) → same_terms x y ≡ true → x ≡ y
+terms_are x y k =
+    let parts = and_parts (same_ops x.ops y.ops) (same_number x.bound y.bound) k in
+    ap (λ os. record { ops = os; bound = x.bound }) (ops_are x.ops y.ops parts.0)
+    ∙ ap (λ b. record { ops = y.ops; bound = b }) (number_is x.bound y.bound parts.1)
+
 pair_is : (x y : Pair) → x.phaser ≡ y.phaser → x.mode ≡ y.mode → x ≡ y
 pair_is x y p m = ap (λ n. record { phaser = n; mode = x.mode }) p ∙ ap (λ o. record { phaser = y.phaser; mode = o }) m
 
@@ -98,11 +109,11 @@ begun_is b c k = absurd cc
 
 pub act_is : (a b : Tried) → same_act a b ≡ true → a ≡ b
 act_is (Beginning b) (Beginning c) k = ap Beginning (begun_is b c k)
-act_is (New n m ops) (New i o qs) k =
-    let parts = and_parts (n == i && same_mode m o) (same_ops ops qs) k in
+act_is (New n m terms) (New i o others) k =
+    let parts = and_parts (n == i && same_mode m o) (same_terms terms others) k in
     let first = and_parts (n == i) (same_mode m o) parts.0 in
-    ap (λ x. New x m ops) (eqb-true n i first.0)
-    ∙ (ap (λ x. New i x ops) (mode_is m o first.1) ∙ ap (λ x. New i o x) (ops_are ops qs parts.1))
+    ap (λ x. New x m terms) (eqb-true n i first.0)
+    ∙ (ap (λ x. New i x terms) (mode_is m o first.1) ∙ ap (λ x. New i o x) (terms_are terms others parts.1))
 act_is (Open f) (Open g) k = ap Open (eqb-true f g k)
 act_is (Sending n a v) (Sending m b u) k =
     let parts = and_parts (n == m && a == b) (int_eq v u) k in

@@ -12,7 +12,7 @@ use Rattle.world_model.specs.declared.event.Step.TheVariants.{Send, Look}
 use Rattle.world_model.specs.declared.event.Tried.TheVariants.{Send as Sending, Look as Looking}
 use Rattle.world_model.specs.declared.event.WorldEvent.{WorldEvent}
 use Rattle.world_model.specs.declared.event.WorldEvent.TheVariants.{Phaser}
-use Rattle.world_model.specs.Parts.{ops_of, phaser_past}
+use Rattle.world_model.specs.Parts.{terms_of, phaser_past}
 use Rattle.world_model.specs.Due.{due, is_idle}
 use Rattle.world_model.specs.ClockLaws.{is_pass_on}
 use Rattle.world_model.specs.Replies.{is_accepted}
@@ -34,17 +34,17 @@ pub look_asked : (l : Limits) (w : List WorldEvent) (n t a : ℕ) → is_accepte
     → LookAsked n t w
 look_asked l w n t a ok =
     let h = phaser_past n w in
-    let ops = ops_of n w in
-    let x = look_of ops a (waits t h) h in
+    let terms = terms_of n w in
+    let x = look_of terms.ops a (waits t h) h in
     let f =
-    (and_parts (is_permitted l ops h (Looked t a x)) (has_room l (Looked t a x ∷ h))
+    (and_parts (is_permitted l terms h (Looked t a x)) (has_room l (Looked t a x ∷ h))
     (step_allowed l w n (Look t a) ok)).0 in
     let b =
-    and_parts (is_live t h && has_mode can_wait t h && nat_lt a (length ops) && nat_lt 0 (waits t h))
+    and_parts (is_live t h && has_mode can_wait t h && nat_lt a (length terms.ops) && nat_lt 0 (waits t h))
     (same_look x x) f in
     let c =
-    and_parts (is_live t h && has_mode can_wait t h && nat_lt a (length ops)) (nat_lt 0 (waits t h)) b.0 in
-    let d = and_parts (is_live t h && has_mode can_wait t h) (nat_lt a (length ops)) c.0 in
+    and_parts (is_live t h && has_mode can_wait t h && nat_lt a (length terms.ops)) (nat_lt 0 (waits t h)) b.0 in
+    let d = and_parts (is_live t h && has_mode can_wait t h) (nat_lt a (length terms.ops)) c.0 in
     let e = and_parts (is_live t h) (has_mode can_wait t h) d.0 in
     record { live = e.0; waiter = e.1; turned = ltb-true 0 (waits t h) c.1 }
 
@@ -57,11 +57,11 @@ pub send_asked : (l : Limits) (w : List WorldEvent) (n t a : ℕ) (v : ℤ)
     → is_accepted l w (Phaser n (Send t a v)) ≡ true → SendAsked n t w
 send_asked l w n t a v ok =
     let h = phaser_past n w in
-    let ops = ops_of n w in
+    let terms = terms_of n w in
     let f =
-    (and_parts (is_permitted l ops h (Sent t a v)) (has_room l (Sent t a v ∷ h))
+    (and_parts (is_permitted l terms h (Sent t a v)) (has_room l (Sent t a v ∷ h))
     (step_allowed l w n (Send t a v) ok)).0 in
-    let c = and_parts (is_live t h && has_mode can_signal t h) (nat_lt a (length ops)) f in
+    let c = and_parts (is_live t h && has_mode can_signal t h) (nat_lt a (length terms.ops)) f in
     let d = and_parts (is_live t h) (has_mode can_signal t h) c.0 in
     record { live = d.0; signaller = d.1 }
 

@@ -222,12 +222,12 @@ module _ (l : Limits) (w : List WorldEvent) (k : IsPlain l w) (n c : ℕ) where
 
   by_event : (e : WorldEvent) → is_accepted l w e ≡ true → is_plain e ≡ true → (c == 0) ≡ false
       → is_named c w ≡ true → Joined n c w → Joined n c (e ∷ w)
-  by_event (Phaser m (Make u o ops)) a p z d j =
+  by_event (Phaser m (Make u o terms)) a p z d j =
       let root : u ≡ 0 = eqb-true u 0 p in
       let other : (u == c) ≡ false =
       false_from_ne_true (u == c) (λ s. true≢false
       (sym (eq-eqb c 0 (sym (eqb-true u c s) ∙ root)) ∙ z)) in
-      same_by m (Make u o ops) other (rw other refl) a refl j
+      same_by m (Make u o terms) other (rw other refl) a refl j
   by_event (Phaser m (Reg q u o)) a p z d j = by_reg m q u o a j
   by_event (Phaser m (Sig u x)) a p z d j = same_by m (Sig u x) refl refl a refl j
   by_event (Phaser m (Claim u)) a p z d j = same_by m (Claim u) refl refl a refl j

@@ -13,6 +13,7 @@ use Rattle.phase_modes.specs.Mode.{can_signal}
 use Rattle.phase_model.specs.declared.history.Event.{Event}
 use Rattle.phase_model.specs.declared.history.Event.TheVariants.{Make as Made, Reg as Registered, Sig as Signalled, Claim as Claimed, Did as Done, Pass as Passed, Send as Sent, Look as Looked, Drop as Dropped}
 use Rattle.phase_model.specs.declared.op.Op.{Op}
+use Rattle.phase_model.specs.declared.terms.Terms.{Terms}
 use Rattle.phase_model.specs.Tasks.{is_registered, has_mode, mode_of}
 use Rattle.phase_model.specs.Rules.{is_allowed}
 use Rattle.world_model.specs.declared.event.Step.{Step}
@@ -21,7 +22,7 @@ use Rattle.world_model.specs.declared.event.Tried.{Tried}
 use Rattle.world_model.specs.declared.event.Tried.TheVariants.{New}
 use Rattle.world_model.specs.declared.event.WorldEvent.{WorldEvent}
 use Rattle.world_model.specs.declared.event.WorldEvent.TheVariants.{Phaser}
-use Rattle.world_model.specs.Parts.{ops_of, phaser_past}
+use Rattle.world_model.specs.Parts.{ops_of, phaser_past, terms_of}
 use Rattle.world_model.specs.Numbers.{is_phaser}
 use Rattle.world_model.specs.Tasks.{acts, phasers_of, spawns}
 use Rattle.world_model.specs.Acts.{is_counted, is_number_used, most_phasers_held}
@@ -37,7 +38,7 @@ use Rattle.kernel_laws.proofs.Plain.{IsPlain, last_of_plain}
 -- each phaser was made by the root for its values to be combined so, and for whoever makes it to signal on it
 abbrev pub AllMade : Op → List WorldEvent → Type 0
 AllMade op [] = Unit {0}
-AllMade op (Phaser n (Make t m ops) ∷ w) = (m ≡ SigWait) × (ops ≡ op ∷ []) × AllMade op w
+AllMade op (Phaser n (Make t m terms) ∷ w) = (m ≡ SigWait) × (terms.ops ≡ op ∷ []) × AllMade op w
 AllMade op (_ ∷ w) = AllMade op w
 
 pub record IsMade (op : Op) (j : ℕ) (w : List WorldEvent) : Type 0 where
@@ -50,18 +51,18 @@ is_make (Made t m) = true
 is_make _ = false
 
 -- only the making comes first
-pub some_before : (l : Limits) (ops : List Op) (h : List Event) (e : Event) → is_allowed l ops h e ≡ true
+pub some_before : (l : Limits) (terms : Terms) (h : List Event) (e : Event) → is_allowed l terms h e ≡ true
     → is_make e ≡ false → is_empty h ≡ false
-some_before l ops (x ∷ h) e k n = refl
-some_before l ops [] (Made t m) k n = absurd (true≢false n)
-some_before l ops [] (Registered q t m) k n = absurd (false≢true k)
-some_before l ops [] (Signalled t x) k n = absurd (false≢true k)
-some_before l ops [] (Claimed t) k n = absurd (false≢true k)
-some_before l ops [] (Done t) k n = absurd (false≢true k)
-some_before l ops [] (Passed t) k n = absurd (false≢true k)
-some_before l ops [] (Sent t a v) k n = absurd (false≢true k)
-some_before l ops [] (Looked t a x) k n = absurd (false≢true k)
-some_before l ops [] (Dropped t) k n = absurd (false≢true k)
+some_before l terms (x ∷ h) e k n = refl
+some_before l terms [] (Made t m) k n = absurd (true≢false n)
+some_before l terms [] (Registered q t m) k n = absurd (false≢true k)
+some_before l terms [] (Signalled t x) k n = absurd (false≢true k)
+some_before l terms [] (Claimed t) k n = absurd (false≢true k)
+some_before l terms [] (Done t) k n = absurd (false≢true k)
+some_before l terms [] (Passed t) k n = absurd (false≢true k)
+some_before l terms [] (Sent t a v) k n = absurd (false≢true k)
+some_before l terms [] (Looked t a x) k n = absurd (false≢true k)
+some_before l terms [] (Dropped t) k n = absurd (false≢true k)
 
 module _ (l : Limits) (op : Op) (j : ℕ) where
   -- a step by which a phaser that was made stays what it is
@@ -88,7 +89,7 @@ module _ (l : Limits) (op : Op) (j : ℕ) where
             let past : phaser_past j (Phaser m s ∷ w) ≡ event_of j w s ∷ phaser_past j w = rw o refl in
             let there : is_empty (phaser_past j w) ≡ false =
             subst (λ v. is_empty (phaser_past v w) ≡ false) same
-            (some_before l (ops_of m w) (phaser_past m w) (event_of m w s) (step_allowed l w m s ok)
+            (some_before l (terms_of m w) (phaser_past m w) (event_of m w s) (step_allowed l w m s ok)
             no_make) in
             let p = before there in
             record {
@@ -99,23 +100,23 @@ module _ (l : Limits) (op : Op) (j : ℕ) where
             }
       ]
 
-  made_first : (w : List WorldEvent) (m u : ℕ) (o : Mode) (ops : List Op) → (u == 0) ≡ true → o ≡ SigWait
-      → ops ≡ op ∷ [] → (is_empty (phaser_past j w) ≡ false → IsMade op j w)
-      → is_empty (phaser_past j (Phaser m (Make u o ops) ∷ w)) ≡ false
-      → IsMade op j (Phaser m (Make u o ops) ∷ w)
-  made_first w m u o ops z e f before some =
+  made_first : (w : List WorldEvent) (m u : ℕ) (o : Mode) (terms : Terms) → (u == 0) ≡ true → o ≡ SigWait
+      → terms.ops ≡ op ∷ [] → (is_empty (phaser_past j w) ≡ false → IsMade op j w)
+      → is_empty (phaser_past j (Phaser m (Make u o terms) ∷ w)) ≡ false
+      → IsMade op j (Phaser m (Make u o terms) ∷ w)
+  made_first w m u o terms z e f before some =
       elim (cases_Bool (m == j)) [
         | inr i ↦
-            let past : phaser_past j (Phaser m (Make u o ops) ∷ w) ≡ phaser_past j w = rw i refl in
+            let past : phaser_past j (Phaser m (Make u o terms) ∷ w) ≡ phaser_past j w = rw i refl in
             let p = before (subst (λ h. is_empty h ≡ false) past some) in
             record {
-              ops = rw i p.ops;
+              ops = rw (i, ops_of) p.ops;
               there = subst (λ h. is_registered 0 h ≡ true) (sym past) p.there;
               mode = subst (λ h. has_mode can_signal 0 h ≡ true) (sym past) p.mode;
             }
         | inl i ↦
             record {
-              ops = rw i f;
+              ops = rw (i, ops_of) f;
               there = rw (i, z) refl;
               mode = rw (i, z) (ap can_signal e);
             }
@@ -124,9 +125,9 @@ module _ (l : Limits) (op : Op) (j : ℕ) where
   pub made : (w : List WorldEvent) → IsPlain l w → AllMade op w → is_empty (phaser_past j w) ≡ false
       → IsMade op j w
   made [] k a some = absurd (true≢false some)
-  made (Phaser m (Make u o ops) ∷ w) k a some =
-      let f = last_of_plain l (Phaser m (Make u o ops)) w k in
-      made_first w m u o ops f.plain a.0 a.1 (λ s. made w f.before a.2 s) some
+  made (Phaser m (Make u o terms) ∷ w) k a some =
+      let f = last_of_plain l (Phaser m (Make u o terms)) w k in
+      made_first w m u o terms f.plain a.0 a.1 (λ s. made w f.before a.2 s) some
   made (Phaser m (Reg q u o) ∷ w) k a some =
       let f = last_of_plain l (Phaser m (Reg q u o)) w k in
       let other : (u == 0) ≡ false =
@@ -165,12 +166,12 @@ pub phaser_fits : (l : Limits) (j : ℕ) (w : List WorldEvent) → is_legal_worl
     → is_phaser j w ≡ true
     → j < l.phasers
 phaser_fits l j [] k h = absurd (false≢true h)
-phaser_fits l j (Phaser m (Make u o ops) ∷ w) k h =
-    let e = Phaser m (Make u o ops) in
+phaser_fits l j (Phaser m (Make u o terms) ∷ w) k h =
+    let e = Phaser m (Make u o terms) in
     let a = last_accepted l e w k in
     elim (cases_Bool (m == j)) [
       | inl i ↦
-          let t : Tried = New m o ops in
+          let t : Tried = New m o terms in
           let used : Refusal × Bool = (NotNow, not (is_number_used w t)) in
           let counted : Refusal × Bool = (ActsFull, not (is_counted t) || nat_lt (acts u w) l.acts) in
           let held : Refusal × Bool = (PhasersFull, nat_lt (length (phasers_of u w)) most_phasers_held) in
@@ -189,7 +190,7 @@ phaser_fits l j (Phaser m s ∷ w) k h =
       | inl i ↦
           phaser_fits l j w a.1 (ap (λ b. not b)
           (subst (λ v. is_empty (phaser_past v w) ≡ false) (eqb-true m j i)
-          (some_before l (ops_of m w) (phaser_past m w) (event_of m w s) (step_allowed l w m s a.0) refl)))
+          (some_before l (terms_of m w) (phaser_past m w) (event_of m w s) (step_allowed l w m s a.0) refl)))
       | inr i ↦ phaser_fits l j w a.1 (rw i at h)
     ]
 phaser_fits l j (e ∷ w) k h = phaser_fits l j w (last_accepted l e w k).1 h

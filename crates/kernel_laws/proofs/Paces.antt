@@ -10,7 +10,7 @@ use Rattle.phase_modes.specs.declared.limits.Limits.{Limits}
 use Rattle.phase_modes.specs.Mode.{can_signal}
 use Rattle.phase_model.specs.declared.history.Event.{Event}
 use Rattle.phase_model.specs.declared.history.Event.TheVariants.{Make as Made, Reg as Registered, Sig as Signalled, Claim as Claimed, Did as Done, Pass as Passed, Send as Sent, Drop as Dropped}
-use Rattle.phase_model.specs.declared.op.Op.{Op}
+use Rattle.phase_model.specs.declared.terms.Terms.{Terms}
 use Rattle.phase_model.specs.Tasks.{is_live, has_mode, mode_of, is_registered}
 use Rattle.phase_model.specs.Phases.{waits, signals}
 use Rattle.phase_model.specs.Rules.{is_permitted, has_room}
@@ -22,7 +22,7 @@ use Rattle.world_model.specs.declared.event.Begun.TheVariants.{Async, Next, End}
 use Rattle.world_model.specs.declared.event.Tried.TheVariants.{Begun as Beginning, New}
 use Rattle.world_model.specs.declared.event.WorldEvent.{WorldEvent}
 use Rattle.world_model.specs.declared.event.WorldEvent.TheVariants.{Phaser, Finish, Begin, Refuse, Fail}
-use Rattle.world_model.specs.Parts.{ops_of, phaser_past, event_for}
+use Rattle.world_model.specs.Parts.{terms_of, phaser_past, event_for}
 use Rattle.world_model.specs.Tasks.{is_born, phasers_of, spawns}
 use Rattle.world_model.specs.Actors.{actor}
 use Rattle.world_model.specs.Due.{due, fixed_by, is_entry, is_behind}
@@ -130,7 +130,7 @@ none_on : (n : ℕ) (ds : List WorldEvent) → list_any is_any_move ds ≡ false
 none_on n [] k = (refl, refl)
 none_on n (Phaser m (Sig u x) ∷ ds) k = absurd (true≢false k)
 none_on n (Phaser m (Pass u) ∷ ds) k = absurd (true≢false k)
-none_on n (Phaser m (Make u o ops) ∷ ds) k = none_on n ds k
+none_on n (Phaser m (Make u o terms) ∷ ds) k = none_on n ds k
 none_on n (Phaser m (Reg q u o) ∷ ds) k = none_on n ds k
 none_on n (Phaser m (Claim u) ∷ ds) k = none_on n ds k
 none_on n (Phaser m (Did u) ∷ ds) k = none_on n ds k
@@ -206,16 +206,16 @@ module _ (l : Limits) (w : List WorldEvent) (k : IsPlain l w) (all : PacedWhereL
   nothing_left e p a o none gone = count_kept l w e t p a o none ∙ ap (λ ds. how_many p ds) gone
 
   -- t makes phaser n, as the root
-  makes_own : (m u : ℕ) (mode : Mode) (ops : List Op) → is_accepted l w (Phaser m (Make u mode ops)) ≡ true
-      → is_plain (Phaser m (Make u mode ops)) ≡ true → (u == t) ≡ true → (m == n) ≡ true
-      → Paced t n (Phaser m (Make u mode ops) ∷ w)
-  makes_own m u mode ops a p e o =
-      let d = Phaser m (Make u mode ops) in
+  makes_own : (m u : ℕ) (mode : Mode) (terms : Terms) → is_accepted l w (Phaser m (Make u mode terms)) ≡ true
+      → is_plain (Phaser m (Make u mode terms)) ≡ true → (u == t) ≡ true → (m == n) ≡ true
+      → Paced t n (Phaser m (Make u mode terms) ∷ w)
+  makes_own m u mode terms a p e o =
+      let d = Phaser m (Make u mode terms) in
       let same : u ≡ t = eqb-true u t e in
       let root : t ≡ 0 = sym same ∙ eqb-true u 0 p in
       let gone : due t w ≡ [] =
       subst (λ v. due v w ≡ []) same
-      (empty_is (due u w) (nothing_due u w (idle_in_act l w u (New m mode ops) a)).0) in
+      (empty_is (due u w) (nothing_due u w (idle_in_act l w u (New m mode terms) a)).0) in
       let past : phaser_past n (d ∷ w) ≡ Made u mode ∷ phaser_past n w = rw o refl in
       subst (λ g. PacedAt t g (how_many (is_pass_on n) (due t (d ∷ w)))
       (how_many (is_sig_on n) (due t (d ∷ w)))
@@ -245,8 +245,8 @@ module _ (l : Limits) (w : List WorldEvent) (k : IsPlain l w) (all : PacedWhereL
       let still_root : turns q w ≡ 0 = subst (λ v. turns v w ≡ 0) (sym root) (root_turns w k.plain) in
       let f : RegFollows l h q u mode =
       subst (λ v. RegFollows l (phaser_past v w) q u mode) here
-      (reg_follows l (ops_of m w) (phaser_past m w) q u mode
-      (and_parts (is_permitted l (ops_of m w) (phaser_past m w) (Registered q u mode))
+      (reg_follows l (terms_of m w) (phaser_past m w) q u mode
+      (and_parts (is_permitted l (terms_of m w) (phaser_past m w) (Registered q u mode))
       (has_room l (Registered q u mode ∷ phaser_past m w)) (step_allowed l w m (Reg q u mode) a)).0) in
       let parent : Paced q n w = all q n f.parent_live in
       let past : phaser_past n (d ∷ w) ≡ Registered q u mode ∷ h = rw o refl in
@@ -398,7 +398,7 @@ module _ (l : Limits) (w : List WorldEvent) (k : IsPlain l w) (all : PacedWhereL
       (record { registered = refl; live = refl; mode = refl; waited = refl; signalled = refl })) v
   by_event (Phaser m (Look u c)) a p v =
       still (Phaser m (Look u c)) a refl refl refl refl
-      (alike_either (m == n) (event_for (ops_of n w) (phaser_past n w) (Look u c))
+      (alike_either (m == n) (event_for (terms_of n w) (phaser_past n w) (Look u c))
       (record { registered = refl; live = refl; mode = refl; waited = refl; signalled = refl })) v
   by_event (Phaser m (Claim u)) a p v =
       still (Phaser m (Claim u)) a refl refl refl refl
@@ -426,13 +426,13 @@ module _ (l : Limits) (w : List WorldEvent) (k : IsPlain l w) (all : PacedWhereL
           nothing : (b : Bool) → (b && false) ≡ false
           nothing true = refl
           nothing false = refl
-  by_event (Phaser m (Make u mode ops)) a p v =
-      let d = Phaser m (Make u mode ops) in
+  by_event (Phaser m (Make u mode terms)) a p v =
+      let d = Phaser m (Make u mode terms) in
       elim (cases_Bool (u == t)) [
         | inr o ↦ foreign d o refl o v
         | inl e ↦ elim (cases_Bool (m == n)) [
-          | inr o ↦ other_phaser m (Make u mode ops) a refl o v
-          | inl o ↦ makes_own m u mode ops a p e o
+          | inr o ↦ other_phaser m (Make u mode terms) a refl o v
+          | inl o ↦ makes_own m u mode terms a p e o
         ]
       ]
   by_event (Phaser m (Reg q u mode)) a p v =

@@ -1,5 +1,5 @@
 -- Each act of a pipeline's task: which it is, where the pipeline stands after it, and so in each history.
-use Rattle.std.proofs.Common.{ℕ, ℤ, suc, ◌+◌, ◌≡◌, ◌≤◌, ◌∙◌, ◌⊎◌, Bool, true, false, ◌==◌, cond, List, [], ◌∷◌, Some, refl, sym, ap, subst, inl, inr}
+use Rattle.std.proofs.Common.{ℕ, ℤ, suc, ◌+◌, ◌≡◌, ◌≤◌, ◌∙◌, ◌⊎◌, Bool, true, false, ◌==◌, cond, List, [], ◌∷◌, Some, None, refl, sym, ap, subst, inl, inr}
 use Rattle.std.proofs.lemmas.Bool.{cases_Bool, eqb-true, true≢false, false_from_ne_true}
 use Rattle.phase_modes.specs.declared.limits.Limits.{Limits}
 use Rattle.phase_modes.specs.declared.reg.Mode.TheVariants.{SigWait}
@@ -12,6 +12,7 @@ use Rattle.job_script.specs.declared.act.Act.{Act as TaskAct}
 use Rattle.job_script.specs.declared.act.Act.TheVariants as acts
 use Rattle.job_script.specs.declared.act.Answer.{Answer}
 use Rattle.job_script.specs.declared.act.Answer.TheVariants.{Done, Saw}
+use Rattle.world_model.specs.ExampleWords.{unbounded}
 use Rattle.world_model.specs.declared.event.Step.{Step}
 use Rattle.world_model.specs.declared.event.Step.TheVariants.{Make, Reg, Sig, Claim, Did, Pass, Send, Look, Drop}
 use Rattle.world_model.specs.declared.event.Begun.TheVariants.{Async, Next, End}
@@ -51,7 +52,7 @@ module _ (l : Limits) (stages items : ℕ) (w : List WorldEvent) (st : Standing 
     (k : is_legal_world l w ≡ true) where
   -- what an act of task t is, and what is left after it
   pub data Act (t : ℕ) (a : Tried) : Type 0 where
-    makes : (n : ℕ) → t ≡ 0 → a ≡ New n SigWait (Least ∷ [])
+    makes : (n : ℕ) → t ≡ 0 → a ≡ New n SigWait (unbounded (Least ∷ []))
         → ((x : Answer) → RootAt stages items (spawned w) (pipeline_next x
         (pipeline_does stages items w 0).1))
         → Act t a
@@ -93,7 +94,7 @@ module _ (l : Limits) (stages items : ℕ) (w : List WorldEvent) (st : Standing 
   root_act : (a : Tried) → a ≡ tried_as w 0 (drawn a) (pipeline_does stages items w 0).0
       → RootStep stages items (spawned w) (pipeline_does stages items w 0) → Act 0 a
   root_act a is (RootStep.makes e root) =
-      Act.makes (drawn a).phaser refl (by_next 0 a (acts.New SigWait (Least ∷ [])) is e) root
+      Act.makes (drawn a).phaser refl (by_next 0 a (acts.New SigWait (Least ∷ []) None) is e) root
   root_act a is (RootStep.spawns le e root) =
       Act.spawns (drawn a).task refl
       (by_next 0 a (acts.Async (task_of stages items (spawned w)) (pairs_of stages (spawned w))) is e) le e
@@ -205,8 +206,8 @@ module _ (l : Limits) (stages items : ℕ) (few_items : items ≤ 100) (few_stag
   pub stand : (e : WorldEvent) (w : List WorldEvent) → Standing stages items w → Smooth (e ∷ w)
       → LooksSaw (e ∷ w)
       → is_accepted l w e ≡ true → is_legal_world l w ≡ true → Standing stages items (e ∷ w)
-  stand (Phaser n (Make t m ops)) w st s v a k =
-      acted w st k t (New n m ops) a (idle_in_act l w t (New n m ops) a) s.goes.0 tt
+  stand (Phaser n (Make t m terms)) w st s v a k =
+      acted w st k t (New n m terms) a (idle_in_act l w t (New n m terms) a) s.goes.0 tt
   stand (Phaser n (Send t x u)) w st s v a k =
       acted w st k t (Sending n x u) a (idle_in_act l w t (Sending n x u) a) s.goes.0 tt
   stand (Phaser n (Look t x)) w st s v a k =

@@ -6,7 +6,7 @@ use Rattle.phase_modes.specs.declared.limits.Limits.{Limits}
 use Rattle.phase_modes.specs.declared.reg.Mode.TheVariants.{SigWait}
 use Rattle.phase_modes.specs.declared.reg.Mode.{Mode}
 use Rattle.phase_model.specs.declared.op.Look.TheVariants.{Value}
-use Rattle.phase_model.specs.declared.op.Op.{Op}
+use Rattle.phase_model.specs.declared.terms.Terms.{Terms}
 use Rattle.phase_model.specs.declared.op.Op.TheVariants.{Least}
 use Rattle.phase_model.specs.Phases.{waits, signals}
 use Rattle.phase_model.specs.Values.{sent}
@@ -14,6 +14,7 @@ use Rattle.phase_model.specs.declared.history.Event.TheVariants.{Send as Sent}
 use Rattle.job_script.specs.declared.act.Act.TheVariants as acts
 use Rattle.job_script.specs.declared.act.Answer.{Answer}
 use Rattle.job_script.specs.declared.act.Answer.TheVariants.{Started, Done, Saw}
+use Rattle.world_model.specs.ExampleWords.{unbounded}
 use Rattle.world_model.specs.declared.event.Step.TheVariants.{Make, Send, Look}
 use Rattle.world_model.specs.declared.event.Begun.TheVariants.{Async, Next, End}
 use Rattle.world_model.specs.declared.event.WorldEvent.{WorldEvent}
@@ -261,11 +262,11 @@ module _ (l : Limits) (stages items : ℕ) (w : List WorldEvent) (st : Standing 
 
   -- ---- the root's acts
 
-  nothing_sent : (m i p : ℕ) (mode : Mode) (ops : List Op)
-      → sent 0 p (phaser_past i (Phaser m (Make 0 mode ops) ∷ w)) ≡ sent 0 p (phaser_past i w)
-  nothing_sent m i p mode ops = either (m == i)
+  nothing_sent : (m i p : ℕ) (mode : Mode) (terms : Terms)
+      → sent 0 p (phaser_past i (Phaser m (Make 0 mode terms) ∷ w)) ≡ sent 0 p (phaser_past i w)
+  nothing_sent m i p mode terms = either (m == i)
     where
-      either : (b : Bool) → sent 0 p (cond b (event_of i w (Make 0 mode ops) ∷ phaser_past i w)
+      either : (b : Bool) → sent 0 p (cond b (event_of i w (Make 0 mode terms) ∷ phaser_past i w)
           (phaser_past i w))
           ≡ sent 0 p (phaser_past i w)
       either true = refl
@@ -273,11 +274,11 @@ module _ (l : Limits) (stages items : ℕ) (w : List WorldEvent) (st : Standing 
 
   pub stand_makes : (n : ℕ) → ((x : Answer) → RootAt stages items (spawned w)
       (pipeline_next x (pipeline_does stages items w 0).1))
-      → Standing stages items (Phaser n (Make 0 SigWait (Least ∷ [])) ∷ w)
+      → Standing stages items (Phaser n (Make 0 SigWait (unbounded (Least ∷ []))) ∷ w)
   stand_makes n root =
-      let e = Phaser n (Make 0 SigWait (Least ∷ [])) in
+      let e = Phaser n (Make 0 SigWait (unbounded (Least ∷ []))) in
       by_root e 0 refl refl (λ c. refl) (λ c. refl) refl (λ i. refl) st.pairs (refl, refl, st.made) refl
-      (root (heard w e)) st.over (λ i p. nothing_sent n i p SigWait (Least ∷ []))
+      (root (heard w e)) st.over (λ i p. nothing_sent n i p SigWait (unbounded (Least ∷ [])))
 
   pub stand_ends : spawned w ≡ stages + 2 → ((x : Answer) → RootAt stages items (spawned w)
       (pipeline_next x (pipeline_does stages items w 0).1)) → Standing stages items (Begin 0 End ∷ w)

@@ -1,5 +1,5 @@
 -- What the root of a pipeline does next, by how many phasers it has made and how many children it has named.
-use Rattle.std.proofs.Common.{ℕ, zero, suc, ◌+◌, ◌≡◌, ◌≤◌, ◌<◌, ◌∙◌, ◌⊎◌, inl, inr, Bool, true, false, cond, List, [], ◌∷◌, nat_le, nat_lt, refl, ap, arith}
+use Rattle.std.proofs.Common.{ℕ, zero, suc, ◌+◌, ◌≡◌, ◌≤◌, ◌<◌, ◌∙◌, ◌⊎◌, inl, inr, Bool, true, false, cond, List, [], ◌∷◌, None, nat_le, nat_lt, refl, ap, arith}
 use Rattle.std.proofs.lemmas.Bool.{cases_Bool, leb-true, leb-false}
 use Rattle.phase_modes.specs.declared.phased.Pair.{Pair}
 use Rattle.phase_modes.specs.declared.reg.Mode.TheVariants.{Sig, SigWait, Wait}
@@ -46,7 +46,7 @@ pub record RootAt (stages items s : ℕ) (d : Does PipelineBody) : Type 0 where
   pub order : (made ≡ stages + 1) ⊎ (s ≡ 0)
 
 pub data RootStep (stages items s : ℕ) (d : Does PipelineBody) : Type 0 where
-  makes : d.0 ≡ New SigWait (Least ∷ [])
+  makes : d.0 ≡ New SigWait (Least ∷ []) None
       → ((x : Answer) → RootAt stages items s (pipeline_next x d.1)) → RootStep stages items s d
   spawns : s ≤ stages + 1 → d.0 ≡ Async (task_of stages items s) (pairs_of stages s)
       → ((x : Answer) → RootAt stages items (s + 1) (pipeline_next x d.1)) → RootStep stages items s d
@@ -56,7 +56,7 @@ pub data RootStep (stages items s : ℕ) (d : Does PipelineBody) : Type 0 where
 module _ (stages items : ℕ) where
   makes_next : (x : Answer) (m s : ℕ) → nat_le m stages ≡ true
       → pipeline_next x (root_body stages items m s) ≡ (
-        New SigWait (Least ∷ []),
+        New SigWait (Least ∷ []) None,
         root_body stages items
             (m + 1) s,
       )

@@ -77,7 +77,7 @@ module _ (l : Limits) (stages items : ℕ) (few_items : items ≤ 100) (few_stag
   saw_step : (e : WorldEvent) (w : List WorldEvent) → Holds stages items w → Goes (e ∷ w)
       → is_accepted l w e ≡ true → is_legal_world l w ≡ true → LooksSaw (e ∷ w)
   saw_step (Phaser n (Look t a)) w h s ok k = (look_sees l stages items w h.stands k n t a ok s.goes.0, h.saw)
-  saw_step (Phaser n (Make t m ops)) w h s ok k = h.saw
+  saw_step (Phaser n (Make t m terms)) w h s ok k = h.saw
   saw_step (Phaser n (Reg q t m)) w h s ok k = h.saw
   saw_step (Phaser n (Sig t x)) w h s ok k = h.saw
   saw_step (Phaser n (Claim t)) w h s ok k = h.saw

@@ -36,7 +36,7 @@ is_plain (Begin u End) = true
 is_plain (Begin u b) = false
 is_plain (Refuse u a x) = false
 is_plain (Fail u x) = false
-is_plain (Phaser n (Make u m ops)) = u == 0
+is_plain (Phaser n (Make u m terms)) = u == 0
 is_plain e = true
 
 pub record IsPlain (l : Limits) (w : List WorldEvent) : Type 0 where

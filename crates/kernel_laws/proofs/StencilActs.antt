@@ -1,5 +1,5 @@
 -- Each act of a stencil's task: which it is, where the stencil stands after it, and so in each history.
-use Rattle.std.proofs.Common.{ℕ, ◌+◌, ◌≡◌, ◌<◌, ◌∙◌, true, false, ◌==◌, List, [], ◌∷◌, length, Some, refl, sym, ap, subst, inl, inr}
+use Rattle.std.proofs.Common.{ℕ, ◌+◌, ◌≡◌, ◌<◌, ◌∙◌, true, false, ◌==◌, List, [], ◌∷◌, length, Some, None, refl, sym, ap, subst, inl, inr}
 use Rattle.std.proofs.lemmas.Bool.{cases_Bool, eqb-true, true≢false, false_from_ne_true}
 use Rattle.phase_modes.specs.declared.limits.Limits.{Limits}
 use Rattle.phase_modes.specs.declared.reg.Mode.TheVariants.{SigWait}
@@ -12,6 +12,7 @@ use Rattle.job_script.specs.declared.act.Act.{Act as TaskAct}
 use Rattle.job_script.specs.declared.act.Act.TheVariants as acts
 use Rattle.job_script.specs.declared.act.Answer.{Answer}
 use Rattle.job_script.specs.declared.act.Answer.TheVariants.{Done, Saw}
+use Rattle.world_model.specs.ExampleWords.{unbounded}
 use Rattle.world_model.specs.declared.event.Step.TheVariants.{Make, Reg, Sig, Claim, Did, Pass, Send, Look, Drop}
 use Rattle.world_model.specs.declared.event.Begun.TheVariants.{Async, Next, End}
 use Rattle.world_model.specs.declared.event.Tried.{Tried}
@@ -48,7 +49,7 @@ SeesOf first w t _ = Unit {0}
 
 -- what an act of task t is, and what is left after it
 pub data Act (first : List ℕ) (steps : ℕ) (w : List WorldEvent) (t : ℕ) (a : Tried) : Type 0 where
-  makes : (n : ℕ) → t ≡ 0 → a ≡ New n SigWait (Sum ∷ [])
+  makes : (n : ℕ) → t ≡ 0 → a ≡ New n SigWait (unbounded (Sum ∷ []))
       → ((x : Answer) → RootAt first steps (spawned w) (stencil_next x (stencil_does first steps w 0).1))
       → Act first steps w t a
   spawns : (c : ℕ) → t ≡ 0 → a ≡ Beginning (Async c (phasers_of (length first) (spawned w)))
@@ -86,7 +87,7 @@ module _ (l : Limits) (first : List ℕ) (steps : ℕ) (w : List WorldEvent) (st
   root_act : (a : Tried) → a ≡ tried_as w 0 (drawn a) (stencil_does first steps w 0).0
       → RootStep first steps (spawned w) (stencil_does first steps w 0) → Act first steps w 0 a
   root_act a is (RootStep.makes e root) =
-      Act.makes (drawn a).phaser refl (by_next 0 a (acts.New SigWait (Sum ∷ [])) is e) root
+      Act.makes (drawn a).phaser refl (by_next 0 a (acts.New SigWait (Sum ∷ []) None) is e) root
   root_act a is (RootStep.spawns lt e root) =
       Act.spawns (drawn a).task refl
       (by_next 0 a (acts.Async (cell_task (padded first) (length first) steps (spawned w))
@@ -188,8 +189,8 @@ module _ (l : Limits) (first : List ℕ) (steps : ℕ) (small : AtMost greatest 
   pub stand : (e : WorldEvent) (w : List WorldEvent) → Standing first steps w → Smooth (e ∷ w)
       → LooksSaw first (e ∷ w)
       → is_accepted l w e ≡ true → is_legal_world l w ≡ true → Standing first steps (e ∷ w)
-  stand (Phaser n (Make t m ops)) w st s v a k =
-      acted w st k t (New n m ops) a (idle_in_act l w t (New n m ops) a) s.goes.0 tt
+  stand (Phaser n (Make t m terms)) w st s v a k =
+      acted w st k t (New n m terms) a (idle_in_act l w t (New n m terms) a) s.goes.0 tt
   stand (Phaser n (Send t x u)) w st s v a k =
       acted w st k t (Sending n x u) a (idle_in_act l w t (Sending n x u) a) s.goes.0 tt
   stand (Phaser n (Look t x)) w st s v a k =

@@ -10,6 +10,7 @@ use Rattle.phase_model.specs.Phases.{waits}
 use Rattle.job_script.specs.declared.act.Act.TheVariants as acts
 use Rattle.job_script.specs.declared.act.Answer.{Answer}
 use Rattle.job_script.specs.declared.act.Answer.TheVariants.{Started, Done, Saw}
+use Rattle.world_model.specs.ExampleWords.{unbounded}
 use Rattle.world_model.specs.declared.event.Step.TheVariants.{Make, Send, Look}
 use Rattle.world_model.specs.declared.event.Begun.TheVariants.{Async, Next, End}
 use Rattle.world_model.specs.declared.event.WorldEvent.{WorldEvent}
@@ -166,9 +167,9 @@ module _ (l : Limits) (first : List ℕ) (steps : ℕ) (w : List WorldEvent) (st
 
   pub stand_makes : (n : ℕ) → ((x : Answer) → RootAt first steps (spawned w)
       (stencil_next x (stencil_does first steps w 0).1))
-      → Standing first steps (Phaser n (Make 0 SigWait (Sum ∷ [])) ∷ w)
+      → Standing first steps (Phaser n (Make 0 SigWait (unbounded (Sum ∷ []))) ∷ w)
   stand_makes n root =
-      let e = Phaser n (Make 0 SigWait (Sum ∷ [])) in
+      let e = Phaser n (Make 0 SigWait (unbounded (Sum ∷ []))) in
       by_root e 0 refl refl (λ c. refl) (λ c. refl) refl (λ i. refl) st.pairs (refl, refl, st.sums) refl
       (root (heard w e)) st.over
 

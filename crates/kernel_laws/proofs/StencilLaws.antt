@@ -64,7 +64,7 @@ module _ (l : Limits) (first : List ℕ) (steps : ℕ) (small : AtMost greatest 
       → is_accepted l w e ≡ true → is_legal_world l w ≡ true → LooksSaw first (e ∷ w)
   saw_step (Phaser n (Look t a)) w h s ok k =
       (look_sees l first steps w h.stands k h.values n t a ok s.goes.0, h.saw)
-  saw_step (Phaser n (Make t m ops)) w h s ok k = h.saw
+  saw_step (Phaser n (Make t m terms)) w h s ok k = h.saw
   saw_step (Phaser n (Reg q t m)) w h s ok k = h.saw
   saw_step (Phaser n (Sig t x)) w h s ok k = h.saw
   saw_step (Phaser n (Claim t)) w h s ok k = h.saw

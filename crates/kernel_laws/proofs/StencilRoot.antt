@@ -1,5 +1,5 @@
 -- What the root of a stencil does next, by how many phasers it has made and how many children it has named.
-use Rattle.std.proofs.Common.{ℕ, ◌+◌, ◌-◌, ◌≡◌, ◌≤◌, ◌<◌, ◌∙◌, ◌⊎◌, inl, inr, true, false, List, [], ◌∷◌, ◌++◌, length, replicate, min, nat_lt, refl, ap, arith}
+use Rattle.std.proofs.Common.{ℕ, ◌+◌, ◌-◌, ◌≡◌, ◌≤◌, ◌<◌, ◌∙◌, ◌⊎◌, inl, inr, true, false, List, [], ◌∷◌, ◌++◌, length, None, replicate, min, nat_lt, refl, ap, arith}
 use Rattle.std.proofs.lemmas.Bool.{cases_Bool, ltb-true, ltb-false}
 use Rattle.std.proofs.lemmas.List.{get_or_append_left}
 use Rattle.phase_modes.specs.declared.reg.Mode.TheVariants.{SigWait}
@@ -38,7 +38,7 @@ pub record RootAt (first : List ℕ) (steps s : ℕ) (d : Does StencilBody) : Ty
   pub order : (made ≡ length first) ⊎ (s ≡ 0)
 
 pub data RootStep (first : List ℕ) (steps s : ℕ) (d : Does StencilBody) : Type 0 where
-  makes : d.0 ≡ New SigWait (Sum ∷ [])
+  makes : d.0 ≡ New SigWait (Sum ∷ []) None
       → ((x : Answer) → RootAt first steps s (stencil_next x d.1)) → RootStep first steps s d
   spawns : s < length first
       → d.0 ≡ Async (cell_task (padded first) (length first) steps s) (phasers_of (length first) s)
@@ -48,7 +48,7 @@ pub data RootStep (first : List ℕ) (steps s : ℕ) (d : Does StencilBody) : Ty
 
 module _ (first : List ℕ) (steps : ℕ) where
   makes_next : (x : Answer) (m s : ℕ) → nat_lt m (length first) ≡ true
-      → stencil_next x (root_body first steps m s) ≡ (New SigWait (Sum ∷ []), root_body first steps (m + 1) s)
+      → stencil_next x (root_body first steps m s) ≡ (New SigWait (Sum ∷ []) None, root_body first steps (m + 1) s)
   makes_next x m s h = rw h refl
 
   spawns_next : (x : Answer) (m s : ℕ) → nat_lt m (length first) ≡ false → nat_lt s (length first) ≡ true

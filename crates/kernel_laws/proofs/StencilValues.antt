@@ -211,9 +211,9 @@ module _ (l : Limits) (first : List ℕ) (steps : ℕ) (w : List WorldEvent) (st
   pub values_step : (e : WorldEvent) → is_accepted l w e ≡ true
       → ((n t a : ℕ) (v : ℤ) → e ≡ Phaser n (Send t a v) → SendIs first n t a v w) → ValuesStand first (e ∷ w)
   values_step (Phaser n (Send t a v)) ok is = sends_cell n t a v ok (is n t a v refl)
-  values_step (Phaser n (Make u m ops)) ok is =
-      sends_nothing n (Make u m ops) (λ i p. refl)
-      (λ i. made_kept (child_at i w) (Phaser n (Make u m ops)) (λ c. refl))
+  values_step (Phaser n (Make u m terms)) ok is =
+      sends_nothing n (Make u m terms) (λ i p. refl)
+      (λ i. made_kept (child_at i w) (Phaser n (Make u m terms)) (λ c. refl))
   values_step (Phaser n (Reg q u m)) ok is =
       sends_nothing n (Reg q u m) (λ i p. refl)
       (λ i. made_kept (child_at i w) (Phaser n (Reg q u m)) (λ c. refl))

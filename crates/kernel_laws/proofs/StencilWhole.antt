@@ -21,7 +21,7 @@ use Rattle.world_model.specs.declared.event.Begun.{Begun}
 use Rattle.world_model.specs.declared.event.Begun.TheVariants.{Async, Next, End}
 use Rattle.world_model.specs.declared.event.WorldEvent.{WorldEvent}
 use Rattle.world_model.specs.declared.event.WorldEvent.TheVariants.{Phaser, Finish, Begin, Refuse, Fail}
-use Rattle.world_model.specs.Parts.{ops_of, phaser_past}
+use Rattle.world_model.specs.Parts.{ops_of, phaser_past, terms_of}
 use Rattle.world_model.specs.Numbers.{is_phaser}
 use Rattle.world_model.specs.Scopes.{inner}
 use Rattle.world_model.specs.Due.{due, is_entry}
@@ -157,9 +157,9 @@ module _ (l : Limits) (n : ℕ) (w : List WorldEvent) (k : IsPlain l w) where
   near_step : (e : WorldEvent) → is_accepted l w e ≡ true → is_plain e ≡ true
       → SpawnsBy (phasers_of n) (e ∷ w)
       → spawned (e ∷ w) ≤ n → Near n w → Near n (e ∷ w)
-  near_step (Phaser m (Make u o ops)) a p s le q =
-      near_kept (Phaser m (Make u o ops)) a refl refl
-      (λ v j z r. same_by (Make u o ops) j m v (m == j) r
+  near_step (Phaser m (Make u o terms)) a p s le q =
+      near_kept (Phaser m (Make u o terms)) a refl refl
+      (λ v j z r. same_by (Make u o terms) j m v (m == j) r
       (false_from_ne_true (u == v) (λ y. true≢false
       (sym (eq-eqb v 0 (sym (eqb-true u v y) ∙ eqb-true u 0 p)) ∙ z)))) q
   near_step (Phaser m (Reg x u o)) a p s le q = near_reg m x u o a q
@@ -264,8 +264,8 @@ module _ (l : Limits) (first : List ℕ) (steps : ℕ) (small : AtMost greatest 
         | inl o ↦
             let live : is_live u (phaser_past j w) ≡ true =
             subst (λ v. is_live u (phaser_past v w) ≡ true) (eqb-true m j o)
-            (sig_follows l (ops_of m w) (phaser_past m w) u x
-            (and_parts (is_permitted l (ops_of m w) (phaser_past m w) (Signalled u x))
+            (sig_follows l (terms_of m w) (phaser_past m w) u x
+            (and_parts (is_permitted l (terms_of m w) (phaser_past m w) (Signalled u x))
             (has_room l (Signalled u x ∷ phaser_past m w)) (step_allowed l w m (Sig u x) a.0)).0).live in
             absurd (no_move w before j u e (due u (e ∷ w)) far live
             (due_next l w e u (part_made l w e a.0).0 refl refl refl) refl)
@@ -279,8 +279,8 @@ module _ (l : Limits) (first : List ℕ) (steps : ℕ) (small : AtMost greatest 
         | inl o ↦
             let live : is_live u (phaser_past j w) ≡ true =
             subst (λ v. is_live u (phaser_past v w) ≡ true) (eqb-true m j o)
-            (pass_follows l (ops_of m w) (phaser_past m w) u
-            (and_parts (is_permitted l (ops_of m w) (phaser_past m w) (Passed u))
+            (pass_follows l (terms_of m w) (phaser_past m w) u
+            (and_parts (is_permitted l (terms_of m w) (phaser_past m w) (Passed u))
             (has_room l (Passed u ∷ phaser_past m w)) (step_allowed l w m (Pass u) a.0)).0).live in
             absurd (no_move w before j u e (due u (e ∷ w)) far live
             (due_next l w e u (part_made l w e a.0).0 refl refl refl) refl)

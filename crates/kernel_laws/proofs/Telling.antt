@@ -28,7 +28,7 @@ use Rattle.kernel_laws.proofs.Paces.{unborn_before}
 -- the event that is this act
 abbrev pub event_by : ℕ → Tried → WorldEvent
 event_by t (Beginning b) = Begin t b
-event_by t (New n m ops) = Phaser n (Make t m ops)
+event_by t (New n m terms) = Phaser n (Make t m terms)
 event_by t (Open f) = Finish f (Opened t)
 event_by t (Sending n a v) = Phaser n (Send t a v)
 event_by t (Looking n a) = Phaser n (Look t a)
@@ -92,7 +92,7 @@ begun_turns c u b w o = refl
 
 pub same : {B : Type 0} (next : Answer → B → Does B) (root : B) (c : ℕ) (e : WorldEvent) (w : List WorldEvent)
     → is_refusal e ≡ false → is_of c (act_of e) ≡ false → parent_by c e ≡ None → IsSame next root c e w
-same next root c (Phaser n (Make u m ops)) w r o p =
+same next root c (Phaser n (Make u m terms)) w r o p =
     record { does_same = rw o refl; turned = refl; sent = refl; last = refl }
 same next root c (Phaser n (Send u a v)) w r o p =
     record { does_same = rw o refl; turned = refl; sent = rw o refl; last = refl }

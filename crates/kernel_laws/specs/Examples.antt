@@ -4,6 +4,7 @@ use Rattle.phase_modes.specs.declared.reg.Mode.TheVariants.{Sig as OnlySig, Wait
 use Rattle.phase_modes.specs.Limits.{default_limits}
 use Rattle.phase_model.specs.declared.op.Op.TheVariants.{Sum, Least}
 use Rattle.finish_core.specs.declared.event.FinishEvent.TheVariants.{Spawned, Ended, Shut as Shutting}
+use Rattle.world_model.specs.ExampleWords.{unbounded}
 use Rattle.world_model.specs.declared.event.Step.TheVariants.{Make, Reg, Sig, Pass, Send, Look, Drop}
 use Rattle.world_model.specs.declared.event.Begun.TheVariants.{Async, Next, End}
 use Rattle.world_model.specs.declared.event.WorldEvent.{WorldEvent}
@@ -16,8 +17,8 @@ use Rattle.kernel_laws.specs.Going.{IsWhole}
 -- a step of two cells, 4 and 8, which come to 4 and 5
 abbrev pub step_of_two : List WorldEvent
 step_of_two = reverse (
-    Phaser 0 (Make 0 SigWait (Sum ∷ []))
-    ∷ Phaser 1 (Make 0 SigWait (Sum ∷ []))
+    Phaser 0 (Make 0 SigWait (unbounded (Sum ∷ [])))
+    ∷ Phaser 1 (Make 0 SigWait (unbounded (Sum ∷ [])))
     ∷ Begin 0 (Async 1 (pair_on 0 SigWait ∷ pair_on 1 Wait ∷ []))
     ∷ Phaser 0 (Reg 0 1 SigWait)
     ∷ Phaser 1 (Reg 0 1 Wait)
@@ -61,8 +62,8 @@ StepOfTwoIsWhole =
 -- an item behind one stage, which comes to 2
 abbrev pub one_item : List WorldEvent
 one_item = reverse (
-    Phaser 0 (Make 0 SigWait (Least ∷ []))
-    ∷ Phaser 1 (Make 0 SigWait (Least ∷ []))
+    Phaser 0 (Make 0 SigWait (unbounded (Least ∷ [])))
+    ∷ Phaser 1 (Make 0 SigWait (unbounded (Least ∷ [])))
     ∷ Begin 0 (Async 1 (pair_on 0 OnlySig ∷ []))
     ∷ Phaser 0 (Reg 0 1 OnlySig)
     ∷ Finish 0 (Spawned 1)

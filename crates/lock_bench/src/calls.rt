@@ -35,7 +35,24 @@ fn signal<K: Ledgers, R: Wait>(
     requires { number < table.now.phasers }
 {
     if is_drained(out) {
-        let _signalled = table.signal(rt, number, tickets, mine, out, task, None);
+        let _signalled = table.signal(rt, number, tickets, mine, out, task, None, task);
+    }
+}
+
+/// The task asks to pass. On a phaser without a bound that lets nobody go on.
+fn pass<K: Ledgers, R: Wait>(
+    rt: &R,
+    table: &PhaserTable<u32, K>,
+    number: usize,
+    tickets: &Tickets,
+    mine: &mut Shares<K>,
+    out: &mut Out<u32>,
+    task: u32,
+)
+    requires { number < table.now.phasers }
+{
+    if is_drained(out) {
+        let _passed = table.pass(rt, number, tickets, mine, out, task, task);
     }
 }
 
@@ -46,13 +63,14 @@ fn pass_all<K: Ledgers, R: Wait>(
     number: usize,
     tickets: &Tickets,
     mine: &mut Shares<K>,
+    out: &mut Out<u32>,
     first: u32,
     tasks: u32,
 )
     requires { number < table.now.phasers }
 {
     for task in first..tasks {
-        let _passed = table.pass(rt, number, tickets, mine, task, task);
+        pass(rt, table, number, tickets, mine, out, task);
     }
 }
 
@@ -97,16 +115,17 @@ fn ready<K: Ledgers, R: Wait>(
     number: usize,
     tickets: &Tickets,
     mine: &mut Shares<K>,
+    out: &mut Out<u32>,
     job: Job,
 ) -> Result<(), Refusal>
     requires { number < table.now.phasers }
 {
-    table.make(rt, number, tickets, mine, 0, Mode::SigWait, one_sum())?;
+    table.make(rt, number, tickets, mine, 0, Mode::SigWait, one_sum(), None)?;
     for task in 1..job.tasks {
         table.register(rt, number, tickets, mine, 0, task, mode_of(job.kind, task))?;
     }
     if job.kind == Kind::Ahead {
-        pass_all(rt, table, number, tickets, mine, 2, job.tasks);
+        pass_all(rt, table, number, tickets, mine, out, 2, job.tasks);
     }
     Ok(())
 }
@@ -127,20 +146,20 @@ fn phase<K: Ledgers, R: Wait>(
         Kind::Nothing => {}
         Kind::Turn => {
             signal_all(rt, table, number, tickets, mine, out, job.tasks);
-            pass_all(rt, table, number, tickets, mine, 0, job.tasks);
+            pass_all(rt, table, number, tickets, mine, out, 0, job.tasks);
         }
         Kind::Ahead => {
             signal(rt, table, number, tickets, mine, out, 1);
-            pass_all(rt, table, number, tickets, mine, 1, 2);
+            pass_all(rt, table, number, tickets, mine, out, 1, 2);
         }
         Kind::Follow => {
             signal(rt, table, number, tickets, mine, out, 0);
-            pass_all(rt, table, number, tickets, mine, 0, job.tasks);
+            pass_all(rt, table, number, tickets, mine, out, 0, job.tasks);
         }
         Kind::Free => {
-            pass_all(rt, table, number, tickets, mine, 1, job.tasks);
+            pass_all(rt, table, number, tickets, mine, out, 1, job.tasks);
             signal(rt, table, number, tickets, mine, out, 0);
-            pass_all(rt, table, number, tickets, mine, 0, job.tasks);
+            pass_all(rt, table, number, tickets, mine, out, 0, job.tasks);
         }
     }
 }
@@ -157,7 +176,7 @@ pub fn call_one<K: Ledgers, R: Wait>(
 ) -> Result<(), Refusal>
     requires { number < table.now.phasers }
 {
-    ready(rt, table, number, tickets, mine, job)?;
+    ready(rt, table, number, tickets, mine, out, job)?;
     for _phase in 0..job.phases {
         phase(rt, table, number, tickets, mine, out, job);
     }

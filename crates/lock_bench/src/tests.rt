@@ -9,10 +9,11 @@ use crate::command_line::job_of;
 use crate::kind::Kind;
 use crate::threads::{events_of, fresh, given_back, numbered};
 use merging::merged;
-use phase_model::{Call, Look, Op, Ops, Reply};
+use phase_model::{Bound, Call, Look, Op, Ops, Reply, Terms};
 use phase_modes::{Limits, Mode, Refusal};
 use scope_locks::{
-    FinishParts, FinishTable, Out, PassAnswer, PhaserCell, PhaserTable, ShutAnswer, Tickets,
+    FinishParts, FinishTable, Out, PassAnswer, PhaserCell, PhaserTable, ShutAnswer, SignalAnswer,
+    Tickets,
 };
 use share_book::{Blanks, Books, Ledgers, PhaserBook, Seven, Shares, Totals, gather, open};
 use std::alloc::Global;
@@ -41,6 +42,14 @@ fn plainly(answer: Result<(), Refusal>) -> Reply {
     }
 }
 
+fn signalled(answer: SignalAnswer<u32>) -> Reply {
+    match answer {
+        SignalAnswer::Signalled(_) => Reply::Done,
+        SignalAnswer::Parked => Reply::NotYet,
+        SignalAnswer::Refused(_, refusal) => Reply::Refused(refusal),
+    }
+}
+
 fn turned(answer: PassAnswer<u32>) -> Reply {
     match answer {
         PassAnswer::Passed(_, phase) => Reply::Phase(phase),
@@ -57,7 +66,7 @@ fn looked(answer: Result<Look, Refusal>) -> Reply {
     }
 }
 
-/// Makes the call on a phaser of the table, a making with these operators. The item of a task is
+/// Makes the call on a phaser of the table, a making with these terms. The item of a task is
 /// its number.
 fn answer_to<K: Ledgers, R: Wait>(
     rt: &R,
@@ -66,21 +75,24 @@ fn answer_to<K: Ledgers, R: Wait>(
     tickets: &Tickets,
     mine: &mut Shares<K>,
     out: &mut Out<u32>,
-    ops: Ops,
+    terms: Terms,
     call: Call,
 ) -> Reply
     requires number { number < table.now.phasers }
     requires empty { out.old ≡ [] }
 {
     match call {
-        Call::Make(task, mode) => plainly(table.make(rt, number, tickets, mine, task, mode, ops)),
+        Call::Make(task, mode) => {
+            let Terms { ops, bound } = terms;
+            plainly(table.make(rt, number, tickets, mine, task, mode, ops, bound))
+        }
         Call::Register(parent, child, mode) => {
             plainly(table.register(rt, number, tickets, mine, parent, child, mode))
         }
         Call::Signal(task, proposed) => {
-            plainly(table.signal(rt, number, tickets, mine, out, task, proposed))
+            signalled(table.signal(rt, number, tickets, mine, out, task, proposed, task))
         }
-        Call::Pass(task) => turned(table.pass(rt, number, tickets, mine, task, task)),
+        Call::Pass(task) => turned(table.pass(rt, number, tickets, mine, out, task, task)),
         Call::SingleDone(task) => plainly(table.single_done(rt, number, tickets, mine, out, task)),
         Call::Send(task, accumulator, value) => {
             plainly(table.send(rt, number, tickets, mine, task, accumulator, value))
@@ -125,7 +137,7 @@ fn answer_alone<K: Ledgers, R: Wait>(
     table: &PhaserTable<u32, K>,
     tickets: &Tickets,
     mine: &mut Shares<K>,
-    ops: Ops,
+    terms: Terms,
     call: Call,
 ) -> Reply
     requires { 0 < table.now.phasers }
@@ -133,7 +145,7 @@ fn answer_alone<K: Ledgers, R: Wait>(
     let Ok(mut out) = Out::new(alloc) else {
         return Reply::Refused(Refusal::Memory);
     };
-    answer_to(rt, table, 0, tickets, mine, &mut out, ops, call)
+    answer_to(rt, table, 0, tickets, mine, &mut out, terms, call)
 }
 
 /// Each call on phaser 0 is answered as its row says.
@@ -143,13 +155,13 @@ fn answers<K: Ledgers, R: Abort + Wait>(
     table: &PhaserTable<u32, K>,
     tickets: &Tickets,
     mine: &mut Shares<K>,
-    ops: Ops,
+    terms: Terms,
     rows: &[Row],
 )
     requires { 0 < table.now.phasers }
 {
     for (call, expected) in rows {
-        let answer = answer_alone(rt, alloc, table, tickets, mine, ops, *call);
+        let answer = answer_alone(rt, alloc, table, tickets, mine, terms, *call);
         assert_eq!(rt; answer, *expected, "{call:?}");
     }
 }
@@ -161,14 +173,14 @@ fn answers_the_one<K: Ledgers, R: Abort + Wait>(
     table: &PhaserTable<u32, K>,
     tickets: &Tickets,
     shares: &mut Vec<Shares<K>>,
-    ops: Ops,
+    terms: Terms,
     rows: &[Row],
 )
     requires { 0 < table.now.phasers }
 {
     assert_eq!(rt; shares.len(), 1);
     if let Some(mine) = shares.get_mut(0) {
-        answers(rt, alloc, table, tickets, mine, ops, rows);
+        answers(rt, alloc, table, tickets, mine, terms, rows);
     }
 }
 
@@ -211,8 +223,8 @@ fn events_of_rows(rows: &[Row]) -> u64 {
     events
 }
 
-/// Each call on a new phaser is answered as its row says; the history that they leave is merged, and
-/// gathered. Names the ledgers.
+/// Each call on a new unbounded phaser is answered as its row says; the history that they leave is
+/// merged, and gathered.
 fn example<R: Abort + Wait>(
     rt: &R,
     alloc: Global,
@@ -220,12 +232,23 @@ fn example<R: Abort + Wait>(
     ops: Ops,
     rows: &[Row],
 ) -> Result<(), Fail> {
+    example_with(rt, alloc, limits, Terms { ops, bound: None }, rows)
+}
+
+/// The same for a phaser that is made with these terms. Names the ledgers.
+fn example_with<R: Abort + Wait>(
+    rt: &R,
+    alloc: Global,
+    limits: Limits,
+    terms: Terms,
+    rows: &[Row],
+) -> Result<(), Fail> {
     if !limits.fits() {
         return Err(Fail::from("the limits are none"));
     }
     let blanks = Blanks::new(1, 1);
     let totals = named::<R, Brand, Brand, Brand, Brand, Brand, Brand, Brand>(
-        rt, alloc, blanks, limits, ops, rows,
+        rt, alloc, blanks, limits, terms, rows,
     )?;
     assert_eq!(rt; totals.events, events_of_rows(rows));
     Ok(())
@@ -245,7 +268,7 @@ fn named<
     alloc: Global,
     blanks: Blanks,
     limits: Limits,
-    ops: Ops,
+    terms: Terms,
     rows: &[Row],
 ) -> Result<Totals, Refusal>
     requires names { IsNamed blanks A.name B.name C.name D.name E.name F.name G.name }
@@ -253,7 +276,7 @@ fn named<
     requires limits { limits_fit limits ≡ true }
     requires one { blanks.phasers ≡ 1 }
 {
-    play::<Seven<A, B, C, D, E, F, G>, R>(rt, alloc, blanks, limits, ops, rows)
+    play::<Seven<A, B, C, D, E, F, G>, R>(rt, alloc, blanks, limits, terms, rows)
 }
 
 /// What is gathered once each call was answered as its row says.
@@ -262,7 +285,7 @@ fn play<K: Ledgers, R: Abort + Wait>(
     alloc: Global,
     blanks: Blanks,
     limits: Limits,
-    ops: Ops,
+    terms: Terms,
     rows: &[Row],
 ) -> Result<Totals, Refusal>
     requires names { IsNamed blanks K.EventsByPhaser.name K.EventsByWorker.name K.UpByPhaser.name
@@ -273,7 +296,7 @@ fn play<K: Ledgers, R: Abort + Wait>(
     requires one { blanks.phasers ≡ 1 }
 {
     let (table, mut shares) = fresh::<K>(alloc, limits, blanks)?;
-    answers_the_one(rt, alloc, &table, &Tickets::new(), &mut shares, ops, rows);
+    answers_the_one(rt, alloc, &table, &Tickets::new(), &mut shares, terms, rows);
     gathered(rt, alloc, limits, table, shares)
 }
 

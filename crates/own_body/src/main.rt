@@ -35,7 +35,7 @@ impl Body for Adder {
             self.number = i32::try_from(sum).unwrap_or(i32::MAX);
         }
         let (act, next) = match self.next {
-            Next::Makes => (Act::New(Mode::SigWait, one_sum()), Next::Spawns),
+            Next::Makes => (Act::New(Mode::SigWait, one_sum(), None), Next::Spawns),
             Next::Spawns if self.number > 0 => (self.spawn(), Next::Spawns),
             Next::Sends if self.rounds > 0 => (self.send(), Next::Turns),
             Next::Turns => (Act::Next, Next::Looks),

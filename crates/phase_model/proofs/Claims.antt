@@ -5,7 +5,7 @@ use Rattle.std.proofs.lemmas.Bool.{eqb-true, and_parts, or_cases, or_left, or_ri
 use Rattle.phase_modes.specs.declared.limits.Limits.{Limits}
 use Rattle.phase_model.specs.declared.history.Event.{Event}
 use Rattle.phase_model.specs.declared.history.Event.TheVariants.{Claim, Did}
-use Rattle.phase_model.specs.declared.op.Op.{Op}
+use Rattle.phase_model.specs.declared.terms.Terms.{Terms}
 use Rattle.phase_model.specs.Phases.{waits}
 use Rattle.phase_model.specs.Singles.{is_proposed, has_claimed, is_claimed, is_done}
 use Rattle.phase_model.specs.Rules.{is_legal}
@@ -36,47 +36,47 @@ still_done p (Did u) h k = or_right (waits u h == p) (is_done p h) k
 still_done p e h k = k
 
 -- a phase whose single is claimed was proposed for
-pub claimed_is_proposed : (l : Limits) (ops : List Op) (h : List Event) → is_legal l ops h ≡ true → (p : ℕ)
+pub claimed_is_proposed : (l : Limits) (terms : Terms) (h : List Event) → is_legal l terms h ≡ true → (p : ℕ)
     → is_claimed p h ≡ true → is_proposed p h ≡ true
-claimed_is_proposed l ops h k p c =
+claimed_is_proposed l terms h k p c =
     let u = claimer p h c in
-    proposer_proposes u.0 p h (claimed_proposed l ops h k u.0 p u.1)
+    proposer_proposes u.0 p h (claimed_proposed l terms h k u.0 p u.1)
 
 -- a single that is done was claimed
-pub done_is_claimed : (l : Limits) (ops : List Op) (h : List Event) → is_legal l ops h ≡ true → (p : ℕ)
+pub done_is_claimed : (l : Limits) (terms : Terms) (h : List Event) → is_legal l terms h ≡ true → (p : ℕ)
     → is_done p h ≡ true → is_claimed p h ≡ true
-done_is_claimed l ops [] k p d = absurd cc
-done_is_claimed l ops (Did u ∷ h) k p d =
-    let f = last_follows l ops h (Did u) k in
+done_is_claimed l terms [] k p d = absurd cc
+done_is_claimed l terms (Did u ∷ h) k p d =
+    let f = last_follows l terms h (Did u) k in
     elim (or_cases (waits u h == p) (is_done p h) d) [
       | inl e ↦
           subst (λ q. is_claimed q h ≡ true) (eqb-true (waits u h) p e)
-          (claimer_claims u (waits u h) h (did_follows l ops h u f.permitted).claimed)
-      | inr e ↦ done_is_claimed l ops h f.before p e
+          (claimer_claims u (waits u h) h (did_follows l terms h u f.permitted).claimed)
+      | inr e ↦ done_is_claimed l terms h f.before p e
     ]
-done_is_claimed l ops (e ∷ h) k p d =
-    still_claimed p e h (done_is_claimed l ops h (last_follows l ops h e k).before p d)
+done_is_claimed l terms (e ∷ h) k p d =
+    still_claimed p e h (done_is_claimed l terms h (last_follows l terms h e k).before p d)
 
 -- so the singles of the phases before a proposed one are claimed
-pub earlier_are_claimed : (l : Limits) (ops : List Op) (h : List Event) → is_legal l ops h ≡ true → (p q : ℕ)
+pub earlier_are_claimed : (l : Limits) (terms : Terms) (h : List Event) → is_legal l terms h ≡ true → (p q : ℕ)
     → is_proposed p h ≡ true → is_proposed q h ≡ true → q < p → is_claimed q h ≡ true
-earlier_are_claimed l ops h k p q s e less =
-    done_is_claimed l ops h k q (earlier_are_done l ops h k p q s e less)
+earlier_are_claimed l terms h k p q s e less =
+    done_is_claimed l terms h k q (earlier_are_done l terms h k p q s e less)
 
 -- a phase that is claimed now was not claimed before
-fresh_claim : (l : Limits) (ops : List Op) (h : List Event) (u t v p : ℕ)
-    → is_legal l ops (Claim u ∷ h) ≡ true
+fresh_claim : (l : Limits) (terms : Terms) (h : List Event) (u t v p : ℕ)
+    → is_legal l terms (Claim u ∷ h) ≡ true
     → (u == t && waits u h == p) ≡ true → has_claimed v p h ≡ true → ⊥
-fresh_claim l ops h u t v p k e c =
+fresh_claim l terms h u t v p k e c =
     let same : waits u h ≡ p = eqb-true (waits u h) p (and_parts (u == t) (waits u h == p) e).1 in
-    let unclaimed = (claim_follows l ops h u (last_follows l ops h (Claim u) k).permitted).unclaimed in
+    let unclaimed = (claim_follows l terms h u (last_follows l terms h (Claim u) k).permitted).unclaimed in
     false≢true (sym (subst (λ q. is_claimed q h ≡ false) same unclaimed) ∙ claimer_claims v p h c)
 
 -- one task claims a phase's single
-pub one_claimer : (l : Limits) (ops : List Op) (h : List Event) → is_legal l ops h ≡ true → (t u p : ℕ)
+pub one_claimer : (l : Limits) (terms : Terms) (h : List Event) → is_legal l terms h ≡ true → (t u p : ℕ)
     → has_claimed t p h ≡ true → has_claimed u p h ≡ true → t ≡ u
-one_claimer l ops [] k t u p a b = absurd cc
-one_claimer l ops (Claim v ∷ h) k t u p a b =
+one_claimer l terms [] k t u p a b = absurd cc
+one_claimer l terms (Claim v ∷ h) k t u p a b =
     let at : ℕ → Bool = λ w. v == w && waits v h == p in
     elim (or_cases (at t) (has_claimed t p h) a) [
       | inl c ↦
@@ -84,31 +84,31 @@ one_claimer l ops (Claim v ∷ h) k t u p a b =
             | inl d ↦
                 sym (eqb-true v t (and_parts (v == t) (waits v h == p) c).0)
                 ∙ eqb-true v u (and_parts (v == u) (waits v h == p) d).0
-            | inr d ↦ absurd (fresh_claim l ops h v t u p k c d)
+            | inr d ↦ absurd (fresh_claim l terms h v t u p k c d)
           ]
       | inr c ↦
           elim (or_cases (at u) (has_claimed u p h) b) [
-            | inl d ↦ absurd (fresh_claim l ops h v u t p k d c)
-            | inr d ↦ one_claimer l ops h (last_follows l ops h (Claim v) k).before t u p c d
+            | inl d ↦ absurd (fresh_claim l terms h v u t p k d c)
+            | inr d ↦ one_claimer l terms h (last_follows l terms h (Claim v) k).before t u p c d
           ]
     ]
-one_claimer l ops (e ∷ h) k t u p a b = one_claimer l ops h (last_follows l ops h e k).before t u p a b
+one_claimer l terms (e ∷ h) k t u p a b = one_claimer l terms h (last_follows l terms h e k).before t u p a b
 
 -- a phase whose single is claimed is closed
-pub claimed_signalled : (l : Limits) (ops : List Op) (h : List Event) → is_legal l ops h ≡ true → (p : ℕ)
+pub claimed_signalled : (l : Limits) (terms : Terms) (h : List Event) → is_legal l terms h ≡ true → (p : ℕ)
     → is_claimed p h ≡ true → HaveSignalled (p + 1) h
-claimed_signalled l ops [] k p c = absurd cc
-claimed_signalled l ops (Claim u ∷ h) k p c =
-    let f = last_follows l ops h (Claim u) k in
-    let r = claim_follows l ops h u f.permitted in
-    signalled_stays l ops (p + 1) (Claim u) h k (some_live u h r.live)
+claimed_signalled l terms [] k p c = absurd cc
+claimed_signalled l terms (Claim u ∷ h) k p c =
+    let f = last_follows l terms h (Claim u) k in
+    let r = claim_follows l terms h u f.permitted in
+    signalled_stays l terms (p + 1) (Claim u) h k (some_live u h r.live)
     (elim (or_cases (waits u h == p) (is_claimed p h) c) [
       | inl e ↦
           subst (λ q. HaveSignalled (q + 1) h) (eqb-true (waits u h) p e)
           (signalled_from_closed (waits u h) h r.closed)
-      | inr e ↦ claimed_signalled l ops h f.before p e
+      | inr e ↦ claimed_signalled l terms h f.before p e
     ])
-claimed_signalled l ops (e ∷ h) k p c =
-    let f = last_follows l ops h e k in
-    signalled_stays l ops (p + 1) e h k (some_proposal p h (claimed_is_proposed l ops h f.before p c))
-    (claimed_signalled l ops h f.before p c)
+claimed_signalled l terms (e ∷ h) k p c =
+    let f = last_follows l terms h e k in
+    signalled_stays l terms (p + 1) e h k (some_proposal p h (claimed_is_proposed l terms h f.before p c))
+    (claimed_signalled l terms h f.before p c)

@@ -8,7 +8,7 @@ use Rattle.phase_modes.specs.Lists.{is_empty}
 use Rattle.phase_modes.specs.declared.limits.Limits.{Limits}
 use Rattle.phase_model.specs.declared.history.Event.{Event}
 use Rattle.phase_model.specs.declared.history.Event.TheVariants.{Make, Reg, Pass, Drop}
-use Rattle.phase_model.specs.declared.op.Op.{Op}
+use Rattle.phase_model.specs.declared.terms.Terms.{Terms}
 use Rattle.phase_model.specs.Tasks.{is_registered, is_dropped, is_live, mode_of, registered_tasks, live_tasks}
 use Rattle.phase_model.specs.Phases.{waits}
 use Rattle.phase_model.specs.Rules.{is_legal, has_room}
@@ -71,24 +71,24 @@ empty_is [] k = refl
 empty_is (e ∷ h) k = absurd cc
 
 -- nobody is registered twice
-pub registered_apart : (l : Limits) (ops : List Op) (h : List Event) → is_legal l ops h ≡ true
+pub registered_apart : (l : Limits) (terms : Terms) (h : List Event) → is_legal l terms h ≡ true
     → Apart (registered_tasks h)
-registered_apart l ops [] k = tt
-registered_apart l ops (Make u m ∷ h) k =
-    let f = last_follows l ops h (Make u m) k in
+registered_apart l terms [] k = tt
+registered_apart l terms (Make u m ∷ h) k =
+    let f = last_follows l terms h (Make u m) k in
     let empty : h ≡ [] = empty_is h (and_parts (is_empty h) (nat_lt u l.tasks) f.permitted).0 in
     subst (λ (g : List Event). Apart (u ∷ registered_tasks g)) (sym empty) (refl, tt)
-registered_apart l ops (Reg q u m ∷ h) k =
-    let f = last_follows l ops h (Reg q u m) k in (
+registered_apart l terms (Reg q u m ∷ h) k =
+    let f = last_follows l terms h (Reg q u m) k in (
       has-registered_tasks u h
-          ∙ (reg_follows l ops h q u m f.permitted).unknown,
-      registered_apart l ops h f.before,
+          ∙ (reg_follows l terms h q u m f.permitted).unknown,
+      registered_apart l terms h f.before,
     )
-registered_apart l ops (e ∷ h) k = registered_apart l ops h (last_follows l ops h e k).before
+registered_apart l terms (e ∷ h) k = registered_apart l terms h (last_follows l terms h e k).before
 
-pub live_apart : (l : Limits) (ops : List Op) (h : List Event) → is_legal l ops h ≡ true
+pub live_apart : (l : Limits) (terms : Terms) (h : List Event) → is_legal l terms h ≡ true
     → Apart (live_tasks h)
-live_apart l ops h k = Apart-filter (λ t. is_live t h) (registered_tasks h) (registered_apart l ops h k)
+live_apart l terms h k = Apart-filter (λ t. is_live t h) (registered_tasks h) (registered_apart l terms h k)
 
 -- nobody has ended more turns than there are events
 pub waits_within : (t : ℕ) (h : List Event) → waits t h ≤ length h
@@ -107,29 +107,29 @@ waits_within t (Pass u ∷ h) =
 waits_within t (e ∷ h) = omega (arith, waits_within t h)
 
 -- a legal history has its room
-pub has_room_now : (l : Limits) (ops : List Op) (h : List Event) → is_legal l ops h ≡ true
+pub has_room_now : (l : Limits) (terms : Terms) (h : List Event) → is_legal l terms h ≡ true
     → has_room l h ≡ true
-has_room_now l ops [] k = le-leb 0 l.history (omega arith)
-has_room_now l ops (e ∷ h) k = (last_follows l ops h e k).room
+has_room_now l terms [] k = le-leb 0 l.history (omega arith)
+has_room_now l terms (e ∷ h) k = (last_follows l terms h e k).room
 
 -- who was never registered was never dropped
-pub fresh_not_dropped : (l : Limits) (ops : List Op) (h : List Event) (t : ℕ) → is_legal l ops h ≡ true
+pub fresh_not_dropped : (l : Limits) (terms : Terms) (h : List Event) (t : ℕ) → is_legal l terms h ≡ true
     → is_registered t h ≡ false → is_dropped t h ≡ false
-fresh_not_dropped l ops [] t k r = refl
-fresh_not_dropped l ops (Make u m ∷ h) t k r =
-    fresh_not_dropped l ops h t (last_follows l ops h (Make u m) k).before
+fresh_not_dropped l terms [] t k r = refl
+fresh_not_dropped l terms (Make u m ∷ h) t k r =
+    fresh_not_dropped l terms h t (last_follows l terms h (Make u m) k).before
     (or_parts (u == t) (is_registered t h) r).1
-fresh_not_dropped l ops (Reg q u m ∷ h) t k r =
-    fresh_not_dropped l ops h t (last_follows l ops h (Reg q u m) k).before
+fresh_not_dropped l terms (Reg q u m ∷ h) t k r =
+    fresh_not_dropped l terms h t (last_follows l terms h (Reg q u m) k).before
     (or_parts (u == t) (is_registered t h) r).1
-fresh_not_dropped l ops (Drop u ∷ h) t k r =
-    let f = last_follows l ops h (Drop u) k in
+fresh_not_dropped l terms (Drop u ∷ h) t k r =
+    let f = last_follows l terms h (Drop u) k in
     let live : is_live u h ≡ true = (and_parts (is_live u h) (owes_nothing u h) f.permitted).0 in
     let known : is_registered u h ≡ true = (and_parts (is_registered u h) (not (is_dropped u h)) live).0 in
     let other : (u == t) ≡ false =
     ne_eqb u t (λ e. false≢true (sym r ∙ (ap (λ v. is_registered v h) (sym e) ∙ known))) in
-    or_from (u == t) (is_dropped t h) other (fresh_not_dropped l ops h t f.before r)
-fresh_not_dropped l ops (e ∷ h) t k r = fresh_not_dropped l ops h t (last_follows l ops h e k).before r
+    or_from (u == t) (is_dropped t h) other (fresh_not_dropped l terms h t f.before r)
+fresh_not_dropped l terms (e ∷ h) t k r = fresh_not_dropped l terms h t (last_follows l terms h e k).before r
 
 pub filter_same : (p q : ℕ → Bool) (ts : List ℕ) → ((u : ℕ) → has u ts ≡ true → p u ≡ q u)
     → filter p ts ≡ filter q ts
@@ -139,13 +139,13 @@ filter_same p q (t ∷ ts) e =
     rw (e t (or_left (t == t) (has t ts) (eq-eqb t t refl)), rest) refl
 
 -- a registration adds its task to the live ones
-pub live_tasks-reg : (l : Limits) (ops : List Op) (h : List Event) (q t : ℕ) (m : Mode)
-    → is_legal l ops h ≡ true → is_registered t h ≡ false
+pub live_tasks-reg : (l : Limits) (terms : Terms) (h : List Event) (q t : ℕ) (m : Mode)
+    → is_legal l terms h ≡ true → is_registered t h ≡ false
     → live_tasks (Reg q t m ∷ h) ≡ t ∷ live_tasks h
-live_tasks-reg l ops h q t m k r =
+live_tasks-reg l terms h q t m k r =
     let itself : is_live t (Reg q t m ∷ h) ≡ true =
     and_from ((t == t) || is_registered t h) (not (is_dropped t h)) (or_left (t == t) (is_registered t h)
-    (eq-eqb t t refl)) (ap (λ b. not b) (fresh_not_dropped l ops h t k r))
+    (eq-eqb t t refl)) (ap (λ b. not b) (fresh_not_dropped l terms h t k r))
     in
     let others : filter (λ u. is_live u (Reg q t m ∷ h)) (registered_tasks h) ≡ live_tasks h =
     filter_same (λ u. is_live u (Reg q t m ∷ h)) (λ u. is_live u h) (registered_tasks h)

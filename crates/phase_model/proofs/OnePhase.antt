@@ -15,17 +15,17 @@ use Rattle.phase_model.specs.Waiting.{would_wait}
 use Rattle.phase_model.proofs.Waiting.{held, waits_where_held, closed_where_signalled}
 
 -- a task that would wait isn't behind another such task, for the phase that the other has passed is over
-not_behind : (s : Story) (t u : ℕ) → is_legal s.limits s.ops s.past ≡ true → would_wait s t ≡ true
+not_behind : (s : Story) (t u : ℕ) → is_legal s.limits s.terms s.past ≡ true → would_wait s t ≡ true
     → would_wait s u ≡ true → waits t s.past < waits u s.past → false ≡ true
 not_behind s t u legal a b less =
     let h = s.past in
     let w = waits t h in
-    let o = over_behind s.limits s.ops h legal u w (held s u b).waiter less in
+    let o = over_behind s.limits s.terms h legal u w (held s u b).waiter less in
     sym (not-true (is_closed w h && is_settled w h) (held s t a).not_over)
     ∙ and_from (is_closed w h) (is_settled w h) (closed_where_signalled w h o.closed) o.settled
 
 -- all tasks that would wait stand in the same phase, also where they wait for its single only
-pub same_phase : (s : Story) (t u : ℕ) → is_legal s.limits s.ops s.past ≡ true → would_wait s t ≡ true
+pub same_phase : (s : Story) (t u : ℕ) → is_legal s.limits s.terms s.past ≡ true → would_wait s t ≡ true
     → would_wait s u ≡ true → waits t s.past ≡ waits u s.past
 same_phase s t u legal a b =
     elim (cases_lt (waits t s.past) (waits u s.past)) [
@@ -54,12 +54,12 @@ signalled_still false sig eq a b k = absurd cc
 
 -- who signals isn't a task that would wait
 other_signaller : (s : Story) (u : ℕ) (x : Option ℕ) (t : ℕ)
-    → is_legal s.limits s.ops (Sig u x ∷ s.past) ≡ true → would_wait s t ≡ true → (u == t) ≡ false
+    → is_legal s.limits s.terms (Sig u x ∷ s.past) ≡ true → would_wait s t ≡ true → (u == t) ≡ false
 other_signaller s u x t legal wait =
     let h = s.past in
     let w = waits t h in
     let k = held s t wait in
-    let g = sig_follows s.limits s.ops h u x (last_follows s.limits s.ops h (Sig u x) legal).permitted in
+    let g = sig_follows s.limits s.terms h u x (last_follows s.limits s.terms h (Sig u x) legal).permitted in
     ne_eqb u t (λ e.
     let can : has_mode can_signal t h ≡ true = ap (λ v. has_mode can_signal v h) (sym e) ∙ g.signaller in
     let behind : signals t h ≡ w = ap (λ v. signals v h) (sym e) ∙ (g.behind ∙ ap (λ v. waits v h) e) in
@@ -69,7 +69,7 @@ other_signaller s u x t legal wait =
 
 -- a signal that leaves the phase open leaves a waiting task waiting
 pub waits_past_signal : (s : Story) (u : ℕ) (x : Option ℕ) (t : ℕ)
-    → is_legal s.limits s.ops (Sig u x ∷ s.past) ≡ true → would_wait s t ≡ true
+    → is_legal s.limits s.terms (Sig u x ∷ s.past) ≡ true → would_wait s t ≡ true
     → not (is_closed (waits t s.past) (Sig u x ∷ s.past)) ≡ true
     → would_wait (with_event s (Sig u x)) t ≡ true
 waits_past_signal s u x t legal wait still =
@@ -135,7 +135,7 @@ proposed_same : (t w u : ℕ) (x : Option ℕ) (h : List Event) → (u == t) ≡
 proposed_same t w u None h k = refl
 proposed_same t w u (Some n) h k = ap (λ b. (b && signals u h == w) || has_proposed t w h) k
 
-pub closed_past_signal : (s : Story) (u : ℕ) (x : Option ℕ) (t : ℕ) → is_legal s.limits s.ops
+pub closed_past_signal : (s : Story) (u : ℕ) (x : Option ℕ) (t : ℕ) → is_legal s.limits s.terms
     (Sig u x ∷ s.past) ≡ true → would_wait s t ≡ true → is_closed (waits t s.past) s.past ≡ true
     → would_wait (with_event s (Sig u x)) t ≡ true
 closed_past_signal s u x t legal wait closed =

@@ -11,7 +11,7 @@ use Rattle.phase_modes.specs.Lists.{is_empty}
 use Rattle.phase_modes.specs.Mode.{can_wait, can_single}
 use Rattle.phase_model.specs.declared.history.Event.{Event}
 use Rattle.phase_model.specs.declared.history.Event.TheVariants.{Make, Reg, Sig, Claim, Did, Pass, Drop}
-use Rattle.phase_model.specs.declared.op.Op.{Op}
+use Rattle.phase_model.specs.declared.terms.Terms.{Terms}
 use Rattle.phase_model.specs.Tasks.{is_registered, is_dropped, is_live, has_mode, mode_of}
 use Rattle.phase_model.specs.Phases.{waits, signals, is_closed}
 use Rattle.phase_model.specs.Singles.{Proposal, proposals, is_proposed, has_proposed, has_claimed, is_claimed, is_done, is_settled, owes_none_of, owes_nothing}
@@ -91,36 +91,36 @@ pub registered_live : (t : ℕ) (h : List Event) → is_live t h ≡ true → is
 registered_live t h k = (and_parts (is_registered t h) (not (is_dropped t h)) k).0
 
 -- another's signal, and a signal of its own, which can't be
-later_sig : (l : Limits) (ops : List Op) (h : List Event) (u t p : ℕ) (x : Option ℕ)
-    → is_permitted l ops h (Sig u x) ≡ true → IsBefore t p h → IsBefore t p (Sig u x ∷ h)
-later_sig l ops h u t p x k g =
+later_sig : (l : Limits) (terms : Terms) (h : List Event) (u t p : ℕ) (x : Option ℕ)
+    → is_permitted l terms h (Sig u x) ≡ true → IsBefore t p h → IsBefore t p (Sig u x ∷ h)
+later_sig l terms h u t p x k g =
     elim (cases_Bool (u == t)) [
       | inl e ↦
           absurd (not_twice (waits t h) (signals t h) p (subst (λ v. signals v h ≡ waits v h) (eqb-true u t e)
-          (sig_follows l ops h u x k).behind) g.at g.ahead)
+          (sig_follows l terms h u x k).behind) g.at g.ahead)
       | inr e ↦ record { live = g.live; single = g.single; at = g.at; ahead = rw e g.ahead }
     ]
 
 -- who proposed for a phase that isn't done stands before its end
-pub owes : (l : Limits) (ops : List Op) (h : List Event) → is_legal l ops h ≡ true → (t p : ℕ) → Owes t p h
-owes l ops [] k t p = λ a b. absurd cc
-owes l ops (Make u m ∷ h) k t p = λ a b.
-    let f = last_follows l ops h (Make u m) k in
+pub owes : (l : Limits) (terms : Terms) (h : List Event) → is_legal l terms h ≡ true → (t p : ℕ) → Owes t p h
+owes l terms [] k t p = λ a b. absurd cc
+owes l terms (Make u m ∷ h) k t p = λ a b.
+    let f = last_follows l terms h (Make u m) k in
     absurd (true≢false (sym (and_parts (is_empty h) (nat_lt u l.tasks) f.permitted).0
-    ∙ some_live t h (owes l ops h f.before t p a b).live))
-owes l ops (Reg q u m ∷ h) k t p = λ a b.
-    let f = last_follows l ops h (Reg q u m) k in
-    let g = owes l ops h f.before t p a b in
+    ∙ some_live t h (owes l terms h f.before t p a b).live))
+owes l terms (Reg q u m ∷ h) k t p = λ a b.
+    let f = last_follows l terms h (Reg q u m) k in
+    let g = owes l terms h f.before t p a b in
     let e : (u == t) ≡ false = false_from_ne_true (u == t) (λ y.
     true≢false (sym (registered_live t h g.live) ∙ subst (λ v. is_registered v h ≡ false) (eqb-true u t y)
-    (reg_follows l ops h q u m f.permitted).unknown)) in
+    (reg_follows l terms h q u m f.permitted).unknown)) in
     record { live = rw e g.live; single = rw e g.single; at = rw e g.at; ahead = rw e g.ahead }
-owes l ops (Sig u None ∷ h) k t p = λ a b.
-    let f = last_follows l ops h (Sig u None) k in
-    later_sig l ops h u t p None f.permitted (owes l ops h f.before t p a b)
-owes l ops (Sig u (Some n) ∷ h) k t p = λ a b.
-    let f = last_follows l ops h (Sig u (Some n)) k in
-    let s = sig_follows l ops h u (Some n) f.permitted in
+owes l terms (Sig u None ∷ h) k t p = λ a b.
+    let f = last_follows l terms h (Sig u None) k in
+    later_sig l terms h u t p None f.permitted (owes l terms h f.before t p a b)
+owes l terms (Sig u (Some n) ∷ h) k t p = λ a b.
+    let f = last_follows l terms h (Sig u (Some n)) k in
+    let s = sig_follows l terms h u (Some n) f.permitted in
     elim (or_cases (u == t && signals u h == p) (has_proposed t p h) a) [
       | inl c ↦
           let d = and_parts (u == t) (signals u h == p) c in
@@ -128,31 +128,31 @@ owes l ops (Sig u (Some n) ∷ h) k t p = λ a b.
           subst (λ v. IsBefore v p (Sig u (Some n) ∷ h)) (eqb-true u t d.0)
           (record {
             live = s.live;
-            single = (proposal_follows l ops h u n f.permitted).single;
+            single = (proposal_follows l terms h u n f.permitted).single;
             at = sym s.behind ∙ phase;
             ahead = rw (eq-eqb u u refl) (ap (λ y. y + 1) phase);
           })
-      | inr c ↦ later_sig l ops h u t p (Some n) f.permitted (owes l ops h f.before t p c b)
+      | inr c ↦ later_sig l terms h u t p (Some n) f.permitted (owes l terms h f.before t p c b)
     ]
-owes l ops (Did u ∷ h) k t p = λ a b.
+owes l terms (Did u ∷ h) k t p = λ a b.
     let g =
-    owes l ops h (last_follows l ops h (Did u) k).before t p a
+    owes l terms h (last_follows l terms h (Did u) k).before t p a
     (or_parts (waits u h == p) (is_done p h) b).1 in
     record { live = g.live; single = g.single; at = g.at; ahead = g.ahead }
-owes l ops (Pass u ∷ h) k t p = λ a b.
-    let f = last_follows l ops h (Pass u) k in
-    let g = owes l ops h f.before t p a b in
+owes l terms (Pass u ∷ h) k t p = λ a b.
+    let f = last_follows l terms h (Pass u) k in
+    let g = owes l terms h f.before t p a b in
     elim (cases_Bool (u == t)) [
       | inl e ↦
           let settled : is_settled (waits t h) h ≡ true =
           subst (λ v. has_mode can_wait v h ≡ true → is_settled (waits v h) h ≡ true) (eqb-true u t e)
-          (pass_follows l ops h u f.permitted).settled (single_waits t h g.single) in
+          (pass_follows l terms h u f.permitted).settled (single_waits t h g.single) in
           absurd (true≢false (sym (subst (λ v. is_settled v h ≡ true) g.at settled) ∙ unsettled t p h a b))
       | inr e ↦ record { live = g.live; single = g.single; at = rw e g.at; ahead = g.ahead }
     ]
-owes l ops (Drop u ∷ h) k t p = λ a b.
-    let f = last_follows l ops h (Drop u) k in
-    let g = owes l ops h f.before t p a b in
+owes l terms (Drop u ∷ h) k t p = λ a b.
+    let f = last_follows l terms h (Drop u) k in
+    let g = owes l terms h f.before t p a b in
     elim (cases_Bool (u == t)) [
       | inl e ↦
           let nothing : owes_nothing t h ≡ true =
@@ -161,8 +161,8 @@ owes l ops (Drop u ∷ h) k t p = λ a b.
           absurd (true≢false (sym (owes_nothing_settled t p h nothing a) ∙ unsettled t p h a b))
       | inr e ↦ record { live = rw e g.live; single = g.single; at = g.at; ahead = g.ahead }
     ]
-owes l ops (e ∷ h) k t p = λ a b.
-    let g = owes l ops h (last_follows l ops h e k).before t p a b in
+owes l terms (e ∷ h) k t p = λ a b.
+    let g = owes l terms h (last_follows l terms h e k).before t p a b in
     record { live = g.live; single = g.single; at = g.at; ahead = g.ahead }
 
 -- some claimer
@@ -210,40 +210,40 @@ still_proposed t p (Sig u (Some n)) h k = or_right (u == t && signals u h == p) 
 still_proposed t p e h k = k
 
 -- who claimed had proposed
-pub claimed_proposed : (l : Limits) (ops : List Op) (h : List Event) → is_legal l ops h ≡ true → (t p : ℕ)
+pub claimed_proposed : (l : Limits) (terms : Terms) (h : List Event) → is_legal l terms h ≡ true → (t p : ℕ)
     → has_claimed t p h ≡ true → has_proposed t p h ≡ true
-claimed_proposed l ops [] k t p c = absurd cc
-claimed_proposed l ops (Claim u ∷ h) k t p c =
-    let f = last_follows l ops h (Claim u) k in
+claimed_proposed l terms [] k t p c = absurd cc
+claimed_proposed l terms (Claim u ∷ h) k t p c =
+    let f = last_follows l terms h (Claim u) k in
     elim (or_cases (u == t && waits u h == p) (has_claimed t p h) c) [
       | inl e ↦
           let d = and_parts (u == t) (waits u h == p) e in
           subst (λ v. has_proposed v p h ≡ true) (eqb-true u t d.0)
           (subst (λ q. has_proposed u q h ≡ true) (eqb-true (waits u h) p d.1)
-          (claim_follows l ops h u f.permitted).proposed)
-      | inr e ↦ claimed_proposed l ops h f.before t p e
+          (claim_follows l terms h u f.permitted).proposed)
+      | inr e ↦ claimed_proposed l terms h f.before t p e
     ]
-claimed_proposed l ops (e ∷ h) k t p c =
-    still_proposed t p e h (claimed_proposed l ops h (last_follows l ops h e k).before t p c)
+claimed_proposed l terms (e ∷ h) k t p c =
+    still_proposed t p e h (claimed_proposed l terms h (last_follows l terms h e k).before t p c)
 
 -- where a closed phase's single is open, somebody may claim it or report it done
-pub record Settles (l : Limits) (ops : List Op) (h : List Event) (p : ℕ) : Type 0 where
+pub record Settles (l : Limits) (terms : Terms) (h : List Event) (p : ℕ) : Type 0 where
   pub task : ℕ
   pub stands : IsBefore task p h
-  pub may : (is_permitted l ops h (Claim task) ≡ true) ⊎ (is_permitted l ops h (Did task) ≡ true)
+  pub may : (is_permitted l terms h (Claim task) ≡ true) ⊎ (is_permitted l terms h (Did task) ≡ true)
 
 open_single : (a b : Bool) → (not a || b) ≡ false → (a ≡ true) × (b ≡ false)
 open_single true b k = (refl, k)
 open_single false b k = absurd cc
 
-pub somebody_settles : (l : Limits) (ops : List Op) (h : List Event) → is_legal l ops h ≡ true → (p : ℕ)
-    → is_closed p h ≡ true → is_settled p h ≡ false → Settles l ops h p
-somebody_settles l ops h k p c s =
+pub somebody_settles : (l : Limits) (terms : Terms) (h : List Event) → is_legal l terms h ≡ true → (p : ℕ)
+    → is_closed p h ≡ true → is_settled p h ≡ false → Settles l terms h p
+somebody_settles l terms h k p c s =
     let o = open_single (is_proposed p h) (is_done p h) s in
     elim (cases_Bool (is_claimed p h)) [
       | inl e ↦
           let u = claimer p h e in
-          let g = owes l ops h k u.0 p (claimed_proposed l ops h k u.0 p u.1) o.1 in
+          let g = owes l terms h k u.0 p (claimed_proposed l terms h k u.0 p u.1) o.1 in
           record {
             task = u.0;
             stands = g;
@@ -255,7 +255,7 @@ somebody_settles l ops h k p c s =
           }
       | inr e ↦
           let u = proposer p h o.0 in
-          let g = owes l ops h k u.0 p u.1 o.1 in
+          let g = owes l terms h k u.0 p u.1 o.1 in
           record {
             task = u.0;
             stands = g;

@@ -9,9 +9,9 @@ use Rattle.phase_modes.specs.declared.refusal.Refusal.{Refusal}
 use Rattle.phase_modes.specs.Mode.{can_wait}
 use Rattle.phase_model.specs.declared.history.Event.{Event}
 use Rattle.phase_model.specs.declared.history.Event.TheVariants.{Claim, Pass}
-use Rattle.phase_model.specs.declared.op.Op.{Op}
+use Rattle.phase_model.specs.declared.terms.Terms.{Terms}
 use Rattle.phase_model.specs.Tasks.{has_mode}
-use Rattle.phase_model.specs.Phases.{waits, is_closed}
+use Rattle.phase_model.specs.Phases.{waits, is_closed, signals, is_within_bound}
 use Rattle.phase_model.specs.Singles.{is_settled}
 use Rattle.phase_model.specs.Rules.{Story, is_permitted, is_allowed, is_legal, has_room, same_look, look_of}
 use Rattle.phase_modes.specs.Refusal.{first_refusal, are_met}
@@ -24,12 +24,12 @@ use Rattle.phase_model.specs.Replies.{Reply, refused, not_yet, done, event_for, 
 
 -- a reply by its parts
 pub reply_by : (s : Story) (c : Call) (o : Option Refusal) (w : Bool) (e : Event)
-    → first_refusal (conditions s.limits s.ops s.past c) ≡ o → must_wait s.limits s.ops s.past c ≡ w
-    → event_for s.limits s.ops s.past c ≡ e
+    → first_refusal (conditions s.limits s.terms s.past c) ≡ o → must_wait s.limits s.terms s.past c ≡ w
+    → event_for s.limits s.terms s.past c ≡ e
     → reply s c ≡ settled o w (has_room s.limits (e ∷ s.past)) e
 reply_by s c o w e a b d =
-    let f = event_for s.limits s.ops s.past c in
-    let v = must_wait s.limits s.ops s.past c in
+    let f = event_for s.limits s.terms s.past c in
+    let v = must_wait s.limits s.terms s.past c in
     ap (λ x. settled x v (has_room s.limits (f ∷ s.past)) f) a
     ∙ (ap (λ x. settled o x (has_room s.limits (f ∷ s.past)) f) b
     ∙ ap (λ x. settled o w (has_room s.limits (x ∷ s.past)) x) d)
@@ -58,56 +58,62 @@ same_as_itself : (x : Look) → same_look x x ≡ true
 same_as_itself (Value v) = (Decides-int_eq v v).1 refl
 same_as_itself Nothing = refl
 
-module _ (l : Limits) (ops : List Op) (h : List Event) where
+module _ (l : Limits) (terms : Terms) (h : List Event) where
   -- a pass that need not wait claims or passes
-  passing : (t : ℕ) → are_met (conditions l ops h (pass t)) ≡ true → must_wait l ops h (pass t) ≡ false
-      → is_permitted l ops h (event_for l ops h (pass t)) ≡ true
+  passing : (t : ℕ) → are_met (conditions l terms h (pass t)) ≡ true → must_wait l terms h (pass t) ≡ false
+      → is_permitted l terms h (event_for l terms h (pass t)) ≡ true
   passing t k w =
-      elim (cases_Bool (is_permitted l ops h (Claim t))) [
-        | inl e ↦ subst (λ b. is_permitted l ops h (cond b (Claim t) (Pass t)) ≡ true) (sym e) e
+      elim (cases_Bool (is_permitted l terms h (Claim t))) [
+        | inl e ↦ subst (λ b. is_permitted l terms h (cond b (Claim t) (Pass t)) ≡ true) (sym e) e
         | inr e ↦
-            subst (λ b. is_permitted l ops h (cond b (Claim t) (Pass t)) ≡ true) (sym e)
-            (going (are_met (conditions l ops h (pass t))) (has_mode can_wait t h) (is_closed (waits t h) h
-            && is_settled (waits t h) h) (is_permitted l ops h (Claim t)) k w e)
+            subst (λ b. is_permitted l terms h (cond b (Claim t) (Pass t)) ≡ true) (sym e)
+            (going (are_met (conditions l terms h (pass t))) (has_mode can_wait t h) (is_closed (waits t h) h
+            && is_settled (waits t h) h) (is_permitted l terms h (Claim t)) k w e)
       ]
 
   -- a call whose conditions are met, and that need not wait, has an event that may follow
-  permitted : (c : Call) → are_met (conditions l ops h c) ≡ true → must_wait l ops h c ≡ false
-      → is_permitted l ops h (event_for l ops h c) ≡ true
+  permitted : (c : Call) → are_met (conditions l terms h c) ≡ true → must_wait l terms h c ≡ false
+      → is_permitted l terms h (event_for l terms h c) ≡ true
   permitted (make t m) k w = k
   permitted (register q t m) k w = k
-  permitted (signal t x) k w = k
+  permitted (signal t x) k w =
+      and_from (are_met (conditions l terms h (signal t x))) (is_within_bound terms.bound (signals t h) h) k
+      (not_false (is_within_bound terms.bound (signals t h) h) w)
+    where
+      not_false : (b : Bool) → not b ≡ false → b ≡ true
+      not_false true e = refl
+      not_false false e = absurd cc
   permitted (pass t) k w = passing t k w
   permitted (single_done t) k w = k
   permitted (send t a v) k w = k
   permitted (look t a) k w =
-      let x = look_of ops a (waits t h) h in
-      and_from (are_met (conditions l ops h (look t a))) (same_look x x) k (same_as_itself x)
+      let x = look_of terms.ops a (waits t h) h in
+      and_from (are_met (conditions l terms h (look t a))) (same_look x x) k (same_as_itself x)
   permitted (drop_task t) k w = k
 
 -- the event of a call that is done may follow
 pub done_is_allowed : (s : Story) (c : Call) (e : Event) → reply s c ≡ done e
-    → is_allowed s.limits s.ops s.past e ≡ true
+    → is_allowed s.limits s.terms s.past e ≡ true
 done_is_allowed s c e k =
-    let f = event_for s.limits s.ops s.past c in
+    let f = event_for s.limits s.terms s.past c in
     let d =
-    settled_done (first_refusal (conditions s.limits s.ops s.past c)) (must_wait s.limits s.ops s.past c)
+    settled_done (first_refusal (conditions s.limits s.terms s.past c)) (must_wait s.limits s.terms s.past c)
     (has_room s.limits (f ∷ s.past)) f e k in
-    subst (λ g. is_allowed s.limits s.ops s.past g ≡ true) d.1
-    (and_from (is_permitted s.limits s.ops s.past f) (has_room s.limits (f ∷ s.past))
-    (permitted s.limits s.ops s.past c
-    (met_where_none (conditions s.limits s.ops s.past c) d.0.no_cause) d.0.no_wait) d.0.has_room)
+    subst (λ g. is_allowed s.limits s.terms s.past g ≡ true) d.1
+    (and_from (is_permitted s.limits s.terms s.past f) (has_room s.limits (f ∷ s.past))
+    (permitted s.limits s.terms s.past c
+    (met_where_none (conditions s.limits s.terms s.past c) d.0.no_cause) d.0.no_wait) d.0.has_room)
 
 -- a legal history stays legal, whatever is called
-pub legal_after : (s : Story) (c : Call) → is_legal s.limits s.ops s.past ≡ true
-    → is_legal (after s (reply s c)).limits (after s (reply s c)).ops (after s (reply s c)).past ≡ true
+pub legal_after : (s : Story) (c : Call) → is_legal s.limits s.terms s.past ≡ true
+    → is_legal (after s (reply s c)).limits (after s (reply s c)).terms (after s (reply s c)).past ≡ true
 legal_after s c k = go (reply s c) refl
   where
-    go : (r : Reply) → reply s c ≡ r → is_legal (after s r).limits (after s r).ops (after s r).past ≡ true
+    go : (r : Reply) → reply s c ≡ r → is_legal (after s r).limits (after s r).terms (after s r).past ≡ true
     go (refused r) e = k
     go not_yet e = k
     go (done f) e =
-        and_from (is_allowed s.limits s.ops s.past f) (is_legal s.limits s.ops s.past)
+        and_from (is_allowed s.limits s.terms s.past f) (is_legal s.limits s.terms s.past)
         (done_is_allowed s c f e) k
 
 -- and so over every list of calls

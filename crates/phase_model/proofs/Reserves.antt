@@ -5,7 +5,7 @@ use Rattle.std.proofs.lemmas.Bool.{cases_Bool, cases_order, eqb-true, eq-eqb, le
 use Rattle.phase_modes.specs.declared.limits.Limits.{Limits}
 use Rattle.phase_model.specs.declared.history.Event.{Event}
 use Rattle.phase_model.specs.declared.history.Event.TheVariants.{Claim, Did, Drop}
-use Rattle.phase_model.specs.declared.op.Op.{Op}
+use Rattle.phase_model.specs.declared.terms.Terms.{Terms}
 use Rattle.phase_model.specs.Tasks.{is_live, live_tasks, live_count}
 use Rattle.phase_model.specs.Phases.{waits}
 use Rattle.phase_model.specs.Singles.{Proposal, proposals, is_proposed, is_claimed, is_done, is_settled, owes_nothing, has_unclaimed, has_undone, reserve}
@@ -40,39 +40,39 @@ some_passes f p (x ∷ xs) s e =
     ]
 
 -- a history where each single is done keeps nothing back
-pub reserve_none : (l : Limits) (ops : List Op) (h : List Event) → is_legal l ops h ≡ true
+pub reserve_none : (l : Limits) (terms : Terms) (h : List Event) → is_legal l terms h ≡ true
     → ((p : ℕ) → is_settled p h ≡ true) → reserve h ≡ 0
-reserve_none l ops h k all =
+reserve_none l terms h k all =
     let done : (q : ℕ) → is_proposed q h ≡ true → is_done q h ≡ true =
     λ q s. implied (is_proposed q h) (is_done q h) (all q) s in
     let claimed : has_unclaimed h (proposals h) ≡ false =
     none_passes (λ q. not (is_claimed q h)) (proposals h)
-    (λ q s. ap (λ b. not b) (done_is_claimed l ops h k q (done q s)))
+    (λ q s. ap (λ b. not b) (done_is_claimed l terms h k q (done q s)))
     in
     let undone : has_undone h (proposals h) ≡ false =
     none_passes (λ q. not (is_done q h)) (proposals h) (λ q s. ap (λ b. not b) (done q s)) in
     rw (claimed, undone) refl
 
 -- beside an open single's phase, each phase that is proposed for is done
-only_open : (l : Limits) (ops : List Op) (h : List Event) → is_legal l ops h ≡ true → (p q : ℕ)
+only_open : (l : Limits) (terms : Terms) (h : List Event) → is_legal l terms h ≡ true → (p q : ℕ)
     → is_proposed p h ≡ true → is_done p h ≡ false → is_proposed q h ≡ true → (p ≡ q) ⊎ (is_done q h ≡ true)
-only_open l ops h k p q s d e =
+only_open l terms h k p q s d e =
     elim (cases_order p q) [
       | inl same ↦ inl same
-      | inr (inl less) ↦ absurd (false≢true (sym (open_is_last l ops h k p q s d less) ∙ e))
-      | inr (inr more) ↦ inr (earlier_are_done l ops h k p q s e more)
+      | inr (inl less) ↦ absurd (false≢true (sym (open_is_last l terms h k p q s d less) ∙ e))
+      | inr (inr more) ↦ inr (earlier_are_done l terms h k p q s e more)
     ]
 
 -- where nothing but phase p may lack a claim in g, nothing lacks one where p has it
-pub none_unclaimed : (l : Limits) (ops : List Op) (h g : List Event) → is_legal l ops h ≡ true → (p : ℕ)
+pub none_unclaimed : (l : Limits) (terms : Terms) (h g : List Event) → is_legal l terms h ≡ true → (p : ℕ)
     → is_proposed p h ≡ true → is_done p h ≡ false
     → is_claimed p g ≡ true → ((q : ℕ) → is_claimed q h ≡ true → is_claimed q g ≡ true)
     → has_unclaimed g (proposals h) ≡ false
-none_unclaimed l ops h g k p s d c later =
+none_unclaimed l terms h g k p s d c later =
     none_passes (λ q. not (is_claimed q g)) (proposals h) (λ q e.
-    elim (only_open l ops h k p q s d e) [
+    elim (only_open l terms h k p q s d e) [
       | inl same ↦ ap (λ b. not b) (subst (λ r. is_claimed r g ≡ true) same c)
-      | inr done ↦ ap (λ b. not b) (later q (done_is_claimed l ops h k q done))
+      | inr done ↦ ap (λ b. not b) (later q (done_is_claimed l terms h k q done))
     ])
 
 -- an open single is not done
@@ -81,14 +81,14 @@ is_undone : (h : List Event) (p : ℕ) → is_proposed p h ≡ true → is_done 
 is_undone h p s d = some_passes (λ q. not (is_done q h)) p (proposals h) s (ap (λ b. not b) d)
 
 -- an open single keeps back room for its claim and its report, and for the report alone once it is claimed
-pub reserve_open : (l : Limits) (ops : List Op) (h : List Event) → is_legal l ops h ≡ true → (p : ℕ)
+pub reserve_open : (l : Limits) (terms : Terms) (h : List Event) → is_legal l terms h ≡ true → (p : ℕ)
     → is_proposed p h ≡ true → is_done p h ≡ false
     → reserve h ≡ (if is_claimed p h then 1 else 2)
-reserve_open l ops h k p s d =
+reserve_open l terms h k p s d =
     elim (cases_Bool (is_claimed p h)) [
       | inl c ↦
           let claimed : has_unclaimed h (proposals h) ≡ false =
-          none_unclaimed l ops h h k p s d c (λ q e. e) in
+          none_unclaimed l terms h h k p s d c (λ q e. e) in
           rw (c, claimed, is_undone h p s d) refl
       | inr c ↦
           let unclaimed : has_unclaimed h (proposals h) ≡ true =
@@ -97,44 +97,44 @@ reserve_open l ops h k p s d =
     ]
 
 -- a claim takes one event and one from what is kept back
-pub claim_has_room : (l : Limits) (ops : List Op) (h : List Event) → is_legal l ops h ≡ true → (t : ℕ)
-    → is_permitted l ops h (Claim t) ≡ true → has_room l (Claim t ∷ h) ≡ true
-claim_has_room l ops h k t g =
-    let f = claim_follows l ops h t g in
+pub claim_has_room : (l : Limits) (terms : Terms) (h : List Event) → is_legal l terms h ≡ true → (t : ℕ)
+    → is_permitted l terms h (Claim t) ≡ true → has_room l (Claim t ∷ h) ≡ true
+claim_has_room l terms h k t g =
+    let f = claim_follows l terms h t g in
     let p = waits t h in
     let s : is_proposed p h ≡ true = proposer_proposes t p h f.proposed in
     let d : is_done p h ≡ false =
     false_from_ne_true (is_done p h)
-    (λ e. false≢true (sym f.unclaimed ∙ done_is_claimed l ops h k p e)) in
-    let two : reserve h ≡ 2 = reserve_open l ops h k p s d ∙ ap (λ b. if b then 1 else 2) f.unclaimed in
+    (λ e. false≢true (sym f.unclaimed ∙ done_is_claimed l terms h k p e)) in
+    let two : reserve h ≡ 2 = reserve_open l terms h k p s d ∙ ap (λ b. if b then 1 else 2) f.unclaimed in
     let claimed : has_unclaimed (Claim t ∷ h) (proposals h) ≡ false =
-    none_unclaimed l ops h (Claim t ∷ h) k p s d (or_left (p == p) (is_claimed p h) (eq-eqb p p refl))
+    none_unclaimed l terms h (Claim t ∷ h) k p s d (or_left (p == p) (is_claimed p h) (eq-eqb p p refl))
     (λ q e. or_right (p == q) (is_claimed q h) e)
     in
     let one : reserve (Claim t ∷ h) ≡ 1 = rw (claimed, is_undone h p s d) refl in
-    let now = leb-true (length h + live_count h + reserve h) l.history (has_room_now l ops h k) in
+    let now = leb-true (length h + live_count h + reserve h) l.history (has_room_now l terms h k) in
     le-leb (suc (length h) + live_count h + reserve (Claim t ∷ h)) l.history (omega (arith, now, one, two))
 
 -- so does a report
-pub did_has_room : (l : Limits) (ops : List Op) (h : List Event) → is_legal l ops h ≡ true → (t : ℕ)
-    → is_permitted l ops h (Did t) ≡ true → has_room l (Did t ∷ h) ≡ true
-did_has_room l ops h k t g =
-    let f = did_follows l ops h t g in
+pub did_has_room : (l : Limits) (terms : Terms) (h : List Event) → is_legal l terms h ≡ true → (t : ℕ)
+    → is_permitted l terms h (Did t) ≡ true → has_room l (Did t ∷ h) ≡ true
+did_has_room l terms h k t g =
+    let f = did_follows l terms h t g in
     let p = waits t h in
     let c : is_claimed p h ≡ true = claimer_claims t p h f.claimed in
-    let s : is_proposed p h ≡ true = claimed_is_proposed l ops h k p c in
-    let one : reserve h ≡ 1 = reserve_open l ops h k p s f.undone ∙ ap (λ b. if b then 1 else 2) c in
+    let s : is_proposed p h ≡ true = claimed_is_proposed l terms h k p c in
+    let one : reserve h ≡ 1 = reserve_open l terms h k p s f.undone ∙ ap (λ b. if b then 1 else 2) c in
     let claimed : has_unclaimed (Did t ∷ h) (proposals h) ≡ false =
-    none_unclaimed l ops h h k p s f.undone c (λ q e. e) in
+    none_unclaimed l terms h h k p s f.undone c (λ q e. e) in
     let done : has_undone (Did t ∷ h) (proposals h) ≡ false =
     none_passes (λ q. not (is_done q (Did t ∷ h))) (proposals h) (λ q e.
-    elim (only_open l ops h k p q s f.undone e) [
+    elim (only_open l terms h k p q s f.undone e) [
       | inl same ↦ ap (λ b. not b) (or_left (p == q) (is_done q h) (eq-eqb p q same))
       | inr early ↦ ap (λ b. not b) (or_right (p == q) (is_done q h) early)
     ])
     in
     let none : reserve (Did t ∷ h) ≡ 0 = rw (claimed, done) refl in
-    let now = leb-true (length h + live_count h + reserve h) l.history (has_room_now l ops h k) in
+    let now = leb-true (length h + live_count h + reserve h) l.history (has_room_now l terms h k) in
     le-leb (suc (length h) + live_count h + reserve (Did t ∷ h)) l.history (omega (arith, now, none, one))
 
 -- a filter leaves no more than there was
@@ -163,11 +163,11 @@ taken t (u ∷ ts) k =
     ]
 
 -- a drop takes one event and one live task
-pub drop_has_room : (l : Limits) (ops : List Op) (h : List Event) → is_legal l ops h ≡ true → (t : ℕ)
-    → is_permitted l ops h (Drop t) ≡ true → has_room l (Drop t ∷ h) ≡ true
-drop_has_room l ops h k t g =
+pub drop_has_room : (l : Limits) (terms : Terms) (h : List Event) → is_legal l terms h ≡ true → (t : ℕ)
+    → is_permitted l terms h (Drop t) ≡ true → has_room l (Drop t ∷ h) ≡ true
+drop_has_room l terms h k t g =
     let live = (and_parts (is_live t h) (owes_nothing t h) g).0 in
     let fewer : live_count (Drop t ∷ h) < live_count h =
     rw live_tasks-drop (taken t (live_tasks h) (has-live_tasks t h ∙ live)) in
-    let now = leb-true (length h + live_count h + reserve h) l.history (has_room_now l ops h k) in
+    let now = leb-true (length h + live_count h + reserve h) l.history (has_room_now l terms h k) in
     le-leb (suc (length h) + live_count (Drop t ∷ h) + reserve h) l.history (omega (arith, now, fewer))

@@ -22,8 +22,8 @@ use Rattle.phase_model.proofs.Claims.{done_is_claimed}
 use Rattle.phase_model.proofs.Reserves.{claim_has_room, did_has_room, drop_has_room}
 
 pub singles_have_room : SinglesHaveRoom
-singles_have_room l ops h k t =
-    (claim_has_room l ops h k t, did_has_room l ops h k t, drop_has_room l ops h k t)
+singles_have_room l terms h k t =
+    (claim_has_room l terms h k t, did_has_room l terms h k t, drop_has_room l terms h k t)
 
 -- a call with these conditions is not refused for room, where there is room for it when they are met
 never_full : (a b c room : Bool) (e : Event) → ((a && b && c) ≡ true → room ≡ true)
@@ -36,38 +36,38 @@ never_full true true true true e k q = absurd cc
 never_full true true true false e k q = false≢true (k refl)
 
 -- a pass that may claim does claim
-pub pass_claims : (s : Story) (t : ℕ) → is_legal s.limits s.ops s.past ≡ true
-    → is_permitted s.limits s.ops s.past (Claim t) ≡ true → reply s (pass t) ≡ done (Claim t)
+pub pass_claims : (s : Story) (t : ℕ) → is_legal s.limits s.terms s.past ≡ true
+    → is_permitted s.limits s.terms s.past (Claim t) ≡ true → reply s (pass t) ≡ done (Claim t)
 pass_claims s t k g =
     let l = s.limits in
-    let ops = s.ops in
+    let terms = s.terms in
     let h = s.past in
-    let f = claim_follows l ops h t g in
+    let f = claim_follows l terms h t g in
     let undone : is_done (waits t h) h ≡ false =
     false_from_ne_true (is_done (waits t h) h)
-    (λ e. false≢true (sym f.unclaimed ∙ done_is_claimed l ops h k (waits t h) e)) in
-    let o = owes l ops h k t (waits t h) f.proposed undone in
+    (λ e. false≢true (sym f.unclaimed ∙ done_is_claimed l terms h k (waits t h) e)) in
+    let o = owes l terms h k t (waits t h) f.proposed undone in
     let signalled : (signals t h == waits t h + 1) ≡ true = eq-eqb (signals t h) (waits t h + 1) o.ahead in
-    let met : are_met (conditions l ops h (pass t)) ≡ true =
+    let met : are_met (conditions l terms h (pass t)) ≡ true =
     and_from (is_live t h) (not (has_mode can_signal t h) || (signals t h == waits t h + 1)) f.live
     (or_right (not (has_mode can_signal t h)) (signals t h == waits t h + 1) signalled)
     in
-    let going : must_wait l ops h (pass t) ≡ false =
-    and_right (has_mode can_wait t h && not (is_permitted l ops h (Pass t)))
-    (not (is_permitted l ops h (Claim t))) (ap (λ b. not b) g) in
-    let event : event_for l ops h (pass t) ≡ Claim t = ap (λ b. cond b (Claim t) (Pass t)) g in
-    reply_by s (pass t) None false (Claim t) (none_where_met (conditions l ops h (pass t)) met) going event
-    ∙ ap (λ b. settled None false b (Claim t)) (claim_has_room l ops h k t g)
+    let going : must_wait l terms h (pass t) ≡ false =
+    and_right (has_mode can_wait t h && not (is_permitted l terms h (Pass t)))
+    (not (is_permitted l terms h (Claim t))) (ap (λ b. not b) g) in
+    let event : event_for l terms h (pass t) ≡ Claim t = ap (λ b. cond b (Claim t) (Pass t)) g in
+    reply_by s (pass t) None false (Claim t) (none_where_met (conditions l terms h (pass t)) met) going event
+    ∙ ap (λ b. settled None false b (Claim t)) (claim_has_room l terms h k t g)
 
 pub singles_are_answered : SinglesAreAnswered
 singles_are_answered s k t =
     let l = s.limits in
-    let ops = s.ops in
+    let terms = s.terms in
     let h = s.past in
     let p = waits t h in (
       pass_claims s t k,
       never_full (is_live t h) (has_claimed t p h) (not (is_done p h)) (has_room l (Did t ∷ h)) (Did t)
-          (λ e. did_has_room l ops h k t e),
+          (λ e. did_has_room l terms h k t e),
       never_full (is_live t h) (owes_nothing t h) true (has_room l (Drop t ∷ h)) (Drop t)
-          (λ e. drop_has_room l ops h k t (and_parts (is_live t h && owes_nothing t h) true e).0),
+          (λ e. drop_has_room l terms h k t (and_parts (is_live t h && owes_nothing t h) true e).0),
     )

@@ -5,9 +5,9 @@ use Rattle.phase_modes.specs.declared.limits.Limits.{Limits}
 use Rattle.phase_modes.specs.Mode.{can_signal, can_single}
 use Rattle.phase_model.specs.declared.history.Event.{Event}
 use Rattle.phase_model.specs.declared.history.Event.TheVariants.{Sig, Claim, Did}
-use Rattle.phase_model.specs.declared.op.Op.{Op}
+use Rattle.phase_model.specs.declared.terms.Terms.{Terms}
 use Rattle.phase_model.specs.Tasks.{is_live, has_mode}
-use Rattle.phase_model.specs.Phases.{waits, signals, is_closed}
+use Rattle.phase_model.specs.Phases.{waits, signals, is_closed, is_within_bound}
 use Rattle.phase_model.specs.Singles.{has_proposed, is_mismatch, has_claimed, is_claimed, is_done}
 use Rattle.phase_model.specs.Rules.{is_permitted}
 
@@ -16,15 +16,16 @@ pub record ProposalFollows (h : List Event) (t n : ℕ) : Type 0 where
   pub single : has_mode can_single t h ≡ true
   pub agrees : is_mismatch n (signals t h) h ≡ false
 
-pub proposal_follows : (l : Limits) (ops : List Op) (h : List Event) (t n : ℕ)
-    → is_permitted l ops h (Sig t (Some n)) ≡ true → ProposalFollows h t n
-proposal_follows l ops h t n k =
+pub proposal_follows : (l : Limits) (terms : Terms) (h : List Event) (t n : ℕ)
+    → is_permitted l terms h (Sig t (Some n)) ≡ true → ProposalFollows h t n
+proposal_follows l terms h t n k =
     let a = is_live t h in
     let b = has_mode can_signal t h in
     let c = not (true && not (has_mode can_single t h)) in
     let d = signals t h == waits t h in
     let e = not (is_mismatch n (signals t h) h) in
-    let k4 = and_parts (a && b && c && d) e k in
+    let k5 = and_parts (a && b && c && d && e) (is_within_bound terms.bound (signals t h) h) k in
+    let k4 = and_parts (a && b && c && d) e k5.0 in
     let k2 = and_parts (a && b) c (and_parts (a && b && c) d k4.0).0 in
     record {
       single = twice (has_mode can_single t h) k2.1;
@@ -42,9 +43,9 @@ pub record ClaimFollows (h : List Event) (t : ℕ) : Type 0 where
   pub closed : is_closed (waits t h) h ≡ true
   pub unclaimed : is_claimed (waits t h) h ≡ false
 
-pub claim_follows : (l : Limits) (ops : List Op) (h : List Event) (t : ℕ)
-    → is_permitted l ops h (Claim t) ≡ true → ClaimFollows h t
-claim_follows l ops h t k =
+pub claim_follows : (l : Limits) (terms : Terms) (h : List Event) (t : ℕ)
+    → is_permitted l terms h (Claim t) ≡ true → ClaimFollows h t
+claim_follows l terms h t k =
     let a = is_live t h in
     let b = has_proposed t (waits t h) h in
     let c = is_closed (waits t h) h in
@@ -65,9 +66,9 @@ pub record DidFollows (h : List Event) (t : ℕ) : Type 0 where
   pub claimed : has_claimed t (waits t h) h ≡ true
   pub undone : is_done (waits t h) h ≡ false
 
-pub did_follows : (l : Limits) (ops : List Op) (h : List Event) (t : ℕ)
-    → is_permitted l ops h (Did t) ≡ true → DidFollows h t
-did_follows l ops h t k =
+pub did_follows : (l : Limits) (terms : Terms) (h : List Event) (t : ℕ)
+    → is_permitted l terms h (Did t) ≡ true → DidFollows h t
+did_follows l terms h t k =
     let a = is_live t h in
     let b = has_claimed t (waits t h) h in
     let k2 = and_parts (a && b) (not (is_done (waits t h) h)) k in

@@ -55,8 +55,8 @@ would_wait_is : (s : Story) (t : ℕ) → would_wait s t ≡ holds t (waits t s.
 would_wait_is s t =
     let h = s.past in
     let w = waits t h in
-    waits_settled (first_refusal (conditions s.limits s.ops h (pass t))) (must_wait s.limits s.ops h (pass t))
-    (has_room s.limits (event_for s.limits s.ops h (pass t) ∷ h)) (event_for s.limits s.ops h (pass t))
+    waits_settled (first_refusal (conditions s.limits s.terms h (pass t))) (must_wait s.limits s.terms h (pass t))
+    (has_room s.limits (event_for s.limits s.terms h (pass t) ∷ h)) (event_for s.limits s.terms h (pass t))
     ∙ simple (is_live t h) (has_mode can_signal t h) (signals t h == w + 1) (has_mode can_wait t h)
     (is_closed w h) (is_settled w h) (has_proposed t w h) (is_claimed w h)
 
@@ -151,17 +151,17 @@ module _ (s : Story) (t : ℕ) (waiting : would_wait s t ≡ true) where
   here : Held t (waits t s.past) s.past
   here = held s t waiting
 
-  pub stays : (e : Event) → can_free e ≡ false → is_legal s.limits s.ops (e ∷ s.past) ≡ true
+  pub stays : (e : Event) → can_free e ≡ false → is_legal s.limits s.terms (e ∷ s.past) ≡ true
       → would_wait (with_event s e) t ≡ true
   stays (Make u m) k legal =
-      let f = last_follows s.limits s.ops s.past (Make u m) legal in
+      let f = last_follows s.limits s.terms s.past (Make u m) legal in
       absurd (false≢true (sym (some_live t s.past here.live)
       ∙ (and_parts (is_empty s.past) (nat_lt u s.limits.tasks) f.permitted).0))
   stays (Reg q u m) k legal =
       let h = s.past in
       let w = waits t h in
       let r =
-      reg_follows s.limits s.ops h q u m (last_follows s.limits s.ops h (Reg q u m) legal).permitted in
+      reg_follows s.limits s.terms h q u m (last_follows s.limits s.terms h (Reg q u m) legal).permitted in
       let other = other_task u t h r.unknown here.live in
       let less : is_closed w (Reg q u m ∷ h) ≡ true → is_closed w h ≡ true =
       closed_before_reg w q u m h r.unknown in
@@ -201,12 +201,12 @@ module _ (s : Story) (t : ℕ) (waiting : would_wait s t ≡ true) where
   stays (Pass u) k legal =
       let h = s.past in
       let w = waits t h in
-      let f = last_follows s.limits s.ops h (Pass u) legal in
+      let f = last_follows s.limits s.terms h (Pass u) legal in
       let other : (u == t) ≡ false =
       ne_eqb u t (λ e.
       let g =
-      pass_follows s.limits s.ops h t
-      (subst (λ v. is_permitted s.limits s.ops h (Pass v) ≡ true) e f.permitted) in
+      pass_follows s.limits s.terms h t
+      (subst (λ v. is_permitted s.limits s.terms h (Pass v) ≡ true) e f.permitted) in
       false≢true (sym (not-true (is_closed w h && is_settled w h) here.not_over)
       ∙ and_from (is_closed w h) (is_settled w h) (g.closed here.waiter) (g.settled here.waiter)))
       in

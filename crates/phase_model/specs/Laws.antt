@@ -12,7 +12,7 @@ after_calls s (c ∷ cs) = after_calls (after s (reply s c)) cs
 
 -- the story's history is legal
 abbrev pub IsLegal : Story → Type 0
-IsLegal s = is_legal s.limits s.ops s.past ≡ true
+IsLegal s = is_legal s.limits s.terms s.past ≡ true
 
 -- from a legal history every list of calls leads to a legal one, in which phases are ordered
 abbrev pub CallsKeepLegal : Type 0
@@ -22,5 +22,5 @@ CallsKeepLegal = (s : Story) (cs : List Call) → IsLegal s
 -- in a legal story a call is done exactly where the event that it would add is allowed
 abbrev pub DoneWhereAllowed : Type 0
 DoneWhereAllowed = (s : Story) (c : Call) → IsLegal s
-    → (reply s c ≡ done (event_for s.limits s.ops s.past c))
-    ↔ (is_allowed s.limits s.ops s.past (event_for s.limits s.ops s.past c) ≡ true)
+    → (reply s c ≡ done (event_for s.limits s.terms s.past c))
+    ↔ (is_allowed s.limits s.terms s.past (event_for s.limits s.terms s.past c) ≡ true)

@@ -5,7 +5,7 @@ use Rattle.phase_modes.specs.declared.refusal.Refusal.TheVariants.{HistoryFull}
 use Rattle.phase_modes.specs.Mode.{can_wait}
 use Rattle.phase_model.specs.declared.history.Event.{Event}
 use Rattle.phase_model.specs.declared.history.Event.TheVariants.{Sig, Claim, Did, Pass, Drop}
-use Rattle.phase_model.specs.declared.op.Op.{Op}
+use Rattle.phase_model.specs.declared.terms.Terms.{Terms}
 use Rattle.phase_model.specs.Tasks.{has_mode}
 use Rattle.phase_model.specs.Phases.{waits, signals}
 use Rattle.phase_model.specs.Rules.{Story, is_permitted, has_room, is_legal}
@@ -42,13 +42,13 @@ NoneAfter late early h = (p : ℕ) (later between before : List Event) (e f : Ev
 
 -- in a legal history each phase has at most one claim and at most one report, and no claim after its report
 abbrev pub OneClaimAndOneReport : Type 0
-OneClaimAndOneReport = (l : Limits) (ops : List Op) (h : List Event) → is_legal l ops h ≡ true
+OneClaimAndOneReport = (l : Limits) (terms : Terms) (h : List Event) → is_legal l terms h ≡ true
     → NoneAfter is_claim is_claim h × NoneAfter is_report is_report h × NoneAfter is_claim is_report h
 
 -- in a legal history the claim and the report of a phase stand after its last signal and before its first
 -- pass by a task that can wait
 abbrev pub SinglesStandBetween : Type 0
-SinglesStandBetween = (l : Limits) (ops : List Op) (h : List Event) → is_legal l ops h ≡ true
+SinglesStandBetween = (l : Limits) (terms : Terms) (h : List Event) → is_legal l terms h ≡ true
     → NoneAfter is_signal is_claim h
     × NoneAfter is_signal is_report h
     × NoneAfter is_claim is_pass h
@@ -56,15 +56,15 @@ SinglesStandBetween = (l : Limits) (ops : List Op) (h : List Event) → is_legal
 
 -- after a legal history there is room for each claim, each report and each drop that it permits
 abbrev pub SinglesHaveRoom : Type 0
-SinglesHaveRoom = (l : Limits) (ops : List Op) (h : List Event) → is_legal l ops h ≡ true → (t : ℕ)
-    → (is_permitted l ops h (Claim t) ≡ true → has_room l (Claim t ∷ h) ≡ true)
-    × (is_permitted l ops h (Did t) ≡ true → has_room l (Did t ∷ h) ≡ true)
-    × (is_permitted l ops h (Drop t) ≡ true → has_room l (Drop t ∷ h) ≡ true)
+SinglesHaveRoom = (l : Limits) (terms : Terms) (h : List Event) → is_legal l terms h ≡ true → (t : ℕ)
+    → (is_permitted l terms h (Claim t) ≡ true → has_room l (Claim t ∷ h) ≡ true)
+    × (is_permitted l terms h (Did t) ≡ true → has_room l (Did t ∷ h) ≡ true)
+    × (is_permitted l terms h (Drop t) ≡ true → has_room l (Drop t ∷ h) ≡ true)
 
 -- so in a legal story a pass that may claim does claim, and no report and no drop is refused because the
 -- history is full
 abbrev pub SinglesAreAnswered : Type 0
-SinglesAreAnswered = (s : Story) → is_legal s.limits s.ops s.past ≡ true → (t : ℕ)
-    → (is_permitted s.limits s.ops s.past (Claim t) ≡ true → reply s (pass t) ≡ done (Claim t))
+SinglesAreAnswered = (s : Story) → is_legal s.limits s.terms s.past ≡ true → (t : ℕ)
+    → (is_permitted s.limits s.terms s.past (Claim t) ≡ true → reply s (pass t) ≡ done (Claim t))
     × (reply s (single_done t) ≢ refused HistoryFull)
     × (reply s (drop_task t) ≢ refused HistoryFull)

@@ -1,11 +1,11 @@
 -- Who waits, and which events can let a waiting task go on.
-use Rattle.std.specs.Prelude.{ℕ, ◌≡◌, Bool, true, false, ◌&&◌, not, ◌∷◌}
+use Rattle.std.specs.Prelude.{ℕ, ◌≡◌, Bool, true, false, ◌&&◌, not, ◌∷◌, Option, Some}
 use Rattle.phase_model.specs.declared.history.Event.{Event}
-use Rattle.phase_model.specs.declared.history.Event.TheVariants.{Sig, Did, Drop}
+use Rattle.phase_model.specs.declared.history.Event.TheVariants.{Sig, Did, Pass as Passed, Drop}
 use Rattle.phase_model.specs.Tasks.{is_live}
 use Rattle.phase_model.specs.Phases.{waits, is_closed}
 use Rattle.phase_model.specs.Rules.{Story, with_event, is_legal}
-use Rattle.phase_model.specs.declared.call.Call.TheVariants.{Pass as pass}
+use Rattle.phase_model.specs.declared.call.Call.TheVariants.{Signal as signal, Pass as pass}
 use Rattle.phase_model.specs.Replies.{Reply, refused, not_yet, done, reply}
 use Rattle.phase_model.specs.Laws.{IsLegal}
 
@@ -32,10 +32,27 @@ can_free _ = false
 
 -- after any other event of a legal history, who waited before waits on
 abbrev pub OthersFreeNobody : Type 0
-OthersFreeNobody = (s : Story) (e : Event) (t : ℕ) → is_legal s.limits s.ops (e ∷ s.past) ≡ true
+OthersFreeNobody = (s : Story) (e : Event) (t : ℕ) → is_legal s.limits s.terms (e ∷ s.past) ≡ true
     → can_free e ≡ false → would_wait s t ≡ true → would_wait (with_event s e) t ≡ true
 
 -- in a legal story all who wait stand at the same phase, whether for its signals or for its single
 abbrev pub AllWaitInOnePhase : Type 0
 AllWaitInOnePhase = (s : Story) (t u : ℕ) → IsLegal s
     → would_wait s t ≡ true → would_wait s u ≡ true → waits t s.past ≡ waits u s.past
+
+-- a signal of t would be answered not yet: t waits to signal
+abbrev pub signal_would_wait : Story → ℕ → Option ℕ → Bool
+signal_would_wait s t x = is_not_yet (reply s (signal t x))
+
+-- the events that can let a task that waits to signal go on, if only to be refused: a proposal, a pass, and a drop
+abbrev pub can_free_signal : Event → Bool
+can_free_signal (Sig t (Some n)) = true
+can_free_signal (Passed t) = true
+can_free_signal (Drop t) = true
+can_free_signal _ = false
+
+-- after any other event of a legal history, who waited to signal before waits on
+abbrev pub OthersFreeNoSignaller : Type 0
+OthersFreeNoSignaller = (s : Story) (e : Event) (t : ℕ) (x : Option ℕ)
+    → is_legal s.limits s.terms (e ∷ s.past) ≡ true → can_free_signal e ≡ false
+    → signal_would_wait s t x ≡ true → signal_would_wait (with_event s e) t x ≡ true

@@ -1,6 +1,6 @@
 //! What holds of those who wait. Each function does nothing: its contract is the law, and the check
 //! proves it.
-ghost use Rattle.phase_model.specs.Waiting.{AllWaitInOnePhase, OthersFreeNobody};
+ghost use Rattle.phase_model.specs.Waiting.{AllWaitInOnePhase, OthersFreeNobody, OthersFreeNoSignaller};
 
 /// Only a signal, a single's report and a drop can let a waiting task go on.
 pub fn others_free_nobody()
@@ -10,4 +10,9 @@ pub fn others_free_nobody()
 /// All tasks that wait at a phaser stand at the same phase of it.
 pub fn all_wait_in_one_phase()
     ensures { AllWaitInOnePhase }
+{}
+
+/// Only a proposal, a pass and a drop can let a task go on that waits to signal.
+pub fn others_free_no_signaller()
+    ensures { OthersFreeNoSignaller }
 {}

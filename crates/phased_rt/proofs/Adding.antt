@@ -8,13 +8,14 @@ use Rattle.std.proofs.lemmas.List.Elements.{All-nil, All-cons, All-drop}
 use Rattle.std.proofs.lemmas.List.Sums.{sum_by-cons}
 use Rattle.phase_model.specs.declared.history.Event.{Event}
 use Rattle.phase_model.specs.declared.history.Event.TheVariants as plain
-use Rattle.phase_model.specs.declared.op.Op.{Op}
+use Rattle.phase_model.specs.declared.terms.Terms.{Terms}
+use Rattle.phase_model.specs.Rules.{no_terms}
 use Rattle.phase_model.specs.Amounts.{Amount, amount, plus, totals}
 use Rattle.finish_core.specs.declared.event.FinishEvent.{FinishEvent}
 use Rattle.world_model.specs.declared.event.Step.{Step}
 use Rattle.world_model.specs.declared.event.Step.TheVariants.{Make, Reg, Sig, Claim, Did, Pass, Send, Look, Drop}
 use Rattle.world_model.specs.declared.event.WorldEvent.{WorldEvent}
-use Rattle.world_model.specs.Parts.{ops_of, event_for, phaser_past}
+use Rattle.world_model.specs.Parts.{terms_of, event_for, phaser_past}
 use Rattle.trace_model.specs.declared.event.TracedEvent.{TracedEvent}
 use Rattle.trace_model.specs.declared.event.TracedEvent.TheVariants.{Phaser, Finish, Begin, Refuse, Fail}
 use Rattle.trace_model.specs.Run.{Entry}
@@ -32,7 +33,7 @@ pub record IsPart (f : Amount → ℕ) : Type 0 where
 
 -- what a step amounts to
 abbrev step_amount : Step → Amount
-step_amount s = amount (event_for [] [] s)
+step_amount s = amount (event_for no_terms [] s)
 
 -- what an event amounts to, where it is one of a phaser whose number passes the test
 abbrev pub weight : (ℕ → Bool) → TracedEvent → Amount
@@ -45,16 +46,16 @@ weigh f test es = sum_by (λ e. f (weight test e.1)) es
 
 -- ---- in a history
 
-same_amount : (ops : List Op) (h : List Event) (s : Step) → amount (event_for ops h s) ≡ step_amount s
-same_amount ops h (Make t m o) = refl
-same_amount ops h (Reg q t m) = refl
-same_amount ops h (Sig t x) = refl
-same_amount ops h (Claim t) = refl
-same_amount ops h (Did t) = refl
-same_amount ops h (Pass t) = refl
-same_amount ops h (Send t a v) = refl
-same_amount ops h (Look t a) = refl
-same_amount ops h (Drop t) = refl
+same_amount : (terms : Terms) (h : List Event) (s : Step) → amount (event_for terms h s) ≡ step_amount s
+same_amount terms h (Make t m o) = refl
+same_amount terms h (Reg q t m) = refl
+same_amount terms h (Sig t x) = refl
+same_amount terms h (Claim t) = refl
+same_amount terms h (Did t) = refl
+same_amount terms h (Pass t) = refl
+same_amount terms h (Send t a v) = refl
+same_amount terms h (Look t a) = refl
+same_amount terms h (Drop t) = refl
 
 one_more : (f : Amount → ℕ) → IsPart f → (n : ℕ) (e : TracedEvent) (w : List WorldEvent)
     → f (totals (phaser_past n (event_of e ∷ w))) ≡ f (weight (λ m. m == n) e) + f (totals (phaser_past n w))
@@ -63,8 +64,8 @@ one_more f part n (Phaser m s) w =
     elim (cases_Bool (m == n)) [
       | inl is ↦
           rw is
-          (part.adds (amount (event_for (ops_of n w) (phaser_past n w) (step_of s))) (totals (phaser_past n w))
-          ∙ ap (λ a. f a + rest) (same_amount (ops_of n w) (phaser_past n w) (step_of s)))
+          (part.adds (amount (event_for (terms_of n w) (phaser_past n w) (step_of s))) (totals (phaser_past n w))
+          ∙ ap (λ a. f a + rest) (same_amount (terms_of n w) (phaser_past n w) (step_of s)))
       | inr isnt ↦ rw isnt (omega (arith, part.none))
     ]
 one_more f part n (Finish g e) w = omega (arith, part.none)
@@ -81,40 +82,40 @@ past_weighs f part n (e ∷ es) =
 
 -- ---- in a part
 
-amount_told : (ops : List Op) (e : Event) → step_amount (step_of (step_told ops e)) ≡ amount e
-amount_told ops (plain.Make t m) = refl
-amount_told ops (plain.Reg q t m) = refl
-amount_told ops (plain.Sig t x) = refl
-amount_told ops (plain.Claim t) = refl
-amount_told ops (plain.Did t) = refl
-amount_told ops (plain.Pass t) = refl
-amount_told ops (plain.Send t a v) = refl
-amount_told ops (plain.Look t a x) = refl
-amount_told ops (plain.Drop t) = refl
+amount_told : (terms : Terms) (e : Event) → step_amount (step_of (step_told terms e)) ≡ amount e
+amount_told terms (plain.Make t m) = refl
+amount_told terms (plain.Reg q t m) = refl
+amount_told terms (plain.Sig t x) = refl
+amount_told terms (plain.Claim t) = refl
+amount_told terms (plain.Did t) = refl
+amount_told terms (plain.Pass t) = refl
+amount_told terms (plain.Send t a v) = refl
+amount_told terms (plain.Look t a x) = refl
+amount_told terms (plain.Drop t) = refl
 
 sum_amount : (f : Amount → ℕ) → IsPart f → (h : List Event) → sum_by (λ e. f (amount e)) h ≡ f (totals h)
 sum_amount f part [] = sym part.none
 sum_amount f part (e ∷ h) =
     omega (arith, sum_by-cons (λ x. f (amount x)) e h, sum_amount f part h, part.adds (amount e) (totals h))
 
-event_weighs : (f : Amount → ℕ) (test : ℕ → Bool) (m : ℕ) (ops : List Op) (e : Event) → test m ≡ true
-    → f (weight test (Phaser m (step_told ops e))) ≡ f (amount e)
-event_weighs f test m ops e is = rw is (ap f (amount_told ops e))
+event_weighs : (f : Amount → ℕ) (test : ℕ → Bool) (m : ℕ) (terms : Terms) (e : Event) → test m ≡ true
+    → f (weight test (Phaser m (step_told terms e))) ≡ f (amount e)
+event_weighs f test m terms e is = rw is (ap f (amount_told terms e))
 
-event_weighs_none : (f : Amount → ℕ) → IsPart f → (test : ℕ → Bool) (m : ℕ) (ops : List Op) (e : Event) → test m ≡ false
-    → f (weight test (Phaser m (step_told ops e))) ≡ 0
-event_weighs_none f part test m ops e isnt = rw isnt part.none
+event_weighs_none : (f : Amount → ℕ) → IsPart f → (test : ℕ → Bool) (m : ℕ) (terms : Terms) (e : Event) → test m ≡ false
+    → f (weight test (Phaser m (step_told terms e))) ≡ 0
+event_weighs_none f part test m terms e isnt = rw isnt part.none
 
-history_weighs : (f : Amount → ℕ) → IsPart f → (test : ℕ → Bool) (m : ℕ) (ops : List Op) (h : List Event)
-    → sum_by (λ e. f (weight test (Phaser m (step_told ops e)))) h ≡ (if test m then f (totals h) else 0)
-history_weighs f part test m ops h =
-    let each : Event → ℕ = λ e. f (weight test (Phaser m (step_told ops e))) in
+history_weighs : (f : Amount → ℕ) → IsPart f → (test : ℕ → Bool) (m : ℕ) (terms : Terms) (h : List Event)
+    → sum_by (λ e. f (weight test (Phaser m (step_told terms e)))) h ≡ (if test m then f (totals h) else 0)
+history_weighs f part test m terms h =
+    let each : Event → ℕ = λ e. f (weight test (Phaser m (step_told terms e))) in
     elim (cases_Bool (test m)) [
       | inl is ↦
-          let all : sum_by each h ≡ f (totals h) = sum_same each (λ e. f (amount e)) h (λ e. event_weighs f test m ops e is) ∙ sum_amount f part h in
+          let all : sum_by each h ≡ f (totals h) = sum_same each (λ e. f (amount e)) h (λ e. event_weighs f test m terms e is) ∙ sum_amount f part h in
           all ∙ rw is refl
       | inr isnt ↦
-          let all : sum_by each h ≡ 0 = sum_none each h (λ k d lt. event_weighs_none f part test m ops (get_or h k d) isnt) in
+          let all : sum_by each h ≡ 0 = sum_none each h (λ k d lt. event_weighs_none f part test m terms (get_or h k d) isnt) in
           all ∙ rw isnt refl
     ]
 
@@ -123,7 +124,7 @@ pub part_weighs : (f : Amount → ℕ) → IsPart f → (test : ℕ → Bool) (m
     → weigh f test p ≡ (if test m then f a else 0)
 part_weighs f part test m p a is =
     let s = is.story in
-    let tell : Event → TracedEvent = λ e. Phaser m (step_told s.ops e) in
+    let tell : Event → TracedEvent = λ e. Phaser m (step_told s.terms e) in
     let long : length is.tickets ≡ length (map tell (reverse s.past)) =
     omega (arith, is.drawn, length-map (reverse s.past) tell, length-reverse s.past)
     in
@@ -132,7 +133,7 @@ part_weighs f part test m p a is =
     ∙ (sum_zip (λ v. f (weight test v)) is.tickets (map tell (reverse s.past)) long
     ∙ (sum_map (λ v. f (weight test v)) tell (reverse s.past)
     ∙ (sum_reverse (λ e. f (weight test (tell e))) s.past
-    ∙ (history_weighs f part test m s.ops s.past
+    ∙ (history_weighs f part test m s.terms s.past
     ∙ ap (λ (x : Amount). if test m then f x else 0) (sym is.posted)))))
 
 -- ---- in all parts

@@ -83,7 +83,7 @@ totalled l phasers others sums es is apart are whole =
 -- ---- how many events are on phasers
 
 weighs_one : (e : TracedEvent) → (weight (λ m. true) e).events ≡ (if is_phasers e then 1 else 0)
-weighs_one (Phaser m (Make t mode ops)) = refl
+weighs_one (Phaser m (Make t mode terms)) = refl
 weighs_one (Phaser m (Reg q t mode)) = refl
 weighs_one (Phaser m (Sig t x)) = refl
 weighs_one (Phaser m (Claim t)) = refl

@@ -7,7 +7,7 @@ use crate::body::{Body, Gate};
 use crate::task::{Item, Task};
 use crate::worker::{Shared, Worker};
 use job_script::{Act, Answer};
-use phase_model::Ops;
+use phase_model::Terms;
 use phase_modes::{Mode, Phased, Refusal};
 use share_book::{Ledgers, Shares};
 use std::sync::Wait;
@@ -57,11 +57,11 @@ impl<B: Body, K: Ledgers> Shared<B, K> {
         shares: &mut Shares<K>,
         task: &mut Task<B>,
         mode: Mode,
-        ops: Ops,
+        terms: &Terms,
     ) -> Result<(), Refusal> {
         let phaser = self.numbers.phaser();
-        if self.may_try(task, Tried::New(phaser, mode, ops))? {
-            self.make_on(rt, shares, phaser, task.number(), mode, ops)?;
+        if self.may_try(task, Tried::New(phaser, mode, *terms))? {
+            self.make_on(rt, shares, phaser, task.number(), mode, terms)?;
             task.note_making(phaser, mode)?;
         }
         Ok(())
@@ -172,7 +172,10 @@ impl<B: Body, K: Ledgers> Shared<B, K> {
             }
             Act::OpenFinish => self.open(rt, task),
             Act::ShutFinish => self.enter(task, Begun::Shut, Plan::Shutting),
-            Act::New(mode, ops) => self.make(rt, shares, task, mode, ops),
+            Act::New(mode, ops, bound) => {
+                let terms = Terms { ops, bound };
+                self.make(rt, shares, task, mode, &terms)
+            }
             Act::Signal => self.enter(task, Begun::Signal, Plan::Signalling(None, false)),
             Act::Wait => self.enter(task, Begun::Wait, Plan::Turning(0)),
             Act::Next => self.enter(task, Begun::Next, Plan::Signalling(None, true)),

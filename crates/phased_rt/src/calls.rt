@@ -6,9 +6,9 @@ use crate::body::Body;
 use crate::diary::Diary;
 use crate::task::Item;
 use crate::worker::{Shared, Worker};
-use phase_model::{Look, Ops};
+use phase_model::{Look, Terms};
 use phase_modes::{Mode, Pair, Refusal};
-use scope_locks::{PassAnswer, ShutAnswer};
+use scope_locks::{PassAnswer, ShutAnswer, SignalAnswer};
 use share_book::{Ledgers, Shares};
 use std::sync::Wait;
 
@@ -20,14 +20,16 @@ impl<B: Body, K: Ledgers> Shared<B, K> {
         phaser: u32,
         task: u32,
         mode: Mode,
-        ops: Ops,
+        terms: &Terms,
     ) -> Result<(), Refusal> {
         let number = phaser as usize;
         if number >= self.phasers.phasers {
             return Err(Refusal::PhasersFull);
         }
+        let tickets = &self.tickets;
+        let ops = terms.ops;
         self.phasers
-            .make(rt, number, &self.tickets, shares, task, mode, ops)
+            .make(rt, number, tickets, shares, task, mode, ops, terms.bound)
     }
 
     pub(crate) fn register_on<R: Wait>(
@@ -78,20 +80,22 @@ impl<B: Body, K: Ledgers> Shared<B, K> {
             .look(rt, number, &self.tickets, shares, task, accumulator)
     }
 
+    /// The item comes back, or it is parked.
     pub(crate) fn signal_on<R: Wait>(
         &self,
         rt: &R,
         worker: &mut Worker<B, K>,
-        task: u32,
+        item: Item<B>,
         phaser: u32,
         proposed: Option<u32>,
-    ) -> Result<(), Refusal>
+    ) -> Result<SignalAnswer<Item<B>>, Refusal>
         ensures seat { IsSeatOf worker.old.seat worker.new.seat }
     {
         let number = phaser as usize;
         if number >= self.phasers.phasers {
-            return Err(Refusal::NotRegistered);
+            return Ok(SignalAnswer::Refused(item, Refusal::NotRegistered));
         }
+        let task = item.task.number();
         let Worker {
             seat,
             kept,
@@ -99,26 +103,41 @@ impl<B: Body, K: Ledgers> Shared<B, K> {
             out,
             ..
         } = worker;
-        self.phasers
-            .signal(rt, number, &self.tickets, shares, out, task, proposed)?;
-        self.flush(rt, seat, kept, out)
+        let tickets = &self.tickets;
+        let answer = self
+            .phasers
+            .signal(rt, number, tickets, shares, out, task, proposed, item);
+        self.flush(rt, seat, kept, out)?;
+        Ok(answer)
     }
 
     /// The item comes back, or it is parked.
     pub(crate) fn pass_on<R: Wait>(
         &self,
         rt: &R,
-        shares: &mut Shares<K>,
+        worker: &mut Worker<B, K>,
         item: Item<B>,
         phaser: u32,
-    ) -> PassAnswer<Item<B>> {
+    ) -> Result<PassAnswer<Item<B>>, Refusal>
+        ensures seat { IsSeatOf worker.old.seat worker.new.seat }
+    {
         let number = phaser as usize;
         if number >= self.phasers.phasers {
-            return PassAnswer::Refused(item, Refusal::NotRegistered);
+            return Ok(PassAnswer::Refused(item, Refusal::NotRegistered));
         }
         let task = item.task.number();
-        self.phasers
-            .pass(rt, number, &self.tickets, shares, task, item)
+        let Worker {
+            seat,
+            kept,
+            shares,
+            out,
+            ..
+        } = worker;
+        let answer = self
+            .phasers
+            .pass(rt, number, &self.tickets, shares, out, task, item);
+        self.flush(rt, seat, kept, out)?;
+        Ok(answer)
     }
 
     pub(crate) fn report_on<R: Wait>(

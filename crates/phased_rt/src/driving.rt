@@ -8,7 +8,7 @@ use crate::crew::Crew;
 use crate::task::{Item, Task};
 use crate::worker::{Shared, Worker};
 use phase_modes::{Pair, Refusal};
-use scope_locks::{PassAnswer, ShutAnswer};
+use scope_locks::{PassAnswer, ShutAnswer, SignalAnswer};
 use share_book::Ledgers;
 use std::sync::Wait;
 use task_standing::Due;
@@ -43,6 +43,7 @@ impl<B: Body, K: Ledgers> Shared<B, K> {
         Ok(Some(item))
     }
 
+    /// A task that is parked signals again once it is let go on: its signal is still due.
     fn signal<R: Wait>(
         &self,
         rt: &R,
@@ -53,13 +54,14 @@ impl<B: Body, K: Ledgers> Shared<B, K> {
     ) -> Result<Next<B>, Refusal>
         ensures seat { IsSeatOf worker.old.seat worker.new.seat }
     {
-        let mut item = item;
-        match self.signal_on(rt, worker, item.task.number(), phaser, number) {
-            Ok(()) => {
+        match self.signal_on(rt, worker, item, phaser, number)? {
+            SignalAnswer::Signalled(signalled) => {
+                let mut item = signalled;
                 item.task.standing.note_signal(phaser);
                 Ok(Some(item))
             }
-            Err(refusal) => {
+            SignalAnswer::Parked => Ok(None),
+            SignalAnswer::Refused(item, refusal) => {
                 let may_fail = matches!(refusal, Refusal::SingleMismatch | Refusal::HistoryFull);
                 self.give_up(item, refusal, may_fail)
             }
@@ -92,7 +94,7 @@ impl<B: Body, K: Ledgers> Shared<B, K> {
     ) -> Result<Next<B>, Refusal>
         ensures seat { IsSeatOf worker.old.seat worker.new.seat }
     {
-        match self.pass_on(rt, &mut worker.shares, item, phaser) {
+        match self.pass_on(rt, worker, item, phaser)? {
             PassAnswer::Passed(passed, _) => {
                 let mut item = passed;
                 item.task.standing.note_pass(phaser);

@@ -2,12 +2,12 @@
 use Rattle.std.proofs.Common.{◌≡◌, ℕ, List, Bool, true, false, Option, None, Some, if◌then◌else◌, refl, sym}
 use Rattle.phase_modes.specs.declared.refusal.Refusal.{Refusal}
 use Rattle.phase_model.specs.declared.history.Event.{Event}
-use Rattle.phase_model.specs.declared.history.Event.TheVariants.{Claim, Pass, Look as Looked}
+use Rattle.phase_model.specs.declared.history.Event.TheVariants.{Sig, Claim, Pass, Look as Looked}
 use Rattle.phase_model.specs.declared.op.Look.{Look}
 use Rattle.phase_model.specs.declared.call.Reply.TheVariants.{Done}
 use Rattle.phase_model.specs.Replies.{settled, done_result, returned, returned_for}
-use Rattle.phaser_core.specs.Answers.{pass_result, look_result}
-use Rattle.phaser_core.specs.Outcomes.{done_reply, pass_reply, look_reply}
+use Rattle.phaser_core.specs.Answers.{signal_result, pass_result, look_result}
+use Rattle.phaser_core.specs.Outcomes.{done_reply, signal_reply, pass_reply, look_reply}
 
 -- a call that never waits, and whose event has no result of its own
 pub done_returned : (h : List Event) (o : Option Refusal) (room : Bool) (e : Event) → returned_for h e ≡ Done
@@ -15,6 +15,15 @@ pub done_returned : (h : List Event) (o : Option Refusal) (room : Bool) (e : Eve
 done_returned h None true e plain = sym plain
 done_returned h None false e plain = refl
 done_returned h (Some r) room e plain = refl
+
+-- a `signal`
+pub signal_returned : (h : List Event) (o : Option Refusal) (waiting room : Bool) (t : ℕ) (x : Option ℕ)
+    → signal_reply (signal_result (settled o waiting room (Sig t x)))
+    ≡ returned h (settled o waiting room (Sig t x))
+signal_returned h (Some r) waiting room t x = refl
+signal_returned h None true room t x = refl
+signal_returned h None false true t x = refl
+signal_returned h None false false t x = refl
 
 -- a `pass`, which adds a claim or a pass
 pub pass_returned : (h : List Event) (o : Option Refusal) (waiting room claims : Bool) (t : ℕ)

@@ -2,7 +2,7 @@
 use Rattle.std.proofs.Common.{◌≡◌, List, [], Option, refl, ap, sym, subst, ◌∙◌, arith}
 use Rattle.phase_modes.specs.declared.limits.Limits.{Limits}
 use Rattle.phase_model.specs.declared.history.Event.{Event}
-use Rattle.phase_model.specs.declared.op.Op.{Op}
+use Rattle.phase_model.specs.declared.terms.Terms.{Terms}
 use Rattle.phase_model.specs.Rules.{Story}
 use Rattle.single_state.specs.declared.statement.Statement.{Statement}
 use Rattle.number_set.specs.Numbers.{Numbers}
@@ -11,15 +11,15 @@ use Rattle.acc_cells.specs.Cells.{Kept, StandsFor}
 use Rattle.phaser_core.specs.Line.{Lines}
 use Rattle.phaser_core.specs.Table.{IsState}
 
-blank_with : (l : Limits) (ops new : List Op) (h : List Event) (roll : Lines) (known : Numbers)
+blank_with : (l : Limits) (terms new : Terms) (h : List Event) (roll : Lines) (known : Numbers)
     (single : Option Statement) (old cells : Kept) → h ≡ []
-    → IsState (record { limits = l; ops = ops; past = h }) roll known single old
-    → cells.ops ≡ new → cells.phases ≡ old.phases → cells.from ≡ old.from → cells.sums ≡ old.sums
+    → IsState (record { limits = l; terms = terms; past = h }) roll known single old
+    → cells.ops ≡ new.ops → cells.phases ≡ old.phases → cells.from ≡ old.from → cells.sums ≡ old.sums
     → StandsFor cells (λ a p. [])
-    → IsState (record { limits = l; ops = new; past = [] }) roll known single cells
-blank_with l ops new h roll known single old cells none i same phases from sums stands =
-    let j : IsState (record { limits = l; ops = ops; past = [] }) roll known single old =
-    subst (λ (g : List Event). IsState (record { limits = l; ops = ops; past = g }) roll known single old)
+    → IsState (record { limits = l; terms = new; past = [] }) roll known single cells
+blank_with l terms new h roll known single old cells none i same phases from sums stands =
+    let j : IsState (record { limits = l; terms = terms; past = [] }) roll known single old =
+    subst (λ (g : List Event). IsState (record { limits = l; terms = terms; past = g }) roll known single old)
     none i in
     record {
       stands = record {
@@ -44,13 +44,13 @@ blank_with l ops new h roll known single old cells none i same phases from sums 
     }
 
 -- whatever the operators were, once new ones are fixed the state is that of a phaser with these
-pub blank_stands : (s : Story) (new : List Op) (roll : Lines) (known : Numbers) (single : Option Statement)
+pub blank_stands : (s : Story) (new : Terms) (roll : Lines) (known : Numbers) (single : Option Statement)
     (old cells : Kept) → s.past ≡ []
     → IsState s roll known single old
-    → cells.ops ≡ new → cells.phases ≡ old.phases → cells.from ≡ old.from → cells.sums ≡ old.sums
+    → cells.ops ≡ new.ops → cells.phases ≡ old.phases → cells.from ≡ old.from → cells.sums ≡ old.sums
     → StandsFor cells (λ a p. [])
-    → IsState (record { limits = s.limits; ops = new; past = s.past }) roll known single cells
+    → IsState (record { limits = s.limits; terms = new; past = s.past }) roll known single cells
 blank_stands s new roll known single old cells none i same phases from sums stands =
-    subst (λ (g : List Event). IsState (record { limits = s.limits; ops = new; past = g }) roll known single
+    subst (λ (g : List Event). IsState (record { limits = s.limits; terms = new; past = g }) roll known single
     cells) (sym none)
-    (blank_with s.limits s.ops new s.past roll known single old cells none i same phases from sums stands)
+    (blank_with s.limits s.terms new s.past roll known single old cells none i same phases from sums stands)

@@ -8,6 +8,7 @@ use Rattle.phase_modes.specs.declared.limits.Limits.{Limits}
 use Rattle.phase_model.specs.declared.history.Event.{Event}
 use Rattle.phase_model.specs.declared.history.Event.TheVariants.{Drop}
 use Rattle.phase_model.specs.declared.op.Op.{Op}
+use Rattle.phase_model.specs.declared.terms.Terms.{Terms}
 use Rattle.phase_model.specs.Rules.{Story, is_legal, with_event}
 use Rattle.phase_model.specs.Tasks.{has_mode}
 use Rattle.phase_model.specs.Phases.{signals}
@@ -24,14 +25,14 @@ pub folds_none : (b : Bool) (held rest : List ℤ) → held ≡ [] → cond b (h
 folds_none true held rest e = ap (λ vs. vs ++ rest) e
 folds_none false held rest e = refl
 
-pub after_drop : (l : Limits) (ops : List Op) (h : List Event) → is_legal l ops h ≡ true → (t a q n : ℕ)
+pub after_drop : (l : Limits) (terms : Terms) (h : List Event) → is_legal l terms h ≡ true → (t a q n : ℕ)
     → (has_mode can_signal t h ≡ true → n ≡ signals t h)
     → cond (n == q) (unfolded t a h ++ folded a q h) (folded a q h) ≡ folded a q (Drop t ∷ h)
-after_drop l ops h k t a q n shown =
+after_drop l terms h k t a q n shown =
     elim (cases_Bool (has_mode can_signal t h)) [
       | inl able ↦ ap (λ m. cond (m == q) (unfolded t a h ++ folded a q h) (folded a q h)) (shown able)
       | inr none ↦
-          let empty : unfolded t a h ≡ [] = holds_nothing l ops h k t a none in
+          let empty : unfolded t a h ≡ [] = holds_nothing l terms h k t a none in
           folds_none (n == q) (unfolded t a h) (folded a q h) empty
           ∙ sym (folds_none (signals t h == q) (unfolded t a h) (folded a q h) empty)
     ]
@@ -45,7 +46,7 @@ holds_none h t a near empty =
 
 -- a drop of a task that holds nothing folds nothing
 pub folds_dropped : (s : Story) (ps : List (List Cell)) (kept : Kept) (t i : ℕ) → Folds s ps kept
-    → i < length ps → length s.ops ≤ 4 → no_partial ≡ partial_of s.past t
+    → i < length ps → length s.terms.ops ≤ 4 → no_partial ≡ partial_of s.past t
     → Folds (with_event s (Drop t)) (remove ps i) kept
 folds_dropped s ps kept t i f inside four empty =
     let same = λ (a p : ℕ) (near : a < 4). sym (folds_none (signals t s.past == p) (unfolded t a s.past)

@@ -30,10 +30,10 @@ pub the_debt : (s : Story) (lines : List Entry) (single : Option Statement) → 
 the_debt s lines single stands t i e here task =
     let f : Found s.past t e = found_in s lines single stands t i e here task in
     let w = waits t s.past in
-    owes_nothing_is s.limits s.ops s.past stands.legal t
+    owes_nothing_is s.limits s.terms s.past stands.legal t
     ∙ (unless (has_proposed t w s.past) (is_settled w s.past)
     ∙ rw (
-      settled_is s.limits s.ops s.past stands.legal single w stands.last,
+      settled_is s.limits s.terms s.past stands.legal single w stands.last,
       found_phase s.past t e f,
       found_proposed s.past t e f,
     ) refl)
@@ -48,5 +48,5 @@ leaves s lines single stands t i e here task clear =
     let settled : owes_nothing t s.past ≡ true =
     the_debt s lines single stands t i e here task ∙ ap (λ b. not b) clear in
     drops s t f.live settled
-    (drop_has_room s.limits s.ops s.past stands.legal t
+    (drop_has_room s.limits s.terms s.past stands.legal t
     (and_from (is_live t s.past) (owes_nothing t s.past) f.live settled))

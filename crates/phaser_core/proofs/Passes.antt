@@ -52,7 +52,7 @@ module _ (s : Story) (t : ℕ) where
 
     module _ (signalled : (has_mode can_signal t s.past && not (signals t s.past == waits t s.past + 1))
         ≡ false) where
-      no_cause : first_refusal (conditions s.limits s.ops s.past (pass t)) ≡ None
+      no_cause : first_refusal (conditions s.limits s.terms s.past (pass t)) ≡ None
       no_cause =
           rw (
             live,
@@ -60,18 +60,18 @@ module _ (s : Story) (t : ℕ) where
           ) refl
 
       -- the task claims
-      pub claims : is_permitted s.limits s.ops s.past (Claim t) ≡ true
+      pub claims : is_permitted s.limits s.terms s.past (Claim t) ≡ true
           → reply s (pass t) ≡ settled None false (has_room s.limits (Claim t ∷ s.past)) (Claim t)
       claims c =
-          let event_is : event_for s.limits s.ops s.past (pass t) ≡ Claim t = rw c refl in
-          let held : must_wait s.limits s.ops s.past (pass t) ≡ false =
-          ap (λ b. has_mode can_wait t s.past && not (is_permitted s.limits s.ops s.past (Pass t)) && not b) c
-          ∙ claims_now (has_mode can_wait t s.past) (is_permitted s.limits s.ops s.past (Pass t))
+          let event_is : event_for s.limits s.terms s.past (pass t) ≡ Claim t = rw c refl in
+          let held : must_wait s.limits s.terms s.past (pass t) ≡ false =
+          ap (λ b. has_mode can_wait t s.past && not (is_permitted s.limits s.terms s.past (Pass t)) && not b) c
+          ∙ claims_now (has_mode can_wait t s.past) (is_permitted s.limits s.terms s.past (Pass t))
           in
           reply_by s (pass t) None false (Claim t) no_cause held event_is
 
-      module _ (no_claim : is_permitted s.limits s.ops s.past (Claim t) ≡ false) where
-        may_pass_is : is_permitted s.limits s.ops s.past (Pass t)
+      module _ (no_claim : is_permitted s.limits s.terms s.past (Claim t) ≡ false) where
+        may_pass_is : is_permitted s.limits s.terms s.past (Pass t)
             ≡ (not (has_mode can_wait t s.past)
             || (is_closed (waits t s.past) s.past && is_settled (waits t s.past) s.past))
         may_pass_is =
@@ -80,17 +80,17 @@ module _ (s : Story) (t : ℕ) where
               unless (has_mode can_signal t s.past) (signals t s.past == waits t s.past + 1) signalled,
             ) refl
 
-        event_is : event_for s.limits s.ops s.past (pass t) ≡ Pass t
+        event_is : event_for s.limits s.terms s.past (pass t) ≡ Pass t
         event_is = rw no_claim refl
 
         held_by : (b : Bool)
             → (has_mode can_wait t s.past
             && not (not (has_mode can_wait t s.past)
             || (is_closed (waits t s.past) s.past && is_settled (waits t s.past) s.past)) && not false) ≡ b
-            → must_wait s.limits s.ops s.past (pass t) ≡ b
+            → must_wait s.limits s.terms s.past (pass t) ≡ b
         held_by b k =
             ap (λ v. has_mode can_wait t s.past && not v
-            && not (is_permitted s.limits s.ops s.past (Claim t))) may_pass_is
+            && not (is_permitted s.limits s.terms s.past (Claim t))) may_pass_is
             ∙ (ap (λ v. has_mode can_wait t s.past
             && not (not (has_mode can_wait t s.past)
             || (is_closed (waits t s.past) s.past && is_settled (waits t s.past) s.past)) && not v)

@@ -1,8 +1,8 @@
 -- Which task numbers are known after each event.
-use Rattle.std.proofs.Common.{◌≡◌, ℕ, ◌==◌, false, ◌||◌, List, [], ap, sym, ◌∙◌, refl}
+use Rattle.std.proofs.Common.{◌≡◌, ℕ, ◌==◌, false, ◌||◌, [], ap, sym, ◌∙◌, refl}
 use Rattle.phase_modes.specs.declared.limits.Limits.{Limits}
 use Rattle.phase_model.specs.declared.history.Event.{Event}
-use Rattle.phase_model.specs.declared.op.Op.{Op}
+use Rattle.phase_model.specs.declared.terms.Terms.{Terms}
 use Rattle.phase_model.specs.Tasks.{registers, is_registered}
 use Rattle.phase_model.specs.Rules.{Story, with_event}
 use Rattle.number_set.specs.Numbers.{Numbers, has_number}
@@ -25,6 +25,6 @@ remembers_more s known new e t one k size more = record {
 }
 
 -- of nobody yet
-pub remembers_new : (l : Limits) (ops : List Op) (known : Numbers) → known.size ≡ l.tasks
-    → ((n : ℕ) → has_number known n ≡ false) → Remembers (record { limits = l; ops = ops; past = [] }) known
-remembers_new l ops known size none = record { size = size; bits = λ t k. none t }
+pub remembers_new : (l : Limits) (terms : Terms) (known : Numbers) → known.size ≡ l.tasks
+    → ((n : ℕ) → has_number known n ≡ false) → Remembers (record { limits = l; terms = terms; past = [] }) known
+remembers_new l terms known size none = record { size = size; bits = λ t k. none t }

@@ -30,7 +30,7 @@ module _ (s : Story) (t : ℕ) where
     pub not_claimer : (has_claimed t (waits t s.past) s.past && not (is_done (waits t s.past) s.past)) ≡ false
         → reply s (single_done t) ≡ refused NotNow
     not_claimer a =
-        let first : first_refusal (conditions s.limits s.ops s.past (single_done t)) ≡ Some NotNow =
+        let first : first_refusal (conditions s.limits s.terms s.past (single_done t)) ≡ Some NotNow =
         rw live (not_now (has_claimed t (waits t s.past) s.past) (is_done (waits t s.past) s.past) a) in
         reply_by s (single_done t) (Some NotNow) false (Did t) first refl refl
 
@@ -40,7 +40,7 @@ module _ (s : Story) (t : ℕ) where
     reports a room =
         let parts =
         and_parts (has_claimed t (waits t s.past) s.past) (not (is_done (waits t s.past) s.past)) a in
-        let none : first_refusal (conditions s.limits s.ops s.past (single_done t)) ≡ None =
+        let none : first_refusal (conditions s.limits s.terms s.past (single_done t)) ≡ None =
         rw (live, parts.0, parts.1) refl in
         reply_by s (single_done t) None false (Did t) none refl refl
         ∙ ap (λ b. settled None false b (Did t)) room
@@ -51,7 +51,7 @@ module _ (s : Story) (t : ℕ) where
     pub drops : owes_nothing t s.past ≡ true → has_room s.limits (Drop t ∷ s.past) ≡ true
         → reply s (drop_task t) ≡ done (Drop t)
     drops a room =
-        let none : first_refusal (conditions s.limits s.ops s.past (drop_task t)) ≡ None =
+        let none : first_refusal (conditions s.limits s.terms s.past (drop_task t)) ≡ None =
         rw (live, a) refl in
         reply_by s (drop_task t) None false (Drop t) none refl refl
         ∙ ap (λ b. settled None false b (Drop t)) room

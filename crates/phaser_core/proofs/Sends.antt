@@ -18,10 +18,10 @@ module _ (s : Story) (t a : ℕ) (v : ℤ) where
     no_signal k = rw (live, k) refl
 
     module _ (signaller : has_mode can_signal t s.past ≡ true) where
-      pub no_accumulator : nat_lt a (length s.ops) ≡ false → reply s (send t a v) ≡ refused NoAccumulator
+      pub no_accumulator : nat_lt a (length s.terms.ops) ≡ false → reply s (send t a v) ≡ refused NoAccumulator
       no_accumulator k = rw (live, signaller, k) refl
 
-      pub free : nat_lt a (length s.ops) ≡ true
+      pub free : nat_lt a (length s.terms.ops) ≡ true
           → reply s (send t a v) ≡ settled None false (has_room s.limits (Send t a v ∷ s.past)) (Send t a v)
       free k = rw (live, signaller, k) refl
 
@@ -34,16 +34,16 @@ module _ (s : Story) (t a : ℕ) where
     no_wait k = rw (live, k) refl
 
     module _ (waiter : has_mode can_wait t s.past ≡ true) where
-      pub no_accumulator_look : nat_lt a (length s.ops) ≡ false → reply s (look t a) ≡ refused NoAccumulator
+      pub no_accumulator_look : nat_lt a (length s.terms.ops) ≡ false → reply s (look t a) ≡ refused NoAccumulator
       no_accumulator_look k = rw (live, waiter, k) refl
 
-      module _ (fits : nat_lt a (length s.ops) ≡ true) where
+      module _ (fits : nat_lt a (length s.terms.ops) ≡ true) where
         pub no_phase_yet : nat_lt 0 (waits t s.past) ≡ false → reply s (look t a) ≡ refused NoPhaseYet
         no_phase_yet k = rw (live, waiter, fits, k) refl
 
         pub free_look : nat_lt 0 (waits t s.past) ≡ true
             → reply s (look t a)
             ≡ settled None false
-            (has_room s.limits (Looked t a (look_of s.ops a (waits t s.past) s.past) ∷ s.past))
-            (Looked t a (look_of s.ops a (waits t s.past) s.past))
+            (has_room s.limits (Looked t a (look_of s.terms.ops a (waits t s.past) s.past) ∷ s.past))
+            (Looked t a (look_of s.terms.ops a (waits t s.past) s.past))
         free_look k = rw (live, waiter, fits, k) refl

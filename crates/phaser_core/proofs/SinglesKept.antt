@@ -6,7 +6,7 @@ use Rattle.std.proofs.lemmas.Bool.{cases_Bool, cases_lt, eqb-true, eq-eqb, ne_eq
 use Rattle.phase_modes.specs.declared.limits.Limits.{Limits}
 use Rattle.phase_modes.specs.Mode.{can_signal, can_single}
 use Rattle.phase_model.specs.declared.history.Event.{Event}
-use Rattle.phase_model.specs.declared.op.Op.{Op}
+use Rattle.phase_model.specs.declared.terms.Terms.{Terms}
 use Rattle.phase_model.specs.Tasks.{is_live, has_mode}
 use Rattle.phase_model.specs.Phases.{waits, signals}
 use Rattle.phase_model.specs.Singles.{Proposal, proposals, is_proposed, number_of, is_mismatch, has_claimed, is_claimed, is_done, is_settled, reserve}
@@ -61,7 +61,7 @@ below_other x p less = ne_eqb x p (λ e. omega (arith, e, less))
 above_other : (x p : ℕ) → p < x → (x == p) ≡ false
 above_other x p less = ne_eqb x p (λ e. omega (arith, e, less))
 
-module _ (l : Limits) (ops : List Op) (h : List Event) (legal : is_legal l ops h ≡ true) where
+module _ (l : Limits) (terms : Terms) (h : List Event) (legal : is_legal l terms h ≡ true) where
   pub last_is_proposed : (x : Statement) → IsLast x h → is_proposed x.phase h ≡ true
   last_is_proposed x k = proposed_with x.phase x.number (proposals h) k.number
 
@@ -69,11 +69,11 @@ module _ (l : Limits) (ops : List Op) (h : List Event) (legal : is_legal l ops h
   pub stage_claimed : (s : Stage) (p : ℕ) → IsAtStage s p h → is_claimed p h ≡ not (is_unclaimed s)
   stage_claimed Proposed p k = k
   stage_claimed (Claimed t) p k = claimer_claims t p h k.0
-  stage_claimed (Done t) p k = done_is_claimed l ops h legal p k
+  stage_claimed (Done t) p k = done_is_claimed l terms h legal p k
 
   pub stage_done : (s : Stage) (p : ℕ) → IsAtStage s p h → is_done p h ≡ not (is_open_stage s)
   stage_done Proposed p k =
-      false_from_ne_true (is_done p h) (λ d. false≢true (sym k ∙ done_is_claimed l ops h legal p d))
+      false_from_ne_true (is_done p h) (λ d. false≢true (sym k ∙ done_is_claimed l terms h legal p d))
   stage_done (Claimed t) p k = k.1
   stage_done (Done t) p k = k
 
@@ -92,7 +92,7 @@ module _ (l : Limits) (ops : List Op) (h : List Event) (legal : is_legal l ops h
         | inr (inl less) ↦ rw (k.later p less, below_other x.phase p less) refl
         | inr (inr less) ↦
             rw (above_other x.phase p less)
-            (over_before l ops h legal p x.phase (last_is_proposed x k) less).settled
+            (over_before l terms h legal p x.phase (last_is_proposed x k) less).settled
       ]
 
   -- a proposed phase is unclaimed where the kept single may be claimed for it
@@ -110,7 +110,7 @@ module _ (l : Limits) (ops : List Op) (h : List Event) (legal : is_legal l ops h
         | inr (inr less) ↦
             rw (
               above_other x.phase p less,
-              earlier_are_claimed l ops h legal x.phase p (last_is_proposed x k) made less,
+              earlier_are_claimed l terms h legal x.phase p (last_is_proposed x k) made less,
             ) refl
       ]
     where
@@ -130,19 +130,19 @@ module _ (l : Limits) (ops : List Op) (h : List Event) (legal : is_legal l ops h
   pub claimer_phase : (x : Statement) (t p : ℕ) → IsLast x h → has_claimed t p h ≡ true → is_done p h ≡ false
       → x.phase ≡ p
   claimer_phase x t p k c d =
-      let made : is_proposed p h ≡ true = claimed_is_proposed l ops h legal p (claimer_claims t p h c) in
+      let made : is_proposed p h ≡ true = claimed_is_proposed l terms h legal p (claimer_claims t p h c) in
       elim (cases_phase x.phase p) [
         | inl e ↦ e
         | inr (inl less) ↦ absurd (false≢true (sym (k.later p less) ∙ made))
         | inr (inr less) ↦
             absurd (false≢true
-            (sym d ∙ earlier_are_done l ops h legal x.phase p (last_is_proposed x k) made less))
+            (sym d ∙ earlier_are_done l terms h legal x.phase p (last_is_proposed x k) made less))
       ]
 
   claim_by : (s : Stage) (t p : ℕ) → IsAtStage s p h → has_claimed t p h ≡ true → is_done p h ≡ false
       → is_claim_of t s ≡ true
   claim_by Proposed t p k c d = absurd (false≢true (sym k ∙ claimer_claims t p h c))
-  claim_by (Claimed u) t p k c d = eq-eqb u t (one_claimer l ops h legal u t p k.0 c)
+  claim_by (Claimed u) t p k c d = eq-eqb u t (one_claimer l terms h legal u t p k.0 c)
   claim_by (Done u) t p k c d = absurd (false≢true (sym d ∙ k))
 
   pub claim_stands : (s : Stage) (t p : ℕ) → IsAtStage s p h → is_claim_of t s ≡ true
@@ -158,7 +158,7 @@ module _ (l : Limits) (ops : List Op) (h : List Event) (legal : is_legal l ops h
       false_from_ne_true (has_claimed t (waits t h) h && not (is_done (waits t h) h))
       (λ e. false≢true
       (sym (k (waits t h))
-      ∙ claimed_is_proposed l ops h legal (waits t h)
+      ∙ claimed_is_proposed l terms h legal (waits t h)
       (claimer_claims t (waits t h) h
       (and_parts (has_claimed t (waits t h) h) (not (is_done (waits t h) h)) e).0)))
   claimed_by_is (Some x) t k =
@@ -172,7 +172,7 @@ module _ (l : Limits) (ops : List Op) (h : List Event) (legal : is_legal l ops h
       (λ e.
       let c = claim_stands x.stage t x.phase k.stage e in
       let at : w ≡ x.phase =
-      (owes l ops h legal t x.phase (claimed_proposed l ops h legal t x.phase c.0) c.1).at in
+      (owes l terms h legal t x.phase (claimed_proposed l terms h legal t x.phase c.0) c.1).at in
       rw at (and_from (has_claimed t x.phase h) (not (is_done x.phase h)) c.0 (ap (λ b. not b) c.1)))
     where
       not_yes : (b : Bool) → not b ≡ true → b ≡ false
@@ -181,20 +181,20 @@ module _ (l : Limits) (ops : List Op) (h : List Event) (legal : is_legal l ops h
 
   -- the kept single needs as many events as the history says
   pub reserve_is : (o : Option Statement) → IsLastSingle o h → reserve h ≡ reserve_of o
-  reserve_is None k = reserve_none l ops h legal (λ p. settled_is None p k)
+  reserve_is None k = reserve_none l terms h legal (λ p. settled_is None p k)
   reserve_is (Some x) k = by_stage x.stage refl
     where
       by_stage : (s : Stage) → x.stage ≡ s → reserve h ≡ single.stage_reserve x.stage
       by_stage Proposed e =
           let at : IsAtStage Proposed x.phase h = subst (λ v. IsAtStage v x.phase h) e k.stage in
-          rw e (reserve_open l ops h legal x.phase (last_is_proposed x k) (stage_done Proposed x.phase at)
+          rw e (reserve_open l terms h legal x.phase (last_is_proposed x k) (stage_done Proposed x.phase at)
           ∙ ap (λ b. cond b 1 2) at)
       by_stage (Claimed t) e =
           let at : IsAtStage (Claimed t) x.phase h = subst (λ v. IsAtStage v x.phase h) e k.stage in
-          rw e (reserve_open l ops h legal x.phase (last_is_proposed x k) at.1
+          rw e (reserve_open l terms h legal x.phase (last_is_proposed x k) at.1
           ∙ ap (λ b. cond b 1 2) (claimer_claims t x.phase h at.0))
       by_stage (Done t) e =
-          rw e (reserve_none l ops h legal (λ p. settled_is (Some x) p k ∙ rw e (either (x.phase == p))))
+          rw e (reserve_none l terms h legal (λ p. settled_is (Some x) p k ∙ rw e (either (x.phase == p))))
         where
           either : (b : Bool) → (not b || true) ≡ true
           either true = refl
@@ -204,7 +204,7 @@ module _ (l : Limits) (ops : List Op) (h : List Event) (legal : is_legal l ops h
   pub last_within : (x : Statement) (t : ℕ) → IsLast x h → is_live t h ≡ true → has_mode can_signal t h ≡ true
       → x.phase ≤ signals t h
   last_within x t k live signaller =
-      signals_past_proposals l ops h legal t x.phase (last_is_proposed x k) live signaller
+      signals_past_proposals l terms h legal t x.phase (last_is_proposed x k) live signaller
 
   -- another number stands for a signaller's phase where the kept single says so
   pub mismatch_is : (o : Option Statement) (t n : ℕ) → IsLastSingle o h → is_live t h ≡ true
@@ -215,7 +215,7 @@ module _ (l : Limits) (ops : List Op) (h : List Event) (legal : is_legal l ops h
       let p = signals t h in
       elim (cases_Bool (x.phase == p)) [
         | inl e ↦
-            rw e (numbers_agree l ops h legal x.number n p
+            rw e (numbers_agree l terms h legal x.number n p
             (subst (λ q. number_of q h ≡ Some x.number) (eqb-true x.phase p e) k.number))
         | inr e ↦
             let within : x.phase ≤ p = last_within x t k live signaller in
@@ -236,7 +236,7 @@ module _ (l : Limits) (ops : List Op) (h : List Event) (legal : is_legal l ops h
       elim (cases_lt x.phase (signals t h)) [
         | inl less ↦
             let settled : is_settled x.phase h ≡ true =
-            settled_behind l ops h legal t x.phase (single_waits t h may)
+            settled_behind l terms h legal t x.phase (single_waits t h may)
             (subst (λ n. x.phase < n) behind less) in
             let done : is_done x.phase h ≡ true =
             implied (is_proposed x.phase h) (is_done x.phase h) settled (last_is_proposed x k) in

@@ -8,7 +8,7 @@ use Rattle.phase_modes.specs.declared.limits.Limits.{Limits}
 use Rattle.phase_modes.specs.Mode.{can_signal, can_wait}
 use Rattle.phase_model.specs.declared.history.Event.{Event}
 use Rattle.phase_model.specs.declared.history.Event.TheVariants.{Make, Reg as Joined, Pass, Drop}
-use Rattle.phase_model.specs.declared.op.Op.{Op}
+use Rattle.phase_model.specs.declared.terms.Terms.{Terms}
 use Rattle.phase_model.specs.Tasks.{is_live, is_registered, is_dropped, has_mode, live_tasks}
 use Rattle.phase_model.specs.Phases.{waits, signals}
 use Rattle.phase_model.specs.Rules.{Story, is_legal}
@@ -33,38 +33,38 @@ live_before u t h live =
     neither false b k = k
 
 -- what no waiter may read, none may read later
-read_stays : (l : Limits) (ops : List Op) (from : ℕ) (e : Event) (h : List Event)
-    → is_legal l ops (e ∷ h) ≡ true → IsWindow from h
+read_stays : (l : Limits) (terms : Terms) (from : ℕ) (e : Event) (h : List Event)
+    → is_legal l terms (e ∷ h) ≡ true → IsWindow from h
     → (t p : ℕ) → is_live t (e ∷ h) ≡ true → has_mode can_wait t (e ∷ h) ≡ true → p < from
     → p + 1 < waits t (e ∷ h)
-read_stays l ops from (Make u m) h k w t p live able near =
+read_stays l terms from (Make u m) h k w t p live able near =
     absurd (omega (
       arith,
       near,
-      w.begun (and_parts (is_empty h) (nat_lt u l.tasks) (last_follows l ops h (Make u m) k).permitted).0,
+      w.begun (and_parts (is_empty h) (nat_lt u l.tasks) (last_follows l terms h (Make u m) k).permitted).0,
     ))
-read_stays l ops from (Joined q u m) h k w t p live able near =
-    let f = reg_follows l ops h q u m (last_follows l ops h (Joined q u m) k).permitted in
+read_stays l terms from (Joined q u m) h k w t p live able near =
+    let f = reg_follows l terms h q u m (last_follows l terms h (Joined q u m) k).permitted in
     elim (cases_Bool (u == t)) [
       | inl e ↦ rw e (w.read q p f.parent_live (parent_waits q m h f.within (rw e at able)) near)
       | inr e ↦ rw e (w.read t p (rw e at live) (rw e at able) near)
     ]
-read_stays l ops from (Pass u) h k w t p live able near =
+read_stays l terms from (Pass u) h k w t p live able near =
     let before = w.read t p live able near in
     elim (cases_Bool (u == t)) [ inl e ↦ rw e (omega (arith, before)) | inr e ↦ rw e before ]
-read_stays l ops from (Drop u) h k w t p live able near = w.read t p (live_before u t h live) able near
-read_stays l ops from e h k w t p live able near = w.read t p live able near
+read_stays l terms from (Drop u) h k w t p live able near = w.read t p (live_before u t h live) able near
+read_stays l terms from e h k w t p live able near = w.read t p live able near
 
 -- a window stays one after each event
-pub window_stays : (l : Limits) (ops : List Op) (from : ℕ) (e : Event) (h : List Event)
-    → is_legal l ops (e ∷ h) ≡ true → IsWindow from h → IsWindow from (e ∷ h)
-window_stays l ops from e h k w = record {
+pub window_stays : (l : Limits) (terms : Terms) (from : ℕ) (e : Event) (h : List Event)
+    → is_legal l terms (e ∷ h) ≡ true → IsWindow from h → IsWindow from (e ∷ h)
+window_stays l terms from e h k w = record {
   begun = λ none. absurd (false≢true none);
-  read = read_stays l ops from e h k w;
+  read = read_stays l terms from e h k w;
   signalled =
       elim (cases_Bool (is_empty h)) [
         | inl none ↦ λ t live able. omega (arith, w.begun none)
-        | inr some ↦ signalled_stays l ops from e h k some w.signalled
+        | inr some ↦ signalled_stays l terms from e h k some w.signalled
       ];
 }
 
@@ -168,7 +168,7 @@ module _ (s : Story) (table : List Entry) (single : Option Statement) (stands : 
             let pos : 0 < n = omega (arith, more) in
             let who = waiter_at n (some pos) in
             let closed =
-            (over_behind s.limits s.ops s.past stands.legal who.0 (n - 1) who.2
+            (over_behind s.limits s.terms s.past stands.legal who.0 (n - 1) who.2
             (omega (arith, who.3, pos))).closed in
             subst (λ m. IsWindow m s.past) is (record {
               begun = λ none. absurd (false≢true (sym (some_live who.0 s.past who.1) ∙ none));

@@ -7,11 +7,20 @@ use Rattle.phase_model.specs.declared.history.Event.TheVariants.{Pass, Claim, Lo
 use Rattle.phase_model.specs.declared.op.Look.{Look}
 use Rattle.phase_model.specs.Phases.{waits}
 use Rattle.phase_model.specs.Singles.{number_of}
-use Rattle.phase_model.specs.declared.op.Op.{Op}
+use Rattle.phase_model.specs.declared.terms.Terms.{Terms}
 use Rattle.phase_model.specs.Rules.{Story}
 use Rattle.phase_model.specs.Replies.{Reply, refused, not_yet, done}
+use Rattle.phaser_core.specs.declared.state.Signalling.{Signalling}
+use Rattle.phaser_core.specs.declared.state.Signalling.TheVariants.{Signalled}
+use Rattle.phaser_core.specs.declared.state.Signalling.TheVariants as signallings
 use Rattle.phaser_core.specs.declared.state.Passing.{Passing}
 use Rattle.phaser_core.specs.declared.state.Passing.TheVariants.{Passed, Claimed, NotYet}
+
+-- what a `signal` returns
+abbrev pub signal_result : Reply → Result Signalling Refusal
+signal_result (refused r) = Err r
+signal_result not_yet = Ok signallings.NotYet
+signal_result (done e) = Ok Signalled
 
 -- the answer to the event that was added to this history; no other event answers a pass
 abbrev pub passing : List Event → Event → Result Passing Refusal
@@ -37,7 +46,7 @@ look_result not_yet = Err NotNow
 look_result (done e) = seen e
 
 -- the story after a phaser was asked to be made with these operators
-abbrev pub made_with : Story → List Op → Reply → Story
-made_with s ops (refused r) = s
-made_with s ops not_yet = s
-made_with s ops (done e) = record { limits = s.limits; ops = ops; past = e ∷ s.past }
+abbrev pub made_with : Story → Terms → Reply → Story
+made_with s terms (refused r) = s
+made_with s terms not_yet = s
+made_with s terms (done e) = record { limits = s.limits; terms = terms; past = e ∷ s.past }

@@ -4,6 +4,12 @@ use Rattle.phase_modes.specs.declared.refusal.Refusal.{Refusal}
 use Rattle.phase_model.specs.declared.op.Look.{Look}
 use Rattle.phase_model.specs.declared.call.Reply.{Reply}
 use Rattle.phase_model.specs.declared.call.Reply.TheVariants.{Done, Phase, Claim, Saw, NotYet, Refused}
+use Rattle.phaser_core.specs.declared.state.Signalling.{Signalling}
+use Rattle.phaser_core.specs.declared.state.Signalling.TheVariants.{Signalled}
+use Rattle.phaser_core.specs.declared.state.Signalling.TheVariants as signallings
+use Rattle.phaser_core.specs.declared.turn.Unmade.{Unmade}
+use Rattle.phaser_core.specs.declared.turn.Unmade.TheVariants.{Held}
+use Rattle.phaser_core.specs.declared.turn.Unmade.TheVariants as unmades
 use Rattle.phaser_core.specs.declared.state.Passing.{Passing}
 use Rattle.phaser_core.specs.declared.state.Passing.TheVariants.{Passed, Claimed}
 use Rattle.phaser_core.specs.declared.state.Passing.TheVariants as passings
@@ -14,6 +20,17 @@ use Rattle.phaser_core.specs.declared.turn.Turn.TheVariants.{Passes, Claims, Wai
 abbrev pub done_reply : Result (Unit {0}) Refusal → Reply
 done_reply (Ok u) = Done
 done_reply (Err r) = Refused r
+
+-- of a `signal`
+abbrev pub signal_reply : Result Signalling Refusal → Reply
+signal_reply (Ok Signalled) = Done
+signal_reply (Ok signallings.NotYet) = NotYet
+signal_reply (Err r) = Refused r
+
+-- of a signal that would not be made
+abbrev pub unmade_reply : Unmade → Reply
+unmade_reply (unmades.Refused r) = Refused r
+unmade_reply Held = NotYet
 
 -- of a `pass`
 abbrev pub pass_reply : Result Passing Refusal → Reply

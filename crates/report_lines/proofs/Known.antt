@@ -8,7 +8,7 @@ use Rattle.phase_modes.specs.Lists.{is_empty}
 use Rattle.phase_modes.specs.Mode.{can_signal}
 use Rattle.phase_model.specs.declared.history.Event.{Event}
 use Rattle.phase_model.specs.declared.history.Event.TheVariants.{Make, Reg, Sig, Claim, Did, Pass, Send, Look, Drop}
-use Rattle.phase_model.specs.declared.op.Op.{Op}
+use Rattle.phase_model.specs.declared.terms.Terms.{Terms}
 use Rattle.phase_model.specs.Tasks.{is_registered, is_dropped, is_live, has_mode}
 use Rattle.phase_model.specs.Rules.{is_permitted, is_legal}
 use Rattle.phase_model.proofs.Legal.{last_follows, reg_follows, sig_follows, pass_follows}
@@ -23,46 +23,46 @@ abbrev pub IsKnown : ℕ → ℕ → Event → Type 0
 IsKnown n m e = (fits n e ≡ true) × (to_accumulator m e ≡ true)
 
 -- a task that was registered at some time
-pub registered_fits : (l : Limits) (ops : List Op) (h : List Event) → is_legal l ops h ≡ true → (t : ℕ) → is_registered t h ≡ true → t < l.tasks
-registered_fits l ops [] k t r = absurd cc
-registered_fits l ops (Make u m ∷ h) k t r =
-    let f = last_follows l ops h (Make u m) k in
+pub registered_fits : (l : Limits) (terms : Terms) (h : List Event) → is_legal l terms h ≡ true → (t : ℕ) → is_registered t h ≡ true → t < l.tasks
+registered_fits l terms [] k t r = absurd cc
+registered_fits l terms (Make u m ∷ h) k t r =
+    let f = last_follows l terms h (Make u m) k in
     elim (cases_Bool (u == t)) [
       | inl e ↦
           subst (λ (v : ℕ). v < l.tasks) (eqb-true u t e)
           (ltb-true u l.tasks (and_parts (is_empty h) (nat_lt u l.tasks) f.permitted).1)
-      | inr e ↦ registered_fits l ops h f.before t (rw e at r)
+      | inr e ↦ registered_fits l terms h f.before t (rw e at r)
     ]
-registered_fits l ops (Reg q u m ∷ h) k t r =
-    let f = last_follows l ops h (Reg q u m) k in
+registered_fits l terms (Reg q u m ∷ h) k t r =
+    let f = last_follows l terms h (Reg q u m) k in
     elim (cases_Bool (u == t)) [
-      | inl e ↦ subst (λ (v : ℕ). v < l.tasks) (eqb-true u t e) (reg_follows l ops h q u m f.permitted).task_fits
-      | inr e ↦ registered_fits l ops h f.before t (rw e at r)
+      | inl e ↦ subst (λ (v : ℕ). v < l.tasks) (eqb-true u t e) (reg_follows l terms h q u m f.permitted).task_fits
+      | inr e ↦ registered_fits l terms h f.before t (rw e at r)
     ]
-registered_fits l ops (e ∷ h) k t r = registered_fits l ops h (last_follows l ops h e k).before t r
+registered_fits l terms (e ∷ h) k t r = registered_fits l terms h (last_follows l terms h e k).before t r
 
-pub live_fits : (l : Limits) (ops : List Op) (h : List Event) → is_legal l ops h ≡ true → (t : ℕ) → is_live t h ≡ true → nat_lt t l.tasks ≡ true
-live_fits l ops h k t live = lt-ltb t l.tasks (registered_fits l ops h k t (and_parts (is_registered t h) (not (is_dropped t h)) live).0)
+pub live_fits : (l : Limits) (terms : Terms) (h : List Event) → is_legal l terms h ≡ true → (t : ℕ) → is_live t h ≡ true → nat_lt t l.tasks ≡ true
+live_fits l terms h k t live = lt-ltb t l.tasks (registered_fits l terms h k t (and_parts (is_registered t h) (not (is_dropped t h)) live).0)
 
 -- an event that may follow
-known : (l : Limits) (ops : List Op) (h : List Event) (e : Event) → is_legal l ops h ≡ true → is_permitted l ops h e ≡ true → IsKnown l.tasks (length ops) e
-known l ops h (Make t m) k p = ((and_parts (is_empty h) (nat_lt t l.tasks) p).1, refl)
-known l ops h (Reg q t m) k p =
-    let f = reg_follows l ops h q t m p in
-    (and_from (nat_lt q l.tasks) (nat_lt t l.tasks) (live_fits l ops h k q f.parent_live) (lt-ltb t l.tasks f.task_fits), refl)
-known l ops h (Sig t x) k p = (live_fits l ops h k t (sig_follows l ops h t x p).live, refl)
-known l ops h (Pass t) k p = (live_fits l ops h k t (pass_follows l ops h t p).live, refl)
-known l ops h (Send t a v) k p =
-    let outer = and_parts (is_live t h && has_mode can_signal t h) (nat_lt a (length ops)) p in
+known : (l : Limits) (terms : Terms) (h : List Event) (e : Event) → is_legal l terms h ≡ true → is_permitted l terms h e ≡ true → IsKnown l.tasks (length terms.ops) e
+known l terms h (Make t m) k p = ((and_parts (is_empty h) (nat_lt t l.tasks) p).1, refl)
+known l terms h (Reg q t m) k p =
+    let f = reg_follows l terms h q t m p in
+    (and_from (nat_lt q l.tasks) (nat_lt t l.tasks) (live_fits l terms h k q f.parent_live) (lt-ltb t l.tasks f.task_fits), refl)
+known l terms h (Sig t x) k p = (live_fits l terms h k t (sig_follows l terms h t x p).live, refl)
+known l terms h (Pass t) k p = (live_fits l terms h k t (pass_follows l terms h t p).live, refl)
+known l terms h (Send t a v) k p =
+    let outer = and_parts (is_live t h && has_mode can_signal t h) (nat_lt a (length terms.ops)) p in
     let inner = and_parts (is_live t h) (has_mode can_signal t h) outer.0 in
-    (live_fits l ops h k t inner.0, outer.1)
-known l ops h (Claim t) k p = (refl, refl)
-known l ops h (Did t) k p = (refl, refl)
-known l ops h (Look t a x) k p = (refl, refl)
-known l ops h (Drop t) k p = (refl, refl)
+    (live_fits l terms h k t inner.0, outer.1)
+known l terms h (Claim t) k p = (refl, refl)
+known l terms h (Did t) k p = (refl, refl)
+known l terms h (Look t a x) k p = (refl, refl)
+known l terms h (Drop t) k p = (refl, refl)
 
-pub all_known : (l : Limits) (ops : List Op) (h : List Event) → is_legal l ops h ≡ true → All (IsKnown l.tasks (length ops)) h
-all_known l ops [] k = All-nil (IsKnown l.tasks (length ops))
-all_known l ops (e ∷ h) k =
-    let f = last_follows l ops h e k in
-    All-cons (IsKnown l.tasks (length ops)) e h (known l ops h e f.before f.permitted) (all_known l ops h f.before)
+pub all_known : (l : Limits) (terms : Terms) (h : List Event) → is_legal l terms h ≡ true → All (IsKnown l.tasks (length terms.ops)) h
+all_known l terms [] k = All-nil (IsKnown l.tasks (length terms.ops))
+all_known l terms (e ∷ h) k =
+    let f = last_follows l terms h e k in
+    All-cons (IsKnown l.tasks (length terms.ops)) e h (known l terms h e f.before f.permitted) (all_known l terms h f.before)

@@ -4,6 +4,7 @@ use Rattle.std.proofs.lemmas.Bool.{ltb-true}
 use Rattle.std.proofs.lemmas.Option.{same_Some}
 use Rattle.std.proofs.lemmas.List.{length-set, length-replicate, length-reverse, get_or-replicate, get_or-reverse}
 use Rattle.std.proofs.lemmas.List.Elements.{All-from_get_or, All-get_or}
+use Rattle.phase_model.specs.declared.terms.Terms.{Terms}
 use Rattle.phase_model.specs.declared.history.Event.{Event}
 use Rattle.phase_model.specs.declared.history.Event.TheVariants.{Make, Reg, Sig, Claim, Did, Pass, Send, Look, Drop}
 use Rattle.phase_model.specs.declared.op.Op.{Op}
@@ -201,10 +202,10 @@ none_noted n ops = record {
 }
 
 -- each event of a legal history is known
-pub known_at : (l : Limits) (ops : List Op) (h : List Event) → is_legal l ops h ≡ true → (xs : List Event) → reverse xs ≡ h
-    → (k : Tallied) → k.folds.ops ≡ ops → length k.tasks ≡ l.tasks → (i : ℕ) (d : Event) → i < length xs
+pub known_at : (l : Limits) (terms : Terms) (h : List Event) → is_legal l terms h ≡ true → (xs : List Event) → reverse xs ≡ h
+    → (k : Tallied) → k.folds.ops ≡ terms.ops → length k.tasks ≡ l.tasks → (i : ℕ) (d : Event) → i < length xs
     → IsKnown (length k.tasks) (length k.folds.ops) (get_or xs i d)
-known_at l ops h legal xs is k same_ops same_tasks i d within =
+known_at l terms h legal xs is k same_ops same_tasks i d within =
     let size : length h ≡ length xs = ap (λ g. length g) (sym is) ∙ length-reverse xs in
     let there : length xs - 1 - (length xs - 1 - i) ≡ i = omega (arith, within) in
     let read : get_or h (length xs - 1 - i) d ≡ get_or xs i d =
@@ -212,5 +213,5 @@ known_at l ops h legal xs is k same_ops same_tasks i d within =
     ∙ (get_or-reverse xs (length xs - 1 - i) d (omega (arith, within)) ∙ ap (λ j. get_or xs j d) there)
     in
     rw (same_ops, same_tasks)
-    (subst (λ e. IsKnown l.tasks (length ops) e) read
-    (All-get_or (IsKnown l.tasks (length ops)) h (length xs - 1 - i) d (omega (arith, size, within)) (all_known l ops h legal)))
+    (subst (λ e. IsKnown l.tasks (length terms.ops) e) read
+    (All-get_or (IsKnown l.tasks (length terms.ops)) h (length xs - 1 - i) d (omega (arith, size, within)) (all_known l terms h legal)))

@@ -10,7 +10,7 @@ abbrev pub lines_of : ℕ → Story → PhaserReport
 lines_of n s = record {
   phaser = n;
   phases = phase_count s.past;
-  folds = flat_map (λ p. folds_from p 0 s.ops s.past) (below (phase_count s.past));
+  folds = flat_map (λ p. folds_from p 0 s.terms.ops s.past) (below (phase_count s.past));
 }
 
 -- the totals of both

@@ -21,7 +21,7 @@ pub struct PhaserSums {
 /// What the phaser with this number and history came to, found in one pass over its events, the
 /// oldest first. `Memory` where there is too little for the lines, or for a line of each task.
 pub fn phaser_sums(alloc: Global, phaser: u32, history: &History) -> Result<PhaserSums, Refusal>
-    requires { is_legal history.now.limits history.now.ops history.now.past ≡ true }
+    requires { is_legal history.now.limits history.now.terms history.now.past ≡ true }
     ensures lines { IfOk result (λ s. s.lines ≡ lines_of phaser history.now) }
     ensures totals { IfOk result (λ s. s.totals ≡ totals_line (history.now.past ∷ [])) }
     ensures few { IfOk result (λ s. IsWithin 65536 s.totals) }
@@ -41,9 +41,9 @@ pub fn phaser_sums(alloc: Global, phaser: u32, history: &History) -> Result<Phas
 
 /// What the events come to.
 fn tally_of(alloc: Global, history: &History) -> Result<Tally, Refusal>
-    requires { is_legal history.now.limits history.now.ops history.now.past ≡ true }
+    requires { is_legal history.now.limits history.now.terms history.now.past ≡ true }
     ensures stands { IfOk result (λ t. StandsFor t history.now.past) }
-    ensures ops { IfOk result (λ t. t.folds.ops ≡ history.now.ops) }
+    ensures ops { IfOk result (λ t. t.folds.ops ≡ history.now.terms.ops) }
     ensures few { IfOk result (λ t. IsWithin 65536 t.totals) }
     ensures memory { IfErr result (λ r. r ≡ Refusal.Memory) }
 {

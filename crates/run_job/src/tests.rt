@@ -55,7 +55,7 @@ fn reports<R: Abort + Threads + Wait + Sync>(rt: &R, alloc: Global, text: &str, 
 }
 
 /// Programs, each with the lines of its report.
-const PROGRAMS: [(&str, &str); 19] = [
+const PROGRAMS: [(&str, &str); 20] = [
     (
         r#"{"main":[]}"#,
         "task 0 ended\nfinish 0 tasks 0\n\
@@ -103,6 +103,15 @@ const PROGRAMS: [(&str, &str); 19] = [
         "phaser 0 phases 3\nphaser 1 phases 3\ntask 0 ended\ntask 1 refused 6 NotSignalled\n\
          task 2 ended\nfinish 0 tasks 2\n\
          totals registered 6 signals 3 passes 6 drops 6 sends 0 up 0 down 0\n",
+    ),
+    (
+        r#"{"main":[["new","p","SIG_WAIT",["sum"],1],
+            ["async",[["p","SIG"]],[["repeat",3,[["send","p",0,1],["next"]]]]],
+            ["async",[["p","WAIT"]],[["repeat",3,[["next"],["look","p",0]]]]]]}"#,
+        "phaser 0 phases 3\nphaser 0 phase 0 acc 0 value 1\nphaser 0 phase 1 acc 0 value 1\n\
+         phaser 0 phase 2 acc 0 value 1\ntask 0 ended\ntask 1 ended\ntask 2 ended\n\
+         finish 0 tasks 2\n\
+         totals registered 3 signals 3 passes 6 drops 3 sends 3 up 3 down 0\n",
     ),
     (
         r#"{"limits":{"acts":2},"main":[["next"],["next"],["next"]]}"#,

@@ -86,6 +86,23 @@ fn two_senders(rt: HostRuntime) {
     }
 }
 
+/// A signaller that may be one phase ahead of a reader.
+const BOUNDED: &str = r#"{"main":[["new","p","SIG_WAIT",["sum"],1],
+    ["async",[["p","SIG"]],[["repeat",3,[["send","p",0,1],["next"]]]]],
+    ["async",[["p","WAIT"]],[["repeat",3,[["next"],["look","p",0]]]]]]}"#;
+
+const BOUNDED_REPORT: &str = "phaser 0 phases 3\nphaser 0 phase 0 acc 0 value 1\n\
+    phaser 0 phase 1 acc 0 value 1\nphaser 0 phase 2 acc 0 value 1\n\
+    task 0 ended\ntask 1 ended\ntask 2 ended\nfinish 0 tasks 2\n\
+    totals registered 3 signals 3 passes 6 drops 3 sends 3 up 3 down 0\n";
+
+#[test]
+fn bounded_producer(rt: HostRuntime) {
+    for picks in [&[][..], &[0, 0, 0, 0, 0, 0, 0, 1, 1, 1, 1, 1, 1, 1, 1][..]] {
+        reports(&rt, rt.alloc(), BOUNDED, picks, BOUNDED_REPORT);
+    }
+}
+
 const SMALLEST: &str = r#"{"main":[["new","p","SIG_WAIT",[]],["next"]]}"#;
 
 const SMALLEST_REPORT: &str = "phaser 0 phases 1\ntask 0 ended\nfinish 0 tasks 0\n\
@@ -138,6 +155,23 @@ fn trace_fails(rt: HostRuntime) {
     assert_eq!(rt; ended.status, Status::Fault);
     assert_eq!(rt; out.len(), 0);
     assert_eq!(rt; faults.as_slice(), b"fault write\n".as_slice());
+}
+
+// No trace's text says a bound, so nothing is written of such a run whose trace is asked for.
+#[test]
+fn a_bounded_run_has_no_trace(rt: HostRuntime) {
+    let mut out = Vec::new(rt.alloc());
+    let mut trace_out = Some(Vec::new(rt.alloc()));
+    let answer = schedule_bytes(
+        rt.alloc(),
+        BOUNDED.as_bytes(),
+        &[],
+        &mut out,
+        &mut trace_out,
+    );
+    assert_eq!(rt; answer, Err(Failure::Refused(Refusal::NotNow)));
+    assert_eq!(rt; out.len(), 0);
+    is_trace(&rt, trace_out.as_ref(), "");
 }
 
 #[test]

@@ -31,7 +31,7 @@ use Rattle.world_model.specs.Acts.{act_reply, act_done, own_conditions, pair_con
 use Rattle.world_model.specs.Due.{is_idle}
 use Rattle.world_model.specs.GivingUp.{may_refuse}
 use Rattle.world_model.specs.PartReplies.{returned, finish_returned}
-use Rattle.world_model.specs.Parts.{ops_of, phaser_past, finish_past}
+use Rattle.world_model.specs.Parts.{terms_of, phaser_past, finish_past}
 use Rattle.world_model.specs.Replies.{is_made, is_legal_world, reply}
 use Rattle.world_model.specs.Tasks.{acts as acts_begun}
 use Rattle.world_model.proofs.MadeOrGivesUp.{event_made}
@@ -81,7 +81,7 @@ own_reported l w t (Beginning Next) = refl
 own_reported l w t (Beginning (NextSingle x)) = refl
 own_reported l w t (Beginning Shut) = refl
 own_reported l w t (Beginning End) = refl
-own_reported l w t (New n m ops) = refl
+own_reported l w t (New n m terms) = refl
 own_reported l w t (Open f) = refl
 own_reported l w t (Sending n a v) = refl
 own_reported l w t (Looking n a) = refl
@@ -89,7 +89,7 @@ own_reported l w t (Looking n a) = refl
 -- what a phaser or a finish says of an act that meets its own conditions, where its number is free
 done_goes : (l : Limits) (w : List WorldEvent) (t : ℕ) (a : Tried) → is_number_used w a ≡ false → Goes (act_done l w t a)
 done_goes l w t (Beginning b) free = inl refl
-done_goes l w t (New n m ops) free =
+done_goes l w t (New n m terms) free =
     let none : phaser_past n w ≡ [] = none_yet n w free in
     by (phaser_past n w) none (nat_lt t l.tasks) (has_room l (Made t m ∷ phaser_past n w))
   where
@@ -105,12 +105,12 @@ done_goes l w t (Open f) free = by (finish_past f w) (no_finish_events (finish_p
     by (x ∷ h) e = absurd cc
 done_goes l w t (Sending n a v) free =
     let h = phaser_past n w in
-    let e = phaser.event_for l (ops_of n w) h (send t a v) in
-    settled_goes h (conditions l (ops_of n w) h (send t a v)) (has_room l (e ∷ h)) e refl
+    let e = phaser.event_for l (terms_of n w) h (send t a v) in
+    settled_goes h (conditions l (terms_of n w) h (send t a v)) (has_room l (e ∷ h)) e refl
 done_goes l w t (Looking n a) free =
     let h = phaser_past n w in
-    let e = phaser.event_for l (ops_of n w) h (look t a) in
-    settled_goes h (conditions l (ops_of n w) h (look t a)) (has_room l (e ∷ h)) e refl
+    let e = phaser.event_for l (terms_of n w) h (look t a) in
+    settled_goes h (conditions l (terms_of n w) h (look t a)) (has_room l (e ∷ h)) e refl
 
 unless_goes : (o : Option Refusal) (r : Result Reply Refusal) → ((x : Refusal) → o ≡ Some x → is_reported x ≡ true) → Goes r → Goes (unless o r)
 unless_goes (Some x) r known g = inr (x, refl, known x refl)
@@ -137,7 +137,7 @@ may_report l w t a x is known =
 
 module _ (l : Limits) (w : List WorldEvent) (fit : limits_fit l ≡ true) (k : is_legal_world l w ≡ true) (t : ℕ) (ms : List ℕ) where
   head_free : (h : Head) → is_number_used w (tried_as w t ms (unused l w) h) ≡ false
-  head_free (acts.New name m ops) = phaser_free l w fit k
+  head_free (acts.New name m terms) = phaser_free l w fit k
   head_free (acts.Async xs) = task_free l w fit k
   head_free acts.AsyncAll = task_free l w fit k
   head_free acts.OpenFinish = finish_free l w fit k
@@ -156,7 +156,7 @@ module _ (l : Limits) (w : List WorldEvent) (fit : limits_fit l ≡ true) (k : i
 
 -- the reply to an act's event
 pub event_reply : (l : Limits) (w : List WorldEvent) (t : ℕ) (a : Tried) → reply l w (event_of t a) ≡ act_reply l w t a
-event_reply l w t (New n m ops) = refl
+event_reply l w t (New n m terms) = refl
 event_reply l w t (Open f) = refl
 event_reply l w t (Sending n a v) = refl
 event_reply l w t (Looking n a) = refl

@@ -60,7 +60,7 @@ made_reported l w None k h = h
 made_reported l w (Some a) k h = known l w a (reply l w a.event) refl (k a refl) h
 
 act_reported : (l : Limits) (w : List WorldEvent) (t : ℕ) (a : Tried) → is_reported_failure l w (event_of t a) ≡ true
-act_reported l w t (New n m ops) = refl
+act_reported l w t (New n m terms) = refl
 act_reported l w t (Open f) = refl
 act_reported l w t (Sending n a v) = refl
 act_reported l w t (Looking n a) = refl

@@ -8,6 +8,7 @@ use Rattle.phase_modes.specs.declared.phased.Pair.{Pair}
 use Rattle.phase_modes.specs.declared.refusal.Refusal.{Refusal}
 use Rattle.phase_modes.specs.Refusal.{number_of}
 use Rattle.phase_model.specs.declared.op.Op.{Op}
+use Rattle.phase_model.specs.declared.terms.Terms.{Terms}
 use Rattle.phase_model.specs.declared.op.Op.TheVariants.{Sum, Least, Greatest}
 use Rattle.job_script.specs.declared.head.Head.{Head}
 use Rattle.job_script.specs.declared.head.Head.TheVariants as acts
@@ -20,13 +21,13 @@ use Rattle.world_model.specs.declared.event.WorldEvent.{WorldEvent}
 use Rattle.world_model.specs.declared.event.WorldEvent.TheVariants.{Refuse}
 use Rattle.world_model.specs.declared.reply.Reply.{Reply}
 use Rattle.world_model.specs.Due.{is_idle, next_event}
-use Rattle.world_model.specs.Continuing.{same_mode}
+use Rattle.world_model.specs.Continuing.{same_mode, same_number}
 use Rattle.world_model.specs.Numbers.{is_named}
 use Rattle.world_model.specs.Replies.{reply, is_made}
 use Rattle.world_model.specs.Tasks.{is_born, is_ended}
 use Rattle.world_model.specs.Drawing.{own_pairs}
 use Rattle.schedule_model.specs.Scripts.{Numbers, act_of, meanings, next_act, tried_as, tried_next, tried}
-use Rattle.schedule_model.specs.Follows.{same_op, same_ops, same_pairs, same_act, drawn, is_next, follows}
+use Rattle.schedule_model.specs.Follows.{same_op, same_ops, same_terms, same_pairs, same_act, drawn, is_next, follows}
 use Rattle.schedule_model.specs.Picks.{Asked, unused, event_of, going_on, asked, reported_or, made, pick, picked, round_from, rounds, run_within}
 use Rattle.schedule_model.proofs.NoActs.{next-continues}
 
@@ -44,6 +45,13 @@ ops_self : (os : List Op) → same_ops os os ≡ true
 ops_self [] = refl
 ops_self (o ∷ os) = and_from _ _ (op_self o) (ops_self os)
 
+terms_self : (x : Terms) → same_terms x x ≡ true
+terms_self x = and_from _ _ (ops_self x.ops) (number_self x.bound)
+  where
+    number_self : (o : Option ℕ) → same_number o o ≡ true
+    number_self None = refl
+    number_self (Some b) = eq_self b
+
 mode_self : (m : Mode) → same_mode m m ≡ true
 mode_self modes.Sig = refl
 mode_self modes.Wait = refl
@@ -57,7 +65,7 @@ pairs_self (p ∷ ps) = and_from _ _ (and_from _ _ (eq_self p.phaser) (mode_self
 -- ---- an act that is tried by its own numbers
 
 head_self : (w : List WorldEvent) (t : ℕ) (ms : List ℕ) (new : Numbers) (h : Head) → same_act (tried_as w t ms new h) (tried_as w t ms (drawn (tried_as w t ms new h)) h) ≡ true
-head_self w t ms new (acts.New name m ops) = and_from _ _ (and_from _ _ (eq_self new.phaser) (mode_self m)) (ops_self ops)
+head_self w t ms new (acts.New name m terms) = and_from _ _ (and_from _ _ (eq_self new.phaser) (mode_self m)) (terms_self terms)
 head_self w t ms new (acts.Async xs) = and_from _ _ (eq_self new.task) (pairs_self (map (pair_for ms) xs))
 head_self w t ms new acts.AsyncAll = and_from _ _ (eq_self new.task) (pairs_self (own_pairs t w))
 head_self w t ms new acts.OpenFinish = eq_self new.finish
@@ -79,7 +87,7 @@ tried-is-next p w t new = next_self w t (meanings p w t) new (next_act p w t)
 
 -- the event by which an act is made is that act
 pub act-of-event : (t : ℕ) (a : Tried) → act_of (event_of t a) ≡ Some (record { task = t; act = a })
-act-of-event t (New n m ops) = refl
+act-of-event t (New n m terms) = refl
 act-of-event t (Open f) = refl
 act-of-event t (Sending n a v) = refl
 act-of-event t (Looking n a) = refl

@@ -38,7 +38,7 @@ use Rattle.world_model.specs.Due.{is_idle, due, next_event, or_single}
 use Rattle.world_model.specs.GivingUp.{is_refused_by, is_reg, may_fail, done_where}
 use Rattle.world_model.specs.Numbers.{names}
 use Rattle.world_model.specs.PartReplies.{returned, finish_returned}
-use Rattle.world_model.specs.Parts.{ops_of, phaser_past, finish_past}
+use Rattle.world_model.specs.Parts.{terms_of, phaser_past, finish_past}
 use Rattle.world_model.specs.ProgressLaws.{is_expected}
 use Rattle.world_model.specs.Replies.{is_made, is_accepted, is_legal_world, reply, after}
 use Rattle.world_model.specs.Tasks.{is_born, is_ended}
@@ -65,7 +65,7 @@ number_self (Some n) = eq_self n
 
 -- it is the same as itself, if it isn't an act or an entry
 same_self : (e : WorldEvent) → act_of e ≡ None → ((t x : ℕ) → e ≡ Fail t x → ⊥) → same_event e e ≡ true
-same_self (Phaser n (Make t m ops)) h k = absurd cc
+same_self (Phaser n (Make t m terms)) h k = absurd cc
 same_self (Phaser n (Reg q t m)) h k = and_from (n == n) _ (eq_self n) (and_from (q == q && t == t) (same_mode m m) (and_from (q == q) (t == t) (eq_self q) (eq_self t)) (mode_self m))
 same_self (Phaser n (Sig t x)) h k = and_from (n == n) _ (eq_self n) (and_from (t == t) (same_number x x) (eq_self t) (number_self x))
 same_self (Phaser n (Claim t)) h k = and_from (n == n) (t == t) (eq_self n) (eq_self t)
@@ -84,7 +84,7 @@ same_self (Fail t x) h k = absurd (k t x refl)
 
 -- an event that is no act has the reply of what continues one
 reply_next : (l : Limits) (w : List WorldEvent) (e : WorldEvent) → act_of e ≡ None → ((t x : ℕ) → e ≡ Fail t x → ⊥) → reply l w e ≡ next_reply l w e
-reply_next l w (Phaser n (Make t m ops)) h k = absurd cc
+reply_next l w (Phaser n (Make t m terms)) h k = absurd cc
 reply_next l w (Phaser n (Reg q t m)) h k = refl
 reply_next l w (Phaser n (Sig t x)) h k = refl
 reply_next l w (Phaser n (Claim t)) h k = refl
@@ -103,7 +103,7 @@ reply_next l w (Fail t x) h k = absurd (k t x refl)
 
 -- a registration is never put off
 reg_waits_not : (l : Limits) (w : List WorldEvent) (e : WorldEvent) → is_reg e ≡ true → next_done l w e ≡ Ok NotYet → ⊥
-reg_waits_not l w (Phaser n (Reg q t m)) h k = never (first_refusal (conditions l (ops_of n w) (phaser_past n w) (register q t m))) (has_room l (Registered q t m ∷ phaser_past n w)) k
+reg_waits_not l w (Phaser n (Reg q t m)) h k = never (first_refusal (conditions l (terms_of n w) (phaser_past n w) (register q t m))) (has_room l (Registered q t m ∷ phaser_past n w)) k
   where
     never : (o : Option Refusal) (room : Bool) → returned (phaser_past n w) (settled o false room (Registered q t m)) ≡ Ok NotYet → ⊥
     never (Some r) room k = absurd cc
@@ -152,15 +152,15 @@ finish_other cs none k = by (first_refusal cs) refl k
     by None is k = absurd cc
 
 regs_full_is_reg : (l : Limits) (w : List WorldEvent) (e : WorldEvent) → next_done l w e ≡ Err RegsFull → is_reg e ≡ true
-regs_full_is_reg l w (Phaser n (Make t m ops)) k = absurd (call_other (phaser_past n w) (conditions l (ops_of n w) (phaser_past n w) (make t m)) false _ _ refl k)
+regs_full_is_reg l w (Phaser n (Make t m terms)) k = absurd (call_other (phaser_past n w) (conditions l (terms_of n w) (phaser_past n w) (make t m)) false _ _ refl k)
 regs_full_is_reg l w (Phaser n (Reg q t m)) k = refl
-regs_full_is_reg l w (Phaser n (Sig t x)) k = absurd (call_other (phaser_past n w) (conditions l (ops_of n w) (phaser_past n w) (signal t x)) false _ _ refl k)
-regs_full_is_reg l w (Phaser n (Claim t)) k = absurd (call_other (phaser_past n w) (conditions l (ops_of n w) (phaser_past n w) (pass t)) _ _ _ refl k)
-regs_full_is_reg l w (Phaser n (Did t)) k = absurd (call_other (phaser_past n w) (conditions l (ops_of n w) (phaser_past n w) (single_done t)) false _ _ refl k)
-regs_full_is_reg l w (Phaser n (Pass t)) k = absurd (call_other (phaser_past n w) (conditions l (ops_of n w) (phaser_past n w) (pass t)) _ _ _ refl k)
-regs_full_is_reg l w (Phaser n (Send t a v)) k = absurd (call_other (phaser_past n w) (conditions l (ops_of n w) (phaser_past n w) (send t a v)) false _ _ refl k)
-regs_full_is_reg l w (Phaser n (Look t a)) k = absurd (call_other (phaser_past n w) (conditions l (ops_of n w) (phaser_past n w) (look t a)) false _ _ refl k)
-regs_full_is_reg l w (Phaser n (Drop t)) k = absurd (call_other (phaser_past n w) (conditions l (ops_of n w) (phaser_past n w) (drop_task t)) false _ _ refl k)
+regs_full_is_reg l w (Phaser n (Sig t x)) k = absurd (call_other (phaser_past n w) (conditions l (terms_of n w) (phaser_past n w) (signal t x)) _ _ _ refl k)
+regs_full_is_reg l w (Phaser n (Claim t)) k = absurd (call_other (phaser_past n w) (conditions l (terms_of n w) (phaser_past n w) (pass t)) _ _ _ refl k)
+regs_full_is_reg l w (Phaser n (Did t)) k = absurd (call_other (phaser_past n w) (conditions l (terms_of n w) (phaser_past n w) (single_done t)) false _ _ refl k)
+regs_full_is_reg l w (Phaser n (Pass t)) k = absurd (call_other (phaser_past n w) (conditions l (terms_of n w) (phaser_past n w) (pass t)) _ _ _ refl k)
+regs_full_is_reg l w (Phaser n (Send t a v)) k = absurd (call_other (phaser_past n w) (conditions l (terms_of n w) (phaser_past n w) (send t a v)) false _ _ refl k)
+regs_full_is_reg l w (Phaser n (Look t a)) k = absurd (call_other (phaser_past n w) (conditions l (terms_of n w) (phaser_past n w) (look t a)) false _ _ refl k)
+regs_full_is_reg l w (Phaser n (Drop t)) k = absurd (call_other (phaser_past n w) (conditions l (terms_of n w) (phaser_past n w) (drop_task t)) false _ _ refl k)
 regs_full_is_reg l w (Finish f (Opened t)) k = absurd (finish_other (finish.conditions l.tasks (finish_past f w) (Opened t)) refl k)
 regs_full_is_reg l w (Finish f (Spawned t)) k = absurd (finish_other (finish.conditions l.tasks (finish_past f w) (Spawned t)) refl k)
 regs_full_is_reg l w (Finish f (Ended t)) k = absurd (finish_other (finish.conditions l.tasks (finish_past f w) (Ended t)) refl k)
@@ -325,7 +325,7 @@ reported_adds p w a (Ok x) is h g = by_reply p w a.event (is_made (Ok x)) (ap (�
 
 module _ (p : Program) (w : List WorldEvent) (t : ℕ) (ms : List ℕ) (new : Numbers) where
   head_names : (h : Head) (u : ℕ) → names u (event_of t (tried_as w t ms new h)) ≡ true → u ≡ new.task
-  head_names (acts.New name m ops) u k = absurd (false≢true k)
+  head_names (acts.New name m terms) u k = absurd (false≢true k)
   head_names (acts.Async xs) u k = sym (eqb-true new.task u k)
   head_names acts.AsyncAll u k = sym (eqb-true new.task u k)
   head_names acts.OpenFinish u k = absurd (false≢true k)

@@ -12,7 +12,7 @@ use Rattle.world_model.specs.declared.event.Begun.{Begun}
 use Rattle.world_model.specs.declared.event.Begun.TheVariants.{Async, Signal, Wait, Next, NextSingle, Shut, End}
 use Rattle.world_model.specs.declared.event.WorldEvent.{WorldEvent}
 use Rattle.world_model.specs.declared.event.WorldEvent.TheVariants.{Phaser, Finish, Begin, Refuse, Fail}
-use Rattle.world_model.specs.Parts.{phaser_past, ops_of}
+use Rattle.world_model.specs.Parts.{phaser_past, terms_of}
 use Rattle.world_model.specs.Scopes.{open_finishes, inner, enclosing}
 use Rattle.world_model.specs.Tasks.{phasers_of, home}
 use Rattle.world_model.specs.Actors.{actor}
@@ -114,7 +114,7 @@ passing false false n t = refl
 
 -- a claim and its report are no acts either
 with_single : (l : Limits) (w : List WorldEvent) (d : WorldEvent) → is_some (act_of d) ≡ false → is_some (act_of (or_single l w d)) ≡ false
-with_single l w (Phaser n (Pass t)) h = passing (is_permitted l (ops_of n w) (phaser_past n w) (Claimed t)) (is_permitted l (ops_of n w) (phaser_past n w) (Done t)) n t
+with_single l w (Phaser n (Pass t)) h = passing (is_permitted l (terms_of n w) (phaser_past n w) (Claimed t)) (is_permitted l (terms_of n w) (phaser_past n w) (Done t)) n t
 with_single l w d h = h
 
 none_is : (o : Option Made) → is_some o ≡ false → o ≡ None

@@ -8,8 +8,8 @@ use Rattle.phase_modes.specs.Limits.{limits_fit}
 use Rattle.phase_modes.specs.declared.limits.Limits.{Limits}
 use Rattle.phase_modes.specs.declared.refusal.Refusal.TheVariants.{NotNow, ActsFull, PhasersFull, FinishesFull, TasksFull}
 use Rattle.phase_modes.specs.Refusal.{first_refusal}
+use Rattle.phase_model.specs.declared.terms.Terms.{Terms}
 use Rattle.phase_model.specs.declared.history.Event.{Event}
-use Rattle.phase_model.specs.declared.op.Op.{Op}
 use Rattle.phase_model.specs.Rules.{is_allowed}
 use Rattle.finish_core.specs.Finish.{all_ended}
 use Rattle.finish_core.specs.Replies as finish
@@ -23,7 +23,7 @@ use Rattle.world_model.specs.declared.event.Tried.TheVariants.{New, Open}
 use Rattle.world_model.specs.declared.event.WorldEvent.{WorldEvent}
 use Rattle.world_model.specs.declared.event.WorldEvent.TheVariants.{Phaser, Finish, Begin, Refuse, Fail}
 use Rattle.world_model.specs.declared.reply.Reply.TheVariants.{NotYet}
-use Rattle.world_model.specs.Parts.{ops_of, event_for, phaser_past, finish_past}
+use Rattle.world_model.specs.Parts.{terms_of, event_for, phaser_past, finish_past}
 use Rattle.world_model.specs.PartReplies.{finish_returned}
 use Rattle.world_model.specs.Replies.{is_made, is_accepted, is_legal_world}
 use Rattle.world_model.specs.Acts.{act_reply, is_number_used, own_conditions, pair_conditions, is_counted, most_phasers_held}
@@ -49,23 +49,23 @@ own_first l w t a k =
 
 -- a phaser's first event makes it
 abbrev makes : Step → Bool
-makes (Make t m ops) = true
+makes (Make t m terms) = true
 makes _ = false
 
-blank_refuses : (l : Limits) (ops : List Op) (s : Step) → makes s ≡ false → is_allowed l ops [] (event_for ops [] s) ≡ false
-blank_refuses l ops (Make t m o) h = absurd (true≢false h)
-blank_refuses l ops (Reg q t m) h = refl
-blank_refuses l ops (Sig t x) h = refl
-blank_refuses l ops (Claim t) h = refl
-blank_refuses l ops (Did t) h = refl
-blank_refuses l ops (Pass t) h = refl
-blank_refuses l ops (Send t a v) h = refl
-blank_refuses l ops (Look t a) h = refl
-blank_refuses l ops (Drop t) h = refl
+blank_refuses : (l : Limits) (terms : Terms) (s : Step) → makes s ≡ false → is_allowed l terms [] (event_for terms [] s) ≡ false
+blank_refuses l terms (Make t m o) h = absurd (true≢false h)
+blank_refuses l terms (Reg q t m) h = refl
+blank_refuses l terms (Sig t x) h = refl
+blank_refuses l terms (Claim t) h = refl
+blank_refuses l terms (Did t) h = refl
+blank_refuses l terms (Pass t) h = refl
+blank_refuses l terms (Send t a v) h = refl
+blank_refuses l terms (Look t a) h = refl
+blank_refuses l terms (Drop t) h = refl
 
 not_first : (l : Limits) (w : List WorldEvent) (n : ℕ) (s : Step) → makes s ≡ false → phaser_past n w ≡ [] → is_accepted l w (Phaser n s) ≡ true → ⊥
 not_first l w n s h none a =
-    true≢false (sym (subst (λ (p : List Event). is_allowed l (ops_of n w) p (event_for (ops_of n w) p s) ≡ true) none (step_allowed l w n s a)) ∙ blank_refuses l (ops_of n w) s h)
+    true≢false (sym (subst (λ (p : List Event). is_allowed l (terms_of n w) p (event_for (terms_of n w) p s) ≡ true) none (step_allowed l w n s a)) ∙ blank_refuses l (terms_of n w) s h)
 
 no_events : (h : List Event) → not (is_empty h) ≡ false → h ≡ []
 no_events [] e = refl
@@ -75,7 +75,7 @@ pub none_yet : (n : ℕ) (w : List WorldEvent) → is_phaser n w ≡ false → p
 none_yet n w h = no_events (phaser_past n w) h
 
 first_step : (l : Limits) (w : List WorldEvent) (n : ℕ) (s : Step) → phaser_past n w ≡ [] → is_accepted l w (Phaser n s) ≡ true → n < l.phasers
-first_step l w n (Make t m ops) none a = ltb-true n l.phasers (no_refusal PhasersFull (nat_lt n l.phasers) ((PhasersFull, nat_lt (length (phasers_of t w)) most_phasers_held) ∷ []) (own_first l w t (New n m ops) a)).0
+first_step l w n (Make t m terms) none a = ltb-true n l.phasers (no_refusal PhasersFull (nat_lt n l.phasers) ((PhasersFull, nat_lt (length (phasers_of t w)) most_phasers_held) ∷ []) (own_first l w t (New n m terms) a)).0
 first_step l w n (Reg q t m) none a = absurd (not_first l w n (Reg q t m) refl none a)
 first_step l w n (Sig t x) none a = absurd (not_first l w n (Sig t x) refl none a)
 first_step l w n (Claim t) none a = absurd (not_first l w n (Claim t) refl none a)

@@ -3,6 +3,7 @@ use Rattle.std.specs.Prelude.{Bool, true, false, ◌&&◌, ◌==◌, List, [], �
 use Rattle.std.specs.Ordering.{int_eq}
 use Rattle.phase_modes.specs.declared.phased.Pair.{Pair}
 use Rattle.phase_model.specs.declared.op.Op.{Op}
+use Rattle.phase_model.specs.declared.terms.Terms.{Terms}
 use Rattle.phase_model.specs.declared.op.Op.TheVariants.{Sum, Least, Greatest}
 use Rattle.job_script.specs.Program.{Program}
 use Rattle.world_model.specs.declared.event.Begun.{Begun}
@@ -10,7 +11,7 @@ use Rattle.world_model.specs.declared.event.Begun.TheVariants.{Async, Signal, Wa
 use Rattle.world_model.specs.declared.event.Tried.{Tried}
 use Rattle.world_model.specs.declared.event.Tried.TheVariants.{Begun as Beginning, New, Open, Send as Sending, Look as Looking}
 use Rattle.world_model.specs.declared.event.WorldEvent.{WorldEvent}
-use Rattle.world_model.specs.Continuing.{same_mode}
+use Rattle.world_model.specs.Continuing.{same_mode, same_number}
 use Rattle.schedule_model.specs.Scripts.{Made, Numbers, act_of, tried}
 
 -- ---- two acts are the same
@@ -25,6 +26,9 @@ abbrev pub same_ops : List Op → List Op → Bool
 same_ops [] [] = true
 same_ops (x ∷ xs) (y ∷ ys) = same_op x y && same_ops xs ys
 same_ops _ _ = false
+
+abbrev pub same_terms : Terms → Terms → Bool
+same_terms x y = same_ops x.ops y.ops && same_number x.bound y.bound
 
 abbrev pub same_pairs : List Pair → List Pair → Bool
 same_pairs [] [] = true
@@ -43,7 +47,7 @@ same_begun _ _ = false
 
 abbrev pub same_act : Tried → Tried → Bool
 same_act (Beginning b) (Beginning c) = same_begun b c
-same_act (New n m ops) (New k o qs) = n == k && same_mode m o && same_ops ops qs
+same_act (New n m terms) (New k o others) = n == k && same_mode m o && same_terms terms others
 same_act (Open f) (Open g) = f == g
 same_act (Sending n a v) (Sending m b u) = n == m && a == b && int_eq v u
 same_act (Looking n a) (Looking m b) = n == m && a == b
@@ -53,7 +57,7 @@ same_act _ _ = false
 
 -- the numbers that the act has drawn: those that it gives to nothing are any
 abbrev pub drawn : Tried → Numbers
-drawn (New n m ops) = record { phaser = n; task = 0; finish = 0 }
+drawn (New n m terms) = record { phaser = n; task = 0; finish = 0 }
 drawn (Beginning (Async c xs)) = record { phaser = 0; task = c; finish = 0 }
 drawn (Open f) = record { phaser = 0; task = 0; finish = f }
 drawn _ = record { phaser = 0; task = 0; finish = 0 }

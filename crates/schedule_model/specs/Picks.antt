@@ -32,7 +32,7 @@ unused l w = record {
 
 -- the event by which a task makes an act
 abbrev pub event_of : ℕ → Tried → WorldEvent
-event_of t (New n m ops) = Phaser n (Make t m ops)
+event_of t (New n m terms) = Phaser n (Make t m terms)
 event_of t (Open f) = Finish f (Opened t)
 event_of t (Sending n a v) = Phaser n (Send t a v)
 event_of t (Looking n a) = Phaser n (Look t a)

@@ -5,7 +5,7 @@ use Rattle.phase_modes.specs.declared.limits.Limits.{Limits}
 use Rattle.phase_modes.specs.declared.reg.Mode.TheVariants.{Sig as OnlySig, Wait as OnlyWait, SigWait}
 use Rattle.phase_model.specs.declared.op.Op.TheVariants.{Sum}
 use Rattle.job_script.specs.declared.head.Head.TheVariants.{New, Async, OpenFinish, ShutFinish, Next, NextSingle, Send}
-use Rattle.world_model.specs.ExampleWords.{ended, refused_with, in_all, phases_of, sum_is, tasks_in}
+use Rattle.world_model.specs.ExampleWords.{ended, refused_with, in_all, phases_of, sum_is, tasks_in, unbounded}
 use Rattle.schedule_model.specs.ExampleWords.{ComesTo, on, plain, program, root_alone, with_limits, within}
 
 -- ---- limits that the root meets
@@ -36,7 +36,7 @@ one_phaser = record default_limits { phasers = 1 }
 
 abbrev pub PhasersFullRun : Type 0
 PhasersFullRun =
-    ComesTo (with_limits one_phaser (plain (New 0 OnlySig []) ∷ plain (New 1 OnlySig []) ∷ [])) [] (record {
+    ComesTo (with_limits one_phaser (plain (New 0 OnlySig (unbounded [])) ∷ plain (New 1 OnlySig (unbounded [])) ∷ [])) [] (record {
       phasers = phases_of 0 0 [] ∷ [];
       tasks = refused_with 0 16 ∷ [];
       finishes = tasks_in 0 0 ∷ [];
@@ -71,8 +71,8 @@ two_regs = record default_limits { regs = 2 }
 -- a spawn that fails halfway: the child that was never spawned leaves its phaser first
 abbrev pub UnbornChildDropped : Type 0
 UnbornChildDropped = ComesTo (with_limits two_regs (
-    plain (New 0 SigWait [])
-    ∷ plain (New 1 SigWait [])
+    plain (New 0 SigWait (unbounded []))
+    ∷ plain (New 1 SigWait (unbounded []))
     ∷ within (Async (on 1 OnlyWait ∷ [])) (plain Next ∷ [])
     ∷ within (Async (on 0 OnlySig ∷ on 1 OnlySig ∷ [])) []
     ∷ [])) [] (record {
@@ -88,8 +88,8 @@ short_history = record default_limits { history = 5 }
 -- a history that is full in the middle of a turn
 abbrev pub HistoryFullInNext : Type 0
 HistoryFullInNext = ComesTo (with_limits short_history (
-    plain (New 0 SigWait [])
-    ∷ plain (New 1 SigWait (Sum ∷ []))
+    plain (New 0 SigWait (unbounded []))
+    ∷ plain (New 1 SigWait (unbounded (Sum ∷ [])))
     ∷ plain (Send 1 0 (pos 7))
     ∷ plain Next
     ∷ plain Next

@@ -1,8 +1,8 @@
 -- Worked examples of runs: what a program comes to, by rounds alone and by picks.
-use Rattle.std.specs.Prelude.{ℕ, ◌≡◌, List, [], ◌∷◌, ◌++◌, reverse, replicate, None, pos}
+use Rattle.std.specs.Prelude.{ℕ, ◌≡◌, List, [], ◌∷◌, ◌++◌, reverse, replicate, Some, None, pos}
 use Rattle.phase_modes.specs.declared.reg.Mode.TheVariants.{Sig as OnlySig, Wait as OnlyWait, SigWait}
 use Rattle.phase_model.specs.declared.op.Op.TheVariants.{Sum}
-use Rattle.job_script.specs.declared.head.Head.TheVariants.{New, Async, OpenFinish, ShutFinish, Wait, Next, Send, Repeat}
+use Rattle.job_script.specs.declared.head.Head.TheVariants.{New, Async, OpenFinish, ShutFinish, Wait, Next, Send, Look, Repeat}
 use Rattle.job_script.specs.Acts.{Act}
 use Rattle.job_script.specs.Program.{Program}
 use Rattle.finish_core.specs.declared.event.FinishEvent.TheVariants.{Opened, Spawned, Ended, Shut as Shutting}
@@ -12,7 +12,7 @@ use Rattle.world_model.specs.declared.event.WorldEvent.TheVariants.{Phaser, Fini
 use Rattle.world_model.specs.declared.report.TaskLine.{TaskLine}
 use Rattle.world_model.specs.declared.report.TotalsLine.{TotalsLine}
 use Rattle.world_model.specs.ExampleWords as worlds
-use Rattle.world_model.specs.ExampleWords.{ended, refused_with, in_all, no_phasers, phases_of, sum_is, tasks_in}
+use Rattle.world_model.specs.ExampleWords.{ended, refused_with, in_all, no_phasers, phases_of, sum_is, tasks_in, unbounded}
 use Rattle.world_model.specs.Report.{Report}
 use Rattle.schedule_model.specs.Picks.{picked}
 use Rattle.schedule_model.specs.ExampleWords.{ComesTo, on, plain, program, root_alone, run, within}
@@ -31,7 +31,7 @@ NothingToDo =
 
 abbrev pub outside_scope : Program
 outside_scope = program (
-    plain (New 0 SigWait [])
+    plain (New 0 SigWait (unbounded []))
     ∷ plain OpenFinish
     ∷ within (Async (on 0 OnlySig ∷ [])) (plain Next ∷ [])
     ∷ plain ShutFinish
@@ -49,7 +49,7 @@ OutsideScope = ComesTo outside_scope [] (record {
 
 abbrev pub two_senders : Program
 two_senders = program (
-    plain (New 0 SigWait (Sum ∷ []))
+    plain (New 0 SigWait (unbounded (Sum ∷ [])))
     ∷ within (Async (on 0 SigWait ∷ []))
     (plain (Send 0 0 (pos 1)) ∷ plain Next ∷ plain (Send 0 0 (pos 10)) ∷ plain Next ∷ [])
     ∷ within (Async (on 0 SigWait ∷ []))
@@ -74,7 +74,7 @@ TwoSenders = ComesTo two_senders [] two_senders_report
 abbrev pub TwoSendersPicked : Type 0
 TwoSendersPicked =
     (reverse (picked two_senders [] some_picks)
-    ≡ Phaser 0 (Make 0 SigWait (Sum ∷ []))
+    ≡ Phaser 0 (Make 0 SigWait (unbounded (Sum ∷ [])))
     ∷ Begin 0 (Spawning 1 (worlds.on 0 SigWait ∷ []))
     ∷ Phaser 0 (Reg 0 1 SigWait)
     ∷ [])
@@ -124,8 +124,8 @@ NestedFinish = ComesTo nested_finish nested_picks nested_finish_report
 -- the first child makes these acts before its turns
 abbrev pub crossed_with : List Act → Program
 crossed_with first = program (
-    plain (New 0 SigWait [])
-    ∷ plain (New 1 SigWait [])
+    plain (New 0 SigWait (unbounded []))
+    ∷ plain (New 1 SigWait (unbounded []))
     ∷ within (Async (on 0 OnlySig ∷ on 1 OnlyWait ∷ [])) (first ++ within (Repeat 3) (plain Next ∷ []) ∷ [])
     ∷ within (Async (on 1 OnlySig ∷ on 0 OnlyWait ∷ [])) (within (Repeat 3) (plain Next ∷ []) ∷ [])
     ∷ [])
@@ -151,12 +151,34 @@ abbrev pub CrossedSignalsRefused : Type 0
 CrossedSignalsRefused = ComesTo (crossed_with (plain Wait ∷ [])) []
     (crossed_report (refused_with 1 6) (in_all 6 3 6 6 0 0 0))
 
+-- ---- a signaller that may be one phase ahead of a reader
+
+abbrev pub bounded_producer : Program
+bounded_producer = program (
+    plain (New 0 SigWait (record { ops = Sum ∷ []; bound = Some 1 }))
+    ∷ within (Async (on 0 OnlySig ∷ [])) (within (Repeat 3) (plain (Send 0 0 (pos 1)) ∷ plain Next ∷ []) ∷ [])
+    ∷ within (Async (on 0 OnlyWait ∷ [])) (within (Repeat 3) (plain Next ∷ plain (Look 0 0) ∷ []) ∷ [])
+    ∷ [])
+
+abbrev pub bounded_report : Report
+bounded_report = record {
+  phasers = phases_of 0 3 (sum_is 0 1 ∷ sum_is 1 1 ∷ sum_is 2 1 ∷ []) ∷ [];
+  tasks = ended 0 ∷ ended 1 ∷ ended 2 ∷ [];
+  finishes = tasks_in 0 2 ∷ [];
+  totals = in_all 3 3 6 3 3 3 0;
+}
+
+-- by rounds alone, and where the signaller is picked as long as it goes on, and longer
+abbrev pub BoundedProducer : Type 0
+BoundedProducer = ComesTo bounded_producer [] bounded_report
+    × ComesTo bounded_producer (replicate 7 0 ++ replicate 20 1) bounded_report
+
 -- ---- the owner leaves a phaser of its finish before it waits for the child
 
 abbrev pub owner_leaves_before_shut : Program
 owner_leaves_before_shut = program (
     plain OpenFinish
-    ∷ plain (New 0 SigWait [])
+    ∷ plain (New 0 SigWait (unbounded []))
     ∷ within (Async (on 0 OnlyWait ∷ [])) (plain Next ∷ [])
     ∷ plain ShutFinish
     ∷ [])

@@ -24,7 +24,7 @@ pub record Made : Type 0 where
 -- the act of which the event is the first, or which it refuses; a failure is none, and neither is what continues an
 -- act
 abbrev pub act_of : WorldEvent → Option Made
-act_of (Phaser n (Make t m ops)) = Some (record { task = t; act = New n m ops })
+act_of (Phaser n (Make t m terms)) = Some (record { task = t; act = New n m terms })
 act_of (Phaser n (Send t a v)) = Some (record { task = t; act = Sending n a v })
 act_of (Phaser n (Look t a)) = Some (record { task = t; act = Looking n a })
 act_of (Finish f (Opened t)) = Some (record { task = t; act = Open f })
@@ -69,7 +69,7 @@ next_act p w t = slice_get (acts_left p w t) 0
 -- what the names mean to t after an event, where this is who spawns it by the event
 abbrev pub meant_after : Program → List WorldEvent → ℕ → WorldEvent → Option ℕ → (ℕ → List ℕ) → List ℕ
 meant_after p w t e (Some u) before = before u
-meant_after p w t (Phaser n (Make u m ops)) None before =
+meant_after p w t (Phaser n (Make u m terms)) None before =
     if u == t then named_as (given_name (next_act p w t)) n (before t) else before t
 meant_after p w t _ None before = before t
 
@@ -89,7 +89,7 @@ pub record Numbers : Type 0 where
 
 -- the act as the world knows it, where these numbers are drawn for it; a repeat is in no flat list
 abbrev pub tried_as : List WorldEvent → ℕ → List ℕ → Numbers → Head → Tried
-tried_as w t ms new (acts.New name m ops) = New new.phaser m ops
+tried_as w t ms new (acts.New name m terms) = New new.phaser m terms
 tried_as w t ms new (acts.Async xs) = Beginning (Async new.task (map (pair_for ms) xs))
 tried_as w t ms new acts.AsyncAll = Beginning (Async new.task (own_pairs t w))
 tried_as w t ms new acts.OpenFinish = Open new.finish

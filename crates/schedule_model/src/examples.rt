@@ -1,7 +1,7 @@
 //! The worked examples: programs, and what their runs come to, by rounds alone and by picks. Each
 //! function does nothing: its contract says it, and the check computes it.
 ghost use Rattle.schedule_model.specs.RefusalExamples.{ActsFullRun, FinishOpenRun, FinishesFullRun, HistoryFullInNext, NoFinishRun, NotRegisteredRun, OnePhaserOnlyRun, PhasersFullRun, TasksFullRun, UnbornChildDropped};
-ghost use Rattle.schedule_model.specs.RunExamples.{CrossedSignals, CrossedSignalsByOne, CrossedSignalsRefused, NestedFinish, NestedFinishEvents, NothingToDo, OutsideScope, OwnerLeavesBeforeShut, TwoSenders, TwoSendersPicked};
+ghost use Rattle.schedule_model.specs.RunExamples.{BoundedProducer, CrossedSignals, CrossedSignalsByOne, CrossedSignalsRefused, NestedFinish, NestedFinishEvents, NothingToDo, OutsideScope, OwnerLeavesBeforeShut, TwoSenders, TwoSendersPicked};
 
 /// Runs of several tasks, over phasers and finishes.
 pub fn worked_runs()
@@ -14,6 +14,7 @@ pub fn worked_runs()
     ensures crossed_signals { CrossedSignals }
     ensures crossed_signals_by_one { CrossedSignalsByOne }
     ensures crossed_signals_refused { CrossedSignalsRefused }
+    ensures bounded_producer { BoundedProducer }
     ensures owner_leaves_before_shut { OwnerLeavesBeforeShut }
 {}
 

@@ -22,7 +22,7 @@ use Rattle.world_model.specs.declared.reply.Reply.{Reply}
 use Rattle.world_model.specs.declared.reply.Reply.TheVariants.{Value, NotYet}
 use Rattle.world_model.specs.Acts.{act_conditions, unless}
 use Rattle.world_model.specs.PartReplies.{returned}
-use Rattle.world_model.specs.Parts.{ops_of, phaser_past}
+use Rattle.world_model.specs.Parts.{terms_of, phaser_past}
 use Rattle.world_model.specs.Replies.{after, is_made, reply}
 use Rattle.world_core.specs.StandsFor.{StandsFor, IsStep}
 use Rattle.world_core.specs.WorldState.{WorldState}
@@ -36,7 +36,7 @@ use Rattle.schedule_run.specs.inner.Records.{Counted, IsTraced, Records}
 
 -- it is that event
 back : (e : WorldEvent) (x : Reply) → explained.event_of (traced e x) ≡ e
-back (Phaser n (Make t m ops)) x = refl
+back (Phaser n (Make t m terms)) x = refl
 back (Phaser n (Reg q t m)) x = refl
 back (Phaser n (Sig t y)) x = refl
 back (Phaser n (Claim t)) x = refl
@@ -56,7 +56,7 @@ look_self looks.Nothing = refl
 
 -- what a look is answered is what it saw
 look_seen : (l : Limits) (w : List WorldEvent) (n t a : ℕ) (x : Reply) → reply l w (Phaser n (Looking t a)) ≡ Ok x → is_made (Ok x) ≡ true → explained.is_seen (seen x) (Ok x) ≡ true
-look_seen l w n t a x is made = by (first_refusal (act_conditions l w t (TriedLook n a))) (first_refusal (conditions l (ops_of n w) (phaser_past n w) (look t a))) (has_room l (Looked t a (look_of (ops_of n w) a (waits t (phaser_past n w)) (phaser_past n w)) ∷ phaser_past n w)) is
+look_seen l w n t a x is made = by (first_refusal (act_conditions l w t (TriedLook n a))) (first_refusal (conditions l (terms_of n w) (phaser_past n w) (look t a))) (has_room l (Looked t a (look_of (terms_of n w).ops a (waits t (phaser_past n w)) (phaser_past n w)) ∷ phaser_past n w)) is
   where
     of_value : (y : Look) → ◌≡◌ {A = Result Reply Refusal} (Ok (Value y)) (Ok x) → explained.is_seen (seen x) (Ok x) ≡ true
     of_value y h = subst (λ (z : Reply). explained.is_seen (seen z) (Ok z) ≡ true) (got (Value y) x h) (look_self y)
@@ -64,14 +64,14 @@ look_seen l w n t a x is made = by (first_refusal (act_conditions l w t (TriedLo
         got : (a b : Reply) → ◌≡◌ {A = Result Reply Refusal} (Ok a) (Ok b) → a ≡ b
         got a b h = cc
 
-    by : (o c : Option Refusal) (room : Bool) → unless o (returned (phaser_past n w) (settled c false room (Looked t a (look_of (ops_of n w) a (waits t (phaser_past n w)) (phaser_past n w))))) ≡ Ok x → explained.is_seen (seen x) (Ok x) ≡ true
+    by : (o c : Option Refusal) (room : Bool) → unless o (returned (phaser_past n w) (settled c false room (Looked t a (look_of (terms_of n w).ops a (waits t (phaser_past n w)) (phaser_past n w))))) ≡ Ok x → explained.is_seen (seen x) (Ok x) ≡ true
     by (Some r) c room h = absurd cc
     by None (Some r) room h = absurd cc
-    by None None true h = of_value (look_of (ops_of n w) a (waits t (phaser_past n w)) (phaser_past n w)) h
+    by None None true h = of_value (look_of (terms_of n w).ops a (waits t (phaser_past n w)) (phaser_past n w)) h
     by None None false h = absurd cc
 
 answered : (l : Limits) (w : List WorldEvent) (e : WorldEvent) (x : Reply) → reply l w e ≡ Ok x → is_made (Ok x) ≡ true → is_answered (traced e x) (Ok x) ≡ true
-answered l w (Phaser n (Make t m ops)) x is made = made
+answered l w (Phaser n (Make t m terms)) x is made = made
 answered l w (Phaser n (Reg q t m)) x is made = made
 answered l w (Phaser n (Sig t y)) x is made = made
 answered l w (Phaser n (Claim t)) x is made = made

@@ -15,7 +15,7 @@ use Rattle.schedule_run.specs.Given.{tried_of}
 
 head_given : (w : List WorldEvent) (t : ℕ) (ms : List ℕ) (new : Numbers) (h : Head) (body : Acts)
     → tried_of (own_pairs t w) new (act_for ms h body) ≡ tried_as w t ms new h
-head_given w t ms new (acts.New name m ops) body = refl
+head_given w t ms new (acts.New name m terms) body = refl
 head_given w t ms new (acts.Async xs) body = refl
 head_given w t ms new acts.AsyncAll body = refl
 head_given w t ms new acts.OpenFinish body = refl

@@ -4,7 +4,7 @@ use Rattle.std.proofs.Math.ListN.{set}
 use Rattle.std.proofs.lemmas.Bool.{eqb-true, false_from_ne_true}
 use Rattle.phase_modes.specs.declared.reg.Mode.{Mode}
 use Rattle.phase_modes.specs.declared.phased.Pair.{Pair}
-use Rattle.phase_model.specs.declared.op.Op.{Op}
+use Rattle.phase_model.specs.declared.terms.Terms.{Terms}
 use Rattle.job_script.specs.declared.act.Answer.TheVariants.{Started, Done, Made as MadeOf}
 use Rattle.job_script.specs.declared.act.Act.TheVariants.{End}
 use Rattle.job_script.specs.Acts.{flat}
@@ -164,36 +164,36 @@ made_none : (p : Program) (w : List WorldEvent) (t n : ℕ) → IsAskedSeat p w 
     })
 made_none p w t n a = rw (a.0, a.1) refl
 
-made_after : (p : Program) (w : List WorldEvent) (t n : ℕ) (m : Mode) (ops : List Op)
+made_after : (p : Program) (w : List WorldEvent) (t n : ℕ) (m : Mode) (terms : Terms)
     (at new : ℕ → Option Seat) → IsAskedOf p w t at → ((u : ℕ) → u ≢ t → new u ≡ at u)
     → ◌≡◌ {A = Standing} (standing_of (new t)) (record {
       left = drop 1 (acts_left p w t);
       meanings =
           named_as (given_name (next_act p w t)) n (meanings p w t);
     })
-    → SeatsStand p (Phaser n (Make t m ops) ∷ w) new
-made_after p w t n m ops at new a same own =
-    each_task p (Phaser n (Make t m ops) ∷ w) new t
-    (own ∙ sym (making p w t n m ops))
+    → SeatsStand p (Phaser n (Make t m terms) ∷ w) new
+made_after p w t n m terms at new a same own =
+    each_task p (Phaser n (Make t m terms) ∷ w) new t
+    (own ∙ sym (making p w t n m terms))
     (λ u k. ap standing_of (same u k) ∙ a.others u k
     ∙ sym
-    (unmoved p w u (Phaser n (Make t m ops))
-    (one_task t u (act_of (Phaser n (Make t m ops))) (eq_self t) k) refl))
+    (unmoved p w u (Phaser n (Make t m terms))
+    (one_task t u (act_of (Phaser n (Make t m terms))) (eq_self t) k) refl))
 
 -- the task's seat has the answer
-pub made_with : (p : Program) (w : List WorldEvent) (t n : ℕ) (m : Mode) (ops : List Op)
+pub made_with : (p : Program) (w : List WorldEvent) (t n : ℕ) (m : Mode) (terms : Terms)
     (at new : ℕ → Option Seat) (s after : Seat) → IsAskedOf p w t at → at t ≡ Some s → new t ≡ Some after
     → ((u : ℕ) → u ≢ t → new u ≡ at u) → after.body ≡ s.body → after.answer ≡ MadeOf n
-    → SeatsStand p (Phaser n (Make t m ops) ∷ w) new
-made_with p w t n m ops at new s after a was is same body answer =
-    made_after p w t n m ops at new a same
+    → SeatsStand p (Phaser n (Make t m terms) ∷ w) new
+made_with p w t n m terms at new s after a was is same body answer =
+    made_after p w t n m terms at new a same
     (ap standing_of is ∙ made_seat p w t n s after body answer (subst (IsAskedSeat p w t) was a.own))
 
 -- a task without a seat
-pub made_without : (p : Program) (w : List WorldEvent) (t n : ℕ) (m : Mode) (ops : List Op)
-    (at : ℕ → Option Seat) → IsAskedOf p w t at → at t ≡ None → SeatsStand p (Phaser n (Make t m ops) ∷ w) at
-made_without p w t n m ops at a none =
-    made_after p w t n m ops at at a (λ u k. refl)
+pub made_without : (p : Program) (w : List WorldEvent) (t n : ℕ) (m : Mode) (terms : Terms)
+    (at : ℕ → Option Seat) → IsAskedOf p w t at → at t ≡ None → SeatsStand p (Phaser n (Make t m terms) ∷ w) at
+made_without p w t n m terms at a none =
+    made_after p w t n m terms at at a (λ u k. refl)
     (ap standing_of none ∙ made_none p w t n (subst (IsAskedSeat p w t) none a.own))
 
 -- ---- a child that was spawned
@@ -248,14 +248,14 @@ refused_stands p w t at a n asked = settled p w t at (Refuse t a n) asked (eq_se
 
 -- it makes no phaser, and spawns nobody
 abbrev pub is_plain : Tried → Bool
-is_plain (New n m ops) = false
+is_plain (New n m terms) = false
 is_plain (Beginning (Async c pairs)) = false
 is_plain _ = true
 
 -- such an act that was made
 pub plain_stands : (p : Program) (w : List WorldEvent) (t : ℕ) (at : ℕ → Option Seat) (a : Tried)
     → is_plain a ≡ true → IsAskedOf p w t at → SeatsStand p (event_of t a ∷ w) at
-plain_stands p w t at (New n m ops) h asked = absurd cc
+plain_stands p w t at (New n m terms) h asked = absurd cc
 plain_stands p w t at (Open f) h asked =
     settled p w t at (Finish f (Opened t)) asked (eq_self t) (λ u. refl) refl
 plain_stands p w t at (Sending n a v) h asked =
@@ -299,12 +299,12 @@ list_asked p w t seats s after stand below was body answer =
     asked_with p w t (seat_at seats) (seat_at (set seats t (Some after))) s after stand was
     (seat_set_same seats t after below) (seat_set_other seats t after) body answer
 
-pub list_made : (p : Program) (w : List WorldEvent) (t n : ℕ) (m : Mode) (ops : List Op)
+pub list_made : (p : Program) (w : List WorldEvent) (t n : ℕ) (m : Mode) (terms : Terms)
     (seats : List (Option Seat)) (s after : Seat) → IsAsked p w t seats → t < length seats
     → seat_at seats t ≡ Some s → after.body ≡ s.body → after.answer ≡ MadeOf n
-    → BodiesStand p (Phaser n (Make t m ops) ∷ w) (set seats t (Some after))
-list_made p w t n m ops seats s after a below was body answer =
-    made_with p w t n m ops (seat_at seats) (seat_at (set seats t (Some after))) s after a was
+    → BodiesStand p (Phaser n (Make t m terms) ∷ w) (set seats t (Some after))
+list_made p w t n m terms seats s after a below was body answer =
+    made_with p w t n m terms (seat_at seats) (seat_at (set seats t (Some after))) s after a was
     (seat_set_same seats t after below) (seat_set_other seats t after) body answer
 
 pub list_child : (p : Program) (w : List WorldEvent) (t c : ℕ) (pairs : List Pair)

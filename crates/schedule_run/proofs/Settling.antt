@@ -24,12 +24,12 @@ tried_by : (p : Program) (w : List WorldEvent) (t : ℕ) (new : Numbers) (act : 
 tried_by p w t new act given = ap (λ (a : tasks.Act Script). tried_of (own_pairs t w) new a) given ∙ given-is-tried p w t new
 
 -- the event by which a phaser is made
-pub makes_phaser : (p : Program) (w : List WorldEvent) (t : ℕ) (new : Numbers) (act : tasks.Act Script) (m : Mode) (ops : List Op) → act ≡ next_for (meanings p w t) (next_act p w t) → act ≡ acts.New m ops → Phaser new.phaser (Make t m ops) ≡ event_of t (tried p w t new)
-makes_phaser p w t new act m ops given is =
+pub makes_phaser : (p : Program) (w : List WorldEvent) (t : ℕ) (new : Numbers) (act : tasks.Act Script) (m : Mode) (ops : List Op) (b : Option ℕ) → act ≡ next_for (meanings p w t) (next_act p w t) → act ≡ acts.New m ops b → Phaser new.phaser (Make t m (record { ops = ops; bound = b })) ≡ event_of t (tried p w t new)
+makes_phaser p w t new act m ops b given is =
     ap (λ (a : tasks.Act Script). event_of t (tried_of (own_pairs t w) new a)) (sym is) ∙ ap (λ (a : Tried). event_of t a) (tried_by p w t new act given)
 
-plain : (own : List Pair) (new : Numbers) (act : tasks.Act Script) → ((s : Script) (ps : List Pair) → act ≡ acts.Async s ps → ⊥) → ((s : Script) → act ≡ acts.AsyncAll s → ⊥) → ((m : Mode) (ops : List Op) → act ≡ acts.New m ops → ⊥) → is_plain (tried_of own new act) ≡ true
-plain own new (acts.New m ops) a b c = absurd (c m ops refl)
+plain : (own : List Pair) (new : Numbers) (act : tasks.Act Script) → ((s : Script) (ps : List Pair) → act ≡ acts.Async s ps → ⊥) → ((s : Script) → act ≡ acts.AsyncAll s → ⊥) → ((m : Mode) (ops : List Op) (b : Option ℕ) → act ≡ acts.New m ops b → ⊥) → is_plain (tried_of own new act) ≡ true
+plain own new (acts.New m ops x) a b c = absurd (c m ops x refl)
 plain own new (acts.Async s ps) a b c = absurd (a s ps refl)
 plain own new (acts.AsyncAll s) a b c = absurd (b s refl)
 plain own new acts.OpenFinish a b c = refl
@@ -44,7 +44,7 @@ plain own new acts.End a b c = refl
 
 -- an act that makes no phaser and spawns nobody leaves the seats
 pub plain_act : (p : Program) (w : List WorldEvent) (t : ℕ) (new : Numbers) (act : tasks.Act Script) (seats : List (Option Seat)) → IsAsked p w t seats → act ≡ next_for (meanings p w t) (next_act p w t)
-    → ((s : Script) (ps : List Pair) → act ≡ acts.Async s ps → ⊥) → ((s : Script) → act ≡ acts.AsyncAll s → ⊥) → ((m : Mode) (ops : List Op) → act ≡ acts.New m ops → ⊥)
+    → ((s : Script) (ps : List Pair) → act ≡ acts.Async s ps → ⊥) → ((s : Script) → act ≡ acts.AsyncAll s → ⊥) → ((m : Mode) (ops : List Op) (b : Option ℕ) → act ≡ acts.New m ops b → ⊥)
     → BodiesStand p (event_of t (tried p w t new) ∷ w) seats
 plain_act p w t new act seats asked given a b c =
     subst (λ (x : Tried). BodiesStand p (event_of t x ∷ w) seats) (tried_by p w t new act given)

@@ -3,7 +3,7 @@ use Rattle.std.proofs.Common.{ℕ, ◌≡◌, ◌≢◌, Bool, true, false, ◌=
 use Rattle.std.proofs.lemmas.Bool.{eq-eqb, eqb-true, false_from_ne_true}
 use Rattle.phase_modes.specs.declared.reg.Mode.{Mode}
 use Rattle.phase_modes.specs.declared.phased.Pair.{Pair}
-use Rattle.phase_model.specs.declared.op.Op.{Op}
+use Rattle.phase_model.specs.declared.terms.Terms.{Terms}
 use Rattle.finish_core.specs.declared.event.FinishEvent.TheVariants.{Opened, Spawned, Ended, Shut as Shutting}
 use Rattle.job_script.specs.Acts.{flat}
 use Rattle.job_script.specs.Program.{Program}
@@ -26,13 +26,13 @@ one_task t u (Some m) h k =
 
 -- the event makes a phaser
 abbrev pub is_making : WorldEvent → Bool
-is_making (Phaser n (Make t m ops)) = true
+is_making (Phaser n (Make t m terms)) = true
 is_making _ = false
 
 -- an event that is no act of u, and names nobody u, leaves u where it is
 pub unmoved : (p : Program) (w : List WorldEvent) (u : ℕ) (e : WorldEvent) → is_of u (act_of e) ≡ false
     → parent_by u e ≡ None → standing p (e ∷ w) u ≡ standing p w u
-unmoved p w u (Phaser n (Make v m ops)) h k = let own : (v == u) ≡ false = h in rw own refl
+unmoved p w u (Phaser n (Make v m terms)) h k = let own : (v == u) ≡ false = h in rw own refl
 unmoved p w u (Phaser n (Reg q v m)) h k = refl
 unmoved p w u (Phaser n (Sig v x)) h k = refl
 unmoved p w u (Phaser n (Claim v)) h k = refl
@@ -58,7 +58,7 @@ unmoved p w u (Fail v n) h k = refl
 -- an event that is no act names nobody, and leaves each task where it is
 pub quiet : (p : Program) (w : List WorldEvent) (u : ℕ) (e : WorldEvent) → act_of e ≡ None
     → standing p (e ∷ w) u ≡ standing p w u
-quiet p w u (Phaser n (Make v m ops)) h = absurd cc
+quiet p w u (Phaser n (Make v m terms)) h = absurd cc
 quiet p w u (Phaser n (Reg q v m)) h = refl
 quiet p w u (Phaser n (Sig v x)) h = refl
 quiet p w u (Phaser n (Claim v)) h = refl
@@ -83,7 +83,7 @@ pub acted : (p : Program) (w : List WorldEvent) (t : ℕ) (e : WorldEvent) → i
       meanings =
           meanings p w t;
     })
-acted p w t (Phaser n (Make v m ops)) h k s = absurd cc
+acted p w t (Phaser n (Make v m terms)) h k s = absurd cc
 acted p w t (Phaser n (Reg q v m)) h k s = absurd cc
 acted p w t (Phaser n (Sig v x)) h k s = absurd cc
 acted p w t (Phaser n (Claim v)) h k s = absurd cc
@@ -107,14 +107,14 @@ acted p w t (Refuse v a n) h k s = let own : (v == t) ≡ true = h in rw own ref
 acted p w t (Fail v n) h k s = absurd cc
 
 -- a phaser that t makes has the name of the `new`
-pub making : (p : Program) (w : List WorldEvent) (t n : ℕ) (m : Mode) (ops : List Op)
-    → ◌≡◌ {A = Standing} (standing p (Phaser n (Make t m ops) ∷ w) t)
+pub making : (p : Program) (w : List WorldEvent) (t n : ℕ) (m : Mode) (terms : Terms)
+    → ◌≡◌ {A = Standing} (standing p (Phaser n (Make t m terms) ∷ w) t)
     (record {
       left = drop 1 (acts_left p w t);
       meanings =
           named_as (given_name (next_act p w t)) n (meanings p w t);
     })
-making p w t n m ops = rw (eq_self t) refl
+making p w t n m terms = rw (eq_self t) refl
 
 -- a child begins with the body of the spawn, and with its parent's names
 pub naming : (p : Program) (w : List WorldEvent) (t c : ℕ) (pairs : List Pair)

@@ -12,7 +12,7 @@ use Rattle.schedule_run.specs.declared.acts.MadeAct.{MadeAct}
 
 -- the act as it is tried by a task that holds these phasers, where these numbers are drawn for it
 abbrev pub tried_of : {B : Type 0} → List Pair → Numbers → tasks.Act B → Tried
-tried_of own new (acts.New m ops) = New new.phaser m ops
+tried_of own new (acts.New m ops b) = New new.phaser m (record { ops = ops; bound = b })
 tried_of own new (acts.Async child pairs) = Beginning (Async new.task pairs)
 tried_of own new (acts.AsyncAll child) = Beginning (Async new.task own)
 tried_of own new acts.OpenFinish = Open new.finish

@@ -19,7 +19,7 @@ seen _ = Nothing
 
 -- the step, a look with what it saw
 abbrev pub traced_step : Step → Reply → TracedStep
-traced_step (plain.Make t m ops) x = step.Make t m ops
+traced_step (plain.Make t m terms) x = step.Make t m terms
 traced_step (plain.Reg q t m) x = step.Reg q t m
 traced_step (plain.Sig t n) x = step.Sig t n
 traced_step (plain.Claim t) x = step.Claim t

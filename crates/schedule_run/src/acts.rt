@@ -1,15 +1,15 @@
 //! Acts as the world knows them: the one that a body gives, the one that an event makes or refuses,
 //! and whether two are the same.
 ghost use Rattle.std.specs.Prelude.{◌≡◌, ◌&&◌, ◌==◌, option_map};
-ghost use Rattle.world_model.specs.Continuing.{same_mode};
-ghost use Rattle.schedule_model.specs.Follows.{same_op, same_ops, same_pairs, same_begun, same_act, drawn};
+ghost use Rattle.world_model.specs.Continuing.{same_mode, same_number};
+ghost use Rattle.schedule_model.specs.Follows.{same_op, same_ops, same_terms, same_pairs, same_begun, same_act, drawn};
 ghost use Rattle.schedule_model.specs.Picks.{event_of};
 ghost use Rattle.schedule_model.specs.Scripts.{act_of};
 ghost use Rattle.schedule_run.specs.Given.{made_view, numbers_view, tried_of};
 
 use finish_core::FinishEvent;
 use job_script::Act;
-use phase_model::Op;
+use phase_model::{Bound, Op, Terms};
 use phase_modes::{Mode, Pair, Phased};
 use world_model::{Begun, Step, Tried, WorldEvent};
 
@@ -35,7 +35,13 @@ pub(crate) fn tried_of<B: Drop>(own: Phased, new: Numbers, act: &Act<B>) -> Trie
     ensures { result ≡ tried_of own (numbers_view new) act.now }
 {
     match act {
-        Act::New(mode, ops) => Tried::New(new.phaser, *mode, *ops),
+        Act::New(mode, ops, bound) => {
+            let terms = Terms {
+                ops: *ops,
+                bound: *bound,
+            };
+            Tried::New(new.phaser, *mode, terms)
+        }
         Act::Async(_, pairs) => Tried::Begun(Begun::Async(new.task, *pairs)),
         Act::AsyncAll(_) => Tried::Begun(Begun::Async(new.task, own)),
         Act::OpenFinish => Tried::Open(new.finish),
@@ -55,7 +61,9 @@ pub(crate) fn event_of(task: u32, act: Tried) -> WorldEvent
     ensures { result ≡ event_of task act }
 {
     match act {
-        Tried::New(phaser, mode, ops) => WorldEvent::Phaser(phaser, Step::Make(task, mode, ops)),
+        Tried::New(phaser, mode, terms) => {
+            WorldEvent::Phaser(phaser, Step::Make(task, mode, terms))
+        }
         Tried::Open(finish) => WorldEvent::Finish(finish, FinishEvent::Opened(task)),
         Tried::Send(phaser, accumulator, value) => {
             WorldEvent::Phaser(phaser, Step::Send(task, accumulator, value))
@@ -75,9 +83,9 @@ pub fn act_of(event: &WorldEvent) -> Option<MadeAct>
     ensures { option_map made_view result ≡ act_of event.now }
 {
     match event {
-        WorldEvent::Phaser(n, Step::Make(t, mode, ops)) => Some(MadeAct {
+        WorldEvent::Phaser(n, Step::Make(t, mode, terms)) => Some(MadeAct {
             task: *t,
-            act: Tried::New(*n, *mode, *ops),
+            act: Tried::New(*n, *mode, *terms),
         }),
         WorldEvent::Phaser(n, Step::Send(t, accumulator, value)) => Some(MadeAct {
             task: *t,
@@ -134,6 +142,23 @@ fn are_same_ops(ops: &[Op], others: &[Op]) -> bool
     true
 }
 
+fn is_same_bound(bound: Option<Bound>, other: Option<Bound>) -> bool
+    ensures { result ≡ same_number bound other }
+{
+    match (bound, other) {
+        (None, None) => true,
+        (Some(bound), Some(other)) => bound.phases() == other.phases(),
+        _ => false,
+    }
+}
+
+fn are_same_terms(terms: &Terms, others: &Terms) -> bool
+    ensures { result ≡ same_terms terms.now others.now }
+{
+    are_same_ops(terms.ops.as_slice(), others.ops.as_slice())
+        && is_same_bound(terms.bound, others.bound)
+}
+
 /// Whether two pairs are the same.
 pub(crate) fn is_same_pair(pair: Pair, other: Pair) -> bool
     ensures { result ≡ (pair.phaser == other.phaser && same_mode pair.mode other.mode) }
@@ -178,10 +203,8 @@ pub(crate) fn is_same_act(act: &Tried, other: &Tried) -> bool
 {
     match (act, other) {
         (Tried::Begun(begun), Tried::Begun(other)) => is_same_begun(begun, other),
-        (Tried::New(n, mode, ops), Tried::New(m, other, others)) => {
-            *n == *m
-                && is_same_mode(*mode, *other)
-                && are_same_ops(ops.as_slice(), others.as_slice())
+        (Tried::New(n, mode, terms), Tried::New(m, other, others)) => {
+            *n == *m && is_same_mode(*mode, *other) && are_same_terms(terms, others)
         }
         (Tried::Open(f), Tried::Open(g)) => *f == *g,
         (Tried::Send(n, accumulator, value), Tried::Send(m, index, sent)) => {

@@ -3,7 +3,7 @@ ghost use Rattle.std.specs.Prelude.{◌≡◌, ◌<◌, ◌∷◌, [], List, len
 ghost use Rattle.phase_modes.specs.declared.reg.Mode as modes;
 ghost use Rattle.phase_modes.specs.declared.phased.Pair as phased;
 ghost use Rattle.phase_modes.specs.declared.refusal.Refusal.TheVariants.{Memory as NoMemory};
-ghost use Rattle.phase_model.specs.declared.op.Op as operators;
+ghost use Rattle.phase_model.specs.declared.terms.Terms.{Terms};
 ghost use Rattle.job_script.specs.Program as programs;
 ghost use Rattle.job_script.specs.Steps.{begun, given, next_for, stepped};
 ghost use Rattle.job_script.specs.declared.act.Answer.TheVariants.{Done, Started};
@@ -98,9 +98,9 @@ impl<'p> Bodies<'p> {
     /// Reports to a task that it made the phaser that its last act asked for.
     pub(crate) fn report_made(&mut self, task: u32, phaser: u32)
         ensures stand { (p : programs.Program) (w : List events.WorldEvent)
-            (m : modes.Mode) (ops : List operators.Op)
+            (m : modes.Mode) (terms : Terms)
             → IsAsked p w task self.old.seats.items
-            → BodiesStand p (Phaser phaser (Make task m ops) ∷ w) self.new.seats.items }
+            → BodiesStand p (Phaser phaser (Make task m terms) ∷ w) self.new.seats.items }
         ensures places { length self.new.seats.items ≡ length self.old.seats.items }
     {
         let place = task as usize;

@@ -3,7 +3,7 @@ ghost use Rattle.std.specs.Prelude.{◌≡◌, ℕ, ◌≤◌, ◌∷◌, [], Li
 ghost use Rattle.phase_modes.specs.declared.reg.Mode as modes;
 ghost use Rattle.phase_modes.specs.declared.phased.Pair as phased;
 ghost use Rattle.phase_modes.specs.declared.refusal.Refusal.TheVariants.{Memory as NoMemory};
-ghost use Rattle.phase_model.specs.declared.op.Op as operators;
+ghost use Rattle.phase_model.specs.declared.terms.Terms.{Terms};
 ghost use Rattle.job_script.specs.Program as programs;
 ghost use Rattle.job_script.specs.Steps.{begun, next_for};
 ghost use Rattle.world_model.specs.Drawing.{own_pairs};
@@ -80,9 +80,9 @@ impl<'p> Followers<'p> {
     /// Reports to a task that it made the phaser that its last act asked for.
     fn report_made(&mut self, task: u32, phaser: u32)
         ensures { (p : programs.Program) (w : List events.WorldEvent)
-            (m : modes.Mode) (ops : List operators.Op)
+            (m : modes.Mode) (terms : Terms)
             → IsAskedOf p w task (seat_of self.old.seats)
-            → SeatsStand p (Phaser phaser (Make task m ops) ∷ w) (seat_of self.new.seats) }
+            → SeatsStand p (Phaser phaser (Make task m terms) ∷ w) (seat_of self.new.seats) }
     {
         if let Some(seat) = self.seats.get_mut(&task) {
             seat.answer = Answer::Made(phaser);

@@ -1,7 +1,7 @@
 //! The phasers that a task holds, read off the events of a trace.
 ghost use Rattle.std.specs.Prelude.{◌≡◌, ◌≤◌, ◌∷◌, List, length, take};
 ghost use Rattle.phase_model.specs.declared.history.Event.{Event as PhaserEvent};
-ghost use Rattle.phase_model.specs.declared.op.Op as operators;
+ghost use Rattle.phase_model.specs.declared.terms.Terms.{Terms};
 ghost use Rattle.world_model.specs.declared.event.WorldEvent as events;
 ghost use Rattle.world_model.specs.Drawing.{own_pairs};
 ghost use Rattle.world_model.specs.Parts.{event_for};
@@ -26,8 +26,8 @@ struct Stay {
 impl Stay {
     /// The same after one step more on the phaser.
     fn after_step(self, task: u32, step: &TracedStep) -> Stay
-        ensures { (ops : List operators.Op) (h : List PhaserEvent)
-            → self ≡ stay_in task h → result ≡ stay_in task (event_for ops h (step_of step.now) ∷ h) }
+        ensures { (terms : Terms) (h : List PhaserEvent)
+            → self ≡ stay_in task h → result ≡ stay_in task (event_for terms h (step_of step.now) ∷ h) }
     {
         match step {
             TracedStep::Make(t, mode, _) | TracedStep::Reg(_, t, mode) if *t == task => Stay {

@@ -49,7 +49,7 @@ fn traced_step(step: Step, reply: Reply) -> TracedStep
     ensures { result ≡ traced_step step reply }
 {
     match step {
-        Step::Make(task, mode, ops) => TracedStep::Make(task, mode, ops),
+        Step::Make(task, mode, terms) => TracedStep::Make(task, mode, terms),
         Step::Reg(parent, child, mode) => TracedStep::Reg(parent, child, mode),
         Step::Sig(task, number) => TracedStep::Sig(task, number),
         Step::Claim(task) => TracedStep::Claim(task),

@@ -2,7 +2,7 @@
 use super::*;
 use finish_core::FinishEvent;
 use job_script::read_program;
-use phase_model::{Look, Ops};
+use phase_model::{Look, Ops, Terms};
 use phase_modes::{Mode, Phased};
 use std::alloc::Global;
 use std::process::Abort;
@@ -40,7 +40,11 @@ fn trace_is(rt: &impl Abort, run: &Run, len: usize, rows: &[Placed]) {
 #[test]
 fn smallest_trace(rt: HostRuntime) -> Result<(), Fail> {
     let text = r#"{"main":[["new","p","SIG_WAIT",[]],["next"]]}"#;
-    let made = TracedStep::Make(0, Mode::SigWait, Ops::none());
+    let terms = Terms {
+        ops: Ops::none(),
+        bound: None,
+    };
+    let made = TracedStep::Make(0, Mode::SigWait, terms);
     let events = [
         (0, TracedEvent::Phaser(0, made)),
         (1, TracedEvent::Begin(0, Begun::Next)),

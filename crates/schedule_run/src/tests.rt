@@ -4,7 +4,7 @@ use crate::bodies::{Bodies, Seat};
 use crate::follows;
 use finish_core::FinishEvent;
 use job_script::{Act, Answer, Program, ScriptBody, read_program};
-use phase_model::Ops;
+use phase_model::{Ops, Terms};
 use phase_modes::{Mode, Pair, Phased};
 use std::alloc::Global;
 use std::process::Abort;
@@ -36,6 +36,14 @@ fn one_phaser() -> Phased {
     own
 }
 
+/// No accumulators and no bound.
+fn unbounded() -> Terms {
+    Terms {
+        ops: Ops::none(),
+        bound: None,
+    }
+}
+
 /// Whether the act is tried as the root makes it by this event, is the same again by the numbers
 /// that it drew, and is the act that the event and a refusal are of.
 fn is_tried_so(event: &WorldEvent, act: &Act<ScriptBody<'_>>) -> bool {
@@ -62,7 +70,7 @@ fn acts_are_tried(rt: HostRuntime) -> Result<(), Fail> {
         r#"{"main":[["new","p","SIG",[]],["open"],["send","p",1,-2],["look","p",1],["next"],["async_all",[]]]}"#,
     )?;
     let events = [
-        WorldEvent::Phaser(3, Step::Make(0, Mode::Sig, Ops::none())),
+        WorldEvent::Phaser(3, Step::Make(0, Mode::Sig, unbounded())),
         WorldEvent::Finish(5, FinishEvent::Opened(0)),
         WorldEvent::Phaser(7, Step::Send(0, 1, -2)),
         WorldEvent::Phaser(7, Step::Look(0, 1)),
@@ -100,7 +108,7 @@ fn events_that_are_no_acts(rt: HostRuntime) -> Result<(), Fail> {
 fn root_alone(rt: &impl Abort, bodies: &mut Bodies<'_>) {
     assert_eq!(rt; bodies.seats.len(), 2);
     assert!(rt; matches!(bodies.next_act(1), Act::End));
-    assert!(rt; matches!(bodies.next_act(0), Act::New(Mode::Sig, _)));
+    assert!(rt; matches!(bodies.next_act(0), Act::New(Mode::Sig, _, None)));
     bodies.report_made(0, 6);
 }
 

@@ -1,5 +1,6 @@
 pub mod Ends
 pub mod Freeing
+pub mod HeldPhase
 pub mod Lists
 pub mod Made
 pub mod Parks

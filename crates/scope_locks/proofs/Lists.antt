@@ -1,88 +1,75 @@
 -- What the laws on waiting mean for the list of those who wait.
-use Rattle.std.proofs.Common.{◌≡◌, ℕ, ◌==◌, Bool, true, false, ◌&&◌, not, List, [], ◌∷◌, Option, refl, ap, sym, ◌∙◌}
-use Rattle.std.proofs.lemmas.Bool.{eq-eqb, ne_eqb, and_parts, and_from, or_parts, or_from, false≢true}
+use Rattle.std.proofs.Common.{◌≡◌, ℕ, ◌==◌, Bool, true, false, ◌&&◌, not, cond, List, [], ◌∷◌, Option, Some, refl, ap, sym, ◌∙◌}
+use Rattle.std.proofs.lemmas.Bool.{ne_eqb, and_parts, and_from, false≢true}
 use Rattle.phase_model.specs.declared.history.Event.{Event}
 use Rattle.phase_model.specs.declared.history.Event.TheVariants.{Sig, Drop}
 use Rattle.phase_model.specs.Tasks.{is_live}
 use Rattle.phase_model.specs.Phases.{waits, is_closed}
 use Rattle.phase_model.specs.Rules.{Story, with_event, is_legal}
-use Rattle.phase_model.specs.Waiting.{would_wait}
+use Rattle.phase_model.specs.Waiting.{would_wait, is_in_open_phase}
 use Rattle.phase_model.proofs.Waiting.{held}
 use Rattle.phase_model.proofs.OnePhase.{same_phase, waits_past_signal, waits_past_drop, closed_past_signal, closed_past_drop}
 use Rattle.scope_locks.specs.declared.parking.Parked.{Parked}
-use Rattle.scope_locks.specs.Parking.{is_parked, all_wait, is_phase_open}
+use Rattle.scope_locks.specs.declared.parking.ParkedCall.{ParkedCall}
+use Rattle.scope_locks.specs.declared.parking.ParkedCall.TheVariants.{Pass as ToPass, Signal as ToSignal}
+use Rattle.scope_locks.specs.Parking.{would_park, all_wait, is_pass, first_to_pass, is_open_for, is_phase_open}
+use Rattle.scope_locks.proofs.Parks.{KeepsPassers, KeepsSignallers, all_stay}
+
+-- all wait on where no signaller goes on, and the first who waits to pass shows that no passer does
+all_past : {T : Type 0} (s s' : Story) (ps : List (Parked T)) → KeepsSignallers s s' → all_wait s ps ≡ true
+    → ((p : Parked T) → first_to_pass ps ≡ Some p → would_wait s p.task ≡ true → KeepsPassers s s') → all_wait s' ps ≡ true
+all_past s s' [] signallers all shown = refl
+all_past s s' (p ∷ ps) signallers all shown = go p.call (all_past s s' ps signallers) all shown
+  where
+    go : (c : ParkedCall)
+        → (all_wait s ps ≡ true → ((q : Parked _) → first_to_pass ps ≡ Some q → would_wait s q.task ≡ true → KeepsPassers s s') → all_wait s' ps ≡ true)
+        → (would_park s p.task c && all_wait s ps) ≡ true
+        → ((q : Parked _) → cond (is_pass c) (Some p) (first_to_pass ps) ≡ Some q → would_wait s q.task ≡ true → KeepsPassers s s')
+        → (would_park s' p.task c && all_wait s' ps) ≡ true
+    go ToPass rest a k =
+        let parts = and_parts (would_wait s p.task) (all_wait s ps) a in
+        let passers = k p refl parts.0 in
+        and_from (would_wait s' p.task) (all_wait s' ps) (passers p.task parts.0) (all_stay s s' ps passers signallers parts.1)
+    go (ToSignal x) rest a k =
+        let parts = and_parts (would_park s p.task (ToSignal x)) (all_wait s ps) a in
+        and_from (would_park s' p.task (ToSignal x)) (all_wait s' ps) (signallers p.task x parts.0) (rest parts.1 k)
+
+-- the test at the first who waits to pass
+open_at : {T : Type 0} (s : Story) (o : Option (Parked T)) (p : Parked T) (b : Bool) → o ≡ Some p → is_open_for s o ≡ b → is_in_open_phase s p.task ≡ b
+open_at s o p b e k = sym (ap (λ (q : Option (Parked _)). is_open_for s q) e) ∙ k
 
 -- one of them shows whether the phase of all is open in another history
-open_for_all : (s : Story) (h : List Event) (p q : ℕ) → is_legal s.limits s.ops s.past ≡ true → would_wait s p ≡ true → would_wait s q ≡ true → not (is_closed (waits p s.past) h) ≡ true → not (is_closed (waits q s.past) h) ≡ true
+open_for_all : (s : Story) (h : List Event) (p q : ℕ) → is_legal s.limits s.terms s.past ≡ true → would_wait s p ≡ true → would_wait s q ≡ true → not (is_closed (waits p s.past) h) ≡ true → not (is_closed (waits q s.past) h) ≡ true
 open_for_all s h p q legal a b still = ap (λ w. not (is_closed w h)) (same_phase s q p legal b a) ∙ still
 
-all_signal : {T : Type 0} (s : Story) (u : ℕ) (x : Option ℕ) (p : ℕ) (ps : List (Parked T)) → is_legal s.limits s.ops s.past ≡ true → is_legal s.limits s.ops (Sig u x ∷ s.past) ≡ true → would_wait s p ≡ true → not (is_closed (waits p s.past) (Sig u x ∷ s.past)) ≡ true → all_wait s ps ≡ true
-    → all_wait (with_event s (Sig u x)) ps ≡ true
-all_signal s u x p [] legal next wait still all = refl
-all_signal s u x p (q ∷ qs) legal next wait still all =
-    let parts = and_parts (would_wait s q.task) (all_wait s qs) all in
-    and_from (would_wait (with_event s (Sig u x)) q.task) (all_wait (with_event s (Sig u x)) qs)
-    (waits_past_signal s u x q.task next parts.0 (open_for_all s (Sig u x ∷ s.past) p q.task legal wait parts.0 still))
-    (all_signal s u x p qs legal next wait still parts.1)
-
--- a signal that leaves the phase of those who wait open leaves all waiting
-pub all_past_signal : {T : Type 0} (s : Story) (u : ℕ) (x : Option ℕ) (ps : List (Parked T)) → is_legal s.limits s.ops s.past ≡ true → is_legal s.limits s.ops (Sig u x ∷ s.past) ≡ true → all_wait s ps ≡ true → is_phase_open (with_event s (Sig u x)) ps ≡ true
-    → all_wait (with_event s (Sig u x)) ps ≡ true
-all_past_signal s u x [] legal next all still = refl
-all_past_signal s u x (p ∷ ps) legal next all still =
-    let now = Sig u x ∷ s.past in
-    let parts = and_parts (would_wait s p.task) (all_wait s ps) all in
-    all_signal s u x p.task (p ∷ ps) legal next parts.0 (and_parts (is_live p.task now) (not (is_closed (waits p.task now) now)) still).1 all
-
-all_drop : {T : Type 0} (s : Story) (u p : ℕ) (ps : List (Parked T)) → is_legal s.limits s.ops s.past ≡ true → would_wait s p ≡ true → not (is_closed (waits p s.past) (Drop u ∷ s.past)) ≡ true → is_parked u ps ≡ false → all_wait s ps ≡ true
-    → all_wait (with_event s (Drop u)) ps ≡ true
-all_drop s u p [] legal wait still out all = refl
-all_drop s u p (q ∷ qs) legal wait still out all =
-    let parts = and_parts (would_wait s q.task) (all_wait s qs) all in
-    let outs = or_parts (q.task == u) (is_parked u qs) out in
-    let other : (u == q.task) ≡ false = ne_eqb u q.task (λ e. false≢true (sym outs.0 ∙ eq-eqb q.task u (sym e))) in
-    and_from (would_wait (with_event s (Drop u)) q.task) (all_wait (with_event s (Drop u)) qs)
-    (waits_past_drop s u q.task parts.0 other (open_for_all s (Drop u ∷ s.past) p q.task legal wait parts.0 still))
-    (all_drop s u p qs legal wait still outs.1 parts.1)
-
--- so does the drop of a task that isn't parked
-pub all_past_drop : {T : Type 0} (s : Story) (u : ℕ) (ps : List (Parked T)) → is_legal s.limits s.ops s.past ≡ true → all_wait s ps ≡ true → is_parked u ps ≡ false → is_phase_open (with_event s (Drop u)) ps ≡ true
-    → all_wait (with_event s (Drop u)) ps ≡ true
-all_past_drop s u [] legal all out still = refl
-all_past_drop s u (p ∷ ps) legal all out still =
-    let now = Drop u ∷ s.past in
-    let parts = and_parts (would_wait s p.task) (all_wait s ps) all in
-    all_drop s u p.task (p ∷ ps) legal parts.0 (and_parts (is_live p.task now) (not (is_closed (waits p.task now) now)) still).1 out all
-
--- a task that wouldn't wait isn't parked
-pub not_parked : {T : Type 0} (s : Story) (u : ℕ) (ps : List (Parked T)) → would_wait s u ≡ false → all_wait s ps ≡ true → is_parked u ps ≡ false
-not_parked s u [] k all = refl
-not_parked s u (p ∷ ps) k all =
-    let parts = and_parts (would_wait s p.task) (all_wait s ps) all in
-    or_from (p.task == u) (is_parked u ps) (ne_eqb p.task u (λ e. false≢true (sym k ∙ (ap (λ v. would_wait s v) (sym e) ∙ parts.0)))) (not_parked s u ps k parts.1)
-
-closed_for_all : (s : Story) (p q : ℕ) → is_legal s.limits s.ops s.past ≡ true → would_wait s p ≡ true → would_wait s q ≡ true → is_closed (waits p s.past) s.past ≡ true → is_closed (waits q s.past) s.past ≡ true
+closed_for_all : (s : Story) (p q : ℕ) → is_legal s.limits s.terms s.past ≡ true → would_wait s p ≡ true → would_wait s q ≡ true → is_closed (waits p s.past) s.past ≡ true → is_closed (waits q s.past) s.past ≡ true
 closed_for_all s p q legal a b closed = ap (λ w. is_closed w s.past) (same_phase s q p legal b a) ∙ closed
 
-all_closed_signal : {T : Type 0} (s : Story) (u : ℕ) (x : Option ℕ) (p : ℕ) (ps : List (Parked T)) → is_legal s.limits s.ops s.past ≡ true → is_legal s.limits s.ops (Sig u x ∷ s.past) ≡ true → would_wait s p ≡ true → is_closed (waits p s.past) s.past ≡ true → all_wait s ps ≡ true
+-- a signal that leaves the phase of those who wait to pass open leaves all waiting
+pub all_past_signal : {T : Type 0} (s : Story) (u : ℕ) (x : Option ℕ) (ps : List (Parked T)) → is_legal s.limits s.terms s.past ≡ true → is_legal s.limits s.terms (Sig u x ∷ s.past) ≡ true → KeepsSignallers s (with_event s (Sig u x)) → all_wait s ps ≡ true → is_phase_open (with_event s (Sig u x)) ps ≡ true
     → all_wait (with_event s (Sig u x)) ps ≡ true
-all_closed_signal s u x p [] legal next wait closed all = refl
-all_closed_signal s u x p (q ∷ qs) legal next wait closed all =
-    let parts = and_parts (would_wait s q.task) (all_wait s qs) all in
-    and_from (would_wait (with_event s (Sig u x)) q.task) (all_wait (with_event s (Sig u x)) qs)
-    (closed_past_signal s u x q.task next parts.0 (closed_for_all s p q.task legal wait parts.0 closed))
-    (all_closed_signal s u x p qs legal next wait closed parts.1)
+all_past_signal s u x ps legal next signallers all still =
+    all_past s (with_event s (Sig u x)) ps signallers all
+    (λ p first wait q k.
+    let t = p.task in
+    let now = Sig u x ∷ s.past in
+    let here : (is_live t now && not (is_closed (waits t now) now)) ≡ true = open_at (with_event s (Sig u x)) (first_to_pass ps) p true first still in
+    waits_past_signal s u x q next k (open_for_all s now t q legal wait k (and_parts (is_live t now) (not (is_closed (waits t now) now)) here).1))
 
-all_closed_drop : {T : Type 0} (s : Story) (u p : ℕ) (ps : List (Parked T)) → is_legal s.limits s.ops s.past ≡ true → would_wait s p ≡ true → is_closed (waits p s.past) s.past ≡ true → is_parked u ps ≡ false → all_wait s ps ≡ true
+-- who waits is another than who doesn't
+another : (s : Story) (u q : ℕ) → would_wait s u ≡ false → would_wait s q ≡ true → (u == q) ≡ false
+another s u q out k = ne_eqb u q (λ e. false≢true (sym out ∙ (ap (λ v. would_wait s v) e ∙ k)))
+
+-- so does the drop of a task that doesn't wait to pass
+pub all_past_drop : {T : Type 0} (s : Story) (u : ℕ) (ps : List (Parked T)) → is_legal s.limits s.terms s.past ≡ true → KeepsSignallers s (with_event s (Drop u)) → all_wait s ps ≡ true → would_wait s u ≡ false → is_phase_open (with_event s (Drop u)) ps ≡ true
     → all_wait (with_event s (Drop u)) ps ≡ true
-all_closed_drop s u p [] legal wait closed out all = refl
-all_closed_drop s u p (q ∷ qs) legal wait closed out all =
-    let parts = and_parts (would_wait s q.task) (all_wait s qs) all in
-    let outs = or_parts (q.task == u) (is_parked u qs) out in
-    let other : (u == q.task) ≡ false = ne_eqb u q.task (λ e. false≢true (sym outs.0 ∙ eq-eqb q.task u (sym e))) in
-    and_from (would_wait (with_event s (Drop u)) q.task) (all_wait (with_event s (Drop u)) qs)
-    (closed_past_drop s u q.task parts.0 other (closed_for_all s p q.task legal wait parts.0 closed))
-    (all_closed_drop s u p qs legal wait closed outs.1 parts.1)
+all_past_drop s u ps legal signallers all out still =
+    all_past s (with_event s (Drop u)) ps signallers all
+    (λ p first wait q k.
+    let t = p.task in
+    let now = Drop u ∷ s.past in
+    let here : (is_live t now && not (is_closed (waits t now) now)) ≡ true = open_at (with_event s (Drop u)) (first_to_pass ps) p true first still in
+    waits_past_drop s u q k (another s u q out k) (open_for_all s now t q legal wait k (and_parts (is_live t now) (not (is_closed (waits t now) now)) here).1))
 
 -- a live task in no open phase stands in a closed one
 closed_where : (live cl : Bool) → live ≡ true → (live && not cl) ≡ false → cl ≡ true
@@ -90,25 +77,21 @@ closed_where true true a k = refl
 closed_where true false a k = absurd cc
 closed_where false cl a k = absurd cc
 
+-- the first who waits to pass stands in a closed phase
+closed_at : {T : Type 0} (s : Story) (o : Option (Parked T)) (p : Parked T) → o ≡ Some p → would_wait s p.task ≡ true → is_open_for s o ≡ false → is_closed (waits p.task s.past) s.past ≡ true
+closed_at s o p first wait was =
+    closed_where (is_live p.task s.past) (is_closed (waits p.task s.past) s.past) (held s p.task wait).live (open_at s o p false first was)
+
 -- where the phase was closed before, a signal leaves all waiting
-pub all_past_closed_signal : {T : Type 0} (s : Story) (u : ℕ) (x : Option ℕ) (ps : List (Parked T)) → is_legal s.limits s.ops s.past ≡ true → is_legal s.limits s.ops (Sig u x ∷ s.past) ≡ true → all_wait s ps ≡ true → is_phase_open s ps ≡ false
+pub all_past_closed_signal : {T : Type 0} (s : Story) (u : ℕ) (x : Option ℕ) (ps : List (Parked T)) → is_legal s.limits s.terms s.past ≡ true → is_legal s.limits s.terms (Sig u x ∷ s.past) ≡ true → KeepsSignallers s (with_event s (Sig u x)) → all_wait s ps ≡ true → is_phase_open s ps ≡ false
     → all_wait (with_event s (Sig u x)) ps ≡ true
-all_past_closed_signal s u x [] legal next all was = refl
-all_past_closed_signal s u x (p ∷ ps) legal next all was =
-    let h = s.past in
-    let parts = and_parts (would_wait s p.task) (all_wait s ps) all in
-    all_closed_signal s u x p.task (p ∷ ps) legal next parts.0 (closed_where (is_live p.task h) (is_closed (waits p.task h) h) (held s p.task parts.0).live was) all
+all_past_closed_signal s u x ps legal next signallers all was =
+    all_past s (with_event s (Sig u x)) ps signallers all
+    (λ p first wait q k. closed_past_signal s u x q next k (closed_for_all s p.task q legal wait k (closed_at s (first_to_pass ps) p first wait was)))
 
--- so does the drop of a task that isn't parked
-pub all_past_closed_drop : {T : Type 0} (s : Story) (u : ℕ) (ps : List (Parked T)) → is_legal s.limits s.ops s.past ≡ true → all_wait s ps ≡ true → is_parked u ps ≡ false → is_phase_open s ps ≡ false
+-- so does the drop of a task that doesn't wait to pass
+pub all_past_closed_drop : {T : Type 0} (s : Story) (u : ℕ) (ps : List (Parked T)) → is_legal s.limits s.terms s.past ≡ true → KeepsSignallers s (with_event s (Drop u)) → all_wait s ps ≡ true → would_wait s u ≡ false → is_phase_open s ps ≡ false
     → all_wait (with_event s (Drop u)) ps ≡ true
-all_past_closed_drop s u [] legal all out was = refl
-all_past_closed_drop s u (p ∷ ps) legal all out was =
-    let h = s.past in
-    let parts = and_parts (would_wait s p.task) (all_wait s ps) all in
-    all_closed_drop s u p.task (p ∷ ps) legal parts.0 (closed_where (is_live p.task h) (is_closed (waits p.task h) h) (held s p.task parts.0).live was) out all
-
-still_open : (was now : Bool) → was ≡ true → (was && not now) ≡ false → now ≡ true
-still_open true true a k = refl
-still_open true false a k = absurd cc
-still_open false now a k = absurd cc
+all_past_closed_drop s u ps legal signallers all out was =
+    all_past s (with_event s (Drop u)) ps signallers all
+    (λ p first wait q k. closed_past_drop s u q k (another s u q out k) (closed_for_all s p.task q legal wait k (closed_at s (first_to_pass ps) p first wait was)))

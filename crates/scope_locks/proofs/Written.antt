@@ -1,5 +1,5 @@
 -- What a call leaves of the fact that a cell keeps: one step for all calls.
-use Rattle.std.proofs.Common.{◌≡◌, ℕ, ◌+◌, ◌<◌, ◌≤◌, Bool, true, false, List, [], ◌∷◌, length, Result, Ok, Err, cond, refl, ap, sym, ◌∙◌, subst, arith}
+use Rattle.std.proofs.Common.{◌≡◌, ℕ, ◌+◌, ◌<◌, ◌≤◌, Bool, true, false, List, [], ◌∷◌, length, Option, Result, Ok, Err, cond, refl, ap, sym, ◌∙◌, subst, arith}
 use Rattle.std.specs.Prelude.{OnErr}
 use Rattle.std.specs.Result.{is_ok}
 use Rattle.std.proofs.lemmas.Bool.{leb-true, and_parts, and_from}
@@ -15,28 +15,28 @@ use Rattle.phase_model.specs.Laws.{IsLegal}
 use Rattle.phase_model.specs.Phases.{waits}
 use Rattle.phase_model.specs.Singles.{reserve}
 use Rattle.phase_model.specs.Tasks.{live_count}
-use Rattle.phase_model.specs.Rules.{Story, is_permitted, is_legal, is_allowed, has_room, look_of}
+use Rattle.phase_model.specs.Rules.{Story, with_event, is_permitted, is_legal, is_allowed, has_room, look_of}
 use Rattle.phase_model.specs.declared.call.Call.{Call}
-use Rattle.phase_model.specs.declared.call.Call.TheVariants.{Pass as pass, Look as look}
+use Rattle.phase_model.specs.declared.call.Call.TheVariants.{Signal as signal, Pass as pass, Look as look}
 use Rattle.phase_model.specs.Conditions.{conditions}
 use Rattle.phase_model.specs.Replies.{Reply, refused, not_yet, done, reply, after, done_result, must_wait, event_for}
-use Rattle.phase_model.specs.Waiting.{can_free}
+use Rattle.phase_model.specs.Waiting.{can_free, can_free_signal}
 use Rattle.phase_model.proofs.OrderingLaw.{legal_is_ordered}
 use Rattle.phase_model.proofs.Replied.{settled_done, done_is_allowed, legal_after}
-use Rattle.phaser_core.specs.Answers.{pass_result, look_result}
+use Rattle.phaser_core.specs.Answers.{signal_result, pass_result, look_result}
 use Rattle.phaser_core.proofs.Reading.{history_fits}
 use Rattle.share_book.specs.Accounts.{Entry}
 use Rattle.scope_locks.specs.declared.parking.Parked.{Parked}
 use Rattle.scope_locks.specs.Amounts.{weight, amount_if, plus_nothing}
 use Rattle.scope_locks.specs.Cells.{IsKept}
-use Rattle.scope_locks.specs.Parking.{all_wait, are_parked_once, freed, has_gone_on}
-use Rattle.scope_locks.proofs.Parks.{all_stay, none_freed}
+use Rattle.scope_locks.specs.Parking.{all_wait, are_parked_once, freed, is_made, has_gone_on}
+use Rattle.scope_locks.proofs.Parks.{all_stay, keeps_passers, keeps_signallers, none_freed}
 
 -- the reply of a done call shows its event
-pub event_is : (s : Story) (c : Call) (e : Event) → reply s c ≡ done e → event_for s.limits s.ops s.past c ≡ e
+pub event_is : (s : Story) (c : Call) (e : Event) → reply s c ≡ done e → event_for s.limits s.terms s.past c ≡ e
 event_is s c e k =
-    let f = event_for s.limits s.ops s.past c in
-    (settled_done (first_refusal (conditions s.limits s.ops s.past c)) (must_wait s.limits s.ops s.past c) (has_room s.limits (f ∷ s.past)) f e k).1
+    let f = event_for s.limits s.terms s.past c in
+    (settled_done (first_refusal (conditions s.limits s.terms s.past c)) (must_wait s.limits s.terms s.past c) (has_room s.limits (f ∷ s.past)) f e k).1
 
 -- each event counts as one
 pub one_event : (e : Event) → (amount e).events ≡ 1
@@ -67,8 +67,8 @@ moved s (done e) = record { limits = refl; sums = refl; longer = omega (arith, o
 -- a history that takes one event more had room for it
 pub within : (s : Story) (c : Call) (e : Event) → reply s c ≡ done e → length s.past < s.limits.history
 within s c e k =
-    let allowed : is_allowed s.limits s.ops s.past e ≡ true = done_is_allowed s c e k in
-    let room : has_room s.limits (e ∷ s.past) ≡ true = (and_parts (is_permitted s.limits s.ops s.past e) (has_room s.limits (e ∷ s.past)) allowed).1 in
+    let allowed : is_allowed s.limits s.terms s.past e ≡ true = done_is_allowed s c e k in
+    let room : has_room s.limits (e ∷ s.past) ≡ true = (and_parts (is_permitted s.limits s.terms s.past e) (has_room s.limits (e ∷ s.past)) allowed).1 in
     omega (arith, leb-true (length (e ∷ s.past) + live_count (e ∷ s.past) + reserve (e ∷ s.past)) s.limits.history room)
 
 pub short : (s : Story) (c : Call) (e : Event) → limits_fit s.limits ≡ true → reply s c ≡ done e → length s.past < 65536
@@ -77,17 +77,28 @@ short s c e fit k = omega (arith, history_fits s.limits fit, within s c e k)
 -- whether a call has added its event, and what that amounts to
 pub record Matches (s : Story) (c : Call) (added : Bool) (e : Event) : Type 0 where
   pub weighs : weight (reply s c) ≡ amount_if added e
-  pub is_done : added ≡ true → reply s c ≡ done (event_for s.limits s.ops s.past c)
+  pub is_done : added ≡ true → reply s c ≡ done (event_for s.limits s.terms s.past c)
 
 -- by a call's plain result
-pub matches_result : (s : Story) (c : Call) (added : Bool) → added ≡ is_ok (done_result (reply s c)) → Matches s c added (event_for s.limits s.ops s.past c)
-matches_result s c added k = subst (λ b. Matches s c b (event_for s.limits s.ops s.past c)) (sym k) (go (reply s c) refl)
+pub matches_result : (s : Story) (c : Call) (added : Bool) → added ≡ is_ok (done_result (reply s c)) → Matches s c added (event_for s.limits s.terms s.past c)
+matches_result s c added k = subst (λ b. Matches s c b (event_for s.limits s.terms s.past c)) (sym k) (go (reply s c) refl)
   where
-    go : (r : Reply) → reply s c ≡ r → Matches s c (is_ok (done_result r)) (event_for s.limits s.ops s.past c)
+    go : (r : Reply) → reply s c ≡ r → Matches s c (is_ok (done_result r)) (event_for s.limits s.terms s.past c)
     go (refused x) e = record { weighs = ap weight e; is_done = λ n. absurd cc }
     go not_yet e = record { weighs = ap weight e; is_done = λ n. absurd cc }
     go (done f) e =
-        let q : reply s c ≡ done (event_for s.limits s.ops s.past c) = e ∙ ap done (sym (event_is s c f e)) in
+        let q : reply s c ≡ done (event_for s.limits s.terms s.past c) = e ∙ ap done (sym (event_is s c f e)) in
+        record { weighs = ap weight q; is_done = λ n. q }
+
+-- by the answer to a signal
+pub matches_signal : (s : Story) (t : ℕ) (x : Option ℕ) (added : Bool) → added ≡ is_made (signal_result (reply s (signal t x))) → Matches s (signal t x) added (Sig t x)
+matches_signal s t x added k = subst (λ b. Matches s (signal t x) b (Sig t x)) (sym k) (go (reply s (signal t x)) refl)
+  where
+    go : (r : Reply) → reply s (signal t x) ≡ r → Matches s (signal t x) (is_made (signal_result r)) (Sig t x)
+    go (refused y) e = record { weighs = ap weight e; is_done = λ n. absurd cc }
+    go not_yet e = record { weighs = ap weight e; is_done = λ n. absurd cc }
+    go (done f) e =
+        let q : reply s (signal t x) ≡ done (Sig t x) = e ∙ ap done (sym (event_is s (signal t x) f e)) in
         record { weighs = ap weight q; is_done = λ n. q }
 
 -- by what a look saw, which its event records too
@@ -95,7 +106,7 @@ pub matches_look : (s : Story) (t a : ℕ) (x : Seen) (added : Bool) → added �
 matches_look s t a x added k = subst (λ b. Matches s (look t a) b (Look t a x)) (sym k) (go (reply s (look t a)) refl)
   where
     v : Seen
-    v = look_of s.ops a (waits t s.past) s.past
+    v = look_of s.terms.ops a (waits t s.past) s.past
 
     go : (r : Reply) → reply s (look t a) ≡ r → Matches s (look t a) (is_ok (look_result r)) (Look t a x)
     go (refused y) e = record { weighs = ap weight e; is_done = λ n. absurd cc }
@@ -120,12 +131,23 @@ matches_pass s t added k = subst (λ b. Matches s (pass t) b (Pass t)) (sym k) (
     go : (r : Reply) → reply s (pass t) ≡ r → Matches s (pass t) (has_gone_on (pass_result s.past r)) (Pass t)
     go (refused y) e = record { weighs = ap weight e; is_done = λ n. absurd cc }
     go not_yet e = record { weighs = ap weight e; is_done = λ n. absurd cc }
-    go (done f) e = by_event f (is_permitted s.limits s.ops s.past (Claim t)) (event_is s (pass t) f e) e
+    go (done f) e = by_event f (is_permitted s.limits s.terms s.past (Claim t)) (event_is s (pass t) f e) e
+
+-- where it hasn't, all is as before
+pub unadded : (s : Story) (c : Call) (added : Bool) (e : Event) → Matches s c added e → added ≡ false → after s (reply s c) ≡ s
+unadded s c added e matches n = go (reply s c) refl
+  where
+    go : (r : Reply) → reply s c ≡ r → after s (reply s c) ≡ s
+    go (refused x) q = ap (after s) q
+    go not_yet q = ap (after s) q
+    go (done f) q =
+        let one : 1 ≡ 0 = sym (one_event f) ∙ (ap (λ r. (weight r).events) (sym q) ∙ (ap (λ a. a.events) matches.weighs ∙ ap (λ b. (amount_if b e).events) n)) in
+        absurd (omega (arith, one))
 
 -- where a call has added its event, the phaser's book had room for it
 pub has_room_left : {T : Type 0} (s : Story) (b : Entry) (ps : List (Parked T)) (c : Call) (added : Bool) (e : Event) → IsKept s b ps → Matches s c added e → added ≡ true → 0 < b.room
 has_room_left s b ps c added e k matches n =
-    omega (arith, k.room, short s c (event_for s.limits s.ops s.past c) k.fit (matches.is_done n))
+    omega (arith, k.room, short s c (event_for s.limits s.terms s.past c) k.fit (matches.is_done n))
 
 -- a phaser's events have so many tickets, and there is room for the tickets of as many events as it may have
 pub record Ticketed (s : Story) (drawn room : ℕ) : Type 0 where
@@ -134,7 +156,7 @@ pub record Ticketed (s : Story) (drawn room : ℕ) : Type 0 where
 
 -- where a call has added its event, there was room for its ticket
 pub ticket_fits : (s : Story) (drawn room : ℕ) (c : Call) (added : Bool) (e : Event) → drawn ≡ length s.past → s.limits.history ≤ room → Matches s c added e → added ≡ true → drawn < room
-ticket_fits s drawn room c added e each fits matches n = omega (arith, each, fits, within s c (event_for s.limits s.ops s.past c) (matches.is_done n))
+ticket_fits s drawn room c added e each fits matches n = omega (arith, each, fits, within s c (event_for s.limits s.terms s.past c) (matches.is_done n))
 
 -- the step of all calls for the tickets: one was drawn where an event was added
 pub ticketed : (s s' : Story) (drawn drawn' room room' : ℕ) (c : Call) (added : Bool) (e : Event)
@@ -169,7 +191,7 @@ kept s s' b b' ps ps' c added e k matches is posted room waiting once =
     record {
       fit = ap (λ (v : Story). limits_fit v.limits) is ∙ (ap limits_fit m.limits ∙ k.fit);
       legal = legal;
-      ordered = legal_is_ordered s'.limits s'.ops s'.past legal;
+      ordered = legal_is_ordered s'.limits s'.terms s'.past legal;
       posted = posted ∙ (ap (λ x. plus x b.totals) (sym matches.weighs) ∙ (ap (λ x. plus w x) k.posted ∙ (sym m.sums ∙ ap (λ (v : Story). totals v.past) (sym is))));
       room = omega (arith, room, k.room, m.longer, ap (λ x. x.events) matches.weighs, ap (λ (v : Story). length v.past) is);
       waiting = waiting;
@@ -181,31 +203,37 @@ pub raised : (s : Story) (c : Call) (added : Bool) (e : Event) (a a' : Amount) �
 raised s c added e a a' matches k = k ∙ ap (λ x. plus x a) (sym matches.weighs)
 
 -- a call that can free nobody leaves all waiting
-pub all_stay_after : {T : Type 0} (s : Story) (c : Call) (ps : List (Parked T)) → can_free (event_for s.limits s.ops s.past c) ≡ false → IsLegal s → all_wait s ps ≡ true → all_wait (after s (reply s c)) ps ≡ true
-all_stay_after s c ps still legal w = go (reply s c) refl
+pub all_stay_after : {T : Type 0} (s : Story) (c : Call) (ps : List (Parked T)) → can_free (event_for s.limits s.terms s.past c) ≡ false → can_free_signal (event_for s.limits s.terms s.past c) ≡ false → IsLegal s → all_wait s ps ≡ true → all_wait (after s (reply s c)) ps ≡ true
+all_stay_after s c ps still quiet legal w = go (reply s c) refl
   where
     go : (r : Reply) → reply s c ≡ r → all_wait (after s (reply s c)) ps ≡ true
     go (refused x) e = ap (λ r. all_wait (after s r) ps) e ∙ w
     go not_yet e = ap (λ r. all_wait (after s r) ps) e ∙ w
     go (done f) e =
-        let next : is_legal s.limits s.ops (f ∷ s.past) ≡ true = and_from (is_allowed s.limits s.ops s.past f) (is_legal s.limits s.ops s.past) (done_is_allowed s c f e) legal in
-        ap (λ r. all_wait (after s r) ps) e ∙ all_stay s f ps (ap can_free (sym (event_is s c f e)) ∙ still) next w
+        let next : is_legal s.limits s.terms (f ∷ s.past) ≡ true = and_from (is_allowed s.limits s.terms s.past f) (is_legal s.limits s.terms s.past) (done_is_allowed s c f e) legal in
+        let same = sym (event_is s c f e) in
+        ap (λ r. all_wait (after s r) ps) e ∙ all_stay s (with_event s f) ps (keeps_passers s f (ap can_free same ∙ still) next) (keeps_signallers s f (ap can_free_signal same ∙ quiet) next) w
 
 -- the same after it, by another name
-pub stays_waiting : {T : Type 0} (s s' : Story) (b : Entry) (ps : List (Parked T)) (c : Call) → IsKept s b ps → s' ≡ after s (reply s c) → can_free (event_for s.limits s.ops s.past c) ≡ false → all_wait s' ps ≡ true
-stays_waiting s s' b ps c k is still = ap (λ (v : Story). all_wait v ps) is ∙ all_stay_after s c ps still k.legal k.waiting
+pub stays_waiting : {T : Type 0} (s s' : Story) (b : Entry) (ps : List (Parked T)) (c : Call) → IsKept s b ps → s' ≡ after s (reply s c) → can_free (event_for s.limits s.terms s.past c) ≡ false → can_free_signal (event_for s.limits s.terms s.past c) ≡ false → all_wait s' ps ≡ true
+stays_waiting s s' b ps c k is still quiet = ap (λ (v : Story). all_wait v ps) is ∙ all_stay_after s c ps still quiet k.legal k.waiting
 
--- neither the end of a turn nor a claim frees anybody
-pub pass_frees_nobody : (s : Story) (t : ℕ) → can_free (event_for s.limits s.ops s.past (pass t)) ≡ false
-pass_frees_nobody s t = elim (is_permitted s.limits s.ops s.past (Claim t)) as (λ b. can_free (cond b (Claim t) (Pass t)) ≡ false) [ true ↦ refl | false ↦ refl ]
+-- neither the end of a turn nor a claim frees anybody who waits to pass
+pub pass_frees_nobody : (s : Story) (t : ℕ) → can_free (event_for s.limits s.terms s.past (pass t)) ≡ false
+pass_frees_nobody s t = elim (is_permitted s.limits s.terms s.past (Claim t)) as (λ b. can_free (cond b (Claim t) (Pass t)) ≡ false) [ true ↦ refl | false ↦ refl ]
 
--- a refused call frees nobody
+-- a call that is refused or has to wait changes nothing
+pub leaves : (s : Story) (r : Reply) → is_ok (done_result r) ≡ false → after s r ≡ s
+leaves s (refused y) m = refl
+leaves s not_yet m = refl
+leaves s (done f) m = absurd cc
+
+-- so it frees nobody
+pub none_where_unchanged : {T : Type 0} (s s' : Story) (b : Entry) (ps : List (Parked T)) (out : List T) → IsKept s b ps → s' ≡ s → out ≡ freed s' ps → out ≡ []
+none_where_unchanged s s' b ps out k same o = o ∙ (ap (λ (v : Story). freed v ps) same ∙ none_freed s ps k.waiting)
+
 pub none_where_refused : {T : Type 0} (s s' : Story) (b : Entry) (ps : List (Parked T)) (c : Call) (a : Result (Unit {0}) Refusal) (out : List T)
     → IsKept s b ps → s' ≡ after s (reply s c) → a ≡ done_result (reply s c) → out ≡ freed s' ps → OnErr a (out ≡ [])
 none_where_refused s s' b ps c (Ok u) out k is e o = tt
-none_where_refused s s' b ps c (Err x) out k is e o = o ∙ (ap (λ (v : Story). freed v ps) (is ∙ leaves (reply s c) (sym e)) ∙ none_freed s ps k.waiting)
-  where
-    leaves : (r : Reply) → done_result r ≡ Err x → after s r ≡ s
-    leaves (refused y) m = refl
-    leaves not_yet m = refl
-    leaves (done f) m = absurd cc
+none_where_refused s s' b ps c (Err x) out k is e o =
+    none_where_unchanged s s' b ps out k (is ∙ leaves s (reply s c) (sym (ap (λ r. is_ok r) e))) o

@@ -1,17 +1,23 @@
--- Who waits in a cell, and what a pass through it answers.
-use Rattle.std.specs.Prelude.{ℕ, ◌≡◌, refl, Bool, true, false, ◌==◌, ◌&&◌, ◌++◌, ◌∷◌, [], List, Result, Ok, Err, not, map, filter}
-use Rattle.std.specs.List.{list_any, list_all}
+-- Who waits in a cell, and what a signal and a pass through it answer.
+use Rattle.std.specs.Prelude.{ℕ, ◌≡◌, refl, Bool, true, false, ◌==◌, ◌&&◌, ◌++◌, ◌∷◌, [], List, Option, Some, None, Result, Ok, Err, not, map, filter}
+use Rattle.std.specs.List.{list_any, list_all, find}
 use Rattle.phase_modes.specs.declared.refusal.Refusal.{Refusal}
 use Rattle.phase_modes.specs.declared.refusal.Refusal.TheVariants.{NotNow}
 use Rattle.phase_model.specs.Rules.{Story}
-use Rattle.phase_model.specs.Waiting.{would_wait, is_in_open_phase}
+use Rattle.phase_model.specs.Waiting.{would_wait, signal_would_wait, is_in_open_phase}
+use Rattle.phaser_core.specs.declared.state.Signalling.{Signalling}
+use Rattle.phaser_core.specs.declared.state.Signalling.TheVariants.{Signalled as Sent, NotYet as Held}
 use Rattle.phaser_core.specs.declared.state.Passing.{Passing}
 use Rattle.phaser_core.specs.declared.state.Passing.TheVariants.{Passed as Over, Claimed as Run, NotYet}
-use Rattle.phase_model.specs.declared.call.Call.TheVariants.{Pass as pass}
+use Rattle.phase_model.specs.declared.call.Call.TheVariants.{Signal as signal, Pass as pass}
 use Rattle.phase_model.specs.Replies.{reply}
-use Rattle.phaser_core.specs.Answers.{pass_result}
+use Rattle.phaser_core.specs.Answers.{signal_result, pass_result}
+use Rattle.scope_locks.specs.declared.answer.SignalAnswer.{SignalAnswer}
+use Rattle.scope_locks.specs.declared.answer.SignalAnswer.TheVariants.{Signalled, Parked as IsHeld, Refused as NoSignal}
 use Rattle.scope_locks.specs.declared.answer.PassAnswer.{PassAnswer}
 use Rattle.scope_locks.specs.declared.answer.PassAnswer.TheVariants.{Passed, Claimed, Parked as Waits, Refused}
+use Rattle.scope_locks.specs.declared.parking.ParkedCall.{ParkedCall}
+use Rattle.scope_locks.specs.declared.parking.ParkedCall.TheVariants.{Pass as ToPass, Signal as ToSignal}
 use Rattle.scope_locks.specs.declared.parking.Parked.{Parked}
 
 -- the task is among the parked ones
@@ -23,22 +29,53 @@ abbrev pub are_parked_once : {T : Type 0} → List (Parked T) → Bool
 are_parked_once [] = true
 are_parked_once (p ∷ ps) = not (is_parked p.task ps) && are_parked_once ps
 
--- each of them would still be answered `NotYet`
+-- this call of the task would be answered `NotYet`
+abbrev pub would_park : Story → ℕ → ParkedCall → Bool
+would_park s t ToPass = would_wait s t
+would_park s t (ToSignal x) = signal_would_wait s t x
+
+-- each of them would still be answered `NotYet` to the call for which it is parked
 abbrev pub all_wait : {T : Type 0} → Story → List (Parked T) → Bool
-all_wait s ps = list_all (λ p. would_wait s p.task) ps
+all_wait s ps = list_all (λ p. would_park s p.task p.call) ps
 
 -- those who still would
 abbrev pub waiting : {T : Type 0} → Story → List (Parked T) → List (Parked T)
-waiting s ps = filter (λ p. would_wait s p.task) ps
+waiting s ps = filter (λ p. would_park s p.task p.call) ps
 
 -- the items of those who would not any more
 abbrev pub freed : {T : Type 0} → Story → List (Parked T) → List T
-freed s ps = map (λ p. p.item) (filter (λ p. not (would_wait s p.task)) ps)
+freed s ps = map (λ p. p.item) (filter (λ p. not (would_park s p.task p.call)) ps)
 
--- the first of them stands in an open phase; where nobody is parked, it may count as open
+-- the call is a pass
+abbrev pub is_pass : ParkedCall → Bool
+is_pass ToPass = true
+is_pass (ToSignal x) = false
+
+-- the first of them who waits to pass
+abbrev pub first_to_pass : {T : Type 0} → List (Parked T) → Option (Parked T)
+first_to_pass ps = find (λ p. is_pass p.call) ps
+
+-- the first of them who waits to signal
+abbrev pub first_to_signal : {T : Type 0} → List (Parked T) → Option (Parked T)
+first_to_signal ps = find (λ p. not (is_pass p.call)) ps
+
+-- it stands in an open phase; where there is none, that may count as so
+abbrev pub is_open_for : {T : Type 0} → Story → Option (Parked T) → Bool
+is_open_for s None = true
+is_open_for s (Some p) = is_in_open_phase s p.task
+
+-- the first of them who waits to pass stands in an open phase
 abbrev pub is_phase_open : {T : Type 0} → Story → List (Parked T) → Bool
-is_phase_open s [] = true
-is_phase_open s (p ∷ ps) = is_in_open_phase s p.task
+is_phase_open s ps = is_open_for s (first_to_pass ps)
+
+-- it would still be answered `NotYet`; where there is none, that may count as so
+abbrev pub is_held_for : {T : Type 0} → Story → Option (Parked T) → Bool
+is_held_for s None = true
+is_held_for s (Some p) = would_park s p.task p.call
+
+-- the first of them who waits to signal would still be answered `NotYet`
+abbrev pub is_first_held : {T : Type 0} → Story → List (Parked T) → Bool
+is_first_held s ps = is_held_for s (first_to_signal ps)
 
 -- what a pass with an item answers, by what the phaser answers and whether the task is parked already
 abbrev pub locked_pass : {T : Type 0} → Result Passing Refusal → Bool → T → PassAnswer T
@@ -62,18 +99,25 @@ IsBack x (Claimed y n) = y ≡ x
 IsBack x Waits = Unit {0}
 IsBack x (Refused y r) = y ≡ x
 
--- who is parked after it
-abbrev pub parking : {T : Type 0} → Result Passing Refusal → Bool
-    → Parked T → List (Parked T) → List (Parked T)
-parking (Ok NotYet) false p ps = ps ++ p ∷ []
-parking _ again p ps = ps
+-- who is parked after a call: its task too, where it has to wait and isn't parked already
+abbrev pub parking : {T : Type 0} → Bool → Bool → Parked T → List (Parked T) → List (Parked T)
+parking true false p ps = ps ++ p ∷ []
+parking true true p ps = ps
+parking false again p ps = ps
 
--- it has added an event
+-- a pass has added an event
 abbrev pub has_gone_on : Result Passing Refusal → Bool
 has_gone_on (Ok (Over p)) = true
 has_gone_on (Ok (Run n)) = true
 has_gone_on (Ok NotYet) = false
 has_gone_on (Err r) = false
+
+-- it has to wait
+abbrev pub has_to_wait : Result Passing Refusal → Bool
+has_to_wait (Ok (Over p)) = false
+has_to_wait (Ok (Run n)) = false
+has_to_wait (Ok NotYet) = true
+has_to_wait (Err r) = false
 
 -- what the phaser answers to a pass; no abbreviation, so that a search leaves it shut
 pub answered : Story → ℕ → Result Passing Refusal
@@ -82,3 +126,43 @@ answered s t = pass_result s.past (reply s (pass t))
 pub answered_is : (s : Story) (t : ℕ) → pass_result s.past (reply s (pass t)) ≡ answered s t
 unfolding answered
 answered_is s t = refl
+
+-- what a signal with an item answers, by what the phaser answers and whether the task is parked already
+abbrev pub locked_signal : {T : Type 0} → Result Signalling Refusal → Bool → T → SignalAnswer T
+locked_signal (Ok Sent) again x = Signalled x
+locked_signal (Ok Held) true x = NoSignal x NotNow
+locked_signal (Ok Held) false x = IsHeld
+locked_signal (Err r) again x = NoSignal x r
+
+-- such an answer says that an event was added
+abbrev pub has_signalled : {T : Type 0} → SignalAnswer T → Bool
+has_signalled (Signalled x) = true
+has_signalled IsHeld = false
+has_signalled (NoSignal x r) = false
+
+-- the item that comes back with it, if one does, is this one
+abbrev pub IsBackFromSignal : {T : Type 0} → T → SignalAnswer T → Type 0
+IsBackFromSignal x (Signalled y) = y ≡ x
+IsBackFromSignal x IsHeld = Unit {0}
+IsBackFromSignal x (NoSignal y r) = y ≡ x
+
+-- a signal has added an event
+abbrev pub is_made : Result Signalling Refusal → Bool
+is_made (Ok Sent) = true
+is_made (Ok Held) = false
+is_made (Err r) = false
+
+-- it is held
+abbrev pub is_held : Result Signalling Refusal → Bool
+is_held (Ok Sent) = false
+is_held (Ok Held) = true
+is_held (Err r) = false
+
+-- what the phaser answers to a signal; no abbreviation either
+pub signal_answered : Story → ℕ → Option ℕ → Result Signalling Refusal
+signal_answered s t x = signal_result (reply s (signal t x))
+
+pub signal_answered_is : (s : Story) (t : ℕ) (x : Option ℕ)
+    → signal_result (reply s (signal t x)) ≡ signal_answered s t x
+unfolding signal_answered
+signal_answered_is s t x = refl

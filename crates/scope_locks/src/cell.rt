@@ -1,26 +1,30 @@
 //! What stands behind a phaser's lock.
-ghost use Rattle.std.specs.Prelude.{◌≡◌, Ok, ◌+◌, [], length, vec_len, vec_capacity, ◌<◌, ◌≤◌, true, false, IfOk, IfErr, OnErr, is_ok};
+ghost use Rattle.std.specs.Prelude.{◌≡◌, ◌+◌, ◌&&◌, ◌||◌, not, [], length, vec_len, vec_capacity, ◌<◌, ◌≤◌, true, false, IfOk, IfErr, OnErr, is_ok, is_some};
 ghost use Rattle.std.specs.VecDeque.{deque_len, deque_capacity};
 ghost use Rattle.phase_modes.specs.Limits.{limits_fit};
 ghost use Rattle.phase_model.specs.Amounts.{plus};
 ghost use Rattle.phase_model.specs.declared.call.Call.TheVariants.{Make as make, Register as register, Signal as signal, Pass as pass, SingleDone as single_done, Send as send, Look as look, Drop as drop_task};
 ghost use Rattle.phase_model.specs.Replies.{reply, after, done_result};
-ghost use Rattle.phaser_core.specs.declared.state.Passing.TheVariants.{NotYet};
-ghost use Rattle.phaser_core.specs.Answers.{pass_result, look_result, made_with};
+ghost use Rattle.phase_model.specs.Rules.{no_terms};
+ghost use Rattle.phase_model.specs.Waiting.{would_wait};
+ghost use Rattle.phaser_core.specs.Answers.{look_result, made_with};
 ghost use Rattle.share_book.specs.Accounts.{nothing};
 ghost use Rattle.scope_locks.specs.Amounts.{amount_if};
 ghost use Rattle.scope_locks.specs.Cells.{IsKept};
 ghost use Rattle.scope_locks.specs.Drawn.{IsDrawn};
-ghost use Rattle.scope_locks.specs.Parking.{is_parked, waiting, freed, locked_pass, parking, has_gone_on, goes_on, answered, IsBack};
+ghost use Rattle.scope_locks.specs.Parking.{is_parked, is_first_held, waiting, freed, locked_pass, parking, has_gone_on, has_to_wait, goes_on, answered, IsBack, locked_signal, has_signalled, is_made, is_held, signal_answered, IsBackFromSignal};
 
-use crate::answer::PassAnswer;
+use crate::answer::{PassAnswer, SignalAnswer};
 use crate::out::Out;
-use crate::parking::{Parked, is_phase_open, may_leave, park, release_if};
+use crate::parking::{
+    Parked, ParkedCall, is_first_held, is_phase_open, may_leave, release_if, settle_pass,
+    settle_signal,
+};
 use crate::posting::{Post, post_if};
 use crate::tickets::Tickets;
-use phase_model::{Event, Look, Ops};
+use phase_model::{Bound, Event, Look, Ops};
 use phase_modes::{Limits, Mode, Refusal};
-use phaser_core::{Passing, PhaserState};
+use phaser_core::{Passing, PhaserState, Signalling};
 use share_book::{Ledgers, PhaserBook, Shares};
 use std::alloc::Global;
 use std::collections::VecDeque;
@@ -54,37 +58,53 @@ fn has_gone_on(answer: Result<Passing, Refusal>) -> bool
     }
 }
 
-/// Hands the item back with the answer of a pass, or parks it where the task has to come again.
-fn settle<T>(
-    answer: Result<Passing, Refusal>,
-    parked: &mut VecDeque<Parked<T>>,
-    task: u32,
-    item: T,
-) -> PassAnswer<T>
-    requires seats { 256 ≤ deque_capacity parked.old }
-    requires seated { deque_len parked.old ≤ 256 }
-    requires place { answer ≡ Ok NotYet → is_parked task parked.old.items ≡ false
-        → deque_len parked.old < 256 }
-    ensures answer { result ≡ locked_pass answer (is_parked task parked.old.items) item }
-    ensures goes_on { goes_on result ≡ has_gone_on answer }
-    ensures item { IsBack item result }
-    ensures parked { parked.new.items
-        ≡ parking answer (is_parked task parked.old.items)
-        (record { task = task; item = item }) parked.old.items }
-    ensures seats { 256 ≤ deque_capacity parked.new }
-    ensures seated { deque_len parked.new ≤ 256 }
+/// Whether a signal has added an event.
+fn is_made(answer: Result<Signalling, Refusal>) -> bool
+    ensures { result ≡ is_made answer }
 {
     match answer {
-        Ok(Passing::Passed(phase)) => PassAnswer::Passed(item, phase),
-        Ok(Passing::Claimed(number)) => PassAnswer::Claimed(item, number),
-        Ok(Passing::NotYet) => park(parked, task, item),
-        Err(refusal) => PassAnswer::Refused(item, refusal),
+        Ok(Signalling::Signalled) => true,
+        Ok(Signalling::NotYet) | Err(_) => false,
     }
 }
 
+/// Whether a task may have to wait for its signal.
+fn is_bounded(state: &PhaserState) -> bool
+    ensures { result ≡ is_some state.now.story.terms.bound }
+{
+    state.history().bound().is_some()
+}
+
+/// Whether a signal may let a task go on that waits to signal: by a proposal, after which one that
+/// waits to propose another number is refused.
+fn may_part_proposers(state: &PhaserState, number: Option<u32>) -> bool
+    ensures { result ≡ (is_some number && is_some state.now.story.terms.bound) }
+{
+    number.is_some() && is_bounded(state)
+}
+
+/// Whether the task itself may be parked. Without a bound, one that doesn't wait to pass isn't.
+fn may_be_parked(state: &PhaserState, task: u32) -> bool
+    ensures { result ≡ (is_some state.now.story.terms.bound || would_wait state.now.story task) }
+{
+    is_bounded(state) || state.would_wait(task)
+}
+
+/// Whether a pass may have let somebody go on: the first who waited to signal for the bound.
+fn may_come_near<T>(
+    bounded: bool,
+    gone_on: bool,
+    state: &PhaserState,
+    parked: &VecDeque<Parked<T>>,
+) -> bool
+    ensures { result ≡ (bounded && gone_on && not (is_first_held state.now.story parked.now.items)) }
+{
+    bounded && gone_on && !is_first_held(state, parked)
+}
+
 impl<T, K: Ledgers> PhaserCell<T, K> {
-    /// The phaser's `make_with`, with its refusals: makes it with these operators. Nobody is let go
-    /// on by it.
+    /// The phaser's `make_with`, with its refusals: makes it with these operators and this bound.
+    /// Nobody is let go on by it.
     pub fn make<B: Post<K>>(
         &mut self,
         tickets: &Tickets,
@@ -93,10 +113,12 @@ impl<T, K: Ledgers> PhaserCell<T, K> {
         task: u32,
         mode: Mode,
         ops: Ops,
+        bound: Option<Bound>,
     ) -> Result<(), Refusal>
         ensures reply { result ≡ done_result (reply self.old.state.story (make task mode)) }
         ensures history { self.new.state.story
-            ≡ made_with self.old.state.story ops (reply self.old.state.story (make task mode)) }
+            ≡ made_with self.old.state.story (record { ops = ops; bound = bound })
+            (reply self.old.state.story (make task mode)) }
         ensures mine { mine.new ≡ plus (amount_if (is_ok result) (Event.Make task mode)) mine.old }
         ensures books { B.rose books.old books.new (amount_if (is_ok result) (Event.Make task mode)) }
         ensures tickets { IsDrawn (is_ok result) self.old.drawn.items self.new.drawn.items }
@@ -109,7 +131,7 @@ impl<T, K: Ledgers> PhaserCell<T, K> {
             ..
         } = self;
         let _four_at_most = ops.len();
-        let answer = state.make_with(task, mode, ops);
+        let answer = state.make_with(task, mode, ops, bound);
         let event = Event::Make(task, mode);
         post_if(answer.is_ok(), tickets, drawn, book, books, mine, event);
         answer
@@ -209,8 +231,9 @@ impl<T, K: Ledgers> PhaserCell<T, K> {
         answer
     }
 
-    /// The phaser's `signal`, with its refusals. The items of all whom it lets go on are put into
-    /// `out`.
+    /// The phaser's `signal`, with its refusals; a task that is too far ahead of a waiter leaves its
+    /// item here instead, or has it back with `NotNow` where it is parked already. The items of all
+    /// whom it lets go on are put into `out`.
     pub fn signal<B: Post<K>>(
         &mut self,
         tickets: &Tickets,
@@ -219,17 +242,25 @@ impl<T, K: Ledgers> PhaserCell<T, K> {
         out: &mut Out<T>,
         task: u32,
         number: Option<u32>,
-    ) -> Result<(), Refusal>
+        item: T,
+    ) -> SignalAnswer<T>
         requires { out.old ≡ [] }
-        ensures reply { result ≡ done_result (reply self.old.state.story (signal task number)) }
+        ensures answer { result ≡ locked_signal (signal_answered self.old.state.story task number)
+            (is_parked task self.old.parked.items) item }
         ensures history { self.new.state.story
             ≡ after self.old.state.story (reply self.old.state.story (signal task number)) }
-        ensures mine { mine.new ≡ plus (amount_if (is_ok result) (Event.Sig task number)) mine.old }
-        ensures books { B.rose books.old books.new (amount_if (is_ok result) (Event.Sig task number)) }
-        ensures tickets { IsDrawn (is_ok result) self.old.drawn.items self.new.drawn.items }
-        ensures parked { self.new.parked.items ≡ waiting self.new.state.story self.old.parked.items }
+        ensures mine { mine.new ≡ plus (amount_if (has_signalled result) (Event.Sig task number)) mine.old }
+        ensures books { B.rose books.old books.new
+            (amount_if (has_signalled result) (Event.Sig task number)) }
+        ensures tickets { IsDrawn (has_signalled result) self.old.drawn.items self.new.drawn.items }
+        ensures item { IsBackFromSignal item result }
+        ensures parked { self.new.parked.items
+            ≡ parking (is_held (signal_answered self.old.state.story task number))
+            (is_parked task self.old.parked.items)
+            (record { task = task; call = ParkedCall.Signal number; item = item })
+            (waiting self.new.state.story self.old.parked.items) }
         ensures out { out.new ≡ freed self.new.state.story self.old.parked.items }
-        ensures refused { OnErr result (out.new ≡ []) }
+        ensures nobody { has_signalled result ≡ false → out.new ≡ [] }
     {
         let PhaserCell {
             state,
@@ -237,13 +268,14 @@ impl<T, K: Ledgers> PhaserCell<T, K> {
             book,
             parked,
         } = self;
+        let others = may_part_proposers(state, number);
         let was_open = is_phase_open(state, parked);
         let answer = state.signal(task, number);
         let event = Event::Sig(task, number);
-        post_if(answer.is_ok(), tickets, drawn, book, books, mine, event);
+        post_if(is_made(answer), tickets, drawn, book, books, mine, event);
         let is_open = is_phase_open(state, parked);
-        release_if(may_leave(false, was_open, is_open), state, parked, out);
-        answer
+        release_if(may_leave(others, was_open, is_open), state, parked, out);
+        settle_signal(answer, parked, task, number, item)
     }
 
     /// The phaser's `drop_task`, with its refusals. The items of all whom it lets go on are put
@@ -273,14 +305,13 @@ impl<T, K: Ledgers> PhaserCell<T, K> {
             book,
             parked,
         } = self;
-        // A task that doesn't wait isn't parked itself.
-        let waits = state.would_wait(task);
+        let own = may_be_parked(state, task);
         let was_open = is_phase_open(state, parked);
         let answer = state.drop_task(task);
         let event = Event::Drop(task);
         post_if(answer.is_ok(), tickets, drawn, book, books, mine, event);
         let is_open = is_phase_open(state, parked);
-        release_if(may_leave(waits, was_open, is_open), state, parked, out);
+        release_if(may_leave(own, was_open, is_open), state, parked, out);
         answer
     }
 
@@ -319,15 +350,18 @@ impl<T, K: Ledgers> PhaserCell<T, K> {
     }
 
     /// The phaser's `pass`, with its refusals; a task that has to wait leaves its item here
-    /// instead, or has it back with `NotNow` where it is parked already. Nobody is let go on by it.
+    /// instead, or has it back with `NotNow` where it is parked already. The items of all whom it
+    /// lets go on are put into `out`: those who waited to signal, for the bound.
     pub fn pass<B: Post<K>>(
         &mut self,
         tickets: &Tickets,
         books: &mut B,
         mine: &mut Shares<K>,
+        out: &mut Out<T>,
         task: u32,
         item: T,
     ) -> PassAnswer<T>
+        requires { out.old ≡ [] }
         ensures answer { result
             ≡ locked_pass (answered self.old.state.story task) (is_parked task self.old.parked.items) item }
         ensures history { self.new.state.story
@@ -336,9 +370,12 @@ impl<T, K: Ledgers> PhaserCell<T, K> {
         ensures books { B.rose books.old books.new (amount_if (goes_on result) (Event.Pass task)) }
         ensures tickets { IsDrawn (goes_on result) self.old.drawn.items self.new.drawn.items }
         ensures item { IsBack item result }
-        ensures parked { self.new.parked.items ≡ parking (answered self.old.state.story task)
+        ensures parked { self.new.parked.items ≡ parking (has_to_wait (answered self.old.state.story task))
             (is_parked task self.old.parked.items)
-            (record { task = task; item = item }) self.old.parked.items }
+            (record { task = task; call = ParkedCall.Pass; item = item })
+            (waiting self.new.state.story self.old.parked.items) }
+        ensures out { out.new ≡ freed self.new.state.story self.old.parked.items }
+        ensures nobody { goes_on result ≡ false → out.new ≡ [] }
     {
         let PhaserCell {
             state,
@@ -346,24 +383,20 @@ impl<T, K: Ledgers> PhaserCell<T, K> {
             book,
             parked,
         } = self;
+        let bounded = is_bounded(state);
         let answer = state.pass(task);
+        let gone_on = has_gone_on(answer);
         let event = Event::Pass(task);
-        post_if(
-            has_gone_on(answer),
-            tickets,
-            drawn,
-            book,
-            books,
-            mine,
-            event,
-        );
-        settle(answer, parked, task, item)
+        post_if(gone_on, tickets, drawn, book, books, mine, event);
+        let is_near = may_come_near(bounded, gone_on, state, parked);
+        release_if(is_near, state, parked, out);
+        settle_pass(answer, parked, task, item)
     }
 }
 
 impl<T: Drop, K: Ledgers> PhaserCell<T, K> {
-    /// A phaser that nobody has made yet, and that has no operators before, with its book, in which
-    /// nothing is posted yet. All memory that it will ever need is taken here; `Memory` where that
+    /// A phaser that nobody has made yet, and that has neither operators nor a bound before, with
+    /// its book, in which nothing is posted yet. All memory that it will ever need is taken here; `Memory` where that
     /// is refused.
     pub fn new(
         alloc: Global,
@@ -372,7 +405,7 @@ impl<T: Drop, K: Ledgers> PhaserCell<T, K> {
     ) -> Result<PhaserCell<T, K>, Refusal>
         requires limits { limits_fit limits ≡ true }
         requires fresh { (book.totals ≡ nothing) × (book.room ≡ 65536) }
-        ensures story { IfOk result (λ c. c.state.story ≡ record { limits = limits; ops = []; past = [] }) }
+        ensures story { IfOk result (λ c. c.state.story ≡ record { limits = limits; terms = no_terms; past = [] }) }
         ensures empty { IfOk result (λ c. (c.parked.items ≡ []) × (c.book ≡ book)) }
         ensures memory { IfErr result (λ r. r ≡ Refusal.Memory) }
     {

@@ -14,12 +14,12 @@ mod phasers;
 mod posting;
 mod tickets;
 
-pub use answer::{PassAnswer, ShutAnswer};
+pub use answer::{PassAnswer, ShutAnswer, SignalAnswer};
 pub use cell::PhaserCell;
 pub use finish::FinishCell;
 pub use finishes::{FinishParts, FinishTable};
 pub use out::Out;
-pub use parking::Parked;
+pub use parking::{Parked, ParkedCall};
 pub use phasers::{PhaserParts, PhaserTable};
 pub use posting::Post;
 pub use tickets::Tickets;

@@ -2,22 +2,22 @@
 //!
 //! Each call takes its phaser's lock, and inside it the books' lock for the one post that it makes.
 //! No call takes the locks of two phasers, and none takes a phaser's lock while it has the books.
-ghost use Rattle.std.specs.Prelude.{◌≡◌, ◌+◌, ◌++◌, ◌∷◌, [], ◌<◌, ◌≤◌, true, All, IfOk, IfErr, OnErr, is_ok, map, vec_len, vec_capacity};
+ghost use Rattle.std.specs.Prelude.{◌≡◌, ◌+◌, ◌++◌, ◌∷◌, [], ◌<◌, ◌≤◌, true, false, All, IfOk, IfErr, OnErr, is_ok, map, vec_len, vec_capacity};
 ghost use Rattle.phase_modes.specs.Limits.{limits_fit};
 ghost use Rattle.phase_model.specs.Amounts.{plus};
 ghost use Rattle.share_book.specs.Accounts.{nothing, IsWithin, amount_of};
 ghost use Rattle.scope_locks.specs.Amounts.{amount_if};
-ghost use Rattle.scope_locks.specs.Parking.{goes_on, IsBack};
+ghost use Rattle.scope_locks.specs.Parking.{goes_on, IsBack, has_signalled, IsBackFromSignal};
 ghost use Rattle.scope_locks.specs.Telling.{ArePhaserParts};
 ghost use Rattle.trace_model.specs.Told.{phaser_told};
 
-use crate::answer::PassAnswer;
+use crate::answer::{PassAnswer, SignalAnswer};
 use crate::cell::PhaserCell;
 use crate::lock::Lock;
 use crate::out::Out;
 use crate::posting::Locked;
 use crate::tickets::Tickets;
-use phase_model::{Event, Look, Ops};
+use phase_model::{Bound, Event, Look, Ops};
 use phase_modes::{Limits, Mode, Refusal};
 use share_book::{Books, Ledgers, PhaserBook, Shares, Totals};
 use std::alloc::Global;
@@ -196,6 +196,7 @@ impl<T, K: Ledgers> PhaserTable<T, K> {
         task: u32,
         mode: Mode,
         ops: Ops,
+        bound: Option<Bound>,
     ) -> Result<(), Refusal>
         requires { number < self.now.phasers }
         ensures mine { mine.new ≡ plus (amount_if (is_ok result) (Event.Make task mode)) mine.old }
@@ -205,7 +206,7 @@ impl<T, K: Ledgers> PhaserTable<T, K> {
             rt,
             books: &self.books,
         };
-        cell.make(tickets, &mut books, mine, task, mode, ops)
+        cell.make(tickets, &mut books, mine, task, mode, ops, bound)
     }
 
     /// The cell's `register`, under the phaser's lock.
@@ -275,7 +276,7 @@ impl<T, K: Ledgers> PhaserTable<T, K> {
         cell.look(tickets, &mut books, mine, task, accumulator)
     }
 
-    /// The cell's `signal`, under the phaser's lock.
+    /// The cell's `signal`, under the phaser's lock. The item comes back, or it is parked.
     pub fn signal<R: Wait>(
         &self,
         rt: &R,
@@ -285,18 +286,20 @@ impl<T, K: Ledgers> PhaserTable<T, K> {
         out: &mut Out<T>,
         task: u32,
         proposed: Option<u32>,
-    ) -> Result<(), Refusal>
+        item: T,
+    ) -> SignalAnswer<T>
         requires number { number < self.now.phasers }
         requires empty { out.old ≡ [] }
-        ensures mine { mine.new ≡ plus (amount_if (is_ok result) (Event.Sig task proposed)) mine.old }
-        ensures refused { OnErr result (out.new ≡ []) }
+        ensures mine { mine.new ≡ plus (amount_if (has_signalled result) (Event.Sig task proposed)) mine.old }
+        ensures item { IsBackFromSignal item result }
+        ensures nobody { has_signalled result ≡ false → out.new ≡ [] }
     {
         let mut cell = self.cells[number].lock(rt);
         let mut books = Locked {
             rt,
             books: &self.books,
         };
-        cell.signal(tickets, &mut books, mine, out, task, proposed)
+        cell.signal(tickets, &mut books, mine, out, task, proposed, item)
     }
 
     /// The cell's `single_done`, under the phaser's lock.
@@ -352,18 +355,21 @@ impl<T, K: Ledgers> PhaserTable<T, K> {
         number: usize,
         tickets: &Tickets,
         mine: &mut Shares<K>,
+        out: &mut Out<T>,
         task: u32,
         item: T,
     ) -> PassAnswer<T>
-        requires { number < self.now.phasers }
+        requires number { number < self.now.phasers }
+        requires empty { out.old ≡ [] }
         ensures mine { mine.new ≡ plus (amount_if (goes_on result) (Event.Pass task)) mine.old }
         ensures item { IsBack item result }
+        ensures nobody { goes_on result ≡ false → out.new ≡ [] }
     {
         let mut cell = self.cells[number].lock(rt);
         let mut books = Locked {
             rt,
             books: &self.books,
         };
-        cell.pass(tickets, &mut books, mine, task, item)
+        cell.pass(tickets, &mut books, mine, out, task, item)
     }
 }

@@ -33,6 +33,10 @@ signed_in d = option_and_then as_i64 (as_number d)
 abbrev pub number_in : ℕ → Data → Option ℕ
 number_in most d = whole_in d >>= λ n. if nat_le n most then Some n else None
 
+-- a phaser's bound: 1 to 65,536
+abbrev pub bound_in : Data → Option ℕ
+bound_in d = number_in 65536 d >>= λ n. if nat_le 1 n then Some n else None
+
 -- a value that is sent: a whole number of 32 bits with a sign
 abbrev pub value_in : Data → Option ℤ
 value_in d = signed_in d >>= λ z.
@@ -63,6 +67,10 @@ number_at i d = at i d >>= number_in (2 ^ 32 - 1)
 -- the accumulator's index at an index of a list
 abbrev pub accumulator_at : ℕ → Data → Option ℕ
 accumulator_at i d = at i d >>= number_in 255
+
+-- the bound at an index of a list
+abbrev pub bound_at : ℕ → Data → Option ℕ
+bound_at i d = at i d >>= bound_in
 
 -- the value at an index of a list
 abbrev pub value_at : ℕ → Data → Option ℤ

@@ -4,9 +4,9 @@ ghost use Rattle.std.specs.Prelude.{◌≡◌, ◌↔◌, IsTrue, option_map};
 ghost use Rattle.serde_json.specs.Errors.{IsMemory};
 ghost use Rattle.serde_json.specs.View.{view, items_view};
 ghost use Rattle.text_words.specs.Reading.{reading, json_read, Gives};
-ghost use Rattle.text_words.specs.Words.{number_in, value_in, mode_in, op_in, word_at, number_at, accumulator_at, value_at, mode_at, all_in, at_most, ops_in, ops_at};
+ghost use Rattle.text_words.specs.Words.{number_in, bound_in, bound_at, value_in, mode_in, op_in, word_at, number_at, accumulator_at, value_at, mode_at, all_in, at_most, ops_in, ops_at};
 
-use phase_model::{Op, Ops};
+use phase_model::{Bound, Op, Ops};
 use phase_modes::{Mode, Refusal};
 use serde_json::{Category, Error, Value};
 use std::alloc::Global;
@@ -63,6 +63,21 @@ pub fn accumulator_at(list: &Value, index: usize) -> Option<u8>
 {
     let number = number_of(list.get(index)?, 255)?;
     Some(number as u8)
+}
+
+/// A phaser's bound: 1 to 65,536.
+pub fn bound_of(value: &Value) -> Option<Bound>
+    ensures { result ≡ bound_in (view value.now) }
+{
+    let number = number_of(value, 65536)?;
+    Bound::of(number)
+}
+
+/// The bound at an index of a list.
+pub fn bound_at(list: &Value, index: usize) -> Option<Bound>
+    ensures { result ≡ bound_at index (view list.now) }
+{
+    bound_of(list.get(index)?)
 }
 
 fn value_of(value: &Value) -> Option<i32>

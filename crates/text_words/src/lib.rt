@@ -7,7 +7,8 @@ mod items;
 mod objects;
 
 pub use items::{
-    accumulator_at, json_of, mode_at, number_at, number_of, ops_at, ops_of, value_at, word_at,
+    accumulator_at, bound_at, bound_of, json_of, mode_at, number_at, number_of, ops_at, ops_of,
+    value_at, word_at,
 };
 pub use objects::{has_only_keys, limits_of};
 

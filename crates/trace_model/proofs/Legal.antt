@@ -22,7 +22,7 @@ seen_made x (Ok (Value y)) h = refl
 seen_made x (Ok NotYet) h = absurd (false≢true h)
 
 pub answered_made : (e : TracedEvent) (r : Result Reply Refusal) → is_answered e r ≡ true → is_made r ≡ true
-answered_made (Phaser n (step.Make t m ops)) r h = h
+answered_made (Phaser n (step.Make t m terms)) r h = h
 answered_made (Phaser n (step.Reg q t m)) r h = h
 answered_made (Phaser n (step.Sig t x)) r h = h
 answered_made (Phaser n (step.Claim t)) r h = h

@@ -51,7 +51,7 @@ pub phaser_length : (s : Source) (n : ℕ) (h : Story) (tickets : Vec ℕ Global
 phaser_length s n h tickets seen is whole told =
     let w : length tickets.items ≡ length h.past = subst (λ (x : Source). IsWhole x) is whole in
     ap (λ (es : List Entry). length es) (sym told ∙ ap (λ (x : Source). entries_of x) is)
-    ∙ told_length (λ e. traced.Phaser n (step_told h.ops e)) tickets.items (reverse h.past) (w ∙ sym (length-reverse h.past))
+    ∙ told_length (λ e. traced.Phaser n (step_told h.terms e)) tickets.items (reverse h.past) (w ∙ sym (length-reverse h.past))
 
 pub finish_length : (s : Source) (f : ℕ) (h : Vec FinishEvent Global) (tickets : Vec ℕ Global) (first : ℕ) (seen : List Entry) → s ≡ Finish f h tickets first → IsWhole s → entries_of s ≡ seen
     → length seen ≡ length tickets.items - first
@@ -77,7 +77,7 @@ pub phaser_ticket : (s : Source) (n : ℕ) (h : Story) (tickets : Vec ℕ Global
     → s ≡ Phaser n h tickets → IsWhole s → entries_of s ≡ seen → i < length tickets.items
     → ticket ≡ get_or tickets.items i ticket → IfSome (slice_get seen i) (λ x. ticket ≡ x.0)
 phaser_ticket s n h tickets seen i ticket is whole told inside read =
-    let told_event : Event → TracedEvent = λ e. traced.Phaser n (step_told h.ops e) in
+    let told_event : Event → TracedEvent = λ e. traced.Phaser n (step_told h.terms e) in
     let es = reverse h.past in
     let w : length tickets.items ≡ length h.past = subst (λ (x : Source). IsWhole x) is whole in
     let same : seen ≡ phaser_told n h tickets.items = sym told ∙ ap (λ (x : Source). entries_of x) is in

@@ -8,6 +8,7 @@ use Rattle.finish_core.specs.declared.event.FinishEvent.TheVariants.{Opened, Spa
 use Rattle.world_model.specs.declared.event.Begun.TheVariants.{Async, Next, Shut, End}
 use Rattle.trace_model.specs.declared.event.TracedStep.TheVariants.{Make, Sig, Pass, Send, Look, Drop}
 use Rattle.trace_model.specs.declared.event.TracedEvent.TheVariants.{Phaser, Finish, Begin}
+use Rattle.world_model.specs.ExampleWords.{unbounded}
 use Rattle.trace_model.specs.Run.{Entry, Run}
 use Rattle.trace_model.specs.Explained.{is_explained, first_fault}
 
@@ -17,7 +18,7 @@ traced es = record { limits = default_limits; events = es }
 
 -- the smallest trace: one task makes a phaser, ends one turn on it, and ends
 abbrev pub made_and_begun : List Entry
-made_and_begun = (1, Phaser 0 (Make 0 SigWait [])) ∷ (2, Begin 0 Next) ∷ []
+made_and_begun = (1, Phaser 0 (Make 0 SigWait (unbounded []))) ∷ (2, Begin 0 Next) ∷ []
 
 abbrev pub ended_but_for_shut : List Entry
 ended_but_for_shut = (5, Begin 0 End) ∷ (6, Phaser 0 (Drop 0)) ∷ []
@@ -66,7 +67,7 @@ NestedFinish = first_fault nested_finish ≡ None
 -- a sender looks at what it sent, and saw this
 abbrev pub sent_and_seen : ℕ → Run
 sent_and_seen seen = traced
-    ((10, Phaser 0 (Make 0 SigWait (Sum ∷ [])))
+    ((10, Phaser 0 (Make 0 SigWait (unbounded (Sum ∷ []))))
     ∷ (20, Phaser 0 (Send 0 0 (pos 5)))
     ∷ (30, Begin 0 Next)
     ∷ (40, Phaser 0 (Sig 0 None))

@@ -21,7 +21,7 @@ use Rattle.trace_model.specs.Run.{Entry, Run}
 
 -- the step of the world: what a look saw is no part of it
 abbrev pub step_of : TracedStep → Step
-step_of (step.Make t m ops) = plain.Make t m ops
+step_of (step.Make t m terms) = plain.Make t m terms
 step_of (step.Reg q t m) = plain.Reg q t m
 step_of (step.Sig t x) = plain.Sig t x
 step_of (step.Claim t) = plain.Claim t

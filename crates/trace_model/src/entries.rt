@@ -3,6 +3,7 @@ ghost use Rattle.std.specs.Prelude.{◌≡◌, ◌<◌, ◌^◌, ◌++◌, ◌�
 
 use crate::event::{TracedEvent, TracedStep};
 use crate::kept::Kept;
+use phase_model::{Bound, Terms};
 use phase_modes::Refusal;
 use std::alloc::Global;
 use std::marker::Model;
@@ -64,6 +65,8 @@ impl Entries {
         let _step: Option<TracedStep> = None;
         let _begun: Option<Begun> = None;
         let _tried: Option<Tried> = None;
+        let _terms: Option<Terms> = None;
+        let _bound: Option<Bound> = None;
         let place = self.long.len();
         self.kept.reserve(1)?;
         self.long.push(event)?;

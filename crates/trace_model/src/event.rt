@@ -1,6 +1,6 @@
 //! The events of a trace: those of a world, but a look with what it saw.
 use finish_core::FinishEvent;
-use phase_model::{Look, Ops};
+use phase_model::{Look, Terms};
 use phase_modes::Mode;
 use world_model::{Begun, Tried};
 
@@ -8,8 +8,8 @@ use world_model::{Begun, Tried};
 /// parent's. Accumulators are numbered from 0.
 #[derive(Clone, Copy, Debug, PartialEq, Eq)]
 pub enum TracedStep {
-    /// The task made the phaser with these accumulators, and was registered in this mode.
-    Make(u32, Mode, Ops),
+    /// The task made the phaser with these terms, and was registered in this mode.
+    Make(u32, Mode, Terms),
     /// The parent registered a child, in this mode.
     Reg(u32, u32, Mode),
     /// The task signalled its phase, with a number where it proposed a single.

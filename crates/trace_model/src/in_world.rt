@@ -35,7 +35,7 @@ impl TracedStep {
         ensures { result ≡ step_of self.now }
     {
         match *self {
-            TracedStep::Make(task, mode, ops) => Step::Make(task, mode, ops),
+            TracedStep::Make(task, mode, terms) => Step::Make(task, mode, terms),
             TracedStep::Reg(parent, child, mode) => Step::Reg(parent, child, mode),
             TracedStep::Sig(task, number) => Step::Sig(task, number),
             TracedStep::Claim(task) => Step::Claim(task),

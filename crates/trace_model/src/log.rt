@@ -3,6 +3,7 @@ ghost use Rattle.std.specs.Prelude.{◌≡◌, ◌++◌, ◌∷◌, [], ◌<◌,
 ghost use Rattle.trace_model.specs.TaskLog.{has_room};
 
 use crate::event::{TracedEvent, TracedStep};
+use phase_model::{Bound, Terms};
 use phase_modes::Refusal;
 use std::alloc::Global;
 use std::marker::Model;
@@ -61,6 +62,8 @@ impl Log {
         let _step: Option<TracedStep> = None;
         let _begun: Option<Begun> = None;
         let _tried: Option<Tried> = None;
+        let _terms: Option<Terms> = None;
+        let _bound: Option<Bound> = None;
         self.entries.push_reserved((ticket, entry));
     }
 

@@ -7,7 +7,7 @@ use crate::event::{TracedEvent, TracedStep};
 use crate::log::Log;
 use crate::trace::Trace;
 use finish_core::FinishEvent;
-use phase_model::{Event, History, Ops};
+use phase_model::{Event, History, Terms};
 use phase_modes::Refusal;
 use std::marker::Model;
 
@@ -42,12 +42,12 @@ impl Model for Part {
     ghost invariant = { λ p. IsWhole p.source };
 }
 
-/// The step of a phaser's event, on a phaser with these operators.
-fn step_told(ops: Ops, event: Event) -> TracedStep
-    ensures { result ≡ step_told ops event }
+/// The step of a phaser's event, on a phaser that is made with these terms.
+fn step_told(terms: Terms, event: Event) -> TracedStep
+    ensures { result ≡ step_told terms event }
 {
     match event {
-        Event::Make(task, mode) => TracedStep::Make(task, mode, ops),
+        Event::Make(task, mode) => TracedStep::Make(task, mode, terms),
         Event::Reg(parent, child, mode) => TracedStep::Reg(parent, child, mode),
         Event::Sig(task, number) => TracedStep::Sig(task, number),
         Event::Claim(task) => TracedStep::Claim(task),
@@ -65,7 +65,7 @@ fn phaser_entry(phaser: u32, history: &History, tickets: &[u64], place: usize) -
     requires within { place < length tickets.now }
     ensures { slice_get (phaser_told phaser history.now tickets.now) place ≡ Some result }
 {
-    let step = step_told(history.ops(), history.events()[place]);
+    let step = step_told(history.terms(), history.events()[place]);
     (tickets[place], TracedEvent::Phaser(phaser, step))
 }
 

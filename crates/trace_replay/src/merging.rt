@@ -5,6 +5,7 @@ ghost use Rattle.trace_model.specs.Parts.{rises, IsTraceOf};
 ghost use Rattle.trace_replay.specs.Merging.{marked_after, all_marked, IsMerged, is_fault, Traces, Merges};
 
 use crate::turns::merged_in_turn;
+use phase_model::{Bound, Terms};
 use phase_modes::{Limits, Refusal};
 use std::alloc::{AllocError, Global};
 use trace_model::{Part, Trace, TracedEvent, TracedStep};
@@ -26,6 +27,8 @@ fn mark_part(marks: &mut Vec<Mark>, part: &Part) -> Result<(), AllocError>
     let _step: Option<TracedStep> = None;
     let _begun: Option<Begun> = None;
     let _tried: Option<Tried> = None;
+    let _terms: Option<Terms> = None;
+    let _bound: Option<Bound> = None;
     let mut most = 0;
     for place in 0..part.len() {
         let (ticket, event) = part.entry(place);

@@ -6,6 +6,7 @@ ghost use Rattle.trace_model.specs.Explained.{may_follow};
 ghost use Rattle.trace_replay.specs.Replaying.{Replays};
 ghost use Rattle.trace_replay.specs.inner.HandedOver.{HandedOver, HandsOver, Plays, is_later_than};
 
+use phase_model::{Bound, Terms};
 use phase_modes::{Limits, Refusal};
 use std::alloc::Global;
 use trace_model::{Trace, TracedEvent, TracedStep};
@@ -72,6 +73,8 @@ impl Player {
         let _step: Option<TracedStep> = None;
         let _begun: Option<Begun> = None;
         let _tried: Option<Tried> = None;
+        let _terms: Option<Terms> = None;
+        let _bound: Option<Bound> = None;
         for index in 0..trace.len() {
             let (ticket, event) = trace.entry(index);
             if !self.take(ticket, &event) {

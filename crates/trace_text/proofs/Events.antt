@@ -1,6 +1,6 @@
 -- An event that has a form is the form of its JSON.
-use Rattle.std.proofs.Common.{◌≡◌, ℕ, ℤ, pos, negsuc, ◌-◌, ◌^◌, ◌&&◌, true, nat_le, nat_lt, List, [], ◌∷◌, map, length, Some, None, codes, option_map, refl, ap, ◌∙◌, arith}
-use Rattle.std.proofs.lemmas.Bool.{and_parts, ltb-false, lt-ltb, not-true}
+use Rattle.std.proofs.Common.{◌≡◌, ℕ, ℤ, pos, negsuc, ◌-◌, ◌^◌, ◌&&◌, true, not, nat_le, nat_lt, List, [], ◌∷◌, map, length, Option, Some, None, is_some, codes, option_map, refl, ap, sym, ◌∙◌, arith}
+use Rattle.std.proofs.lemmas.Bool.{and_parts, ltb-false, lt-ltb, not-true, false≢true}
 use Rattle.std.specs.List.{list_all}
 use Rattle.serde_json.specs.Data.{string}
 use Rattle.serde_json.specs.View.{items_of}
@@ -9,6 +9,7 @@ use Rattle.phase_modes.specs.declared.reg.Mode.TheVariants.{Sig, Wait, SigWait, 
 use Rattle.phase_modes.specs.declared.phased.Pair.{Pair}
 use Rattle.phase_model.specs.declared.op.Op.{Op}
 use Rattle.phase_model.specs.declared.op.Op.TheVariants.{Sum, Least, Greatest}
+use Rattle.phase_model.specs.declared.terms.Terms.{Terms}
 use Rattle.phase_model.specs.declared.op.Look.{Look}
 use Rattle.phase_model.specs.declared.op.Look.TheVariants.{Value, Nothing}
 use Rattle.finish_core.specs.declared.event.FinishEvent.{FinishEvent}
@@ -22,8 +23,8 @@ use Rattle.trace_model.specs.declared.event.TracedStep.TheVariants as step
 use Rattle.trace_model.specs.declared.event.TracedEvent.{TracedEvent}
 use Rattle.trace_model.specs.declared.event.TracedEvent.TheVariants.{Phaser, Finish, Begin, Refuse, Fail}
 use Rattle.text_words.specs.Words.{◌>>=◌, signed_in, value_in, mode_in, op_in, all_in, ops_in, at_most}
-use Rattle.trace_text.specs.Form.{is_refusal, make_in, reg_in, sig_in, task_step_in, send_in, seen_in, look_in, step_in, finish_event_in, pair_in, pairs_in, async_in, single_in, bare_act_in, begun_in, new_in, open_in, send_act_in, look_act_in, tried_in, begin_in, refuse_in, fail_in, log_entry_in, event_in, entry_in}
-use Rattle.trace_text.specs.Text.{list, whole, signed, mode_data, op_data, ops_data, seen_data, step_items, finish_items, pair_data, pairs_data, begun_items, tried_items, event_items, entry_data, is_wide, is_value, is_number, is_index, seen_has_form, step_has_form, finish_has_form, begun_has_form, tried_has_form, event_has_form, entry_has_form}
+use Rattle.trace_text.specs.Form.{unbounded, is_refusal, make_in, reg_in, sig_in, task_step_in, send_in, seen_in, look_in, step_in, finish_event_in, pair_in, pairs_in, async_in, single_in, bare_act_in, begun_in, new_in, open_in, send_act_in, look_act_in, tried_in, begin_in, refuse_in, fail_in, log_entry_in, event_in, entry_in}
+use Rattle.trace_text.specs.Text.{list, whole, signed, mode_data, op_data, ops_data, seen_data, step_items, finish_items, pair_data, pairs_data, begun_items, tried_items, event_items, entry_data, is_wide, is_value, is_number, is_index, seen_has_form, terms_have_form, step_has_form, finish_has_form, begun_has_form, tried_has_form, event_has_form, entry_has_form}
 
 -- ---- words and numbers
 
@@ -48,6 +49,14 @@ ops_from_back (op ∷ ops) = rw (op_back op, ops_from_back ops) refl
 ops_back : (ops : List Op) → nat_le (length ops) 4 ≡ true → ops_in (ops_data ops) ≡ Some ops
 ops_back ops few = ap (at_most 4) (ops_from_back ops) ∙ rw few refl
 
+none_is : (o : Option ℕ) → not (is_some o) ≡ true → o ≡ None
+none_is None h = refl
+none_is (Some b) h = absurd (false≢true h)
+
+-- what has no bound is read as it was
+unbounded_back : (terms : Terms) → not (is_some terms.bound) ≡ true → unbounded terms.ops ≡ terms
+unbounded_back terms h = ap (λ (b : Option ℕ). record { ops = terms.ops; bound = b }) (sym (none_is terms.bound h))
+
 wide_back : (z : ℤ) → is_wide z ≡ true → signed_in (signed z) ≡ Some z
 wide_back (pos n) h = rw h refl
 wide_back (negsuc n) h = refl
@@ -67,7 +76,10 @@ seen_back (Value z) h = ap (option_map Value) (wide_back z h)
 
 pub step_back : (ticket ph : ℕ) (s : TracedStep) → step_has_form s ≡ true → step_in (list (whole ticket ∷ string (codes "p") ∷ whole ph ∷ step_items s)) ≡ Some s
 unfolding step_in make_in reg_in sig_in task_step_in send_in look_in
-step_back ticket ph (step.Make t m ops) h = let p = and_parts (is_number t) (nat_le (length ops) 4) h in rw (p.0, mode_back m, ops_back ops p.1) refl
+step_back ticket ph (step.Make t m terms) h =
+    let p = and_parts (is_number t) (terms_have_form terms) h in
+    let q = and_parts (nat_le (length terms.ops) 4) (not (is_some terms.bound)) p.1 in
+    rw (p.0, mode_back m, ops_back terms.ops q.0) (ap (λ (x : Terms). Some (step.Make t m x)) (unbounded_back terms q.1))
 step_back ticket ph (step.Reg q t m) h = let p = and_parts (is_number q) (is_number t) h in rw (p.0, p.1, mode_back m) refl
 step_back ticket ph (step.Sig t None) h = rw h refl
 step_back ticket ph (step.Sig t (Some n)) h = let p = and_parts (is_number t) (is_number n) h in rw (p.0, p.1) refl
@@ -136,7 +148,10 @@ begun_is_tried begun.End = refl
 tried_back : (act : Tried) → tried_has_form act ≡ true → tried_in (list (tried_items act)) ≡ Some act
 unfolding tried_in new_in open_in send_act_in look_act_in
 tried_back (tried.Begun act) h = begun_is_tried act ∙ ap (λ o. o >>= λ a. Some (tried.Begun a)) (begun_back act h)
-tried_back (tried.New ph m ops) h = let p = and_parts (is_number ph) (nat_le (length ops) 4) h in rw (p.0, mode_back m, ops_back ops p.1) refl
+tried_back (tried.New ph m terms) h =
+    let p = and_parts (is_number ph) (terms_have_form terms) h in
+    let q = and_parts (nat_le (length terms.ops) 4) (not (is_some terms.bound)) p.1 in
+    rw (p.0, mode_back m, ops_back terms.ops q.0) (ap (λ (x : Terms). Some (tried.New ph m x)) (unbounded_back terms q.1))
 tried_back (tried.Open f) h = rw h refl
 tried_back (tried.Send ph a v) h =
     let p = and_parts (is_number ph && is_index a) (is_value v) h in

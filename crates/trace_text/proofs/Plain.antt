@@ -28,7 +28,7 @@ use Rattle.trace_model.specs.declared.event.TracedEvent.TheVariants.{Phaser, Fin
 use Rattle.trace_text.specs.Json.{IsPlain, ArePlain}
 use Rattle.trace_text.specs.Form.{is_refusal}
 use Rattle.trace_model.specs.Run.{Run}
-use Rattle.trace_text.specs.Text.{list, whole, signed, mode_data, op_data, ops_data, seen_data, step_items, finish_items, pair_data, begun_items, tried_items, event_items, entry_data, limits_data, trace_data, is_wide, is_value, is_number, is_index, seen_has_form, step_has_form, finish_has_form, begun_has_form, tried_has_form, event_has_form, entry_has_form, has_form}
+use Rattle.trace_text.specs.Text.{list, whole, signed, mode_data, op_data, ops_data, seen_data, step_items, finish_items, pair_data, begun_items, tried_items, event_items, entry_data, limits_data, trace_data, is_wide, is_value, is_number, is_index, seen_has_form, terms_have_form, step_has_form, finish_has_form, begun_has_form, tried_has_form, event_has_form, entry_has_form, has_form}
 use Rattle.trace_text.proofs.Events.{value_is_wide}
 
 -- it is plain, and nests no deeper than this
@@ -93,9 +93,9 @@ seen_fits k Nothing h = (tt, omega arith)
 -- ---- events
 
 steps_fit : (k : ℕ) (s : TracedStep) → step_has_form s ≡ true → AllFit (suc k) (step_items s)
-steps_fit k (step.Make t m ops) h =
-    let p = and_parts (is_number t) (nat_le (length ops) 4) h in
-    (word_fits (suc k) _ refl, (number_fits (suc k) t p.0, (mode_fits (suc k) m, (ops_fit k ops, tt))))
+steps_fit k (step.Make t m terms) h =
+    let p = and_parts (is_number t) (terms_have_form terms) h in
+    (word_fits (suc k) _ refl, (number_fits (suc k) t p.0, (mode_fits (suc k) m, (ops_fit k terms.ops, tt))))
 steps_fit k (step.Reg q t m) h =
     let p = and_parts (is_number q) (is_number t) h in
     (word_fits (suc k) _ refl, (number_fits (suc k) q p.0, (number_fits (suc k) t p.1, (mode_fits (suc k) m, tt))))
@@ -142,9 +142,9 @@ begun_fit k begun.End h = (word_fits (suc (suc k)) _ refl, tt)
 
 tried_fit : (k : ℕ) (act : Tried) → tried_has_form act ≡ true → AllFit (suc (suc k)) (tried_items act)
 tried_fit k (tried.Begun act) h = begun_fit k act h
-tried_fit k (tried.New ph m ops) h =
-    let p = and_parts (is_number ph) (nat_le (length ops) 4) h in
-    (word_fits (suc (suc k)) _ refl, (number_fits (suc (suc k)) ph p.0, (mode_fits (suc (suc k)) m, (ops_fit (suc k) ops, tt))))
+tried_fit k (tried.New ph m terms) h =
+    let p = and_parts (is_number ph) (terms_have_form terms) h in
+    (word_fits (suc (suc k)) _ refl, (number_fits (suc (suc k)) ph p.0, (mode_fits (suc (suc k)) m, (ops_fit (suc k) terms.ops, tt))))
 tried_fit k (tried.Open f) h = (word_fits (suc (suc k)) _ refl, (number_fits (suc (suc k)) f h, tt))
 tried_fit k (tried.Send ph a v) h =
     let p = and_parts (is_number ph && is_index a) (is_value v) h in

@@ -5,8 +5,10 @@ use Rattle.serde_json.specs.Data.{Data, null, boolean, number, string, array, ob
 use Rattle.serde_json.specs.Find.{get, at, as_array}
 use Rattle.phase_modes.specs.declared.limits.Limits.{Limits}
 use Rattle.phase_modes.specs.declared.phased.Pair.{Pair}
+use Rattle.phase_model.specs.declared.op.Op.{Op}
 use Rattle.phase_model.specs.declared.op.Look.{Look}
 use Rattle.phase_model.specs.declared.op.Look.TheVariants.{Value, Nothing}
+use Rattle.phase_model.specs.declared.terms.Terms.{Terms}
 use Rattle.finish_core.specs.declared.event.FinishEvent.{FinishEvent}
 use Rattle.finish_core.specs.declared.event.FinishEvent.TheVariants.{Opened, Spawned, Ended, Shut}
 use Rattle.world_model.specs.declared.event.Begun.{Begun}
@@ -20,13 +22,17 @@ use Rattle.trace_model.specs.declared.event.TracedEvent.TheVariants.{Phaser, Fin
 use Rattle.text_words.specs.Words.{◌>>=◌, whole_in, signed_in, ends_at, word_at, number_at, accumulator_at, value_at, mode_at, all_in, at_most, numbered_in, ops_at, has_only, limits_of}
 use Rattle.trace_model.specs.Run.{Run}
 
+-- what a phaser with these operators is made with: no text says a bound
+abbrev pub unbounded : List Op → Terms
+unbounded ops = record { ops = ops; bound = None }
+
 -- ---- steps on a phaser; the name of the step is the item 3, after the ticket, "p" and the phaser
 
 -- "make", t, mode, [ops]
 unfoldable pub make_in : Data → Option TracedStep
 make_in d =
     if not (ends_at 7 d) then None
-    else (number_at 4 d >>= λ t. mode_at 5 d >>= λ m. ops_at 6 d >>= λ ops. Some (step.Make t m ops))
+    else (number_at 4 d >>= λ t. mode_at 5 d >>= λ m. ops_at 6 d >>= λ ops. Some (step.Make t m (unbounded ops)))
 
 -- "reg", q, t, mode
 unfoldable pub reg_in : Data → Option TracedStep
@@ -139,7 +145,8 @@ begun_in d = word_at 0 d >>= λ name.
 unfoldable pub new_in : Data → Option Tried
 new_in d =
     if not (ends_at 4 d) then None
-    else (number_at 1 d >>= λ ph. mode_at 2 d >>= λ m. ops_at 3 d >>= λ ops. Some (tried.New ph m ops))
+    else (number_at 1 d >>= λ ph. mode_at 2 d >>= λ m. ops_at 3 d >>= λ ops.
+    Some (tried.New ph m (unbounded ops)))
 
 -- ["open", f]
 unfoldable pub open_in : Data → Option Tried

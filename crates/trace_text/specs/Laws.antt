@@ -7,7 +7,7 @@ use Rattle.world_model.specs.declared.event.Begun.TheVariants as begun
 use Rattle.trace_model.specs.declared.event.TracedStep.TheVariants as step
 use Rattle.trace_model.specs.declared.event.TracedEvent.TheVariants.{Phaser, Finish, Begin}
 use Rattle.text_words.specs.Reading.{reading}
-use Rattle.trace_text.specs.Form.{form_of}
+use Rattle.trace_text.specs.Form.{unbounded, form_of}
 use Rattle.trace_text.specs.Text.{trace_text, has_form}
 use Rattle.trace_model.specs.Run.{Run}
 
@@ -21,7 +21,7 @@ TracesAreReadBack =
 abbrev pub smallest : Run
 smallest = record {
   limits = default_limits;
-  events = (1, Phaser 0 (step.Make 0 SigWait []))
+  events = (1, Phaser 0 (step.Make 0 SigWait (unbounded [])))
       ∷ (2, Begin 0 begun.Next)
       ∷ (3, Phaser 0 (step.Sig 0 None))
       ∷ (4, Phaser 0 (step.Pass 0))

@@ -1,6 +1,6 @@
 -- The text of a trace, byte for byte: the text of a JSON value, with no blank and the keys of each object in order.
-use Rattle.std.specs.Prelude.{ℕ, ℤ, pos, negsuc, ◌-◌, ◌^◌, ◌&&◌, ◌||◌, not, int_lt, List, [], ◌∷◌, map, length, Bool, true, nat_le, nat_lt, Some, None, codes}
-use Rattle.std.specs.List.{list_all}
+use Rattle.std.specs.Prelude.{ℕ, ℤ, pos, negsuc, ◌-◌, ◌^◌, ◌&&◌, ◌||◌, not, int_lt, List, [], ◌∷◌, map, length, Bool, true, false, nat_le, nat_lt, Some, None, is_some, codes}
+use Rattle.std.specs.List.{list_all, list_any}
 use Rattle.serde_json.specs.Data.{Data, null, number, string, array, object, no_members, member, unsigned}
 use Rattle.serde_json.specs.Find.{of_integer}
 use Rattle.serde_json.specs.View.{items_of}
@@ -11,6 +11,7 @@ use Rattle.phase_modes.specs.declared.phased.Pair.{Pair}
 use Rattle.phase_modes.specs.Mode.{name_of}
 use Rattle.phase_model.specs.declared.op.Op.{Op}
 use Rattle.phase_model.specs.Ops as operators
+use Rattle.phase_model.specs.declared.terms.Terms.{Terms}
 use Rattle.phase_model.specs.declared.op.Look.{Look}
 use Rattle.phase_model.specs.declared.op.Look.TheVariants.{Value, Nothing}
 use Rattle.finish_core.specs.declared.event.FinishEvent.{FinishEvent}
@@ -63,7 +64,7 @@ seen_data Nothing = null
 
 -- a step on a phaser: its name, and what follows
 abbrev pub step_items : TracedStep → List Data
-step_items (step.Make t m ops) = string (codes "make") ∷ whole t ∷ mode_data m ∷ ops_data ops ∷ []
+step_items (step.Make t m terms) = string (codes "make") ∷ whole t ∷ mode_data m ∷ ops_data terms.ops ∷ []
 step_items (step.Reg q t m) = string (codes "reg") ∷ whole q ∷ whole t ∷ mode_data m ∷ []
 step_items (step.Sig t None) = string (codes "sig") ∷ whole t ∷ []
 step_items (step.Sig t (Some n)) = string (codes "sig") ∷ whole t ∷ whole n ∷ []
@@ -102,7 +103,7 @@ begun_items begun.End = string (codes "end") ∷ []
 -- any act: its name, and what follows
 abbrev pub tried_items : Tried → List Data
 tried_items (tried.Begun act) = begun_items act
-tried_items (tried.New ph m ops) = string (codes "new") ∷ whole ph ∷ mode_data m ∷ ops_data ops ∷ []
+tried_items (tried.New ph m terms) = string (codes "new") ∷ whole ph ∷ mode_data m ∷ ops_data terms.ops ∷ []
 tried_items (tried.Open f) = string (codes "open") ∷ whole f ∷ []
 tried_items (tried.Send ph a v) = string (codes "send") ∷ whole ph ∷ whole a ∷ signed v ∷ []
 tried_items (tried.Look ph a) = string (codes "look") ∷ whole ph ∷ whole a ∷ []
@@ -142,6 +143,18 @@ trace_data r = object
 abbrev pub trace_text : Run → List ℕ
 trace_text r = compact_text (trace_data r)
 
+-- ---- which traces have a text: nothing in it would say a bound
+
+-- the event makes a phaser that is bounded, or would have
+abbrev pub has_bound : TracedEvent → Bool
+has_bound (Phaser ph (step.Make t m terms)) = is_some terms.bound
+has_bound (Refuse t (tried.New ph m terms) n) = is_some terms.bound
+has_bound _ = false
+
+-- one of its events does
+abbrev pub has_bounds : Run → Bool
+has_bounds r = list_any (λ e. has_bound e.1) r.events
+
 -- ---- which events have a form: their numbers are in range, and their lists are short enough
 
 -- the number of a task, a phaser, a finish or a single
@@ -166,9 +179,13 @@ abbrev pub seen_has_form : Look → Bool
 seen_has_form (Value z) = is_wide z
 seen_has_form Nothing = true
 
+-- a phaser has at most four accumulators, and no text says its bound
+abbrev pub terms_have_form : Terms → Bool
+terms_have_form terms = nat_le (length terms.ops) 4 && not (is_some terms.bound)
+
 -- the numbers of a step
 abbrev pub step_has_form : TracedStep → Bool
-step_has_form (step.Make t m ops) = is_number t && nat_le (length ops) 4
+step_has_form (step.Make t m terms) = is_number t && terms_have_form terms
 step_has_form (step.Reg q t m) = is_number q && is_number t
 step_has_form (step.Sig t None) = is_number t
 step_has_form (step.Sig t (Some n)) = is_number t && is_number n
@@ -200,7 +217,7 @@ begun_has_form begun.End = true
 -- those of any act
 abbrev pub tried_has_form : Tried → Bool
 tried_has_form (tried.Begun act) = begun_has_form act
-tried_has_form (tried.New ph m ops) = is_number ph && nat_le (length ops) 4
+tried_has_form (tried.New ph m terms) = is_number ph && terms_have_form terms
 tried_has_form (tried.Open f) = is_number f
 tried_has_form (tried.Send ph a v) = is_number ph && is_index a && is_value v
 tried_has_form (tried.Look ph a) = is_number ph && is_index a

@@ -8,7 +8,7 @@ ghost use Rattle.text_words.specs.Reading.{reading, Gives};
 ghost use Rattle.trace_model.specs.declared.event.TracedStep.TheVariants as step;
 
 use finish_core::FinishEvent;
-use phase_model::Look;
+use phase_model::{Look, Terms};
 use phase_modes::{Limits, Pair, Phased, Refusal};
 use serde_json::Value;
 use std::alloc::Global;
@@ -31,7 +31,7 @@ fn make_of(list: &Value) -> Option<TracedStep>
     let task = number_at(list, 4)?;
     let mode = mode_at(list, 5)?;
     let ops = ops_at(list, 6)?;
-    Some(TracedStep::Make(task, mode, ops))
+    Some(TracedStep::Make(task, mode, Terms { ops, bound: None }))
 }
 
 #[tactic(auto, unfolding(crate::specs::Form::reg_in))]
@@ -295,7 +295,7 @@ fn new_of(list: &Value) -> Option<Tried>
     let phaser = number_at(list, 1)?;
     let mode = mode_at(list, 2)?;
     let ops = ops_at(list, 3)?;
-    Some(Tried::New(phaser, mode, ops))
+    Some(Tried::New(phaser, mode, Terms { ops, bound: None }))
 }
 
 #[tactic(auto, unfolding(crate::specs::Form::open_in))]

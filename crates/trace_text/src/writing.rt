@@ -1,9 +1,9 @@
 //! Writes a trace as text, with no blank.
-ghost use Rattle.std.specs.Prelude.{◌≡◌, ◌++◌, ◌∷◌, [], map, string_bytes, nat_lt, IfOk, IfErr, true, decimal};
+ghost use Rattle.std.specs.Prelude.{◌≡◌, ◌++◌, ◌∷◌, [], map, string_bytes, nat_lt, IfOk, OnOk, IfErr, true, false, if◌then◌else◌, decimal};
 ghost use Rattle.trace_model.specs.declared.event.TracedEvent.TheVariants.{Refuse};
 ghost use Rattle.serde_json.specs.Written.{compact_text, comma_if};
 ghost use Rattle.trace_text.specs.Writing.{Appends};
-ghost use Rattle.trace_text.specs.Text.{list, rest_text, mode_data, op_data, ops_data, seen_data, step_items, finish_items, pair_data, pairs_data, begun_items, tried_items, event_items, entry_data, limits_data, trace_text};
+ghost use Rattle.trace_text.specs.Text.{list, rest_text, mode_data, op_data, ops_data, seen_data, step_items, finish_items, pair_data, pairs_data, begun_items, tried_items, event_items, entry_data, limits_data, trace_text, has_bound, has_bounds};
 
 use finish_core::FinishEvent;
 use phase_model::{Look, Op};
@@ -73,11 +73,11 @@ fn write_step(out: &mut String, step: &TracedStep) -> Result<(), AllocError>
     ensures { Appends result out.old out.new (rest_text (step_items step.now)) }
 {
     match step {
-        TracedStep::Make(task, mode, ops) => {
+        TracedStep::Make(task, mode, terms) => {
             write!(out, ",\"make\",{task},")?;
             write_mode(out, *mode)?;
             out.push_str(",")?;
-            write_ops(out, ops.as_slice())?;
+            write_ops(out, terms.ops.as_slice())?;
             out.push_str("]")
         }
         TracedStep::Reg(parent, child, mode) => {
@@ -163,11 +163,11 @@ fn write_tried(out: &mut String, act: &Tried) -> Result<(), AllocError>
 {
     match act {
         Tried::Begun(act) => write_begun(out, act),
-        Tried::New(phaser, mode, ops) => {
+        Tried::New(phaser, mode, terms) => {
             write!(out, "[\"new\",{phaser},")?;
             write_mode(out, *mode)?;
             out.push_str(",")?;
-            write_ops(out, ops.as_slice())?;
+            write_ops(out, terms.ops.as_slice())?;
             out.push_str("]")
         }
         Tried::Open(finish) => write!(out, "[\"open\",{finish}]"),
@@ -265,13 +265,43 @@ fn write_trace(out: &mut String, trace: &Trace) -> Result<(), AllocError>
     Ok(())
 }
 
-/// The text of the trace: version 1, no blank and no newline, all six limits. `Memory` where there
-/// is too little for it. Any trace has a text; it is read again where each number of a refusal in
-/// it is one, 1 to 26.
+/// Whether the event makes a phaser that is bounded, or would have.
+fn has_bound(event: &TracedEvent) -> bool
+    ensures { result ≡ has_bound event.now }
+{
+    match event {
+        TracedEvent::Phaser(_, TracedStep::Make(_, _, terms)) => terms.bound.is_some(),
+        TracedEvent::Refuse(_, Tried::New(_, _, terms), _) => terms.bound.is_some(),
+        _ => false,
+    }
+}
+
+/// Whether one of the trace's events does.
+fn has_bounds(trace: &Trace) -> bool
+    ensures { result ≡ has_bounds trace.now }
+{
+    for index in 0..trace.len() {
+        let (_, event) = trace.entry(index);
+        if has_bound(&event) {
+            return true;
+        }
+    }
+    false
+}
+
+/// The text of the trace: version 1, no blank and no newline, all six limits. `NotNow` where a
+/// phaser in it is bounded, or a refused act would have made one that is: no text says a bound.
+/// Else `Memory` where there is too little for it. Any other trace has a text; it is read again
+/// where each number of a refusal in it is one, 1 to 26.
 pub fn to_json(alloc: Global, trace: &Trace) -> Result<String, Refusal>
     ensures text { IfOk result (λ text. string_bytes text ≡ trace_text trace.now) }
-    ensures memory { IfErr result (λ r. r ≡ Refusal.Memory) }
+    ensures unbounded { OnOk result (has_bounds trace.now ≡ false) }
+    ensures refused { IfErr result (λ r.
+        r ≡ (if has_bounds trace.now then Refusal.NotNow else Refusal.Memory)) }
 {
+    if has_bounds(trace) {
+        return Err(Refusal::NotNow);
+    }
     let mut text = String::new(alloc);
     write_trace(&mut text, trace)?;
     Ok(text)

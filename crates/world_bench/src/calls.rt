@@ -4,7 +4,7 @@ ghost use Rattle.phase_modes.specs.Limits.{limits_fit};
 
 use phase_model::Ops;
 use phase_modes::{Limits, Mode, Refusal};
-use phaser_core::{Passing, PhaserState};
+use phaser_core::{Passing, PhaserState, Signalling};
 use std::alloc::Global;
 
 /// How many calls a turn of both tasks takes.
@@ -19,7 +19,7 @@ fn phaser(
 ) -> Result<PhaserState, Refusal>
     requires { limits_fit limits ≡ true }
 {
-    let mut state = PhaserState::new(alloc, limits, Ops::none())?;
+    let mut state = PhaserState::new(alloc, limits, Ops::none(), None)?;
     state.make(0, Mode::SigWait)?;
     state.register(0, signaller, Mode::Sig)?;
     state.register(0, waiter, Mode::Wait)?;
@@ -29,7 +29,7 @@ fn phaser(
 
 /// 1 where the task signals.
 fn signal(state: &mut PhaserState, task: u32) -> u64 {
-    u64::from(state.signal(task, None).is_ok())
+    u64::from(matches!(state.signal(task, None), Ok(Signalling::Signalled)))
 }
 
 /// 1 where the task passes.

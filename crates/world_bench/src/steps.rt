@@ -3,7 +3,7 @@ ghost use Rattle.std.specs.Prelude.{◌≡◌, true};
 ghost use Rattle.phase_modes.specs.Limits.{limits_fit};
 
 use finish_core::FinishEvent;
-use phase_model::Ops;
+use phase_model::Terms;
 use phase_modes::{Limits, Mode, Pair, Phased, Refusal};
 use std::alloc::Global;
 use world_core::World;
@@ -19,9 +19,9 @@ fn on(phaser: u32, step: Step) -> WorldEvent {
     WorldEvent::Phaser(phaser, step)
 }
 
-/// The task makes the phaser, without accumulators.
+/// The task makes the phaser, without accumulators and unbounded.
 fn made(phaser: u32, task: u32) -> WorldEvent {
-    on(phaser, Step::Make(task, Mode::SigWait, Ops::none()))
+    on(phaser, Step::Make(task, Mode::SigWait, Terms::none()))
 }
 
 /// The pairs of a spawn on these phasers.

@@ -9,24 +9,25 @@ use Rattle.phase_modes.specs.declared.limits.Limits.{Limits}
 use Rattle.phase_modes.specs.declared.refusal.Refusal.{Refusal}
 use Rattle.phase_modes.specs.declared.refusal.Refusal.TheVariants.{NotNow}
 use Rattle.phase_model.specs.declared.history.Event.{Event}
-use Rattle.phase_model.specs.declared.history.Event.TheVariants.{Claim as Claimed, Pass as Passed}
-use Rattle.phase_model.specs.declared.call.Call.TheVariants.{Pass as pass}
+use Rattle.phase_model.specs.declared.history.Event.TheVariants.{Sig as Signed, Claim as Claimed, Pass as Passed}
+use Rattle.phase_model.specs.declared.call.Call.TheVariants.{Signal as signal, Pass as pass}
 use Rattle.phase_model.specs.Conditions.{conditions}
 use Rattle.phase_model.specs.Rules.{Story, is_permitted, has_room}
-use Rattle.phase_model.specs.Tasks.{has_mode}
+use Rattle.phase_model.specs.Tasks.{is_live, has_mode}
+use Rattle.phase_model.specs.Phases.{signals, is_within_bound}
 use Rattle.phase_model.specs.Replies as phaser
 use Rattle.phase_model.specs.Replies.{settled}
-use Rattle.phase_model.specs.Waiting.{would_wait, is_not_yet}
+use Rattle.phase_model.specs.Waiting.{would_wait, signal_would_wait, is_not_yet}
 use Rattle.phase_modes.specs.Mode.{can_wait}
 use Rattle.phase_modes.specs.Refusal.{first_refusal}
 use Rattle.finish_core.specs.Finish.{FinishStory, all_ended}
 use Rattle.finish_core.specs.declared.event.FinishEvent.TheVariants.{Shut as Shutting}
 use Rattle.world_model.specs.declared.reply.Reply.{Reply}
 use Rattle.world_model.specs.declared.reply.Reply.TheVariants.{NotYet}
-use Rattle.world_model.specs.declared.event.Step.TheVariants.{Pass}
+use Rattle.world_model.specs.declared.event.Step.TheVariants.{Sig, Pass}
 use Rattle.world_model.specs.declared.event.WorldEvent.{WorldEvent}
 use Rattle.world_model.specs.declared.event.WorldEvent.TheVariants.{Phaser, Finish, Fail}
-use Rattle.world_model.specs.Parts.{ops_of, phaser_past, finish_past, story_of}
+use Rattle.world_model.specs.Parts.{terms_of, phaser_past, finish_past, story_of}
 use Rattle.world_model.specs.Tasks.{is_born, is_ended}
 use Rattle.world_model.specs.Actors.{actor}
 use Rattle.world_model.specs.Due.{due, is_idle, next_event, or_single}
@@ -36,7 +37,7 @@ use Rattle.world_model.specs.GivingUp.{may_fail, is_reg}
 use Rattle.world_model.specs.Replies.{reply, is_made, is_accepted, is_legal_world}
 use Rattle.world_model.specs.Able.{is_able}
 use Rattle.world_model.proofs.AgentOfTask.{unborn_idle}
-use Rattle.world_model.proofs.AbleOrWaits.{WaitsToPass, WaitsToShut, pass_causeless, next_by}
+use Rattle.world_model.proofs.AbleOrWaits.{WaitsToPass, WaitsToSignal, WaitsAtPhaser, WaitsToShut, pass_causeless, next_by}
 use Rattle.world_model.proofs.MadeOrGivesUp.{next_is as next_due}
 use Rattle.world_model.proofs.OutcomeOfEach.{outcome}
 use Rattle.world_core.specs.WorldState.{WorldState}
@@ -47,6 +48,7 @@ use Rattle.world_core.proofs.NextRead.{next_is}
 -- what comes next has to wait
 abbrev waits_in : Limits → List WorldEvent → Option WorldEvent → Bool
 waits_in l w (Some (Phaser n (Pass t))) = would_wait (story_of l n w) t
+waits_in l w (Some (Phaser n (Sig t x))) = signal_would_wait (story_of l n w) t x
 waits_in l w (Some (Finish f Shutting)) = not (all_ended (finish_past f w))
 waits_in l w _ = false
 
@@ -104,6 +106,8 @@ module _ (l : Limits) (w : List WorldEvent) (t : ℕ) where
   waits_not_able : (o : Option WorldEvent) → next_event l t w ≡ o → waits_in l w o ≡ true → is_able l w t ≡ false
   waits_not_able (Some (Phaser n (Pass u))) next h =
       not_able (Phaser n (Pass u)) next (not_yet_by (phaser_past n w) (phaser.reply (story_of l n w) (pass u)) h) refl refl (some_due None (Phaser n (Pass u)) (due t w) next)
+  waits_not_able (Some (Phaser n (Sig u x))) next h =
+      not_able (Phaser n (Sig u x)) next (not_yet_by (phaser_past n w) (phaser.reply (story_of l n w) (signal u x)) h) refl refl (some_due None (Phaser n (Sig u x)) (due t w) next)
   waits_not_able (Some (Finish f Shutting)) next h =
       not_able (Finish f Shutting) next (open_shut (all_ended (finish_past f w)) _ h) refl refl (some_due None (Finish f Shutting) (due t w) next)
     where
@@ -114,18 +118,28 @@ module _ (l : Limits) (w : List WorldEvent) (t : ℕ) where
 
   -- a task that goes on and doesn't wait is able
   module _ (k : is_legal_world l w ≡ true) (born : is_born t w ≡ true) (going : is_ended t w ≡ false) where
-    waits_pass : WaitsToPass l t w → waits_in l w (next_event l t w) ≡ true
-    waits_pass p =
-        let n = p.on in
+    waits_pass : (n : ℕ) → is_live t (phaser_past n w) ≡ true → WaitsToPass l t n w → waits_in l w (next_event l t w) ≡ true
+    waits_pass n live p =
         let h = phaser_past n w in
         let next : next_event l t w ≡ Some (Phaser n (Pass t)) = next_by l w k t born going n p.rest false false p.is p.no_claim p.no_did in
-        let free : first_refusal (conditions l (ops_of n w) h (pass t)) ≡ None = pass_causeless l w k t born going n p.live p.signalled in
+        let free : first_refusal (conditions l (terms_of n w) h (pass t)) ≡ None = pass_causeless l w k t born going n live p.signalled in
         subst (λ o. waits_in l w o ≡ true) (sym next)
-        (answered (first_refusal (conditions l (ops_of n w) h (pass t))) (has_mode can_wait t h) (is_permitted l (ops_of n w) h (Passed t)) (is_permitted l (ops_of n w) h (Claimed t))
-        (has_room l (phaser.event_for l (ops_of n w) h (pass t) ∷ h)) (phaser.event_for l (ops_of n w) h (pass t)) free p.waiter p.no_pass p.no_claim)
+        (answered (first_refusal (conditions l (terms_of n w) h (pass t))) (has_mode can_wait t h) (is_permitted l (terms_of n w) h (Passed t)) (is_permitted l (terms_of n w) h (Claimed t))
+        (has_room l (phaser.event_for l (terms_of n w) h (pass t) ∷ h)) (phaser.event_for l (terms_of n w) h (pass t)) free p.waiter p.no_pass p.no_claim)
       where
         answered : (o : Option Refusal) (a b c room : Bool) (e : Event) → o ≡ None → a ≡ true → b ≡ false → c ≡ false → is_not_yet (settled o (a && not b && not c) room e) ≡ true
         answered o a b c room e x y z v = rw (x, y, z, v) refl
+
+    waits_signal : (n : ℕ) → WaitsToSignal l t n w → waits_in l w (next_event l t w) ≡ true
+    waits_signal n p =
+        let h = phaser_past n w in
+        let e = Phaser n (Sig t p.number) in
+        subst (λ o. waits_in l w o ≡ true) (sym (next_due l w t going e p.rest p.is))
+        (held (first_refusal (conditions l (terms_of n w) h (signal t p.number))) (is_within_bound (terms_of n w).bound (signals t h) h) (has_room l (Signed t p.number ∷ h))
+        (Signed t p.number) p.causeless p.held)
+      where
+        held : (o : Option Refusal) (near room : Bool) (e : Event) → o ≡ None → near ≡ false → is_not_yet (settled o (not near) room e) ≡ true
+        held o near room e x y = rw (x, y) refl
 
     waits_shut : WaitsToShut t w → waits_in l w (next_event l t w) ≡ true
     waits_shut p =
@@ -137,13 +151,17 @@ module _ (l : Limits) (w : List WorldEvent) (t : ℕ) where
           | inl able ↦ able
           | inr r ↦
               elim r [
-                | inl p ↦ absurd (true≢false (sym (waits_pass p) ∙ h))
+                | inl p ↦ elim p.how [
+                  | inl q ↦ absurd (true≢false (sym (waits_pass p.on p.live q) ∙ h))
+                  | inr q ↦ absurd (true≢false (sym (waits_signal p.on q) ∙ h))
+                ]
                 | inr p ↦ absurd (true≢false (sym (waits_shut p) ∙ h))
               ]
         ]
 
 waits_same : (s : WorldState) (w : List WorldEvent) → StandsFor w s → (o : Option WorldEvent) → waits_at s o ≡ waits_in s.limits w o
 waits_same s w st (Some (Phaser n (Pass t))) = ap (λ (y : Story). would_wait y t) (st.phasers n).story
+waits_same s w st (Some (Phaser n (Sig t x))) = ap (λ (y : Story). signal_would_wait y t x) (st.phasers n).story
 waits_same s w st (Some (Finish f Shutting)) = ap (λ (y : FinishStory). not (all_ended y.past)) (st.finishes f).story
 waits_same s w st o = refl
 

@@ -10,7 +10,7 @@ use Rattle.world_core.specs.TaskState.{TaskState}
 use Rattle.world_core.specs.WorldState.{WorldState}
 use Rattle.world_core.specs.Kept.{blank_task, blank_story, task_at, story_at}
 use Rattle.world_core.specs.inner.Steps.{with_task}
-use Rattle.world_model.specs.Parts.{ops_of, phaser_past, event_for, story_of}
+use Rattle.world_model.specs.Parts.{terms_of, phaser_past, event_for, story_of}
 use Rattle.world_model.specs.Scopes.{enclosing}
 use Rattle.world_model.specs.Actors.{actor}
 use Rattle.world_model.specs.Replies.{is_accepted, is_legal_world}
@@ -18,16 +18,16 @@ use Rattle.world_core.specs.StandsFor.{TaskStands, StandsFor}
 use Rattle.world_core.proofs.TableReads.{read_set}
 use Rattle.world_core.proofs.Quiet.{IsQuiet, other_step}
 
-ops_same : (n m : ℕ) (s : Step) (w : List WorldEvent) → IsQuiet s → ops_of m (Phaser n s ∷ w) ≡ ops_of m w
-ops_same n m (Make t x o) w q = absurd q
-ops_same n m (Reg p t x) w q = absurd q
-ops_same n m (Drop t) w q = absurd q
-ops_same n m (Sig t x) w q = refl
-ops_same n m (Claim t) w q = refl
-ops_same n m (Did t) w q = refl
-ops_same n m (Pass t) w q = refl
-ops_same n m (Send t a v) w q = refl
-ops_same n m (Look t a) w q = refl
+terms_same : (n m : ℕ) (s : Step) (w : List WorldEvent) → IsQuiet s → terms_of m (Phaser n s ∷ w) ≡ terms_of m w
+terms_same n m (Make t x o) w q = absurd q
+terms_same n m (Reg p t x) w q = absurd q
+terms_same n m (Drop t) w q = absurd q
+terms_same n m (Sig t x) w q = refl
+terms_same n m (Claim t) w q = refl
+terms_same n m (Did t) w q = refl
+terms_same n m (Pass t) w q = refl
+terms_same n m (Send t a v) w q = refl
+terms_same n m (Look t a) w q = refl
 
 enclosing_same : (n m : ℕ) (s : Step) (w : List WorldEvent) → IsQuiet s → enclosing m (Phaser n s ∷ w) ≡ enclosing m w
 enclosing_same n m (Make t x o) w q = absurd q
@@ -42,17 +42,17 @@ enclosing_same n m (Look t a) w q = refl
 
 -- the state after a step that phaser n has done, where the acting task's line is k
 abbrev pub stepped : WorldState → List WorldEvent → ℕ → Step → ℕ → TaskState → WorldState
-stepped s w n x t k = with_task (record s { phasers = set s.phasers n (with_event (story_at s n) (event_for (ops_of n w) (phaser_past n w) x)) }) t k
+stepped s w n x t k = with_task (record s { phasers = set s.phasers n (with_event (story_at s n) (event_for (terms_of n w) (phaser_past n w) x)) }) t k
 
 module _ (s : WorldState) (w : List WorldEvent) (n : ℕ) (x : Step) (q : IsQuiet x) (st : StandsFor w s) where
   -- the stories after it
   story_by : (m : ℕ) (b : Bool) → (n == m) ≡ b
-      → cond b (with_event (story_at s n) (event_for (ops_of n w) (phaser_past n w) x)) (story_at s m) ≡ story_of s.limits m (Phaser n x ∷ w)
+      → cond b (with_event (story_at s n) (event_for (terms_of n w) (phaser_past n w) x)) (story_at s m) ≡ story_of s.limits m (Phaser n x ∷ w)
   story_by m true e =
       let same : n ≡ m = eqb-true n m e in
-      rw (ops_same n m x w q, e) (subst (λ v. with_event (story_at s n) (event_for (ops_of n w) (phaser_past n w) x) ≡ record { limits = s.limits; ops = ops_of v w; past = event_for (ops_of v w) (phaser_past v w) x ∷ phaser_past v w }) same
-      (ap (λ y. with_event y (event_for (ops_of n w) (phaser_past n w) x)) (st.phasers n).story))
-  story_by m false e = rw (ops_same n m x w q, e) (st.phasers m).story
+      rw (terms_same n m x w q, e) (subst (λ v. with_event (story_at s n) (event_for (terms_of n w) (phaser_past n w) x) ≡ record { limits = s.limits; terms = terms_of v w; past = event_for (terms_of v w) (phaser_past v w) x ∷ phaser_past v w }) same
+      (ap (λ y. with_event y (event_for (terms_of n w) (phaser_past n w) x)) (st.phasers n).story))
+  story_by m false e = rw (terms_same n m x w q, e) (st.phasers m).story
 
   lines_by : (t u : ℕ) (new old : TaskState) → actor w (Phaser n x) ≡ t → TaskStands s.outers (Phaser n x ∷ w) t new → TaskStands s.outers w u old
       → TaskStands s.outers (Phaser n x ∷ w) u (cond (t == u) new old)
@@ -71,7 +71,7 @@ module _ (s : WorldState) (w : List WorldEvent) (n : ℕ) (x : Step) (q : IsQuie
     outers_size = st.outers_size;
     legal = and_from (is_accepted s.limits w (Phaser n x)) (is_legal_world s.limits w) accepted st.legal;
     phasers = λ m. record {
-      story = read_set s.phasers n m (with_event (story_at s n) (event_for (ops_of n w) (phaser_past n w) x)) (blank_story s.limits) within ∙ story_by m (n == m) refl;
+      story = read_set s.phasers n m (with_event (story_at s n) (event_for (terms_of n w) (phaser_past n w) x)) (blank_story s.limits) within ∙ story_by m (n == m) refl;
       enclosing = (st.phasers m).enclosing ∙ sym (enclosing_same n m x w q);
     };
     finishes = λ f. record { story = (st.finishes f).story; owner = (st.finishes f).owner };

@@ -26,7 +26,7 @@ use Rattle.world_core.specs.declared.plan.Plan.TheVariants as plan
 use Rattle.world_core.specs.TaskState.{TaskState}
 use Rattle.world_core.specs.WorldState.{WorldState}
 use Rattle.world_core.specs.Kept.{blank_task, blank_story, task_at, story_at, is_idle_plan}
-use Rattle.world_model.specs.Parts.{ops_of, phaser_past}
+use Rattle.world_model.specs.Parts.{terms_of, phaser_past}
 use Rattle.world_model.specs.Scopes.{open_finishes}
 use Rattle.world_model.specs.Tasks.{phasers_of, joined_by, is_born}
 use Rattle.world_model.specs.Due.{due, or_single}
@@ -389,9 +389,9 @@ module _ (s : WorldState) (w : List WorldEvent) (n t : ℕ) (st : StandsFor w s)
       ]
 
   -- the stories after it
-  story_by : (i : ℕ) (b : Bool) → (n == i) ≡ b → cond b (with_event (story_at s n) (Dropped t)) (story_at s i) ≡ record { limits = s.limits; ops = ops_of i w; past = cond b (Dropped t ∷ phaser_past i w) (phaser_past i w) }
+  story_by : (i : ℕ) (b : Bool) → (n == i) ≡ b → cond b (with_event (story_at s n) (Dropped t)) (story_at s i) ≡ record { limits = s.limits; terms = terms_of i w; past = cond b (Dropped t ∷ phaser_past i w) (phaser_past i w) }
   story_by i true e =
-      subst (λ v. with_event (story_at s n) (Dropped t) ≡ record { limits = s.limits; ops = ops_of v w; past = Dropped t ∷ phaser_past v w }) (eqb-true n i e)
+      subst (λ v. with_event (story_at s n) (Dropped t) ≡ record { limits = s.limits; terms = terms_of v w; past = Dropped t ∷ phaser_past v w }) (eqb-true n i e)
       (ap (λ y. with_event y (Dropped t)) (st.phasers n).story)
   story_by i false e = (st.phasers i).story
 

@@ -23,7 +23,7 @@ use Rattle.world_model.specs.declared.reply.Reply.{Reply}
 use Rattle.world_core.specs.TaskState.{TaskState}
 use Rattle.world_core.specs.WorldState.{WorldState}
 use Rattle.world_core.specs.Kept.{blank_task, blank_story, task_at, story_at, is_idle_plan}
-use Rattle.world_model.specs.Parts.{phaser_past, ops_of}
+use Rattle.world_model.specs.Parts.{phaser_past, terms_of}
 use Rattle.world_model.specs.Scopes.{open_finishes}
 use Rattle.world_model.specs.Due.{due}
 use Rattle.world_model.specs.Clock.{clock}
@@ -41,10 +41,10 @@ use Rattle.world_core.proofs.NextOf.{is_next, other_plan, pass_by}
 
 -- whether a task may claim, and may report, as the history says
 abbrev pub claim_in : Limits → List WorldEvent → ℕ → ℕ → Bool
-claim_in l w t n = is_permitted l (ops_of n w) (phaser_past n w) (Claimed t)
+claim_in l w t n = is_permitted l (terms_of n w) (phaser_past n w) (Claimed t)
 
 abbrev pub report_in : Limits → List WorldEvent → ℕ → ℕ → Bool
-report_in l w t n = is_permitted l (ops_of n w) (phaser_past n w) (Reported t)
+report_in l w t n = is_permitted l (terms_of n w) (phaser_past n w) (Reported t)
 
 pub same_place : (f : ℕ → Bool) (m n : ℕ) (b : Bool) → (m == n) ≡ b → (b && f n) ≡ (b && f m)
 same_place f m n true e = ap f (sym (eqb-true m n e))

@@ -9,7 +9,7 @@ use Rattle.phase_model.specs.declared.call.Call.TheVariants.{Register as registe
 use Rattle.phase_model.specs.declared.history.Event.{Event}
 use Rattle.phase_model.specs.declared.history.Event.TheVariants.{Look as Looked}
 use Rattle.phase_model.specs.declared.op.Look.{Look}
-use Rattle.phase_model.specs.declared.op.Op.{Op}
+use Rattle.phase_model.specs.declared.terms.Terms.{Terms}
 use Rattle.phase_model.specs.Rules.{Story}
 use Rattle.phase_model.specs.Replies.{Reply, refused, not_yet, done, settled, reply, after, done_result}
 use Rattle.phaser_core.specs.Answers.{made_with, look_result}
@@ -21,15 +21,15 @@ pub some_at_all : (h : List Event) → nat_lt 0 (length h) ≡ not (is_empty h)
 some_at_all [] = refl
 some_at_all (e ∷ h) = grind arith
 
-made_keeps : (s : Story) (ops : List Op) (r : Reply) (e : Refusal) → Err e ≡ done_result r → made_with s ops r ≡ s
-made_keeps s ops (refused x) e k = refl
-made_keeps s ops not_yet e k = refl
-made_keeps s ops (done x) e k = absurd cc
+made_keeps : (s : Story) (terms : Terms) (r : Reply) (e : Refusal) → Err e ≡ done_result r → made_with s terms r ≡ s
+made_keeps s terms (refused x) e k = refl
+made_keeps s terms not_yet e k = refl
+made_keeps s terms (done x) e k = absurd cc
 
 -- a phaser that refuses to be made leaves the table as it was
-pub make_kept : (xs : List Story) (n : ℕ) (old new : Story) (ops : List Op) (r : Reply) (e : Refusal) → Err e ≡ done_result r → new ≡ made_with old ops r → old ≡ get_or xs n old → set xs n new ≡ xs
-make_kept xs n old new ops r e k moved read =
-    let same : new ≡ get_or xs n old = moved ∙ (made_keeps old ops r e k ∙ read) in
+pub make_kept : (xs : List Story) (n : ℕ) (old new : Story) (terms : Terms) (r : Reply) (e : Refusal) → Err e ≡ done_result r → new ≡ made_with old terms r → old ≡ get_or xs n old → set xs n new ≡ xs
+make_kept xs n old new terms r e k moved read =
+    let same : new ≡ get_or xs n old = moved ∙ (made_keeps old terms r e k ∙ read) in
     ap (λ x. set xs n x) same ∙ set-get_or xs n old
 
 -- the same of a registration

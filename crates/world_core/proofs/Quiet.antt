@@ -3,14 +3,14 @@ use Rattle.std.proofs.Common.{◌≡◌, ℕ, Bool, true, false, ◌==◌, min, 
 use Rattle.std.specs.Prelude.{filter, filter_map}
 use Rattle.phase_modes.specs.Lists.{is_empty}
 use Rattle.phase_model.specs.declared.history.Event.{Event}
-use Rattle.phase_model.specs.declared.op.Op.{Op}
+use Rattle.phase_model.specs.declared.terms.Terms.{Terms}
 use Rattle.phase_model.specs.Tasks.{is_live}
 use Rattle.world_model.specs.declared.event.Step.{Step}
 use Rattle.world_model.specs.declared.event.Step.TheVariants.{Make, Reg, Sig, Claim, Did, Pass, Send, Look, Drop}
 use Rattle.world_model.specs.declared.event.WorldEvent.{WorldEvent}
 use Rattle.world_model.specs.declared.event.WorldEvent.TheVariants.{Phaser}
 use Rattle.world_core.specs.TaskState.{TaskState}
-use Rattle.world_model.specs.Parts.{ops_of, phaser_past, event_for}
+use Rattle.world_model.specs.Parts.{terms_of, phaser_past, event_for}
 use Rattle.world_model.specs.Tasks.{phasers_of, joined_by, acts}
 use Rattle.world_model.specs.Actors.{actor}
 use Rattle.world_core.specs.StandsFor.{TaskStands}
@@ -18,26 +18,26 @@ use Rattle.world_model.proofs.OthersLeave.{due_other, clock_other}
 
 -- it registers and drops nobody
 abbrev pub IsQuiet : Step → Type 0
-IsQuiet (Make t m ops) = ⊥
+IsQuiet (Make t m terms) = ⊥
 IsQuiet (Reg q t m) = ⊥
 IsQuiet (Drop t) = ⊥
 IsQuiet _ = Unit {0}
 
-live_same : (u : ℕ) (ops : List Op) (h : List Event) (s : Step) → IsQuiet s → is_live u (event_for ops h s ∷ h) ≡ is_live u h
-live_same u ops h (Make t m o) q = absurd q
-live_same u ops h (Reg p t m) q = absurd q
-live_same u ops h (Drop t) q = absurd q
-live_same u ops h (Sig t x) q = refl
-live_same u ops h (Claim t) q = refl
-live_same u ops h (Did t) q = refl
-live_same u ops h (Pass t) q = refl
-live_same u ops h (Send t a v) q = refl
-live_same u ops h (Look t a) q = refl
+live_same : (u : ℕ) (terms : Terms) (h : List Event) (s : Step) → IsQuiet s → is_live u (event_for terms h s ∷ h) ≡ is_live u h
+live_same u terms h (Make t m o) q = absurd q
+live_same u terms h (Reg p t m) q = absurd q
+live_same u terms h (Drop t) q = absurd q
+live_same u terms h (Sig t x) q = refl
+live_same u terms h (Claim t) q = refl
+live_same u terms h (Did t) q = refl
+live_same u terms h (Pass t) q = refl
+live_same u terms h (Send t a v) q = refl
+live_same u terms h (Look t a) q = refl
 
 live_after : (u m n : ℕ) (s : Step) (w : List WorldEvent) → IsQuiet s → is_live u (phaser_past m (Phaser n s ∷ w)) ≡ is_live u (phaser_past m w)
 live_after u m n s w q =
-    elim (n == m) as (λ b. is_live u (cond b (event_for (ops_of m w) (phaser_past m w) s ∷ phaser_past m w) (phaser_past m w)) ≡ is_live u (phaser_past m w))
-    [ true ↦ live_same u (ops_of m w) (phaser_past m w) s q | false ↦ refl ]
+    elim (n == m) as (λ b. is_live u (cond b (event_for (terms_of m w) (phaser_past m w) s ∷ phaser_past m w) (phaser_past m w)) ≡ is_live u (phaser_past m w))
+    [ true ↦ live_same u (terms_of m w) (phaser_past m w) s q | false ↦ refl ]
 
 same_filter : (p q : ℕ → Bool) (xs : List ℕ) → ((n : ℕ) → p n ≡ q n) → filter p xs ≡ filter q xs
 same_filter p q [] e = refl

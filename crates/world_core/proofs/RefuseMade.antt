@@ -59,10 +59,10 @@ module _ (s : WorldState) (w : List WorldEvent) (t n : ℕ) (st : StandsFor w s)
   number_is (Beginning b) =
       ap (λ o. has_number o n) (begin_is_refused s w t st b) ∙ done_number (first_refusal (act_conditions s.limits w t (Beginning b))) n
   number_is (Open f) = open_number (first_refusal (open_conditions s f t)) n ∙ ap (λ r. is_refused_by n r) (open_answers s w f t st)
-  number_is (New m mode ops) =
-      ap (λ o. has_number (or_then o (phaser_refusal s m (make t mode))) n) (conditions_are s w m t mode ops st)
-      ∙ (ap (λ (y : Story). has_number (or_then (first_refusal (act_conditions s.limits w t (New m mode ops))) (refusal_in (phaser.returned y.past (phaser.reply y (make t mode))))) n) (st.phasers m).story
-      ∙ both_number (first_refusal (act_conditions s.limits w t (New m mode ops))) (phaser_past m w) _ n)
+  number_is (New m mode terms) =
+      ap (λ o. has_number (or_then o (phaser_refusal s m (make t mode))) n) (conditions_are s w m t mode terms st)
+      ∙ (ap (λ (y : Story). has_number (or_then (first_refusal (act_conditions s.limits w t (New m mode terms))) (refusal_in (phaser.returned y.past (phaser.reply y (make t mode))))) n) (st.phasers m).story
+      ∙ both_number (first_refusal (act_conditions s.limits w t (New m mode terms))) (phaser_past m w) _ n)
   number_is (Sending m a v) =
       let first : first_refusal (first_conditions s t false true) ≡ first_refusal (act_conditions s.limits w t (Sending m a v)) = rw (ready_is_idle s.outers w t (task_at s t) (st.tasks t), (st.tasks t).acts) refl in
       ap (λ o. has_number (or_then o (phaser_refusal s m (send t a v))) n) first
@@ -98,7 +98,7 @@ noted_within s t n a e = ready_within s.tasks t (by a e)
   where
     by : (b : Tried) → refuse_noted s t b n ≡ true → is_ready (task_at s t) ≡ true
     by (Beginning b) h = first_ready (is_ready (task_at s t)) _ n h
-    by (New m mode ops) h = noted_ready (is_ready (task_at s t)) _ _ n h
+    by (New m mode terms) h = noted_ready (is_ready (task_at s t)) _ _ n h
     by (Open f) h = first_ready (is_ready (task_at s t)) _ n h
     by (Sending m c v) h = noted_ready (is_ready (task_at s t)) _ _ n h
     by (Looking m c) h = noted_ready (is_ready (task_at s t)) _ _ n h

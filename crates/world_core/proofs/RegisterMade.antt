@@ -23,7 +23,7 @@ use Rattle.world_model.specs.declared.event.WorldEvent.TheVariants.{Phaser, Fini
 use Rattle.world_model.specs.Acts.{most_phasers_held}
 use Rattle.world_model.specs.Due.{due}
 use Rattle.world_model.specs.Continuing.{same_event, same_mode}
-use Rattle.world_model.specs.Parts.{ops_of, phaser_past}
+use Rattle.world_model.specs.Parts.{terms_of, phaser_past}
 use Rattle.world_model.specs.PartReplies.{phaser_reply}
 use Rattle.world_model.specs.Replies.{reply, is_made, is_accepted, is_legal_world}
 use Rattle.world_model.specs.Scopes.{open_finishes}
@@ -281,16 +281,16 @@ child_joins : (l : Limits) (w : List WorldEvent) (n q c : ℕ) (m : Mode) → is
     → phasers_of c (Phaser n (Reg q c m) ∷ w) ≡ phasers_of c w ++ n ∷ []
 child_joins l w n q c m k a =
     let f : RegFollows l (phaser_past n w) q c m = reg_finds l w n q c m a in
-    let gone : is_dropped c (phaser_past n w) ≡ false = fresh_not_dropped l (ops_of n w) (phaser_past n w) c (phasers_legal l w k n) f.unknown in
+    let gone : is_dropped c (phaser_past n w) ≡ false = fresh_not_dropped l (terms_of n w) (phaser_past n w) c (phasers_legal l w k n) f.unknown in
     let none : joins c n w ≡ 0 = joined_once l w k c n ∙ ap (λ b. cond b 1 0) f.unknown in
     own_joined c n (Reg q c m) w (rw (eq_self c) refl) (rw (eq_self n, eq_self c, gone) refl) none
 
 -- the stories of the phasers after it
 story_by : (l : Limits) (n q c i : ℕ) (m : Mode) (w : List WorldEvent) (here there : Story) (b : Bool) → (n == i) ≡ b
-    → here ≡ record { limits = l; ops = ops_of n w; past = phaser_past n w } → there ≡ record { limits = l; ops = ops_of i w; past = phaser_past i w }
-    → cond b (with_event here (Registered q c m)) there ≡ record { limits = l; ops = ops_of i w; past = cond b (Registered q c m ∷ phaser_past i w) (phaser_past i w) }
+    → here ≡ record { limits = l; terms = terms_of n w; past = phaser_past n w } → there ≡ record { limits = l; terms = terms_of i w; past = phaser_past i w }
+    → cond b (with_event here (Registered q c m)) there ≡ record { limits = l; terms = terms_of i w; past = cond b (Registered q c m ∷ phaser_past i w) (phaser_past i w) }
 story_by l n q c i m w here there true e h k =
-    subst (λ v. with_event here (Registered q c m) ≡ record { limits = l; ops = ops_of v w; past = Registered q c m ∷ phaser_past v w }) (eqb-true n i e)
+    subst (λ v. with_event here (Registered q c m) ≡ record { limits = l; terms = terms_of v w; past = Registered q c m ∷ phaser_past v w }) (eqb-true n i e)
     (ap (λ y. with_event y (Registered q c m)) h)
 story_by l n q c i m w here there false e h k = k
 

@@ -25,7 +25,7 @@ use Rattle.world_model.specs.declared.reply.Reply.{Reply}
 use Rattle.world_core.specs.TaskState.{TaskState}
 use Rattle.world_core.specs.WorldState.{WorldState}
 use Rattle.world_core.specs.Kept.{blank_story, task_at, story_at, is_ready, is_idle_plan}
-use Rattle.world_model.specs.Parts.{phaser_past, ops_of, event_for}
+use Rattle.world_model.specs.Parts.{phaser_past, terms_of, event_for}
 use Rattle.world_model.specs.Scopes.{open_finishes}
 use Rattle.world_model.specs.Tasks.{acts, is_act}
 use Rattle.world_model.specs.Due.{due, is_of_single}
@@ -166,13 +166,13 @@ look_is_step s n t a = record {
   stands = λ w st made.
       let k = task_at s t in
       let y = story_at s n in
-      let seen = Looked t a (look_of y.ops a (waits t y.past) y.past) in
-      let ok = look_ok (act_refusal s t) _ _ t a (look_of y.ops a (waits t y.past) y.past) made in
+      let seen = Looked t a (look_of y.terms.ops a (waits t y.past) y.past) in
+      let ok = look_ok (act_refusal s t) _ _ t a (look_of y.terms.ops a (waits t y.past) y.past) made in
       let free : act_refusal s t ≡ None = ok.0 in
       let may = all_met (is_ready k) (nat_lt k.acts s.limits.acts) free in
       let few : k.acts < 65536 = omega (arith, ltb-true k.acts s.limits.acts may.1, (fitting s.limits st.fit).acts) in
-      let same : seen ≡ event_for (ops_of n w) (phaser_past n w) (Look t a) = ap (λ (z : Story). Looked t a (look_of z.ops a (waits t z.past) z.past)) (st.phasers n).story in
-      let replied : phaser.reply y (look t a) ≡ done (event_for (ops_of n w) (phaser_past n w) (Look t a)) = ok.1 ∙ ap (λ e. done e) same in
+      let same : seen ≡ event_for (terms_of n w) (phaser_past n w) (Look t a) = ap (λ (z : Story). Looked t a (look_of z.terms.ops a (waits t z.past) z.past)) (st.phasers n).story in
+      let replied : phaser.reply y (look t a) ≡ done (event_for (terms_of n w) (phaser_past n w) (Look t a)) = ok.1 ∙ ap (λ e. done e) same in
       let accepted : is_made (reply s.limits w (Phaser n (Look t a))) ≡ true = ap (λ r. is_made r) (sym (look_answers s w n t a st)) ∙ made in
       let idle : is_idle_plan k.plan ≡ true = (and_parts (k.is_born && not k.is_ended) (is_idle_plan k.plan) may.0).1 in
       rw (free, replied) (step_stands s w n (Look t a) tt st t (counted k) refl (look_within s n t a _ replied) (ready_within s.tasks t may.0) accepted

@@ -11,7 +11,7 @@ use Rattle.phase_modes.specs.declared.refusal.Refusal.TheVariants.{NotNow}
 use Rattle.phase_model.specs.declared.history.Event.{Event}
 use Rattle.phase_model.specs.declared.history.Event.TheVariants.{Sig as Signed}
 use Rattle.phase_model.specs.Replies as phaser
-use Rattle.phase_model.specs.Replies.{settled, done, done_result}
+use Rattle.phase_model.specs.Replies.{settled, done}
 use Rattle.phase_model.specs.declared.call.Call.TheVariants.{Signal as signal}
 use Rattle.finish_core.specs.declared.event.FinishEvent.TheVariants.{Spawned, Ended, Shut as Shutting}
 use Rattle.world_model.specs.declared.reply.Reply.{Reply}
@@ -29,7 +29,6 @@ use Rattle.world_core.specs.declared.plan.Plan.TheVariants as plan
 use Rattle.world_core.specs.TaskState.{TaskState}
 use Rattle.world_core.specs.WorldState.{WorldState}
 use Rattle.world_core.specs.Kept.{blank_task, blank_story, task_at, story_at, is_idle_plan}
-use Rattle.world_core.proofs.LimitsStay.{limits_by}
 use Rattle.world_core.specs.StandsFor.{StandsFor, TaskStands, due_by, inner_of, end_of, IsStep}
 use Rattle.world_core.specs.inner.Plans.{fits_plan, has_left}
 use Rattle.world_model.specs.Parts.{phaser_past}
@@ -38,7 +37,10 @@ use Rattle.world_model.specs.Due.{due, or_single}
 use Rattle.world_model.specs.Continuing.{same_event, same_number}
 use Rattle.world_model.specs.PartReplies.{returned, phaser_reply}
 use Rattle.world_model.specs.Replies.{reply, is_made}
-use Rattle.world_core.specs.inner.Steps.{wants_signal, is_to_signal, done_by, signal_answer, signal_state, signal_result, state_by, signal_noted, phaser_called, with_task, after_signals_on, note_signal}
+use Rattle.phaser_core.specs.declared.state.Signalling.{Signalling}
+use Rattle.phaser_core.specs.declared.state.Signalling.TheVariants.{Signalled, NotYet as Holds}
+use Rattle.phaser_core.specs.Answers.{signal_result}
+use Rattle.world_core.specs.inner.Steps.{wants_signal, is_to_signal, signalled_on, reply_by_signal, signal_answer, signal_state, signal_outcome, state_by_signal, signal_noted, phaser_called, with_task, after_signals_on, note_signal}
 
 never : (a : Bool) → (a && false) ≡ false
 never true = refl
@@ -88,12 +90,13 @@ wanted_is_next l w t k fs n x (plan.Ending c) left e =
     (drops_are_none l w (map (λ f. Finish f Shutting) fs ++ end_of t k ∷ []) t t n x k.phasers (shuts_are_none l w t t n x k fs)))
 
 -- the reply to a signal is what the phaser returns
-signal_returned : (h : List Event) (o : Option Refusal) (room : Bool) (t : ℕ) (x : Option ℕ) → done_by (done_result (settled o false room (Signed t x))) ≡ returned h (settled o false room (Signed t x))
-signal_returned h (Some r) room t x = refl
-signal_returned h None true t x = refl
-signal_returned h None false t x = refl
+signal_returned : (h : List Event) (o : Option Refusal) (waiting room : Bool) (t : ℕ) (x : Option ℕ) → reply_by_signal (signal_result (settled o waiting room (Signed t x))) ≡ returned h (settled o waiting room (Signed t x))
+signal_returned h (Some r) waiting room t x = refl
+signal_returned h None true room t x = refl
+signal_returned h None false true t x = refl
+signal_returned h None false false t x = refl
 
-answer_by : (b c : Bool) (r s : Result Reply Refusal) (u : Result (Unit {0}) Refusal) → b ≡ c → done_by u ≡ r → done_by (cond b u (Err NotNow)) ≡ cond c r (Err NotNow)
+answer_by : (b c : Bool) (r s : Result Reply Refusal) (u : Result Signalling Refusal) → b ≡ c → reply_by_signal u ≡ r → reply_by_signal (cond b u (Err NotNow)) ≡ cond c r (Err NotNow)
 answer_by true true r s u e k = k
 answer_by true false r s u e k = absurd cc
 answer_by false true r s u e k = absurd cc
@@ -106,10 +109,10 @@ signal_answers s w n t x st =
     let wanted : is_to_signal k n x ≡ is_next_signal s.limits w (due t w) n t x =
     wanted_is_next s.limits w t k (open_finishes t w) n x k.plan k.left refl ∙ ap (λ ds. is_next_signal s.limits w ds n t x) (sym line.due_is)
     in
-    let story : done_by (done_result (phaser.reply (story_at s n) (signal t x))) ≡ phaser_reply s.limits w n (Sig t x) =
-    ap (λ y. done_by (done_result (phaser.reply y (signal t x)))) (st.phasers n).story ∙ signal_returned (phaser_past n w) _ _ t x
+    let story : reply_by_signal (signalled_on s n t x) ≡ phaser_reply s.limits w n (Sig t x) =
+    ap (λ y. reply_by_signal (signal_result (phaser.reply y (signal t x)))) (st.phasers n).story ∙ signal_returned (phaser_past n w) _ _ _ t x
     in
-    answer_by (is_to_signal k n x) (is_next_signal s.limits w (due t w) n t x) (phaser_reply s.limits w n (Sig t x)) (Err NotNow) (done_result (phaser.reply (story_at s n) (signal t x))) wanted story
+    answer_by (is_to_signal k n x) (is_next_signal s.limits w (due t w) n t x) (phaser_reply s.limits w n (Sig t x)) (Err NotNow) (signalled_on s n t x) wanted story
 
 turn_goes_on : (y : Option ℕ) (e : Option WorldEvent) → fits_plan (plan.Signalling y true) e ≡ true → fits_plan plan.Turning e ≡ true
 turn_goes_on y (Some (Begin u (NextSingle i))) f = refl
@@ -181,20 +184,22 @@ module _ (outers : List (Option ℕ)) (w : List WorldEvent) (n t : ℕ) (x : Opt
       (own_line (plan.Signalling y turn) (i ∷ is) (ap (λ ds. drop 1 ds) d) refl (ap (λ q. fits_plan q (last_entry t w)) (sym e) ∙ st.plan) refl)
 
 -- what follows from a signal that is made
-made_ok : (u : Result (Unit {0}) Refusal) → is_made (done_by u) ≡ true → u ≡ Ok tt
-made_ok (Ok u) e = refl
+made_ok : (u : Result Signalling Refusal) → is_made (reply_by_signal u) ≡ true → u ≡ Ok Signalled
+made_ok (Ok Signalled) e = refl
+made_ok (Ok Holds) e = absurd cc
 made_ok (Err r) e = absurd cc
 
-both_parts : (b : Bool) (u : Result (Unit {0}) Refusal) → cond b u (Err NotNow) ≡ Ok tt → (b ≡ true) × (u ≡ Ok tt)
+both_parts : (b : Bool) (u : Result Signalling Refusal) → cond b u (Err NotNow) ≡ Ok Signalled → (b ≡ true) × (u ≡ Ok Signalled)
 both_parts true u e = (refl, e)
 both_parts false u e = absurd cc
 
-done_by_settled : (o : Option Refusal) (room : Bool) (e : Event) → done_result (settled o false room e) ≡ Ok tt → settled o false room e ≡ done e
-done_by_settled (Some r) room e k = absurd cc
-done_by_settled None true e k = refl
-done_by_settled None false e k = absurd cc
+done_by_settled : (o : Option Refusal) (waiting room : Bool) (e : Event) → signal_result (settled o waiting room e) ≡ Ok Signalled → settled o waiting room e ≡ done e
+done_by_settled (Some r) waiting room e k = absurd cc
+done_by_settled None true room e k = absurd cc
+done_by_settled None false true e k = refl
+done_by_settled None false false e k = absurd cc
 
-done_within : (l : Limits) (xs : List Story) (n t : ℕ) (x : Option ℕ) → done_result (phaser.reply (get_or xs n (blank_story l)) (signal t x)) ≡ Ok tt → n < length xs
+done_within : (l : Limits) (xs : List Story) (n t : ℕ) (x : Option ℕ) → signal_result (phaser.reply (get_or xs n (blank_story l)) (signal t x)) ≡ Ok Signalled → n < length xs
 done_within l [] n t x e = absurd cc
 done_within l (y ∷ ys) zero t x e = omega arith
 done_within l (y ∷ ys) (suc n) t x e = omega (arith, done_within l ys n t x e)
@@ -204,19 +209,25 @@ wanted_within [] t n x e = absurd cc
 wanted_within (k ∷ ks) zero n x e = omega arith
 wanted_within (k ∷ ks) (suc t) n x e = omega (arith, wanted_within ks t n x e)
 
-signal_unchanged : (u : Result (Unit {0}) Refusal) (s new : WorldState) → is_made (done_by u) ≡ false → state_by u s new ≡ s
-signal_unchanged (Ok u) s new e = absurd cc
+signal_unchanged : (u : Result Signalling Refusal) (s new : WorldState) → is_made (reply_by_signal u) ≡ false → state_by_signal u s new ≡ s
+signal_unchanged (Ok Signalled) s new e = absurd cc
+signal_unchanged (Ok Holds) s new e = refl
 signal_unchanged (Err r) s new e = refl
+
+signal_limits : (u : Result Signalling Refusal) (s new : WorldState) → new.limits ≡ s.limits → (state_by_signal u s new).limits ≡ s.limits
+signal_limits (Ok Signalled) s new e = e
+signal_limits (Ok Holds) s new e = refl
+signal_limits (Err r) s new e = refl
 
 pub signal_is_step : (s : WorldState) (n t : ℕ) (x : Option ℕ) → IsStep (Phaser n (Sig t x)) s (signal_state s n t x) (signal_answer s n t x)
 signal_is_step s n t x = record {
-  unchanged = signal_unchanged (signal_result s n t x) s (with_task (phaser_called s n (signal t x)) t (signal_noted (task_at s t)));
-  limits = limits_by (signal_result s n t x) s (with_task (phaser_called s n (signal t x)) t (signal_noted (task_at s t))) refl;
+  unchanged = signal_unchanged (signal_outcome s n t x) s (with_task (phaser_called s n (signal t x)) t (signal_noted (task_at s t)));
+  limits = signal_limits (signal_outcome s n t x) s (with_task (phaser_called s n (signal t x)) t (signal_noted (task_at s t))) refl;
   answer = λ w st. signal_answers s w n t x st;
   stands = λ w st made.
-      let ok : signal_result s n t x ≡ Ok tt = made_ok (signal_result s n t x) made in
-      let parts = both_parts (is_to_signal (task_at s t) n x) (done_result (phaser.reply (story_at s n) (signal t x))) ok in
-      let replied : phaser.reply (story_at s n) (signal t x) ≡ done (Signed t x) = done_by_settled _ _ (Signed t x) parts.1 in
+      let ok : signal_outcome s n t x ≡ Ok Signalled = made_ok (signal_outcome s n t x) made in
+      let parts = both_parts (is_to_signal (task_at s t) n x) (signalled_on s n t x) ok in
+      let replied : phaser.reply (story_at s n) (signal t x) ≡ done (Signed t x) = done_by_settled _ _ _ (Signed t x) parts.1 in
       let accepted : is_made (reply s.limits w (Phaser n (Sig t x))) ≡ true = ap (λ r. is_made r) (sym (signal_answers s w n t x st)) ∙ made in
       let k = task_at s t in
       rw (ok, replied) (step_stands s w n (Sig t x) tt st t (signal_noted k) refl (done_within s.limits s.phasers n t x parts.1) (wanted_within s.tasks t n x parts.0) accepted

@@ -6,14 +6,14 @@ ghost use Rattle.phase_modes.specs.Lists.{is_empty};
 ghost use Rattle.phase_model.specs.Rules.{is_legal, is_permitted};
 ghost use Rattle.phase_model.specs.declared.call.Call.TheVariants.{Make as make, Register as register, Signal as signal, Pass as pass, SingleDone as single_done, Send as send, Look as look, Drop as drop_task};
 ghost use Rattle.phase_model.specs.Replies.{reply, returned, after, done_result};
-ghost use Rattle.phase_model.specs.Waiting.{would_wait};
-ghost use Rattle.phaser_core.specs.Answers.{pass_result, look_result, made_with};
+ghost use Rattle.phase_model.specs.Waiting.{signal_would_wait, would_wait};
+ghost use Rattle.phaser_core.specs.Answers.{signal_result, pass_result, look_result, made_with};
 ghost use Rattle.phaser_core.specs.Table.{registration};
 ghost use Rattle.world_core.specs.Kept.{blank_story};
 
-use phase_model::{Call, Event, History, Look, Ops, Reply};
+use phase_model::{Call, Event, History, Look, Reply, Terms};
 use phase_modes::{Limits, Mode, Refusal, Reg};
-use phaser_core::{Passing, PhaserState};
+use phaser_core::{Passing, PhaserState, Signalling};
 use std::alloc::Global;
 use std::marker::Model;
 
@@ -45,13 +45,13 @@ impl KeptPhaser {
         Ok(KeptPhaser { state })
     }
 
-    /// Makes it with these operators, and registers its maker.
-    pub(crate) fn make_with(&mut self, task: u32, mode: Mode, ops: Ops) -> Result<(), Refusal>
+    /// Makes it with these operators and this bound, and registers its maker.
+    pub(crate) fn make_with(&mut self, task: u32, mode: Mode, terms: Terms) -> Result<(), Refusal>
         ensures reply { result ≡ done_result (reply self.old (make task mode)) }
-        ensures history { self.new ≡ made_with self.old ops (reply self.old (make task mode)) }
+        ensures history { self.new ≡ made_with self.old terms (reply self.old (make task mode)) }
     {
-        let _four_at_most = ops.len();
-        self.state.make_with(task, mode, ops)
+        let _four_at_most = terms.ops.len();
+        self.state.make_with(task, mode, terms.ops, terms.bound)
     }
 
     /// Registers a child where its parent stands.
@@ -62,9 +62,9 @@ impl KeptPhaser {
         self.state.register(parent, child, mode)
     }
 
-    /// Signals the task's phase.
-    pub(crate) fn signal(&mut self, task: u32, number: Option<u32>) -> Result<(), Refusal>
-        ensures reply { result ≡ done_result (reply self.old (signal task number)) }
+    /// Asks to signal the task's phase.
+    pub(crate) fn signal(&mut self, task: u32, number: Option<u32>) -> Result<Signalling, Refusal>
+        ensures reply { result ≡ signal_result (reply self.old (signal task number)) }
         ensures history { self.new ≡ after self.old (reply self.old (signal task number)) }
     {
         self.state.signal(task, number)
@@ -124,6 +124,13 @@ impl KeptPhaser {
         self.state.would_wait(task)
     }
 
+    /// Whether a signal of the task with this number would be answered not yet.
+    pub(crate) fn signal_would_wait(&self, task: u32, number: Option<u32>) -> bool
+        ensures { result ≡ signal_would_wait self.now task number }
+    {
+        self.state.signal_would_wait(task, number)
+    }
+
     /// How the task is registered now.
     pub(crate) fn registration(&self, task: u32) -> Option<Reg>
         ensures { result ≡ registration task self.now.past }
@@ -133,14 +140,14 @@ impl KeptPhaser {
 
     /// Whether the task may claim the single of its phase.
     pub(crate) fn may_claim(&self, task: u32) -> bool
-        ensures { result ≡ is_permitted self.now.limits self.now.ops self.now.past (Event.Claim task) }
+        ensures { result ≡ is_permitted self.now.limits self.now.terms self.now.past (Event.Claim task) }
     {
         self.state.may_claim(task)
     }
 
     /// Whether the task may report the single done that it claimed.
     pub(crate) fn may_report(&self, task: u32) -> bool
-        ensures { result ≡ is_permitted self.now.limits self.now.ops self.now.past (Event.Did task) }
+        ensures { result ≡ is_permitted self.now.limits self.now.terms self.now.past (Event.Did task) }
     {
         self.state.may_report(task)
     }
@@ -155,7 +162,7 @@ impl KeptPhaser {
     /// All that was done on it.
     pub(crate) fn history(&self) -> &History
         ensures history { result.now ≡ self.now }
-        ensures legal { is_legal self.now.limits self.now.ops self.now.past ≡ true }
+        ensures legal { is_legal self.now.limits self.now.terms self.now.past ≡ true }
     {
         self.state.history()
     }

@@ -248,7 +248,7 @@ module _ (l : Limits) (w : List WorldEvent) (t : ℕ) where
   act_found u a e k = idle_found (subst (λ v. is_idle v w ≡ true) e (idle_in_act l w u a k))
 
   event_found : (e : WorldEvent) → actor w e ≡ t → is_accepted l w e ≡ true → Found l w t
-  event_found (Phaser n (Make u m ops)) a k = act_found u (New n m ops) a k
+  event_found (Phaser n (Make u m terms)) a k = act_found u (New n m terms) a k
   event_found (Phaser n (Send u c v)) a k = act_found u (Sending n c v) a k
   event_found (Phaser n (Look u c)) a k = act_found u (Looking n c) a k
   event_found (Finish f (Opened u)) a k = act_found u (Open f) a k

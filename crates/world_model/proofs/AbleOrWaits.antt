@@ -1,4 +1,4 @@
--- A task that goes on is able, or it waits at a pass, or at a shut.
+-- A task that goes on is able, or it waits at a phaser, to pass or to signal, or at a shut.
 use Rattle.std.proofs.Common.{◌≡◌, ◌⊎◌, ℕ, ◌+◌, Bool, true, false, ◌&&◌, ◌||◌, ◌==◌, not, nat_lt, cond, List, [], ◌∷◌, Option, Some, None, is_some, refl, sym, subst, ap, ◌∙◌, inl, inr}
 use Rattle.std.specs.List.{list_any, list_all}
 use Rattle.std.proofs.lemmas.Bool.{and_parts, and_from, or_left, cases_Bool, eqb-true, eq-eqb, not-true, true≢false, false_from_ne_true}
@@ -10,7 +10,7 @@ use Rattle.phase_modes.specs.Refusal.{first_refusal}
 use Rattle.phase_model.specs.declared.history.Event.{Event}
 use Rattle.phase_model.specs.declared.history.Event.TheVariants.{Sig as Signalled, Claim as Claimed, Did as Done, Pass as Passed}
 use Rattle.phase_model.specs.Tasks.{is_live, has_mode}
-use Rattle.phase_model.specs.Phases.{waits, signals}
+use Rattle.phase_model.specs.Phases.{waits, signals, is_within_bound}
 use Rattle.phase_model.specs.Singles.{has_claimed, is_done}
 use Rattle.phase_model.specs.Conditions.{is_other_proposed}
 use Rattle.phase_model.specs.Rules.{is_permitted, has_room}
@@ -28,7 +28,7 @@ use Rattle.finish_core.specs.Replies.{done_unless}
 use Rattle.world_model.specs.declared.event.Step.TheVariants.{Reg, Sig, Claim, Did, Pass}
 use Rattle.world_model.specs.declared.event.WorldEvent.{WorldEvent}
 use Rattle.world_model.specs.declared.event.WorldEvent.TheVariants.{Phaser, Finish}
-use Rattle.world_model.specs.Parts.{ops_of, phaser_past, finish_past, story_of}
+use Rattle.world_model.specs.Parts.{terms_of, phaser_past, finish_past, story_of}
 use Rattle.world_model.specs.Scopes.{inner, owner}
 use Rattle.world_model.specs.Tasks.{spawner, is_born, is_ended}
 use Rattle.world_model.specs.Due.{due, is_behind, next_event}
@@ -51,16 +51,29 @@ use Rattle.world_model.proofs.HomesOpen.{inner_open, spawned_is_born, spawn_fits
 use Rattle.world_model.proofs.MadeOrGivesUp.{made_or_full, able_by, part_accepted, fails_7, fails_15, fails_14, next_is}
 
 -- t has to wait before it passes n
-pub record WaitsToPass (l : Limits) (t : ℕ) (w : List WorldEvent) : Type 0 where
-  pub on : ℕ
+pub record WaitsToPass (l : Limits) (t n : ℕ) (w : List WorldEvent) : Type 0 where
   pub rest : List WorldEvent
-  pub is : due t w ≡ Phaser on (Pass t) ∷ rest
+  pub is : due t w ≡ Phaser n (Pass t) ∷ rest
+  pub signalled : is_behind t (phaser_past n w) ≡ false
+  pub waiter : has_mode can_wait t (phaser_past n w) ≡ true
+  pub no_pass : is_permitted l (terms_of n w) (phaser_past n w) (Passed t) ≡ false
+  pub no_claim : is_permitted l (terms_of n w) (phaser_past n w) (Claimed t) ≡ false
+  pub no_did : is_permitted l (terms_of n w) (phaser_past n w) (Done t) ≡ false
+
+-- t has to wait before it signals on n: it would be further ahead than the bound lets it be
+pub record WaitsToSignal (l : Limits) (t n : ℕ) (w : List WorldEvent) : Type 0 where
+  pub number : Option ℕ
+  pub rest : List WorldEvent
+  pub is : due t w ≡ Phaser n (Sig t number) ∷ rest
+  pub behind : is_behind t (phaser_past n w) ≡ true
+  pub causeless : first_refusal (conditions l (terms_of n w) (phaser_past n w) (signal t number)) ≡ None
+  pub held : is_within_bound (terms_of n w).bound (signals t (phaser_past n w)) (phaser_past n w) ≡ false
+
+-- t has to wait for other tasks of a phaser
+pub record WaitsAtPhaser (l : Limits) (t : ℕ) (w : List WorldEvent) : Type 0 where
+  pub on : ℕ
   pub live : is_live t (phaser_past on w) ≡ true
-  pub signalled : is_behind t (phaser_past on w) ≡ false
-  pub waiter : has_mode can_wait t (phaser_past on w) ≡ true
-  pub no_pass : is_permitted l (ops_of on w) (phaser_past on w) (Passed t) ≡ false
-  pub no_claim : is_permitted l (ops_of on w) (phaser_past on w) (Claimed t) ≡ false
-  pub no_did : is_permitted l (ops_of on w) (phaser_past on w) (Done t) ≡ false
+  pub how : WaitsToPass l t on w ⊎ WaitsToSignal l t on w
 
 -- t has to wait before it shuts f
 pub record WaitsToShut (t : ℕ) (w : List WorldEvent) : Type 0 where
@@ -72,7 +85,7 @@ pub record WaitsToShut (t : ℕ) (w : List WorldEvent) : Type 0 where
   pub waits_for : all_ended (finish_past finish w) ≡ false
 
 abbrev pub Outcome : Limits → ℕ → List WorldEvent → Type 0
-Outcome l t w = (is_able l w t ≡ true) ⊎ WaitsToPass l t w ⊎ WaitsToShut t w
+Outcome l t w = (is_able l w t ≡ true) ⊎ WaitsAtPhaser l t w ⊎ WaitsToShut t w
 
 module _ (l : Limits) (w : List WorldEvent) (k : is_legal_world l w ≡ true) (t : ℕ)
     (born : is_born t w ≡ true) (going : is_ended t w ≡ false) where
@@ -119,8 +132,8 @@ module _ (l : Limits) (w : List WorldEvent) (k : is_legal_world l w ≡ true) (t
   -- a signal meets each condition but that no other number stands
   pub sig_causes : (n : ℕ) (x : Option ℕ) (ds : List WorldEvent) → moves_act (last_entry t w) ≡ true
       → due t w ≡ Phaser n (Sig t x) ∷ ds
-      → (first_refusal (conditions l (ops_of n w) (phaser_past n w) (signal t x)) ≡ None)
-      ⊎ (first_refusal (conditions l (ops_of n w) (phaser_past n w) (signal t x)) ≡ Some SingleMismatch)
+      → (first_refusal (conditions l (terms_of n w) (phaser_past n w) (signal t x)) ≡ None)
+      ⊎ (first_refusal (conditions l (terms_of n w) (phaser_past n w) (signal t x)) ≡ Some SingleMismatch)
   sig_causes n x ds s here =
       let h = phaser_past n w in
       let q : Turning t w (Phaser n (Sig t x) ∷ ds) = subst (λ xs. Turning t w xs) here (turning l t w k s) in
@@ -143,26 +156,45 @@ module _ (l : Limits) (w : List WorldEvent) (k : is_legal_world l w ≡ true) (t
       by a b c d true x y z u = inr (rw (x, y, z, u) refl)
       by a b c d false x y z u = inl (rw (x, y, z, u) refl)
 
-  -- so it is done, or its number is another, or there is no room
+  -- so it has to wait, or it is done, or its number is another, or there is no room
   pub of_sig : (n : ℕ) (x : Option ℕ) (ds : List WorldEvent) → moves_act (last_entry t w) ≡ true
-      → due t w ≡ Phaser n (Sig t x) ∷ ds → is_able l w t ≡ true
+      → due t w ≡ Phaser n (Sig t x) ∷ ds → Outcome l t w
   of_sig n x ds s here =
       let e = Phaser n (Sig t x) in
       let h = phaser_past n w in
       let next = next_is l w t going e ds here in
       let room = has_room l (Signalled t x ∷ h) in
-      let first = first_refusal (conditions l (ops_of n w) h (signal t x)) in
+      let first = first_refusal (conditions l (terms_of n w) h (signal t x)) in
+      let near = is_within_bound (terms_of n w).bound (signals t h) h in
       elim (sig_causes n x ds s here) [
         | inr mismatch ↦
-            fails_7 l w t going e next
-            (ap (λ o. is_refused_by 7 (returned h (settled o false room (Signalled t x)))) mismatch)
+            inl (fails_7 l w t going e next
+            (ap (λ o. is_refused_by 7 (returned h (settled o (not near) room (Signalled t x)))) mismatch))
         | inl agreed ↦
-            elim (made_or_full h first false room (Signalled t x) agreed refl) [
-              | inl made ↦
-                  able_by l w t going e refl (part_accepted l w t going e
-                  (and_from (n == n) (t == t && same_number x x) (eq-eqb n n refl) (and_from (t == t)
-                  (same_number x x) (eq-eqb t t refl) (same_self x))) refl next made)
-              | inr full ↦ fails_15 l w t going e next full
+            elim (cases_Bool near) [
+              | inr far ↦
+                  let q : Turning t w (e ∷ ds) = subst (λ xs. Turning t w xs) here (turning l t w k s) in
+                  let p = q.sigs n (or_left (n == n) (list_any (is_sig_on n) ds) (eq-eqb n n refl)) in
+                  inr (inl (record {
+                    on = n;
+                    live = p.0;
+                    how = inr (record {
+                      number = x;
+                      rest = ds;
+                      is = here;
+                      behind = p.1;
+                      causeless = agreed;
+                      held = far;
+                    });
+                  }))
+              | inl keeps ↦
+                  elim (made_or_full h first (not near) room (Signalled t x) agreed (ap (λ b. not b) keeps)) [
+                    | inl made ↦
+                        inl (able_by l w t going e refl (part_accepted l w t going e
+                        (and_from (n == n) (t == t && same_number x x) (eq-eqb n n refl) (and_from (t == t)
+                        (same_number x x) (eq-eqb t t refl) (same_self x))) refl next made))
+                    | inr full ↦ inl (fails_15 l w t going e next full)
+                  ]
             ]
       ]
     where
@@ -171,19 +203,19 @@ module _ (l : Limits) (w : List WorldEvent) (k : is_legal_world l w ≡ true) (t
       same_self (Some v) = eq-eqb v v refl
 
   -- a claim that may be made is made
-  pub claim_made : (n : ℕ) → is_permitted l (ops_of n w) (phaser_past n w) (Claimed t) ≡ true
+  pub claim_made : (n : ℕ) → is_permitted l (terms_of n w) (phaser_past n w) (Claimed t) ≡ true
       → is_made (phaser_reply l w n (Claim t)) ≡ true
   claim_made n y =
       subst (λ r. is_made (returned (phaser_past n w) r) ≡ true)
       (sym ((singles_are_answered (story_of l n w) (phasers_legal l w k n) t).0 y)) refl
 
   -- and so is a report
-  pub report_made : (n : ℕ) → is_permitted l (ops_of n w) (phaser_past n w) (Done t) ≡ true
+  pub report_made : (n : ℕ) → is_permitted l (terms_of n w) (phaser_past n w) (Done t) ≡ true
       → is_made (phaser_reply l w n (Did t)) ≡ true
   report_made n y =
       let h = phaser_past n w in
-      let f = did_follows l (ops_of n w) h t y in
-      let room = (singles_have_room l (ops_of n w) h (phasers_legal l w k n) t).1 y in
+      let f = did_follows l (terms_of n w) h t y in
+      let room = (singles_have_room l (terms_of n w) h (phasers_legal l w k n) t).1 y in
       answered h (is_live t h) (has_claimed t (waits t h) h) (is_done (waits t h) h)
       (has_room l (Done t ∷ h)) f.live f.claimed f.undone room
     where
@@ -207,7 +239,7 @@ module _ (l : Limits) (w : List WorldEvent) (k : is_legal_world l w ≡ true) (t
 
   -- so it meets each condition
   pub pass_causeless : (n : ℕ) → is_live t (phaser_past n w) ≡ true → is_behind t (phaser_past n w) ≡ false
-      → first_refusal (conditions l (ops_of n w) (phaser_past n w) (pass t)) ≡ None
+      → first_refusal (conditions l (terms_of n w) (phaser_past n w) (pass t)) ≡ None
   pass_causeless n live ahead =
       let h = phaser_past n w in
       no_cause (is_live t h) (has_mode can_signal t h) (signals t h == waits t h + 1) live
@@ -223,7 +255,7 @@ module _ (l : Limits) (w : List WorldEvent) (k : is_legal_world l w ≡ true) (t
           || (signals t (phaser_past n w) == waits t (phaser_past n w) + 1)) ≡ true
       has_signalled (inr no_signaller) = rw no_signaller refl
       has_signalled (inl signaller) =
-          elim (at_or_ahead l (ops_of n w) (phaser_past n w) (phasers_legal l w k n) t signaller) [
+          elim (at_or_ahead l (terms_of n w) (phaser_past n w) (phasers_legal l w k n) t signaller) [
             | inl same ↦
                 absurd (true≢false (sym (and_from (has_mode can_signal t (phaser_past n w))
                 (signals t (phaser_past n w) == waits t (phaser_past n w)) signaller
@@ -234,12 +266,12 @@ module _ (l : Limits) (w : List WorldEvent) (k : is_legal_world l w ≡ true) (t
 
   -- what is next where a pass is due
   pub next_by : (n : ℕ) (ds : List WorldEvent) (b c : Bool) → due t w ≡ Phaser n (Pass t) ∷ ds
-      → is_permitted l (ops_of n w) (phaser_past n w) (Claimed t) ≡ b
-      → is_permitted l (ops_of n w) (phaser_past n w) (Done t) ≡ c
+      → is_permitted l (terms_of n w) (phaser_past n w) (Claimed t) ≡ b
+      → is_permitted l (terms_of n w) (phaser_past n w) (Done t) ≡ c
       → next_event l t w ≡ Some (cond b (Phaser n (Claim t)) (cond c (Phaser n (Did t)) (Phaser n (Pass t))))
   next_by n ds b c here x y =
       next_is l w t going (Phaser n (Pass t)) ds here
-      ∙ (ap (λ z. Some (cond z (Phaser n (Claim t)) (cond (is_permitted l (ops_of n w) (phaser_past n w)
+      ∙ (ap (λ z. Some (cond z (Phaser n (Claim t)) (cond (is_permitted l (terms_of n w) (phaser_past n w)
       (Done t)) (Phaser n (Did t)) (Phaser n (Pass t))))) x
       ∙ ap (λ z. Some (cond b (Phaser n (Claim t)) (cond z (Phaser n (Did t)) (Phaser n (Pass t))))) y)
 
@@ -248,35 +280,37 @@ module _ (l : Limits) (w : List WorldEvent) (k : is_legal_world l w ≡ true) (t
 
   passes : (n : ℕ) (ds : List WorldEvent) → due t w ≡ Phaser n (Pass t) ∷ ds
       → is_live t (phaser_past n w) ≡ true → is_behind t (phaser_past n w) ≡ false
-      → is_permitted l (ops_of n w) (phaser_past n w) (Claimed t) ≡ false
-      → is_permitted l (ops_of n w) (phaser_past n w) (Done t) ≡ false → Outcome l t w
+      → is_permitted l (terms_of n w) (phaser_past n w) (Claimed t) ≡ false
+      → is_permitted l (terms_of n w) (phaser_past n w) (Done t) ≡ false → Outcome l t w
   passes n ds here live ahead no_claim no_did =
       let e = Phaser n (Pass t) in
       let h = phaser_past n w in
       let waiting =
-      has_mode can_wait t h && not (is_permitted l (ops_of n w) h (Passed t))
-      && not (is_permitted l (ops_of n w) h (Claimed t)) in
-      let event = phaser.event_for l (ops_of n w) h (pass t) in
+      has_mode can_wait t h && not (is_permitted l (terms_of n w) h (Passed t))
+      && not (is_permitted l (terms_of n w) h (Claimed t)) in
+      let event = phaser.event_for l (terms_of n w) h (pass t) in
       let next = next_by n ds false false here no_claim no_did in
       elim (cases_Bool waiting) [
         | inl y ↦
             let z =
-            and_parts (has_mode can_wait t h && not (is_permitted l (ops_of n w) h (Passed t)))
-            (not (is_permitted l (ops_of n w) h (Claimed t))) y in
-            let v = and_parts (has_mode can_wait t h) (not (is_permitted l (ops_of n w) h (Passed t))) z.0 in
+            and_parts (has_mode can_wait t h && not (is_permitted l (terms_of n w) h (Passed t)))
+            (not (is_permitted l (terms_of n w) h (Claimed t))) y in
+            let v = and_parts (has_mode can_wait t h) (not (is_permitted l (terms_of n w) h (Passed t))) z.0 in
             inr (inl (record {
               on = n;
-              rest = ds;
-              is = here;
               live = live;
-              signalled = ahead;
-              waiter = v.0;
-              no_pass = not-true (is_permitted l (ops_of n w) h (Passed t)) v.1;
-              no_claim = no_claim;
-              no_did = no_did;
+              how = inl (record {
+                rest = ds;
+                is = here;
+                signalled = ahead;
+                waiter = v.0;
+                no_pass = not-true (is_permitted l (terms_of n w) h (Passed t)) v.1;
+                no_claim = no_claim;
+                no_did = no_did;
+              });
             }))
         | inr y ↦
-            elim (made_or_full h (first_refusal (conditions l (ops_of n w) h (pass t))) waiting
+            elim (made_or_full h (first_refusal (conditions l (terms_of n w) h (pass t))) waiting
             (has_room l (event ∷ h)) event (pass_causeless n live ahead) y) [
               | inl made ↦
                   inl (able_by l w t going e refl (part_accepted l w t going e (self n) refl next made))
@@ -290,13 +324,13 @@ module _ (l : Limits) (w : List WorldEvent) (k : is_legal_world l w ≡ true) (t
   of_pass n ds s here =
       let h = phaser_past n w in
       let p = pass_stands n ds s here in
-      elim (cases_Bool (is_permitted l (ops_of n w) h (Claimed t))) [
+      elim (cases_Bool (is_permitted l (terms_of n w) h (Claimed t))) [
         | inl claim ↦
-            let next = next_by n ds true (is_permitted l (ops_of n w) h (Done t)) here claim refl in
+            let next = next_by n ds true (is_permitted l (terms_of n w) h (Done t)) here claim refl in
             inl (able_by l w t going (Phaser n (Claim t)) refl
             (part_accepted l w t going (Phaser n (Claim t)) (self n) refl next (claim_made n claim)))
         | inr no_claim ↦
-            elim (cases_Bool (is_permitted l (ops_of n w) h (Done t))) [
+            elim (cases_Bool (is_permitted l (terms_of n w) h (Done t))) [
               | inl did ↦
                   inl (able_by l w t going (Phaser n (Did t)) refl
                   (part_accepted l w t going (Phaser n (Did t)) (self n) refl

@@ -110,8 +110,8 @@ nothing_due t w k = idle_parts (is_born t w) (is_ended t w) (is_empty (due t w))
 -- a task's event in the middle of an act continues it, if it is no entry
 pub continues : (l : Limits) (w : List WorldEvent) (e : WorldEvent) → is_accepted l w e ≡ true
     → is_entry (actor w e) e ≡ false → is_empty (due (actor w e) w) ≡ false → IsNext l w e
-continues l w (Phaser n (Make t m ops)) a n' d =
-    absurd (true≢false (sym (nothing_due t w (idle_in_act l w t (New n m ops) a)).0 ∙ d))
+continues l w (Phaser n (Make t m terms)) a n' d =
+    absurd (true≢false (sym (nothing_due t w (idle_in_act l w t (New n m terms) a)).0 ∙ d))
 continues l w (Phaser n (Send t c v)) a n' d =
     absurd (true≢false (sym (nothing_due t w (idle_in_act l w t (Sending n c v) a)).0 ∙ d))
 continues l w (Phaser n (Look t c)) a n' d =

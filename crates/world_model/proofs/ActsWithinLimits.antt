@@ -44,8 +44,8 @@ counted_below l w u a c m =
 
 below_limit : (l : Limits) (w : List WorldEvent) (e : WorldEvent) (t : ℕ) → is_accepted l w e ≡ true
     → is_act t e ≡ true → acts t w < l.acts
-below_limit l w (Phaser n (Make u m ops)) t h k =
-    subst (λ v. acts v w < l.acts) (eqb-true u t k) (counted_below l w u (New n m ops) refl h)
+below_limit l w (Phaser n (Make u m terms)) t h k =
+    subst (λ v. acts v w < l.acts) (eqb-true u t k) (counted_below l w u (New n m terms) refl h)
 below_limit l w (Phaser n (Send u a v)) t h k =
     subst (λ x. acts x w < l.acts) (eqb-true u t k) (counted_below l w u (Sending n a v) refl h)
 below_limit l w (Phaser n (Look u a)) t h k =

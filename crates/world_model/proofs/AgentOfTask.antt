@@ -23,7 +23,7 @@ use Rattle.world_model.proofs.PassesInTurns.{idle_is_born, unborn_none, no_entry
 
 -- the step is about t
 abbrev pub is_about : ℕ → Step → Bool
-is_about t (Make u m ops) = u == t
+is_about t (Make u m terms) = u == t
 is_about t (Reg q u m) = u == t
 is_about t (Sig u x) = u == t
 is_about t (Claim u) = u == t
@@ -92,8 +92,8 @@ module _ (l : Limits) (w : List WorldEvent) (k : is_legal_world l w ≡ true) wh
   -- who makes the step is the agent of whom it is about
   agent_of : (n t : ℕ) (s : Step) → is_accepted l w (Phaser n s) ≡ true → is_about t s ≡ true
       → actor w (Phaser n s) ≡ agent t w
-  agent_of n t (Make u m ops) a s =
-      own_agent u (idle_is_born u w (idle_in_act l w u (New n m ops) a))
+  agent_of n t (Make u m terms) a s =
+      own_agent u (idle_is_born u w (idle_in_act l w u (New n m terms) a))
       ∙ ap (λ v. agent v w) (eqb-true u t s)
   agent_of n t (Send u c v) a s =
       own_agent u (idle_is_born u w (idle_in_act l w u (Sending n c v) a))

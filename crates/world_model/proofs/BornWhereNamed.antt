@@ -15,7 +15,7 @@ use Rattle.world_model.specs.declared.event.Step.TheVariants.{Reg, Claim, Did, P
 use Rattle.world_model.specs.declared.event.Begun.TheVariants.{Async}
 use Rattle.world_model.specs.declared.event.WorldEvent.{WorldEvent}
 use Rattle.world_model.specs.declared.event.WorldEvent.TheVariants.{Phaser, Finish, Begin, Refuse, Fail}
-use Rattle.world_model.specs.Parts.{ops_of, phaser_past}
+use Rattle.world_model.specs.Parts.{terms_of, phaser_past}
 use Rattle.world_model.specs.Tasks.{spawner, spawns, is_born}
 use Rattle.world_model.specs.Numbers.{is_named}
 use Rattle.world_model.specs.Actors.{actor}
@@ -37,8 +37,8 @@ no_finish false false n f s r u e k = absurd cc
 pub finish_due : (l : Limits) (w : List WorldEvent) (d : WorldEvent) (f : ℕ) (e : FinishEvent)
     → or_single l w d ≡ Finish f e → d ≡ Finish f e
 finish_due l w (Phaser n (Pass t)) f e k =
-    absurd (no_finish (is_permitted l (ops_of n w) (phaser_past n w) (Claimed t))
-    (is_permitted l (ops_of n w) (phaser_past n w) (Done t)) n f (Claim t) (Did t) (Pass t) e k)
+    absurd (no_finish (is_permitted l (terms_of n w) (phaser_past n w) (Claimed t))
+    (is_permitted l (terms_of n w) (phaser_past n w) (Done t)) n f (Claim t) (Did t) (Pass t) e k)
 finish_due l w d f e k = k
 
 abbrev pub IsBirth : ℕ → ℕ → List WorldEvent → Type 0
@@ -180,7 +180,7 @@ no_reg false false n m s r u v x y z k = z (same_step k)
 pub reg_due : (l : Limits) (w : List WorldEvent) (d : WorldEvent) (m q c : ℕ) (mode : Mode)
     → or_single l w d ≡ Phaser m (Reg q c mode) → d ≡ Phaser m (Reg q c mode)
 reg_due l w (Phaser n (Pass t)) m q c mode k =
-    absurd (no_reg (is_permitted l (ops_of n w) (phaser_past n w) (Claimed t)) (is_permitted l (ops_of n w)
+    absurd (no_reg (is_permitted l (terms_of n w) (phaser_past n w) (Claimed t)) (is_permitted l (terms_of n w)
     (phaser_past n w) (Done t)) n m (Claim t) (Did t) (Pass t) (Reg q c mode)
     (λ e. absurd cc) (λ e. absurd cc) (λ e. absurd cc) k)
 reg_due l w d m q c mode k = k

@@ -11,7 +11,7 @@ use Rattle.phase_model.specs.Rules.{is_permitted}
 use Rattle.world_model.specs.declared.event.Step.TheVariants.{Sig, Claim, Did, Pass}
 use Rattle.world_model.specs.declared.event.WorldEvent.{WorldEvent}
 use Rattle.world_model.specs.declared.event.WorldEvent.TheVariants.{Phaser}
-use Rattle.world_model.specs.Parts.{ops_of, phaser_past}
+use Rattle.world_model.specs.Parts.{terms_of, phaser_past}
 use Rattle.world_model.specs.Actors.{actor}
 use Rattle.world_model.specs.Due.{due, is_entry, is_of_single, is_idle, or_single}
 use Rattle.world_model.specs.Clock.{clock, base}
@@ -93,8 +93,8 @@ single_or_pass false false n t = refl
 turn_stands : (l : Limits) (w : List WorldEvent) (t : ℕ) (d : WorldEvent) (b : Bool)
     → (is_pass t d || (is_sig t d && b)) ≡ true → is_turn_event (or_single l w d) ≡ true
 turn_stands l w t (Phaser n (Pass u)) b k =
-    single_or_pass (is_permitted l (ops_of n w) (phaser_past n w) (Claimed u))
-    (is_permitted l (ops_of n w) (phaser_past n w) (Done u)) n u
+    single_or_pass (is_permitted l (terms_of n w) (phaser_past n w) (Claimed u))
+    (is_permitted l (terms_of n w) (phaser_past n w) (Done u)) n u
 turn_stands l w t (Phaser n (Sig u x)) b k = refl
 turn_stands l w t d b k = absurd cc
 
@@ -133,8 +133,8 @@ no_sig false false n m t u x k = absurd cc
 sig_due : (l : Limits) (w : List WorldEvent) (d : WorldEvent) (m u : ℕ) (x : Option ℕ)
     → or_single l w d ≡ Phaser m (Sig u x) → d ≡ Phaser m (Sig u x)
 sig_due l w (Phaser n (Pass t)) m u x k =
-    absurd (no_sig (is_permitted l (ops_of n w) (phaser_past n w) (Claimed t))
-    (is_permitted l (ops_of n w) (phaser_past n w) (Done t)) n m t u x k)
+    absurd (no_sig (is_permitted l (terms_of n w) (phaser_past n w) (Claimed t))
+    (is_permitted l (terms_of n w) (phaser_past n w) (Done t)) n m t u x k)
 sig_due l w d m u x k = k
 
 -- a signal

@@ -15,7 +15,7 @@ use Rattle.world_model.specs.declared.event.Step.TheVariants.{Reg}
 use Rattle.world_model.specs.declared.event.Begun.TheVariants.{Async}
 use Rattle.world_model.specs.declared.event.WorldEvent.{WorldEvent}
 use Rattle.world_model.specs.declared.event.WorldEvent.TheVariants.{Phaser, Finish, Begin}
-use Rattle.world_model.specs.Parts.{ops_of, phaser_past}
+use Rattle.world_model.specs.Parts.{terms_of, phaser_past}
 use Rattle.world_model.specs.Tasks.{is_born, spawns, spawner}
 use Rattle.world_model.specs.Due.{due, is_entry, is_idle}
 use Rattle.world_model.specs.Clock.{clock, base}
@@ -95,8 +95,8 @@ module _ (l : Limits) (w : List WorldEvent) (k : is_legal_world l w ≡ true) (b
     parent_live : IsLiveOn q m w
     parent_live =
         let g = phaser_past m w in
-        (reg_follows l (ops_of m w) g q c mode
-        (and_parts (is_permitted l (ops_of m w) g (Registered q c mode))
+        (reg_follows l (terms_of m w) g q c mode
+        (and_parts (is_permitted l (terms_of m w) g (Registered q c mode))
         (has_room l (Registered q c mode ∷ g)) (step_allowed l w m (Reg q c mode) h)).0).parent_live
 
     passed_reg : (t n : ℕ) → has_passed t n (joining ∷ w) ≡ has_passed t n w

@@ -6,7 +6,7 @@ use Rattle.std.specs.List.{list_any}
 use Rattle.std.proofs.lemmas.Bool.{and_parts, or_cases, cases_Bool, eqb-true, true≢false}
 use Rattle.phase_modes.specs.declared.reg.Mode.{Mode}
 use Rattle.phase_modes.specs.declared.limits.Limits.{Limits}
-use Rattle.phase_model.specs.declared.op.Op.{Op}
+use Rattle.phase_model.specs.declared.terms.Terms.{Terms}
 use Rattle.phase_model.specs.declared.history.Event.{Event}
 use Rattle.phase_model.specs.declared.history.Event.TheVariants.{Make as Made}
 use Rattle.phase_model.specs.Tasks.{is_registered, is_dropped, is_live}
@@ -17,7 +17,7 @@ use Rattle.world_model.specs.declared.event.Step.TheVariants.{Make, Sig, Claim, 
 use Rattle.world_model.specs.declared.event.Tried.TheVariants.{New, Open, Send as Sending, Look as Looking}
 use Rattle.world_model.specs.declared.event.WorldEvent.{WorldEvent}
 use Rattle.world_model.specs.declared.event.WorldEvent.TheVariants.{Phaser, Finish}
-use Rattle.world_model.specs.Parts.{ops_of, phaser_past, event_for}
+use Rattle.world_model.specs.Parts.{terms_of, phaser_past, event_for}
 use Rattle.world_model.specs.Tasks.{is_born, spawns, spawner}
 use Rattle.world_model.specs.Due.{due, is_entry, is_idle}
 use Rattle.world_model.specs.Clock.{clock, base}
@@ -106,7 +106,7 @@ module _ (l : Limits) (w : List WorldEvent) (k : is_legal_world l w ≡ true) (b
     )
 
   abbrev added : ℕ → Step → Event
-  added n s = event_for (ops_of n w) (phaser_past n w) s
+  added n s = event_for (terms_of n w) (phaser_past n w) s
 
   -- a step that registers nobody, and is no pass
   module _ (m : ℕ) (s : Step) (plain_base : (n : ℕ) → base n (Phaser m s ∷ w) ≡ base n w)
@@ -173,13 +173,13 @@ module _ (l : Limits) (w : List WorldEvent) (k : is_legal_world l w ≡ true) (b
       (λ t n. passed_part l t n (Finish f Shutting) w refl (part_made l w (Finish f Shutting) h).0 refl)
 
   -- a phaser is made
-  module _ (m u : ℕ) (mode : Mode) (ops : List Op)
-      (h : is_accepted l w (Phaser m (Make u mode ops)) ≡ true) where
+  module _ (m u : ℕ) (mode : Mode) (terms : Terms)
+      (h : is_accepted l w (Phaser m (Make u mode terms)) ≡ true) where
     abbrev making : WorldEvent
-    making = Phaser m (Make u mode ops)
+    making = Phaser m (Make u mode terms)
 
     maker_idle : is_idle u w ≡ true
-    maker_idle = idle_in_act l w u (New m mode ops) h
+    maker_idle = idle_in_act l w u (New m mode terms) h
 
     only_maker : (t : ℕ) (b : Bool) (g : List Event) → b ≡ true → g ≡ []
         → is_live t (cond b (Made u mode ∷ g) g) ≡ true → (u == t) ≡ true
@@ -197,7 +197,7 @@ module _ (l : Limits) (w : List WorldEvent) (k : is_legal_world l w ≡ true) (b
     made_here : (t : ℕ) → OfBorn t m (making ∷ w)
     made_here t a b c =
         let ut : (u == t) ≡ true =
-        only_maker t (m == m) (phaser_past m w) (eq_self m) (new_past l w m u mode ops h) a in
+        only_maker t (m == m) (phaser_past m w) (eq_self m) (new_past l w m u mode terms h) a in
         let same : u ≡ t = eqb-true u t ut in
         let none : has_passed t m (making ∷ w) ≡ false =
         passed_idle t m making w refl refl maker_idle
@@ -220,7 +220,7 @@ module _ (l : Limits) (w : List WorldEvent) (k : is_legal_world l w ≡ true) (b
     unborn_here : (t : ℕ) → OfUnborn t m (making ∷ w)
     unborn_here t a b c =
         let ut : (u == t) ≡ true =
-        only_maker t (m == m) (phaser_past m w) (eq_self m) (new_past l w m u mode ops h) a in
+        only_maker t (m == m) (phaser_past m w) (eq_self m) (new_past l w m u mode terms h) a in
         absurd (true≢false
         (sym (subst (λ v. is_born v w ≡ true) (eqb-true u t ut) (idle_is_born u w maker_idle)) ∙ b))
 

@@ -193,8 +193,8 @@ module _ (l : Limits) (w : List WorldEvent) (k : is_legal_world l w ≡ true)
         | inl m ↦ own_abrupt t (Fail u n) w (rw m refl) refl refl (before t)
         | inr m ↦ kept t (Fail u n) w m refl (same_le (turns_begun w)) (before t)
       ]
-  after_event (Phaser n (Make u m ops)) h t =
-      kept t (Phaser n (Make u m ops)) w refl refl (same_le (turns_begun w)) (before t)
+  after_event (Phaser n (Make u m terms)) h t =
+      kept t (Phaser n (Make u m terms)) w refl refl (same_le (turns_begun w)) (before t)
   after_event (Phaser n (Reg q u m)) h t =
       kept t (Phaser n (Reg q u m)) w refl refl (same_le (turns_begun w)) (before t)
   after_event (Phaser n (Sig u x)) h t =

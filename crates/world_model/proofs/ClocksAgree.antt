@@ -21,7 +21,7 @@ both l (e ∷ w) k =
   where
     by_event : (l : Limits) (e : WorldEvent) (w : List WorldEvent) → is_legal_world l w ≡ true → Both w
         → is_accepted l w e ≡ true → Both (e ∷ w)
-    by_event l (Phaser m (Make u mode ops)) w k b h = after_make l w k b m u mode ops h
+    by_event l (Phaser m (Make u mode terms)) w k b h = after_make l w k b m u mode terms h
     by_event l (Phaser m (Reg q c mode)) w k b h = after_reg l w k b m q c mode h
     by_event l (Phaser m (Sig u x)) w k b h = after_sig l w k b m u x h
     by_event l (Phaser m (Claim u)) w k b h = after_claim l w k b m u

@@ -9,7 +9,7 @@ use Rattle.phase_model.specs.Rules.{is_permitted}
 use Rattle.world_model.specs.declared.event.Step.TheVariants.{Claim, Did, Pass}
 use Rattle.world_model.specs.declared.event.WorldEvent.{WorldEvent}
 use Rattle.world_model.specs.declared.event.WorldEvent.TheVariants.{Phaser}
-use Rattle.world_model.specs.Parts.{ops_of, phaser_past}
+use Rattle.world_model.specs.Parts.{terms_of, phaser_past}
 use Rattle.world_model.specs.Actors.{actor}
 use Rattle.world_model.specs.Due.{due, fixed, is_entry, is_of_single, or_single}
 use Rattle.world_model.specs.Replies.{is_legal_world, is_accepted}
@@ -30,8 +30,8 @@ single_first false false n t e k s = k
 pub stands_itself : (l : Limits) (w : List WorldEvent) (d e : WorldEvent) → or_single l w d ≡ e
     → is_of_single e ≡ false → d ≡ e
 stands_itself l w (Phaser n (Pass t)) e k s =
-    single_first (is_permitted l (ops_of n w) (phaser_past n w) (Claimed t))
-    (is_permitted l (ops_of n w) (phaser_past n w) (Done t)) n t e k s
+    single_first (is_permitted l (terms_of n w) (phaser_past n w) (Claimed t))
+    (is_permitted l (terms_of n w) (phaser_past n w) (Done t)) n t e k s
 stands_itself l w d e k s = k
 
 -- e is the first that is due to t

@@ -8,7 +8,7 @@ use Rattle.phase_modes.specs.declared.reg.Mode.{Mode}
 use Rattle.phase_modes.specs.declared.limits.Limits.{Limits}
 use Rattle.phase_modes.specs.declared.refusal.Refusal.TheVariants.{NotNow, ActsFull, PhasersFull}
 use Rattle.phase_modes.specs.Refusal.{first_refusal}
-use Rattle.phase_model.specs.declared.op.Op.{Op}
+use Rattle.phase_model.specs.declared.terms.Terms.{Terms}
 use Rattle.phase_model.specs.declared.history.Event.{Event}
 use Rattle.phase_model.specs.declared.history.Event.TheVariants.{Reg as Registered}
 use Rattle.phase_model.specs.Tasks.{registers, drops, is_registered, is_dropped, is_live}
@@ -22,7 +22,7 @@ use Rattle.world_model.specs.declared.event.Begun.TheVariants.{Async}
 use Rattle.world_model.specs.declared.event.Tried.TheVariants.{New}
 use Rattle.world_model.specs.declared.event.WorldEvent.{WorldEvent}
 use Rattle.world_model.specs.declared.event.WorldEvent.TheVariants.{Phaser, Finish, Begin, Refuse, Fail}
-use Rattle.world_model.specs.Parts.{ops_of, phaser_past}
+use Rattle.world_model.specs.Parts.{terms_of, phaser_past}
 use Rattle.world_model.specs.Tasks.{joined_by, phasers_of, is_born, acts}
 use Rattle.world_model.specs.Numbers.{is_phaser}
 use Rattle.world_model.specs.Scopes.{inner, enclosing}
@@ -53,8 +53,8 @@ IsHeldByParent q c w ds = is_empty ds ≡ false → (n : ℕ) → is_live c (pha
 pub reg_finds : (l : Limits) (w : List WorldEvent) (n q c : ℕ) (m : Mode) → is_accepted l w (Phaser n (Reg q c m)) ≡ true → RegFollows l (phaser_past n w) q c m
 reg_finds l w n q c m a =
     let h = phaser_past n w in
-    let p = and_parts (is_permitted l (ops_of n w) h (Registered q c m)) (has_room l (Registered q c m ∷ h)) (step_allowed l w n (Reg q c m) a) in
-    reg_follows l (ops_of n w) h q c m p.0
+    let p = and_parts (is_permitted l (terms_of n w) h (Registered q c m)) (has_room l (Registered q c m ∷ h)) (step_allowed l w n (Reg q c m) a) in
+    reg_follows l (terms_of n w) h q c m p.0
 
 -- who is live stays so where another is registered
 live_still : (b r d : Bool) → (r && not d) ≡ true → ((b || r) && not d) ≡ true
@@ -166,9 +166,9 @@ module _ (l : Limits) (q c : ℕ) where
       parts false b d r e = absurd (false≢true e)
 
 -- a task that makes a phaser has room for it
-has_room_to_make : (l : Limits) (w : List WorldEvent) (n t : ℕ) (m : Mode) (ops : List Op) → is_accepted l w (Phaser n (Make t m ops)) ≡ true → length (phasers_of t w) + 1 ≤ 16
-has_room_to_make l w n t m ops a =
-    let asked = (act_made l w t (New n m ops) a).0 in
+has_room_to_make : (l : Limits) (w : List WorldEvent) (n t : ℕ) (m : Mode) (terms : Terms) → is_accepted l w (Phaser n (Make t m terms)) ≡ true → length (phasers_of t w) + 1 ≤ 16
+has_room_to_make l w n t m terms a =
+    let asked = (act_made l w t (New n m terms) a).0 in
     room (is_idle t w) (not (is_phaser n w)) (nat_lt (acts t w) l.acts) (nat_lt n l.phasers) (length (phasers_of t w)) asked
   where
     last : (b : Bool) → first_refusal ((PhasersFull, b) ∷ []) ≡ None → b ≡ true
@@ -221,18 +221,18 @@ one_more ns ms n e k = omega (arith, ap (λ (xs : List ℕ). length xs) e ∙ le
 
 few : (l : Limits) (w : List WorldEvent) → is_legal_world l w ≡ true → (t : ℕ) → length (phasers_of t w) ≤ 16
 few l [] k t = omega arith
-few l (Phaser n (Make u m ops) ∷ w) k t =
-    let a = last_accepted l (Phaser n (Make u m ops)) w k in
+few l (Phaser n (Make u m terms) ∷ w) k t =
+    let a = last_accepted l (Phaser n (Make u m terms)) w k in
     elim (cases_Bool (u == t)) [
       | inl e ↦
           let same : u ≡ t = eqb-true u t e in
-          let new = new_past l w n u m ops a.0 in
+          let new = new_past l w n u m terms a.0 in
           let none : joins t n w ≡ 0 = joined_once l w a.1 t n ∙ ap (λ h. cond (is_registered t h) 1 0) new in
-          let joined : phasers_of t (Phaser n (Make u m ops) ∷ w) ≡ phasers_of t w ++ n ∷ [] =
-          own_joined t n (Make u m ops) w (rw e refl) (rw (eq_self n, e, new) refl) none
+          let joined : phasers_of t (Phaser n (Make u m terms) ∷ w) ≡ phasers_of t w ++ n ∷ [] =
+          own_joined t n (Make u m terms) w (rw e refl) (rw (eq_self n, e, new) refl) none
           in
-          one_more (phasers_of t (Phaser n (Make u m ops) ∷ w)) (phasers_of t w) n joined (subst (λ v. length (phasers_of v w) + 1 ≤ 16) same (has_room_to_make l w n u m ops a.0))
-      | inr e ↦ subst (λ ns. length ns ≤ 16) (sym (phasers_same t (Phaser n (Make u m ops)) w e)) (few l w a.1 t)
+          one_more (phasers_of t (Phaser n (Make u m terms) ∷ w)) (phasers_of t w) n joined (subst (λ v. length (phasers_of v w) + 1 ≤ 16) same (has_room_to_make l w n u m terms a.0))
+      | inr e ↦ subst (λ ns. length ns ≤ 16) (sym (phasers_same t (Phaser n (Make u m terms)) w e)) (few l w a.1 t)
     ]
 few l (Phaser n (Reg q u m) ∷ w) k t =
     let a = last_accepted l (Phaser n (Reg q u m)) w k in
@@ -241,7 +241,7 @@ few l (Phaser n (Reg q u m) ∷ w) k t =
           let same : u ≡ t = eqb-true u t e in
           let f : RegFollows l (phaser_past n w) q u m = reg_finds l w n q u m a.0 in
           let unknown : is_registered t (phaser_past n w) ≡ false = subst (λ v. is_registered v (phaser_past n w) ≡ false) same f.unknown in
-          let gone : is_dropped t (phaser_past n w) ≡ false = fresh_not_dropped l (ops_of n w) (phaser_past n w) t (phasers_legal l w a.1 n) unknown in
+          let gone : is_dropped t (phaser_past n w) ≡ false = fresh_not_dropped l (terms_of n w) (phaser_past n w) t (phasers_legal l w a.1 n) unknown in
           let none : joins t n w ≡ 0 = joined_once l w a.1 t n ∙ ap (λ b. cond b 1 0) unknown in
           let joined : phasers_of t (Phaser n (Reg q u m) ∷ w) ≡ phasers_of t w ++ n ∷ [] =
           own_joined t n (Reg q u m) w (rw e refl) (rw (eq_self n, e, gone) refl) none

@@ -1,5 +1,5 @@
--- The core of going on: where each signaller of a phaser is in a turn and no clock is behind t's, the phase
--- for which t waits is closed.
+-- The core of going on: where each signaller of a phaser has signalled in its turn or is later than t, and no
+-- clock is behind t's, the phase for which t waits is closed.
 use Rattle.std.proofs.Common.{◌≡◌, ◌⊎◌, ℕ, ◌+◌, ◌<◌, ◌≤◌, Bool, true, false, not, cond, nat_lt, List, [], ◌∷◌, refl, subst, ap, inl, inr, arith}
 use Rattle.std.specs.Prelude.{filter}
 use Rattle.std.specs.List.{list_all}
@@ -11,7 +11,7 @@ use Rattle.phase_model.specs.Tasks.{is_live, has_mode, registered_tasks}
 use Rattle.phase_model.specs.Phases.{waits, signals, is_past, is_closed}
 use Rattle.phase_model.proofs.Legal.{at_or_ahead}
 use Rattle.world_model.specs.declared.event.WorldEvent.{WorldEvent}
-use Rattle.world_model.specs.Parts.{ops_of, phaser_past}
+use Rattle.world_model.specs.Parts.{terms_of, phaser_past}
 use Rattle.world_model.specs.Tasks.{is_born}
 use Rattle.world_model.specs.Clock.{clock, base}
 use Rattle.world_model.specs.Replies.{is_legal_world}
@@ -33,12 +33,13 @@ closed_by : (p : ℕ) (h : List Event) → ((t : ℕ) → is_live t h ≡ true �
     → is_closed p h ≡ true
 closed_by p h k = all_filter (is_past p h) (λ t. is_live t h) (registered_tasks h) k
 
--- s can go on, is no earlier than t, and has passed phaser n or signalled on it
+-- s can go on, is no earlier than t, and has passed phaser n or signalled on it, or is later than t
 pub record IsAlong (t s n : ℕ) (w : List WorldEvent) : Type 0 where
   pub born : is_born s w ≡ true
   pub goes_on : leads_to_end (last_entry s w) ≡ false
   pub no_earlier : clock t w ≤ clock s w
   pub there : (has_passed s n w ≡ true) ⊎ (signals s (phaser_past n w) ≡ waits s (phaser_past n w) + 1)
+      ⊎ (clock t w < clock s w)
 
 passed_past : (wt ws ss ct cs b : ℕ) → wt + b ≡ ct + 0 → ws + b ≡ cs + 1 → ct ≤ cs
     → (ss ≡ ws) ⊎ (ss ≡ ws + 1) → wt < ss
@@ -55,6 +56,18 @@ ahead_past wt ws ss ct cs b false p q k e = ahead_none wt ws ss ct cs b p q k e
   where
     ahead_none : (wt ws ss ct cs b : ℕ) → wt + b ≡ ct + 0 → ws + b ≡ cs + 0 → ct ≤ cs → ss ≡ ws + 1 → wt < ss
     ahead_none wt ws ss ct cs b p q k e = omega arith
+
+-- who is later has passed more often, and so has signalled more often
+later_past : (wt ws ss ct cs b : ℕ) (x : Bool) → wt + b ≡ ct + 0 → ws + b ≡ cs + cond x 1 0 → ct < cs
+    → (ss ≡ ws) ⊎ (ss ≡ ws + 1) → wt < ss
+later_past wt ws ss ct cs b x p q k e = after_it wt ws ss ct cs b (cond x 1 0) p q k (no_less ss ws e)
+  where
+    no_less : (ss ws : ℕ) → (ss ≡ ws) ⊎ (ss ≡ ws + 1) → ws ≤ ss
+    no_less ss ws (inl e) = omega arith
+    no_less ss ws (inr e) = omega arith
+
+    after_it : (wt ws ss ct cs b y : ℕ) → wt + b ≡ ct + 0 → ws + b ≡ cs + y → ct < cs → ws ≤ ss → wt < ss
+    after_it wt ws ss ct cs b y p q k e = omega arith
 
 module _ (l : Limits) (w : List WorldEvent) (k : is_legal_world l w ≡ true) (t n : ℕ)
     (live : is_live t (phaser_past n w) ≡ true) (born : is_born t w ≡ true)
@@ -76,10 +89,16 @@ module _ (l : Limits) (w : List WorldEvent) (k : is_legal_world l w ≡ true) (t
         | inl p ↦
             passed_past (waits t h) (waits s h) (signals s h) (clock t w) (clock s w) (base n w) own
             (subst (λ b. waits s h + base n w ≡ clock s w + cond b 1 0) p law) a.no_earlier
-            (at_or_ahead l (ops_of n w) h (phasers_legal l w k n) s m)
-        | inr p ↦
-            ahead_past (waits t h) (waits s h) (signals s h) (clock t w) (clock s w) (base n w)
-            (has_passed s n w) own law a.no_earlier p
+            (at_or_ahead l (terms_of n w) h (phasers_legal l w k n) s m)
+        | inr r ↦
+            elim r [
+              | inl p ↦
+                  ahead_past (waits t h) (waits s h) (signals s h) (clock t w) (clock s w) (base n w)
+                  (has_passed s n w) own law a.no_earlier p
+              | inr p ↦
+                  later_past (waits t h) (waits s h) (signals s h) (clock t w) (clock s w) (base n w)
+                  (has_passed s n w) own law p (at_or_ahead l (terms_of n w) h (phasers_legal l w k n) s m)
+            ]
       ]
 
   -- the phase for which t waits is closed

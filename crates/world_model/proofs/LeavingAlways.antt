@@ -40,7 +40,7 @@ not_full (x ∷ xs) y ds e k = true≢false (sym k ∙ ap (λ zs. is_empty zs) e
 -- who acts where nothing is due is idle
 pub acts_idle : (l : Limits) (w : List WorldEvent) (e : WorldEvent) → is_accepted l w e ≡ true
     → is_entry (actor w e) e ≡ false → due (actor w e) w ≡ [] → is_idle (actor w e) w ≡ true
-acts_idle l w (Phaser n (Make t m ops)) a n' d = idle_in_act l w t (New n m ops) a
+acts_idle l w (Phaser n (Make t m terms)) a n' d = idle_in_act l w t (New n m terms) a
 acts_idle l w (Phaser n (Send t c v)) a n' d = idle_in_act l w t (Sending n c v) a
 acts_idle l w (Phaser n (Look t c)) a n' d = idle_in_act l w t (Looking n c) a
 acts_idle l w (Finish f (Opened t)) a n' d = idle_in_act l w t (Open f) a

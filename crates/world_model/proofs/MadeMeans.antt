@@ -40,14 +40,14 @@ done_made h (phaser.done e) k = (e, refl)
 
 -- where a phaser made an event, its history allowed it
 pub call_allowed : (s : Story) (c : Call) → is_made (returned s.past (phaser.reply s c)) ≡ true
-    → is_allowed s.limits s.ops s.past (phaser.event_for s.limits s.ops s.past c) ≡ true
+    → is_allowed s.limits s.terms s.past (phaser.event_for s.limits s.terms s.past c) ≡ true
 call_allowed s c k =
     let m = done_made s.past (phaser.reply s c) k in
-    let f = phaser.event_for s.limits s.ops s.past c in
+    let f = phaser.event_for s.limits s.terms s.past c in
     let d =
-    settled_done (first_refusal (conditions s.limits s.ops s.past c))
-    (phaser.must_wait s.limits s.ops s.past c) (has_room s.limits (f ∷ s.past)) f m.0 m.1 in
-    subst (λ g. is_allowed s.limits s.ops s.past g ≡ true) (sym d.1) (done_is_allowed s c m.0 m.1)
+    settled_done (first_refusal (conditions s.limits s.terms s.past c))
+    (phaser.must_wait s.limits s.terms s.past c) (has_room s.limits (f ∷ s.past)) f m.0 m.1 in
+    subst (λ g. is_allowed s.limits s.terms s.past g ≡ true) (sym d.1) (done_is_allowed s c m.0 m.1)
 
 unless_made : (o : Option Refusal) (r : Result Reply Refusal) → is_made (unless o r) ≡ true
     → (o ≡ None) × (is_made r ≡ true)

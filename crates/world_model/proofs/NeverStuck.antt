@@ -23,14 +23,14 @@ use Rattle.world_model.proofs.EndedInside.{root_unspawned, owner_opened, open_be
 use Rattle.world_model.proofs.ShutsLeaveNobody.{shutter_left}
 use Rattle.world_model.proofs.TurnsStand.{none_at}
 use Rattle.world_model.proofs.HomesOpen.{spawned_is_born}
-use Rattle.world_model.proofs.AbleOrWaits.{WaitsToPass, WaitsToShut}
+use Rattle.world_model.proofs.AbleOrWaits.{WaitsAtPhaser, WaitsToShut}
 use Rattle.world_model.proofs.OpenedInOrder.{opened_at, opened_within, owner_before}
 use Rattle.world_model.proofs.InsideIsLater.{is_inside, inside_is, inside_after, root_outside, spawned_home, ended_at_home}
 use Rattle.world_model.proofs.NoneWaitsAlone.{tasks_born, born_tasks, fails_at, found_in, going_on, listed, goes, none_alone, holder, holder_is, sorted}
 
 module _ (l : Limits) (w : List WorldEvent) (k : is_legal_world l w ≡ true)
     (no_able : (t : ℕ) → is_born t w ≡ true → is_able l w t ≡ true → ⊥) where
-  -- nobody waits to shut f: inside it all would wait at passes, and the one with the least clock could go on
+  -- nobody waits to shut f: inside it all would wait at phasers, and the one with the least clock could go on
   module _ (o : ℕ) (c : WaitsToShut o w) where
     abbrev within : List ℕ
     within = going_on w (λ s. is_inside c.finish s w)
@@ -115,7 +115,7 @@ module _ (l : Limits) (w : List WorldEvent) (k : is_legal_world l w ≡ true)
         (eq-eqb (home x w) f (spawned_home l w k x f r.1)) in
         (x, listed w (λ s. is_inside f s w) x b g i)
 
-    all_inside : ((x : ℕ) → has x within ≡ true → WaitsToPass l x w) → ⊥
+    all_inside : ((x : ℕ) → has x within ≡ true → WaitsAtPhaser l x w) → ⊥
     all_inside pass =
         none_alone l w k within (λ x h. (goes w (λ s. is_inside c.finish s w) x h).0) pass
         (λ t s h p v.
@@ -173,7 +173,7 @@ module _ (l : Limits) (w : List WorldEvent) (k : is_legal_world l w ≡ true)
       one_less : (n x y m : ℕ) → n ≤ x + suc m → x < y → n ≤ y + m
       one_less n x y m a b = omega arith
 
-  -- and where all wait at passes, the one with the least clock can go on
+  -- and where all wait at phasers, the one with the least clock can go on
   nobody_waits : (t : ℕ) → is_born t w ≡ true → is_ended t w ≡ false → ⊥
   nobody_waits t b g =
       let all = going_on w (λ s. true) in

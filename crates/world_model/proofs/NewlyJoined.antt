@@ -7,7 +7,7 @@ use Rattle.phase_model.specs.Tasks.{is_live}
 use Rattle.world_model.specs.declared.event.Step.{Step}
 use Rattle.world_model.specs.declared.event.WorldEvent.{WorldEvent}
 use Rattle.world_model.specs.declared.event.WorldEvent.TheVariants.{Phaser}
-use Rattle.world_model.specs.Parts.{ops_of, phaser_past, event_for}
+use Rattle.world_model.specs.Parts.{terms_of, phaser_past, event_for}
 use Rattle.world_model.specs.Tasks.{phasers_of, joined_by}
 use Rattle.world_model.proofs.PhasersOnce.{times, times-reverse, joins}
 
@@ -48,4 +48,4 @@ pub own_joined : (u n : ℕ) (s : Step) (w : List WorldEvent) → joined_by u (P
 own_joined u n s w here live none =
     rw here
     (joined_last (λ m. is_live u (phaser_past m (Phaser n s ∷ w))) (λ m. is_live u (phaser_past m w)) n (filter_map (joined_by u) w) none live
-    (λ m k. ap (λ b. is_live u (cond b (event_for (ops_of m w) (phaser_past m w) s ∷ phaser_past m w) (phaser_past m w))) k))
+    (λ m k. ap (λ b. is_live u (cond b (event_for (terms_of m w) (phaser_past m w) s ∷ phaser_past m w) (phaser_past m w))) k))

@@ -28,7 +28,7 @@ use Rattle.world_model.specs.declared.event.WorldEvent.{WorldEvent}
 use Rattle.world_model.specs.declared.event.WorldEvent.TheVariants.{Phaser, Finish}
 use Rattle.world_model.specs.declared.reply.Reply.{Reply}
 use Rattle.world_model.specs.declared.reply.Reply.TheVariants.{NotYet}
-use Rattle.world_model.specs.Parts.{ops_of, phaser_past, finish_past}
+use Rattle.world_model.specs.Parts.{terms_of, phaser_past, finish_past}
 use Rattle.world_model.specs.Tasks.{home, is_born, is_ended}
 use Rattle.world_model.specs.Scopes.{inner, owner, open_finishes, enclosing}
 use Rattle.world_model.specs.Actors.{actor}
@@ -128,8 +128,8 @@ module _ (l : Limits) (w : List WorldEvent) (k : is_legal_world l w ≡ true) (t
   of_turn : (n : ℕ) (ds : List WorldEvent) → moves_act (last_entry t w) ≡ true
       → due t w ≡ Phaser n (Pass t) ∷ ds → IsExpected (before_pass l n t w)
   of_turn n ds s here =
-      by (is_permitted l (ops_of n w) (phaser_past n w) (Claimed t))
-      (is_permitted l (ops_of n w) (phaser_past n w) (Done t))
+      by (is_permitted l (terms_of n w) (phaser_past n w) (Claimed t))
+      (is_permitted l (terms_of n w) (phaser_past n w) (Done t))
       (λ y. made_expected (next_done l w (Phaser n (Claim t))) (claim_made l w k t born going n y))
       (λ y. made_expected (next_done l w (Phaser n (Did t))) (report_made l w k t born going n y))
     where
@@ -137,9 +137,9 @@ module _ (l : Limits) (w : List WorldEvent) (k : is_legal_world l w ≡ true) (t
       pass_expected =
           let h = phaser_past n w in
           let p = pass_stands l w k t born going n ds s here in
-          let event = phaser.event_for l (ops_of n w) h (pass t) in
-          room_expected h (first_refusal (conditions l (ops_of n w) h (pass t)))
-          (phaser.must_wait l (ops_of n w) h (pass t)) (has_room l (event ∷ h)) event
+          let event = phaser.event_for l (terms_of n w) h (pass t) in
+          room_expected h (first_refusal (conditions l (terms_of n w) h (pass t)))
+          (phaser.must_wait l (terms_of n w) h (pass t)) (has_room l (event ∷ h)) event
           (pass_causeless l w k t born going n p.0 p.1)
 
       by : (b c : Bool) → (b ≡ true → is_expected (next_done l w (Phaser n (Claim t))) ≡ true)
@@ -153,13 +153,14 @@ module _ (l : Limits) (w : List WorldEvent) (k : is_legal_world l w ≡ true) (t
       → due t w ≡ Phaser n (Sig t x) ∷ ds → IsExpected (Phaser n (Sig t x))
   of_signal n x ds s here =
       let h = phaser_past n w in
-      let room = has_room l (Signalled t x ∷ h) in (
+      let room = has_room l (Signalled t x ∷ h) in
+      let waiting = phaser.must_wait l (terms_of n w) h (signal t x) in (
         refl,
         elim (sig_causes l w k t born going n x ds s here) [
           | inl agreed ↦
-              room_expected h (first_refusal (conditions l (ops_of n w) h (signal t x))) false room
+              room_expected h (first_refusal (conditions l (terms_of n w) h (signal t x))) waiting room
               (Signalled t x) agreed
-          | inr mismatch ↦ ap (λ o. is_expected (returned h (settled o false room (Signalled t x)))) mismatch
+          | inr mismatch ↦ ap (λ o. is_expected (returned h (settled o waiting room (Signalled t x)))) mismatch
         ],
       )
 

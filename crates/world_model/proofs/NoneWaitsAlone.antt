@@ -25,7 +25,7 @@ use Rattle.world_model.proofs.SpawnedAtHome.{spawner_is_born}
 use Rattle.world_model.proofs.LeavingAlways.{live_named, agent_is}
 use Rattle.world_model.proofs.EndedInside.{ended_holds_nothing}
 use Rattle.world_model.proofs.SignalsComeFirst.{moves_act}
-use Rattle.world_model.proofs.AbleOrWaits.{WaitsToPass, WaitsToShut}
+use Rattle.world_model.proofs.AbleOrWaits.{WaitsAtPhaser, WaitsToShut}
 use Rattle.world_model.proofs.OutcomeOfEach.{outcome}
 use Rattle.world_model.proofs.LeastClockGoesOn.{waiter_moves, moves_no_end, group_goes_on, Least, least_of}
 
@@ -100,10 +100,10 @@ module _ (w : List WorldEvent) where
       (tasks_born s w a.1, not-true (is_ended s w) b.0, b.1)
 
 module _ (l : Limits) (w : List WorldEvent) (k : is_legal_world l w ≡ true) where
-  -- a list of tasks that all wait at a pass, and share their phasers with nobody else, is empty
+  -- a list of tasks that all wait at phasers, and share their phasers with nobody else, is empty
   pub none_alone : (xs : List ℕ) → ((x : ℕ) → has x xs ≡ true → is_born x w ≡ true)
-      → ((x : ℕ) → has x xs ≡ true → WaitsToPass l x w)
-      → ((t s : ℕ) → has t xs ≡ true → (p : WaitsToPass l t w) → is_live s (phaser_past p.on w) ≡ true
+      → ((x : ℕ) → has x xs ≡ true → WaitsAtPhaser l x w)
+      → ((t s : ℕ) → has t xs ≡ true → (p : WaitsAtPhaser l t w) → is_live s (phaser_past p.on w) ≡ true
       → has s xs ≡ true) → (x : ℕ) → has x xs ≡ true → ⊥
   none_alone [] born pass alone x h = false≢true h
   none_alone (y ∷ ys) born pass alone x h =
@@ -125,8 +125,8 @@ module _ (l : Limits) (w : List WorldEvent) (k : is_legal_world l w ≡ true) wh
         (λ x. true≢false (sym v ∙ ended_holds_nothing l w k (agent s w) s n x refl)),
   )
 
-  -- and if it waits at a pass, it is the task itself
-  pub holder_is : (s n : ℕ) → is_live s (phaser_past n w) ≡ true → WaitsToPass l (agent s w) w → agent s w ≡ s
+  -- and if it waits at a phaser, it is the task itself
+  pub holder_is : (s n : ℕ) → is_live s (phaser_past n w) ≡ true → WaitsAtPhaser l (agent s w) w → agent s w ≡ s
   holder_is s n v p =
       let turns = waiter_moves l w k (agent s w) p in
       elim (agent_is s (agent s w) w refl) [
@@ -145,12 +145,12 @@ module _ (l : Limits) (w : List WorldEvent) (k : is_legal_world l w ≡ true) wh
 module _ (l : Limits) (w : List WorldEvent) (k : is_legal_world l w ≡ true)
     (no_able : (t : ℕ) → is_born t w ≡ true → is_able l w t ≡ true → ⊥) where
   -- a task that goes on waits
-  waits_of : (t : ℕ) → is_born t w ≡ true → is_ended t w ≡ false → WaitsToPass l t w ⊎ WaitsToShut t w
+  waits_of : (t : ℕ) → is_born t w ≡ true → is_ended t w ≡ false → WaitsAtPhaser l t w ⊎ WaitsToShut t w
   waits_of t b g = elim (outcome l w k t b g) [ inl a ↦ absurd (no_able t b a) | inr r ↦ r ]
 
-  -- of a list, each at a pass, or one at a shut
+  -- of a list, each at a phaser, or one at a shut
   pub sorted : (xs : List ℕ) → ((x : ℕ) → has x xs ≡ true → (is_born x w ≡ true) × (is_ended x w ≡ false))
-      → ((x : ℕ) → has x xs ≡ true → WaitsToPass l x w) ⊎ ((x : ℕ) × (has x xs ≡ true) × WaitsToShut x w)
+      → ((x : ℕ) → has x xs ≡ true → WaitsAtPhaser l x w) ⊎ ((x : ℕ) × (has x xs ≡ true) × WaitsToShut x w)
   sorted [] go = inl (λ x h. absurd (false≢true h))
   sorted (x ∷ xs) go =
       let self = or_left (x == x) (has x xs) (eq-eqb x x refl) in
@@ -162,7 +162,7 @@ module _ (l : Limits) (w : List WorldEvent) (k : is_legal_world l w ≡ true)
               | inr r ↦ inr (r.0, or_right (x == r.0) (has r.0 xs) r.1, r.2)
               | inl f ↦
                   inl (λ y h. elim (or_cases (x == y) (has y xs) h) [
-                    | inl e ↦ subst (λ v. WaitsToPass l v w) (eqb-true x y e) p
+                    | inl e ↦ subst (λ v. WaitsAtPhaser l v w) (eqb-true x y e) p
                     | inr e ↦ f y e
                   ])
             ]

@@ -26,7 +26,7 @@ use Rattle.world_model.specs.declared.event.WorldEvent.{WorldEvent}
 use Rattle.world_model.specs.declared.event.WorldEvent.TheVariants.{Phaser, Finish, Begin, Refuse, Fail}
 use Rattle.world_model.specs.declared.reply.Reply.TheVariants.{NotYet}
 use Rattle.std.specs.Prelude.{Ok}
-use Rattle.world_model.specs.Parts.{ops_of, phaser_past, finish_past}
+use Rattle.world_model.specs.Parts.{terms_of, phaser_past, finish_past}
 use Rattle.world_model.specs.Tasks.{home, spawner, is_born, is_ended}
 use Rattle.world_model.specs.Scopes.{inner, owner, open_finishes}
 use Rattle.world_model.specs.Due.{due, is_entry, fixed}
@@ -71,7 +71,7 @@ module _ (l : Limits) (w : List WorldEvent) (k : is_legal_world l w ≡ true) (t
         | inr y ↦
             let z =
             open_test (has_proposed u p h) (is_settled p h)
-            (sym (owes_nothing_is l (ops_of n w) h (phasers_legal l w k n) u) ∙ y) in
+            (sym (owes_nothing_is l (terms_of n w) h (phasers_legal l w k n) u) ∙ y) in
             let undone : is_done p h ≡ false = (or_parts (not (is_proposed p h)) (is_done p h) z.1).1 in
             let q : HasPassLeft u n w = owes_in_turn l w k n u p z.0 undone in
             let same : u ≡ t =
@@ -99,7 +99,7 @@ module _ (l : Limits) (w : List WorldEvent) (k : is_legal_world l w ≡ true) (t
       let p = drop_facts u n ds s here in
       let nothing = owes_not u n ds here p.0 in
       let room =
-      (singles_have_room l (ops_of n w) h (phasers_legal l w k n) u).2
+      (singles_have_room l (terms_of n w) h (phasers_legal l w k n) u).2
       (and_from (is_live u h) (owes_nothing u h) p.1 nothing) in
       (p.0, answered h (is_live u h) (owes_nothing u h) (has_room l (Dropped u ∷ h)) p.1 nothing room)
     where
@@ -206,7 +206,7 @@ module _ (l : Limits) (w : List WorldEvent) (k : is_legal_world l w ≡ true) (t
       → list_all (is_move t) (d ∷ ds) ≡ true → Outcome l t w
   in_move (Phaser n (Sig u x)) ds s here y =
       let same : u ≡ t = eqb-true u t (and_parts (u == t) (list_all (is_move t) ds) y).0 in
-      inl (of_sig l w k t born going n x ds s (subst (λ v. due t w ≡ Phaser n (Sig v x) ∷ ds) same here))
+      of_sig l w k t born going n x ds s (subst (λ v. due t w ≡ Phaser n (Sig v x) ∷ ds) same here)
   in_move (Phaser n (Pass u)) ds s here y =
       let same : u ≡ t = eqb-true u t (and_parts (u == t) (list_all (is_move t) ds) y).0 in
       of_pass l w k t born going n ds s (subst (λ v. due t w ≡ Phaser n (Pass v) ∷ ds) same here)
@@ -248,7 +248,7 @@ kinds (Some (Phaser m s)) = inr (inr (inr refl))
 kinds (Some (Finish f s)) = inr (inr (inr refl))
 kinds None = inr (inr (inr refl))
 
--- a task that goes on is able, or waits at a pass, or at a shut
+-- a task that goes on is able, or waits at a phaser, or at a shut
 pub outcome : (l : Limits) (w : List WorldEvent) → is_legal_world l w ≡ true → (t : ℕ) → is_born t w ≡ true
     → is_ended t w ≡ false → Outcome l t w
 outcome l w k t born going = by (due t w) refl

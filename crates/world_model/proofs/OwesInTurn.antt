@@ -25,7 +25,7 @@ use Rattle.world_model.specs.declared.event.Step.TheVariants.{Sig, Claim, Did, P
 use Rattle.world_model.specs.declared.event.Tried.TheVariants.{Begun as Beginning}
 use Rattle.world_model.specs.declared.event.WorldEvent.{WorldEvent}
 use Rattle.world_model.specs.declared.event.WorldEvent.TheVariants.{Phaser, Finish, Begin, Refuse, Fail}
-use Rattle.world_model.specs.Parts.{ops_of, phaser_past, event_for, story_of}
+use Rattle.world_model.specs.Parts.{terms_of, phaser_past, event_for, story_of}
 use Rattle.world_model.specs.Actors.{actor}
 use Rattle.world_model.specs.Due.{due, is_entry, is_of_single, before_pass, next_event, or_single, is_idle}
 use Rattle.world_model.specs.PartReplies.{returned, phaser_reply}
@@ -53,7 +53,7 @@ module _ (l : Limits) (w : List WorldEvent) (k : is_legal_world l w ≡ true) (n
     (proposed : has_proposed t p (phaser_past n w) ≡ true)
     (undone : is_done p (phaser_past n w) ≡ false) where
   stands : IsBefore t p (phaser_past n w)
-  stands = owes l (ops_of n w) (phaser_past n w) (phasers_legal l w k n) t p proposed undone
+  stands = owes l (terms_of n w) (phaser_past n w) (phasers_legal l w k n) t p proposed undone
 
   open_single : is_settled p (phaser_past n w) ≡ false
   open_single =
@@ -61,24 +61,24 @@ module _ (l : Limits) (w : List WorldEvent) (k : is_legal_world l w ≡ true) (n
       (proposer_proposes t p (phaser_past n w) proposed) ∙ undone
 
   -- it may not pass
-  may_not_pass : is_permitted l (ops_of n w) (phaser_past n w) (Passed t) ≡ true → ⊥
+  may_not_pass : is_permitted l (terms_of n w) (phaser_past n w) (Passed t) ≡ true → ⊥
   may_not_pass y =
-      let f = pass_follows l (ops_of n w) (phaser_past n w) t y in
+      let f = pass_follows l (terms_of n w) (phaser_past n w) t y in
       true≢false (sym (subst (λ q. is_settled q (phaser_past n w) ≡ true) stands.at
       (f.settled (single_waits t (phaser_past n w) stands.single))) ∙ open_single)
 
-  claim_answer : (x : ℕ) → is_permitted l (ops_of n w) (phaser_past n w) (Claimed t) ≡ true
+  claim_answer : (x : ℕ) → is_permitted l (terms_of n w) (phaser_past n w) (Claimed t) ≡ true
       → is_refused_by x (phaser_reply l w n (Claim t)) ≡ false
   claim_answer x y =
       subst (λ r. is_refused_by x (returned (phaser_past n w) r) ≡ false)
       (sym ((singles_are_answered (story_of l n w) (phasers_legal l w k n) t).0 y)) refl
 
-  did_answer : (x : ℕ) → is_permitted l (ops_of n w) (phaser_past n w) (Done t) ≡ true
+  did_answer : (x : ℕ) → is_permitted l (terms_of n w) (phaser_past n w) (Done t) ≡ true
       → is_refused_by x (phaser_reply l w n (Did t)) ≡ false
   did_answer x y =
       let h = phaser_past n w in
-      let f = did_follows l (ops_of n w) h t y in
-      let room = did_has_room l (ops_of n w) h (phasers_legal l w k n) t y in
+      let f = did_follows l (terms_of n w) h t y in
+      let room = did_has_room l (terms_of n w) h (phasers_legal l w k n) t y in
       answered (is_live t h) (has_claimed t (waits t h) h) (is_done (waits t h) h)
       (has_room l (Done t ∷ h)) f.live f.claimed f.undone room
     where
@@ -88,16 +88,16 @@ module _ (l : Limits) (w : List WorldEvent) (k : is_legal_world l w ≡ true) (n
           room (Done t))) ≡ false
       answered a b c room p q r s = rw (p, q, r, s) refl
 
-  pass_answer : (x : ℕ) → is_permitted l (ops_of n w) (phaser_past n w) (Claimed t) ≡ false
+  pass_answer : (x : ℕ) → is_permitted l (terms_of n w) (phaser_past n w) (Claimed t) ≡ false
       → ((x == 7) || (x == 15)) ≡ true → is_refused_by x (phaser_reply l w n (Pass t)) ≡ false
   pass_answer x c s =
       let h = phaser_past n w in
-      let e = phaser.event_for l (ops_of n w) h (pass t) in
-      let no_pass : is_permitted l (ops_of n w) h (Passed t) ≡ false =
-      false_from_ne_true (is_permitted l (ops_of n w) h (Passed t)) may_not_pass in
+      let e = phaser.event_for l (terms_of n w) h (pass t) in
+      let no_pass : is_permitted l (terms_of n w) h (Passed t) ≡ false =
+      false_from_ne_true (is_permitted l (terms_of n w) h (Passed t)) may_not_pass in
       answered (is_live t h) (not (has_mode can_signal t h) || (signals t h == waits t h + 1))
-      (has_mode can_wait t h) (is_permitted l (ops_of n w) h (Passed t))
-      (is_permitted l (ops_of n w) h (Claimed t))
+      (has_mode can_wait t h) (is_permitted l (terms_of n w) h (Passed t))
+      (is_permitted l (terms_of n w) h (Claimed t))
       (has_room l (e ∷ h)) e (single_waits t h stands.single) no_pass c
     where
       number : (r : ℕ) → (r == 7) ≡ false → (r == 15) ≡ false → (r == x) ≡ false
@@ -119,7 +119,7 @@ module _ (l : Limits) (w : List WorldEvent) (k : is_legal_world l w ≡ true) (n
   before_answer : (x : ℕ) → ((x == 7) || (x == 15)) ≡ true
       → is_refused_by x (next_done l w (before_pass l n t w)) ≡ false
   before_answer x s =
-      by (is_permitted l (ops_of n w) (phaser_past n w) (Claimed t)) (is_permitted l (ops_of n w)
+      by (is_permitted l (terms_of n w) (phaser_past n w) (Claimed t)) (is_permitted l (terms_of n w)
       (phaser_past n w) (Done t)) (claim_answer x) (did_answer x) (λ c. pass_answer x c s)
     where
       by : (b c : Bool) → (b ≡ true → is_refused_by x (phaser_reply l w n (Claim t)) ≡ false)
@@ -132,8 +132,8 @@ module _ (l : Limits) (w : List WorldEvent) (k : is_legal_world l w ≡ true) (n
 
   no_reg : is_reg (before_pass l n t w) ≡ false
   no_reg =
-      by (is_permitted l (ops_of n w) (phaser_past n w) (Claimed t))
-      (is_permitted l (ops_of n w) (phaser_past n w) (Done t))
+      by (is_permitted l (terms_of n w) (phaser_past n w) (Claimed t))
+      (is_permitted l (terms_of n w) (phaser_past n w) (Done t))
     where
       by : (b c : Bool)
           → is_reg (cond b (Phaser n (Claim t)) (cond c (Phaser n (Did t)) (Phaser n (Pass t)))) ≡ false
@@ -219,7 +219,7 @@ module _ (l : Limits) (w : List WorldEvent) (k : is_legal_world l w ≡ true) (n
   now (Phaser m s) a old new = absurd (true≢false (sym (same (m == n) new) ∙ old))
     where
       same : (b : Bool) → has_proposed t p
-          (cond b (event_for (ops_of n w) (phaser_past n w) s ∷ phaser_past n w) (phaser_past n w)) ≡ true
+          (cond b (event_for (terms_of n w) (phaser_past n w) s ∷ phaser_past n w) (phaser_past n w)) ≡ true
           → has_proposed t p (phaser_past n w) ≡ true
       same true h = h
       same false h = h
@@ -238,7 +238,7 @@ module _ (l : Limits) (w : List WorldEvent) (k : is_legal_world l w ≡ true) (n
       by false h = h
   not_done_before (Phaser m s) d = by (m == n) d
     where
-      by : (b : Bool) → is_done p (cond b (event_for (ops_of n w) (phaser_past n w) s ∷ phaser_past n w)
+      by : (b : Bool) → is_done p (cond b (event_for (terms_of n w) (phaser_past n w) s ∷ phaser_past n w)
           (phaser_past n w)) ≡ false → is_done p (phaser_past n w) ≡ false
       by true h = h
       by false h = h
@@ -286,7 +286,7 @@ module _ (l : Limits) (w : List WorldEvent) (k : is_legal_world l w ≡ true) (n
           subst (λ v. IsFirstDue v w c) mine (first_is l w c next (not-true (is_of_single c) o.1)) in
           let same : c ≡ Phaser n (Pass t) = head_same c (Phaser n (Pass t)) f.rest [] (sym f.is ∙ q.1) in
           let allowed = step_allowed l w n (Pass t) (subst (λ v. is_accepted l w v ≡ true) same h) in
-          may_not_pass l w k n t p y d (and_parts (is_permitted l (ops_of n w) (phaser_past n w) (Passed t))
+          may_not_pass l w k n t p y d (and_parts (is_permitted l (terms_of n w) (phaser_past n w) (Passed t))
           (has_room l (Passed t ∷ phaser_past n w)) allowed).0
 
 -- the law

@@ -17,7 +17,7 @@ use Rattle.world_model.specs.declared.event.Begun.TheVariants.{Async, Signal, Sh
 use Rattle.world_model.specs.declared.event.Tried.TheVariants.{Begun as Beginning, New}
 use Rattle.world_model.specs.declared.event.WorldEvent.{WorldEvent}
 use Rattle.world_model.specs.declared.event.WorldEvent.TheVariants.{Phaser, Finish, Begin, Refuse, Fail}
-use Rattle.world_model.specs.Parts.{ops_of, phaser_past, event_for}
+use Rattle.world_model.specs.Parts.{terms_of, phaser_past, event_for}
 use Rattle.world_model.specs.Scopes.{inner, open_finishes, enclosing}
 use Rattle.world_model.specs.Tasks.{home, phasers_of, is_born, is_ended, spawns}
 use Rattle.world_model.specs.Numbers.{is_named}
@@ -105,7 +105,7 @@ pass_of false true m u n t k = absurd cc
 pass_of false false m u n t k = k
 
 pass_due : (l : Limits) (w : List WorldEvent) (d : WorldEvent) (n t : ℕ) → or_single l w d ≡ Phaser n (Pass t) → d ≡ Phaser n (Pass t)
-pass_due l w (Phaser m (Pass u)) n t k = pass_of (is_permitted l (ops_of m w) (phaser_past m w) (Claimed u)) (is_permitted l (ops_of m w) (phaser_past m w) (Done u)) m u n t k
+pass_due l w (Phaser m (Pass u)) n t k = pass_of (is_permitted l (terms_of m w) (phaser_past m w) (Claimed u)) (is_permitted l (terms_of m w) (phaser_past m w) (Done u)) m u n t k
 pass_due l w d n t k = k
 
 -- a pass is made in a turn, and is what is due
@@ -209,10 +209,10 @@ registered_named l t n (e ∷ w) k r =
         ]) h
 
     by_step : (d : WorldEvent) → is_accepted l w d ≡ true → is_registered t (phaser_past n w) ≡ false → is_registered t (phaser_past n (d ∷ w)) ≡ true → is_named t w ≡ true
-    by_step (Phaser m (Make u mode ops)) h b g =
-        subst (λ v. is_named v w ≡ true) (eqb-true u t (in_step m (Made u mode) b g)) (born_named l u w (last_accepted l e w k).1 (idle_is_born u w (idle_in_act l w u (New m mode ops) h)))
+    by_step (Phaser m (Make u mode terms)) h b g =
+        subst (λ v. is_named v w ≡ true) (eqb-true u t (in_step m (Made u mode) b g)) (born_named l u w (last_accepted l e w k).1 (idle_is_born u w (idle_in_act l w u (New m mode terms) h)))
     by_step (Phaser m (Reg q u mode)) h b g =
         let kw = (last_accepted l e w k).1 in
         subst (λ v. is_named v w ≡ true) (eqb-true u t (in_step m (Registered q u mode) b g)) (named_by_spawn l q u w kw (registering l w m q u mode kw h).begun).0
-    by_step (Phaser m s) h b g = absurd (true≢false (sym (in_step m (event_for (ops_of n w) (phaser_past n w) s) b g)))
+    by_step (Phaser m s) h b g = absurd (true≢false (sym (in_step m (event_for (terms_of n w) (phaser_past n w) s) b g)))
     by_step d h b g = absurd (true≢false (sym g ∙ b))

@@ -6,7 +6,7 @@ use Rattle.std.proofs.lemmas.Bool.{and_parts, cases_Bool, eqb-true, true≢false
 use Rattle.std.proofs.lemmas.List.{reverse-append}
 use Rattle.phase_modes.specs.declared.reg.Mode.{Mode}
 use Rattle.phase_modes.specs.declared.limits.Limits.{Limits}
-use Rattle.phase_model.specs.declared.op.Op.{Op}
+use Rattle.phase_model.specs.declared.terms.Terms.{Terms}
 use Rattle.phase_model.specs.declared.history.Event.{Event}
 use Rattle.phase_model.specs.declared.history.Event.TheVariants.{Make as Made, Reg as Registered}
 use Rattle.phase_model.specs.Tasks.{registers, is_registered, is_dropped, is_live}
@@ -15,7 +15,7 @@ use Rattle.phase_model.proofs.Legal.{reg_follows}
 use Rattle.world_model.specs.declared.event.Step.TheVariants.{Make, Reg}
 use Rattle.world_model.specs.declared.event.WorldEvent.{WorldEvent}
 use Rattle.world_model.specs.declared.event.WorldEvent.TheVariants.{Phaser}
-use Rattle.world_model.specs.Parts.{ops_of, phaser_past}
+use Rattle.world_model.specs.Parts.{terms_of, phaser_past}
 use Rattle.world_model.specs.Tasks.{joined_by, phasers_of}
 use Rattle.world_model.specs.Replies.{is_legal_world, is_accepted}
 use Rattle.world_model.proofs.MadeMeans.{last_accepted}
@@ -126,12 +126,12 @@ module _ (l : Limits) (w : List WorldEvent) (t n : ℕ) where
       ∙ ap (λ a. (a && (m == n)) || is_registered t (phaser_past n w)) none))
 
   -- what a registration by step m finds
-  fresh_make : (m u : ℕ) (mode : Mode) (ops : List Op) → is_accepted l w (Phaser m (Make u mode ops)) ≡ true
+  fresh_make : (m u : ℕ) (mode : Mode) (terms : Terms) → is_accepted l w (Phaser m (Make u mode terms)) ≡ true
       → ((u == t) && (m == n)) ≡ true → is_registered t (phaser_past n w) ≡ false
-  fresh_make m u mode ops k e =
+  fresh_make m u mode terms k e =
       let a = and_parts (u == t) (m == n) e in
       ap (is_registered t)
-      (subst (λ v. phaser_past v w ≡ []) (eqb-true m n a.1) (new_past l w m u mode ops k))
+      (subst (λ v. phaser_past v w ≡ []) (eqb-true m n a.1) (new_past l w m u mode terms k))
 
   fresh_reg : (m q u : ℕ) (mode : Mode) → is_accepted l w (Phaser m (Reg q u mode)) ≡ true
       → ((u == t) && (m == n)) ≡ true → is_registered t (phaser_past n w) ≡ false
@@ -139,17 +139,17 @@ module _ (l : Limits) (w : List WorldEvent) (t n : ℕ) where
       let a = and_parts (u == t) (m == n) e in
       let h = phaser_past m w in
       let p =
-      and_parts (is_permitted l (ops_of m w) h (Registered q u mode))
+      and_parts (is_permitted l (terms_of m w) h (Registered q u mode))
       (has_room l (Registered q u mode ∷ h)) (step_allowed l w m (Reg q u mode) k) in
-      let unknown : is_registered u h ≡ false = (reg_follows l (ops_of m w) h q u mode p.0).unknown in
+      let unknown : is_registered u h ≡ false = (reg_follows l (terms_of m w) h q u mode p.0).unknown in
       subst (λ v. is_registered t (phaser_past v w) ≡ false) (eqb-true m n a.1)
       (subst (λ v. is_registered v h ≡ false) (eqb-true u t a.0) unknown)
 
 pub joined_once : (l : Limits) (w : List WorldEvent) → is_legal_world l w ≡ true → (t n : ℕ) → IsJoined t n w
 joined_once l [] k t n = refl
-joined_once l (Phaser m (Make u mode ops) ∷ w) k t n =
-    let a = last_accepted l (Phaser m (Make u mode ops)) w k in
-    joined_step l w t n m u (Made u mode) refl (joined_once l w a.1 t n) (fresh_make l w t n m u mode ops a.0)
+joined_once l (Phaser m (Make u mode terms) ∷ w) k t n =
+    let a = last_accepted l (Phaser m (Make u mode terms)) w k in
+    joined_step l w t n m u (Made u mode) refl (joined_once l w a.1 t n) (fresh_make l w t n m u mode terms a.0)
 joined_once l (Phaser m (Reg q u mode) ∷ w) k t n =
     let a = last_accepted l (Phaser m (Reg q u mode)) w k in
     joined_step l w t n m u (Registered q u mode) refl (joined_once l w a.1 t n)

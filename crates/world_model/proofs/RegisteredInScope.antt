@@ -16,7 +16,7 @@ use Rattle.world_model.specs.declared.event.Step.TheVariants.{Make, Reg}
 use Rattle.world_model.specs.declared.event.Tried.TheVariants.{New}
 use Rattle.world_model.specs.declared.event.WorldEvent.{WorldEvent}
 use Rattle.world_model.specs.declared.event.WorldEvent.TheVariants.{Phaser, Finish, Begin, Refuse, Fail}
-use Rattle.world_model.specs.Parts.{ops_of, phaser_past, event_for}
+use Rattle.world_model.specs.Parts.{terms_of, phaser_past, event_for}
 use Rattle.world_model.specs.Tasks.{home, spawner, spawns, is_born}
 use Rattle.world_model.specs.Scopes.{inner, owner, enclosing}
 use Rattle.world_model.specs.Numbers.{is_phaser}
@@ -74,9 +74,9 @@ registrations_are_within l w k later before n q t m is =
     (legal_rest l later (e ∷ before) (subst (λ v. is_legal_world l v ≡ true) is k)) in
     let h = phaser_past n before in
     let p =
-    and_parts (is_permitted l (ops_of n before) h (Registered q t m)) (has_room l (Registered q t m ∷ h))
+    and_parts (is_permitted l (terms_of n before) h (Registered q t m)) (has_room l (Registered q t m ∷ h))
     (step_allowed l before n (Reg q t m) a.0) in
-    ((reg_follows l (ops_of n before) h q t m p.0).within, reg_in_scope l before n q t m a.1 a.0)
+    ((reg_follows l (terms_of n before) h q t m p.0).within, reg_in_scope l before n q t m a.1 a.0)
 
 -- n is a phaser of t's home, or of a finish that t owns
 abbrev pub InScope : ℕ → ℕ → List WorldEvent → Type 0
@@ -160,10 +160,10 @@ module _ (l : Limits) (w : List WorldEvent) (k : is_legal_world l w ≡ true) wh
   -- who is registered now
   joins_now : (e : WorldEvent) (t n : ℕ) → is_accepted l w e ≡ true → is_registered t (phaser_past n w)
       ≡ false → is_registered t (phaser_past n (e ∷ w)) ≡ true → InScope (agent t (e ∷ w)) n (e ∷ w)
-  joins_now (Phaser m (Make u mode ops)) t n a b r =
+  joins_now (Phaser m (Make u mode terms)) t n a b r =
       let s = in_step m t n (Made u mode) b r in
-      let e = Phaser m (Make u mode ops) in
-      let born : is_born u w ≡ true = idle_is_born u w (idle_in_act l w u (New m mode ops) a) in
+      let e = Phaser m (Make u mode terms) in
+      let born : is_born u w ≡ true = idle_is_born u w (idle_in_act l w u (New m mode terms) a) in
       let encloses : enclosing n (e ∷ w) ≡ inner u w = rw s.0 refl in
       let here : InScope u n (e ∷ w) =
       elim (inner_is l w k u) [
@@ -187,7 +187,7 @@ module _ (l : Limits) (w : List WorldEvent) (k : is_legal_world l w ≡ true) wh
       subst (λ v. InScope (agent v (e ∷ w)) n (e ∷ w)) (eqb-true u t s.1)
       (subst (λ v. InScope v n (e ∷ w)) (sym (rw unborn by)) here)
   joins_now (Phaser m s) t n a b r =
-      absurd (false≢true (in_step m t n (event_for (ops_of n w) (phaser_past n w) s) b r).1)
+      absurd (false≢true (in_step m t n (event_for (terms_of n w) (phaser_past n w) s) b r).1)
   joins_now (Finish f x) t n a b r = absurd (true≢false (sym r ∙ b))
   joins_now (Begin u x) t n a b r = absurd (true≢false (sym r ∙ b))
   joins_now (Refuse u x y) t n a b r = absurd (true≢false (sym r ∙ b))

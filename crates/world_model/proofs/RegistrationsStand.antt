@@ -40,11 +40,11 @@ use Rattle.world_model.proofs.SmallWords.{empty_is}
 -- a phaser stays one, with its enclosing finish
 pub enclosing_later : (l : Limits) (n : ℕ) (e : WorldEvent) (w : List WorldEvent) → is_accepted l w e ≡ true
     → is_phaser n w ≡ true → enclosing n (e ∷ w) ≡ enclosing n w
-enclosing_later l n (Phaser m (Make u mode ops)) w a k =
+enclosing_later l n (Phaser m (Make u mode terms)) w a k =
     elim (cases_Bool (m == n)) [
       | inl s ↦
           absurd (true≢false (sym k ∙ subst (λ v. is_phaser v w ≡ false) (eqb-true m n s)
-          (ap (λ h. not (is_empty h)) (new_past l w m u mode ops a))))
+          (ap (λ h. not (is_empty h)) (new_past l w m u mode terms a))))
       | inr s ↦ rw s refl
     ]
 enclosing_later l n e w a k = refl

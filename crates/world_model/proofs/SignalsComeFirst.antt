@@ -142,7 +142,7 @@ single_asked l w t x a =
         let b = and_parts (f x) (list_all f xs) k in
         rw (b.0, none_fails f xs b.1) refl
 
-less_moves : (t : ℕ) (ds : List WorldEvent) → Moves t ds → Moves t (drop 1 ds)
+pub less_moves : (t : ℕ) (ds : List WorldEvent) → Moves t ds → Moves t (drop 1 ds)
 less_moves t [] p = p
 less_moves t (d ∷ ds) p =
     record {
@@ -166,7 +166,7 @@ less_moves t (d ∷ ds) p =
     later_lone (Phaser n (Sig u (Some x))) ds k = after_pass n ds k
     later_lone d ds k = k
 
-entry_moves : (l : Limits) (t : ℕ) (e : WorldEvent) (w : List WorldEvent) → is_legal_world l (e ∷ w) ≡ true
+pub entry_moves : (l : Limits) (t : ℕ) (e : WorldEvent) (w : List WorldEvent) → is_legal_world l (e ∷ w) ≡ true
     → is_entry t e ≡ true → moves_act (Some e) ≡ true → Moves t (fixed e w)
 entry_moves l t (Begin u Signal) w k n q =
     subst (λ v. Moves v (sigs_of u None (filter (λ m. is_behind u (phaser_past m w)) (phasers_of u w))))

@@ -91,8 +91,8 @@ inner_begun l w k t =
 pub enclosing_begun : (l : Limits) (w : List WorldEvent) → is_legal_world l w ≡ true → (n : ℕ)
     → is_finish (enclosing n w) w ≡ true
 enclosing_begun l [] k n = refl
-enclosing_begun l (Phaser m (Make u mode ops) ∷ w) k n =
-    let e = Phaser m (Make u mode ops) in
+enclosing_begun l (Phaser m (Make u mode terms) ∷ w) k n =
+    let e = Phaser m (Make u mode terms) in
     let a = last_accepted l e w k in
     elim (cases_Bool (m == n)) [
       | inl s ↦

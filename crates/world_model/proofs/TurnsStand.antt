@@ -82,15 +82,15 @@ fewer p d ds k =
     less x h = omega arith
 
 -- the lists that an entry fixes
-sigs_there : (t n : ℕ) (x : Option ℕ) (ns : List ℕ) → list_any (is_sig_on n) (sigs_of t x ns) ≡ has n ns
+pub sigs_there : (t n : ℕ) (x : Option ℕ) (ns : List ℕ) → list_any (is_sig_on n) (sigs_of t x ns) ≡ has n ns
 sigs_there t n x [] = refl
 sigs_there t n x (m ∷ ms) = ap (λ b. (m == n) || b) (sigs_there t n x ms)
 
-sigs_not : (t n : ℕ) (ns : List ℕ) → list_any (is_sig_on n) (passes_of t ns) ≡ false
+pub sigs_not : (t n : ℕ) (ns : List ℕ) → list_any (is_sig_on n) (passes_of t ns) ≡ false
 sigs_not t n [] = refl
 sigs_not t n (m ∷ ms) = sigs_not t n ms
 
-passes_there : (t n : ℕ) (ns : List ℕ) → list_any (is_pass_on n) (passes_of t ns) ≡ has n ns
+pub passes_there : (t n : ℕ) (ns : List ℕ) → list_any (is_pass_on n) (passes_of t ns) ≡ has n ns
 passes_there t n [] = refl
 passes_there t n (m ∷ ms) = ap (λ b. (m == n) || b) (passes_there t n ms)
 

@@ -10,7 +10,7 @@ use Rattle.world_model.specs.declared.event.Step.{Step}
 use Rattle.world_model.specs.declared.event.Step.TheVariants.{Make, Reg, Sig, Claim, Did, Pass, Drop}
 use Rattle.world_model.specs.declared.event.WorldEvent.{WorldEvent}
 use Rattle.world_model.specs.declared.event.WorldEvent.TheVariants.{Phaser, Finish, Begin, Refuse, Fail}
-use Rattle.world_model.specs.Parts.{ops_of, phaser_past, event_for}
+use Rattle.world_model.specs.Parts.{terms_of, phaser_past, event_for}
 use Rattle.world_model.specs.Tasks.{joined_by, phasers_of}
 use Rattle.world_model.specs.Due.{is_of_single}
 use Rattle.world_model.proofs.AgentOfTask.{is_about, touches}
@@ -28,8 +28,8 @@ alike_same t h = record { registered = refl; live = refl; mode = refl; waited = 
 
 -- the step of another task
 alike_step : (t n : ℕ) (s : Step) (w : List WorldEvent) (h : List Event) → is_about t s ≡ false
-    → IsAlike t (event_for (ops_of n w) (phaser_past n w) s ∷ h) h
-alike_step t n (Make u m ops) w h k =
+    → IsAlike t (event_for (terms_of n w) (phaser_past n w) s ∷ h) h
+alike_step t n (Make u m terms) w h k =
     record {
       registered = rw k refl;
       live = rw k refl;
@@ -62,7 +62,7 @@ alike_by false t e h k = alike_same t h
 pub alike : (t n : ℕ) (e : WorldEvent) (w : List WorldEvent) → touches t e ≡ false
     → IsAlike t (phaser_past n (e ∷ w)) (phaser_past n w)
 alike t n (Phaser m s) w k =
-    alike_by (m == n) t (event_for (ops_of n w) (phaser_past n w) s) (phaser_past n w)
+    alike_by (m == n) t (event_for (terms_of n w) (phaser_past n w) s) (phaser_past n w)
     (alike_step t n s w (phaser_past n w) k)
 alike t n (Finish f e) w k = alike_same t (phaser_past n w)
 alike t n (Begin u b) w k = alike_same t (phaser_past n w)
@@ -85,7 +85,7 @@ pub same_mode_test : (test : Mode → Bool) (t : ℕ) (g h : List Event) → IsA
 same_mode_test test t g h a = rw a.mode refl
 
 not_joined : (t : ℕ) (e : WorldEvent) → touches t e ≡ false → joined_by t e ≡ None
-not_joined t (Phaser n (Make u m ops)) k = rw k refl
+not_joined t (Phaser n (Make u m terms)) k = rw k refl
 not_joined t (Phaser n (Reg q u m)) k = rw k refl
 not_joined t e k = refl
 

@@ -11,7 +11,7 @@ use Rattle.world_model.specs.Scopes.{owner}
 
 -- a step on a phaser; a child that was never spawned is taken off by its spawner
 abbrev pub step_actor : List WorldEvent → Step → ℕ
-step_actor w (Make t m ops) = t
+step_actor w (Make t m terms) = t
 step_actor w (Reg q t m) = q
 step_actor w (Sig t x) = t
 step_actor w (Claim t) = t

@@ -29,7 +29,7 @@ use Rattle.world_model.specs.Parts.{phaser_past}
 
 -- the number that the act wants to give is in use
 abbrev pub is_number_used : List WorldEvent → Tried → Bool
-is_number_used w (New n m ops) = is_phaser n w
+is_number_used w (New n m terms) = is_phaser n w
 is_number_used w (Open f) = is_finish f w
 is_number_used w (Beginning (Async c pairs)) = is_named c w
 is_number_used w _ = false
@@ -72,7 +72,7 @@ most_phasers_held = 16
 -- any act's own; a value and a look have those of their phaser alone
 abbrev pub own_conditions : Limits → List WorldEvent → ℕ → Tried → List (Refusal × Bool)
 own_conditions l w t (Beginning b) = begin_conditions l w t b
-own_conditions l w t (New n m ops) =
+own_conditions l w t (New n m terms) =
     (PhasersFull, nat_lt n l.phasers) ∷ (PhasersFull, nat_lt (length (phasers_of t w)) most_phasers_held) ∷ []
 own_conditions l w t (Open f) = (FinishesFull, nat_lt f l.finishes) ∷ []
 own_conditions l w t _ = []
@@ -88,7 +88,7 @@ act_conditions l w t a =
 -- the reply to an act that meets them all: a phaser or a finish may refuse it still
 abbrev pub act_done : Limits → List WorldEvent → ℕ → Tried → Result Reply Refusal
 act_done l w t (Beginning b) = Ok Done
-act_done l w t (New n m ops) = phaser_reply l w n (Make t m ops)
+act_done l w t (New n m terms) = phaser_reply l w n (Make t m terms)
 act_done l w t (Open f) = finish_reply l w f (Opened t)
 act_done l w t (Sending n a v) = phaser_reply l w n (Send t a v)
 act_done l w t (Looking n a) = phaser_reply l w n (Look t a)

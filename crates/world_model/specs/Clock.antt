@@ -30,5 +30,5 @@ clock t (_ ∷ w) = clock t w
 -- the maker's clock when phaser n was made
 abbrev pub base : ℕ → List WorldEvent → ℕ
 base n [] = 0
-base n (Phaser m (Make t mode ops) ∷ w) = if m == n then clock t w else base n w
+base n (Phaser m (Make t mode terms) ∷ w) = if m == n then clock t w else base n w
 base n (_ ∷ w) = base n w

@@ -17,7 +17,7 @@ use Rattle.world_model.specs.declared.event.WorldEvent.TheVariants.{Phaser, Fini
 use Rattle.world_model.specs.Actors.{actor}
 use Rattle.world_model.specs.Scopes.{inner, enclosing, open_finishes}
 use Rattle.world_model.specs.Tasks.{phasers_of, is_born, is_ended, home}
-use Rattle.world_model.specs.Parts.{phaser_past, ops_of}
+use Rattle.world_model.specs.Parts.{phaser_past, terms_of}
 
 -- t can signal on the phaser of this history, and has signalled since its last turn
 abbrev pub is_ahead : ℕ → List Event → Bool
@@ -101,8 +101,8 @@ due t (e ∷ w) =
 -- where a pass is due: the claim where t may claim, the report where t claimed, else the pass
 abbrev pub before_pass : Limits → ℕ → ℕ → List WorldEvent → WorldEvent
 before_pass l n t w =
-    if is_permitted l (ops_of n w) (phaser_past n w) (Claimed t) then Phaser n (Claim t)
-    else (if is_permitted l (ops_of n w) (phaser_past n w) (Done t) then Phaser n (Did t)
+    if is_permitted l (terms_of n w) (phaser_past n w) (Claimed t) then Phaser n (Claim t)
+    else (if is_permitted l (terms_of n w) (phaser_past n w) (Done t) then Phaser n (Did t)
     else Phaser n (Pass t))
 
 abbrev pub or_single : Limits → List WorldEvent → WorldEvent → WorldEvent

@@ -5,6 +5,8 @@ use Rattle.phase_modes.specs.declared.reg.Mode.{Mode}
 use Rattle.phase_modes.specs.declared.phased.Pair.{Pair}
 use Rattle.phase_modes.specs.declared.refusal.Refusal.{Refusal}
 use Rattle.phase_modes.specs.Limits.{default_limits}
+use Rattle.phase_model.specs.declared.op.Op.{Op}
+use Rattle.phase_model.specs.declared.terms.Terms.{Terms}
 use Rattle.phase_model.specs.declared.op.Look.TheVariants.{Value as Saw}
 use Rattle.world_model.specs.declared.report.FinishLine.{FinishLine}
 use Rattle.world_model.specs.declared.report.FoldLine.{FoldLine}
@@ -20,6 +22,14 @@ use Rattle.world_model.specs.Replies.{after, reply, replies}
 -- the limits of a run that names none
 abbrev pub limits : Limits
 limits = default_limits
+
+-- what a phaser without a bound is made with
+abbrev pub unbounded : List Op → Terms
+unbounded ops = record { ops = ops; bound = None }
+
+-- the same, without accumulators
+abbrev pub plain : Terms
+plain = unbounded []
 
 -- a pair of a spawn: on this phaser, in this mode
 abbrev pub on : ℕ → Mode → Pair

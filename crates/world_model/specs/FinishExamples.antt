@@ -10,7 +10,7 @@ use Rattle.world_model.specs.declared.event.Begun.TheVariants.{Async, Next, Shut
 use Rattle.world_model.specs.declared.event.Tried.TheVariants.{Begun as Beginning}
 use Rattle.world_model.specs.declared.event.WorldEvent.TheVariants.{Phaser, Finish, Begin, Refuse}
 use Rattle.world_model.specs.declared.reply.Reply.TheVariants.{Phase, NotYet}
-use Rattle.world_model.specs.ExampleWords.{ok, limits, actors, on, tasks_in, Plays, ended, in_all, phases_of, refused_with, no_phasers, played}
+use Rattle.world_model.specs.ExampleWords.{ok, limits, actors, on, tasks_in, Plays, ended, in_all, phases_of, refused_with, no_phasers, played, plain}
 
 -- nothing is done at all
 abbrev pub NothingToDo : Type 0
@@ -24,7 +24,7 @@ NothingToDo =
 -- outside its scope may be noted, and no other number
 abbrev pub outside_scope : List WorldEvent
 outside_scope =
-    Phaser 0 (Make 0 SigWait [])
+    Phaser 0 (Make 0 SigWait plain)
     ∷ Finish 1 (Opened 0)
     ∷ Begin 0 (Async 1 (on 0 OnlySig ∷ []))
     ∷ Refuse 0 (Beginning (Async 1 (on 0 OnlySig ∷ []))) 11
@@ -100,7 +100,7 @@ NestedFinishTrace = reverse (played limits [] nested_finish) ≡
 abbrev pub owner_leaves : List WorldEvent
 owner_leaves =
     Finish 1 (Opened 0)
-    ∷ Phaser 0 (Make 0 SigWait [])
+    ∷ Phaser 0 (Make 0 SigWait plain)
     ∷ Begin 0 (Async 1 (on 0 OnlyWait ∷ []))
     ∷ Phaser 0 (Reg 0 1 OnlyWait)
     ∷ Finish 1 (Spawned 1)

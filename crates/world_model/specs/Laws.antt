@@ -12,7 +12,7 @@ use Rattle.phase_model.specs.declared.history.Event.TheVariants.{Look as Looked}
 use Rattle.phase_model.specs.declared.op.Look.{Look}
 use Rattle.finish_core.specs.Finish.{is_legal_finish}
 use Rattle.world_model.specs.declared.event.WorldEvent.{WorldEvent}
-use Rattle.world_model.specs.Parts.{phaser_past, finish_past, ops_of}
+use Rattle.world_model.specs.Parts.{phaser_past, finish_past, ops_of, terms_of}
 use Rattle.world_model.specs.Replies.{is_legal_world}
 
 -- a law of each legal world
@@ -21,7 +21,7 @@ OfEachWorld P = (l : Limits) (w : List WorldEvent) → is_legal_world l w ≡ tr
 
 -- the history of each phaser is legal
 abbrev pub PhasersAreLegal : Type 0
-PhasersAreLegal = OfEachWorld (λ l w. (n : ℕ) → is_legal l (ops_of n w) (phaser_past n w) ≡ true)
+PhasersAreLegal = OfEachWorld (λ l w. (n : ℕ) → is_legal l (terms_of n w) (phaser_past n w) ≡ true)
 
 -- no wait in it passed a phase before every signaller, registered then or later, had signalled it
 abbrev pub PhasersAreOrdered : Type 0

@@ -12,7 +12,7 @@ use Rattle.world_model.specs.declared.event.Begun.TheVariants.{Async, Next, Next
 use Rattle.world_model.specs.declared.event.Tried.TheVariants.{Begun as Beginning, New, Open, Send as Sending}
 use Rattle.world_model.specs.declared.event.WorldEvent.TheVariants.{Phaser, Finish, Begin, Refuse, Fail}
 use Rattle.world_model.specs.declared.reply.Reply.TheVariants.{Phase, NotYet}
-use Rattle.world_model.specs.ExampleWords.{ok, limits, on, tasks_in, Plays, ended, in_all, phases_of, refused_with, no_phasers, sum_is}
+use Rattle.world_model.specs.ExampleWords.{ok, limits, on, tasks_in, Plays, ended, in_all, phases_of, refused_with, no_phasers, sum_is, plain, unbounded}
 
 -- limits that the root meets: of acts
 abbrev pub ActsFullExample : Type 0
@@ -42,7 +42,7 @@ FinishesFullExample =
 abbrev pub PhasersFullExample : Type 0
 PhasersFullExample =
     Plays (record limits { phasers = 1 })
-    (Phaser 0 (Make 0 OnlySig []) ∷ Phaser 1 (Make 0 OnlySig []) ∷ Refuse 0 (New 1 OnlySig []) 16
+    (Phaser 0 (Make 0 OnlySig plain) ∷ Phaser 1 (Make 0 OnlySig plain) ∷ Refuse 0 (New 1 OnlySig plain) 16
     ∷ Phaser 0 (Drop 0) ∷ Finish 0 Shutting ∷ [])
     (ok ∷ Err PhasersFull ∷ ok ∷ ok ∷ ok ∷ [])
     (record {
@@ -92,8 +92,8 @@ two_regs = record limits { regs = 2 }
 
 abbrev pub half_spawned : List WorldEvent
 half_spawned =
-    Phaser 0 (Make 0 SigWait [])
-    ∷ Phaser 1 (Make 0 SigWait [])
+    Phaser 0 (Make 0 SigWait plain)
+    ∷ Phaser 1 (Make 0 SigWait plain)
     ∷ Begin 0 (Async 1 (on 1 OnlyWait ∷ []))
     ∷ Phaser 1 (Reg 0 1 OnlyWait)
     ∷ Finish 0 (Spawned 1)
@@ -132,8 +132,8 @@ UnbornChildDropped =
 abbrev pub HistoryFullInNext : Type 0
 HistoryFullInNext =
     Plays (record limits { history = 5 })
-    (Phaser 0 (Make 0 SigWait [])
-    ∷ Phaser 1 (Make 0 SigWait (Sum ∷ []))
+    (Phaser 0 (Make 0 SigWait plain)
+    ∷ Phaser 1 (Make 0 SigWait (unbounded (Sum ∷ [])))
     ∷ Phaser 1 (Send 0 0 (pos 7))
     ∷ Begin 0 Next
     ∷ Phaser 0 (Sig 0 None)

@@ -1,6 +1,6 @@
 -- Worked examples of single moments: the reply that each of several events would have there, what comes next,
 -- and what each task is about.
-use Rattle.std.specs.Prelude.{◌≡◌, List, [], ◌∷◌, map, Some, None, Ok, Err, pos, take}
+use Rattle.std.specs.Prelude.{◌≡◌, true, false, List, [], ◌∷◌, map, Some, None, Ok, Err, pos, take}
 use Rattle.phase_modes.specs.declared.refusal.Refusal.TheVariants.{NotRegistered, NoSignal, NoWait, NotSignalled, OnePhaserOnly, NoAccumulator, MoreThanParent, RegisteredTwice, PhasersFull, TasksFull, FinishesFull, NoFinish, NotNow}
 use Rattle.phase_modes.specs.declared.reg.Mode.TheVariants.{Sig as OnlySig, SigWait, Wait as OnlyWait}
 use Rattle.finish_core.specs.declared.event.FinishEvent.TheVariants.{Ended, Opened, Spawned, Shut as Shutting}
@@ -13,9 +13,10 @@ use Rattle.world_model.specs.declared.condition.Condition.TheVariants as conditi
 use Rattle.world_model.specs.declared.reply.Reply.TheVariants.{NotYet, Phase}
 use Rattle.world_model.specs.Clock.{clock}
 use Rattle.world_model.specs.TaskConditions.{condition_of}
-use Rattle.world_model.specs.TurnExamples.{crossed_turn, two_spawned, one_single}
+use Rattle.world_model.specs.TurnExamples.{bounded_start, crossed_turn, two_spawned, one_single}
 use Rattle.world_model.specs.LimitExamples.{half_spawned, two_regs}
-use Rattle.world_model.specs.ExampleWords.{played, on, ok, limits}
+use Rattle.world_model.specs.ExampleWords.{played, on, ok, limits, plain}
+use Rattle.world_model.specs.Able.{is_able}
 use Rattle.world_model.specs.Due.{next_event}
 use Rattle.world_model.specs.Replies.{reply}
 
@@ -30,7 +31,7 @@ AskedIdle =
     Begin 1 Signal ∷ Begin 1 Wait ∷ Begin 1 Next ∷ Begin 1 (NextSingle 3) ∷ Begin 1 Shut ∷ Begin 1 End
     ∷ Phaser 0 (Send 1 0 (pos 1)) ∷ Phaser 1 (Send 1 0 (pos 1))
     ∷ Phaser 0 (Look 1 0) ∷ Phaser 1 (Look 1 0) ∷ Phaser 5 (Look 1 0)
-    ∷ Phaser 0 (Make 1 SigWait []) ∷ Phaser 2 (Make 1 SigWait []) ∷ Phaser 64 (Make 1 SigWait [])
+    ∷ Phaser 0 (Make 1 SigWait plain) ∷ Phaser 2 (Make 1 SigWait plain) ∷ Phaser 64 (Make 1 SigWait plain)
     ∷ Finish 0 (Opened 1) ∷ Finish 1 (Opened 1) ∷ Finish 64 (Opened 1)
     ∷ Begin 1 (Async 2 []) ∷ Begin 1 (Async 3 []) ∷ Begin 1 (Async 256 [])
     ∷ Begin 1 (Async 3 (on 2 OnlySig ∷ [])) ∷ Begin 1 (Async 3 (on 0 SigWait ∷ []))
@@ -64,7 +65,7 @@ abbrev pub AskedTurning : Type 0
 AskedTurning =
     (map (reply limits turning) (
     Phaser 0 (Pass 1) ∷ Phaser 1 (Pass 1) ∷ Begin 1 Next ∷ Phaser 0 (Sig 1 None) ∷ Begin 1 End
-    ∷ Phaser 2 (Make 1 SigWait []) ∷ Fail 1 15 ∷ Fail 1 23 ∷ Begin 7 End ∷ [])
+    ∷ Phaser 2 (Make 1 SigWait plain) ∷ Fail 1 15 ∷ Fail 1 23 ∷ Begin 7 End ∷ [])
     ≡ Ok (Phase 0) ∷ Err NotNow ∷ Err NotNow ∷ Err NotNow ∷ Err NotNow
     ∷ Err NotNow ∷ Err NotNow ∷ Err NotNow ∷ Err NotNow ∷ [])
     × (map (λ t. condition_of t turning) (0 ∷ 1 ∷ 2 ∷ 3 ∷ [])
@@ -83,6 +84,20 @@ AskedSpawning =
     × (next_event two_regs 0 spawning ≡ Some (Phaser 0 (Reg 0 2 OnlySig)))
     × (map (λ t. condition_of t spawning) (0 ∷ 1 ∷ 2 ∷ [])
     ≡ Some condition.Spawning ∷ Some condition.Idle ∷ None ∷ [])
+
+-- a task that is held at a signal by the bound: it may do nothing else, and it may not give up
+abbrev pub held : List WorldEvent
+held = played limits [] bounded_start
+
+abbrev pub AskedHeld : Type 0
+AskedHeld =
+    (map (reply limits held) (
+    Phaser 0 (Sig 1 None) ∷ Phaser 0 (Pass 1) ∷ Phaser 0 (Send 1 0 (pos 1)) ∷ Fail 1 7 ∷ Fail 1 15 ∷ Begin 2 Next
+    ∷ [])
+    ≡ Ok NotYet ∷ Err NotNow ∷ Err NotNow ∷ Err NotNow ∷ Err NotNow ∷ ok ∷ [])
+    × (next_event limits 1 held ≡ Some (Phaser 0 (Sig 1 None)))
+    × (map (λ t. condition_of t held) (1 ∷ 2 ∷ []) ≡ Some condition.Signalling ∷ Some condition.Idle ∷ [])
+    × (map (λ t. is_able limits held t) (1 ∷ 2 ∷ []) ≡ false ∷ true ∷ [])
 
 -- what comes next for a proposer whose phase is closed, and for one that has claimed
 abbrev pub NextOfSingle : Type 0

@@ -29,7 +29,7 @@ returned h (phaser.done _) = Ok Done
 
 -- the call that makes the step: a claim is a pass that claims
 abbrev pub call_for : Step → Call
-call_for (Make t m ops) = make t m
+call_for (Make t m terms) = make t m
 call_for (Reg q t m) = register q t m
 call_for (Sig t x) = signal t x
 call_for (Claim t) = pass t

@@ -15,7 +15,7 @@ use Rattle.world_model.specs.Continuing.{next_reply}
 
 -- the reply to an event
 abbrev pub reply : Limits → List WorldEvent → WorldEvent → Result Reply Refusal
-reply l w (Phaser n (Make t m ops)) = act_reply l w t (New n m ops)
+reply l w (Phaser n (Make t m terms)) = act_reply l w t (New n m terms)
 reply l w (Phaser n (Send t a v)) = act_reply l w t (Sending n a v)
 reply l w (Phaser n (Look t a)) = act_reply l w t (Looking n a)
 reply l w (Finish f (Opened t)) = act_reply l w t (Open f)

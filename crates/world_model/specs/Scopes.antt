@@ -31,5 +31,5 @@ owner f (_ ∷ w) = owner f w
 -- the finish that immediately encloses phaser n: its maker's innermost one when it was made
 abbrev pub enclosing : ℕ → List WorldEvent → ℕ
 enclosing n [] = 0
-enclosing n (Phaser m (Make t mode ops) ∷ w) = if m == n then inner t w else enclosing n w
+enclosing n (Phaser m (Make t mode terms) ∷ w) = if m == n then inner t w else enclosing n w
 enclosing n (_ ∷ w) = enclosing n w

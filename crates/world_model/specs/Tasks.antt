@@ -43,7 +43,7 @@ home t (_ ∷ w) = home t w
 
 -- the phaser on which the event registers t
 abbrev pub joined_by : ℕ → WorldEvent → Option ℕ
-joined_by t (Phaser n (Make u m ops)) = if u == t then Some n else None
+joined_by t (Phaser n (Make u m terms)) = if u == t then Some n else None
 joined_by t (Phaser n (Reg q u m)) = if u == t then Some n else None
 joined_by t _ = None
 
@@ -53,7 +53,7 @@ phasers_of t w = filter (λ n. is_live t (phaser_past n w)) (reverse (filter_map
 
 -- the event is the first of an act of t; an end isn't counted, nor are a refusal and a failure
 abbrev pub is_act : ℕ → WorldEvent → Bool
-is_act t (Phaser n (Make u m ops)) = u == t
+is_act t (Phaser n (Make u m terms)) = u == t
 is_act t (Phaser n (Send u a v)) = u == t
 is_act t (Phaser n (Look u a)) = u == t
 is_act t (Finish f (Opened u)) = u == t

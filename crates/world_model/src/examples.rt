@@ -3,8 +3,8 @@
 //! computes it.
 ghost use Rattle.world_model.specs.FinishExamples.{NestedFinish, NestedFinishActors, NestedFinishTrace, NothingToDo, OutsideScopeExample, OwnerLeavesBeforeShut};
 ghost use Rattle.world_model.specs.LimitExamples.{ActsFullExample, FinishOpenExample, FinishesFullExample, HistoryFullInNext, NoFinishExample, NotRegisteredExample, OnePhaserOnlyExample, PhasersFullExample, TasksFullExample, UnbornChildDropped};
-ghost use Rattle.world_model.specs.MomentExamples.{AskedIdle, AskedSpawning, AskedTurning, ClocksAfterTurn, NextOfSingle};
-ghost use Rattle.world_model.specs.TurnExamples.{CrossedSignals, CrossedSignalsRefused, OneSingle, SmallestTrace, TwoSenders};
+ghost use Rattle.world_model.specs.MomentExamples.{AskedHeld, AskedIdle, AskedSpawning, AskedTurning, ClocksAfterTurn, NextOfSingle};
+ghost use Rattle.world_model.specs.TurnExamples.{BoundedProducer, CrossedSignals, CrossedSignalsRefused, OneSingle, SmallestTrace, TwoSenders};
 
 /// Finishes: who has to wait for whom, and who may be on which phaser.
 pub fn worked_finishes()
@@ -22,6 +22,7 @@ pub fn worked_turns()
     ensures crossed_signals { CrossedSignals }
     ensures crossed_signals_refused { CrossedSignalsRefused }
     ensures two_senders { TwoSenders }
+    ensures bounded_producer { BoundedProducer }
     ensures one_single { OneSingle }
 {}
 
@@ -45,6 +46,7 @@ pub fn worked_moments()
     ensures asked_idle { AskedIdle }
     ensures asked_turning { AskedTurning }
     ensures asked_spawning { AskedSpawning }
+    ensures asked_held { AskedHeld }
     ensures next_of_single { NextOfSingle }
     ensures clocks_after_turn { ClocksAfterTurn }
 {}

@@ -17,7 +17,7 @@ fn history_of(alloc: Global, most: u32, ops: Ops, events: &[Event]) -> Result<Hi
     if !limits.fits() {
         return Err(Refusal::NotNow);
     }
-    let mut history = History::new(alloc, limits, ops)?;
+    let mut history = History::new(alloc, limits, ops, None)?;
     for event in events {
         if history.len() >= history.limits().history {
             return Err(Refusal::HistoryFull);

@@ -1,6 +1,6 @@
 //! The places at which texts are refused, and what is read where they are not.
 use events_text::{EventsFile, read_events};
-use phase_model::{Call, Op};
+use phase_model::{Bound, Call, Op};
 use phase_modes::{Limits, Mode, Refusal};
 use std::alloc::Global;
 use std::process::Abort;
@@ -30,7 +30,7 @@ fn all_at(rt: &impl Abort, alloc: Global, texts: &[&str], place: Option<u64>) ->
 }
 
 /// Texts that are at fault in what stands around the calls.
-const BAD: [&str; 43] = [
+const BAD: [&str; 49] = [
     "",
     " ",
     "{",
@@ -45,6 +45,12 @@ const BAD: [&str; 43] = [
     r#"{"accs":"sum","calls":[]}"#,
     r#"{"accs":["product"],"calls":[]}"#,
     r#"{"accs":["sum","sum","sum","sum","sum"],"calls":[7]}"#,
+    r#"{"bound":null,"calls":[]}"#,
+    r#"{"bound":0,"calls":[7]}"#,
+    r#"{"bound":65537,"calls":[]}"#,
+    r#"{"bound":1.0,"calls":[]}"#,
+    r#"{"bound":"1","calls":[]}"#,
+    r#"{"Bound":1,"calls":[]}"#,
     r#"{"calls":null}"#,
     r#"{"calls":[],}"#,
     r#"{"Calls":[]}"#,
@@ -77,11 +83,13 @@ const BAD: [&str; 43] = [
 ];
 
 /// Texts of the form.
-const GOOD: [&str; 7] = [
+const GOOD: [&str; 9] = [
     r#"{"calls":[]}"#,
     " \n\t{ \"calls\" : [ ] }\r\n",
     r#"{"calls":[],"limits":{}}"#,
     r#"{"accs":[],"calls":[]}"#,
+    r#"{"bound":1,"calls":[]}"#,
+    r#"{"calls":[],"bound":65536}"#,
     r#"{"accs":["sum","least","greatest","sum"],"calls":[]}"#,
     r#"{"limits":
         {"acts":1,"finishes":1,"history":4,"phasers":1,"regs":1,"tasks":1},"calls":[]}"#,
@@ -211,7 +219,7 @@ fn numbers_not_of_the_form(rt: HostRuntime) -> Result<(), Fail> {
 /// A text with every call.
 const CONTENTS: &str = r#"{"limits":{"regs":3,"tasks":9},"calls":[
         ["make",1,"SIG"],["reg",2,3,"WAIT"],["sig",4],["sig",5,6],["pass",7],["did",8],
-        ["send",9,1,-2],["look",3,2],["drop",6]],"accs":["greatest","sum"]}"#;
+        ["send",9,1,-2],["look",3,2],["drop",6]],"accs":["greatest","sum"],"bound":65}"#;
 
 /// The limits of that text.
 const LIMITS: Limits = Limits {
@@ -240,6 +248,7 @@ const EVERY_CALL: [Call; 9] = [
 fn has_contents(rt: &impl Abort, file: &EventsFile) {
     assert_eq!(rt; file.limits, LIMITS);
     assert!(rt; file.ops.as_slice() == [Op::Greatest, Op::Sum].as_slice());
+    assert_eq!(rt; file.bound, Bound::of(65));
     assert_eq!(rt; file.calls.as_slice(), EVERY_CALL.as_slice());
 }
 

@@ -12,7 +12,7 @@ pair_view x = record { name = x.name.now; mode = x.mode }
 
 abbrev pub said_view : stored_said.Said → Said
 said_view (saids.Plain h) = plain h
-said_view (saids.New name m ops) = new name.now m ops
+said_view (saids.New name m terms) = new name.now m terms
 said_view (saids.At h name) = send h name.now
 said_view (saids.Async xs body) = async (map pair_view xs.items) (items_view body.now.items)
 said_view (saids.AsyncAll body) = async_all (items_view body.now.items)

@@ -7,6 +7,7 @@ use job_kernels::{
     stencil_plain,
 };
 use job_script::{Act, Answer};
+use phase_model::Terms;
 use phase_modes::{Limits, Refusal};
 use phased_rt::Body;
 use std::alloc::Global;
@@ -36,8 +37,8 @@ fn made<B: Body>(world: &World, task: u32, act: Act<B>) -> (WorldEvent, Option<B
     let phaser = unused.phaser;
     let child = unused.task;
     match act {
-        Act::New(mode, ops) => (
-            WorldEvent::Phaser(phaser, Step::Make(task, mode, ops)),
+        Act::New(mode, ops, bound) => (
+            WorldEvent::Phaser(phaser, Step::Make(task, mode, Terms { ops, bound })),
             None,
             Answer::Made(phaser),
         ),

@@ -2,6 +2,14 @@
 //! each call is answered. A task that has to come again is parked.
 use super::*;
 
+/// No accumulators, and bound 1.
+fn within_one() -> Terms {
+    Terms {
+        ops: Ops::none(),
+        bound: Bound::of(1),
+    }
+}
+
 /// One task alone: it signals, and passes.
 #[test]
 fn one_task_turn(rt: HostRuntime) -> Result<(), Fail> {
@@ -360,6 +368,53 @@ fn room_for_a_single_and_its_end(rt: HostRuntime) -> Result<(), Fail> {
         rt.alloc(),
         limits_with(5, 256),
         Ops::none(),
+        ROWS.as_slice(),
+    )
+}
+
+/// A bound of 1: a signaller is parked until the slowest waiter has passed.
+#[test]
+fn bounded_signaller(rt: HostRuntime) -> Result<(), Fail> {
+    const ROWS: [Row; 9] = [
+        (Call::Make(0, Mode::SigWait), Reply::Done),
+        (Call::Register(0, 1, Mode::Sig), Reply::Done),
+        (Call::Register(0, 2, Mode::Wait), Reply::Done),
+        (Call::Drop(0), Reply::Done),
+        (Call::Signal(1, None), Reply::Done),
+        (Call::Pass(1), Reply::Phase(0)),
+        (Call::Signal(1, None), Reply::NotYet),
+        (Call::Pass(2), Reply::Phase(0)),
+        (Call::Signal(1, None), Reply::Done),
+    ];
+    example_with(
+        &rt,
+        rt.alloc(),
+        limits_with(4_096, 256),
+        within_one(),
+        ROWS.as_slice(),
+    )
+}
+
+/// A parked signaller that asks again has its item back, and a drop of the slowest waiter lets it
+/// go on.
+#[test]
+fn bound_and_refusals(rt: HostRuntime) -> Result<(), Fail> {
+    const ROWS: [Row; 9] = [
+        (Call::Make(0, Mode::SigWait), Reply::Done),
+        (Call::Register(0, 1, Mode::Wait), Reply::Done),
+        (Call::Signal(0, None), Reply::Done),
+        (Call::Pass(0), Reply::Phase(0)),
+        (Call::Signal(0, None), Reply::NotYet),
+        (Call::Signal(0, None), Reply::Refused(Refusal::NotNow)),
+        (Call::Signal(0, Some(5)), Reply::Refused(Refusal::NoSingle)),
+        (Call::Drop(1), Reply::Done),
+        (Call::Signal(0, None), Reply::Done),
+    ];
+    example_with(
+        &rt,
+        rt.alloc(),
+        limits_with(4_096, 256),
+        within_one(),
         ROWS.as_slice(),
     )
 }

@@ -37,22 +37,30 @@ fn step_on(phaser: u32, event: TracedEvent) -> Option<TracedStep> {
     }
 }
 
-/// The operators that a making brings.
-fn ops_of(step: TracedStep) -> Ops {
-    match step {
-        TracedStep::Make(_, _, ops) => ops,
-        _ => Ops::none(),
+/// What a phaser has that nobody has made.
+fn no_terms() -> Terms {
+    Terms {
+        ops: Ops::none(),
+        bound: None,
     }
 }
 
-/// The operators with which the part begins.
-fn first_ops_of(phaser: u32, part: &Part) -> Ops {
+/// What a making brings.
+fn terms_of(step: TracedStep) -> Terms {
+    match step {
+        TracedStep::Make(_, _, terms) => terms,
+        _ => no_terms(),
+    }
+}
+
+/// What the part begins with.
+fn first_terms_of(phaser: u32, part: &Part) -> Terms {
     if part.len() == 0 {
-        return Ops::none();
+        return no_terms();
     }
     match step_on(phaser, part.entry(0).1) {
-        Some(step) => ops_of(step),
-        None => Ops::none(),
+        Some(step) => terms_of(step),
+        None => no_terms(),
     }
 }
 
@@ -66,7 +74,8 @@ fn projection(
 ) -> Result<History, Refusal>
     requires { limits_fit limits ≡ true }
 {
-    let mut history = History::new(alloc, limits, first_ops_of(phaser, part))?;
+    let Terms { ops, bound } = first_terms_of(phaser, part);
+    let mut history = History::new(alloc, limits, ops, bound)?;
     for place in 0..trace.len() {
         if let Some(step) = step_on(phaser, trace.entry(place).1) {
             add(&mut history, step);

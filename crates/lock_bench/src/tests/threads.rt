@@ -58,7 +58,7 @@ fn call<K: Ledgers, R: Wait>(
     requires { number < table.now.phasers }
 {
     let seen = saw(held, MOST_LOOKS);
-    let made = table.make(rt, number, tickets, mine, 0, Mode::SigWait, Ops::none());
+    let made = table.make(rt, number, tickets, mine, 0, Mode::SigWait, Ops::none(), None);
     answered.store(1, Ordering::SeqCst);
     seen && made.is_ok()
 }
@@ -218,8 +218,11 @@ fn call_one<K: Ledgers, R: Wait>(
     if !is_drained(out) {
         return Err(Refusal::SharesDiffer);
     }
-    let _signalled = table.signal(rt, number, tickets, mine, out, task, None);
-    let _passed = turned(table.pass(rt, number, tickets, mine, task, task));
+    let _signalled = signalled(table.signal(rt, number, tickets, mine, out, task, None, task));
+    if !is_drained(out) {
+        return Err(Refusal::SharesDiffer);
+    }
+    let _passed = turned(table.pass(rt, number, tickets, mine, out, task, task));
     let _sent = table.send(rt, number, tickets, mine, task, 0, value);
     let _seen = table.look(rt, number, tickets, mine, task, 0);
     Ok(())
@@ -315,7 +318,7 @@ fn register_all<K: Ledgers, R: Abort + Wait>(
 )
     requires { number < table.now.phasers }
 {
-    let made = table.make(rt, number, tickets, mine, 0, Mode::SigWait, first_ops(1));
+    let made = table.make(rt, number, tickets, mine, 0, Mode::SigWait, first_ops(1), None);
     assert_eq!(rt; made, Ok(()));
     for task in 1..WORKERS {
         let registered = table.register(rt, number, tickets, mine, 0, task, Mode::SigWait);

@@ -1,12 +1,12 @@
-//! A waiter that is let go on by the other's signal, on one cell.
+//! A waiter that is let go on by the other's signal, and a signaller that is by the other's pass, on
+//! one cell.
 ghost use Rattle.std.specs.Prelude.{◌≡◌, All};
 ghost use Rattle.share_book.specs.Accounts.{nothing};
 ghost use Rattle.share_book.specs.Opening.{IsNamed, IsParted};
 
 use super::*;
 
-/// What a pass is answered. The item of a task is 100 and its number, or another where it asks
-/// again.
+/// What a pass is answered. The items are told apart by their numbers.
 #[derive(Clone, Copy, Debug, PartialEq, Eq)]
 enum Passing {
     Passed(u32, u32),
@@ -24,24 +24,38 @@ fn answer_of(answer: PassAnswer<u32>) -> Passing {
     }
 }
 
-/// Task 0 asks to pass, with this item.
+/// What a signal is answered.
+#[derive(Clone, Copy, Debug, PartialEq, Eq)]
+enum Signalling {
+    Signalled(u32),
+    Parked,
+    Refused(u32, Refusal),
+}
+
+fn signalling_of(answer: SignalAnswer<u32>) -> Signalling {
+    match answer {
+        SignalAnswer::Signalled(item) => Signalling::Signalled(item),
+        SignalAnswer::Parked => Signalling::Parked,
+        SignalAnswer::Refused(item, refusal) => Signalling::Refused(item, refusal),
+    }
+}
+
+/// The task asks to pass, with this item. Returns the item that this lets go on too.
 fn pass<K: Ledgers>(
+    alloc: Global,
     cell: &mut PhaserCell<u32, K>,
     tickets: &Tickets,
     books: &mut Books<K>,
     mine: &mut Shares<K>,
+    task: u32,
     item: u32,
-) -> Passing {
-    answer_of(cell.pass(tickets, books, mine, 0, item))
+) -> Result<(Passing, Option<u32>), Refusal> {
+    let mut out = Out::new(alloc)?;
+    let answer = answer_of(cell.pass(tickets, books, mine, &mut out, task, item));
+    Ok((answer, out.take()))
 }
 
-/// The item that a call lets go on, where it isn't refused.
-fn freed(answer: Result<(), Refusal>, out: &mut Out<u32>) -> Result<Option<u32>, Refusal> {
-    answer?;
-    Ok(out.take())
-}
-
-/// The task signals. Returns the item that this lets go on.
+/// The task signals, with this item. Returns the item that this lets go on too.
 fn signal<K: Ledgers>(
     alloc: Global,
     cell: &mut PhaserCell<u32, K>,
@@ -49,10 +63,11 @@ fn signal<K: Ledgers>(
     books: &mut Books<K>,
     mine: &mut Shares<K>,
     task: u32,
-) -> Result<Option<u32>, Refusal> {
+    item: u32,
+) -> Result<(Signalling, Option<u32>), Refusal> {
     let mut out = Out::new(alloc)?;
-    let answer = cell.signal(tickets, books, mine, &mut out, task, None);
-    freed(answer, &mut out)
+    let answer = signalling_of(cell.signal(tickets, books, mine, &mut out, task, None, item));
+    Ok((answer, out.take()))
 }
 
 /// The task is dropped. Returns the item that this lets go on.
@@ -65,11 +80,11 @@ fn drop_task<K: Ledgers>(
     task: u32,
 ) -> Result<Option<u32>, Refusal> {
     let mut out = Out::new(alloc)?;
-    let answer = cell.drop_task(tickets, books, mine, &mut out, task);
-    freed(answer, &mut out)
+    cell.drop_task(tickets, books, mine, &mut out, task)?;
+    Ok(out.take())
 }
 
-/// Tasks 0 and 1 are registered.
+/// Tasks 0 and 1 are registered, with bound 1.
 fn register_both<K: Ledgers>(
     rt: &impl Abort,
     cell: &mut PhaserCell<u32, K>,
@@ -77,8 +92,9 @@ fn register_both<K: Ledgers>(
     books: &mut Books<K>,
     mine: &mut Shares<K>,
 ) {
+    let ops = Ops::none();
     assert_eq!(rt;
-        cell.make(tickets, books, mine, 0, Mode::SigWait, Ops::none()),
+        cell.make(tickets, books, mine, 0, Mode::SigWait, ops, Bound::of(1)),
         Ok(())
     );
     assert_eq!(rt;
@@ -96,13 +112,15 @@ fn park_twice<K: Ledgers>(
     books: &mut Books<K>,
     mine: &mut Shares<K>,
 ) {
-    const AGAIN: Passing = Passing::Refused(102, Refusal::NotNow);
-    assert_eq!(rt; signal(alloc, cell, tickets, books, mine, 0), Ok(None));
-    assert_eq!(rt; pass(cell, tickets, books, mine, 100), Passing::Parked);
-    assert_eq!(rt; pass(cell, tickets, books, mine, 102), AGAIN);
+    const SIGNALLED: (Signalling, Option<u32>) = (Signalling::Signalled(99), None);
+    const PARKED: (Passing, Option<u32>) = (Passing::Parked, None);
+    const AGAIN: (Passing, Option<u32>) = (Passing::Refused(102, Refusal::NotNow), None);
+    assert_eq!(rt; signal(alloc, cell, tickets, books, mine, 0, 99), Ok(SIGNALLED));
+    assert_eq!(rt; pass(alloc, cell, tickets, books, mine, 0, 100), Ok(PARKED));
+    assert_eq!(rt; pass(alloc, cell, tickets, books, mine, 0, 102), Ok(AGAIN));
 }
 
-/// The other's signal lets it go on, and the other's drop nobody.
+/// The other's signal lets it go on.
 fn let_go<K: Ledgers>(
     rt: &impl Abort,
     alloc: Global,
@@ -111,11 +129,30 @@ fn let_go<K: Ledgers>(
     books: &mut Books<K>,
     mine: &mut Shares<K>,
 ) {
-    assert_eq!(rt; signal(alloc, cell, tickets, books, mine, 1), Ok(Some(100)));
-    assert_eq!(rt;
-        pass(cell, tickets, books, mine, 100),
-        Passing::Passed(100, 0)
-    );
+    const FREED: (Signalling, Option<u32>) = (Signalling::Signalled(101), Some(100));
+    const PASSED: (Passing, Option<u32>) = (Passing::Passed(100, 0), None);
+    assert_eq!(rt; signal(alloc, cell, tickets, books, mine, 1, 101), Ok(FREED));
+    assert_eq!(rt; pass(alloc, cell, tickets, books, mine, 0, 100), Ok(PASSED));
+}
+
+/// The other hasn't passed yet, so task 0 waits to signal. The other's pass lets it go on, and the
+/// other's drop nobody.
+fn hold_and_let_go<K: Ledgers>(
+    rt: &impl Abort,
+    alloc: Global,
+    cell: &mut PhaserCell<u32, K>,
+    tickets: &Tickets,
+    books: &mut Books<K>,
+    mine: &mut Shares<K>,
+) {
+    const HELD: (Signalling, Option<u32>) = (Signalling::Parked, None);
+    const AGAIN: (Signalling, Option<u32>) = (Signalling::Refused(104, Refusal::NotNow), None);
+    const FREED: (Passing, Option<u32>) = (Passing::Passed(101, 0), Some(103));
+    const SIGNALLED: (Signalling, Option<u32>) = (Signalling::Signalled(103), None);
+    assert_eq!(rt; signal(alloc, cell, tickets, books, mine, 0, 103), Ok(HELD));
+    assert_eq!(rt; signal(alloc, cell, tickets, books, mine, 0, 104), Ok(AGAIN));
+    assert_eq!(rt; pass(alloc, cell, tickets, books, mine, 1, 101), Ok(FREED));
+    assert_eq!(rt; signal(alloc, cell, tickets, books, mine, 0, 103), Ok(SIGNALLED));
     assert_eq!(rt; drop_task(alloc, cell, tickets, books, mine, 1), Ok(None));
 }
 
@@ -131,6 +168,7 @@ fn wait_and_go_on<K: Ledgers>(
     register_both(rt, cell, tickets, books, mine);
     park_twice(rt, alloc, cell, tickets, books, mine);
     let_go(rt, alloc, cell, tickets, books, mine);
+    hold_and_let_go(rt, alloc, cell, tickets, books, mine);
 }
 
 /// The waiter, on a new phaser of this book, which comes back.
@@ -205,11 +243,11 @@ fn named_wait<
     wait_on::<Seven<A, B, C, D, E, F, G>, R>(rt, alloc, blanks)
 }
 
-// A making, a registration, two signals, a pass and a drop.
+// A making, a registration, three signals, two passes and a drop.
 #[test]
 fn parked_waiter(rt: HostRuntime) -> Result<(), Fail> {
     const TOTALS: Totals = Totals {
-        events: 6,
+        events: 8,
         up: 0,
         down: 0,
     };

@@ -2,12 +2,12 @@
 //! here.
 ghost use Rattle.std.specs.Prelude.{◌≡◌, IfOk, IfErr};
 ghost use Rattle.phase_model.specs.Replies.{reply, returned};
-ghost use Rattle.phaser_core.specs.Outcomes.{turn_reply};
+ghost use Rattle.phaser_core.specs.Outcomes.{unmade_reply, turn_reply};
 
 use super::look_reply;
 use crate::state::PhaserState;
 use crate::table::View;
-use crate::turn::Turn;
+use crate::turn::{Signal, Turn, Unmade};
 use phase_model::{Call, Reply};
 use phase_modes::Refusal;
 use reg_table::Comparisons;
@@ -32,7 +32,7 @@ impl PhaserState {
                 mode,
                 &mut comparisons,
             )),
-            Call::Signal(task, number) => done_or_refused(view.may_signal(
+            Call::Signal(task, number) => signal_answer(view.may_signal(
                 task,
                 number,
                 &mut comparisons,
@@ -64,6 +64,18 @@ fn done_or_refused<T: Copy>(outcome: Result<T, Refusal>) -> Reply
     match outcome {
         Ok(_) => Reply::Done,
         Err(refusal) => Reply::Refused(refusal),
+    }
+}
+
+/// The reply of a signal that may be made, or why it may not.
+fn signal_answer(outcome: Result<Signal, Unmade>) -> Reply
+    ensures done { IfOk outcome (λ _. result ≡ Reply.Done) }
+    ensures unmade { IfErr outcome (λ why. result ≡ unmade_reply why) }
+{
+    match outcome {
+        Ok(_) => Reply::Done,
+        Err(Unmade::Refused(refusal)) => Reply::Refused(refusal),
+        Err(Unmade::Held) => Reply::NotYet,
     }
 }
 

@@ -24,7 +24,7 @@ impl PhaserState {
     /// Whether the task may claim the single of its phase: its next `pass` then claims it.
     pub fn may_claim(&self, task: u32) -> bool
         ensures { result
-            ≡ is_permitted self.now.story.limits self.now.story.ops self.now.story.past (Event.Claim task) }
+            ≡ is_permitted self.now.story.limits self.now.story.terms self.now.story.past (Event.Claim task) }
     {
         let mut comparisons = Comparisons::none();
         let view = View {
@@ -38,7 +38,7 @@ impl PhaserState {
     /// Whether the task may report the single done that it claimed.
     pub fn may_report(&self, task: u32) -> bool
         ensures { result
-            ≡ is_permitted self.now.story.limits self.now.story.ops self.now.story.past (Event.Did task) }
+            ≡ is_permitted self.now.story.limits self.now.story.terms self.now.story.past (Event.Did task) }
     {
         let mut comparisons = Comparisons::none();
         let view = View {

@@ -2,7 +2,7 @@
 //! are refused.
 use super::{Entry, are_alike, trace_of};
 use finish_core::FinishEvent;
-use phase_model::{Look, Op, Ops};
+use phase_model::{Bound, Look, Op, Ops, Terms};
 use phase_modes::{Mode, Pair, Phased, Refusal};
 use std::alloc::Global;
 use std::process::Abort;
@@ -60,7 +60,7 @@ fn is_text_of(rt: &impl Abort, alloc: Global, text: &str, entries: &[Entry]) -> 
 
 #[test]
 fn smallest_trace(rt: HostRuntime) -> Result<(), Fail> {
-    let make = TracedStep::Make(0, Mode::SigWait, Ops::none());
+    let make = TracedStep::Make(0, Mode::SigWait, Terms::none());
     let entries = [
         (1, TracedEvent::Phaser(0, make)),
         (2, TracedEvent::Begin(0, Begun::Next)),
@@ -165,10 +165,10 @@ fn all_pairs() -> Phased {
 }
 
 /// One accumulator, the least.
-fn one_least() -> Ops {
+fn one_least() -> Terms {
     let mut ops = Ops::none();
     ops.push(Op::Least);
-    ops
+    Terms { ops, bound: None }
 }
 
 /// The trace of these events is written, and read again.
@@ -191,6 +191,25 @@ fn most_pairs(rt: HostRuntime) -> Result<(), Fail> {
         (2, TracedEvent::Phaser(1, look)),
     ];
     is_read_again(&rt, rt.alloc(), entries.as_slice())
+}
+
+/// The trace of this event has no text.
+fn has_no_text(rt: &impl Abort, alloc: Global, event: TracedEvent) -> Result<(), Fail> {
+    let trace = trace_of(alloc, [(1, event)].as_slice())?;
+    assert!(rt; matches!(to_json(alloc, &trace), Err(Refusal::NotNow)));
+    Ok(())
+}
+
+#[test]
+fn no_text_says_a_bound(rt: HostRuntime) -> Result<(), Fail> {
+    let terms = Terms {
+        ops: Ops::none(),
+        bound: Bound::of(2),
+    };
+    let make = TracedStep::Make(0, Mode::SigWait, terms);
+    has_no_text(&rt, rt.alloc(), TracedEvent::Phaser(0, make))?;
+    let refused = Tried::New(0, Mode::SigWait, terms);
+    has_no_text(&rt, rt.alloc(), TracedEvent::Refuse(0, refused, 16))
 }
 
 /// Each text has its first fault at this place.

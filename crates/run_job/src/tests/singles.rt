@@ -41,7 +41,7 @@ impl Body for Proposer {
     fn step(&mut self, _answer: Answer) -> Result<Act<Proposer>, Refusal> {
         if !self.made {
             self.made = true;
-            return Ok(Act::New(Mode::Single, Ops::none()));
+            return Ok(Act::New(Mode::Single, Ops::none(), None));
         }
         if self.spawns > 0 {
             self.spawns -= 1;

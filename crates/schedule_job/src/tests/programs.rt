@@ -60,9 +60,11 @@ fn outer_objects(rt: HostRuntime) -> Result<(), Fail> {
 
 #[test]
 fn acts_of_the_form(rt: HostRuntime) -> Result<(), Fail> {
-    const ACTS: [&str; 14] = [
+    const ACTS: [&str; 16] = [
         r#"["new","p","SINGLE",["sum","least","greatest","sum"]]"#,
         r#"["new","Aa_09","WAIT",[]]"#,
+        r#"["new","p","SIG",[],1]"#,
+        r#"["new","p","SIG",["sum"],65536]"#,
         r#"["async",[],[]]"#,
         r#"["async",[["p","SIG"],["q","WAIT"]],[["next"]]]"#,
         r#"["async_all",[["repeat",0,[]]]]"#,
@@ -84,7 +86,7 @@ fn acts_of_the_form(rt: HostRuntime) -> Result<(), Fail> {
 
 #[test]
 fn items_that_are_no_acts(rt: HostRuntime) -> Result<(), Fail> {
-    const ITEMS: [&str; 22] = [
+    const ITEMS: [&str; 24] = [
         "7",
         "[]",
         r#"["jump"]"#,
@@ -95,7 +97,9 @@ fn items_that_are_no_acts(rt: HostRuntime) -> Result<(), Fail> {
         r#"["new","p-q","SIG",[]]"#,
         r#"["new","p","sig",[]]"#,
         r#"["new","p","SIG",["sum","sum","sum","sum","sum"]]"#,
-        r#"["new","p","SIG",[],1]"#,
+        r#"["new","p","SIG",[],0]"#,
+        r#"["new","p","SIG",[],65537]"#,
+        r#"["new","p","SIG",[],1,1]"#,
         r#"["async",[["p"]],[]]"#,
         r#"["async",[["p","SIG",1]],[]]"#,
         r#"["async",[]]"#,
@@ -205,7 +209,7 @@ fn as_shown<B: Drop>(act: &Act<B>) -> Shown {
         Act::AsyncAll(_) => Shown::AsyncAll,
         Act::OpenFinish => Shown::OpenFinish,
         Act::ShutFinish => Shown::ShutFinish,
-        Act::New(mode, _) => Shown::New(*mode),
+        Act::New(mode, _, _) => Shown::New(*mode),
         Act::Signal => Shown::Signal,
         Act::Wait => Shown::Wait,
         Act::Next => Shown::Next,

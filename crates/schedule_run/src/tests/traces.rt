@@ -47,7 +47,7 @@ fn begin(task: u32, begun: Begun) -> TracedEvent {
 }
 
 fn made(n: u32, task: u32, mode: Mode) -> TracedEvent {
-    TracedEvent::Phaser(n, TracedStep::Make(task, mode, Ops::none()))
+    TracedEvent::Phaser(n, TracedStep::Make(task, mode, unbounded()))
 }
 
 /// The pairs of these phasers, each in its mode.

@@ -65,9 +65,9 @@ pub record Keeps (long : List TracedEvent) (k : Kept) (e : TracedEvent) : Type 0
 
 -- ---- which events are long
 
--- the making of a phaser: it has the accumulators
+-- the making of a phaser: it has its terms
 abbrev pub is_long_step : TracedStep → Bool
-is_long_step (step.Make t m ops) = true
+is_long_step (step.Make t m terms) = true
 is_long_step _ = false
 
 -- a spawn: it has the pairs

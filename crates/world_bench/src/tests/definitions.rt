@@ -1,6 +1,6 @@
 //! The types as another crate builds them. What holds of them is proved by the laws.
 use finish_core::FinishEvent;
-use phase_model::{Look, Ops};
+use phase_model::{Look, Terms};
 use phase_modes::{Mode, Phased};
 use std::alloc::Global;
 use std::process::Abort;
@@ -17,7 +17,7 @@ fn events_are_values(rt: HostRuntime) -> Result<(), Fail> {
     assert!(rt; copied == begun);
     assert!(rt; begun != WorldEvent::Begin(0, Begun::Next));
     assert!(rt; begun != WorldEvent::Refuse(0, Tried::Begun(Begun::Next), 12));
-    let made = WorldEvent::Phaser(0, Step::Make(0, Mode::SigWait, Ops::none()));
+    let made = WorldEvent::Phaser(0, Step::Make(0, Mode::SigWait, Terms::none()));
     assert!(rt; made != WorldEvent::Phaser(0, Step::Drop(0)));
     assert!(rt; made != WorldEvent::Finish(0, FinishEvent::Shut));
     assert!(rt; Reply::Value(Look::Value(3)) != Reply::NotYet);

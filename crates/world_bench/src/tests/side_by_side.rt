@@ -5,7 +5,7 @@ use super::*;
 use finish_core::FinishEvent;
 use generator::Dice;
 use peer::{Answer, Plain};
-use phase_model::{Op, Ops};
+use phase_model::{Bound, Op, Ops, Terms};
 use phase_modes::{Limits, Mode, Pair, Phased};
 use std::process::Abort;
 use world_core::World;
@@ -44,11 +44,13 @@ fn one_sum() -> Ops {
     ops
 }
 
-/// How many events were made, by kind, and how many had to wait and were refused.
+/// How many events were made, by kind, how many had to wait, signals among them, and how many were
+/// refused.
 #[derive(Clone, Copy, Debug, PartialEq, Eq)]
 struct Counts {
     made: [u32; 16],
     waiting: u32,
+    held: u32,
     refused: u32,
 }
 
@@ -85,11 +87,21 @@ fn kind_of(event: &WorldEvent) -> usize
     }
 }
 
+/// Whether the event signals.
+fn signals(event: &WorldEvent) -> bool {
+    matches!(event, WorldEvent::Phaser(_, Step::Sig(_, _)))
+}
+
 impl Counts {
+    fn add_waiting(&mut self, event: &WorldEvent) {
+        self.waiting = self.waiting.saturating_add(1);
+        self.held = self.held.saturating_add(u32::from(signals(event)));
+    }
+
     fn add(&mut self, event: &WorldEvent, answer: Result<Reply, Refusal>) {
         match answer {
             Err(_) => self.refused = self.refused.saturating_add(1),
-            Ok(Reply::NotYet) => self.waiting = self.waiting.saturating_add(1),
+            Ok(Reply::NotYet) => self.add_waiting(event),
             Ok(_) => {
                 let kind = kind_of(event);
                 self.made[kind] = self.made[kind].saturating_add(1);
@@ -187,6 +199,7 @@ fn side_by_side(rt: HostRuntime) -> Result<(), Refusal> {
     let mut counts = Counts {
         made: [0; 16],
         waiting: 0,
+        held: 0,
         refused: 0,
     };
     play_all(&rt, rt.alloc(), &mut counts)?;
@@ -194,6 +207,7 @@ fn side_by_side(rt: HostRuntime) -> Result<(), Refusal> {
         assert!(rt; counts.made[kind] > 0, "none made of kind {kind}");
     }
     assert!(rt; counts.waiting > 20);
+    assert!(rt; counts.held > 0);
     assert!(rt; counts.refused > 400);
     Ok(())
 }

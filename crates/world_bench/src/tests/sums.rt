@@ -39,7 +39,7 @@ fn history_of(alloc: Global, events: &[Event]) -> Result<History, Refusal> {
     if !limits.fits() {
         return Err(Refusal::NotNow);
     }
-    let mut history = History::new(alloc, limits, two_ops())?;
+    let mut history = History::new(alloc, limits, two_ops(), None)?;
     for event in events {
         if history.len() >= history.limits().history {
             return Err(Refusal::HistoryFull);

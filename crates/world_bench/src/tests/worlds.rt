@@ -1,7 +1,7 @@
 //! A world driven from outside: a table has each event beside its reply, and each question beside
 //! its answer.
 use finish_core::FinishEvent;
-use phase_model::{Look, Op, Ops};
+use phase_model::{Look, Op, Ops, Terms};
 use phase_modes::{Limits, Mode, Pair, Phased, Refusal};
 use std::alloc::Global;
 use std::process::Abort;
@@ -102,19 +102,19 @@ fn spawn(child: u32, places: Places) -> Begun {
 }
 
 /// One accumulator, a sum.
-fn one_sum() -> Ops {
+fn one_sum() -> Terms {
     let mut ops = Ops::none();
     if ops.len() < 4 {
         ops.push(Op::Sum);
     }
-    ops
+    Terms { ops, bound: None }
 }
 
 /// The event that is named.
 fn event_of(event: TableEvent) -> WorldEvent {
     match event {
         TableEvent::Make(phaser, task, mode) => {
-            WorldEvent::Phaser(phaser, Step::Make(task, mode, Ops::none()))
+            WorldEvent::Phaser(phaser, Step::Make(task, mode, Terms::none()))
         }
         TableEvent::MakeSum(phaser, task, mode) => {
             WorldEvent::Phaser(phaser, Step::Make(task, mode, one_sum()))
@@ -125,7 +125,7 @@ fn event_of(event: TableEvent) -> WorldEvent {
         TableEvent::Spawn(task, child, places) => WorldEvent::Begin(task, spawn(child, places)),
         TableEvent::Refuse(task, tried, number) => WorldEvent::Refuse(task, tried, number),
         TableEvent::RefuseMake(task, phaser, mode, number) => {
-            WorldEvent::Refuse(task, Tried::New(phaser, mode, Ops::none()), number)
+            WorldEvent::Refuse(task, Tried::New(phaser, mode, Terms::none()), number)
         }
         TableEvent::RefuseSpawn(task, child, places, number) => {
             WorldEvent::Refuse(task, Tried::Begun(spawn(child, places)), number)

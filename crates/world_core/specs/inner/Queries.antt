@@ -1,7 +1,7 @@
 -- What a world reports of a task, by its state alone. That this is what the history says is proved apart, in proofs/.
 use Rattle.std.specs.Prelude.{ℕ, Bool, false, ◌&&◌, not, if◌then◌else◌, Option, Some, None, option_map, slice_get}
 use Rattle.phase_modes.specs.declared.phased.Pair.{Pair}
-use Rattle.phase_model.specs.Waiting.{would_wait}
+use Rattle.phase_model.specs.Waiting.{signal_would_wait, would_wait}
 use Rattle.finish_core.specs.Finish.{all_ended}
 use Rattle.finish_core.specs.declared.event.FinishEvent.TheVariants.{Spawned, Shut as Shutting}
 use Rattle.world_model.specs.declared.event.Step.TheVariants.{Reg, Sig, Claim, Did, Pass, Drop}
@@ -66,9 +66,10 @@ kept_condition k =
     else (if k.is_born then Some (condition_by k.plan)
     else None)
 
--- what comes next has to wait: a pass of a phase that is open, or whose single is, and a shut of a finish with a task inside that hasn't ended
+-- what comes next has to wait: a pass of a phase that is open, or whose single is, a signal that isn't within its phaser's bound, and a shut of a finish with a task inside that hasn't ended
 abbrev pub waits_at : WorldState → Option WorldEvent → Bool
 waits_at s (Some (Phaser n (Pass t))) = would_wait (story_at s n) t
+waits_at s (Some (Phaser n (Sig t x))) = signal_would_wait (story_at s n) t x
 waits_at s (Some (Finish f Shutting)) = not (all_ended (finish_at s f).past)
 waits_at s _ = false
 

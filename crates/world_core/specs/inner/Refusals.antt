@@ -46,7 +46,7 @@ make_refusal s t n m = or_then (first_refusal (make_conditions s n t)) (phaser_r
 -- any act
 abbrev pub act_refusal : WorldState → ℕ → Tried → Option Refusal
 act_refusal s t (Beginning b) = begin_refusal s t b
-act_refusal s t (New n m ops) = make_refusal s t n m
+act_refusal s t (New n m terms) = make_refusal s t n m
 act_refusal s t (Open f) = first_refusal (open_conditions s f t)
 act_refusal s t (Sending n a v) = call_refusal s t n (send t a v)
 act_refusal s t (Looking n a) = call_refusal s t n (look t a)

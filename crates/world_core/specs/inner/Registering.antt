@@ -5,7 +5,7 @@ use Rattle.phase_modes.specs.declared.reg.Mode.{Mode}
 use Rattle.phase_modes.specs.declared.refusal.Refusal.{Refusal}
 use Rattle.phase_modes.specs.declared.refusal.Refusal.TheVariants.{NotNow, ActsFull, PhasersFull}
 use Rattle.phase_modes.specs.Refusal.{first_refusal}
-use Rattle.phase_model.specs.declared.op.Op.{Op}
+use Rattle.phase_model.specs.declared.terms.Terms.{Terms}
 use Rattle.phase_model.specs.Replies as phaser
 use Rattle.phase_model.specs.Replies.{done_result}
 use Rattle.phase_model.specs.declared.call.Call.TheVariants.{Make as make}
@@ -42,15 +42,15 @@ abbrev pub making : ℕ → TaskState → TaskState
 making n k = record k { phasers = k.phasers ++ n ∷ []; acts = min (k.acts + 1) 4294967295 }
 
 -- the state after phaser n was asked to be made
-abbrev pub phaser_made : WorldState → ℕ → ℕ → Mode → List Op → WorldState
-phaser_made s n t m ops = record s
-    { phasers = set s.phasers n (made_with (story_at s n) ops (phaser.reply (story_at s n) (make t m))) }
+abbrev pub phaser_made : WorldState → ℕ → ℕ → Mode → Terms → WorldState
+phaser_made s n t m terms = record s
+    { phasers = set s.phasers n (made_with (story_at s n) terms (phaser.reply (story_at s n) (make t m))) }
 
-abbrev pub made : WorldState → ℕ → ℕ → Mode → List Op → WorldState
-made s n t m ops = record (phaser_made s n t m ops) {
+abbrev pub made : WorldState → ℕ → ℕ → Mode → Terms → WorldState
+made s n t m terms = record (phaser_made s n t m terms) {
   enclosing = set s.enclosing n (inner_at (task_at s t));
   tasks = set s.tasks t (making n (task_at s t));
 }
 
-abbrev pub make_state : WorldState → ℕ → ℕ → Mode → List Op → WorldState
-make_state s n t m ops = state_by (make_result s n t m) s (made s n t m ops)
+abbrev pub make_state : WorldState → ℕ → ℕ → Mode → Terms → WorldState
+make_state s n t m terms = state_by (make_result s n t m) s (made s n t m terms)

@@ -11,7 +11,9 @@ use Rattle.phase_model.specs.declared.history.Event.TheVariants.{Claim as Claime
 use Rattle.phase_model.specs.Rules.{Story, is_permitted}
 use Rattle.phaser_core.specs.declared.state.Passing.{Passing}
 use Rattle.phaser_core.specs.declared.state.Passing.TheVariants.{Passed, Claimed as Claims, NotYet as Waits}
-use Rattle.phaser_core.specs.Answers.{pass_result}
+use Rattle.phaser_core.specs.declared.state.Signalling.{Signalling}
+use Rattle.phaser_core.specs.declared.state.Signalling.TheVariants.{Signalled, NotYet as Holds}
+use Rattle.phaser_core.specs.Answers.{signal_result, pass_result}
 use Rattle.phaser_core.specs.Table.{registration}
 use Rattle.phase_model.specs.Replies as phaser
 use Rattle.phase_model.specs.declared.call.Call.{Call}
@@ -123,16 +125,30 @@ abbrev pub state_by : Result (Unit {0}) Refusal → WorldState → WorldState �
 state_by (Ok u) old new = new
 state_by (Err r) old new = old
 
-abbrev pub signal_result : WorldState → ℕ → ℕ → Option ℕ → Result (Unit {0}) Refusal
-signal_result s n t x =
-    if is_to_signal (task_at s t) n x then done_result (phaser.reply (story_at s n) (signal t x))
-    else Err NotNow
+-- what the phaser says to a signal
+abbrev pub signalled_on : WorldState → ℕ → ℕ → Option ℕ → Result Signalling Refusal
+signalled_on s n t x = signal_result (phaser.reply (story_at s n) (signal t x))
+
+-- the reply of the world to a signal of which the phaser says this
+abbrev pub reply_by_signal : Result Signalling Refusal → Result Reply Refusal
+reply_by_signal (Ok Signalled) = Ok Done
+reply_by_signal (Ok Holds) = Ok NotYet
+reply_by_signal (Err r) = Err r
+
+-- the state after it
+abbrev pub state_by_signal : Result Signalling Refusal → WorldState → WorldState → WorldState
+state_by_signal (Ok Signalled) old new = new
+state_by_signal (Ok Holds) old new = old
+state_by_signal (Err r) old new = old
+
+abbrev pub signal_outcome : WorldState → ℕ → ℕ → Option ℕ → Result Signalling Refusal
+signal_outcome s n t x = if is_to_signal (task_at s t) n x then signalled_on s n t x else Err NotNow
 
 abbrev pub signal_answer : WorldState → ℕ → ℕ → Option ℕ → Result Reply Refusal
-signal_answer s n t x = done_by (signal_result s n t x)
+signal_answer s n t x = reply_by_signal (signal_outcome s n t x)
 
 abbrev pub signal_state : WorldState → ℕ → ℕ → Option ℕ → WorldState
-signal_state s n t x = state_by (signal_result s n t x) s
+signal_state s n t x = state_by_signal (signal_outcome s n t x) s
     (with_task (phaser_called s n (signal t x)) t (signal_noted (task_at s t)))
 
 -- the task's next event is to pass phaser n, the single aside
@@ -144,10 +160,10 @@ abbrev pub is_to_pass : TaskState → ℕ → Bool
 is_to_pass k n = wants_pass k.plan k.left n
 
 abbrev pub may_claim : Story → ℕ → Bool
-may_claim s t = is_permitted s.limits s.ops s.past (Claimed t)
+may_claim s t = is_permitted s.limits s.terms s.past (Claimed t)
 
 abbrev pub may_report : Story → ℕ → Bool
-may_report s t = is_permitted s.limits s.ops s.past (Reported t)
+may_report s t = is_permitted s.limits s.terms s.past (Reported t)
 
 -- a pass, a claim and a report of an act under way are asked of the phaser where they are what comes next
 abbrev pub pass_asked : WorldState → ℕ → ℕ → Bool

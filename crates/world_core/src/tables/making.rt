@@ -10,7 +10,7 @@ ghost use Rattle.world_core.specs.inner.Registering.{make_conditions, make_answe
 ghost use Rattle.world_core.specs.StandsFor.{IsStep};
 
 use super::*;
-use phase_model::Ops;
+use phase_model::Terms;
 use phase_modes::Mode;
 use world_model::{Reply, Step, WorldEvent};
 
@@ -58,14 +58,14 @@ impl Tables {
     }
 
     /// Asks a phaser to be made.
-    fn make_on(&mut self, phaser: u32, task: u32, mode: Mode, ops: Ops) -> Result<(), Refusal>
+    fn make_on(&mut self, phaser: u32, task: u32, mode: Mode, terms: Terms) -> Result<(), Refusal>
         requires { phaser < length self.old.phasers }
         ensures reply { result ≡ done_result (reply (story_at self.old phaser) (make task mode)) }
-        ensures state { IfOk result (λ _. self.new ≡ phaser_made self.old phaser task mode ops) }
+        ensures state { IfOk result (λ _. self.new ≡ phaser_made self.old phaser task mode terms) }
         ensures kept { IfErr result (λ _. self.new ≡ self.old) }
     {
         let state = &mut self.phasers[phaser as usize];
-        state.make_with(task, mode, ops)?;
+        state.make_with(task, mode, terms)?;
         Ok(())
     }
 
@@ -75,16 +75,16 @@ impl Tables {
         phaser: u32,
         task: u32,
         mode: Mode,
-        ops: Ops,
+        terms: Terms,
     ) -> Result<Reply, Refusal>
         ensures answer { result ≡ make_answer self.old phaser task mode }
-        ensures state { self.new ≡ make_state self.old phaser task mode ops }
+        ensures state { self.new ≡ make_state self.old phaser task mode terms }
         ensures phasers { length self.old.phasers ≡ self.old.limits.phasers }
         ensures enclosing { length self.old.enclosing ≡ self.old.limits.phasers }
     {
         let _most = self.most_phasers();
         self.may_make(phaser, task)?;
-        self.make_on(phaser, task, mode, ops)?;
+        self.make_on(phaser, task, mode, terms)?;
         let line = &mut self.tasks[task as usize];
         let inner = line.inner();
         line.note_making(phaser);
@@ -98,10 +98,10 @@ impl Tables {
         phaser: u32,
         task: u32,
         mode: Mode,
-        ops: Ops,
+        terms: Terms,
     ) -> Result<Reply, Refusal>
-        ensures { IsStep (WorldEvent.Phaser phaser (Step.Make task mode ops)) self.old self.new result }
+        ensures { IsStep (WorldEvent.Phaser phaser (Step.Make task mode terms)) self.old self.new result }
     {
-        self.make_phaser(phaser, task, mode, ops)
+        self.make_phaser(phaser, task, mode, terms)
     }
 }

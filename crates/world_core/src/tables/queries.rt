@@ -5,7 +5,7 @@ ghost use Rattle.world_model.specs.TaskConditions.{condition_of};
 ghost use Rattle.world_model.specs.Clock.{clock};
 ghost use Rattle.world_model.specs.Due.{next_event};
 ghost use Rattle.world_model.specs.Able.{is_able};
-ghost use Rattle.phase_model.specs.Waiting.{would_wait};
+ghost use Rattle.phase_model.specs.Waiting.{signal_would_wait, would_wait};
 ghost use Rattle.world_core.specs.Kept.{task_at, story_at, inner_at};
 ghost use Rattle.world_core.specs.inner.Queries.{turn_event, drop_or, shut_or, kept_next, kept_condition, waits_at, able_at};
 ghost use Rattle.world_core.specs.StandsFor.{StandsFor, end_of};
@@ -140,6 +140,9 @@ impl Tables {
     {
         match next {
             Some(WorldEvent::Phaser(phaser, Step::Pass(task))) => self.would_wait(phaser, task),
+            Some(WorldEvent::Phaser(phaser, Step::Sig(task, number))) => {
+                self.signal_would_wait(phaser, task, number)
+            }
             Some(WorldEvent::Finish(finish, FinishEvent::Shut)) => !self.all_ended(finish),
             _ => false,
         }
@@ -154,6 +157,17 @@ impl Tables {
         }
         let state = &self.phasers[phaser as usize];
         state.would_wait(task)
+    }
+
+    /// The same of a signal with this number.
+    fn signal_would_wait(&self, phaser: u32, task: u32, number: Option<u32>) -> bool
+        ensures { result ≡ signal_would_wait (story_at self.now phaser) task number }
+    {
+        if phaser as usize >= self.phasers.len() {
+            return false;
+        }
+        let state = &self.phasers[phaser as usize];
+        state.signal_would_wait(task, number)
     }
 
     /// What comes where a pass is due: the single may come first.

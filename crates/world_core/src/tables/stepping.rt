@@ -25,7 +25,7 @@ impl Tables {
         ensures { IsStep (WorldEvent.Phaser phaser step) self.old self.new result }
     {
         match step {
-            Step::Make(task, mode, ops) => self.step_make(phaser, task, mode, ops),
+            Step::Make(task, mode, terms) => self.step_make(phaser, task, mode, terms),
             Step::Reg(parent, child, mode) => self.step_register(phaser, parent, child, mode),
             Step::Sig(task, number) => self.step_signal(phaser, task, number),
             Step::Claim(task) => self.step_claim(phaser, task),

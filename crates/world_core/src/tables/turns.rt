@@ -3,18 +3,23 @@ ghost use Rattle.std.specs.Prelude.{◌≡◌, ◌<◌, length, IfOk, IfErr, tru
 ghost use Rattle.phase_model.specs.Replies.{reply, done_result};
 ghost use Rattle.phase_model.specs.declared.call.Call.TheVariants.{Signal as signal, Pass as pass, SingleDone as single_done};
 ghost use Rattle.world_core.specs.Kept.{task_at, story_at};
-ghost use Rattle.world_core.specs.inner.Steps.{phaser_called, is_to_signal, signal_answer, signal_state, is_to_pass, may_claim, may_report, passed_on, pass_answer, pass_state, claim_answer, claim_state, report_answer, report_state};
+ghost use Rattle.world_core.specs.inner.Steps.{phaser_called, is_to_signal, signalled_on, signal_answer, signal_state, is_to_pass, may_claim, may_report, passed_on, pass_answer, pass_state, claim_answer, claim_state, report_answer, report_state};
 ghost use Rattle.world_core.specs.StandsFor.{IsStep};
 
 use super::Tables;
 use phase_modes::Refusal;
-use phaser_core::Passing;
+use phaser_core::{Passing, Signalling};
 use world_model::{Reply, Step, WorldEvent};
 
 impl Tables {
-    /// Signals on a phaser for a task. A number without a phaser knows no task.
-    fn signal_on(&mut self, phaser: u32, task: u32, number: Option<u32>) -> Result<(), Refusal>
-        ensures reply { result ≡ done_result (reply (story_at self.old phaser) (signal task number)) }
+    /// Asks to signal on a phaser for a task. A number without a phaser knows no task.
+    fn signal_on(
+        &mut self,
+        phaser: u32,
+        task: u32,
+        number: Option<u32>,
+    ) -> Result<Signalling, Refusal>
+        ensures reply { result ≡ signalled_on self.old phaser task number }
         ensures state { IfOk result (λ _. self.new ≡ phaser_called self.old phaser (signal task number)) }
         ensures place { IfOk result (λ _. phaser < length self.old.phasers) }
         ensures kept { IfErr result (λ _. self.new ≡ self.old) }
@@ -23,8 +28,8 @@ impl Tables {
             return Err(Refusal::NotRegistered);
         }
         let state = &mut self.phasers[phaser as usize];
-        state.signal(task, number)?;
-        Ok(())
+        let signalling = state.signal(task, number)?;
+        Ok(signalling)
     }
 
     /// Whether the task's next event is to signal with this number on this phaser.
@@ -47,10 +52,14 @@ impl Tables {
         if !self.is_to_signal(task, phaser, number) {
             return Err(Refusal::NotNow);
         }
-        self.signal_on(phaser, task, number)?;
-        let line = &mut self.tasks[task as usize];
-        line.note_signal();
-        Ok(Reply::Done)
+        match self.signal_on(phaser, task, number)? {
+            Signalling::Signalled => {
+                let line = &mut self.tasks[task as usize];
+                line.note_signal();
+                Ok(Reply::Done)
+            }
+            Signalling::NotYet => Ok(Reply::NotYet),
+        }
     }
 
     /// The step that makes a signal of an act under way.

@@ -1,10 +1,11 @@
-//! A phaser whose accumulators are known only as it is made, and what is asked of its tasks.
+//! A phaser whose accumulators and bound are known only as it is made, and what is asked of its tasks.
 ghost use Rattle.std.specs.Prelude.{◌≡◌, IfOk};
 
 use super::*;
 use phase_modes::Reg;
 
-/// A phaser that nobody has made yet, without accumulators; `NotNow` where the limits are none.
+/// A phaser that nobody has made yet, without accumulators and unbounded; `NotNow` where the limits
+/// are none.
 fn blank(alloc: Global) -> Result<PhaserState, Refusal>
     ensures room { IfOk result (λ p. p.room ≡ 4) }
 {
@@ -18,24 +19,26 @@ fn blank(alloc: Global) -> Result<PhaserState, Refusal>
 /// What is known of a phaser that nobody has made yet.
 fn is_blank(rt: &impl Abort, state: &PhaserState) {
     assert_eq!(rt; state.history().ops().len(), 0);
+    assert_eq!(rt; state.history().bound(), None);
     assert_eq!(rt; state.registration(0), None);
 }
 
-/// Task 0 makes the phaser, with two accumulators.
+/// Task 0 makes the phaser, with two accumulators and a bound.
 fn made_with_two(rt: &impl Abort, state: &mut PhaserState)
     requires { state.old.room ≡ 4 }
 {
     let ops = first_ops(2);
     assert_eq!(rt; ops.len(), 2);
-    assert_eq!(rt; state.make_with(0, Mode::SigWait, ops), Ok(()));
+    assert_eq!(rt; state.make_with(0, Mode::SigWait, ops, Bound::of(3)), Ok(()));
     assert_eq!(rt; state.history().ops().len(), 2);
+    assert_eq!(rt; state.history().bound(), Bound::of(3));
 }
 
 /// Task 0 sends to the second accumulator, which is the last, and signals.
 fn sends_and_signals(rt: &impl Abort, state: &mut PhaserState) {
     assert_eq!(rt; state.send(0, 1, -7), Ok(()));
     assert_eq!(rt; state.send(0, 2, 1), Err(Refusal::NoAccumulator));
-    assert_eq!(rt; state.signal(0, None), Ok(()));
+    assert_eq!(rt; state.signal(0, None), Ok(Signalling::Signalled));
     let ahead = Reg {
         mode: Mode::SigWait,
         phase: 0,
@@ -66,7 +69,7 @@ fn made_for_singles(rt: &impl Abort, state: &mut PhaserState)
 {
     let ops = Ops::none();
     assert_eq!(rt; ops.len(), 0);
-    assert_eq!(rt; state.make_with(0, Mode::Single, ops), Ok(()));
+    assert_eq!(rt; state.make_with(0, Mode::Single, ops, None), Ok(()));
 }
 
 /// Whether task 0 may claim the single, and whether it may report it.
@@ -78,7 +81,7 @@ fn may(rt: &impl Abort, state: &PhaserState, claim: bool, report: bool) {
 /// Nothing is proposed, then nothing is claimed, and then the single runs.
 fn runs_a_single(rt: &impl Abort, state: &mut PhaserState) {
     may(rt, state, false, false);
-    assert_eq!(rt; state.signal(0, Some(5)), Ok(()));
+    assert_eq!(rt; state.signal(0, Some(5)), Ok(Signalling::Signalled));
     may(rt, state, true, false);
     assert_eq!(rt; state.pass(0), Ok(Passing::Claimed(5)));
     may(rt, state, false, true);

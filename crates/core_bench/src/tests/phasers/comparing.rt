@@ -29,7 +29,7 @@ fn what_was_compared_first_counts(rt: HostRuntime) -> Result<(), Fail> {
             2,
         ),
     ];
-    let mut state = fresh(rt.alloc(), Limits::default(), Ops::none())?;
+    let mut state = fresh(rt.alloc(), Limits::default(), Ops::none(), None)?;
     counts(&rt, &mut state, ROWS.as_slice());
     Ok(())
 }

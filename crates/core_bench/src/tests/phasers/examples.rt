@@ -30,6 +30,13 @@ fn replies_and_events(
     Ok(())
 }
 
+/// Each call on a phaser with bound 1 is replied to as its row says.
+fn replies_within_one(rt: &impl Abort, alloc: Global, rows: &[Row]) -> Result<(), Fail> {
+    let limits = limits_with(4_096, 256);
+    let _state = play_within(rt, alloc, limits, Ops::none(), Bound::of(1), rows)?;
+    Ok(())
+}
+
 /// What a new phaser with four accumulators says of itself.
 fn is_new(rt: &impl Abort, state: &PhaserState) {
     assert_eq!(rt; state.history().len(), 0);
@@ -41,7 +48,7 @@ fn is_new(rt: &impl Abort, state: &PhaserState) {
 
 #[test]
 fn new_is_not_always_out_of_memory(rt: HostRuntime) -> Result<(), Fail> {
-    let state = fresh(rt.alloc(), limits_with(4_096, 256), first_ops(4))?;
+    let state = fresh(rt.alloc(), limits_with(4_096, 256), first_ops(4), None)?;
     is_new(&rt, &state);
     agrees_with_plain(&rt, &state);
     Ok(())
@@ -479,4 +486,37 @@ fn plain_waiter_holds_still(rt: HostRuntime) -> Result<(), Fail> {
         Ops::none(),
         ROWS.as_slice(),
     )
+}
+
+/// A bound of 1: a signaller is held until the slowest waiter has passed.
+#[test]
+fn bounded_signaller(rt: HostRuntime) -> Result<(), Fail> {
+    const ROWS: [Row; 9] = [
+        (Call::Make(0, Mode::SigWait), Reply::Done),
+        (Call::Register(0, 1, Mode::Sig), Reply::Done),
+        (Call::Register(0, 2, Mode::Wait), Reply::Done),
+        (Call::Drop(0), Reply::Done),
+        (Call::Signal(1, None), Reply::Done),
+        (Call::Pass(1), Reply::Phase(0)),
+        (Call::Signal(1, None), Reply::NotYet),
+        (Call::Pass(2), Reply::Phase(0)),
+        (Call::Signal(1, None), Reply::Done),
+    ];
+    replies_within_one(&rt, rt.alloc(), ROWS.as_slice())
+}
+
+/// A signal is refused before it has to wait, and a drop of the slowest waiter lets it go on.
+#[test]
+fn bound_and_refusals(rt: HostRuntime) -> Result<(), Fail> {
+    const ROWS: [Row; 8] = [
+        (Call::Make(0, Mode::SigWait), Reply::Done),
+        (Call::Register(0, 1, Mode::Wait), Reply::Done),
+        (Call::Signal(0, None), Reply::Done),
+        (Call::Pass(0), Reply::Phase(0)),
+        (Call::Signal(0, None), Reply::NotYet),
+        (Call::Signal(0, Some(5)), Reply::Refused(Refusal::NoSingle)),
+        (Call::Drop(1), Reply::Done),
+        (Call::Signal(0, None), Reply::Done),
+    ];
+    replies_within_one(&rt, rt.alloc(), ROWS.as_slice())
 }

@@ -117,13 +117,34 @@ fn cause(history: &History, call: Call) -> Option<Refusal> {
 }
 
 /// Whether a task that waits may not pass yet, where it may claim nothing.
-fn must_wait(history: &History, call: Call) -> bool {
-    let Call::Pass(task) = call else {
-        return false;
-    };
+fn is_early(history: &History, task: u32) -> bool {
     let phase = waits(history, task);
     let is_settled = proposed(history, phase).is_none() || did(history, phase);
     is_waiter(history, task) && !(closed(history, phase) && is_settled)
+}
+
+/// Whether a signal of this phase would leave the task as many phases behind as the bound is.
+fn falls_behind(history: &History, bound: Bound, phase: u32, task: u32) -> bool {
+    let least = u64::from(waits(history, task)) + u64::from(bound.phases());
+    live(history, task) && is_waiter(history, task) && least <= u64::from(phase)
+}
+
+/// Whether the task's signal would go beyond the bound.
+fn is_too_far(history: &History, task: u32) -> bool {
+    let Some(bound) = history.bound() else {
+        return false;
+    };
+    let phase = signals(history, task);
+    (0..history.limits().tasks).any(|other| falls_behind(history, bound, phase, other))
+}
+
+/// Whether the call has to wait, where no refusal stands.
+fn must_wait(history: &History, call: Call) -> bool {
+    match call {
+        Call::Signal(task, _) => is_too_far(history, task),
+        Call::Pass(task) => is_early(history, task),
+        _ => false,
+    }
 }
 
 /// What the task sees of the accumulator: the phase before its own.

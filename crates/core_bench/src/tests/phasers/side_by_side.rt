@@ -18,7 +18,7 @@ enum Verb {
 }
 
 /// Every call with every kind of reply that it can have, numbers made 0, but for `Memory`.
-const KINDS: [(Verb, Reply); 46] = [
+const KINDS: [(Verb, Reply); 48] = [
     (Verb::Make, Reply::Done),
     (Verb::Make, Reply::Refused(Refusal::NotNow)),
     (Verb::Make, Reply::Refused(Refusal::TasksFull)),
@@ -33,6 +33,7 @@ const KINDS: [(Verb, Reply); 46] = [
     (Verb::Signal, Reply::Refused(Refusal::NotRegistered)),
     (Verb::Signal, Reply::Refused(Refusal::NoSignal)),
     (Verb::Signal, Reply::Refused(Refusal::AlreadySignalled)),
+    (Verb::Signal, Reply::NotYet),
     (Verb::Signal, Reply::Refused(Refusal::HistoryFull)),
     (Verb::Propose, Reply::Done),
     (Verb::Propose, Reply::Refused(Refusal::NotRegistered)),
@@ -40,6 +41,7 @@ const KINDS: [(Verb, Reply); 46] = [
     (Verb::Propose, Reply::Refused(Refusal::NoSingle)),
     (Verb::Propose, Reply::Refused(Refusal::AlreadySignalled)),
     (Verb::Propose, Reply::Refused(Refusal::SingleMismatch)),
+    (Verb::Propose, Reply::NotYet),
     (Verb::Propose, Reply::Refused(Refusal::HistoryFull)),
     (Verb::Pass, Reply::Phase(0)),
     (Verb::Pass, Reply::Claim(0)),
@@ -94,7 +96,7 @@ fn without_number(reply: Reply) -> Reply {
 /// How often each kind came.
 #[derive(Drop)]
 struct Tally {
-    counts: [u32; 46],
+    counts: [u32; 48],
 }
 
 impl Tally {
@@ -148,6 +150,15 @@ fn limits_of(phaser: u32) -> Limits {
     }
 }
 
+/// The bound of a phaser: half have 1, and a sixth has 2.
+fn bound_of(phaser: u32) -> Option<Bound> {
+    match phaser % 6 {
+        1 | 3 | 5 => Bound::of(1),
+        4 => Bound::of(2),
+        _ => None,
+    }
+}
+
 /// Makes 120 calls on both, which end with the same events.
 fn call_both(
     rt: &impl Abort,
@@ -176,8 +187,8 @@ fn play_both(
     let limits = limits_of(phaser);
     let ops = first_ops((phaser % 5) as usize);
     assert!(rt; limits.fits());
-    let mut peer = History::new(alloc, limits, ops)?;
-    let mut state = fresh(alloc, limits, ops)?;
+    let mut peer = History::new(alloc, limits, ops, bound_of(phaser))?;
+    let mut state = fresh(alloc, limits, ops, bound_of(phaser))?;
     call_both(rt, &mut state, &mut peer, dice, tally);
     Ok(())
 }
@@ -193,7 +204,7 @@ fn all_came(rt: &impl Abort, tally: &Tally) {
 #[test]
 fn side_by_side(rt: HostRuntime) -> Result<(), Fail> {
     let mut dice = Dice::new();
-    let mut tally = Tally { counts: [0; 46] };
+    let mut tally = Tally { counts: [0; 48] };
     for phaser in 0..24 {
         play_both(&rt, rt.alloc(), phaser, &mut dice, &mut tally)?;
     }

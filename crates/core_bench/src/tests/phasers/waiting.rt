@@ -49,7 +49,7 @@ fn first_of_two_waits(rt: HostRuntime) -> Result<(), Fail> {
     )?;
     stands(&rt, &state, ONE_SIGNALLED.as_slice());
     would_be(&rt, &state, REPLIES.as_slice());
-    assert_eq!(rt; state.signal(1, None), Ok(()));
+    assert_eq!(rt; state.signal(1, None), Ok(Signalling::Signalled));
     stands(&rt, &state, BOTH_SIGNALLED.as_slice());
     Ok(())
 }

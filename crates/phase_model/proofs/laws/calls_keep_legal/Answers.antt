@@ -7,4 +7,4 @@ pub returns : goal.returns
 returns c = λ s cs k.
     let legal = all_legal s cs k in
     let end = after_calls s cs in
-    (legal, legal_is_ordered end.limits end.ops end.past legal)
+    (legal, legal_is_ordered end.limits end.terms end.past legal)

@@ -1,14 +1,14 @@
 -- A phaser that is made asks nothing of its operators.
+use Rattle.phase_model.specs.Rules.{no_terms}
 use Rattle.std.proofs.Common.{refl, ap, sym, ◌∙◌}
 use Rattle.phase_model.specs.Replies.{Reply, after}
 use Rattle.phaser_core.specs.Answers.{made_with}
 use Rattle.phaser_core.specs.Making.{unmade}
-use Rattle.std.proofs.Common.{[]}
 use Rattle.phaser_core.proofs.laws.both_make_alike.Goals as goal
 
 pub returns : goal.returns
-returns c l ops t m = (
+returns c l terms t m = (
   refl,
-  λ e is. ap (λ (r : Reply). after (unmade l ops) r) is
-      ∙ sym (ap (λ (r : Reply). made_with (unmade l []) ops r) is),
+  λ e is. ap (λ (r : Reply). after (unmade l terms) r) is
+      ∙ sym (ap (λ (r : Reply). made_with (unmade l no_terms) terms r) is),
 )

@@ -1,7 +1,7 @@
 //! Traces that a world explains, each with its report, and changed ones, each with its first fault.
 use super::*;
 use finish_core::FinishEvent;
-use phase_model::{Look, Op, Ops};
+use phase_model::{Look, Op, Ops, Terms};
 use phase_modes::Mode;
 use trace_model::TracedStep;
 use world_model::WorldReport;
@@ -62,7 +62,7 @@ fn smallest(tickets: &[u64; 7], first: TracedStep, second: TracedStep) -> [Entry
     [
         (
             tickets[0],
-            on(0, TracedStep::Make(0, Mode::SigWait, Ops::none())),
+            on(0, TracedStep::Make(0, Mode::SigWait, Terms::none())),
         ),
         (tickets[1], begin(0, Begun::Next)),
         (tickets[2], on(0, first)),
@@ -158,12 +158,12 @@ fn nested_finish(rt: HostRuntime) -> Result<(), Fail> {
 }
 
 /// One accumulator, a sum.
-fn one_sum() -> Ops {
+fn one_sum() -> Terms {
     let mut ops = Ops::none();
     if ops.len() < 4 {
         ops.push(Op::Sum);
     }
-    ops
+    Terms { ops, bound: None }
 }
 
 /// A task that looks at what it sent, and saw this.

@@ -20,7 +20,7 @@ note-requires c =
     let h = c.args.history.now in
     let within : i < length xs = omega (arith, c.loop-i-test.true) in
     can_note (get_or xs i (Make 0 Sig)) c.loop-i.tally (reverse (take i xs))
-    (known_at h.limits h.ops h.past c.requires xs c.events-events.ensures.events c.loop-i.tally c.loop-i.invariant.ops c.loop-i.invariant.tasks i (Make 0 Sig) within)
+    (known_at h.limits h.terms h.past c.requires xs c.events-events.ensures.events c.loop-i.tally c.loop-i.invariant.ops c.loop-i.invariant.tasks i (Make 0 Sig) within)
     c.loop-i.invariant.stands
     (omega (arith, size xs i within, within, c.events-events.ensures.few))
 
@@ -33,7 +33,7 @@ loop-i-preserved c =
     let new = c.note.new.self in
     let e = get_or xs i (Make 0 Sig) in
     let within : i < length xs = omega (arith, c.loop-i-test.true) in
-    let known = known_at h.limits h.ops h.past c.requires xs c.events-events.ensures.events old c.loop-i.invariant.ops c.loop-i.invariant.tasks i (Make 0 Sig) within in
+    let known = known_at h.limits h.terms h.past c.requires xs c.events-events.ensures.events old c.loop-i.invariant.ops c.loop-i.invariant.tasks i (Make 0 Sig) within in
     let few : IsWithin (length (reverse (take i xs)) + 1) new.totals =
     c.in_ok-note.ensures.within (length (reverse (take i xs))) c.loop-i.invariant.stands.within
     in

@@ -6,6 +6,6 @@ use Rattle.report_lines.proofs.phaser.tally_of.Given as goal
 abbrev pub invariant-loop-i : goal.invariant-loop-i
 invariant-loop-i l = record {
   stands : StandsFor l.tally (reverse (take l.i l.events));
-  ops : l.tally.folds.ops ≡ l.history.ops;
+  ops : l.tally.folds.ops ≡ l.history.terms.ops;
   tasks : length l.tally.tasks ≡ l.history.limits.tasks;
 }

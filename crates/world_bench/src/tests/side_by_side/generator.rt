@@ -60,6 +60,19 @@ impl Dice {
             .unwrap_or(Mode::Single)
     }
 
+    /// One accumulator, a sum; half of the phasers are bounded, by one phase or by two.
+    fn terms(&mut self) -> Terms {
+        let bound = match self.below(4) {
+            0 => Bound::of(1),
+            1 => Bound::of(2),
+            _ => None,
+        };
+        Terms {
+            ops: one_sum(),
+            bound,
+        }
+    }
+
     fn number(&mut self) -> Option<u32> {
         match self.below(3) {
             0 => Some(7),
@@ -124,7 +137,7 @@ impl Dice {
 
     fn tried(&mut self, plain: &Plain, task: u32) -> Tried {
         match self.below(8) {
-            0 => Tried::New(self.phaser(), self.mode(), Ops::none()),
+            0 => Tried::New(self.phaser(), self.mode(), Terms::none()),
             1 => Tried::Open(self.finish()),
             2 => Tried::Send(self.phaser(), 0, 5),
             3 => Tried::Look(self.phaser(), 0),
@@ -135,7 +148,7 @@ impl Dice {
     /// A step on a phaser, any that there is.
     fn step(&mut self, task: u32) -> Step {
         match self.below(16) {
-            0..=3 => Step::Make(task, self.mode(), one_sum()),
+            0..=3 => Step::Make(task, self.mode(), self.terms()),
             4 => Step::Reg(task, self.task(), self.mode()),
             5 => Step::Sig(task, self.number()),
             6 => Step::Claim(task),

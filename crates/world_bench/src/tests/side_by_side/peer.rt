@@ -97,7 +97,7 @@ fn add_unmade(
     if !limits.fits() {
         return Err(Refusal::NotNow);
     }
-    phasers.push(PhaserState::new(alloc, limits, Ops::none())?)?;
+    phasers.push(PhaserState::new(alloc, limits, Ops::none(), None)?)?;
     Ok(())
 }
 
@@ -110,17 +110,17 @@ fn nothing_due(alloc: Global, limits: Limits) -> Result<Vec<Vec<WorldEvent>>, Re
     Ok(due)
 }
 
-/// Where the step makes the phaser, it begins anew with the step's accumulators.
+/// Where the step makes the phaser, it begins anew with the step's terms.
 fn renew(
     state: &mut PhaserState,
     alloc: Global,
     limits: Limits,
     step: &Step,
 ) -> Result<(), Refusal> {
-    if let Step::Make(_, _, ops) = *step
+    if let Step::Make(_, _, terms) = *step
         && limits.fits()
     {
-        *state = PhaserState::new(alloc, limits, ops)?;
+        *state = PhaserState::new(alloc, limits, terms.ops, terms.bound)?;
     }
     Ok(())
 }
@@ -312,11 +312,17 @@ impl Plain {
     }
 
     /// The reply to a phaser that the task may make.
-    fn new_reply(&self, phaser: u32, task: u32, mode: Mode, ops: Ops) -> Result<Answer, Refusal> {
+    fn new_reply(
+        &self,
+        phaser: u32,
+        task: u32,
+        mode: Mode,
+        terms: Terms,
+    ) -> Result<Answer, Refusal> {
         if phaser >= self.limits.phasers || self.is_on_many(task)? {
             return Ok(Err(Refusal::PhasersFull));
         }
-        Ok(self.phaser_reply(phaser, Step::Make(task, mode, ops)))
+        Ok(self.phaser_reply(phaser, Step::Make(task, mode, terms)))
     }
 
     /// The reply to an act that the task tries.
@@ -337,7 +343,7 @@ impl Plain {
                 Some(refusal) => Err(refusal),
                 None => Ok(Reply::Done),
             }),
-            Tried::New(phaser, mode, ops) => self.new_reply(phaser, task, mode, ops),
+            Tried::New(phaser, mode, terms) => self.new_reply(phaser, task, mode, terms),
             Tried::Open(finish) => {
                 if finish >= self.limits.finishes {
                     return Ok(Err(Refusal::FinishesFull));
@@ -403,7 +409,9 @@ impl Plain {
     /// The reply to a step on a phaser.
     fn step_reply(&self, phaser: u32, step: Step) -> Result<Answer, Refusal> {
         match step {
-            Step::Make(task, mode, ops) => self.act_reply(task, Tried::New(phaser, mode, ops)),
+            Step::Make(task, mode, terms) => {
+                self.act_reply(task, Tried::New(phaser, mode, terms))
+            }
             Step::Send(task, accumulator, value) => {
                 self.act_reply(task, Tried::Send(phaser, accumulator, value))
             }
@@ -594,6 +602,8 @@ impl Plain {
         let _step: Option<Step> = None;
         let _begun: Option<Begun> = None;
         let _tried: Option<Tried> = None;
+        let _terms: Option<Terms> = None;
+        let _bound: Option<Bound> = None;
         self.events.push(event)?;
         Ok(())
     }

@@ -42,7 +42,7 @@ invariant_of-self-2 c =
       length-map ts (partial_of s.past),
       slice_get_within ts k t place,
     ) in
-    let few : length s.ops ≤ 4 =
+    let few : length s.terms.ops ≤ 4 =
     omega (arith, c.len.ensures.few, c.len.ensures.length, ap (λ (os : List Op). length os) c.ops.ensures) in
     rw c.add.ensures (record {
       stands = rw (went.lines refl) (stands_drop s table p.single t k i.stands is at);
@@ -50,7 +50,7 @@ invariant_of-self-2 c =
       folds = rw (went.partials refl)
           (folds_dropped s ps p.cells t k i.folds inside few
           (sym (went.empty refl) ∙ mine));
-      window = window_stays s.limits s.ops p.cells.from e s.past
+      window = window_stays s.limits s.terms p.cells.from e s.past
           (still_legal s (drop_task t) e i.stands.legal is) i.window;
       partials = went.partials refl
           ∙ (sym (remove_set ps k no_partial)

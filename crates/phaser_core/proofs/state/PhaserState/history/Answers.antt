@@ -8,4 +8,4 @@ pub returns-clause-ordered : goal.returns-clause-ordered
 returns-clause-ordered c =
     let s = c.self.inside.history in
     subst (λ (v : Phaser). IsOrdered v.story.past) c.self.view_is
-    (legal_is_ordered s.limits s.ops s.past c.self.invariant.stands.legal)
+    (legal_is_ordered s.limits s.terms s.past c.self.invariant.stands.legal)

@@ -53,7 +53,7 @@ invariant_of-self-2 c =
       folds = folds_same s p.table.partials c.push.new.self.partials p.cells (Joined q t m) (λ a r. refl)
           (ap (λ (qs : List (List Cell)). all_held qs) c.push.ensures.partials
           ∙ held_insert p.table.partials (length p.table.lines)) i.folds;
-      window = window_stays s.limits s.ops p.cells.from (Joined q t m) s.past
+      window = window_stays s.limits s.terms p.cells.from (Joined q t m) s.past
           (still_legal s (register q t m) (Joined q t m) i.stands.legal c.in-Some.ensures.done) i.window;
       partials = c.push.ensures.partials
           ∙ (partials_insert s.past (Joined q t m ∷ s.past) p.table.lines t (length p.table.lines)

@@ -28,7 +28,7 @@ no_cause false b d room r v p q e = absurd cc
 pub returns-in-Ok-clause-reports : goal.returns-in-Ok-clause-reports
 returns-in-Ok-clause-reports c =
     let s = c.args.self.now.history.now in
-    sym (and_parts (is_permitted s.limits s.ops s.past (Did c.args.task))
+    sym (and_parts (is_permitted s.limits s.terms s.past (Did c.args.task))
     (has_room s.limits (Did c.args.task ∷ s.past))
     (done_is_allowed s (single_done c.args.task) (Did c.args.task) c.in-Ok.ensures.done)).0
 
@@ -37,10 +37,10 @@ returns-in-Err-clause-reports c =
     let s = c.args.self.now.history.now in
     let t = c.args.task in
     let known : reply s (single_done t) ≡ refused c.in-Err.field-0 = c.in-Err.ensures.refused in
-    elim (cases_Bool (is_permitted s.limits s.ops s.past (Did t))) [
+    elim (cases_Bool (is_permitted s.limits s.terms s.past (Did t))) [
       | inl e ↦
           absurd (no_cause (is_live t s.past) (has_claimed t (waits t s.past) s.past)
           (is_done (waits t s.past) s.past) (has_room s.limits (Did t ∷ s.past)) c.in-Err.field-0 (Did t)
-          e (did_has_room s.limits s.ops s.past c.args.self.now.stands.legal t e) known)
+          e (did_has_room s.limits s.terms s.past c.args.self.now.stands.legal t e) known)
       | inr e ↦ sym e
     ]

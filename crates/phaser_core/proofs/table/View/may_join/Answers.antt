@@ -162,7 +162,7 @@ returns-clause-entry c =
     let fresh : is_registered t s.past ≡ false =
     sym (c.requires.remembers.bits t (ltb-true t s.limits.tasks fits))
     ∙ (sym c.contains.ensures ∙ c.if-contains.false) in
-    child_is s.limits s.ops s.past c.args.self.now.stands.legal q t m c.args.parent c.in-Ok.joined fresh f
+    child_is s.limits s.terms s.past c.args.self.now.stands.legal q t m c.args.parent c.in-Ok.joined fresh f
     (child_ok c.args.parent.reg m c.in-Ok.joined (sym c.in-Ok.ensures))
 
 pub returns-clause-absent : goal.returns-clause-absent

@@ -1,4 +1,4 @@
-use Rattle.std.proofs.Common.{ap, sym, ◌∙◌, rules, subst}
+use Rattle.std.proofs.Common.{is_some, ◌||◌, ap, sym, ◌∙◌, subst}
 use Rattle.std.specs.Result.{is_ok}
 use Rattle.std.proofs.lemmas.Bool.{false≢true}
 use Rattle.phase_model.specs.declared.call.Call.TheVariants.{Drop as drop_task}
@@ -17,7 +17,7 @@ release_if-requires-clause-nobody g c = λ n.
     let s' = c.drop_task-answer.new.self.story in
     let ps = cell.parked.items in
     drop_frees_nobody s s' cell.book ps c.args.task cell.kept c.drop_task-answer.ensures.history
-    (neither_leaves (would_wait s c.args.task) (is_phase_open s ps) (is_phase_open s' ps) (λ waits. false≢true (sym n ∙ c.may_leave.ensures.waited (search (rules, c.would_wait-waits.ensures ∙ waits)))) (λ was now. false≢true (sym n ∙ c.may_leave.ensures.closed (cc) (cc))))
+    (neither_leaves (is_some s.terms.bound || would_wait s c.args.task) (is_phase_open s ps) (is_phase_open s' ps) (λ own. false≢true (sym n ∙ c.may_leave.ensures.otherwise (c.may_be_parked-own.ensures ∙ own))) (λ was now. false≢true (sym n ∙ c.may_leave.ensures.closed (cc) (cc))))
 
 pub post_if-requires-clause-room_for_ticket : goal.post_if-requires-clause-room_for_ticket
 post_if-requires-clause-room_for_ticket g c =

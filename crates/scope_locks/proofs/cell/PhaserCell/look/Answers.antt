@@ -24,7 +24,7 @@ invariant_of-self g c =
     let matches = matches_look s t a c.unwrap_or-seen.result c.is_ok.result (c.is_ok.ensures.value ∙ ap (λ a. is_ok a) c.look-answer.ensures.reply) in
     let drawn = ticketed s _ _ _ _ _ (look t a) _ _ cell.ticketed cell.room_for_tickets matches is c.post_if.ensures.drawn c.post_if.ensures.room_for_tickets in
     record {
-      kept = kept s _ cell.book _ cell.parked.items cell.parked.items (look t a) _ _ cell.kept matches is c.post_if.ensures.book c.post_if.ensures.room (stays_waiting s _ cell.book cell.parked.items (look t a) cell.kept is refl) cell.kept.once;
+      kept = kept s _ cell.book _ cell.parked.items cell.parked.items (look t a) _ _ cell.kept matches is c.post_if.ensures.book c.post_if.ensures.room (stays_waiting s _ cell.book cell.parked.items (look t a) cell.kept is refl refl) cell.kept.once;
       ticketed = drawn.each;
       room_for_tickets = drawn.fits;
       any_ops = c.look-answer.ensures.room ∙ cell.any_ops;

@@ -18,9 +18,9 @@ invariant_of-self g c =
     let cell = c.args.self.now in
     let s = cell.state.story in
     let matches = matches_result s (make c.args.task c.args.mode) c.is_ok.result (c.is_ok.ensures.value ∙ ap (λ a. is_ok a) c.make_with-answer.ensures.reply) in
-    let drawn = ticketed_made s _ c.args.ops _ _ _ _ c.args.task c.args.mode _ _ cell.ticketed cell.room_for_tickets matches c.make_with-answer.ensures.history c.post_if.ensures.drawn c.post_if.ensures.room_for_tickets in
+    let drawn = ticketed_made s _ (record { ops = c.args.ops; bound = c.args.bound }) _ _ _ _ c.args.task c.args.mode _ _ cell.ticketed cell.room_for_tickets matches c.make_with-answer.ensures.history c.post_if.ensures.drawn c.post_if.ensures.room_for_tickets in
     record {
-      kept = kept_made s _ c.args.ops cell.book _ cell.parked.items c.args.task c.args.mode _ _ cell.kept matches c.make_with-answer.ensures.history c.post_if.ensures.book c.post_if.ensures.room;
+      kept = kept_made s _ (record { ops = c.args.ops; bound = c.args.bound }) cell.book _ cell.parked.items c.args.task c.args.mode _ _ cell.kept matches c.make_with-answer.ensures.history c.post_if.ensures.book c.post_if.ensures.room;
       ticketed = drawn.each;
       room_for_tickets = drawn.fits;
       any_ops = c.make_with-answer.ensures.room ∙ cell.any_ops;

@@ -1,57 +1,102 @@
-use Rattle.std.proofs.Common.{◌<◌, length, Result, ap, sym, ◌∙◌, arith, subst}
+use Rattle.std.proofs.Common.{◌<◌, ◌&&◌, not, length, List, Result, ap, sym, ◌∙◌, arith, subst}
 use Rattle.phase_modes.specs.declared.refusal.Refusal.{Refusal}
 use Rattle.phase_model.specs.declared.call.Call.TheVariants.{Pass as pass}
+use Rattle.phase_model.specs.declared.history.Event.TheVariants.{Pass}
 use Rattle.phaser_core.specs.declared.state.Passing.{Passing}
 use Rattle.scope_locks.specs.declared.parking.Parked.{Parked}
-use Rattle.scope_locks.specs.Parking.{is_parked, locked_pass, parking, has_gone_on, answered_is}
-use Rattle.scope_locks.proofs.Parks.{one_place_more}
-use Rattle.scope_locks.proofs.Passing.{not_yet_waits, parking_waits, parking_once}
-use Rattle.scope_locks.proofs.Written.{matches_pass, kept, ticketed, ticket_fits}
+use Rattle.scope_locks.specs.declared.parking.ParkedCall.TheVariants.{Pass as ToPass}
+use Rattle.scope_locks.specs.Parking.{is_parked, is_first_held, locked_pass, parking, has_gone_on, has_to_wait, answered, answered_is}
+use Rattle.scope_locks.proofs.Freeing.{pass_frees_no_signaller}
+use Rattle.scope_locks.proofs.Parks.{all_waiting, once_waiting}
+use Rattle.scope_locks.proofs.Passing.{pass_waits, kept_where_same, place_where_same, parking_same, pass_same, parking_waits, parking_once}
+use Rattle.scope_locks.proofs.Written.{matches_pass, unadded, none_where_unchanged, kept, ticketed, ticket_fits}
 use Rattle.scope_locks.specs.Drawn.{IsDrawn}
 use Rattle.scope_locks.proofs.cell.PhaserCell.pass.Goals as goal
 
-pub settle-requires-clause-place : goal.settle-requires-clause-place
-settle-requires-clause-place g c = λ a n.
+pub release_if-requires-clause-nobody : goal.release_if-requires-clause-nobody
+release_if-requires-clause-nobody g c = λ n.
     let cell = c.args.self.now in
-    let k = cell.kept in
-    let p : Parked g.row.T.Denot = record { task = c.args.task; item = c.args.item } in
-    let few : length cell.parked.items < 256 = one_place_more cell.state.story cell.parked.items p k.fit k.legal k.waiting k.once (not_yet_waits cell.state.story c.args.task (sym c.pass-answer.ensures.reply ∙ a)) n in
-    omega (arith, few)
+    let s = cell.state.story in
+    let t = c.args.task in
+    let is = c.pass-answer.ensures.history in
+    let matches = matches_pass s t c.has_gone_on-gone_on.result (c.has_gone_on-gone_on.ensures ∙ ap (λ (a : Result Passing Refusal). has_gone_on a) c.pass-answer.ensures.reply) in
+    pass_frees_no_signaller s _ cell.book cell.parked.items t c.has_gone_on-gone_on.result cell.kept is
+    (λ m. is ∙ unadded s (pass t) c.has_gone_on-gone_on.result (Pass t) matches m)
+    (ap (λ b. b && c.has_gone_on-gone_on.result && not (is_first_held c.pass-answer.new.self.story cell.parked.items)) (sym c.is_bounded-bounded.ensures) ∙ (sym c.may_come_near-is_near.ensures ∙ n))
 
 pub post_if-requires-clause-room_for_ticket : goal.post_if-requires-clause-room_for_ticket
 post_if-requires-clause-room_for_ticket g c =
     let cell = c.args.self.now in
     let s = cell.state.story in
     let t = c.args.task in
-    let matches = matches_pass s t c.has_gone_on.result (c.has_gone_on.ensures ∙ ap (λ (a : Result Passing Refusal). has_gone_on a) c.pass-answer.ensures.reply) in
+    let matches = matches_pass s t c.has_gone_on-gone_on.result (c.has_gone_on-gone_on.ensures ∙ ap (λ (a : Result Passing Refusal). has_gone_on a) c.pass-answer.ensures.reply) in
     ticket_fits s _ _ (pass t) _ _ cell.ticketed cell.room_for_tickets matches
+
+pub settle_pass-requires-clause-place : goal.settle_pass-requires-clause-place
+settle_pass-requires-clause-place g c = λ a n.
+    let cell = c.args.self.now in
+    let s = cell.state.story in
+    let p : Parked g.row.T.Denot = record { task = c.args.task; call = ToPass; item = c.args.item } in
+    let w = pass_waits s c.pass-answer.new.self.story c.args.task c.pass-answer.ensures.history (ap (λ (r : Result Passing Refusal). has_to_wait r) (sym c.pass-answer.ensures.reply ∙ a)) in
+    let few : length c.release_if.new.parked.items < 256 = place_where_same s _ cell.book p cell.parked.items _ cell.kept w.0 w.1 (kept_where_same s _ cell.book cell.parked.items _ cell.kept w.0 c.release_if.ensures.parked) n in
+    omega (arith, few)
 
 pub invariant_of-self : goal.invariant_of-self
 invariant_of-self g c =
     let cell = c.args.self.now in
     let s = cell.state.story in
+    let s' = c.pass-answer.new.self.story in
     let t = c.args.task in
-    let p : Parked g.row.T.Denot = record { task = t; item = c.args.item } in
+    let p : Parked g.row.T.Denot = record { task = t; call = ToPass; item = c.args.item } in
     let is = c.pass-answer.ensures.history in
-    let left = c.settle.ensures.parked in
-    let matches = matches_pass s t c.has_gone_on.result (c.has_gone_on.ensures ∙ ap (λ (a : Result Passing Refusal). has_gone_on a) c.pass-answer.ensures.reply) in
+    let held = ap (λ (a : Result Passing Refusal). has_to_wait a) (sym c.pass-answer.ensures.reply) in
+    let left = c.release_if.ensures.parked in
+    let matches = matches_pass s t c.has_gone_on-gone_on.result (c.has_gone_on-gone_on.ensures ∙ ap (λ (a : Result Passing Refusal). has_gone_on a) c.pass-answer.ensures.reply) in
     let drawn = ticketed s _ _ _ _ _ (pass t) _ _ cell.ticketed cell.room_for_tickets matches is c.post_if.ensures.drawn c.post_if.ensures.room_for_tickets in
     record {
       kept = kept s _ cell.book _ cell.parked.items _ (pass t) _ _ cell.kept matches is c.post_if.ensures.book c.post_if.ensures.room
-          (parking_waits s _ cell.book c.pass-answer.result p cell.parked.items _ cell.kept is c.pass-answer.ensures.reply left)
-          (parking_once c.pass-answer.result p cell.parked.items _ cell.kept.once left);
+          (parking_waits s' (has_to_wait c.pass-answer.result) p c.release_if.new.parked.items _ (λ w. (pass_waits s s' t is (held ∙ w)).1) (all_waiting s' cell.parked.items _ left) c.settle_pass.ensures.parked)
+          (parking_once (has_to_wait c.pass-answer.result) p c.release_if.new.parked.items _ (once_waiting s' cell.parked.items _ cell.kept.once left) c.settle_pass.ensures.parked);
       ticketed = drawn.each;
       room_for_tickets = drawn.fits;
       any_ops = c.pass-answer.ensures.room ∙ cell.any_ops;
-      seats = c.settle.ensures.seats;
-      seated = c.settle.ensures.seated;
+      seats = c.settle_pass.ensures.seats;
+      seated = c.settle_pass.ensures.seated;
     }
 
 pub returns-clause-answer : goal.returns-clause-answer
-returns-clause-answer g c = c.settle.ensures.answer ∙ ap (λ (a : Result Passing Refusal). locked_pass a (is_parked c.args.task c.args.self.now.parked.items) c.args.item) (c.pass-answer.ensures.reply ∙ answered_is c.args.self.now.state.story c.args.task)
+returns-clause-answer g c =
+    let cell = c.args.self.now in
+    let s = cell.state.story in
+    let t = c.args.task in
+    let held = ap (λ (a : Result Passing Refusal). has_to_wait a) (sym c.pass-answer.ensures.reply) in
+    c.settle_pass.ensures.answer
+    ∙ (pass_same c.pass-answer.result t c.args.item cell.parked.items c.release_if.new.parked.items
+    (λ w. kept_where_same s _ cell.book cell.parked.items _ cell.kept (pass_waits s _ t c.pass-answer.ensures.history (held ∙ w)).0 c.release_if.ensures.parked)
+    ∙ ap (λ (a : Result Passing Refusal). locked_pass a (is_parked t cell.parked.items) c.args.item) (c.pass-answer.ensures.reply ∙ answered_is s t))
 
 pub returns-clause-parked : goal.returns-clause-parked
-returns-clause-parked g c = c.settle.ensures.parked ∙ ap (λ (a : Result Passing Refusal). parking {T = g.row.T.Denot} a (is_parked c.args.task c.args.self.now.parked.items) (record { task = c.args.task; item = c.args.item }) c.args.self.now.parked.items) (c.pass-answer.ensures.reply ∙ answered_is c.args.self.now.state.story c.args.task)
+returns-clause-parked g c =
+    let cell = c.args.self.now in
+    let s = cell.state.story in
+    let t = c.args.task in
+    let p : Parked g.row.T.Denot = record { task = t; call = ToPass; item = c.args.item } in
+    let held = ap (λ (a : Result Passing Refusal). has_to_wait a) (sym c.pass-answer.ensures.reply) in
+    c.settle_pass.ensures.parked
+    ∙ (parking_same (has_to_wait c.pass-answer.result) p cell.parked.items c.release_if.new.parked.items
+    (λ w. kept_where_same s _ cell.book cell.parked.items _ cell.kept (pass_waits s _ t c.pass-answer.ensures.history (held ∙ w)).0 c.release_if.ensures.parked)
+    ∙ (ap (λ (a : Result Passing Refusal). parking (has_to_wait a) (is_parked t cell.parked.items) p c.release_if.new.parked.items) (c.pass-answer.ensures.reply ∙ answered_is s t)
+    ∙ ap (λ (l : List (Parked g.row.T.Denot)). parking (has_to_wait (answered s t)) (is_parked t cell.parked.items) p l) c.release_if.ensures.parked))
+
+pub returns-clause-nobody : goal.returns-clause-nobody
+returns-clause-nobody g c = λ n.
+    let cell = c.args.self.now in
+    let s = cell.state.story in
+    let t = c.args.task in
+    let matches = matches_pass s t c.has_gone_on-gone_on.result (c.has_gone_on-gone_on.ensures ∙ ap (λ (a : Result Passing Refusal). has_gone_on a) c.pass-answer.ensures.reply) in
+    none_where_unchanged s _ cell.book cell.parked.items _ cell.kept
+    (c.pass-answer.ensures.history ∙ unadded s (pass t) c.has_gone_on-gone_on.result (Pass t) matches (c.has_gone_on-gone_on.ensures ∙ (sym c.settle_pass.ensures.goes_on ∙ n)))
+    c.release_if.ensures.out
 
 pub returns-clause-tickets : goal.returns-clause-tickets
-returns-clause-tickets g c = subst (λ b. IsDrawn b c.args.self.now.drawn.items c.post_if.new.drawn.items) (c.has_gone_on.ensures ∙ sym c.settle.ensures.goes_on) c.post_if.ensures.tickets
+returns-clause-tickets g c = subst (λ b. IsDrawn b c.args.self.now.drawn.items c.post_if.new.drawn.items) (c.has_gone_on-gone_on.ensures ∙ sym c.settle_pass.ensures.goes_on) c.post_if.ensures.tickets

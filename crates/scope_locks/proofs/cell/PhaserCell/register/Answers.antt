@@ -20,7 +20,7 @@ invariant_of-self g c =
     let matches = matches_result s (register c.args.parent c.args.child c.args.mode) c.is_ok.result (c.is_ok.ensures.value ∙ ap (λ a. is_ok a) c.register-answer.ensures.reply) in
     let drawn = ticketed s _ _ _ _ _ (register c.args.parent c.args.child c.args.mode) _ _ cell.ticketed cell.room_for_tickets matches is c.post_if.ensures.drawn c.post_if.ensures.room_for_tickets in
     record {
-      kept = kept s _ cell.book _ cell.parked.items cell.parked.items (register c.args.parent c.args.child c.args.mode) _ _ cell.kept matches is c.post_if.ensures.book c.post_if.ensures.room (stays_waiting s _ cell.book cell.parked.items (register c.args.parent c.args.child c.args.mode) cell.kept is refl) cell.kept.once;
+      kept = kept s _ cell.book _ cell.parked.items cell.parked.items (register c.args.parent c.args.child c.args.mode) _ _ cell.kept matches is c.post_if.ensures.book c.post_if.ensures.room (stays_waiting s _ cell.book cell.parked.items (register c.args.parent c.args.child c.args.mode) cell.kept is refl refl) cell.kept.once;
       ticketed = drawn.each;
       room_for_tickets = drawn.fits;
       any_ops = c.register-answer.ensures.room ∙ cell.any_ops;

@@ -25,7 +25,7 @@ invariant_of-self g c =
     let matches = matches_result s (send c.args.task c.args.accumulator c.args.value) c.is_ok.result (c.is_ok.ensures.value ∙ ap (λ a. is_ok a) reply) in
     let drawn = ticketed s _ _ _ _ _ (send c.args.task c.args.accumulator c.args.value) _ _ cell.ticketed cell.room_for_tickets matches is (rw round at c.post_if.ensures.drawn) c.post_if.ensures.room_for_tickets in
     record {
-      kept = kept s _ cell.book _ cell.parked.items cell.parked.items (send c.args.task c.args.accumulator c.args.value) _ _ cell.kept matches is (rw round at c.post_if.ensures.book) (rw round at c.post_if.ensures.room) (stays_waiting s _ cell.book cell.parked.items (send c.args.task c.args.accumulator c.args.value) cell.kept is refl) cell.kept.once;
+      kept = kept s _ cell.book _ cell.parked.items cell.parked.items (send c.args.task c.args.accumulator c.args.value) _ _ cell.kept matches is (rw round at c.post_if.ensures.book) (rw round at c.post_if.ensures.room) (stays_waiting s _ cell.book cell.parked.items (send c.args.task c.args.accumulator c.args.value) cell.kept is refl refl) cell.kept.once;
       ticketed = drawn.each;
       room_for_tickets = drawn.fits;
       any_ops = c.send-answer.ensures.room ∙ cell.any_ops;

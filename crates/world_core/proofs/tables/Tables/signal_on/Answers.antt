@@ -1,11 +1,11 @@
 use Rattle.std.proofs.Common.{◌≡◌, set, ◌∙◌}
 use Rattle.world_core.specs.contracts.tables.Tables.{the_view}
 use Rattle.world_core.proofs.PhasersKept.{if_err, same_phasers}
-use Rattle.world_core.proofs.Calls.{kept}
+use Rattle.world_core.proofs.Calls.{signal_kept}
 use Rattle.world_core.proofs.tables.Tables.signal_on.Goals as goal
 
-pub returns-in_err-signal-clause-kept : goal.returns-in_err-signal-clause-kept
-returns-in_err-signal-clause-kept c =
+pub returns-in_err-signalling-clause-kept : goal.returns-in_err-signalling-clause-kept
+returns-in_err-signalling-clause-kept c =
     let same : set c.self.inside.phasers.items c.args.phaser c.signal.new.self ≡ c.self.inside.phasers.items =
-    kept _ c.args.phaser _ c.signal.new.self _ _ c.in_err-signal.ensures.reply c.signal.ensures.history c.index_mut-state.ensures.value in
+    signal_kept _ c.args.phaser _ c.signal.new.self c.args.task c.args.number _ c.in_err-signalling.ensures.reply c.signal.ensures.history c.index_mut-state.ensures.value in
     if_err c.from_residual.result _ (same_phasers (the_view c.self.inside) _ same ∙ c.self.view_is)
