@@ -42,10 +42,18 @@ fn cells_go<R: Threads + Wait + Sync + Abort>(
 {
     let root = StencilBody::root(&[4], 2);
     let report = run(rt, alloc, root, Limits::default(), workers, &OpenGate)?;
-    assert_eq!(rt; goes_by(alloc, root, &report.trace), Ok(()), "{workers} workers");
+    assert_eq!(rt;
+        goes_by(alloc, root, &report.trace),
+        Ok(()),
+        "{workers} workers"
+    );
     let other = goes_by(alloc, StencilBody::root(&[5], 2), &report.trace);
     let place = first_send(&report.trace);
-    assert_eq!(rt; other, Err(Refusal::NotExplained(place)), "{workers} workers");
+    assert_eq!(rt;
+        other,
+        Err(Refusal::NotExplained(place)),
+        "{workers} workers"
+    );
     Ok(())
 }
 

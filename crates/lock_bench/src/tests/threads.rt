@@ -58,7 +58,16 @@ fn call<K: Ledgers, R: Wait>(
     requires { number < table.now.phasers }
 {
     let seen = saw(held, MOST_LOOKS);
-    let made = table.make(rt, number, tickets, mine, 0, Mode::SigWait, Ops::none(), None);
+    let made = table.make(
+        rt,
+        number,
+        tickets,
+        mine,
+        0,
+        Mode::SigWait,
+        Ops::none(),
+        None,
+    );
     answered.store(1, Ordering::SeqCst);
     seen && made.is_ok()
 }
@@ -318,7 +327,16 @@ fn register_all<K: Ledgers, R: Abort + Wait>(
 )
     requires { number < table.now.phasers }
 {
-    let made = table.make(rt, number, tickets, mine, 0, Mode::SigWait, first_ops(1), None);
+    let made = table.make(
+        rt,
+        number,
+        tickets,
+        mine,
+        0,
+        Mode::SigWait,
+        first_ops(1),
+        None,
+    );
     assert_eq!(rt; made, Ok(()));
     for task in 1..WORKERS {
         let registered = table.register(rt, number, tickets, mine, 0, task, Mode::SigWait);

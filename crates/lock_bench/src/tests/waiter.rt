@@ -115,7 +115,10 @@ fn park_twice<K: Ledgers>(
     const SIGNALLED: (Signalling, Option<u32>) = (Signalling::Signalled(99), None);
     const PARKED: (Passing, Option<u32>) = (Passing::Parked, None);
     const AGAIN: (Passing, Option<u32>) = (Passing::Refused(102, Refusal::NotNow), None);
-    assert_eq!(rt; signal(alloc, cell, tickets, books, mine, 0, 99), Ok(SIGNALLED));
+    assert_eq!(rt;
+        signal(alloc, cell, tickets, books, mine, 0, 99),
+        Ok(SIGNALLED)
+    );
     assert_eq!(rt; pass(alloc, cell, tickets, books, mine, 0, 100), Ok(PARKED));
     assert_eq!(rt; pass(alloc, cell, tickets, books, mine, 0, 102), Ok(AGAIN));
 }
@@ -131,7 +134,10 @@ fn let_go<K: Ledgers>(
 ) {
     const FREED: (Signalling, Option<u32>) = (Signalling::Signalled(101), Some(100));
     const PASSED: (Passing, Option<u32>) = (Passing::Passed(100, 0), None);
-    assert_eq!(rt; signal(alloc, cell, tickets, books, mine, 1, 101), Ok(FREED));
+    assert_eq!(rt;
+        signal(alloc, cell, tickets, books, mine, 1, 101),
+        Ok(FREED)
+    );
     assert_eq!(rt; pass(alloc, cell, tickets, books, mine, 0, 100), Ok(PASSED));
 }
 
@@ -150,9 +156,15 @@ fn hold_and_let_go<K: Ledgers>(
     const FREED: (Passing, Option<u32>) = (Passing::Passed(101, 0), Some(103));
     const SIGNALLED: (Signalling, Option<u32>) = (Signalling::Signalled(103), None);
     assert_eq!(rt; signal(alloc, cell, tickets, books, mine, 0, 103), Ok(HELD));
-    assert_eq!(rt; signal(alloc, cell, tickets, books, mine, 0, 104), Ok(AGAIN));
+    assert_eq!(rt;
+        signal(alloc, cell, tickets, books, mine, 0, 104),
+        Ok(AGAIN)
+    );
     assert_eq!(rt; pass(alloc, cell, tickets, books, mine, 1, 101), Ok(FREED));
-    assert_eq!(rt; signal(alloc, cell, tickets, books, mine, 0, 103), Ok(SIGNALLED));
+    assert_eq!(rt;
+        signal(alloc, cell, tickets, books, mine, 0, 103),
+        Ok(SIGNALLED)
+    );
     assert_eq!(rt; drop_task(alloc, cell, tickets, books, mine, 1), Ok(None));
 }
 

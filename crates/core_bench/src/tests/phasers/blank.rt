@@ -29,7 +29,10 @@ fn made_with_two(rt: &impl Abort, state: &mut PhaserState)
 {
     let ops = first_ops(2);
     assert_eq!(rt; ops.len(), 2);
-    assert_eq!(rt; state.make_with(0, Mode::SigWait, ops, Bound::of(3)), Ok(()));
+    assert_eq!(rt;
+        state.make_with(0, Mode::SigWait, ops, Bound::of(3)),
+        Ok(())
+    );
     assert_eq!(rt; state.history().ops().len(), 2);
     assert_eq!(rt; state.history().bound(), Bound::of(3));
 }

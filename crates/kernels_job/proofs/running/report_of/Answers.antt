@@ -15,7 +15,7 @@ returns-in-Ok g c =
       ran.limits ∙ c.default.ensures,
       ran.explained,
       subst (λ (w : List WorldEvent). goes_by g.B.Goes.next c.args.root w ≡ true) (sym (past_reversed trace.events))
-      c.in-Ok.ensures.goes,
+          c.in-Ok.ensures.goes,
       ran.world ∙ ap (λ l. report_of l (past (reverse trace.events))) c.default.ensures,
     )
 
