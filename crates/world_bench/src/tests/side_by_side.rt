@@ -1,4 +1,4 @@
-//! The world and the slow world side by side, over 2,000 events.
+//! The world and the slow world side by side, over 3,000 events.
 ghost use Rattle.std.specs.Prelude.{◌<◌};
 
 use super::*;
@@ -36,12 +36,21 @@ fn begin(task: u32, begun: Begun) -> WorldEvent {
 }
 
 /// One accumulator, a sum.
-fn one_sum() -> Ops {
+fn one_sum(bound: Option<Bound>) -> Terms {
     let mut ops = Ops::none();
     if ops.len() < 4 {
         ops.push(Op::Sum);
     }
-    ops
+    Terms { ops, bound }
+}
+
+/// One pair.
+fn one_pair(phaser: u32, mode: Mode) -> Phased {
+    let mut list = Phased::none();
+    if list.len() < 16 {
+        list.push(Pair { phaser, mode });
+    }
+    list
 }
 
 /// How many events were made, by kind, how many had to wait, signals among them, and how many were
@@ -156,16 +165,34 @@ fn step_both(
     Ok(())
 }
 
-/// Hands 50 events to the world and to a fresh peer.
+/// The root makes a phaser with this bound, and spawns a task that signals there: where the root
+/// doesn't pass, the bound holds it up.
+fn play_producer(
+    rt: &impl Abort,
+    bound: Bound,
+    world: &mut World,
+    plain: &mut Plain,
+    counts: &mut Counts,
+) -> Result<(), Refusal> {
+    let made = on(0, Step::Make(0, Mode::SigWait, one_sum(Some(bound))));
+    step_both(rt, world, plain, &made, counts)?;
+    let spawned = begin(0, Begun::Async(1, one_pair(0, Mode::Sig)));
+    step_both(rt, world, plain, &spawned, counts)
+}
+
+/// Hands events to the world and to a fresh peer: those of a bounded producer, where there is a bound,
+/// and 50 that are drawn.
 fn play_beside(
     rt: &impl Abort,
-    alloc: Global,
-    limits: Limits,
+    mut plain: Plain,
+    bound: Option<Bound>,
     world: &mut World,
     dice: &mut Dice,
     counts: &mut Counts,
 ) -> Result<(), Refusal> {
-    let mut plain = Plain::new(alloc, limits)?;
+    if let Some(bound) = bound {
+        play_producer(rt, bound, world, &mut plain, counts)?;
+    }
     for _ in 0..50 {
         let event = dice.event(&plain)?;
         step_both(rt, world, &mut plain, &event, counts)?;
@@ -173,23 +200,32 @@ fn play_beside(
     Ok(())
 }
 
-/// Hands 50 events to a fresh world and to its peer.
+/// Hands these events to a fresh world and to its peer.
 fn play_both(
     rt: &impl Abort,
     alloc: Global,
     limits: Limits,
+    bound: Option<Bound>,
     dice: &mut Dice,
     counts: &mut Counts,
 ) -> Result<(), Refusal> {
     let mut world = fresh(alloc, limits)?;
-    play_beside(rt, alloc, limits, &mut world, dice, counts)
+    play_beside(
+        rt,
+        Plain::new(alloc, limits)?,
+        bound,
+        &mut world,
+        dice,
+        counts,
+    )
 }
 
-/// Plays 40 worlds.
+/// Plays 60 worlds, of which half begin with a producer bounded by one phase.
 fn play_all(rt: &impl Abort, alloc: Global, counts: &mut Counts) -> Result<(), Refusal> {
     let mut dice = Dice::new();
-    for world in 0..40 {
-        play_both(rt, alloc, limits_of(world), &mut dice, counts)?;
+    for world in 0..60 {
+        let bound = if world % 2 == 0 { Bound::of(1) } else { None };
+        play_both(rt, alloc, limits_of(world), bound, &mut dice, counts)?;
     }
     Ok(())
 }
@@ -206,8 +242,8 @@ fn side_by_side(rt: HostRuntime) -> Result<(), Refusal> {
     for kind in 0..16 {
         assert!(rt; counts.made[kind] > 0, "none made of kind {kind}");
     }
-    assert!(rt; counts.waiting > 20);
-    assert!(rt; counts.held > 0);
+    assert!(rt; counts.waiting > 100);
+    assert!(rt; counts.held > 20);
     assert!(rt; counts.refused > 400);
     Ok(())
 }

@@ -60,19 +60,6 @@ impl Dice {
             .unwrap_or(Mode::Single)
     }
 
-    /// One accumulator, a sum; half of the phasers are bounded, by one phase or by two.
-    fn terms(&mut self) -> Terms {
-        let bound = match self.below(4) {
-            0 => Bound::of(1),
-            1 => Bound::of(2),
-            _ => None,
-        };
-        Terms {
-            ops: one_sum(),
-            bound,
-        }
-    }
-
     fn number(&mut self) -> Option<u32> {
         match self.below(3) {
             0 => Some(7),
@@ -148,7 +135,9 @@ impl Dice {
     /// A step on a phaser, any that there is.
     fn step(&mut self, task: u32) -> Step {
         match self.below(16) {
-            0..=3 => Step::Make(task, self.mode(), self.terms()),
+            0 => Step::Make(task, self.mode(), one_sum(Bound::of(1))),
+            1 => Step::Make(task, self.mode(), one_sum(Bound::of(2))),
+            2 | 3 => Step::Make(task, self.mode(), one_sum(None)),
             4 => Step::Reg(task, self.task(), self.mode()),
             5 => Step::Sig(task, self.number()),
             6 => Step::Claim(task),
