@@ -2,17 +2,17 @@ import java.util.Arrays;
 import java.util.concurrent.Phaser;
 
 /**
- * A stencil and a pipeline as threads that meet at phasers of Java: java Kernels.java stencil CELLS STEPS, or
- * java Kernels.java pipeline STAGES ITEMS
+ * Threads that meet at phasers of Java: java Threads.java KIND WIDTH LENGTH
  *
- * <p>stencil: a thread for each cell, with a phaser of its own, where its neighbours wait. pipeline: a thread for the
- * source, each stage and the sink, with a phaser behind each but the sink. Printed are nanoseconds on the clock for one
- * step of one cell, or for one item in one stage. The best of several runs counts, after some that warm up; what each
- * came to is laid beside the same computed by one thread.
+ * <p>turns: WIDTH threads meet at one phaser, LENGTH times. ring: each has a phaser of its own, signals there, and waits
+ * for its left neighbour's. stencil: WIDTH cells go LENGTH steps, each with a phaser of its own, where its neighbours
+ * wait. pipeline: LENGTH items go through WIDTH stages, with a phaser behind the source and each stage. Printed are
+ * nanoseconds on the clock for one round, step or item of one thread. The best of several runs counts, after some that
+ * warm up; what a kernel came to is laid beside the same computed by one thread.
  */
-class Kernels {
-    static final int WARM = 20;
-    static final int RUNS = 20;
+class Threads {
+    static final int WARM = 10;
+    static final int RUNS = 10;
 
     /** What the thread of this number does. */
     interface Work {
@@ -48,6 +48,25 @@ class Kernels {
             thread.join();
         }
         return took;
+    }
+
+    static long turns(int threads, int rounds) throws InterruptedException {
+        Phaser all = new Phaser(threads);
+        return nanoseconds(threads, thread -> {
+            for (int round = 0; round < rounds; round++) {
+                all.arriveAndAwaitAdvance();
+            }
+        });
+    }
+
+    static long ring(int threads, int rounds) throws InterruptedException {
+        Phaser[] own = phasers(threads);
+        return nanoseconds(threads, thread -> {
+            for (int round = 0; round < rounds; round++) {
+                own[thread].arrive();
+                own[(thread + threads - 1) % threads].awaitAdvance(round);
+            }
+        });
     }
 
     static int at(int[] row, int cell) {
@@ -115,12 +134,16 @@ class Kernels {
 
     static long run(String kind, int width, int length) throws InterruptedException {
         switch (kind) {
+            case "turns":
+                return turns(width, length);
+            case "ring":
+                return ring(width, length);
             case "stencil":
                 return stencil(width, length);
             case "pipeline":
                 return pipeline(width, length);
             default:
-                throw new IllegalArgumentException("the kernel is stencil or pipeline");
+                throw new IllegalArgumentException("KIND is turns, ring, stencil or pipeline");
         }
     }
 
