@@ -7,47 +7,49 @@ use super::*;
 use std::sync::atomic::{AtomicU64, Ordering};
 use std::thread;
 
-/// How often a thread looks for the other before it gives up: about a second.
-const MOST_LOOKS: u64 = 300_000_000;
+/// How many turns a thread waits for the other before it gives up.
+const MOST_TURNS: u64 = 10_000_000;
 
-/// Looks at the word until it isn't 0, at most so often. Whether it saw that.
-fn saw(word: &AtomicU64, most: u64) -> bool {
-    for _look in 0..most {
+/// Waits until the word isn't 0, at most so many turns. Whether it saw that.
+fn saw(word: &AtomicU64, turns: u64) -> bool {
+    for _turn in 0..turns {
         if word.load(Ordering::SeqCst) > 0 {
             return true;
         }
+        thread::yield_now();
     }
     false
 }
 
-/// Tells the other thread that the lock is held, and waits for its answer, for so many looks.
+/// Tells the other thread that the lock is held, and waits for its answer, for so many turns.
 /// Whether that came.
-fn wait_for_answer(held: &AtomicU64, answered: &AtomicU64, looks: u64) -> bool {
+fn wait_for_answer(held: &AtomicU64, answered: &AtomicU64, turns: u64) -> bool {
     held.store(1, Ordering::SeqCst);
-    saw(answered, looks)
+    saw(answered, turns)
 }
 
-/// Holds phaser 0's lock until the other thread's call has answered, or for so many looks. Whether
+/// Holds phaser 0's lock until the other thread's call has answered, or for so many turns. Whether
 /// the call has answered before the lock was given back.
 fn hold<K: Ledgers, R: Wait>(
     rt: &R,
     table: &PhaserTable<u32, K>,
     held: &AtomicU64,
     answered: &AtomicU64,
-    looks: u64,
+    turns: u64,
 ) -> bool
     requires { 0 < table.now.phasers }
 {
     let guard = table.lock(rt, 0);
-    let seen = wait_for_answer(held, answered, looks);
+    let seen = wait_for_answer(held, answered, turns);
     drop(guard);
     seen
 }
 
-/// Makes the phaser once the other thread has phaser 0's lock.
-/// Whether that was so, and it was made.
+/// Task 0 signals on the phaser once the other thread has phaser 0's lock.
+/// Whether that was so, and it has signalled.
 fn call<K: Ledgers, R: Wait>(
     rt: &R,
+    alloc: Global,
     table: &PhaserTable<u32, K>,
     number: usize,
     tickets: &Tickets,
@@ -57,29 +59,25 @@ fn call<K: Ledgers, R: Wait>(
 ) -> bool
     requires { number < table.now.phasers }
 {
-    let seen = saw(held, MOST_LOOKS);
-    let made = table.make(
-        rt,
-        number,
-        tickets,
-        mine,
-        0,
-        Mode::SigWait,
-        Ops::none(),
-        None,
-    );
+    let Ok(mut out) = Out::new(alloc) else {
+        return false;
+    };
+    let seen = saw(held, MOST_TURNS);
+    let answer = signalled(table.signal(rt, number, tickets, mine, &mut out, 0, None, 0));
     answered.store(1, Ordering::SeqCst);
-    seen && made.is_ok()
+    seen && answer == Reply::Done
 }
 
-/// One thread holds phaser 0's lock, for so many looks, while another makes this phaser.
+/// Task 0 makes this phaser. Then one thread holds phaser 0's lock, for so many turns, while another
+/// signals on this one.
 fn hold_and_call<K: Ledgers + Send + Sync, R: Threads + Wait + Sync>(
     rt: &R,
+    alloc: Global,
     table: &PhaserTable<u32, K>,
     mut mine: Shares<K>,
     number: usize,
-    looks: u64,
-) -> (bool, bool)
+    turns: u64,
+) -> Result<(bool, bool), Refusal>
 where
     K::EventsByPhaser: Send + Sync,
     K::EventsByWorker: Send + Sync,
@@ -94,14 +92,24 @@ where
     let held = AtomicU64::new(0);
     let answered = AtomicU64::new(0);
     let tickets = Tickets::new();
+    table.make(
+        rt,
+        number,
+        &tickets,
+        &mut mine,
+        0,
+        Mode::SigWait,
+        Ops::none(),
+        None,
+    )?;
     let drawn = &tickets;
     let first = &held;
     let second = &answered;
-    thread::join(
+    Ok(thread::join(
         rt,
-        move || hold(rt, table, first, second, looks),
-        move || call(rt, table, number, drawn, first, second, &mut mine),
-    )
+        move || hold(rt, table, first, second, turns),
+        move || call(rt, alloc, table, number, drawn, first, second, &mut mine),
+    ))
 }
 
 /// The share of the only worker.
@@ -115,7 +123,7 @@ fn apart<K: Ledgers + Send + Sync, R: Threads + Wait + Sync>(
     alloc: Global,
     blanks: Blanks,
     number: usize,
-    looks: u64,
+    turns: u64,
 ) -> Result<(bool, bool), Refusal>
 where
     K::EventsByPhaser: Send + Sync,
@@ -134,7 +142,7 @@ where
 {
     let (table, shares) = fresh::<K>(alloc, Limits::default(), blanks)?;
     let mine = only_share(shares)?;
-    Ok(hold_and_call(rt, &table, mine, number, looks))
+    hold_and_call(rt, alloc, &table, mine, number, turns)
 }
 
 fn named_apart<
@@ -146,46 +154,46 @@ fn named_apart<
     E: Ledger + Send + Sync,
     F: Ledger + Send + Sync,
     G: Ledger + Send + Sync,
->(rt: &R, alloc: Global, blanks: Blanks, number: usize, looks: u64) -> Result<(bool, bool), Refusal>
+>(rt: &R, alloc: Global, blanks: Blanks, number: usize, turns: u64) -> Result<(bool, bool), Refusal>
     requires names { IsNamed blanks A.name B.name C.name D.name E.name F.name G.name }
     requires parts { IsParted blanks A.parts B.parts C.parts D.parts E.parts F.parts G.parts }
     requires two { blanks.phasers ≡ 2 }
     requires number { number < 2 }
 {
-    apart::<Seven<A, B, C, D, E, F, G>, R>(rt, alloc, blanks, number, looks)
+    apart::<Seven<A, B, C, D, E, F, G>, R>(rt, alloc, blanks, number, turns)
 }
 
 /// Names the ledgers.
-fn held_while_made<R: Threads + Wait + Sync>(
+fn held_while_signalled<R: Threads + Wait + Sync>(
     rt: &R,
     alloc: Global,
     number: usize,
-    looks: u64,
+    turns: u64,
 ) -> Result<(bool, bool), Refusal>
     requires { number < 2 }
 {
     let blanks = Blanks::new(2, 1);
     named_apart::<R, Brand, Brand, Brand, Brand, Brand, Brand, Brand>(
-        rt, alloc, blanks, number, looks,
+        rt, alloc, blanks, number, turns,
     )
 }
 
-/// While one thread holds phaser 0's lock, another's call on phaser 1 answers.
+/// While one thread holds phaser 0's lock, another's signal on phaser 1 answers.
 #[test]
 fn two_phasers_lock_apart(rt: HostRuntime) -> Result<(), Fail> {
     assert_eq!(rt;
-        held_while_made(&rt, rt.alloc(), 1, MOST_LOOKS),
+        held_while_signalled(&rt, rt.alloc(), 1, MOST_TURNS),
         Ok((true, true))
     );
     Ok(())
 }
 
-/// A call on phaser 0 itself answers only once the lock is given back. So the test above would fail
+/// A signal on phaser 0 itself answers only once the lock is given back. So the test above would fail
 /// if one lock were for the whole table.
 #[test]
 fn one_phaser_locks_once(rt: HostRuntime) -> Result<(), Fail> {
     assert_eq!(rt;
-        held_while_made(&rt, rt.alloc(), 0, 1_000_000),
+        held_while_signalled(&rt, rt.alloc(), 0, 10_000),
         Ok((false, true))
     );
     Ok(())
@@ -301,7 +309,7 @@ fn call_all<K: Ledgers, R: Wait>(
     call_in_turns(rt, table, tickets, mine, &mut out, task)
 }
 
-/// One worker's part: on each phaser in turn it signals, asks to pass, sends and looks, as the task
+/// One worker's part: on each phaser in turn it signals, asks to pass, sends and turns, as the task
 /// of its number.
 fn work<K: Ledgers, R: Wait>(
     rt: &R,
