@@ -32,7 +32,7 @@ def work(task):
         barrier.notify_all()
 
 
-log("p", 0, "make", 0, "SIG_WAIT", [])
+log("p", 0, "make", 0, "SIG_WAIT", [], None)
 for child in TASKS:
     log("t", 0, "begin", ["async", child, [[0, "SIG_WAIT"]]])
     log("p", 0, "reg", 0, child, "SIG_WAIT")
@@ -45,4 +45,4 @@ for thread in threads:
 for thread in threads:
     thread.join()
 log("f", 0, "shut")
-print(json.dumps({"events": events, "version": 1}))
+print(json.dumps({"events": events, "version": 2}))

@@ -121,7 +121,8 @@ class Export:
     def phaser(self, phaser):
         track = self.track(PHASERS, phaser.number, f"phaser {phaser.number}")
         left = None if phaser.live else phaser.left
-        args = self.known(place=phaser.made, last_place=left, accumulators=", ".join(phaser.ops) or None)
+        accumulators = ", ".join(phaser.ops) or None
+        args = self.known(place=phaser.made, last_place=left, accumulators=accumulators, bound=phaser.bound)
         until = None if left is None else left + 1
         self.slice(track, "phaser", f"phaser {phaser.number}", phaser.made, until, args)
         after = phaser.made

@@ -245,8 +245,10 @@ class Picture:
             self.band(phaser)
 
     def band(self, phaser):
-        colour, height = self.colours[phaser.number], 24 if phaser.ops else 15
+        colour, height = self.colours[phaser.number], 24 if phaser.ops or phaser.bound else 15
         self.add(text(MARGIN, self.y + 11, f"phaser {phaser.number}", 11, fill=colour))
+        if phaser.bound:
+            self.add(text(MARGIN, self.y + 21, f"bound {phaser.bound}", 9, fill=colour))
         begun, short = phaser.made, False
         for phase, closed in enumerate(phaser.closings):
             if self.span.meets(begun, closed):

@@ -11,16 +11,16 @@ FOLDS = {
     "greatest": lambda values: max(values, default=None),
 }
 LIMITS = ("acts", "finishes", "history", "phasers", "regs", "tasks")
-WORD, VALUE, SEEN, REFUSAL = 2**32 - 1, "value", "seen", "refusal"
-# what follows the name of each event: the greatest number, or the kind of thing
+WORD, VALUE, SEEN, REFUSAL, BOUND = 2**32 - 1, "value", "seen", "refusal", "bound"
+# what follows the name of each event in version 2: the greatest number, or the kind of thing
 STEPS = {
-    "make": (WORD, "mode", "ops"), "reg": (WORD, WORD, "mode"), "sig": (WORD,), "claim": (WORD,), "did": (WORD,),
-    "pass": (WORD,), "send": (WORD, 255, VALUE), "look": (WORD, 255, SEEN), "drop": (WORD,),
+    "make": (WORD, "mode", "ops", BOUND), "reg": (WORD, WORD, "mode"), "sig": (WORD,), "claim": (WORD,),
+    "did": (WORD,), "pass": (WORD,), "send": (WORD, 255, VALUE), "look": (WORD, 255, SEEN), "drop": (WORD,),
 }
 FINISH_EVENTS = {"opened": (WORD,), "spawned": (WORD,), "ended": (WORD,), "shut": ()}
 ENTRIES = {"begin": ("begun",), "refuse": ("act", REFUSAL), "fail": (REFUSAL,)}
 BEGUN = {"async": (WORD, "pairs"), "signal": (), "wait": (), "next": (), "single": (WORD,), "shut": (), "end": ()}
-ACTS = {**BEGUN, "new": (WORD, "mode", "ops"), "open": (WORD,), "send": (WORD, 255, VALUE), "look": (WORD, 255)}
+ACTS = {**BEGUN, "new": (WORD, "mode", "ops", BOUND), "open": (WORD,), "send": (WORD, 255, VALUE), "look": (WORD, 255)}
 OF_KIND = {"p": STEPS, "f": FINISH_EVENTS, "t": ENTRIES}
 
 
@@ -39,11 +39,12 @@ class Event:
     kind: str  # p, f or t
     number: int  # of the phaser, the finish or the task
     name: str
-    rest: list  # what follows the name
+    rest: list  # what follows the name in version 2
+    items: list  # all of it, as it stands in the trace
 
     def text(self):
-        """The event as it stands in a trace."""
-        return json.dumps([self.ticket, self.kind, self.number, self.name, *self.rest], separators=(",", ":"))
+        """The event as it stands in the trace."""
+        return json.dumps(self.items, separators=(",", ":"))
 
 
 def is_whole(thing, least, most):
@@ -71,6 +72,7 @@ KINDS = {
     VALUE: lambda thing: is_whole(thing, -2**31, 2**31 - 1),
     SEEN: lambda thing: thing is None or is_whole(thing, -2**63, 2**63 - 1),
     REFUSAL: lambda thing: is_whole(thing, 1, 26),
+    BOUND: lambda thing: thing is None or is_whole(thing, 1, 65536),
 }
 
 
@@ -90,15 +92,26 @@ def has_form(forms, items):
     return len(rest) == len(kinds) and all(map(fits, rest, kinds))
 
 
-def event_of(place, items):
+def unbounded(named):
+    """A name and what follows it in version 1, as in version 2: no phaser has a bound."""
+    name, *rest = named
+    if name == "make":
+        return [*named, None]
+    if name == "refuse" and rest and isinstance(rest[0], list) and rest[0][:1] == ["new"]:
+        return [name, [*rest[0], None], *rest[1:]]
+    return named
+
+
+def event_of(place, items, version):
     """The event of a list, or NoTrace at its place."""
     if not isinstance(items, list) or len(items) < 4 or not is_whole(items[0], 0, 2**64 - 1):
         raise NoTrace(place, "an event is a list that begins with its ticket")
     kind, number = items[1], items[2]
+    named = unbounded(items[3:]) if version == 1 else items[3:]
     known = isinstance(kind, str) and kind in OF_KIND and fits(number, WORD)
-    if not known or not has_form(OF_KIND[kind], items[3:]):
+    if not known or not has_form(OF_KIND[kind], named):
         raise NoTrace(place, "this is the form of no event")
-    return Event(place, items[0], kind, number, items[3], items[4:])
+    return Event(place, items[0], kind, number, named[0], named[1:], items)
 
 
 def events_of(data):
@@ -109,11 +122,11 @@ def events_of(data):
         raise NoTrace(0, "the text is no JSON") from None
     if not isinstance(trace, dict) or not set(trace) <= {"events", "limits", "version"}:
         raise NoTrace(0, "a trace is an object with the keys events, limits and version")
-    if not is_whole(trace.get("version"), 1, 1):
-        raise NoTrace(0, "the version that is drawn is 1")
+    if not is_whole(trace.get("version"), 1, 2):
+        raise NoTrace(0, "the versions that are drawn are 1 and 2")
     limits = trace.get("limits", {})
     if not isinstance(limits, dict) or not all(key in LIMITS and fits(n, WORD) for key, n in limits.items()):
         raise NoTrace(0, "the limits aren't as they must be")
     if not isinstance(trace.get("events"), list):
         raise NoTrace(0, "there is no list of events")
-    return [event_of(place, items) for place, items in enumerate(trace["events"], 1)]
+    return [event_of(place, items, trace["version"]) for place, items in enumerate(trace["events"], 1)]

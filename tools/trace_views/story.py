@@ -27,6 +27,7 @@ class Phaser:
     number: int
     made: int  # the place of its making
     ops: list
+    bound: int | None = None
     live: dict = field(default_factory=dict)  # task -> Registration
     signalled: dict = field(default_factory=dict)  # number of signals -> how many live signallers made so many
     least: int = 0  # no live signaller made fewer signals
@@ -215,9 +216,10 @@ class Story:
         if name == "make":
             if n in self.phasers:
                 raise self.wrong(f"phaser {n} was made before")
-            phaser = self.phasers[n] = Phaser(n, place, rest[2])
+            phaser = self.phasers[n] = Phaser(n, place, *rest[2:])
             phaser.join(place, rest[0], Registration(rest[1]))
-            self.own_act(rest[0], "make", n, f"makes phaser {n}, {rest[1]}")
+            words = f"makes phaser {n}, {rest[1]}"
+            self.own_act(rest[0], "make", n, words + (f", bound {phaser.bound}" if phaser.bound else ""))
             return
         phaser = self.phasers.get(n)
         if phaser is None:

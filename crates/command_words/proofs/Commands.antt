@@ -4,7 +4,7 @@ use Rattle.std.specs.Str.{bytes_eq}
 use Rattle.clap.specs.Words.{App, Row, Text, AddsSubcommand, app_of, first_of, shape_of, with_subcommand}
 use Rattle.clap.specs.declared.builder.command.Command.{Command}
 use Rattle.clap.specs.declared.builder.command.Command.TheViews.{out-Command as fields_of}
-use Rattle.command_words.specs.CommandLine.{Asked, asked_among, events, filed_among, of_both, pipeline, pipeline_among, replay, stencil, stencil_among, to_run, to_schedule}
+use Rattle.command_words.specs.CommandLine.{Asked, asked_among, events, filed_among, of_both, pipeline, pipeline_among, stencil, stencil_among, to_replay, to_run, to_schedule}
 
 pub grown : (old sub new : Command) (a s : App) → AddsSubcommand old sub new → app_of old ≡ a → app_of sub ≡ s
     → (fields_of sub).has_globals ≡ false → app_of new ≡ with_subcommand a s.top
@@ -33,7 +33,7 @@ pub among_run : (name : Text) (rows : List Row) (file : Option Text) → name �
 among_run name rows file named is = rw (named, is) refl
 
 pub among_replay : (name : Text) (rows : List Row) (file : Option Text) → name ≡ codes "replay"
-    → file ≡ first_of (codes "file") rows → option_map replay file ≡ filed_among name rows
+    → file ≡ first_of (codes "file") rows → option_map (to_replay rows) file ≡ filed_among name rows
 among_replay name rows file named is = rw (named, is) refl
 
 -- where FILE isn't there no such command is asked for anything

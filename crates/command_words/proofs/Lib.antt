@@ -6,6 +6,7 @@ pub mod Numbers
 pub mod Plain
 pub mod PlainOptions
 pub mod PlainPipeline
+pub mod PlainReplay
 pub mod PlainRun
 pub mod PlainSchedule
 pub mod PlainStencil

@@ -4,7 +4,7 @@ use Rattle.std.proofs.lemmas.Bool.{eqb-true}
 use Rattle.clap.specs.Words.{Text}
 use Rattle.clap.proofs.OnLiterals.{clap_on_literals}
 use Rattle.phase_modes.specs.Lists.{is_empty}
-use Rattle.command_words.specs.CommandLine.{asked_in, asked_of, events, is_plain, replay}
+use Rattle.command_words.specs.CommandLine.{asked_in, asked_of, events, is_plain}
 
 -- a word is empty, or a hyphen alone, or begins with another byte
 cases : (P : Text → Type 0) (c : ℕ) (cs : Text) (hyphen : Bool) → (c == 45) ≡ hyphen
@@ -37,23 +37,3 @@ pub events_plain : (p file : Text) → is_plain file ≡ true
 events_plain p file plain =
     by_word (λ f. asked_in (p ∷ codes "events" ∷ f ∷ []) ≡ Some (events f)) file plain (events_none p)
     (events_hyphen p) (events_other p)
-
--- `replay FILE`
-replay_none : (p : Text) → asked_in (p ∷ codes "replay" ∷ [] ∷ []) ≡ Some (replay [])
-unfolding asked_in asked_of clap_on_literals
-replay_none p = refl
-
-replay_hyphen : (p : Text) → asked_in (p ∷ codes "replay" ∷ (45 ∷ []) ∷ []) ≡ Some (replay (45 ∷ []))
-unfolding asked_in asked_of clap_on_literals
-replay_hyphen p = refl
-
-replay_other : (p : Text) (c : ℕ) (cs : Text) → (c == 45) ≡ false
-    → asked_in (p ∷ codes "replay" ∷ (c ∷ cs) ∷ []) ≡ Some (replay (c ∷ cs))
-unfolding asked_in asked_of clap_on_literals
-replay_other p c cs h = simp h
-
-pub replay_plain : (p file : Text) → is_plain file ≡ true
-    → asked_in (p ∷ codes "replay" ∷ file ∷ []) ≡ Some (replay file)
-replay_plain p file plain =
-    by_word (λ f. asked_in (p ∷ codes "replay" ∷ f ∷ []) ≡ Some (replay f)) file plain (replay_none p)
-    (replay_hyphen p) (replay_other p)

@@ -4,17 +4,22 @@ use Rattle.std.specs.Prelude.{option_and_then}
 use Rattle.std.proofs.lemmas.Bool.{and_parts}
 use Rattle.clap.specs.Words.{Text}
 use Rattle.command_words.specs.CommandLine.{Asked, Work, asked_in, events, is_plain, is_plainly_asked, pipeline, plain_words, replay, run, schedule, stencil, work_for, work_in}
-use Rattle.command_words.proofs.Plain.{events_plain, replay_plain}
+use Rattle.command_words.proofs.Plain.{events_plain}
 use Rattle.command_words.proofs.PlainSchedule.{schedule_alone, word}
 use Rattle.command_words.proofs.PlainOptions.{schedule_both, schedule_picks, schedule_trace}
 use Rattle.command_words.proofs.PlainRun.{run_alone, run_both, run_workers, run_trace}
+use Rattle.command_words.proofs.PlainReplay.{replay_alone, replay_upgrade}
 use Rattle.command_words.proofs.PlainStencil.{stencil_alone, stencil_workers}
 use Rattle.command_words.proofs.PlainPipeline.{pipeline_alone, pipeline_workers}
 
 pub plainly : (p : Text) (asked : Asked) → is_plainly_asked asked ≡ true
     → asked_in (plain_words p asked) ≡ Some asked
 plainly p (events file) plain = events_plain p file plain
-plainly p (replay file) plain = replay_plain p file plain
+plainly p (replay file None) plain =
+    replay_alone p file (word file (and_parts (is_plain file) true plain).0)
+plainly p (replay file (Some out)) plain =
+    let parts = and_parts (is_plain file) (is_plain out) plain in
+    replay_upgrade p file out (word file parts.0) (word out parts.1)
 plainly p (schedule file None None) plain =
     schedule_alone p file (word file (and_parts (is_plain file) true plain).0)
 plainly p (schedule file (Some list) None) plain =

@@ -36,7 +36,7 @@ pub bad_works : (asked : Asked) (v : Value) → first_bad asked ≡ Some v → w
 bad_works (events file) v e = cc
 bad_works (schedule file list trace) v e = none_of _ _ v _ e
 bad_works (run file workers trace) v e = none_of _ _ v _ e
-bad_works (replay file) v e = cc
+bad_works (replay file upgrade) v e = cc
 bad_works (stencil first steps workers) v e = none_of_cells _ _ _ v _ _ _ e
 bad_works (pipeline k items workers) v e = none_of_stages _ _ _ v _ _ _ e
 

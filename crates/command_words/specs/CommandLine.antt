@@ -46,9 +46,9 @@ run_app =
     with_rule (with_rule (with_rule (new_app (codes "run")) file_rule) (option_rule (codes "workers")))
     (option_rule (codes "trace"))
 
--- `replay FILE`
+-- `replay FILE [--upgrade OUT]`
 abbrev pub replay_app : App
-replay_app = with_rule (new_app (codes "replay")) file_rule
+replay_app = with_rule (with_rule (new_app (codes "replay")) file_rule) (option_rule (codes "upgrade"))
 
 -- `stencil --first LIST --steps S [--workers N]`
 abbrev pub stencil_app : App
@@ -91,7 +91,7 @@ pub data Asked : Type 0 where
   events : Text → Asked
   schedule : Text → Option Text → Option Text → Asked
   run : Text → Option Text → Option Text → Asked
-  replay : Text → Asked
+  replay : Text → Option Text → Asked
   stencil : Text → Text → Option Text → Asked
   pipeline : Text → Text → Option Text → Asked
 
@@ -102,7 +102,8 @@ pub data Work : Type 0 where
   runs : Text → List ℕ → Option Text → Work
   -- FILE, the workers, OUT
   works : Text → ℕ → Option Text → Work
-  replays : Text → Work
+  -- FILE, OUT
+  replays : Text → Option Text → Work
   -- the first values, the steps, the workers
   cells : List ℕ → ℕ → ℕ → Work
   -- the stages, the items, the workers
@@ -115,13 +116,17 @@ to_schedule rows file = schedule file (first_of (codes "picks") rows) (first_of 
 abbrev pub to_run : List Row → Text → Asked
 to_run rows file = run file (first_of (codes "workers") rows) (first_of (codes "trace") rows)
 
+abbrev pub to_replay : List Row → Text → Asked
+to_replay rows file = replay file (first_of (codes "upgrade") rows)
+
 -- what a command of a file is asked for
 abbrev pub filed_among : Text → List Row → Option Asked
 filed_among name rows =
     if bytes_eq name (codes "events") then option_map events (first_of (codes "file") rows)
     else (if bytes_eq name (codes "schedule") then option_map (to_schedule rows) (first_of (codes "file") rows)
     else (if bytes_eq name (codes "run") then option_map (to_run rows) (first_of (codes "file") rows)
-    else (if bytes_eq name (codes "replay") then option_map replay (first_of (codes "file") rows) else None)))
+    else (if bytes_eq name (codes "replay") then option_map (to_replay rows) (first_of (codes "file") rows)
+    else None)))
 
 -- what a kernel is asked for, by what it needs
 abbrev pub of_both : (Text → Text → Option Text → Asked) → Option Text → Option Text → Option Text → Option Asked
@@ -166,7 +171,7 @@ abbrev pub work_for : Asked → Option Work
 work_for (events file) = Some (answers file)
 work_for (schedule file list trace) = option_map (λ picks. runs file picks trace) (listed_in list)
 work_for (run file workers trace) = option_map (λ n. works file n trace) (workers_in workers)
-work_for (replay file) = Some (replays file)
+work_for (replay file upgrade) = Some (replays file upgrade)
 work_for (stencil first steps workers) =
     stencil_of (first_in first) (number_within 0 100 steps) (workers_in workers)
 work_for (pipeline k items workers) =
@@ -186,7 +191,7 @@ abbrev pub first_bad : Asked → Option Value
 first_bad (events file) = None
 first_bad (schedule file list trace) = unless Picks (listed_in list)
 first_bad (run file workers trace) = unless Workers (workers_in workers)
-first_bad (replay file) = None
+first_bad (replay file upgrade) = None
 first_bad (stencil first steps workers) =
     earlier (unless First (first_in first))
     (earlier (unless Steps (number_within 0 100 steps)) (unless Workers (workers_in workers)))
@@ -199,7 +204,7 @@ abbrev pub IsInRange : Work → Type 0
 IsInRange (answers file) = ⊤
 IsInRange (runs file picks trace) = ⊤
 IsInRange (works file workers trace) = (0 < workers) × (workers ≤ 16)
-IsInRange (replays file) = ⊤
+IsInRange (replays file upgrade) = ⊤
 IsInRange (cells first steps workers) =
     (length first ≤ 16) × (steps ≤ 100) × (0 < workers) × (workers ≤ 16)
 IsInRange (stages k items workers) =
@@ -210,7 +215,7 @@ abbrev pub file_of : Work → Option Text
 file_of (answers file) = Some file
 file_of (runs file picks trace) = Some file
 file_of (works file workers trace) = Some file
-file_of (replays file) = Some file
+file_of (replays file upgrade) = Some file
 file_of (cells first steps workers) = None
 file_of (stages k items workers) = None
 
@@ -226,7 +231,7 @@ asked_by (words.Schedule file picks trace) =
     schedule file.now (option_map (λ t. t.now) picks) (option_map (λ t. t.now) trace)
 asked_by (words.Run file workers trace) =
     run file.now (option_map (λ t. t.now) workers) (option_map (λ t. t.now) trace)
-asked_by (words.Replay file) = replay file.now
+asked_by (words.Replay file upgrade) = replay file.now (option_map (λ t. t.now) upgrade)
 asked_by (words.Stencil first steps workers) =
     stencil first.now steps.now (option_map (λ t. t.now) workers)
 asked_by (words.Pipeline k items workers) = pipeline k.now items.now (option_map (λ t. t.now) workers)
@@ -235,7 +240,7 @@ abbrev pub work_of : Job → Work
 work_of (jobs.Events file) = answers file.now
 work_of (jobs.Schedule file picks trace) = runs file.now picks.items (option_map (λ t. t.now) trace)
 work_of (jobs.Run file workers trace) = works file.now workers (option_map (λ t. t.now) trace)
-work_of (jobs.Replay file) = replays file.now
+work_of (jobs.Replay file upgrade) = replays file.now (option_map (λ t. t.now) upgrade)
 work_of (jobs.Stencil first steps workers) = cells first.items steps workers
 work_of (jobs.Pipeline k items workers) = stages k items workers
 
@@ -284,7 +289,8 @@ plain_words program (schedule file list out) =
 plain_words program (run file workers out) =
     program ∷ codes "run" ∷ file
     ∷ (option_words (codes "--workers") workers ++ option_words (codes "--trace") out)
-plain_words program (replay file) = program ∷ codes "replay" ∷ file ∷ []
+plain_words program (replay file out) =
+    program ∷ codes "replay" ∷ file ∷ option_words (codes "--upgrade") out
 plain_words program (stencil first steps workers) =
     program ∷ codes "stencil" ∷ codes "--first" ∷ first ∷ codes "--steps" ∷ steps
     ∷ option_words (codes "--workers") workers
@@ -299,7 +305,7 @@ is_plainly_asked (schedule file list out) =
     is_plain file && (option_map_or is_plain list true && option_map_or is_plain out true)
 is_plainly_asked (run file workers out) =
     is_plain file && (option_map_or is_plain workers true && option_map_or is_plain out true)
-is_plainly_asked (replay file) = is_plain file
+is_plainly_asked (replay file out) = is_plain file && option_map_or is_plain out true
 is_plainly_asked (stencil first steps workers) =
     is_plain first && (is_plain steps && option_map_or is_plain workers true)
 is_plainly_asked (pipeline k items workers) =

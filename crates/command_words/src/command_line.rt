@@ -28,9 +28,10 @@ pub enum Job<'a> {
         workers: u32,
         trace: Option<&'a str>,
     },
-    /// Replays the trace.
+    /// Replays the trace, and writes it in the newest version into a file of the name `upgrade`.
     Replay {
         file: &'a str,
+        upgrade: Option<&'a str>,
     },
     /// Runs the stencil over these first values for so many steps.
     Stencil {
@@ -55,7 +56,7 @@ impl<'a> Job<'a> {
             Job::Events { file }
             | Job::Schedule { file, .. }
             | Job::Run { file, .. }
-            | Job::Replay { file } => Some(file),
+            | Job::Replay { file, .. } => Some(file),
             Job::Stencil { .. } | Job::Pipeline { .. } => None,
         }
     }
@@ -211,7 +212,7 @@ fn job_for<'a>(alloc: Global, words: Words<'a>) -> Result<Job<'a>, NoJob>
                 trace,
             })
         }
-        Words::Replay { file } => Ok(Job::Replay { file }),
+        Words::Replay { file, upgrade } => Ok(Job::Replay { file, upgrade }),
         Words::Stencil {
             first,
             steps,

@@ -16,13 +16,21 @@ fn answers<'a>(rt: &impl Abort, alloc: Global, arguments: &'a [&'a str], file: &
     );
 }
 
-/// The words name the replay of this file.
-fn replays<'a>(rt: &impl Abort, alloc: Global, arguments: &'a [&'a str], file: &str) {
-    let job = job_of(alloc, arguments);
-    assert!(rt;
-        matches!(&job, Ok(Job::Replay { file: named }) if *named == file),
-        "{arguments:?}"
-    );
+/// The words name the replay of this file, with this OUT.
+fn replays<'a>(
+    rt: &impl Abort,
+    alloc: Global,
+    arguments: &'a [&'a str],
+    wanted: &str,
+    out: Option<&str>,
+) {
+    match job_of(alloc, arguments) {
+        Ok(Job::Replay { file, upgrade }) => {
+            assert_eq!(rt; file, wanted);
+            assert_eq!(rt; upgrade, out);
+        }
+        _ => panic!(rt; "no replay: {arguments:?}"),
+    }
 }
 
 /// Words, and the file that they name.
@@ -43,14 +51,32 @@ fn events_words(rt: HostRuntime) {
     }
 }
 
+/// Words of `replay`, with the file and OUT that they name.
+type Replayed = (&'static [&'static str], &'static str, Option<&'static str>);
+
 #[test]
 fn replay_words(rt: HostRuntime) {
-    const ROWS: [Row; 2] = [
-        (&["phaser_run", "replay", "-"], "-"),
-        (&["phaser_run", "replay", "x.trace"], "x.trace"),
+    const ROWS: [Replayed; 5] = [
+        (&["phaser_run", "replay", "-"], "-", None),
+        (&["phaser_run", "replay", "x.trace"], "x.trace", None),
+        (
+            &["phaser_run", "replay", "x", "--upgrade", "y"],
+            "x",
+            Some("y"),
+        ),
+        (
+            &["phaser_run", "replay", "--upgrade=x", "x"],
+            "x",
+            Some("x"),
+        ),
+        (
+            &["phaser_run", "replay", "--upgrade", "-", "--", "--upgrade"],
+            "--upgrade",
+            Some("-"),
+        ),
     ];
-    for (arguments, file) in ROWS {
-        replays(&rt, rt.alloc(), arguments, file);
+    for (arguments, file, out) in ROWS {
+        replays(&rt, rt.alloc(), arguments, file, out);
     }
 }
 

@@ -27,6 +27,7 @@ pub(crate) enum Words<'a> {
     },
     Replay {
         file: &'a str,
+        upgrade: Option<&'a str>,
     },
     Stencil {
         first: &'a str,
@@ -118,10 +119,15 @@ Exit status: 0 done, 1 refused, 2 bad words or this help, 3 a read or a write fa
 
 /// What `replay --help` says of the file and of the lines.
 const REPLAY_HELP: &str = "\
-The file is the trace of schedule or run, at most 67,108,864 bytes. Its events are made again one by one.
+The file is the trace of schedule or run, of version 1 or 2, at most 67,108,864 bytes. Its events are
+made again one by one.
 Lines: the report of the run. A trace that no run makes is refused: refused 25 NotExplained at
-PLACE, with the number of the first event that can't be made there.
+PLACE, with the number of the first event that can't be made there. OUT stays as it was then.
 Exit status: 0 done, 1 refused, 2 bad words or this help, 3 a read or a write failed.";
+
+/// What the option `--upgrade` says of OUT.
+const UPGRADE_HELP: &str =
+    "Writes the trace as version 2 into this file, which may be FILE, before the report";
 
 /// What `--help` says of the exit status.
 const PROGRAM_HELP: &str = "\
@@ -318,18 +324,19 @@ fn pipeline_command<'a>(alloc: Global) -> Result<Command<'a>, AllocError>
     items_command(alloc)?.arg(workers_argument(alloc))
 }
 
-/// `replay FILE`.
+/// `replay FILE [--upgrade OUT]`.
 fn replay_command<'a>(alloc: Global) -> Result<Command<'a>, AllocError>
     ensures app { IfOk result (λ c. app_of c ≡ replay_app) }
     ensures local { IfOk result (λ c. (fields_of c).has_globals ≡ false) }
 {
-    file_command(
+    let command = file_command(
         alloc,
         "replay",
         "Makes the events of a trace again, and prints the report",
         "The trace; - reads standard input",
         REPLAY_HELP,
-    )
+    )?;
+    command.arg(option(alloc, "upgrade", "OUT", UPGRADE_HELP))
 }
 
 /// The program, without its subcommands.
@@ -410,7 +417,10 @@ fn filed_among<'a>(name: &str, found: &ArgMatches<'a>) -> Option<Words<'a>>
             workers: found.get_str("workers"),
             trace: found.get_str("trace"),
         }),
-        "replay" => Some(Words::Replay { file }),
+        "replay" => Some(Words::Replay {
+            file,
+            upgrade: found.get_str("upgrade"),
+        }),
         _ => None,
     }
 }

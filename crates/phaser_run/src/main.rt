@@ -2,6 +2,7 @@
 #![tactic(auto)]
 
 mod trace_file;
+mod upgrade_file;
 
 ghost use Rattle.std.specs.Prelude.{◌≡◌, ◌≢◌, ◌⊎◌, ◌<◌, ◌≤◌, length, IfSome, Ok, ⊤};
 ghost use Rattle.events_text.specs.Form.{Form};
@@ -13,6 +14,7 @@ ghost use Rattle.program_texts.specs.Texts.{program_spelled};
 ghost use Rattle.replay_job.specs.Replayed.{Explains};
 
 use crate::trace_file::make_out;
+use crate::upgrade_file::Upgraded;
 use command_words::{Job, NoJob, job_of};
 use events_job::events_from;
 use job_ends::{Failure, Reads, Status, bytes_of, write_text};
@@ -131,7 +133,7 @@ fn do_on<H: Threads + Wait + Sync, R: Read>(
             workers,
             trace,
         } => run_program(rt, threads, *workers, file, *trace, reader),
-        Job::Replay { .. } => replay(rt, reader),
+        Job::Replay { upgrade, .. } => replay(rt, *upgrade, reader),
         Job::Stencil {
             first,
             steps,
@@ -302,14 +304,35 @@ fn pipeline<H: Threads + Wait + Sync>(
     )
 }
 
+/// Replays the trace that the reader gives, and writes it to OUT, where that is named.
+fn replay<R: Read>(rt: &HostRuntime, out_name: Option<&str>, reader: &mut R) -> Status
+    ensures done { result ≡ Status.Done → IfSome (R.remaining reader.old) (λ all. Explains all (λ t. ⊤)) }
+    ensures usage { result ≢ Status.Usage }
+{
+    let Some(name) = out_name else {
+        return replay_into(rt, &mut None::<Upgraded>, reader);
+    };
+    match Upgraded::named(rt, name) {
+        Ok(out) => replay_into(rt, &mut Some(out), reader),
+        Err(failure) => failed(rt, failure),
+    }
+}
+
 /// Replays the trace that the reader gives, and prints the report on standard output.
-fn replay<R: Read>(rt: &HostRuntime, reader: &mut R) -> Status
+fn replay_into<R: Read>(
+    rt: &HostRuntime,
+    trace_out: &mut Option<Upgraded<'_>>,
+    reader: &mut R,
+) -> Status
     ensures done { result ≡ Status.Done → IfSome (R.remaining reader.old) (λ all. Explains all (λ t. ⊤)) }
     ensures usage { result ≢ Status.Usage }
 {
     let (alloc, mut reads) = (rt.alloc(), Reads::none());
     match bytes_of(alloc, reader, &mut reads, replay_job::MOST_BYTES) {
-        Ok(bytes) => replay_on(alloc, &bytes, &mut rt.stdout(), &mut rt.stderr()),
+        Ok(bytes) => {
+            let (mut out, mut faults) = (rt.stdout(), rt.stderr());
+            replay_on(alloc, &bytes, &mut out, &mut faults, trace_out)
+        }
         Err(failure) => failed(rt, failure),
     }
 }

@@ -7,7 +7,7 @@ use std::path::PathBuf;
 
 /// The whole path of what is there under this name, links followed; none where nothing is, or where
 /// it can't be told.
-fn whole_path(rt: &HostRuntime, name: &str) -> Result<Option<PathBuf>, Failure> {
+pub(crate) fn whole_path(rt: &HostRuntime, name: &str) -> Result<Option<PathBuf>, Failure> {
     match canonicalize(rt, name) {
         Ok(path) => Ok(Some(path)),
         Err(error) if error.kind() == ErrorKind::OutOfMemory => {

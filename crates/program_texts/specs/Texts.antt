@@ -1,13 +1,13 @@
 -- A program by its text, and the texts of a trace's run.
-use Rattle.std.specs.Prelude.{◌≡◌, ◌++◌, ◌⊎◌, ℕ, List, length, nat_le, reverse, true, if◌then◌else◌, Result, Err, codes}
-use Rattle.phase_modes.specs.declared.refusal.Refusal.TheVariants.{Memory, NotNow}
+use Rattle.std.specs.Prelude.{◌≡◌, ◌++◌, ◌⊎◌, ℕ, List, length, nat_le, reverse, if◌then◌else◌, Result, Err, codes}
+use Rattle.phase_modes.specs.declared.refusal.Refusal.TheVariants.{Memory}
 use Rattle.text_words.specs.Reading.{reading}
 use Rattle.world_model.specs.declared.event.WorldEvent.{WorldEvent}
 use Rattle.world_model.specs.Report.{report_of}
 use Rattle.world_model.specs.ReportLines.{report_text}
 use Rattle.trace_model.specs.Run.{Run}
 use Rattle.trace_model.specs.Explained.{past}
-use Rattle.trace_text.specs.Text.{trace_text, has_bounds}
+use Rattle.trace_text.specs.Text.{trace_text}
 use Rattle.job_script.specs.Program.{Program}
 use Rattle.job_script.specs.Form.{form_of}
 use Rattle.job_ends.specs.declared.failure.Failure.{Failure}
@@ -31,6 +31,6 @@ report_for p t = report_text (report_of p.limits (history t))
 abbrev pub trace_line : Run → List ℕ
 trace_line t = trace_text t ++ codes "\n"
 
--- why a run's texts aren't written: for want of memory, since a bound stands in no trace's text, or by a write
-abbrev pub IsOfTexts : Run → Failure → Type 0
-IsOfTexts t f = (f ≡ Refused Memory) ⊎ ((f ≡ Refused NotNow) × (has_bounds t ≡ true)) ⊎ (f ≡ Write)
+-- why a run's texts aren't written: for want of memory, or by a write
+abbrev pub IsOfTexts : Failure → Type 0
+IsOfTexts f = (f ≡ Refused Memory) ⊎ (f ≡ Write)

@@ -1,12 +1,11 @@
 //! The texts of a run: its trace, and the lines of its report.
-ghost use Rattle.std.specs.Prelude.{◌≡◌, true, false, None, if◌then◌else◌, OnOk, IfOk, IfErr};
+ghost use Rattle.std.specs.Prelude.{◌≡◌, OnOk, IfOk, IfErr};
 ghost use Rattle.std.specs.Io.KnownBytes.{Appends, Keeps};
 ghost use Rattle.std.specs.String.{string_bytes};
 ghost use Rattle.world_model.specs.ReportLines.{report_text};
 ghost use Rattle.job_ends.specs.Ends.{status_of};
 ghost use Rattle.program_texts.specs.Out.{AppendsOut, KeepsOut};
 ghost use Rattle.program_texts.specs.Texts.{trace_line, IsOfTexts};
-ghost use Rattle.trace_text.specs.Text.{has_bounds};
 
 use job_ends::{Failure, Status, put_text};
 use phase_modes::Refusal;
@@ -30,9 +29,7 @@ fn lines_of(alloc: Global, report: &WorldReport) -> Result<String, Failure>
 /// The text of the trace, with a newline.
 fn text_of(alloc: Global, trace: &Trace) -> Result<String, Failure>
     ensures text { IfOk result (λ text. string_bytes text ≡ trace_line trace.now) }
-    ensures unbounded { OnOk result (has_bounds trace.now ≡ false) }
-    ensures refused { IfErr result (λ f.
-        f ≡ Failure.Refused (if has_bounds trace.now then Refusal.NotNow else Refusal.Memory)) }
+    ensures memory { IfErr result (λ f. f ≡ Failure.Refused Refusal.Memory) }
 {
     let mut text = to_json(alloc, trace)?;
     match text.push_str("\n") {
@@ -48,11 +45,10 @@ fn put_trace<T: Write>(
     trace_out: &mut Option<T>,
 ) -> Result<(), Failure>
     ensures done { OnOk result (AppendsOut T.contents trace_out.old trace_out.new (trace_line trace.now)) }
-    ensures unbounded { OnOk result (has_bounds trace.now ≡ true → trace_out.old ≡ None) }
-    // Where there is no text nothing is written.
+    // Without memory for the text nothing is written.
     ensures refused { IfErr result (λ f. status_of f ≡ Status.Refused
         → KeepsOut T.contents trace_out.old trace_out.new) }
-    ensures failure { IfErr result (IsOfTexts trace.now) }
+    ensures failure { IfErr result IsOfTexts }
 {
     match trace_out {
         None => Ok(()),
@@ -64,8 +60,8 @@ fn put_trace<T: Write>(
 }
 
 /// Writes the text of the trace to OUT, where there is an OUT, and then the lines of the report.
-/// Nothing is written before both texts are there. `NotNow` where a phaser in the trace is bounded,
-/// and there is an OUT: no trace's text says a bound.
+/// Nothing is written before both texts are there. `Memory` where there is too little for a text;
+/// `Write` where one can't be written, and then there may be a part of it.
 pub fn put_run<W: Write, T: Write>(
     alloc: Global,
     report: &WorldReport,
@@ -75,12 +71,11 @@ pub fn put_run<W: Write, T: Write>(
 ) -> Result<(), Failure>
     ensures done { OnOk result (Appends (W.contents out.old) (W.contents out.new) (report_text report.now)
         × AppendsOut T.contents trace_out.old trace_out.new (trace_line trace.now)) }
-    ensures unbounded { OnOk result (has_bounds trace.now ≡ true → trace_out.old ≡ None) }
-    // Where a text isn't there nothing is written.
+    // Without memory for a text nothing is written.
     ensures refused { IfErr result (λ f. status_of f ≡ Status.Refused
         → Keeps (W.contents out.old) (W.contents out.new)
         × KeepsOut T.contents trace_out.old trace_out.new) }
-    ensures failure { IfErr result (IsOfTexts trace.now) }
+    ensures failure { IfErr result IsOfTexts }
 {
     let lines = lines_of(alloc, report)?;
     put_trace(alloc, trace, trace_out)?;

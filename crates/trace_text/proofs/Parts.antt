@@ -4,9 +4,10 @@ use Rattle.std.specs.Fmt.{digits}
 use Rattle.json.specs.Print.{escape_byte}
 use Rattle.serde_json.specs.Written.{compact_text}
 use Rattle.trace_model.specs.Run.{Run}
+use Rattle.trace_text.specs.declared.version.Version.TheVariants.{Second}
 use Rattle.trace_text.specs.Text.{list, entry_data, limits_data, trace_data, trace_text}
 
-in_parts : (r : Run) → trace_text r ≡ codes "{\"events\":" ++ (compact_text (list (map entry_data r.events)) ++ (codes ",\"limits\":" ++ (compact_text (limits_data r.limits) ++ codes ",\"version\":1}")))
+in_parts : (r : Run) → trace_text r ≡ codes "{\"events\":" ++ (compact_text (list (map (entry_data Second) r.events)) ++ (codes ",\"limits\":" ++ (compact_text (limits_data r.limits) ++ codes ",\"version\":2}")))
 unfolding escape_byte digits trace_data
 in_parts r = refl
 
@@ -15,8 +16,8 @@ joined : (old one two three four five a b c d e : List ℕ) → one ≡ old ++ a
 joined old one two three four five a b c d e h i j k l = rw (l, k, j, i, h) (simp append_assoc)
 
 pub is_written : (r : Run) (old one two three four five : List ℕ)
-    → one ≡ old ++ codes "{\"events\":" → two ≡ one ++ compact_text (list (map entry_data r.events)) → three ≡ two ++ codes ",\"limits\":"
-    → four ≡ three ++ compact_text (limits_data r.limits) → five ≡ four ++ codes ",\"version\":1}" → five ≡ old ++ trace_text r
+    → one ≡ old ++ codes "{\"events\":" → two ≡ one ++ compact_text (list (map (entry_data Second) r.events)) → three ≡ two ++ codes ",\"limits\":"
+    → four ≡ three ++ compact_text (limits_data r.limits) → five ≡ four ++ codes ",\"version\":2}" → five ≡ old ++ trace_text r
 is_written r old one two three four five h i j k l =
-    joined old one two three four five (codes "{\"events\":") (compact_text (list (map entry_data r.events))) (codes ",\"limits\":") (compact_text (limits_data r.limits)) (codes ",\"version\":1}") h i j k l
+    joined old one two three four five (codes "{\"events\":") (compact_text (list (map (entry_data Second) r.events))) (codes ",\"limits\":") (compact_text (limits_data r.limits)) (codes ",\"version\":2}") h i j k l
     ∙ ap (λ t. old ++ t) (sym (in_parts r))

@@ -1,10 +1,10 @@
 -- The JSON of a trace whose events have a form is plain: its numbers are whole, its strings are ASCII, and it nests little.
-use Rattle.std.proofs.Common.{◌≡◌, ℕ, suc, ℤ, pos, negsuc, ◌-◌, ◌^◌, ◌<◌, ◌≤◌, ◌&&◌, true, nat_le, nat_lt, List, [], ◌∷◌, map, length, Some, None, refl, arith}
+use Rattle.std.proofs.Common.{◌≡◌, ℕ, suc, ℤ, pos, negsuc, ◌-◌, ◌^◌, ◌<◌, ◌≤◌, ◌&&◌, true, nat_le, nat_lt, List, [], ◌∷◌, map, length, Option, Some, None, codes, refl, arith}
 use Rattle.std.specs.Prelude.{⊤}
 use Rattle.std.proofs.lemmas.Bool.{and_parts, leb-true, ltb-true}
 use Rattle.std.specs.List.{list_all}
 use Rattle.json.proofs.Printed.Utf8.{are_ascii, IsUtf8-are_ascii}
-use Rattle.serde_json.specs.Data.{Data, string, depth, items_depth}
+use Rattle.serde_json.specs.Data.{Data, string, object, member, no_members, depth, items_depth}
 use Rattle.serde_json.specs.View.{items_of}
 use Rattle.phase_modes.specs.declared.limits.Limits.{Limits}
 use Rattle.phase_modes.specs.declared.reg.Mode.{Mode}
@@ -13,6 +13,7 @@ use Rattle.phase_modes.specs.declared.phased.Pair.{Pair}
 use Rattle.phase_modes.specs.Limits.{limits_fit, is_between}
 use Rattle.phase_model.specs.declared.op.Op.{Op}
 use Rattle.phase_model.specs.declared.op.Op.TheVariants.{Sum, Least, Greatest}
+use Rattle.phase_model.specs.declared.terms.Terms.{Terms}
 use Rattle.phase_model.specs.declared.op.Look.{Look}
 use Rattle.phase_model.specs.declared.op.Look.TheVariants.{Value, Nothing}
 use Rattle.finish_core.specs.declared.event.FinishEvent.{FinishEvent}
@@ -27,8 +28,10 @@ use Rattle.trace_model.specs.declared.event.TracedEvent.{TracedEvent}
 use Rattle.trace_model.specs.declared.event.TracedEvent.TheVariants.{Phaser, Finish, Begin, Refuse, Fail}
 use Rattle.trace_text.specs.Json.{IsPlain, ArePlain}
 use Rattle.trace_text.specs.Form.{is_refusal}
+use Rattle.trace_text.specs.declared.version.Version.{Version}
+use Rattle.trace_text.specs.declared.version.Version.TheVariants.{First, Second}
 use Rattle.trace_model.specs.Run.{Run}
-use Rattle.trace_text.specs.Text.{list, whole, signed, mode_data, op_data, ops_data, seen_data, step_items, finish_items, pair_data, begun_items, tried_items, event_items, entry_data, limits_data, trace_data, is_wide, is_value, is_number, is_index, seen_has_form, terms_have_form, step_has_form, finish_has_form, begun_has_form, tried_has_form, event_has_form, entry_has_form, has_form}
+use Rattle.trace_text.specs.Text.{list, whole, signed, mode_data, op_data, ops_data, bound_data, bound_items, terms_items, seen_data, step_items, finish_items, pair_data, begun_items, tried_items, event_items, entry_data, limits_data, number_of, trace_data, is_wide, is_value, is_number, is_index, seen_has_form, bound_has_form, terms_have_form, step_has_form, finish_has_form, begun_has_form, tried_has_form, event_has_form, entry_has_form, has_form}
 use Rattle.trace_text.proofs.Events.{value_is_wide}
 
 -- it is plain, and nests no deeper than this
@@ -86,35 +89,48 @@ all_ops_fit k (op ∷ ops) = (op_fits k op, all_ops_fit k ops)
 ops_fit : (k : ℕ) (ops : List Op) → Fits (suc k) (ops_data ops)
 ops_fit k ops = list_fits k _ (all_ops_fit k ops)
 
+bound_fits : (k : ℕ) (b : Option ℕ) → bound_has_form b ≡ true → Fits k (bound_data b)
+bound_fits k None h = (tt, omega arith)
+bound_fits k (Some b) h = whole_fits k b (omega (arith, leb-true b 65536 (and_parts (nat_le 1 b) (nat_le b 65536) h).1))
+
+bounds_fit : (k : ℕ) (v : Version) (b : Option ℕ) → bound_has_form b ≡ true → AllFit k (bound_items v b)
+bounds_fit k First b h = tt
+bounds_fit k Second b h = (bound_fits k b h, tt)
+
+terms_fit : (k : ℕ) (v : Version) (m : Mode) (terms : Terms) → terms_have_form terms ≡ true → AllFit (suc k) (terms_items v m terms)
+terms_fit k v m terms h =
+    let p = and_parts (nat_le (length terms.ops) 4) (bound_has_form terms.bound) h in
+    (mode_fits (suc k) m, (ops_fit k terms.ops, bounds_fit (suc k) v terms.bound p.1))
+
 seen_fits : (k : ℕ) (x : Look) → seen_has_form x ≡ true → Fits k (seen_data x)
 seen_fits k (Value z) h = wide_fits k z h
 seen_fits k Nothing h = (tt, omega arith)
 
 -- ---- events
 
-steps_fit : (k : ℕ) (s : TracedStep) → step_has_form s ≡ true → AllFit (suc k) (step_items s)
-steps_fit k (step.Make t m terms) h =
+steps_fit : (k : ℕ) (v : Version) (s : TracedStep) → step_has_form s ≡ true → AllFit (suc k) (step_items v s)
+steps_fit k v (step.Make t m terms) h =
     let p = and_parts (is_number t) (terms_have_form terms) h in
-    (word_fits (suc k) _ refl, (number_fits (suc k) t p.0, (mode_fits (suc k) m, (ops_fit k terms.ops, tt))))
-steps_fit k (step.Reg q t m) h =
+    (word_fits (suc k) _ refl, (number_fits (suc k) t p.0, terms_fit k v m terms p.1))
+steps_fit k v (step.Reg q t m) h =
     let p = and_parts (is_number q) (is_number t) h in
     (word_fits (suc k) _ refl, (number_fits (suc k) q p.0, (number_fits (suc k) t p.1, (mode_fits (suc k) m, tt))))
-steps_fit k (step.Sig t None) h = (word_fits (suc k) _ refl, (number_fits (suc k) t h, tt))
-steps_fit k (step.Sig t (Some n)) h =
+steps_fit k v (step.Sig t None) h = (word_fits (suc k) _ refl, (number_fits (suc k) t h, tt))
+steps_fit k v (step.Sig t (Some n)) h =
     let p = and_parts (is_number t) (is_number n) h in
     (word_fits (suc k) _ refl, (number_fits (suc k) t p.0, (number_fits (suc k) n p.1, tt)))
-steps_fit k (step.Claim t) h = (word_fits (suc k) _ refl, (number_fits (suc k) t h, tt))
-steps_fit k (step.Did t) h = (word_fits (suc k) _ refl, (number_fits (suc k) t h, tt))
-steps_fit k (step.Pass t) h = (word_fits (suc k) _ refl, (number_fits (suc k) t h, tt))
-steps_fit k (step.Send t a v) h =
-    let p = and_parts (is_number t && is_index a) (is_value v) h in
+steps_fit k v (step.Claim t) h = (word_fits (suc k) _ refl, (number_fits (suc k) t h, tt))
+steps_fit k v (step.Did t) h = (word_fits (suc k) _ refl, (number_fits (suc k) t h, tt))
+steps_fit k v (step.Pass t) h = (word_fits (suc k) _ refl, (number_fits (suc k) t h, tt))
+steps_fit k v (step.Send t a x) h =
+    let p = and_parts (is_number t && is_index a) (is_value x) h in
     let q = and_parts (is_number t) (is_index a) p.0 in
-    (word_fits (suc k) _ refl, (number_fits (suc k) t q.0, (index_fits (suc k) a q.1, (value_fits (suc k) v p.1, tt))))
-steps_fit k (step.Look t a x) h =
+    (word_fits (suc k) _ refl, (number_fits (suc k) t q.0, (index_fits (suc k) a q.1, (value_fits (suc k) x p.1, tt))))
+steps_fit k v (step.Look t a x) h =
     let p = and_parts (is_number t && is_index a) (seen_has_form x) h in
     let q = and_parts (is_number t) (is_index a) p.0 in
     (word_fits (suc k) _ refl, (number_fits (suc k) t q.0, (index_fits (suc k) a q.1, (seen_fits (suc k) x p.1, tt))))
-steps_fit k (step.Drop t) h = (word_fits (suc k) _ refl, (number_fits (suc k) t h, tt))
+steps_fit k v (step.Drop t) h = (word_fits (suc k) _ refl, (number_fits (suc k) t h, tt))
 
 finishes_fit : (k : ℕ) (e : FinishEvent) → finish_has_form e ≡ true → AllFit k (finish_items e)
 finishes_fit k (Opened t) h = (word_fits k _ refl, (number_fits k t h, tt))
@@ -140,48 +156,48 @@ begun_fit k (begun.NextSingle n) h = (word_fits (suc (suc k)) _ refl, (number_fi
 begun_fit k begun.Shut h = (word_fits (suc (suc k)) _ refl, tt)
 begun_fit k begun.End h = (word_fits (suc (suc k)) _ refl, tt)
 
-tried_fit : (k : ℕ) (act : Tried) → tried_has_form act ≡ true → AllFit (suc (suc k)) (tried_items act)
-tried_fit k (tried.Begun act) h = begun_fit k act h
-tried_fit k (tried.New ph m terms) h =
+tried_fit : (k : ℕ) (v : Version) (act : Tried) → tried_has_form act ≡ true → AllFit (suc (suc k)) (tried_items v act)
+tried_fit k v (tried.Begun act) h = begun_fit k act h
+tried_fit k v (tried.New ph m terms) h =
     let p = and_parts (is_number ph) (terms_have_form terms) h in
-    (word_fits (suc (suc k)) _ refl, (number_fits (suc (suc k)) ph p.0, (mode_fits (suc (suc k)) m, (ops_fit (suc k) terms.ops, tt))))
-tried_fit k (tried.Open f) h = (word_fits (suc (suc k)) _ refl, (number_fits (suc (suc k)) f h, tt))
-tried_fit k (tried.Send ph a v) h =
-    let p = and_parts (is_number ph && is_index a) (is_value v) h in
+    (word_fits (suc (suc k)) _ refl, (number_fits (suc (suc k)) ph p.0, terms_fit (suc k) v m terms p.1))
+tried_fit k v (tried.Open f) h = (word_fits (suc (suc k)) _ refl, (number_fits (suc (suc k)) f h, tt))
+tried_fit k v (tried.Send ph a x) h =
+    let p = and_parts (is_number ph && is_index a) (is_value x) h in
     let q = and_parts (is_number ph) (is_index a) p.0 in
-    (word_fits (suc (suc k)) _ refl, (number_fits (suc (suc k)) ph q.0, (index_fits (suc (suc k)) a q.1, (value_fits (suc (suc k)) v p.1, tt))))
-tried_fit k (tried.Look ph a) h =
+    (word_fits (suc (suc k)) _ refl, (number_fits (suc (suc k)) ph q.0, (index_fits (suc (suc k)) a q.1, (value_fits (suc (suc k)) x p.1, tt))))
+tried_fit k v (tried.Look ph a) h =
     let p = and_parts (is_number ph) (is_index a) h in
     (word_fits (suc (suc k)) _ refl, (number_fits (suc (suc k)) ph p.0, (index_fits (suc (suc k)) a p.1, tt)))
 
-events_fit : (e : TracedEvent) → event_has_form e ≡ true → AllFit 3 (event_items e)
-events_fit (Phaser ph s) h =
+events_fit : (v : Version) (e : TracedEvent) → event_has_form e ≡ true → AllFit 3 (event_items v e)
+events_fit v (Phaser ph s) h =
     let p = and_parts (is_number ph) (step_has_form s) h in
-    (word_fits 3 _ refl, (number_fits 3 ph p.0, steps_fit 2 s p.1))
-events_fit (Finish f e) h =
+    (word_fits 3 _ refl, (number_fits 3 ph p.0, steps_fit 2 v s p.1))
+events_fit v (Finish f e) h =
     let p = and_parts (is_number f) (finish_has_form e) h in
     (word_fits 3 _ refl, (number_fits 3 f p.0, finishes_fit 3 e p.1))
-events_fit (Begin t act) h =
+events_fit v (Begin t act) h =
     let p = and_parts (is_number t) (begun_has_form act) h in
     (word_fits 3 _ refl, (number_fits 3 t p.0, (word_fits 3 _ refl, (list_fits 2 _ (begun_fit 0 act p.1), tt))))
-events_fit (Refuse t act n) h =
+events_fit v (Refuse t act n) h =
     let p = and_parts (is_number t && tried_has_form act) (is_refusal n) h in
     let q = and_parts (is_number t) (tried_has_form act) p.0 in
-    (word_fits 3 _ refl, (number_fits 3 t q.0, (word_fits 3 _ refl, (list_fits 2 _ (tried_fit 0 act q.1), (refusal_fits 3 n p.1, tt)))))
-events_fit (Fail t n) h =
+    (word_fits 3 _ refl, (number_fits 3 t q.0, (word_fits 3 _ refl, (list_fits 2 _ (tried_fit 0 v act q.1), (refusal_fits 3 n p.1, tt)))))
+events_fit v (Fail t n) h =
     let p = and_parts (is_number t) (is_refusal n) h in
     (word_fits 3 _ refl, (number_fits 3 t p.0, (word_fits 3 _ refl, (refusal_fits 3 n p.1, tt))))
 
-entry_fits : (e : ℕ × TracedEvent) → entry_has_form e ≡ true → Fits 4 (entry_data e)
-entry_fits e h =
+entry_fits : (v : Version) (e : ℕ × TracedEvent) → entry_has_form e ≡ true → Fits 4 (entry_data v e)
+entry_fits v e h =
     let p = and_parts (nat_lt e.0 (2 ^ 64)) (event_has_form e.1) h in
-    list_fits 3 (whole e.0 ∷ event_items e.1) (whole_fits 3 e.0 (ltb-true e.0 (2 ^ 64) p.0), events_fit e.1 p.1)
+    list_fits 3 (whole e.0 ∷ event_items v e.1) (whole_fits 3 e.0 (ltb-true e.0 (2 ^ 64) p.0), events_fit v e.1 p.1)
 
-entries_fit : (es : List (ℕ × TracedEvent)) → list_all entry_has_form es ≡ true → AllFit 4 (map entry_data es)
-entries_fit [] h = tt
-entries_fit (e ∷ es) h =
+entries_fit : (v : Version) (es : List (ℕ × TracedEvent)) → list_all entry_has_form es ≡ true → AllFit 4 (map (entry_data v) es)
+entries_fit v [] h = tt
+entries_fit v (e ∷ es) h =
     let p = and_parts (entry_has_form e) (list_all entry_has_form es) h in
-    (entry_fits e p.0, entries_fit es p.1)
+    (entry_fits v e p.0, entries_fit v es p.1)
 
 -- ---- the whole
 
@@ -228,11 +244,18 @@ limits_are_plain l h =
       omega arith,
     )
 
-pub trace_is_plain : (r : Run) → limits_fit r.limits ≡ true → has_form r ≡ true → Fits 6 (trace_data r)
-unfolding trace_data
-trace_is_plain r fit good =
+-- a trace in a version, under any number
+unfoldable pub numbered_data : ℕ → Version → Run → Data
+numbered_data n v r = object
+    (member (codes "events") (list (map (entry_data v) r.events))
+    (member (codes "limits") (limits_data r.limits)
+    (member (codes "version") (whole n) no_members)))
+
+pub numbered_is_plain : (n : ℕ) (v : Version) (r : Run) → n < 2 ^ 64 → limits_fit r.limits ≡ true → has_form r ≡ true → Fits 6 (numbered_data n v r)
+unfolding numbered_data
+numbered_is_plain n v r small fit good =
     let limits = limits_are_plain r.limits fit in
-    let events = list_fits 4 _ (entries_fit r.events good) in (
+    let events = list_fits 4 _ (entries_fit v r.events good) in (
       (
         (
           IsUtf8-are_ascii _ refl,
@@ -240,10 +263,18 @@ trace_is_plain r fit good =
           (
             IsUtf8-are_ascii _ refl,
             limits.0,
-            (IsUtf8-are_ascii _ refl, omega arith, tt),
+            (IsUtf8-are_ascii _ refl, small, tt),
           ),
         ),
         refl,
       ),
       omega (arith, limits.1, events.1),
     )
+
+version_is_whole : (v : Version) → number_of v < 2 ^ 64
+version_is_whole First = omega arith
+version_is_whole Second = omega arith
+
+pub trace_is_plain : (v : Version) (r : Run) → limits_fit r.limits ≡ true → has_form r ≡ true → Fits 6 (trace_data v r)
+unfolding trace_data numbered_data
+trace_is_plain v r fit good = numbered_is_plain (number_of v) v r (version_is_whole v) fit good

@@ -1,14 +1,12 @@
 -- The trace that a JSON value spells, or the place of its first fault.
-use Rattle.std.specs.Prelude.{ℕ, ◌==◌, ◌&&◌, not, List, [], ◌∷◌, Bool, nat_le, if◌then◌else◌, Option, Some, None, option_map, Result, Ok, Err, codes}
+use Rattle.std.specs.Prelude.{ℕ, ◌+◌, ◌==◌, ◌&&◌, not, List, [], ◌∷◌, Bool, nat_le, if◌then◌else◌, Option, Some, None, option_map, Result, Ok, Err, codes}
 use Rattle.std.specs.Str.{bytes_eq}
 use Rattle.serde_json.specs.Data.{Data, null, boolean, number, string, array, object, Items}
 use Rattle.serde_json.specs.Find.{get, at, as_array}
 use Rattle.phase_modes.specs.declared.limits.Limits.{Limits}
 use Rattle.phase_modes.specs.declared.phased.Pair.{Pair}
-use Rattle.phase_model.specs.declared.op.Op.{Op}
 use Rattle.phase_model.specs.declared.op.Look.{Look}
 use Rattle.phase_model.specs.declared.op.Look.TheVariants.{Value, Nothing}
-use Rattle.phase_model.specs.declared.terms.Terms.{Terms}
 use Rattle.finish_core.specs.declared.event.FinishEvent.{FinishEvent}
 use Rattle.finish_core.specs.declared.event.FinishEvent.TheVariants.{Opened, Spawned, Ended, Shut}
 use Rattle.world_model.specs.declared.event.Begun.{Begun}
@@ -19,20 +17,35 @@ use Rattle.trace_model.specs.declared.event.TracedStep.{TracedStep}
 use Rattle.trace_model.specs.declared.event.TracedStep.TheVariants as step
 use Rattle.trace_model.specs.declared.event.TracedEvent.{TracedEvent}
 use Rattle.trace_model.specs.declared.event.TracedEvent.TheVariants.{Phaser, Finish, Begin, Refuse, Fail}
-use Rattle.text_words.specs.Words.{◌>>=◌, whole_in, signed_in, ends_at, word_at, number_at, accumulator_at, value_at, mode_at, all_in, at_most, numbered_in, ops_at, has_only, limits_of}
+use Rattle.text_words.specs.Words.{◌>>=◌, whole_in, signed_in, bound_in, ends_at, word_at, number_at, accumulator_at, value_at, mode_at, all_in, at_most, numbered_in, ops_at, has_only, limits_of}
 use Rattle.trace_model.specs.Run.{Run}
+use Rattle.trace_text.specs.declared.version.Version.{Version}
+use Rattle.trace_text.specs.declared.version.Version.TheVariants.{First, Second}
 
--- what a phaser with these operators is made with: no text says a bound
-abbrev pub unbounded : List Op → Terms
-unbounded ops = record { ops = ops; bound = None }
+-- ---- the bound of a phaser
+
+-- a bound, or null for none
+abbrev pub bound_or_null : Data → Option (Option ℕ)
+bound_or_null null = Some None
+bound_or_null (boolean b) = None
+bound_or_null (number n) = option_map Some (bound_in (number n))
+bound_or_null (string s) = None
+bound_or_null (array ds) = None
+bound_or_null (object ms) = None
+
+-- the bound that ends a list, after n items; in version 1 nothing follows them, and there is no bound
+unfoldable pub bound_after : Version → ℕ → Data → Option (Option ℕ)
+bound_after First n d = if not (ends_at n d) then None else Some None
+bound_after Second n d = if not (ends_at (n + 1) d) then None else (at n d >>= bound_or_null)
 
 -- ---- steps on a phaser; the name of the step is the item 3, after the ticket, "p" and the phaser
 
--- "make", t, mode, [ops]
-unfoldable pub make_in : Data → Option TracedStep
-make_in d =
-    if not (ends_at 7 d) then None
-    else (number_at 4 d >>= λ t. mode_at 5 d >>= λ m. ops_at 6 d >>= λ ops. Some (step.Make t m (unbounded ops)))
+-- "make", t, mode, [ops], and the bound in version 2
+unfoldable pub make_in : Version → Data → Option TracedStep
+make_in v d =
+    bound_after v 7 d >>= λ b.
+    number_at 4 d >>= λ t. mode_at 5 d >>= λ m. ops_at 6 d >>= λ ops.
+    Some (step.Make t m (record { ops = ops; bound = b }))
 
 -- "reg", q, t, mode
 unfoldable pub reg_in : Data → Option TracedStep
@@ -75,9 +88,9 @@ look_in d =
     at 6 d >>= seen_in >>= λ x. Some (step.Look t a x))
 
 -- a step on a phaser, by its name
-unfoldable pub step_in : Data → Option TracedStep
-step_in d = word_at 3 d >>= λ name.
-    if bytes_eq name (codes "make") then make_in d
+unfoldable pub step_in : Version → Data → Option TracedStep
+step_in v d = word_at 3 d >>= λ name.
+    if bytes_eq name (codes "make") then make_in v d
     else (if bytes_eq name (codes "reg") then reg_in d
     else (if bytes_eq name (codes "sig") then sig_in d
     else (if bytes_eq name (codes "claim") then task_step_in step.Claim d
@@ -141,12 +154,12 @@ begun_in d = word_at 0 d >>= λ name.
     else (if bytes_eq name (codes "end") then bare_act_in begun.End d
     else None))))))
 
--- ["new", ph, mode, [ops]]
-unfoldable pub new_in : Data → Option Tried
-new_in d =
-    if not (ends_at 4 d) then None
-    else (number_at 1 d >>= λ ph. mode_at 2 d >>= λ m. ops_at 3 d >>= λ ops.
-    Some (tried.New ph m (unbounded ops)))
+-- ["new", ph, mode, [ops]], and the bound in version 2
+unfoldable pub new_in : Version → Data → Option Tried
+new_in v d =
+    bound_after v 4 d >>= λ b.
+    number_at 1 d >>= λ ph. mode_at 2 d >>= λ m. ops_at 3 d >>= λ ops.
+    Some (tried.New ph m (record { ops = ops; bound = b }))
 
 -- ["open", f]
 unfoldable pub open_in : Data → Option Tried
@@ -165,9 +178,9 @@ look_act_in d =
     else (number_at 1 d >>= λ ph. accumulator_at 2 d >>= λ a. Some (tried.Look ph a))
 
 -- any act, by its name
-unfoldable pub tried_in : Data → Option Tried
-tried_in d = word_at 0 d >>= λ name.
-    if bytes_eq name (codes "new") then new_in d
+unfoldable pub tried_in : Version → Data → Option Tried
+tried_in v d = word_at 0 d >>= λ name.
+    if bytes_eq name (codes "new") then new_in v d
     else (if bytes_eq name (codes "open") then open_in d
     else (if bytes_eq name (codes "send") then send_act_in d
     else (if bytes_eq name (codes "look") then look_act_in d
@@ -188,62 +201,64 @@ unfoldable pub begin_in : ℕ → Data → Option TracedEvent
 begin_in t d = if not (ends_at 5 d) then None else (at 4 d >>= begun_in >>= λ act. Some (Begin t act))
 
 -- "refuse", act, number
-unfoldable pub refuse_in : ℕ → Data → Option TracedEvent
-refuse_in t d =
+unfoldable pub refuse_in : Version → ℕ → Data → Option TracedEvent
+refuse_in v t d =
     if not (ends_at 6 d) then None
-    else (at 4 d >>= tried_in >>= λ act. refusal_at 5 d >>= λ n. Some (Refuse t act n))
+    else (at 4 d >>= tried_in v >>= λ act. refusal_at 5 d >>= λ n. Some (Refuse t act n))
 
 -- "fail", number
 unfoldable pub fail_in : ℕ → Data → Option TracedEvent
 fail_in t d = if not (ends_at 5 d) then None else (refusal_at 4 d >>= λ n. Some (Fail t n))
 
 -- an entry of the task's log, by its name
-unfoldable pub log_entry_in : ℕ → Data → Option TracedEvent
-log_entry_in t d = word_at 3 d >>= λ name.
+unfoldable pub log_entry_in : Version → ℕ → Data → Option TracedEvent
+log_entry_in v t d = word_at 3 d >>= λ name.
     if bytes_eq name (codes "begin") then begin_in t d
-    else (if bytes_eq name (codes "refuse") then refuse_in t d
+    else (if bytes_eq name (codes "refuse") then refuse_in v t d
     else (if bytes_eq name (codes "fail") then fail_in t d
     else None))
 
 -- ---- events with their tickets
 
 -- an event, by what its number is of
-unfoldable pub event_in : Data → Option TracedEvent
-event_in d = word_at 1 d >>= λ kind. number_at 2 d >>= λ n.
-    if bytes_eq kind (codes "p") then (step_in d >>= λ s. Some (Phaser n s))
+unfoldable pub event_in : Version → Data → Option TracedEvent
+event_in v d = word_at 1 d >>= λ kind. number_at 2 d >>= λ n.
+    if bytes_eq kind (codes "p") then (step_in v d >>= λ s. Some (Phaser n s))
     else (if bytes_eq kind (codes "f") then (finish_event_in d >>= λ e. Some (Finish n e))
-    else (if bytes_eq kind (codes "t") then log_entry_in n d
+    else (if bytes_eq kind (codes "t") then log_entry_in v n d
     else None))
 
 -- a ticket and its event
-abbrev pub entry_in : Data → Option (ℕ × TracedEvent)
-entry_in d = at 0 d >>= whole_in >>= λ ticket. event_in d >>= λ e. Some (ticket, e)
+abbrev pub entry_in : Version → Data → Option (ℕ × TracedEvent)
+entry_in v d = at 0 d >>= whole_in >>= λ ticket. event_in v d >>= λ e. Some (ticket, e)
 
 -- ---- the outer object
 
--- the version that is read
-abbrev pub is_version : ℕ → Bool
-is_version n = n == 1
+-- the version of that number: only 1 and 2 are read
+abbrev pub version_numbered : ℕ → Option Version
+version_numbered n = if n == 1 then Some First else (if n == 2 then Some Second else None)
 
--- the version, if it is the one that is read
-abbrev pub version_in : Data → Option ℕ
-version_in d = whole_in d >>= λ n. if is_version n then Some n else None
+-- the version, if it is one that is read
+abbrev pub version_in : Data → Option Version
+version_in d = whole_in d >>= version_numbered
 
--- the limits and the list of the events, where nothing is wrong outside the events
-unfoldable pub outer_in : Data → Option (Limits × Items)
+-- the limits, the version and the list of the events, where nothing is wrong outside the events
+unfoldable pub outer_in : Data → Option (Limits × Version × Items)
 outer_in d =
     if not (has_only (codes "events" ∷ codes "limits" ∷ codes "version" ∷ []) d) then None
     else (limits_of d >>= λ limits.
     get (codes "version") d >>= version_in >>= λ version.
-    get (codes "events") d >>= as_array >>= λ events. Some (limits, events))
+    get (codes "events") d >>= as_array >>= λ events. Some (limits, version, events))
 
+-- with these limits the events are a trace
 abbrev pub with_limits : Limits → Result (List (ℕ × TracedEvent)) ℕ → Result Run ℕ
 with_limits limits (Ok events) = Ok (record { limits = limits; events = events })
 with_limits limits (Err p) = Err p
 
-abbrev pub form_of_outer : Option (Limits × Items) → Result Run ℕ
+-- the trace of these limits, and of the events in that version
+abbrev pub form_of_outer : Option (Limits × Version × Items) → Result Run ℕ
 form_of_outer None = Err 0
-form_of_outer (Some o) = with_limits o.0 (numbered_in entry_in 1 o.1)
+form_of_outer (Some o) = with_limits o.0 (numbered_in (entry_in o.1) 1 o.2)
 
 -- the trace that a JSON value spells, or the place of its first fault
 abbrev pub form : Data → Result Run ℕ

@@ -1,5 +1,5 @@
 -- The text of a trace, byte for byte: the text of a JSON value, with no blank and the keys of each object in order.
-use Rattle.std.specs.Prelude.{ℕ, ℤ, pos, negsuc, ◌-◌, ◌^◌, ◌&&◌, ◌||◌, not, int_lt, List, [], ◌∷◌, map, length, Bool, true, false, nat_le, nat_lt, Some, None, is_some, codes}
+use Rattle.std.specs.Prelude.{ℕ, ℤ, pos, negsuc, ◌-◌, ◌^◌, ◌&&◌, ◌||◌, not, int_lt, List, [], ◌∷◌, map, length, Bool, true, false, nat_le, nat_lt, Option, Some, None, is_some, codes}
 use Rattle.std.specs.List.{list_all, list_any}
 use Rattle.serde_json.specs.Data.{Data, null, number, string, array, object, no_members, member, unsigned}
 use Rattle.serde_json.specs.Find.{of_integer}
@@ -26,6 +26,8 @@ use Rattle.trace_model.specs.declared.event.TracedEvent.{TracedEvent}
 use Rattle.trace_model.specs.declared.event.TracedEvent.TheVariants.{Phaser, Finish, Begin, Refuse, Fail}
 use Rattle.trace_text.specs.Form.{is_refusal}
 use Rattle.trace_model.specs.Run.{Run}
+use Rattle.trace_text.specs.declared.version.Version.{Version}
+use Rattle.trace_text.specs.declared.version.Version.TheVariants.{First, Second}
 
 -- ---- as JSON
 
@@ -62,18 +64,32 @@ abbrev pub seen_data : Look → Data
 seen_data (Value z) = signed z
 seen_data Nothing = null
 
+-- the bound of a phaser, or null for none
+abbrev pub bound_data : Option ℕ → Data
+bound_data None = null
+bound_data (Some b) = whole b
+
+-- what a version says of the bound: version 1 nothing
+abbrev pub bound_items : Version → Option ℕ → List Data
+bound_items First b = []
+bound_items Second b = bound_data b ∷ []
+
+-- what a phaser is made with: its maker's mode, its operators, and its bound
+abbrev pub terms_items : Version → Mode → Terms → List Data
+terms_items v m terms = mode_data m ∷ ops_data terms.ops ∷ bound_items v terms.bound
+
 -- a step on a phaser: its name, and what follows
-abbrev pub step_items : TracedStep → List Data
-step_items (step.Make t m terms) = string (codes "make") ∷ whole t ∷ mode_data m ∷ ops_data terms.ops ∷ []
-step_items (step.Reg q t m) = string (codes "reg") ∷ whole q ∷ whole t ∷ mode_data m ∷ []
-step_items (step.Sig t None) = string (codes "sig") ∷ whole t ∷ []
-step_items (step.Sig t (Some n)) = string (codes "sig") ∷ whole t ∷ whole n ∷ []
-step_items (step.Claim t) = string (codes "claim") ∷ whole t ∷ []
-step_items (step.Did t) = string (codes "did") ∷ whole t ∷ []
-step_items (step.Pass t) = string (codes "pass") ∷ whole t ∷ []
-step_items (step.Send t a v) = string (codes "send") ∷ whole t ∷ whole a ∷ signed v ∷ []
-step_items (step.Look t a x) = string (codes "look") ∷ whole t ∷ whole a ∷ seen_data x ∷ []
-step_items (step.Drop t) = string (codes "drop") ∷ whole t ∷ []
+abbrev pub step_items : Version → TracedStep → List Data
+step_items v (step.Make t m terms) = string (codes "make") ∷ whole t ∷ terms_items v m terms
+step_items v (step.Reg q t m) = string (codes "reg") ∷ whole q ∷ whole t ∷ mode_data m ∷ []
+step_items v (step.Sig t None) = string (codes "sig") ∷ whole t ∷ []
+step_items v (step.Sig t (Some n)) = string (codes "sig") ∷ whole t ∷ whole n ∷ []
+step_items v (step.Claim t) = string (codes "claim") ∷ whole t ∷ []
+step_items v (step.Did t) = string (codes "did") ∷ whole t ∷ []
+step_items v (step.Pass t) = string (codes "pass") ∷ whole t ∷ []
+step_items v (step.Send t a x) = string (codes "send") ∷ whole t ∷ whole a ∷ signed x ∷ []
+step_items v (step.Look t a x) = string (codes "look") ∷ whole t ∷ whole a ∷ seen_data x ∷ []
+step_items v (step.Drop t) = string (codes "drop") ∷ whole t ∷ []
 
 -- an event of a finish: its name, and what follows
 abbrev pub finish_items : FinishEvent → List Data
@@ -101,26 +117,26 @@ begun_items begun.Shut = string (codes "shut") ∷ []
 begun_items begun.End = string (codes "end") ∷ []
 
 -- any act: its name, and what follows
-abbrev pub tried_items : Tried → List Data
-tried_items (tried.Begun act) = begun_items act
-tried_items (tried.New ph m terms) = string (codes "new") ∷ whole ph ∷ mode_data m ∷ ops_data terms.ops ∷ []
-tried_items (tried.Open f) = string (codes "open") ∷ whole f ∷ []
-tried_items (tried.Send ph a v) = string (codes "send") ∷ whole ph ∷ whole a ∷ signed v ∷ []
-tried_items (tried.Look ph a) = string (codes "look") ∷ whole ph ∷ whole a ∷ []
+abbrev pub tried_items : Version → Tried → List Data
+tried_items v (tried.Begun act) = begun_items act
+tried_items v (tried.New ph m terms) = string (codes "new") ∷ whole ph ∷ terms_items v m terms
+tried_items v (tried.Open f) = string (codes "open") ∷ whole f ∷ []
+tried_items v (tried.Send ph a x) = string (codes "send") ∷ whole ph ∷ whole a ∷ signed x ∷ []
+tried_items v (tried.Look ph a) = string (codes "look") ∷ whole ph ∷ whole a ∷ []
 
 -- an event, without its ticket
-abbrev pub event_items : TracedEvent → List Data
-event_items (Phaser ph s) = string (codes "p") ∷ whole ph ∷ step_items s
-event_items (Finish f e) = string (codes "f") ∷ whole f ∷ finish_items e
-event_items (Begin t act) =
+abbrev pub event_items : Version → TracedEvent → List Data
+event_items v (Phaser ph s) = string (codes "p") ∷ whole ph ∷ step_items v s
+event_items v (Finish f e) = string (codes "f") ∷ whole f ∷ finish_items e
+event_items v (Begin t act) =
     string (codes "t") ∷ whole t ∷ string (codes "begin") ∷ list (begun_items act) ∷ []
-event_items (Refuse t act n) =
-    string (codes "t") ∷ whole t ∷ string (codes "refuse") ∷ list (tried_items act) ∷ whole n ∷ []
-event_items (Fail t n) = string (codes "t") ∷ whole t ∷ string (codes "fail") ∷ whole n ∷ []
+event_items v (Refuse t act n) =
+    string (codes "t") ∷ whole t ∷ string (codes "refuse") ∷ list (tried_items v act) ∷ whole n ∷ []
+event_items v (Fail t n) = string (codes "t") ∷ whole t ∷ string (codes "fail") ∷ whole n ∷ []
 
 -- an event with its ticket in front
-abbrev pub entry_data : ℕ × TracedEvent → Data
-entry_data e = list (whole e.0 ∷ event_items e.1)
+abbrev pub entry_data : Version → ℕ × TracedEvent → Data
+entry_data v e = list (whole e.0 ∷ event_items v e.1)
 
 -- all six limits
 abbrev pub limits_data : Limits → Data
@@ -132,18 +148,27 @@ limits_data l = object
     (member (codes "regs") (whole l.regs)
     (member (codes "tasks") (whole l.tasks) no_members))))))
 
--- a trace, version 1
-unfoldable pub trace_data : Run → Data
-trace_data r = object
-    (member (codes "events") (list (map entry_data r.events))
+-- the number of a version
+abbrev pub number_of : Version → ℕ
+number_of First = 1
+number_of Second = 2
+
+-- a trace in a version
+unfoldable pub trace_data : Version → Run → Data
+trace_data v r = object
+    (member (codes "events") (list (map (entry_data v) r.events))
     (member (codes "limits") (limits_data r.limits)
-    (member (codes "version") (whole 1) no_members)))
+    (member (codes "version") (whole (number_of v)) no_members)))
 
--- the text of a trace
+-- the text of a trace, in version 2
 abbrev pub trace_text : Run → List ℕ
-trace_text r = compact_text (trace_data r)
+trace_text r = compact_text (trace_data Second r)
 
--- ---- which traces have a text: nothing in it would say a bound
+-- its text in version 1, which is read but not written
+abbrev pub older_text : Run → List ℕ
+older_text r = compact_text (trace_data First r)
+
+-- ---- which traces version 1 says: nothing in it would say a bound
 
 -- the event makes a phaser that is bounded, or would have
 abbrev pub has_bound : TracedEvent → Bool
@@ -179,9 +204,14 @@ abbrev pub seen_has_form : Look → Bool
 seen_has_form (Value z) = is_wide z
 seen_has_form Nothing = true
 
--- a phaser has at most four accumulators, and no text says its bound
+-- a bound is 1 to 65,536, if there is one
+abbrev pub bound_has_form : Option ℕ → Bool
+bound_has_form None = true
+bound_has_form (Some b) = nat_le 1 b && nat_le b 65536
+
+-- a phaser has at most four accumulators, and its bound is in range
 abbrev pub terms_have_form : Terms → Bool
-terms_have_form terms = nat_le (length terms.ops) 4 && not (is_some terms.bound)
+terms_have_form terms = nat_le (length terms.ops) 4 && bound_has_form terms.bound
 
 -- the numbers of a step
 abbrev pub step_has_form : TracedStep → Bool

@@ -1,11 +1,15 @@
 //! The text of a trace: a trace to bytes, and bytes to a trace. What the text of a trace is, and
-//! which trace a text spells, is defined in `specs/`.
+//! which trace a text spells, is defined in `specs/`. Version 2 is written, and versions 1 and 2 are
+//! read: version 1 is of traces in which no phaser is bounded.
 #![tactic(auto)]
 
 mod laws;
 mod reading;
+mod version;
 mod writing;
 
-pub use laws::{texts_are_read_back, traces_are_read_back, worked_examples};
+pub use laws::{
+    older_texts_are_read_back, texts_are_read_back, traces_are_read_back, worked_examples,
+};
 pub use reading::from_json;
 pub use writing::to_json;

@@ -1,37 +1,72 @@
 //! Reads a trace: bytes to JSON, JSON to limits and events.
-ghost use Rattle.std.specs.Prelude.{◌≡◌, option_map, IfSome, true, ◌∷◌, [], ◌++◌};
+ghost use Rattle.std.specs.Prelude.{◌≡◌, option_map, IfSome, true, ◌∷◌, [], ◌++◌, ◌+◌, ◌≤◌};
 ghost use Rattle.serde_json.specs.View.{view, items_view};
 ghost use Rattle.phase_modes.specs.Limits.{limits_fit};
 ghost use Rattle.text_words.specs.Words.{all_in, at_most, numbered_in};
-ghost use Rattle.trace_text.specs.Form.{make_in, reg_in, sig_in, send_in, seen_in, look_in, task_step_in, step_in, only_task_in, finish_event_in, pair_in, pairs_in, async_in, single_in, bare_act_in, begun_in, new_in, open_in, send_act_in, look_act_in, tried_in, refusal_at, begin_in, refuse_in, fail_in, log_entry_in, event_in, entry_in, version_in, outer_in, with_limits, form, form_of};
+ghost use Rattle.trace_text.specs.Form.{bound_or_null, bound_after, make_in, reg_in, sig_in, send_in, seen_in, look_in, task_step_in, step_in, only_task_in, finish_event_in, pair_in, pairs_in, async_in, single_in, bare_act_in, begun_in, new_in, open_in, send_act_in, look_act_in, tried_in, refusal_at, begin_in, refuse_in, fail_in, log_entry_in, event_in, entry_in, version_in, outer_in, with_limits, form, form_of};
 ghost use Rattle.text_words.specs.Reading.{reading, Gives};
 ghost use Rattle.trace_model.specs.declared.event.TracedStep.TheVariants as step;
 
+use crate::version::Version;
 use finish_core::FinishEvent;
-use phase_model::{Look, Terms};
+use phase_model::{Bound, Look, Terms};
 use phase_modes::{Limits, Pair, Phased, Refusal};
 use serde_json::Value;
 use std::alloc::Global;
 use text_words::{
-    accumulator_at, has_only_keys, json_of, limits_of, mode_at, number_at, ops_at, value_at,
-    word_at,
+    accumulator_at, bound_of, has_only_keys, json_of, limits_of, mode_at, number_at, ops_at,
+    value_at, word_at,
 };
 use trace_model::{Trace, TracedEvent, TracedStep};
 use world_model::{Begun, Tried};
 
+// ---- the bound of a phaser
+
+/// A bound, or null for none.
+fn bound_or_null_of(value: &Value) -> Option<Option<Bound>>
+    ensures { result ≡ bound_or_null (view value.now) }
+{
+    if value.is_null() {
+        return Some(None);
+    }
+    let bound = bound_of(value)?;
+    Some(Some(bound))
+}
+
+/// The bound that ends a list, after so many items. In version 1 nothing follows them, and there is
+/// no bound.
+#[tactic(auto, unfolding(crate::specs::Form::bound_after))]
+fn bound_after(version: Version, count: usize, list: &Value) -> Option<Option<Bound>>
+    requires { count ≤ 7 }
+    ensures { result ≡ bound_after version count (view list.now) }
+{
+    match version {
+        Version::First => {
+            if list.get(count).is_some() {
+                return None;
+            }
+            Some(None)
+        }
+        Version::Second => {
+            if list.get(count + 1).is_some() {
+                return None;
+            }
+            bound_or_null_of(list.get(count)?)
+        }
+    }
+}
+
 // ---- steps on a phaser
 
 #[tactic(auto, unfolding(crate::specs::Form::make_in))]
-fn make_of(list: &Value) -> Option<TracedStep>
-    ensures { result ≡ make_in (view list.now) }
+fn make_of(version: Version, list: &Value) -> Option<TracedStep>
+    ensures { result ≡ make_in version (view list.now) }
 {
-    if list.get(7).is_some() {
-        return None;
-    }
+    let bound = bound_after(version, 7, list)?;
     let task = number_at(list, 4)?;
     let mode = mode_at(list, 5)?;
     let ops = ops_at(list, 6)?;
-    Some(TracedStep::Make(task, mode, Terms { ops, bound: None }))
+    Some(TracedStep::Make(task, mode, Terms { ops, bound }))
 }
 
 #[tactic(auto, unfolding(crate::specs::Form::reg_in))]
@@ -145,11 +180,11 @@ fn look_of(list: &Value) -> Option<TracedStep>
 
 /// A step on a phaser, by its name.
 #[tactic(auto, unfolding(crate::specs::Form::step_in))]
-fn step_of(list: &Value) -> Option<TracedStep>
-    ensures { result ≡ step_in (view list.now) }
+fn step_of(version: Version, list: &Value) -> Option<TracedStep>
+    ensures { result ≡ step_in version (view list.now) }
 {
     match word_at(list, 3)? {
-        "make" => make_of(list),
+        "make" => make_of(version, list),
         "reg" => reg_of(list),
         "sig" => sig_of(list),
         "claim" => claim_of(list),
@@ -286,16 +321,14 @@ fn begun_of(list: &Value) -> Option<Begun>
 }
 
 #[tactic(auto, unfolding(crate::specs::Form::new_in))]
-fn new_of(list: &Value) -> Option<Tried>
-    ensures { result ≡ new_in (view list.now) }
+fn new_of(version: Version, list: &Value) -> Option<Tried>
+    ensures { result ≡ new_in version (view list.now) }
 {
-    if list.get(4).is_some() {
-        return None;
-    }
+    let bound = bound_after(version, 4, list)?;
     let phaser = number_at(list, 1)?;
     let mode = mode_at(list, 2)?;
     let ops = ops_at(list, 3)?;
-    Some(Tried::New(phaser, mode, Terms { ops, bound: None }))
+    Some(Tried::New(phaser, mode, Terms { ops, bound }))
 }
 
 #[tactic(auto, unfolding(crate::specs::Form::open_in))]
@@ -336,11 +369,11 @@ fn look_act_of(list: &Value) -> Option<Tried>
 
 /// Any act, by its name.
 #[tactic(auto, unfolding(crate::specs::Form::tried_in))]
-fn tried_of(list: &Value) -> Option<Tried>
-    ensures { result ≡ tried_in (view list.now) }
+fn tried_of(version: Version, list: &Value) -> Option<Tried>
+    ensures { result ≡ tried_in version (view list.now) }
 {
     match word_at(list, 0)? {
-        "new" => new_of(list),
+        "new" => new_of(version, list),
         "open" => open_of(list),
         "send" => send_act_of(list),
         "look" => look_act_of(list),
@@ -377,13 +410,13 @@ fn begin_of(task: u32, list: &Value) -> Option<TracedEvent>
 }
 
 #[tactic(auto, unfolding(crate::specs::Form::refuse_in))]
-fn refuse_of(task: u32, list: &Value) -> Option<TracedEvent>
-    ensures { result ≡ refuse_in task (view list.now) }
+fn refuse_of(version: Version, task: u32, list: &Value) -> Option<TracedEvent>
+    ensures { result ≡ refuse_in version task (view list.now) }
 {
     if list.get(6).is_some() {
         return None;
     }
-    let act = tried_of(list.get(4)?)?;
+    let act = tried_of(version, list.get(4)?)?;
     let number = refusal_number_at(list, 5)?;
     Some(TracedEvent::Refuse(task, act, number))
 }
@@ -401,12 +434,12 @@ fn fail_of(task: u32, list: &Value) -> Option<TracedEvent>
 
 /// An entry of the task's log, by its name.
 #[tactic(auto, unfolding(crate::specs::Form::log_entry_in))]
-fn log_entry_of(task: u32, list: &Value) -> Option<TracedEvent>
-    ensures { result ≡ log_entry_in task (view list.now) }
+fn log_entry_of(version: Version, task: u32, list: &Value) -> Option<TracedEvent>
+    ensures { result ≡ log_entry_in version task (view list.now) }
 {
     match word_at(list, 3)? {
         "begin" => begin_of(task, list),
-        "refuse" => refuse_of(task, list),
+        "refuse" => refuse_of(version, task, list),
         "fail" => fail_of(task, list),
         _ => None,
     }
@@ -416,43 +449,49 @@ fn log_entry_of(task: u32, list: &Value) -> Option<TracedEvent>
 
 /// An event, by what its number is of.
 #[tactic(auto, unfolding(crate::specs::Form::event_in))]
-fn event_of(list: &Value) -> Option<TracedEvent>
-    ensures { result ≡ event_in (view list.now) }
+fn event_of(version: Version, list: &Value) -> Option<TracedEvent>
+    ensures { result ≡ event_in version (view list.now) }
 {
     let kind = word_at(list, 1)?;
     let number = number_at(list, 2)?;
     match kind {
         "p" => {
-            let step = step_of(list)?;
+            let step = step_of(version, list)?;
             Some(TracedEvent::Phaser(number, step))
         }
         "f" => {
             let event = finish_event_of(list)?;
             Some(TracedEvent::Finish(number, event))
         }
-        "t" => log_entry_of(number, list),
+        "t" => log_entry_of(version, number, list),
         _ => None,
     }
 }
 
 /// A ticket and its event.
-fn entry_of(list: &Value) -> Option<(u64, TracedEvent)>
-    ensures { result ≡ entry_in (view list.now) }
+fn entry_of(version: Version, list: &Value) -> Option<(u64, TracedEvent)>
+    ensures { result ≡ entry_in version (view list.now) }
 {
     let ticket = list.get(0)?.as_u64()?;
-    let event = event_of(list)?;
+    let event = event_of(version, list)?;
     Some((ticket, event))
 }
 
 /// The trace with all events, or the number of the first that is none.
-fn trace_of(alloc: Global, limits: Limits, items: &[Value]) -> Result<Trace, Refusal>
+fn trace_of(
+    alloc: Global,
+    limits: Limits,
+    version: Version,
+    items: &[Value],
+) -> Result<Trace, Refusal>
     requires { limits_fit limits ≡ true }
-    ensures { Gives (λ t. t) result (with_limits limits (numbered_in entry_in 1 (items_view items.now))) }
+    ensures { Gives (λ t. t) result
+        (with_limits limits (numbered_in (entry_in version) 1 (items_view items.now))) }
 {
     let mut trace = Trace::with_capacity(alloc, limits, items.len())?;
     for (index, item) in items.iter().enumerate() {
         let place = index as u64 + 1;
-        let (ticket, event) = match entry_of(item) {
+        let (ticket, event) = match entry_of(version, item) {
             None => return Err(Refusal::BadText(place)),
             Some(entry) => entry,
         };
@@ -463,25 +502,29 @@ fn trace_of(alloc: Global, limits: Limits, items: &[Value]) -> Result<Trace, Ref
 
 // ---- the outer object
 
-/// Whether it is the version that is read.
-fn version_of(value: &Value) -> Option<u64>
+/// The version, if it is one that is read.
+fn version_of(value: &Value) -> Option<Version>
     ensures { result ≡ version_in (view value.now) }
 {
-    let version = value.as_u64()?;
-    if version == 1 { Some(version) } else { None }
+    match value.as_u64()? {
+        1 => Some(Version::First),
+        2 => Some(Version::Second),
+        _ => None,
+    }
 }
 
 /// What stands outside the events, and the events as JSON.
 #[derive(Clone, Copy)]
 struct Outer<'a> {
     limits: Limits,
+    version: Version,
     events: &'a Vec<Value>,
 }
 
 /// The outer object, where nothing is wrong outside the events.
 #[tactic(auto, unfolding(crate::specs::Form::outer_in))]
 fn outer_of(file: &Value) -> Option<Outer<'_>>
-    ensures outer { option_map (λ o. (o.limits, items_view o.events.now.items)) result
+    ensures outer { option_map (λ o. (o.limits, o.version, items_view o.events.now.items)) result
         ≡ outer_in (view file.now) }
     ensures fit { IfSome result (λ o. limits_fit o.limits ≡ true) }
 {
@@ -489,9 +532,13 @@ fn outer_of(file: &Value) -> Option<Outer<'_>>
         return None;
     }
     let limits = limits_of(file)?;
-    let _version = version_of(file.get("version")?)?;
+    let version = version_of(file.get("version")?)?;
     let events = file.get("events")?.as_array()?;
-    Some(Outer { limits, events })
+    Some(Outer {
+        limits,
+        version,
+        events,
+    })
 }
 
 /// The trace that the value spells.
@@ -502,13 +549,15 @@ fn form_of_value(alloc: Global, value: &Value) -> Result<Trace, Refusal>
         None => return Err(Refusal::BadText(0)),
         Some(outer) => outer,
     };
-    trace_of(alloc, outer.limits, outer.events)
+    trace_of(alloc, outer.limits, outer.version, outer.events)
 }
 
-/// Reads the bytes of a trace. `BadText` where they are not of the form: its place is 0 where the
-/// bytes are no JSON or the outer object is wrong, else the number of the first event that is
-/// wrong, counted from 1. `Memory` where there is too little for the JSON value or for the events.
-/// Whether a run makes such events is no matter of the text.
+/// Reads the bytes of a trace, of version 1 or 2; each phaser of a text of version 1 is unbounded.
+/// `BadText` where they are not of the form: its place is 0 where the bytes are no JSON or the outer
+/// object is wrong, as where its version is another one, else the number of the first event that is
+/// wrong, counted from 1: also of one that makes a phaser, or would have, in the form of the other
+/// version. `Memory` where there is too little for the JSON value or for the events. Whether a run
+/// makes such events is no matter of the text.
 pub fn from_json(alloc: Global, bytes: &[u8]) -> Result<Trace, Refusal>
     ensures { Gives (λ t. t) result (form_of (reading bytes.now)) }
 {

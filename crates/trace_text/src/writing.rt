@@ -1,12 +1,13 @@
-//! Writes a trace as text, with no blank.
-ghost use Rattle.std.specs.Prelude.{◌≡◌, ◌++◌, ◌∷◌, [], map, string_bytes, nat_lt, IfOk, OnOk, IfErr, true, false, if◌then◌else◌, decimal};
+//! Writes a trace as text, in version 2, with no blank.
+ghost use Rattle.std.specs.Prelude.{◌≡◌, ◌++◌, ◌∷◌, [], map, string_bytes, nat_lt, IfOk, IfErr, decimal};
 ghost use Rattle.trace_model.specs.declared.event.TracedEvent.TheVariants.{Refuse};
 ghost use Rattle.serde_json.specs.Written.{compact_text, comma_if};
 ghost use Rattle.trace_text.specs.Writing.{Appends};
-ghost use Rattle.trace_text.specs.Text.{list, rest_text, mode_data, op_data, ops_data, seen_data, step_items, finish_items, pair_data, pairs_data, begun_items, tried_items, event_items, entry_data, limits_data, trace_text, has_bound, has_bounds};
+ghost use Rattle.trace_text.specs.Text.{list, rest_text, mode_data, op_data, ops_data, bound_items, terms_items, seen_data, step_items, finish_items, pair_data, pairs_data, begun_items, tried_items, event_items, entry_data, limits_data, trace_text};
+ghost use Rattle.trace_text.specs.declared.version.Version.TheVariants.{Second};
 
 use finish_core::FinishEvent;
-use phase_model::{Look, Op};
+use phase_model::{Bound, Look, Op, Terms};
 use phase_modes::{Limits, Mode, Pair, Refusal};
 use std::alloc::{AllocError, Global};
 use trace_model::{Trace, TracedEvent, TracedStep};
@@ -57,6 +58,31 @@ fn write_ops(out: &mut String, ops: &[Op]) -> Result<(), AllocError>
     Ok(())
 }
 
+/// A bound after a comma, or null for none, and the closing bracket.
+fn write_bound(out: &mut String, bound: Option<Bound>) -> Result<(), AllocError>
+    ensures { Appends result out.old out.new (rest_text (bound_items Second bound)) }
+{
+    match bound {
+        None => out.push_str(",null]"),
+        Some(bound) => {
+            let phases = bound.phases();
+            write!(out, ",{phases}]")
+        }
+    }
+}
+
+/// What a phaser is made with, each item after a comma, and the closing bracket.
+#[tactic(auto, unfolding(json::specs::Print::escape_byte))]
+fn write_terms(out: &mut String, mode: Mode, terms: &Terms) -> Result<(), AllocError>
+    ensures { Appends result out.old out.new (rest_text (terms_items Second mode terms.now)) }
+{
+    out.push_str(",")?;
+    write_mode(out, mode)?;
+    out.push_str(",")?;
+    write_ops(out, terms.ops.as_slice())?;
+    write_bound(out, terms.bound)
+}
+
 /// What was seen: a number, or null for nothing.
 fn write_seen(out: &mut String, seen: Look) -> Result<(), AllocError>
     ensures { Appends result out.old out.new (compact_text (seen_data seen)) }
@@ -70,15 +96,12 @@ fn write_seen(out: &mut String, seen: Look) -> Result<(), AllocError>
 /// The items of a step, each after a comma, and the closing bracket.
 #[tactic(auto, unfolding(json::specs::Print::escape_byte))]
 fn write_step(out: &mut String, step: &TracedStep) -> Result<(), AllocError>
-    ensures { Appends result out.old out.new (rest_text (step_items step.now)) }
+    ensures { Appends result out.old out.new (rest_text (step_items Second step.now)) }
 {
     match step {
         TracedStep::Make(task, mode, terms) => {
-            write!(out, ",\"make\",{task},")?;
-            write_mode(out, *mode)?;
-            out.push_str(",")?;
-            write_ops(out, terms.ops.as_slice())?;
-            out.push_str("]")
+            write!(out, ",\"make\",{task}")?;
+            write_terms(out, *mode, terms)
         }
         TracedStep::Reg(parent, child, mode) => {
             write!(out, ",\"reg\",{parent},{child},")?;
@@ -159,16 +182,13 @@ fn write_begun(out: &mut String, act: &Begun) -> Result<(), AllocError>
 /// Any act.
 #[tactic(auto, unfolding(json::specs::Print::escape_byte))]
 fn write_tried(out: &mut String, act: &Tried) -> Result<(), AllocError>
-    ensures { Appends result out.old out.new (compact_text (list (tried_items act.now))) }
+    ensures { Appends result out.old out.new (compact_text (list (tried_items Second act.now))) }
 {
     match act {
         Tried::Begun(act) => write_begun(out, act),
         Tried::New(phaser, mode, terms) => {
-            write!(out, "[\"new\",{phaser},")?;
-            write_mode(out, *mode)?;
-            out.push_str(",")?;
-            write_ops(out, terms.ops.as_slice())?;
-            out.push_str("]")
+            write!(out, "[\"new\",{phaser}")?;
+            write_terms(out, *mode, terms)
         }
         Tried::Open(finish) => write!(out, "[\"open\",{finish}]"),
         Tried::Send(phaser, accumulator, value) => {
@@ -181,7 +201,7 @@ fn write_tried(out: &mut String, act: &Tried) -> Result<(), AllocError>
 /// The items of an entry of a refusal, each after a comma, and the closing bracket.
 #[tactic(auto, unfolding(json::specs::Print::escape_byte))]
 fn write_refuse(out: &mut String, task: u32, act: &Tried, number: u8) -> Result<(), AllocError>
-    ensures { Appends result out.old out.new (rest_text (event_items (Refuse task act.now number))) }
+    ensures { Appends result out.old out.new (rest_text (event_items Second (Refuse task act.now number))) }
 {
     write!(out, ",\"t\",{task},\"refuse\",")?;
     write_tried(out, act)?;
@@ -192,7 +212,7 @@ fn write_refuse(out: &mut String, task: u32, act: &Tried, number: u8) -> Result<
 /// The items of an event, each after a comma, and the closing bracket.
 #[tactic(auto, unfolding(json::specs::Print::escape_byte))]
 fn write_event(out: &mut String, event: &TracedEvent) -> Result<(), AllocError>
-    ensures { Appends result out.old out.new (rest_text (event_items event.now)) }
+    ensures { Appends result out.old out.new (rest_text (event_items Second event.now)) }
 {
     match event {
         TracedEvent::Phaser(phaser, step) => {
@@ -215,14 +235,14 @@ fn write_event(out: &mut String, event: &TracedEvent) -> Result<(), AllocError>
 
 /// An event with its ticket.
 fn write_entry(out: &mut String, ticket: u64, event: &TracedEvent) -> Result<(), AllocError>
-    ensures { Appends result out.old out.new (compact_text (entry_data (ticket, event.now))) }
+    ensures { Appends result out.old out.new (compact_text (entry_data Second (ticket, event.now))) }
 {
     write!(out, "[{ticket}")?;
     write_event(out, event)
 }
 
 fn write_entries(out: &mut String, trace: &Trace) -> Result<(), AllocError>
-    ensures { Appends result out.old out.new (compact_text (list (map entry_data trace.now.events))) }
+    ensures { Appends result out.old out.new (compact_text (list (map (entry_data Second) trace.now.events))) }
 {
     out.push_str("[")?;
     for index in 0..trace.len() {
@@ -261,47 +281,17 @@ fn write_trace(out: &mut String, trace: &Trace) -> Result<(), AllocError>
     write_entries(out, trace)?;
     out.push_str(",\"limits\":")?;
     write_limits(out, trace.limits())?;
-    out.push_str(",\"version\":1}")?;
+    out.push_str(",\"version\":2}")?;
     Ok(())
 }
 
-/// Whether the event makes a phaser that is bounded, or would have.
-fn has_bound(event: &TracedEvent) -> bool
-    ensures { result ≡ has_bound event.now }
-{
-    match event {
-        TracedEvent::Phaser(_, TracedStep::Make(_, _, terms)) => terms.bound.is_some(),
-        TracedEvent::Refuse(_, Tried::New(_, _, terms), _) => terms.bound.is_some(),
-        _ => false,
-    }
-}
-
-/// Whether one of the trace's events does.
-fn has_bounds(trace: &Trace) -> bool
-    ensures { result ≡ has_bounds trace.now }
-{
-    for index in 0..trace.len() {
-        let (_, event) = trace.entry(index);
-        if has_bound(&event) {
-            return true;
-        }
-    }
-    false
-}
-
-/// The text of the trace: version 1, no blank and no newline, all six limits. `NotNow` where a
-/// phaser in it is bounded, or a refused act would have made one that is: no text says a bound.
-/// Else `Memory` where there is too little for it. Any other trace has a text; it is read again
-/// where each number of a refusal in it is one, 1 to 26.
+/// The text of the trace: version 2, no blank and no newline, all six limits. `Memory` where there
+/// is too little for it. Any trace has a text; it is read again where each number of a refusal in it
+/// is one, 1 to 26.
 pub fn to_json(alloc: Global, trace: &Trace) -> Result<String, Refusal>
     ensures text { IfOk result (λ text. string_bytes text ≡ trace_text trace.now) }
-    ensures unbounded { OnOk result (has_bounds trace.now ≡ false) }
-    ensures refused { IfErr result (λ r.
-        r ≡ (if has_bounds trace.now then Refusal.NotNow else Refusal.Memory)) }
+    ensures memory { IfErr result (λ r. r ≡ Refusal.Memory) }
 {
-    if has_bounds(trace) {
-        return Err(Refusal::NotNow);
-    }
     let mut text = String::new(alloc);
     write_trace(&mut text, trace)?;
     Ok(text)

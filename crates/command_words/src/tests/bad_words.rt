@@ -79,7 +79,7 @@ fn bad_commands(rt: HostRuntime) -> Result<(), Fail> {
 
 #[test]
 fn bad_schedules(rt: HostRuntime) -> Result<(), Fail> {
-    const ROWS: [Row; 6] = [
+    const ROWS: [Row; 4] = [
         (&["phaser_run", "schedule"], "<FILE>"),
         (
             &["phaser_run", "schedule", "a", "--picks"],
@@ -101,11 +101,39 @@ fn bad_schedules(rt: HostRuntime) -> Result<(), Fail> {
             ],
             "cannot be used multiple times",
         ),
+    ];
+    all_bad(&rt, rt.alloc(), ROWS.as_slice())
+}
+
+#[test]
+fn bad_replays(rt: HostRuntime) -> Result<(), Fail> {
+    const ROWS: [Row; 6] = [
+        (&["phaser_run", "replay"], "<FILE>"),
         (
             &["phaser_run", "replay", "a", "--trace", "t"],
             "unexpected argument '--trace'",
         ),
-        (&["phaser_run", "replay"], "<FILE>"),
+        (
+            &["phaser_run", "replay", "a", "--upgrade"],
+            "--upgrade <OUT>",
+        ),
+        (
+            &[
+                "phaser_run",
+                "replay",
+                "a",
+                "--upgrade",
+                "t",
+                "--upgrade",
+                "t",
+            ],
+            "cannot be used multiple times",
+        ),
+        (&["phaser_run", "replay", "--upgrade", "t"], "<FILE>"),
+        (
+            &["phaser_run", "schedule", "a", "--upgrade", "t"],
+            "unexpected argument '--upgrade'",
+        ),
     ];
     all_bad(&rt, rt.alloc(), ROWS.as_slice())
 }
@@ -202,7 +230,7 @@ fn bad_kernels(rt: HostRuntime) -> Result<(), Fail> {
 
 #[test]
 fn help(rt: HostRuntime) -> Result<(), Fail> {
-    const ROWS: [Row; 8] = [
+    const ROWS: [Row; 9] = [
         (&["phaser_run", "--help"], "Exit status: 0 done"),
         (&["phaser_run", "run", "--help"], "--workers <N>"),
         (&["phaser_run", "stencil", "--help"], "--first <LIST>"),
@@ -217,6 +245,7 @@ fn help(rt: HostRuntime) -> Result<(), Fail> {
             &["phaser_run", "replay", "--help"],
             "at most 67,108,864 bytes",
         ),
+        (&["phaser_run", "replay", "--help"], "--upgrade <OUT>"),
     ];
     all_bad(&rt, rt.alloc(), ROWS.as_slice())
 }

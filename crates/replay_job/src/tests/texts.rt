@@ -1,5 +1,5 @@
-//! The text of the smallest trace, every form of an event there and back, and where damaged texts
-//! are refused.
+//! The text of the smallest trace, every form of an event there and back, texts of the first
+//! version, and where damaged texts are refused.
 use super::{Entry, are_alike, trace_of};
 use finish_core::FinishEvent;
 use phase_model::{Bound, Look, Op, Ops, Terms};
@@ -12,7 +12,7 @@ use trace_text::{from_json, to_json};
 use world_model::{Begun, Tried};
 
 const SMALLEST: &str =
-    r#"{"events":[[1,"p",0,"make",0,"SIG_WAIT",[]],[2,"t",0,"begin",["next"]],[3,"p",0,"sig",0],[4,"p",0,"pass",0],[5,"t",0,"begin",["end"]],[6,"p",0,"drop",0],[7,"f",0,"shut"]],"limits":{"acts":4096,"finishes":64,"history":4096,"phasers":64,"regs":256,"tasks":256},"version":1}"#;
+    r#"{"events":[[1,"p",0,"make",0,"SIG_WAIT",[],null],[2,"t",0,"begin",["next"]],[3,"p",0,"sig",0],[4,"p",0,"pass",0],[5,"t",0,"begin",["end"]],[6,"p",0,"drop",0],[7,"f",0,"shut"]],"limits":{"acts":4096,"finishes":64,"history":4096,"phasers":64,"regs":256,"tasks":256},"version":2}"#;
 
 /// The place of the text's first fault; none where it is of the form.
 fn place_of(alloc: Global, text: &str) -> Result<Option<u64>, Fail> {
@@ -74,9 +74,10 @@ fn smallest_trace(rt: HostRuntime) -> Result<(), Fail> {
 }
 
 /// Events in their forms, each to be read and written again as it is.
-const EVENTS: [&str; 38] = [
-    r#"[0,"p",0,"make",0,"SIG",[]]"#,
-    r#"[18446744073709551615,"p",4294967295,"make",4294967295,"WAIT",["sum","least","greatest","sum"]]"#,
+const EVENTS: [&str; 40] = [
+    r#"[0,"p",0,"make",0,"SIG",[],null]"#,
+    r#"[0,"p",0,"make",0,"SIG",[],1]"#,
+    r#"[18446744073709551615,"p",4294967295,"make",4294967295,"WAIT",["sum","least","greatest","sum"],65536]"#,
     r#"[1,"p",0,"reg",0,4294967295,"SINGLE"]"#,
     r#"[1,"p",0,"reg",4294967295,0,"SIG_WAIT"]"#,
     r#"[1,"p",0,"sig",7]"#,
@@ -106,8 +107,9 @@ const EVENTS: [&str; 38] = [
     r#"[1,"t",0,"begin",["end"]]"#,
     r#"[1,"t",0,"refuse",["end"],1]"#,
     r#"[1,"t",0,"refuse",["async",7,[[0,"SINGLE"]]],26]"#,
-    r#"[1,"t",0,"refuse",["new",64,"SIG",[]],16]"#,
-    r#"[1,"t",0,"refuse",["new",4294967295,"SINGLE",["greatest"]],16]"#,
+    r#"[1,"t",0,"refuse",["new",64,"SIG",[],null],16]"#,
+    r#"[1,"t",0,"refuse",["new",64,"SIG",[],1],16]"#,
+    r#"[1,"t",0,"refuse",["new",4294967295,"SINGLE",["greatest"],65536],16]"#,
     r#"[1,"t",0,"refuse",["open",64],18]"#,
     r#"[1,"t",0,"refuse",["send",0,1,-1],9]"#,
     r#"[1,"t",0,"refuse",["look",0,1],10]"#,
@@ -124,16 +126,53 @@ fn is_written_again(rt: &impl Abort, alloc: Global, text: &str) -> Result<(), Fa
     is_written(rt, alloc, &trace, text)
 }
 
-/// The text of a trace of this event.
-fn text_of(alloc: Global, event: &str) -> Result<String, Fail> {
-    Ok(format!(in alloc; "{{\"events\":[{event}],{LIMITS},\"version\":1}}")?)
+/// The text of this version of a trace of this event.
+fn text_of(alloc: Global, version: u32, event: &str) -> Result<String, Fail> {
+    Ok(format!(in alloc; "{{\"events\":[{event}],{LIMITS},\"version\":{version}}}")?)
 }
 
 #[test]
 fn every_form_there_and_back(rt: HostRuntime) -> Result<(), Fail> {
     for event in EVENTS.as_slice() {
-        let text = text_of(rt.alloc(), event)?;
+        let text = text_of(rt.alloc(), 2, event)?;
         is_written_again(&rt, rt.alloc(), text.as_str())?;
+    }
+    Ok(())
+}
+
+/// Events of version 1, each with what it is in version 2.
+const UPGRADED: [(&str, &str); 5] = [
+    (
+        r#"[1,"p",0,"make",0,"SIG",[]]"#,
+        r#"[1,"p",0,"make",0,"SIG",[],null]"#,
+    ),
+    (
+        r#"[1,"p",7,"make",2,"WAIT",["sum","least"]]"#,
+        r#"[1,"p",7,"make",2,"WAIT",["sum","least"],null]"#,
+    ),
+    (
+        r#"[1,"t",0,"refuse",["new",64,"SIG",[]],16]"#,
+        r#"[1,"t",0,"refuse",["new",64,"SIG",[],null],16]"#,
+    ),
+    (
+        r#"[1,"t",0,"refuse",["look",0,1],10]"#,
+        r#"[1,"t",0,"refuse",["look",0,1],10]"#,
+    ),
+    (r#"[1,"p",0,"sig",7,0]"#, r#"[1,"p",0,"sig",7,0]"#),
+];
+
+/// The first text is read, and written as the second.
+fn is_upgraded(rt: &impl Abort, alloc: Global, first: &str, second: &str) -> Result<(), Fail> {
+    let trace = read(alloc, first)?;
+    is_written(rt, alloc, &trace, second)
+}
+
+#[test]
+fn version_1_is_read_without_bounds(rt: HostRuntime) -> Result<(), Fail> {
+    for (first, second) in UPGRADED {
+        let old = text_of(rt.alloc(), 1, first)?;
+        let new = text_of(rt.alloc(), 2, second)?;
+        is_upgraded(&rt, rt.alloc(), old.as_str(), new.as_str())?;
     }
     Ok(())
 }
@@ -164,11 +203,14 @@ fn all_pairs() -> Phased {
     pairs
 }
 
-/// One accumulator, the least.
+/// One accumulator, the least, and a bound of 3.
 fn one_least() -> Terms {
     let mut ops = Ops::none();
     ops.push(Op::Least);
-    Terms { ops, bound: None }
+    Terms {
+        ops,
+        bound: Bound::of(3),
+    }
 }
 
 /// The trace of these events is written, and read again.
@@ -193,23 +235,28 @@ fn most_pairs(rt: HostRuntime) -> Result<(), Fail> {
     is_read_again(&rt, rt.alloc(), entries.as_slice())
 }
 
-/// The trace of this event has no text.
-fn has_no_text(rt: &impl Abort, alloc: Global, event: TracedEvent) -> Result<(), Fail> {
-    let trace = trace_of(alloc, [(1, event)].as_slice())?;
-    assert!(rt; matches!(to_json(alloc, &trace), Err(Refusal::NotNow)));
-    Ok(())
+/// No accumulator, and a bound of 2.
+fn two_ahead() -> Terms {
+    Terms {
+        ops: Ops::none(),
+        bound: Bound::of(2),
+    }
 }
 
 #[test]
-fn no_text_says_a_bound(rt: HostRuntime) -> Result<(), Fail> {
-    let terms = Terms {
-        ops: Ops::none(),
-        bound: Bound::of(2),
-    };
-    let make = TracedStep::Make(0, Mode::SigWait, terms);
-    has_no_text(&rt, rt.alloc(), TracedEvent::Phaser(0, make))?;
-    let refused = Tried::New(0, Mode::SigWait, terms);
-    has_no_text(&rt, rt.alloc(), TracedEvent::Refuse(0, refused, 16))
+fn bounds_are_written(rt: HostRuntime) -> Result<(), Fail> {
+    let make = TracedStep::Make(0, Mode::Sig, two_ahead());
+    let refused = Tried::New(1, Mode::Wait, two_ahead());
+    let entries = [
+        (1, TracedEvent::Phaser(0, make)),
+        (2, TracedEvent::Refuse(0, refused, 16)),
+    ];
+    is_text_of(
+        &rt,
+        rt.alloc(),
+        r#"{"events":[[1,"p",0,"make",0,"SIG",[],2],[2,"t",0,"refuse",["new",1,"WAIT",[],2],16]],"limits":{"acts":4096,"finishes":64,"history":4096,"phasers":64,"regs":256,"tasks":256},"version":2}"#,
+        entries.as_slice(),
+    )
 }
 
 /// Each text has its first fault at this place.
@@ -221,15 +268,17 @@ fn all_at(rt: &impl Abort, alloc: Global, texts: &[&str], place: Option<u64>) ->
 }
 
 /// Texts of the form.
-const GOOD: [&str; 4] = [
+const GOOD: [&str; 6] = [
     r#"{"events":[],"version":1}"#,
+    r#"{"events":[],"version":2}"#,
     " \n{ \"version\" : 1 ,\t\"events\" : [ ] }\r\n",
     r#"{"version":1,"limits":{},"events":[]}"#,
-    r#"{"version":1,"limits":{"tasks":4096},"events":[]}"#,
+    r#"{"version":2,"limits":{"tasks":4096},"events":[]}"#,
+    r#"{"version":2,"events":[[1,"p",0,"make",0,"SIG",[],1]]}"#,
 ];
 
 /// Texts that are at fault in what stands around the events.
-const BAD: [&str; 21] = [
+const BAD: [&str; 23] = [
     "",
     "{",
     "[]",
@@ -237,9 +286,11 @@ const BAD: [&str; 21] = [
     "{}",
     r#"{"events":[]}"#,
     r#"{"version":1}"#,
-    r#"{"events":[],"version":2}"#,
+    r#"{"events":[],"version":3}"#,
     r#"{"events":[],"version":0}"#,
+    r#"{"events":[],"version":-1}"#,
     r#"{"events":[],"version":1.0}"#,
+    r#"{"events":[],"version":2.0}"#,
     r#"{"events":[],"version":"1"}"#,
     r#"{"events":[],"version":null}"#,
     r#"{"events":null,"version":1}"#,
@@ -259,8 +310,8 @@ fn outer_object(rt: HostRuntime) -> Result<(), Fail> {
     all_at(&rt, rt.alloc(), BAD.as_slice(), Some(0))
 }
 
-/// Items that are no events.
-const NO_EVENTS: [&str; 53] = [
+/// Items that are no events in either version.
+const NO_EVENTS: [&str; 58] = [
     "7",
     "null",
     "{}",
@@ -278,10 +329,14 @@ const NO_EVENTS: [&str; 53] = [
     r#"[1,"p",0,"sig",0,1,2]"#,
     r#"[1,"p",0,"sig",0,null]"#,
     r#"[1,"p",0,"make",0,"SIG"]"#,
-    r#"[1,"p",0,"make",0,"SIG",[],null]"#,
+    r#"[1,"p",0,"make",0,"SIG",null]"#,
+    r#"[1,"p",0,"make",0,"SIG",[],null,null]"#,
     r#"[1,"p",0,"make",0,"sig",[]]"#,
+    r#"[1,"p",0,"make",0,"sig",[],null]"#,
     r#"[1,"p",0,"make",0,"SIG",["product"]]"#,
+    r#"[1,"p",0,"make",0,"SIG",["product"],null]"#,
     r#"[1,"p",0,"make",0,"SIG",["sum","sum","sum","sum","sum"]]"#,
+    r#"[1,"p",0,"make",0,"SIG",["sum","sum","sum","sum","sum"],null]"#,
     r#"[1,"p",0,"reg",0,"SIG"]"#,
     r#"[1,"p",0,"pass",0,0]"#,
     r#"[1,"p",0,"send",0,256,1]"#,
@@ -302,6 +357,7 @@ const NO_EVENTS: [&str; 53] = [
     r#"[1,"t",0,"begin",["next"],1]"#,
     r#"[1,"t",0,"begin",["single"]]"#,
     r#"[1,"t",0,"begin",["new",0,"SIG",[]]]"#,
+    r#"[1,"t",0,"begin",["new",0,"SIG",[],null]]"#,
     r#"[1,"t",0,"begin",["open",0]]"#,
     r#"[1,"t",0,"begin",["async",1]]"#,
     r#"[1,"t",0,"begin",["async",1,[[0]]]]"#,
@@ -316,20 +372,58 @@ const NO_EVENTS: [&str; 53] = [
     r#"[1,"t",0,"fail",27]"#,
 ];
 
-/// The text of a trace with this as its third event, and a fourth that is none.
-fn text_with_third(alloc: Global, event: &str) -> Result<String, Fail> {
+/// Items that are no events in version 1, which says no bound.
+const NO_EVENTS_1: [&str; 4] = [
+    r#"[1,"p",0,"make",0,"SIG",[],null]"#,
+    r#"[1,"p",0,"make",0,"SIG",[],1]"#,
+    r#"[1,"t",0,"refuse",["new",64,"SIG",[],null],16]"#,
+    r#"[1,"t",0,"refuse",["new",64,"SIG",[],1],16]"#,
+];
+
+/// Items that are no events in version 2.
+const NO_EVENTS_2: [&str; 13] = [
+    r#"[1,"p",0,"make",0,"SIG",[]]"#,
+    r#"[1,"p",0,"make",0,"SIG",[],0]"#,
+    r#"[1,"p",0,"make",0,"SIG",[],65537]"#,
+    r#"[1,"p",0,"make",0,"SIG",[],4294967297]"#,
+    r#"[1,"p",0,"make",0,"SIG",[],-1]"#,
+    r#"[1,"p",0,"make",0,"SIG",[],1.0]"#,
+    r#"[1,"p",0,"make",0,"SIG",[],"1"]"#,
+    r#"[1,"p",0,"make",0,"SIG",[],[]]"#,
+    r#"[1,"t",0,"refuse",["new",64,"SIG",[]],16]"#,
+    r#"[1,"t",0,"refuse",["new",64,"SIG",[],0],16]"#,
+    r#"[1,"t",0,"refuse",["new",64,"SIG",[],65537],16]"#,
+    r#"[1,"t",0,"refuse",["new",64,"SIG",[],"1"],16]"#,
+    r#"[1,"t",0,"refuse",["new",64,"SIG",[],1,1],16]"#,
+];
+
+/// The text of this version of a trace with this as its third event, and a fourth that is none.
+fn text_with_third(alloc: Global, version: u32, event: &str) -> Result<String, Fail> {
     Ok(format!(in alloc;
-        "{{\"events\":[[1,\"f\",1,\"shut\"],[1,\"f\",1,\"shut\"],{event},7],\"version\":1}}"
+        "{{\"events\":[[1,\"f\",1,\"shut\"],[1,\"f\",1,\"shut\"],{event},7],\"version\":{version}}}"
     )?)
+}
+
+/// In this version, each of these as a third event is the first fault of its text.
+fn are_no_events(
+    rt: &impl Abort,
+    alloc: Global,
+    version: u32,
+    events: &[&str],
+) -> Result<(), Fail> {
+    for event in events {
+        let text = text_with_third(alloc, version, event)?;
+        is_at(rt, alloc, text.as_str(), Some(3))?;
+    }
+    Ok(())
 }
 
 #[test]
 fn events_without_a_form(rt: HostRuntime) -> Result<(), Fail> {
-    for event in NO_EVENTS.as_slice() {
-        let text = text_with_third(rt.alloc(), event)?;
-        is_at(&rt, rt.alloc(), text.as_str(), Some(3))?;
-    }
-    Ok(())
+    are_no_events(&rt, rt.alloc(), 1, NO_EVENTS.as_slice())?;
+    are_no_events(&rt, rt.alloc(), 2, NO_EVENTS.as_slice())?;
+    are_no_events(&rt, rt.alloc(), 1, NO_EVENTS_1.as_slice())?;
+    are_no_events(&rt, rt.alloc(), 2, NO_EVENTS_2.as_slice())
 }
 
 #[test]

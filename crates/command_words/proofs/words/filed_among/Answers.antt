@@ -40,4 +40,6 @@ pub returns-in-replay : goal.returns-in-replay
 returns-in-replay c =
     let file = c.get_str.ensures ∙ first_value-rows (found_of c.args.found.now) (codes "file") in
     let is = among_replay c.args.name.now (rows_of (found_of c.args.found.now)) _ c.in-replay.is file in
-    search (rules, is)
+    let upgrade =
+    c.get_str-in-replay.ensures ∙ first_value-rows (found_of c.args.found.now) _ in
+    search (rules, is, upgrade)

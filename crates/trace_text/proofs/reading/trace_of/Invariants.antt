@@ -7,6 +7,6 @@ use Rattle.trace_text.proofs.reading.trace_of.Given as goal
 
 abbrev pub invariant-loop-index : goal.invariant-loop-index
 invariant-loop-index l = record {
-  so_far : front_then l.trace.events (numbered_in entry_in (l.index + 1) (items_view (drop l.index l.items))) ≡ numbered_in entry_in 1 (items_view l.items);
+  so_far : front_then l.trace.events (numbered_in (entry_in l.fn.version) (l.index + 1) (items_view (drop l.index l.items))) ≡ numbered_in (entry_in l.fn.version) 1 (items_view l.items);
   limits : l.trace.limits ≡ l.fn.limits;
 }
