@@ -6,6 +6,7 @@ import java.util.List;
 import java.util.SortedMap;
 import java.util.TreeMap;
 import java.util.concurrent.Phaser;
+import java.util.concurrent.TimeUnit;
 import java.util.concurrent.atomic.AtomicInteger;
 import java.util.concurrent.atomic.AtomicLong;
 
@@ -174,7 +175,7 @@ public class TracedPhaser extends Phaser {
     }
 
     @Override
-    public int awaitAdvanceInterruptibly(int phase, long timeout, java.util.concurrent.TimeUnit unit) {
+    public int awaitAdvanceInterruptibly(int phase, long timeout, TimeUnit unit) {
         throw new UnsupportedOperationException("a trace has no wait that is given up");
     }
 
