@@ -2,17 +2,18 @@ import java.util.Arrays;
 import java.util.concurrent.Phaser;
 
 /**
- * Threads that meet at phasers of Java: java Threads.java KIND WIDTH LENGTH
+ * Threads that meet at phasers of Java: java Threads.java KIND WIDTH LENGTH [CLASS]
  *
- * <p>turns: WIDTH threads meet at one phaser, LENGTH times. ring: each has a phaser of its own, signals there, and waits
- * for its left neighbour's. stencil: WIDTH cells go LENGTH steps, each with a phaser of its own, where its neighbours
- * wait. pipeline: LENGTH items go through WIDTH stages, with a phaser behind the source and each stage. Printed are
- * nanoseconds on the clock for one round, step or item of one thread. The best of several runs counts, after some that
- * warm up; what a kernel came to is laid beside the same computed by one thread.
+ * <p>turns: WIDTH threads meet at one phaser, LENGTH times; its class is CLASS, where that is given. ring: each has a
+ * phaser of its own, signals there, and waits for its left neighbour's. stencil: WIDTH cells go LENGTH steps, each with a
+ * phaser of its own, where its neighbours wait. pipeline: LENGTH items go through WIDTH stages, with a phaser behind the
+ * source and each stage. Printed are nanoseconds on the clock for one round, step or item of one thread. The best of
+ * several runs counts, after some that warm up; what a kernel came to is laid beside the same computed by one thread.
  */
 class Threads {
     static final int WARM = 10;
     static final int RUNS = 10;
+    static String phaserClass = "java.util.concurrent.Phaser";
 
     /** What the thread of this number does. */
     interface Work {
@@ -50,8 +51,16 @@ class Threads {
         return took;
     }
 
+    static Phaser phaser(int parties) {
+        try {
+            return (Phaser) Class.forName(phaserClass).getConstructor(int.class).newInstance(parties);
+        } catch (ReflectiveOperationException fault) {
+            throw new IllegalArgumentException("CLASS is no phaser's that is made with parties", fault);
+        }
+    }
+
     static long turns(int threads, int rounds) throws InterruptedException {
-        Phaser all = new Phaser(threads);
+        Phaser all = phaser(threads);
         return nanoseconds(threads, thread -> {
             for (int round = 0; round < rounds; round++) {
                 all.arriveAndAwaitAdvance();
@@ -150,6 +159,7 @@ class Threads {
     public static void main(String[] words) throws InterruptedException {
         int width = Integer.parseInt(words[1]);
         int length = Integer.parseInt(words[2]);
+        phaserClass = words.length > 3 ? words[3] : phaserClass;
         long least = Long.MAX_VALUE;
         for (int run = 0; run < WARM + RUNS; run++) {
             long took = run(words[0], width, length);
