@@ -1,32 +1,36 @@
 //! OUT, the file into which a trace is written.
 use job_ends::Failure;
 use phase_modes::Refusal;
-use std::fs::{File, canonicalize};
+use std::fs::{File, metadata};
 use std::io::ErrorKind;
-use std::path::PathBuf;
+use std::os::unix::fs::MetadataExt;
 
-/// The whole path of what is there under this name, links followed; none where nothing is, or where
-/// it can't be told.
-pub(crate) fn whole_path(rt: &HostRuntime, name: &str) -> Result<Option<PathBuf>, Failure> {
-    match canonicalize(rt, name) {
-        Ok(path) => Ok(Some(path)),
+/// By what the system knows a file, whatever its names are: a device, and the file's number there.
+#[derive(Clone, Copy, PartialEq, Eq)]
+struct Identity {
+    device: u64,
+    number: u64,
+}
+
+/// What is there under this name, links followed; none where nothing is, where it can't be told, and
+/// of a device or a pipe, which nobody can empty.
+fn found_under(rt: &HostRuntime, name: &str) -> Result<Option<Identity>, Failure> {
+    match metadata(rt, name) {
+        Ok(found) if found.is_file() => Ok(Some(Identity {
+            device: found.dev(),
+            number: found.ino(),
+        })),
         Err(error) if error.kind() == ErrorKind::OutOfMemory => {
             Err(Failure::Refused(Refusal::Memory))
         }
-        Err(_) => Ok(None),
+        _ => Ok(None),
     }
 }
 
-/// Whether OUT is FILE itself, under the same name, another path or a symbolic link. Standard input
-/// is no file by name.
+/// Whether OUT is FILE itself, by whatever name; `-` is the file that standard input is read from.
 fn is_file_itself(rt: &HostRuntime, file: &str, out: &str) -> Result<bool, Failure> {
-    if file == "-" {
-        return Ok(false);
-    }
-    if file == out {
-        return Ok(true);
-    }
-    match (whole_path(rt, file)?, whole_path(rt, out)?) {
+    let file = if file == "-" { "/dev/stdin" } else { file };
+    match (found_under(rt, file)?, found_under(rt, out)?) {
         (Some(file), Some(out)) => Ok(file == out),
         _ => Ok(false),
     }

@@ -1,11 +1,10 @@
 //! OUT, the file into which a trace that was replayed is written in the newest version.
-use crate::trace_file::whole_path;
 use job_ends::Failure;
 use phase_modes::Refusal;
 use std::alloc::AllocError;
-use std::fs::{File, Permissions, metadata, remove_file, rename};
+use std::fs::{File, Permissions, canonicalize, metadata, remove_file, rename};
 use std::io;
-use std::io::Write;
+use std::io::{ErrorKind, Write};
 use std::path::PathBuf;
 
 /// OUT, of which nothing is opened before the first write. Where OUT is a file, or isn't there, what
@@ -60,6 +59,18 @@ impl<'a> Upgraded<'a> {
             (Some(file), Some(permissions)) => file.set_permissions(permissions),
             _ => Ok(()),
         }
+    }
+}
+
+/// The whole path of what is there under this name, links followed; none where nothing is, or where
+/// it can't be told.
+fn whole_path(rt: &HostRuntime, name: &str) -> Result<Option<PathBuf>, Failure> {
+    match canonicalize(rt, name) {
+        Ok(path) => Ok(Some(path)),
+        Err(error) if error.kind() == ErrorKind::OutOfMemory => {
+            Err(Failure::Refused(Refusal::Memory))
+        }
+        Err(_) => Ok(None),
     }
 }
 
