@@ -155,13 +155,13 @@ fn answers<K: Ledgers, R: Abort + Wait>(
     table: &PhaserTable<u32, K>,
     tickets: &Tickets,
     mine: &mut Shares<K>,
-    terms: Terms,
+    terms: &Terms,
     rows: &[Row],
 )
     requires { 0 < table.now.phasers }
 {
     for (call, expected) in rows {
-        let answer = answer_alone(rt, alloc, table, tickets, mine, terms, *call);
+        let answer = answer_alone(rt, alloc, table, tickets, mine, *terms, *call);
         assert_eq!(rt; answer, *expected, "{call:?}");
     }
 }
@@ -180,7 +180,7 @@ fn answers_the_one<K: Ledgers, R: Abort + Wait>(
 {
     assert_eq!(rt; shares.len(), 1);
     if let Some(mine) = shares.get_mut(0) {
-        answers(rt, alloc, table, tickets, mine, terms, rows);
+        answers(rt, alloc, table, tickets, mine, &terms, rows);
     }
 }
 

@@ -1,6 +1,6 @@
 //! Tasks that go through their acts event by event, and acts that are refused.
 use super::*;
-use phase_model::Ops;
+use phase_model::Terms;
 use phase_modes::{Limits, Mode, Pair, Phased, Refusal};
 use std::test::Fail;
 use world_model::{Begun, Tried};
@@ -158,7 +158,7 @@ fn acts_are_refused_by_the_first_condition(rt: HostRuntime) -> Result<(), Fail> 
         ),
         (Tried::Begun(Begun::Async(9, named(4, Mode::Wait))), None),
         (
-            Tried::New(8, Mode::Sig, Ops::none()),
+            Tried::New(8, Mode::Sig, Terms::none()),
             Some(Refusal::PhasersFull),
         ),
         (Tried::Open(4), Some(Refusal::FinishesFull)),
