@@ -1,7 +1,7 @@
 -- What running a program's text writes, and how it fails.
 use Rattle.std.specs.Prelude.{◌≡◌, ℕ, List, map, length, true, Ok, Err, ⊤}
 use Rattle.std.specs.List.{range_with_len}
-use Rattle.phase_modes.specs.declared.refusal.Refusal.TheVariants.{Memory, NotNow, BadText}
+use Rattle.phase_modes.specs.declared.refusal.Refusal.TheVariants.{Memory, BadText}
 use Rattle.trace_model.specs.Run.{Run}
 use Rattle.trace_model.specs.Explained.{is_explained}
 use Rattle.job_script.specs.Program.{Program}
@@ -28,12 +28,10 @@ abbrev pub Runs : List ℕ → List ℕ → (Program → Run → Type 0) → Typ
 Runs bytes picks P =
     (p : Program) × (t : Run) × (program_spelled bytes ≡ Ok p) × IsRunOf p picks t × P p t
 
--- running these bytes fails for want of memory, by their first fault, or, for a program that has none, by a bound
--- that the trace's text would have to say, or by a write
+-- running these bytes fails for want of memory, by their first fault, or by a write for a program that has none
 abbrev pub IsOfSchedule : List ℕ → Failure → Type 0
 IsOfSchedule bytes (Refused Memory) = ⊤
 IsOfSchedule bytes (Refused (BadText p)) = program_spelled bytes ≡ Err p
-IsOfSchedule bytes (Refused NotNow) = (p : Program) × (program_spelled bytes ≡ Ok p)
 IsOfSchedule bytes (Refused _) = ⊥
 IsOfSchedule bytes Read = ⊥
 IsOfSchedule bytes Write = (p : Program) × (program_spelled bytes ≡ Ok p)

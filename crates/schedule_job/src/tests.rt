@@ -108,11 +108,11 @@ const SMALLEST: &str = r#"{"main":[["new","p","SIG_WAIT",[]],["next"]]}"#;
 const SMALLEST_REPORT: &str = "phaser 0 phases 1\ntask 0 ended\nfinish 0 tasks 0\n\
     totals registered 1 signals 1 passes 1 drops 1 sends 0 up 0 down 0\n";
 
-const SMALLEST_TRACE: &str = "{\"events\":[[1,\"p\",0,\"make\",0,\"SIG_WAIT\",[]],\
+const SMALLEST_TRACE: &str = "{\"events\":[[1,\"p\",0,\"make\",0,\"SIG_WAIT\",[],null],\
     [2,\"t\",0,\"begin\",[\"next\"]],[3,\"p\",0,\"sig\",0],[4,\"p\",0,\"pass\",0],\
     [5,\"t\",0,\"begin\",[\"end\"]],[6,\"p\",0,\"drop\",0],[7,\"f\",0,\"shut\"]],\
     \"limits\":{\"acts\":4096,\"finishes\":64,\"history\":4096,\"phasers\":64,\"regs\":256,\
-    \"tasks\":256},\"version\":1}\n";
+    \"tasks\":256},\"version\":2}\n";
 
 fn is_trace(rt: &impl Abort, trace: Option<&Vec<u8>>, text: &str) {
     match trace {
@@ -157,21 +157,32 @@ fn trace_fails(rt: HostRuntime) {
     assert_eq!(rt; faults.as_slice(), b"fault write\n".as_slice());
 }
 
-// No trace's text says a bound, so nothing is written of such a run whose trace is asked for.
+/// The trace begins with this text.
+fn begins(rt: &impl Abort, trace: Option<&Vec<u8>>, text: &str) {
+    match trace {
+        Some(trace) => assert!(rt; trace.starts_with(text.as_bytes())),
+        None => assert!(rt; false, "no trace"),
+    }
+}
+
+const BOUNDED_START: &str = "{\"events\":[[1,\"p\",0,\"make\",0,\"SIG_WAIT\",[\"sum\"],1],\
+    [2,\"t\",0,\"begin\",[\"async\",1,[[0,\"SIG\"]]]],[3,\"p\",0,\"reg\",0,1,\"SIG\"],";
+
+// The trace of a run says the bound of each phaser.
 #[test]
-fn a_bounded_run_has_no_trace(rt: HostRuntime) {
+fn trace_of_a_bounded_run(rt: HostRuntime) {
     let mut out = Vec::new(rt.alloc());
     let mut trace_out = Some(Vec::new(rt.alloc()));
-    let answer = schedule_bytes(
+    let done = schedule_bytes(
         rt.alloc(),
         BOUNDED.as_bytes(),
         &[],
         &mut out,
         &mut trace_out,
     );
-    assert_eq!(rt; answer, Err(Failure::Refused(Refusal::NotNow)));
-    assert_eq!(rt; out.len(), 0);
-    is_trace(&rt, trace_out.as_ref(), "");
+    assert_eq!(rt; done, Ok(()));
+    is_written(&rt, &out, BOUNDED_REPORT);
+    begins(&rt, trace_out.as_ref(), BOUNDED_START);
 }
 
 #[test]
