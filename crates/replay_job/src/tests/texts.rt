@@ -1,5 +1,5 @@
-//! The text of the smallest trace, every form of an event there and back, and where damaged texts
-//! are refused.
+//! The text of the smallest trace, every form of an event there and back, in both versions, and
+//! where damaged texts are refused.
 use super::{Entry, are_alike, trace_of};
 use finish_core::FinishEvent;
 use phase_model::{Bound, Look, Op, Ops, Terms};
@@ -12,6 +12,10 @@ use trace_text::{from_json, to_json};
 use world_model::{Begun, Tried};
 
 const SMALLEST: &str =
+    r#"{"events":[[1,"p",0,"make",0,"SIG_WAIT",[],null],[2,"t",0,"begin",["next"]],[3,"p",0,"sig",0],[4,"p",0,"pass",0],[5,"t",0,"begin",["end"]],[6,"p",0,"drop",0],[7,"f",0,"shut"]],"limits":{"acts":4096,"finishes":64,"history":4096,"phasers":64,"regs":256,"tasks":256},"version":2}"#;
+
+/// The same trace in version 1.
+const OLDER_SMALLEST: &str =
     r#"{"events":[[1,"p",0,"make",0,"SIG_WAIT",[]],[2,"t",0,"begin",["next"]],[3,"p",0,"sig",0],[4,"p",0,"pass",0],[5,"t",0,"begin",["end"]],[6,"p",0,"drop",0],[7,"f",0,"shut"]],"limits":{"acts":4096,"finishes":64,"history":4096,"phasers":64,"regs":256,"tasks":256},"version":1}"#;
 
 /// The place of the text's first fault; none where it is of the form.
@@ -70,13 +74,16 @@ fn smallest_trace(rt: HostRuntime) -> Result<(), Fail> {
         (6, TracedEvent::Phaser(0, TracedStep::Drop(0))),
         (7, TracedEvent::Finish(0, FinishEvent::Shut)),
     ];
-    is_text_of(&rt, rt.alloc(), SMALLEST, entries.as_slice())
+    is_text_of(&rt, rt.alloc(), SMALLEST, entries.as_slice())?;
+    let trace = trace_of(rt.alloc(), entries.as_slice())?;
+    is_read(&rt, rt.alloc(), OLDER_SMALLEST, &trace)
 }
 
 /// Events in their forms, each to be read and written again as it is.
-const EVENTS: [&str; 38] = [
-    r#"[0,"p",0,"make",0,"SIG",[]]"#,
-    r#"[18446744073709551615,"p",4294967295,"make",4294967295,"WAIT",["sum","least","greatest","sum"]]"#,
+const EVENTS: [&str; 40] = [
+    r#"[0,"p",0,"make",0,"SIG",[],null]"#,
+    r#"[0,"p",0,"make",0,"SIG_WAIT",["sum"],1]"#,
+    r#"[18446744073709551615,"p",4294967295,"make",4294967295,"WAIT",["sum","least","greatest","sum"],65536]"#,
     r#"[1,"p",0,"reg",0,4294967295,"SINGLE"]"#,
     r#"[1,"p",0,"reg",4294967295,0,"SIG_WAIT"]"#,
     r#"[1,"p",0,"sig",7]"#,
@@ -106,8 +113,9 @@ const EVENTS: [&str; 38] = [
     r#"[1,"t",0,"begin",["end"]]"#,
     r#"[1,"t",0,"refuse",["end"],1]"#,
     r#"[1,"t",0,"refuse",["async",7,[[0,"SINGLE"]]],26]"#,
-    r#"[1,"t",0,"refuse",["new",64,"SIG",[]],16]"#,
-    r#"[1,"t",0,"refuse",["new",4294967295,"SINGLE",["greatest"]],16]"#,
+    r#"[1,"t",0,"refuse",["new",64,"SIG",[],null],16]"#,
+    r#"[1,"t",0,"refuse",["new",64,"WAIT",[],1],16]"#,
+    r#"[1,"t",0,"refuse",["new",4294967295,"SINGLE",["greatest"],65536],16]"#,
     r#"[1,"t",0,"refuse",["open",64],18]"#,
     r#"[1,"t",0,"refuse",["send",0,1,-1],9]"#,
     r#"[1,"t",0,"refuse",["look",0,1],10]"#,
@@ -118,22 +126,53 @@ const EVENTS: [&str; 38] = [
 const LIMITS: &str =
     r#""limits":{"acts":1,"finishes":2,"history":5,"phasers":3,"regs":4,"tasks":6}"#;
 
-/// The text is read, and written again as it is.
-fn is_written_again(rt: &impl Abort, alloc: Global, text: &str) -> Result<(), Fail> {
+/// The text is read, and the trace is written as the other one.
+fn is_written_as(rt: &impl Abort, alloc: Global, text: &str, other: &str) -> Result<(), Fail> {
     let trace = read(alloc, text)?;
-    is_written(rt, alloc, &trace, text)
+    is_written(rt, alloc, &trace, other)
 }
 
-/// The text of a trace of this event.
-fn text_of(alloc: Global, event: &str) -> Result<String, Fail> {
-    Ok(format!(in alloc; "{{\"events\":[{event}],{LIMITS},\"version\":1}}")?)
+/// The text of a trace of this event, in this version.
+fn text_of(alloc: Global, event: &str, version: u32) -> Result<String, Fail> {
+    Ok(format!(in alloc; "{{\"events\":[{event}],{LIMITS},\"version\":{version}}}")?)
 }
 
 #[test]
 fn every_form_there_and_back(rt: HostRuntime) -> Result<(), Fail> {
     for event in EVENTS.as_slice() {
-        let text = text_of(rt.alloc(), event)?;
-        is_written_again(&rt, rt.alloc(), text.as_str())?;
+        let text = text_of(rt.alloc(), event, 2)?;
+        is_written_as(&rt, rt.alloc(), text.as_str(), text.as_str())?;
+    }
+    Ok(())
+}
+
+/// Events in their forms in version 1, each with its form in version 2.
+const OLDER_EVENTS: [(&str, &str); 5] = [
+    (
+        r#"[1,"p",0,"make",0,"SIG",[]]"#,
+        r#"[1,"p",0,"make",0,"SIG",[],null]"#,
+    ),
+    (
+        r#"[1,"p",4294967295,"make",4294967295,"WAIT",["sum","least","greatest","sum"]]"#,
+        r#"[1,"p",4294967295,"make",4294967295,"WAIT",["sum","least","greatest","sum"],null]"#,
+    ),
+    (
+        r#"[1,"t",0,"refuse",["new",64,"SIG",["least"]],16]"#,
+        r#"[1,"t",0,"refuse",["new",64,"SIG",["least"],null],16]"#,
+    ),
+    (
+        r#"[1,"t",0,"refuse",["send",0,1,-1],9]"#,
+        r#"[1,"t",0,"refuse",["send",0,1,-1],9]"#,
+    ),
+    (r#"[1,"p",0,"sig",7,1]"#, r#"[1,"p",0,"sig",7,1]"#),
+];
+
+#[test]
+fn older_forms_are_written_in_version_2(rt: HostRuntime) -> Result<(), Fail> {
+    for (older, newer) in OLDER_EVENTS {
+        let text = text_of(rt.alloc(), older, 1)?;
+        let other = text_of(rt.alloc(), newer, 2)?;
+        is_written_as(&rt, rt.alloc(), text.as_str(), other.as_str())?;
     }
     Ok(())
 }
@@ -193,23 +232,26 @@ fn most_pairs(rt: HostRuntime) -> Result<(), Fail> {
     is_read_again(&rt, rt.alloc(), entries.as_slice())
 }
 
-/// The trace of this event has no text.
-fn has_no_text(rt: &impl Abort, alloc: Global, event: TracedEvent) -> Result<(), Fail> {
-    let trace = trace_of(alloc, [(1, event)].as_slice())?;
-    assert!(rt; matches!(to_json(alloc, &trace), Err(Refusal::NotNow)));
-    Ok(())
+/// No accumulators, and this bound.
+fn bounded(phases: u32) -> Terms {
+    Terms {
+        ops: Ops::none(),
+        bound: Bound::of(phases),
+    }
 }
 
+const BOUNDED: &str =
+    r#"{"events":[[1,"p",0,"make",0,"SIG_WAIT",[],1],[2,"t",0,"refuse",["new",64,"SIG_WAIT",[],65536],16]],"limits":{"acts":4096,"finishes":64,"history":4096,"phasers":64,"regs":256,"tasks":256},"version":2}"#;
+
 #[test]
-fn no_text_says_a_bound(rt: HostRuntime) -> Result<(), Fail> {
-    let terms = Terms {
-        ops: Ops::none(),
-        bound: Bound::of(2),
-    };
-    let make = TracedStep::Make(0, Mode::SigWait, terms);
-    has_no_text(&rt, rt.alloc(), TracedEvent::Phaser(0, make))?;
-    let refused = Tried::New(0, Mode::SigWait, terms);
-    has_no_text(&rt, rt.alloc(), TracedEvent::Refuse(0, refused, 16))
+fn bounds_are_said(rt: HostRuntime) -> Result<(), Fail> {
+    let make = TracedStep::Make(0, Mode::SigWait, bounded(1));
+    let refused = Tried::New(64, Mode::SigWait, bounded(65536));
+    let entries = [
+        (1, TracedEvent::Phaser(0, make)),
+        (2, TracedEvent::Refuse(0, refused, 16)),
+    ];
+    is_text_of(&rt, rt.alloc(), BOUNDED, entries.as_slice())
 }
 
 /// Each text has its first fault at this place.
@@ -221,7 +263,8 @@ fn all_at(rt: &impl Abort, alloc: Global, texts: &[&str], place: Option<u64>) ->
 }
 
 /// Texts of the form.
-const GOOD: [&str; 4] = [
+const GOOD: [&str; 5] = [
+    r#"{"events":[],"version":2}"#,
     r#"{"events":[],"version":1}"#,
     " \n{ \"version\" : 1 ,\t\"events\" : [ ] }\r\n",
     r#"{"version":1,"limits":{},"events":[]}"#,
@@ -237,7 +280,7 @@ const BAD: [&str; 21] = [
     "{}",
     r#"{"events":[]}"#,
     r#"{"version":1}"#,
-    r#"{"events":[],"version":2}"#,
+    r#"{"events":[],"version":3}"#,
     r#"{"events":[],"version":0}"#,
     r#"{"events":[],"version":1.0}"#,
     r#"{"events":[],"version":"1"}"#,
@@ -259,8 +302,8 @@ fn outer_object(rt: HostRuntime) -> Result<(), Fail> {
     all_at(&rt, rt.alloc(), BAD.as_slice(), Some(0))
 }
 
-/// Items that are no events.
-const NO_EVENTS: [&str; 53] = [
+/// Items that are no events in version 2.
+const NO_EVENTS: [&str; 54] = [
     "7",
     "null",
     "{}",
@@ -277,11 +320,11 @@ const NO_EVENTS: [&str; 53] = [
     r#"[1,"p",0,"sig"]"#,
     r#"[1,"p",0,"sig",0,1,2]"#,
     r#"[1,"p",0,"sig",0,null]"#,
-    r#"[1,"p",0,"make",0,"SIG"]"#,
-    r#"[1,"p",0,"make",0,"SIG",[],null]"#,
-    r#"[1,"p",0,"make",0,"sig",[]]"#,
-    r#"[1,"p",0,"make",0,"SIG",["product"]]"#,
-    r#"[1,"p",0,"make",0,"SIG",["sum","sum","sum","sum","sum"]]"#,
+    r#"[1,"p",0,"make",0,"SIG",null]"#,
+    r#"[1,"p",0,"make",0,"SIG",[]]"#,
+    r#"[1,"p",0,"make",0,"sig",[],null]"#,
+    r#"[1,"p",0,"make",0,"SIG",["product"],null]"#,
+    r#"[1,"p",0,"make",0,"SIG",["sum","sum","sum","sum","sum"],null]"#,
     r#"[1,"p",0,"reg",0,"SIG"]"#,
     r#"[1,"p",0,"pass",0,0]"#,
     r#"[1,"p",0,"send",0,256,1]"#,
@@ -301,12 +344,13 @@ const NO_EVENTS: [&str; 53] = [
     r#"[1,"t",0,"begin",["next",1]]"#,
     r#"[1,"t",0,"begin",["next"],1]"#,
     r#"[1,"t",0,"begin",["single"]]"#,
-    r#"[1,"t",0,"begin",["new",0,"SIG",[]]]"#,
+    r#"[1,"t",0,"begin",["new",0,"SIG",[],null]]"#,
     r#"[1,"t",0,"begin",["open",0]]"#,
     r#"[1,"t",0,"begin",["async",1]]"#,
     r#"[1,"t",0,"begin",["async",1,[[0]]]]"#,
     r#"[1,"t",0,"begin",["async",1,[[0,"SIG",0]]]]"#,
     r#"[1,"t",0,"begin",["async",1,[[0,"SIG"],[0,"SIG"],[0,"SIG"],[0,"SIG"],[0,"SIG"],[0,"SIG"],[0,"SIG"],[0,"SIG"],[0,"SIG"],[0,"SIG"],[0,"SIG"],[0,"SIG"],[0,"SIG"],[0,"SIG"],[0,"SIG"],[0,"SIG"],[0,"SIG"]]]]"#,
+    r#"[1,"t",0,"refuse",["new",0,"SIG",[]],16]"#,
     r#"[1,"t",0,"refuse",["next"]]"#,
     r#"[1,"t",0,"refuse",["next"],0]"#,
     r#"[1,"t",0,"refuse",["next"],27]"#,
@@ -316,18 +360,88 @@ const NO_EVENTS: [&str; 53] = [
     r#"[1,"t",0,"fail",27]"#,
 ];
 
+/// Items that are no events in version 1.
+const NO_OLDER_EVENTS: [&str; 10] = [
+    "7",
+    r#"[1,"p",0,"sig"]"#,
+    r#"[1,"p",0,"make",0,"SIG"]"#,
+    r#"[1,"p",0,"make",0,"sig",[]]"#,
+    r#"[1,"p",0,"make",0,"SIG",[],null]"#,
+    r#"[1,"p",0,"make",0,"SIG",[],1]"#,
+    r#"[1,"t",0,"begin",["new",0,"SIG",[]]]"#,
+    r#"[1,"t",0,"refuse",["new",0,"SIG"],16]"#,
+    r#"[1,"t",0,"refuse",["new",0,"SIG",[],null],16]"#,
+    r#"[1,"t",0,"refuse",["new",0,"SIG",[],2],16]"#,
+];
+
 /// The text of a trace with this as its third event, and a fourth that is none.
-fn text_with_third(alloc: Global, event: &str) -> Result<String, Fail> {
+fn text_with_third(alloc: Global, event: &str, version: u32) -> Result<String, Fail> {
     Ok(format!(in alloc;
-        "{{\"events\":[[1,\"f\",1,\"shut\"],[1,\"f\",1,\"shut\"],{event},7],\"version\":1}}"
+        "{{\"events\":[[1,\"f\",1,\"shut\"],[1,\"f\",1,\"shut\"],{event},7],\"version\":{version}}}"
     )?)
+}
+
+/// In this version the event is the first fault of the text that has it as its third.
+fn is_none(rt: &impl Abort, alloc: Global, event: &str, version: u32) -> Result<(), Fail> {
+    let text = text_with_third(alloc, event, version)?;
+    is_at(rt, alloc, text.as_str(), Some(3))
 }
 
 #[test]
 fn events_without_a_form(rt: HostRuntime) -> Result<(), Fail> {
     for event in NO_EVENTS.as_slice() {
-        let text = text_with_third(rt.alloc(), event)?;
-        is_at(&rt, rt.alloc(), text.as_str(), Some(3))?;
+        is_none(&rt, rt.alloc(), event, 2)?;
+    }
+    for event in NO_OLDER_EVENTS.as_slice() {
+        is_none(&rt, rt.alloc(), event, 1)?;
+    }
+    Ok(())
+}
+
+/// What is neither a bound nor null.
+const NO_BOUNDS: [&str; 10] = [
+    "0",
+    "65537",
+    "-1",
+    "1.0",
+    "1e0",
+    "4294967297",
+    "\"1\"",
+    "true",
+    "[1]",
+    "1,1",
+];
+
+#[test]
+fn bounds_out_of_range(rt: HostRuntime) -> Result<(), Fail> {
+    for bound in NO_BOUNDS.as_slice() {
+        let made = format!(in rt.alloc(); "[1,\"p\",0,\"make\",0,\"SIG\",[],{bound}]")?;
+        is_none(&rt, rt.alloc(), made.as_str(), 2)?;
+        let refused = format!(in rt.alloc();
+            "[1,\"t\",0,\"refuse\",[\"new\",0,\"SIG\",[],{bound}],16]"
+        )?;
+        is_none(&rt, rt.alloc(), refused.as_str(), 2)?;
+    }
+    Ok(())
+}
+
+/// The smallest trace under the number of another version is refused as a whole, or at its first
+/// event.
+#[test]
+fn under_another_number(rt: HostRuntime) -> Result<(), Fail> {
+    let front = "{\"events\":[[1,\"p\",0,\"make\",0,\"SIG_WAIT\",[]";
+    let newer = format!(in rt.alloc(); "{front},null]],\"version\":")?;
+    let older = format!(in rt.alloc(); "{front}]],\"version\":")?;
+    for (text, version, place) in [
+        (&newer, 1, Some(1)),
+        (&newer, 2, None),
+        (&newer, 3, Some(0)),
+        (&older, 1, None),
+        (&older, 2, Some(1)),
+        (&older, 3, Some(0)),
+    ] {
+        let whole = format!(in rt.alloc(); "{text}{version}}}")?;
+        is_at(&rt, rt.alloc(), whole.as_str(), place)?;
     }
     Ok(())
 }
