@@ -1,6 +1,6 @@
 -- What running a program's text by workers writes, and how it fails.
 use Rattle.std.specs.Prelude.{◌≡◌, ℕ, List, true, Ok, Err, ⊤}
-use Rattle.phase_modes.specs.declared.refusal.Refusal.TheVariants.{Memory, NotNow, BadText, NotExplained}
+use Rattle.phase_modes.specs.declared.refusal.Refusal.TheVariants.{Memory, BadText, NotExplained}
 use Rattle.trace_model.specs.Run.{Run}
 use Rattle.trace_model.specs.Explained.{is_explained}
 use Rattle.job_script.specs.Program.{Program}
@@ -25,12 +25,11 @@ abbrev pub Spells : List ℕ → Type 0
 Spells bytes = (p : Program) × (program_spelled bytes ≡ Ok p)
 
 -- running these bytes fails for want of memory, by their first fault, or, for a program that has none, by a run
--- that isn't explained or doesn't follow it, by a bound that the trace's text would have to say, or by a write
+-- that isn't explained or doesn't follow it, or by a write
 abbrev pub IsOfRun : List ℕ → Failure → Type 0
 IsOfRun bytes (Refused Memory) = ⊤
 IsOfRun bytes (Refused (BadText p)) = program_spelled bytes ≡ Err p
 IsOfRun bytes (Refused (NotExplained k)) = Spells bytes
-IsOfRun bytes (Refused NotNow) = Spells bytes
 IsOfRun bytes (Refused _) = ⊥
 IsOfRun bytes Read = ⊥
 IsOfRun bytes Write = Spells bytes
