@@ -24,9 +24,9 @@ fn fits(input: &[u8]) -> bool
     input.len() <= MOST_BYTES
 }
 
-/// Reads a trace's text, makes its events again, and writes the text that `to_json` has for the trace
-/// to OUT, where there is an OUT, and then the report of its run. Nothing is written before both
-/// texts are there. More than 67,108,864 bytes are refused at place 0.
+/// Reads a trace's text, makes its events again, and writes the text that `to_json` has for the
+/// trace to OUT, where there is an OUT, and then the report of its run. Nothing is written before
+/// both texts are there. More than 67,108,864 bytes are refused at place 0.
 pub fn replay_bytes<W: Write, T: Write>(
     alloc: Global,
     input: &[u8],

@@ -80,7 +80,7 @@ fn are_bytes(rt: &impl Abort, written: &[u8], wanted: &str, text: &str) {
     assert_eq!(rt; written, wanted.as_bytes(), "{text}");
 }
 
-/// The text of a trace in this form, whose first event is that of the smallest, with these after it.
+/// The text of a trace in this form: the first event of the smallest, and these after it.
 fn text_in(alloc: Global, form: Form, events: &str) -> Result<String, Fail> {
     let (version, bound) = form;
     Ok(format!(in alloc; "{HEAD}{bound}]{events}{TAIL}{version}}}")?)
