@@ -1,4 +1,4 @@
-use Rattle.lock_bench.proofs.tests.threads.held_while_made.Given as goal
+use Rattle.lock_bench.proofs.tests.threads.held_while_signalled.Given as goal
 
 abbrev pub ghosts-named_apart-A-Ledger : goal.ghosts-named_apart-A-Ledger
 ghosts-named_apart-A-Ledger g a = record { name = a.blanks.events_by_phaser.name; parts = a.blanks.events_by_phaser.parts }

@@ -1,4 +1,4 @@
-use Rattle.lock_bench.proofs.tests.example.Given as goal
+use Rattle.lock_bench.proofs.tests.example_with.Given as goal
 
 abbrev pub ghosts-named-A-Ledger : goal.ghosts-named-A-Ledger
 ghosts-named-A-Ledger g a = record { name = a.blanks.events_by_phaser.name; parts = a.blanks.events_by_phaser.parts }
