@@ -1,4 +1,5 @@
-"""Programs that are drawn at random: small ones, of at most some 60 tasks and some hundred events.
+"""Programs that are drawn at random: small ones, of at most some 60 tasks and some hundred events. Some of their
+phasers are bounded, most of those by 1.
 
 A program is of one of four kinds, by what its report depends on:
 
@@ -14,6 +15,7 @@ KINDS = ["numbered", "alike", "alone", "raced"]
 SIGNALS, WAITS, SINGLES = 1, 2, 4
 MODES = {"SIG": SIGNALS, "WAIT": WAITS, "SIG_WAIT": SIGNALS | WAITS, "SINGLE": SIGNALS | WAITS | SINGLES}
 OPS = ["sum", "least", "greatest"]
+BOUNDS = [1, 1, 1, 2, 3, 65536]
 NAMES = ["p", "q", "r", "s", "t", "u"]
 NOBODYS = "nobodys"  # a name that no task gives a meaning
 # What a program has at most, each act counted as often as it may be made: one that is refused takes its
@@ -163,10 +165,11 @@ class Writer:
         name = self.chance.choice(NAMES)
         mode = mode or self.chance.choice([*MODES, "SIG_WAIT", "SIG_WAIT", "SINGLE"])
         ops = [self.chance.choice(OPS) for _ in range(self.chance.choice([0, 1, 1, 2, 4]))]
+        bound = [self.chance.choice(BOUNDS)] if self.chance.random() < 0.4 else []
         for it in task.held:
             it.name = None if it.name == name else it.name
         task.held.append(Held(name, mode, task.finishes[-1], len(ops)))
-        return [["new", name, mode, ops]]
+        return [["new", name, mode, ops, *bound]]
 
     def spawned(self, task, held):
         """The acts of a child that is on these phasers."""
