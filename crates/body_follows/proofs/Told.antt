@@ -11,7 +11,7 @@ use Rattle.phase_model.specs.declared.history.Event.TheVariants.{Look as Looked}
 use Rattle.phase_model.specs.declared.op.Look.{Look}
 use Rattle.phase_model.specs.declared.op.Look.TheVariants as looks
 use Rattle.phase_model.specs.Phases.{waits}
-use Rattle.phase_model.specs.Replies.{settled}
+use Rattle.phase_model.specs.Replies.{decided}
 use Rattle.phase_model.specs.Rules.{has_room, look_of, same_look}
 use Rattle.job_script.specs.declared.act.Answer.TheVariants.{Saw}
 use Rattle.world_model.specs.declared.event.Begun.TheVariants.{Async, Signal, Wait, Next, NextSingle, Shut, End}
@@ -46,7 +46,7 @@ look_told l w n t a x k =
     seen = look_of (ops_of n w) a (waits t (phaser_past n w)) (phaser_past n w)
 
     by : (o c : Option Refusal) (room : _)
-        → is_seen x (unless o (returned (phaser_past n w) (settled c false room (Looked t a seen)))) ≡ true → x ≡ seen
+        → is_seen x (unless o (returned (phaser_past n w) (decided c false room (Looked t a seen)))) ≡ true → x ≡ seen
     by (Some r) c room h = absurd (false≢true h)
     by None (Some r) room h = absurd (false≢true h)
     by None None true h = sym (same_looks seen x h)

@@ -3,16 +3,16 @@
 #![tactic(auto)]
 
 mod event;
-mod following;
 mod laws;
+mod may_follow;
 mod stage;
 mod state;
 
 pub use event::FinishEvent;
-pub use following::allowed;
 pub use laws::{
     done_where_allowed, legal_is_orderly, replies_keep_legal, shut_awaits_all, shut_where_it_may,
 };
+pub use may_follow::allowed;
 pub use state::FinishState;
 
 #[cfg(test)]

@@ -2,9 +2,10 @@
 ghost use Rattle.std.specs.Prelude.{◌≡◌, ◌⊎◌};
 ghost use Rattle.job_ends.specs.Ends.{AppendsFront, Reports, code_of, status_of};
 
+use crate::output::write_text;
 use phase_modes::Refusal;
 use std::alloc::Global;
-use std::io::{ErrorKind, Write};
+use std::io::Write;
 
 /// How the program ends.
 #[derive(Clone, Copy, Debug, PartialEq, Eq)]
@@ -91,27 +92,4 @@ fn report<F: Write>(status: Status, line: &str, faults: &mut F) -> Ending
 {
     let reported = write_text(faults, line);
     Ending { status, reported }
-}
-
-/// How many writes are tried for one text.
-const MOST_WRITES: u32 = 1_000;
-
-/// Writes the text: in one write, where the writer takes it whole. Returns whether all was written.
-pub fn write_text<F: Write>(faults: &mut F, text: &str) -> bool
-    ensures { AppendsFront result (F.contents faults.old) (F.contents faults.new) text.now }
-{
-    let bytes = text.as_bytes();
-    let mut written = 0;
-    for _ in 0..MOST_WRITES {
-        match faults.write(&bytes[written..]) {
-            Ok(0) => return false,
-            Ok(count) => written += count,
-            Err(error) if error.kind() == ErrorKind::Interrupted => {}
-            Err(_) => return false,
-        }
-        if written == bytes.len() {
-            return true;
-        }
-    }
-    false
 }

@@ -7,7 +7,8 @@ use Rattle.std.specs.List.Sorted.{IsNonDecreasing}
 use Rattle.job_script.specs.declared.head.Head.{Head}
 use Rattle.job_script.specs.declared.head.Head.TheVariants.{Repeat}
 use Rattle.job_script.specs.declared.stored.Item.{Item}
-use Rattle.job_script.specs.Acts.{Act, Acts, no_acts, act, with_act, copies, flat, written, written_length, flat_length, too_many, ends_from, start_of, is_short_spawn, depth}
+use Rattle.job_script.specs.Acts.{Act, Acts, no_acts, act, with_act, copies, flat, written, written_length, flat_length, too_many, is_short_spawn, depth}
+use Rattle.job_script.specs.inner.Ends.{ends_from, start_of}
 use Rattle.job_script.specs.inner.Views.{acts_view, are_short}
 use Rattle.job_script.proofs.Places.{below_or_past, past_all, found, flat-length, copied_at}
 

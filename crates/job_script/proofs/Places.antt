@@ -4,7 +4,8 @@ use native.Mathlib.Nat.{mod-eq-sub-mod}
 use Rattle.job_script.specs.declared.head.Head.{Head}
 use Rattle.job_script.specs.declared.head.Head.TheVariants.{Repeat}
 use Rattle.job_script.specs.declared.stored.Item.{Item}
-use Rattle.job_script.specs.Acts.{Act, Acts, no_acts, act, copies, written, flat, written_length, flat_length, too_many, ends_from, start_of}
+use Rattle.job_script.specs.Acts.{Act, Acts, no_acts, act, copies, written, flat, written_length, flat_length, too_many}
+use Rattle.job_script.specs.inner.Ends.{ends_from, start_of}
 use Rattle.job_script.specs.inner.Views.{acts_view}
 
 -- ---- lengths

@@ -1,5 +1,6 @@
 pub mod ActsCode
 pub mod ActsFall
+pub mod Ends
 pub mod ProgramCode
 pub mod ReadViews
 pub mod SaidViews

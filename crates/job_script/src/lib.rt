@@ -15,6 +15,7 @@ mod stored;
 
 pub use act::{Act, Answer};
 pub use examples::{worked_bounds, worked_lengths, worked_names, worked_outer_objects};
+pub use phase_modes::{Pair, Phased};
 pub use program::Program;
 pub use reading::read_program;
 pub use script_body::ScriptBody;

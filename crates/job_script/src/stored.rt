@@ -1,7 +1,7 @@
 //! Acts as they are stored: a repeat is not written out, and a body is stored once.
 ghost use Rattle.std.specs.Prelude.{◌≡◌, ◌<◌, ◌≤◌, true, min, length, get_or, slice_get, option_map, IfSome, OnOk};
 ghost use Rattle.std.specs.List.Sorted.{IsNonDecreasing};
-ghost use Rattle.job_script.specs.Acts.{start_of};
+ghost use Rattle.job_script.specs.inner.Ends.{start_of};
 
 use crate::head::Head;
 use std::alloc::{AllocError, Global};
@@ -26,7 +26,8 @@ pub(crate) struct Body {
 
 impl Model for Body {
     ghost use Rattle.std.specs.Prelude.{◌≡◌, true};
-    ghost use Rattle.job_script.specs.Acts.{Acts, depth, ends_from};
+    ghost use Rattle.job_script.specs.Acts.{Acts, depth};
+    ghost use Rattle.job_script.specs.inner.Ends.{ends_from};
     ghost use Rattle.job_script.specs.inner.ActsCode.{acts_code};
     ghost use Rattle.job_script.specs.contracts.head.Head as head;
 

@@ -4,110 +4,21 @@ use Rattle.std.specs.Prelude.{filter, is_some, not, ◌&&◌, option_and_then, O
 use Rattle.std.specs.List.{find, list_any, range_with_len}
 use Rattle.std.proofs.lemmas.Bool.{cases_Bool, cases_lt, eqb-true, eq-eqb, false≢true, true≢false, ltb-true, or_cases, or_right, and_parts}
 use Rattle.phase_modes.specs.declared.limits.Limits.{Limits}
-use Rattle.phase_modes.specs.declared.refusal.Refusal.{Refusal}
-use Rattle.phase_modes.specs.declared.refusal.Refusal.TheVariants.{NotRegistered, NoSignal, NoWait, NoSingle, AlreadySignalled, NotSignalled, SingleMismatch, OnePhaserOnly, NoAccumulator, NoPhaseYet, MoreThanParent, OutsideScope, RegisteredTwice, RegsFull, HistoryFull, PhasersFull, TasksFull, FinishesFull, ActsFull, FinishOpen, NoFinish, NotNow, Memory, BadText, NotExplained, SharesDiffer}
-use Rattle.phase_modes.specs.Refusal.{number_of}
-use Rattle.world_model.specs.declared.event.Begun.TheVariants.{Async}
 use Rattle.world_model.specs.declared.event.WorldEvent.{WorldEvent}
 use Rattle.world_model.specs.declared.event.WorldEvent.TheVariants.{Phaser, Finish, Begin, Refuse, Fail}
 use Rattle.world_model.specs.declared.report.TaskLine.{TaskLine}
-use Rattle.world_model.specs.Acts.{act_reply, pair_conditions}
 use Rattle.world_model.specs.Due.{is_entry}
-use Rattle.world_model.specs.GivingUp.{is_refused_by, may_fail, may_refuse}
-use Rattle.world_model.specs.Numbers.{names}
+use Rattle.world_model.specs.GivingUp.{may_fail, may_refuse}
 use Rattle.world_model.specs.Replies.{is_accepted, is_legal_world}
 use Rattle.world_model.specs.Report.{below, refused_by, report_of, task_line}
 use Rattle.world_model.specs.ReportLines.{refusal_with}
 use Rattle.world_model.specs.Tasks.{is_born, spawns}
 use Rattle.world_model.proofs.AbleComputed.{made_done_where}
-use Rattle.world_model.proofs.BornWhereNamed.{born_named}
-use Rattle.world_model.proofs.MadeMeans.{begin_asked, last_accepted, no_refusal}
+use Rattle.world_model.proofs.ActsWithinLimits.{born_fits}
+use Rattle.world_model.proofs.MadeMeans.{last_accepted}
+use Rattle.world_model.proofs.NotedNumbers.{number_of_fail, number_of_refuse}
 use Rattle.world_model.proofs.PassesInTurns.{entry_born, unborn_none}
 use Rattle.job_kernels.specs.Results.{lowest_refused, refusal_of}
-
--- ---- numbers of tasks are below their limit
-
-named_fits : (l : Limits) (w : List WorldEvent) → is_legal_world l w ≡ true → (t : ℕ)
-    → list_any (names t) w ≡ true → t < l.tasks
-named_fits l [] k t n = absurd cc
-named_fits l (e ∷ w) k t n =
-    let a = last_accepted l e w k in
-    elim (or_cases (names t e) (list_any (names t) w) n) [
-      | inl b ↦ by_event e a.0 b
-      | inr b ↦ named_fits l w a.1 t b
-    ]
-  where
-    by_event : (e : WorldEvent) → is_accepted l w e ≡ true → names t e ≡ true → t < l.tasks
-    by_event (Begin u (Async c ps)) h b =
-        let asked =
-        no_refusal TasksFull (nat_lt c l.tasks) (pair_conditions w u [] ps)
-        (begin_asked l w u (Async c ps) h) in
-        subst (λ v. v < l.tasks) (eqb-true c t b) (ltb-true c l.tasks asked.0)
-    by_event e h b = absurd cc
-
-born_fits : (l : Limits) (w : List WorldEvent) → is_legal_world l w ≡ true → 1 ≤ l.tasks → (t : ℕ)
-    → is_born t w ≡ true → t < l.tasks
-born_fits l w k some t b =
-    elim (or_cases (t == 0) (list_any (names t) w) (born_named l t w k b)) [
-      | inl z ↦ subst (λ v. v < l.tasks) (sym (eqb-true t 0 z)) (omega (arith, some))
-      | inr n ↦ named_fits l w k t n
-    ]
-
--- ---- an entry that says that a task was refused has the number of a refusal
-
-has_number : (r : Refusal) → is_some (refusal_with (number_of r)) ≡ true
-has_number NotRegistered = refl
-has_number NoSignal = refl
-has_number NoWait = refl
-has_number NoSingle = refl
-has_number AlreadySignalled = refl
-has_number NotSignalled = refl
-has_number SingleMismatch = refl
-has_number OnePhaserOnly = refl
-has_number NoAccumulator = refl
-has_number NoPhaseYet = refl
-has_number MoreThanParent = refl
-has_number OutsideScope = refl
-has_number RegisteredTwice = refl
-has_number RegsFull = refl
-has_number HistoryFull = refl
-has_number PhasersFull = refl
-has_number TasksFull = refl
-has_number FinishesFull = refl
-has_number ActsFull = refl
-has_number FinishOpen = refl
-has_number NoFinish = refl
-has_number NotNow = refl
-has_number Memory = refl
-has_number (BadText p) = refl
-has_number (NotExplained p) = refl
-has_number SharesDiffer = refl
-
-refused_number : (n : ℕ) (r : _) → is_refused_by n r ≡ true → is_some (refusal_with n) ≡ true
-refused_number n (Ok x) k = absurd (false≢true k)
-refused_number n (Err r) k = subst (λ m. is_some (refusal_with m) ≡ true) (eqb-true (number_of r) n k) (has_number r)
-
-number_of_refuse : (l : Limits) (w : List WorldEvent) (t n : ℕ) (a : _) → may_refuse l w t a n ≡ true
-    → is_some (refusal_with n) ≡ true
-number_of_refuse l w t n a k =
-    refused_number n (act_reply l w t a)
-    (and_parts (is_refused_by n (act_reply l w t a)) (not (n == 22))
-    (and_parts (is_refused_by n (act_reply l w t a) && not (n == 22)) (not (n == 23)) k).0).0
-
-given : (n m : ℕ) → (n == m) ≡ true → is_some (refusal_with m) ≡ true → is_some (refusal_with n) ≡ true
-given n m k some = subst (λ v. is_some (refusal_with v) ≡ true) (sym (eqb-true n m k)) some
-
-number_of_fail : (l : Limits) (w : List WorldEvent) (t n : ℕ) → may_fail l w t n ≡ true
-    → is_some (refusal_with n) ≡ true
-number_of_fail l w t n k = by (n == 7) (n == 15) (n == 14) (n == 23) _ _ _ refl refl refl refl k
-  where
-    by : (a b c d x y z : Bool) → (n == 7) ≡ a → (n == 15) ≡ b → (n == 14) ≡ c → (n == 23) ≡ d
-        → ((((a || b) && x) || (c && y)) || (d && z)) ≡ true → is_some (refusal_with n) ≡ true
-    by true b c d x y z p q r s h = given n 7 p refl
-    by false true c d x y z p q r s h = given n 15 q refl
-    by false false true d x y z p q r s h = given n 14 r refl
-    by false false false true x y z p q r s h = given n 23 s refl
-    by false false false false x y z p q r s h = absurd (false≢true h)
 
 -- ---- who was refused was born, and by a refusal's number
 

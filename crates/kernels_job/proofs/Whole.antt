@@ -1,39 +1,23 @@
 -- The run of a kernel in which no task was refused is whole: so the laws of whole runs hold of it.
-use Rattle.std.proofs.Common.{◌≡◌, true, List, [], ◌∷◌, None, Ok, reverse, refl, sym, ap, subst, arith, ◌∙◌, inl, inr}
-use Rattle.std.proofs.lemmas.Bool.{and_parts, false≢true, or_cases, or_right}
+use Rattle.std.proofs.Common.{◌≡◌, true, List, None, Ok, reverse, refl, sym, ap, subst, arith, ◌∙◌, inl, inr}
+use Rattle.std.proofs.lemmas.Bool.{and_parts}
 use Rattle.phase_modes.specs.Limits.{default_limits}
 use Rattle.phase_modes.specs.declared.refusal.Refusal.{Refusal}
 use Rattle.phase_modes.specs.declared.refusal.Refusal.TheVariants.{Memory, NotExplained}
 use Rattle.phased_rt.specs.Refused.{IsRunRefused}
-use Rattle.finish_core.specs.declared.event.FinishEvent.TheVariants.{Shut}
 use Rattle.job_script.specs.declared.act.Answer.{Answer}
 use Rattle.world_model.specs.declared.event.WorldEvent.{WorldEvent}
 use Rattle.world_model.specs.Replies.{is_legal_world}
 use Rattle.world_model.specs.Report.{Report, report_of}
-use Rattle.world_model.specs.Tasks.{ends, is_ended}
-use Rattle.trace_model.specs.Explained.{all_follow, ends_run, event_of, is_over, past}
+use Rattle.trace_model.specs.Explained.{all_follow, is_over, past}
 use Rattle.trace_model.specs.Run.{Entry}
-use Rattle.trace_model.specs.declared.event.TracedEvent.{TracedEvent}
-use Rattle.trace_model.specs.declared.event.TracedEvent.TheVariants.{Finish}
 use Rattle.trace_model.proofs.Legal.{explained_legal}
+use Rattle.phased_rt.proofs.Emptied.{over_ended}
 use Rattle.body_follows.specs.Going.{Does, IsRefusedAt}
 use Rattle.job_kernels.specs.Results.{refusal_of}
 use Rattle.kernel_laws.specs.Going.{IsWhole}
 use Rattle.kernels_job.specs.Worked.{IsKernelRun}
 use Rattle.kernels_job.proofs.Unrefused.{unrefused}
-
--- the event that ends the run ends the root
-ends_root : (e : TracedEvent) → ends_run e ≡ true → ends 0 (event_of e) ≡ true
-ends_root (Finish f Shut) h = rw h refl
-ends_root e h = absurd cc
-
-over_ended : (es : List Entry) → is_over es ≡ true → is_ended 0 (past es) ≡ true
-over_ended [] h = absurd (false≢true h)
-over_ended (e ∷ es) h =
-    elim (or_cases (ends_run e.1) (is_over es) h) [
-      | inl x ↦ rw (ends_root e.1 x) refl
-      | inr y ↦ or_right (ends 0 (event_of e.1)) (is_ended 0 (past es)) (over_ended es y)
-    ]
 
 -- a whole history, and its report
 pub record IsReported {B : Type 0} (next : Answer → B → Does B) (root : B) (r : Report) : Type 0 where

@@ -12,7 +12,7 @@ use Rattle.phase_model.specs.declared.call.Call.TheVariants.{Make as make, Regis
 use Rattle.phase_model.specs.Conditions.{conditions}
 use Rattle.phase_model.specs.Rules.{Story, is_permitted, is_allowed, is_legal, has_room, same_look, look_of}
 use Rattle.phase_model.specs.Laws.{DoneWhereAllowed}
-use Rattle.phase_model.specs.Replies.{done, event_for, must_wait, settled, reply}
+use Rattle.phase_model.specs.Replies.{done, event_for, must_wait, decided, reply}
 use Rattle.phase_modes.proofs.FirstRefusal.{none_where_met}
 use Rattle.phase_model.proofs.Replied.{reply_by, done_is_allowed}
 use Rattle.phase_model.proofs.SingleReplies.{pass_claims}
@@ -40,7 +40,7 @@ module _ (s : Story) where
   plainly c met free room =
       let e = event_for s.limits s.terms s.past c in
       reply_by s c None false e (none_where_met (conditions s.limits s.terms s.past c) met) free refl
-      ∙ ap (λ b. settled None false b e) room
+      ∙ ap (λ b. decided None false b e) room
 
   -- a pass that claims nothing
   passes : (t : ℕ) → is_permitted s.limits s.terms s.past (Claim t) ≡ false
@@ -57,7 +57,7 @@ module _ (s : Story) where
       reply_by s (pass t) None false (Pass t) (none_where_met (conditions s.limits s.terms h (pass t)) met)
       (goes_on (has_mode can_wait t h) (is_permitted s.limits s.terms h (Pass t))
       (is_permitted s.limits s.terms h (Claim t)) parts.0) event
-      ∙ ap (λ b. settled None false b (Pass t)) parts.1
+      ∙ ap (λ b. decided None false b (Pass t)) parts.1
 
   allowed_is_done : (c : Call) → is_legal s.limits s.terms s.past ≡ true
       → is_allowed s.limits s.terms s.past (event_for s.limits s.terms s.past c) ≡ true

@@ -20,7 +20,7 @@ use Rattle.phase_model.specs.Conditions.{conditions, is_other_proposed}
 use Rattle.phase_model.specs.Singles.{Proposal, proposals}
 use Rattle.phase_model.specs.Rules.{Story, with_event, is_permitted, is_legal, has_room}
 use Rattle.phase_model.specs.declared.call.Call.TheVariants.{Signal as signal}
-use Rattle.phase_model.specs.Replies.{settled, must_wait, reply}
+use Rattle.phase_model.specs.Replies.{decided, must_wait, reply}
 use Rattle.phase_model.specs.Waiting.{is_not_yet, signal_would_wait, can_free_signal, OthersFreeNoSignaller}
 use Rattle.phase_model.proofs.Legal.{last_follows, reg_follows, signal_is_within}
 use Rattle.phase_model.proofs.LiveTasks.{has, has-live_tasks}
@@ -88,7 +88,7 @@ held_by_behind b p h k =
     and_not true b e f = absurd (false≢true (sym e))
     and_not false b e f = f
 
-settled_not_yet : (o : Option Refusal) (w b : Bool) (e : Event) → is_not_yet (settled o w b e) ≡ true
+settled_not_yet : (o : Option Refusal) (w b : Bool) (e : Event) → is_not_yet (decided o w b e) ≡ true
     → (o ≡ None) × (w ≡ true)
 settled_not_yet (Some r) w b e k = absurd cc
 settled_not_yet None true b e k = (refl, refl)

@@ -20,19 +20,19 @@ use Rattle.phase_model.specs.Laws.{IsLegal, after_calls}
 use Rattle.phase_model.specs.declared.call.Call.{Call}
 use Rattle.phase_model.specs.declared.call.Call.TheVariants.{Make as make, Register as register, Signal as signal, Pass as pass, SingleDone as single_done, Send as send, Look as look, Drop as drop_task}
 use Rattle.phase_model.specs.Conditions.{conditions}
-use Rattle.phase_model.specs.Replies.{Reply, refused, not_yet, done, event_for, must_wait, settled, reply, after}
+use Rattle.phase_model.specs.Replies.{Reply, refused, not_yet, done, event_for, must_wait, decided, reply, after}
 
 -- a reply by its parts
 pub reply_by : (s : Story) (c : Call) (o : Option Refusal) (w : Bool) (e : Event)
     → first_refusal (conditions s.limits s.terms s.past c) ≡ o → must_wait s.limits s.terms s.past c ≡ w
     → event_for s.limits s.terms s.past c ≡ e
-    → reply s c ≡ settled o w (has_room s.limits (e ∷ s.past)) e
+    → reply s c ≡ decided o w (has_room s.limits (e ∷ s.past)) e
 reply_by s c o w e a b d =
     let f = event_for s.limits s.terms s.past c in
     let v = must_wait s.limits s.terms s.past c in
-    ap (λ x. settled x v (has_room s.limits (f ∷ s.past)) f) a
-    ∙ (ap (λ x. settled o x (has_room s.limits (f ∷ s.past)) f) b
-    ∙ ap (λ x. settled o w (has_room s.limits (x ∷ s.past)) x) d)
+    ap (λ x. decided x v (has_room s.limits (f ∷ s.past)) f) a
+    ∙ (ap (λ x. decided o x (has_room s.limits (f ∷ s.past)) f) b
+    ∙ ap (λ x. decided o w (has_room s.limits (x ∷ s.past)) x) d)
 
 pub record IsDone (o : Option Refusal) (waiting room : Bool) : Type 0 where
   pub no_cause : o ≡ None
@@ -40,7 +40,7 @@ pub record IsDone (o : Option Refusal) (waiting room : Bool) : Type 0 where
   pub has_room : room ≡ true
 
 pub settled_done : (o : Option Refusal) (waiting room : Bool) (e f : Event)
-    → settled o waiting room e ≡ done f → IsDone o waiting room × (e ≡ f)
+    → decided o waiting room e ≡ done f → IsDone o waiting room × (e ≡ f)
 settled_done (Some r) w b e f k = absurd cc
 settled_done None true b e f k = absurd cc
 settled_done None false true e f k = (record { no_cause = refl; no_wait = refl; has_room = refl }, cc)

@@ -12,7 +12,7 @@ use Rattle.phase_model.specs.Singles.{has_claimed, is_done, owes_nothing}
 use Rattle.phase_model.specs.Rules.{Story, is_permitted, is_legal, has_room}
 use Rattle.phase_model.specs.declared.call.Call.TheVariants.{Pass as pass}
 use Rattle.phase_model.specs.Conditions.{conditions}
-use Rattle.phase_model.specs.Replies.{refused, done, event_for, must_wait, settled, reply}
+use Rattle.phase_model.specs.Replies.{refused, done, event_for, must_wait, decided, reply}
 use Rattle.phase_model.specs.SingleLaws.{SinglesHaveRoom, SinglesAreAnswered}
 use Rattle.phase_modes.proofs.FirstRefusal.{none_where_met}
 use Rattle.phase_model.proofs.Replied.{reply_by}
@@ -27,7 +27,7 @@ singles_have_room l terms h k t =
 
 -- a call with these conditions is not refused for room, where there is room for it when they are met
 never_full : (a b c room : Bool) (e : Event) → ((a && b && c) ≡ true → room ≡ true)
-    → settled (cond a (cond b (cond c None (Some NotNow)) (Some NotNow)) (Some NotRegistered)) false room e
+    → decided (cond a (cond b (cond c None (Some NotNow)) (Some NotNow)) (Some NotRegistered)) false room e
     ≡ refused HistoryFull → ⊥
 never_full false b c room e k q = absurd cc
 never_full true false c room e k q = absurd cc
@@ -57,7 +57,7 @@ pass_claims s t k g =
     (not (is_permitted l terms h (Claim t))) (ap (λ b. not b) g) in
     let event : event_for l terms h (pass t) ≡ Claim t = ap (λ b. cond b (Claim t) (Pass t)) g in
     reply_by s (pass t) None false (Claim t) (none_where_met (conditions l terms h (pass t)) met) going event
-    ∙ ap (λ b. settled None false b (Claim t)) (claim_has_room l terms h k t g)
+    ∙ ap (λ b. decided None false b (Claim t)) (claim_has_room l terms h k t g)
 
 pub singles_are_answered : SinglesAreAnswered
 singles_are_answered s k t =

@@ -16,7 +16,7 @@ use Rattle.phase_model.specs.Singles.{has_proposed, is_claimed, is_settled}
 use Rattle.phase_model.specs.Rules.{Story, with_event, is_permitted, is_legal, has_room}
 use Rattle.phase_model.specs.declared.call.Call.TheVariants.{Pass as pass}
 use Rattle.phase_model.specs.Conditions.{conditions}
-use Rattle.phase_model.specs.Replies.{settled, must_wait, event_for}
+use Rattle.phase_model.specs.Replies.{decided, must_wait, event_for}
 use Rattle.phase_model.proofs.Legal.{last_follows, reg_follows, pass_follows}
 use Rattle.phase_model.proofs.LiveTasks.{has, has-live_tasks}
 use Rattle.phase_model.proofs.Closing.{implies, HaveSignalled, signalled_from_closed, some_live}
@@ -24,7 +24,7 @@ use Rattle.phase_model.proofs.Proposers.{registered_live}
 use Rattle.phase_model.specs.Waiting.{is_not_yet, would_wait, can_free}
 
 waits_settled : (o : Option Refusal) (w b : Bool) (e : Event)
-    → is_not_yet (settled o w b e) ≡ (not (is_some o) && w)
+    → is_not_yet (decided o w b e) ≡ (not (is_some o) && w)
 waits_settled (Some r) w b e = refl
 waits_settled None true b e = refl
 waits_settled None false true e = refl

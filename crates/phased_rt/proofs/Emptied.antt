@@ -19,7 +19,7 @@ ends_root : (e : TracedEvent) → ends_run e ≡ true → ends 0 (event_of e) �
 ends_root (Finish f Shut) h = rw h refl
 ends_root e h = absurd cc
 
-over_ended : (es : List Entry) → is_over es ≡ true → is_ended 0 (past es) ≡ true
+pub over_ended : (es : List Entry) → is_over es ≡ true → is_ended 0 (past es) ≡ true
 over_ended [] h = absurd (false≢true h)
 over_ended (e ∷ es) h =
     elim (or_cases (ends_run e.1) (is_over es) h) [

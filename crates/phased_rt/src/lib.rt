@@ -23,13 +23,13 @@
 //! no more than the trace does: not that it ends, nor in which order tasks go on.
 #![tactic(auto)]
 
-mod acting;
+mod acts;
 mod body;
 mod calls;
 mod crew;
 mod diary;
-mod driving;
-mod reporting;
+mod driver;
+mod report;
 mod running;
 mod task;
 mod worker;
@@ -37,5 +37,5 @@ mod worker;
 pub use body::{Body, Gate, OpenGate};
 pub use job_script::{Act, Answer};
 pub use phase_modes::Phased;
-pub use reporting::Report;
+pub use report::Report;
 pub use running::run;

@@ -5,21 +5,21 @@ use Rattle.phase_model.specs.declared.history.Event.{Event}
 use Rattle.phase_model.specs.declared.history.Event.TheVariants.{Sig, Claim, Pass, Look as Looked}
 use Rattle.phase_model.specs.declared.op.Look.{Look}
 use Rattle.phase_model.specs.declared.call.Reply.TheVariants.{Done}
-use Rattle.phase_model.specs.Replies.{settled, done_result, returned, returned_for}
+use Rattle.phase_model.specs.Replies.{decided, done_result, returned, returned_for}
 use Rattle.phaser_core.specs.Answers.{signal_result, pass_result, look_result}
 use Rattle.phaser_core.specs.Outcomes.{done_reply, signal_reply, pass_reply, look_reply}
 
 -- a call that never waits, and whose event has no result of its own
 pub done_returned : (h : List Event) (o : Option Refusal) (room : Bool) (e : Event) → returned_for h e ≡ Done
-    → done_reply (done_result (settled o false room e)) ≡ returned h (settled o false room e)
+    → done_reply (done_result (decided o false room e)) ≡ returned h (decided o false room e)
 done_returned h None true e plain = sym plain
 done_returned h None false e plain = refl
 done_returned h (Some r) room e plain = refl
 
 -- a `signal`
 pub signal_returned : (h : List Event) (o : Option Refusal) (waiting room : Bool) (t : ℕ) (x : Option ℕ)
-    → signal_reply (signal_result (settled o waiting room (Sig t x)))
-    ≡ returned h (settled o waiting room (Sig t x))
+    → signal_reply (signal_result (decided o waiting room (Sig t x)))
+    ≡ returned h (decided o waiting room (Sig t x))
 signal_returned h (Some r) waiting room t x = refl
 signal_returned h None true room t x = refl
 signal_returned h None false true t x = refl
@@ -27,8 +27,8 @@ signal_returned h None false false t x = refl
 
 -- a `pass`, which adds a claim or a pass
 pub pass_returned : (h : List Event) (o : Option Refusal) (waiting room claims : Bool) (t : ℕ)
-    → pass_reply (pass_result h (settled o waiting room (if claims then Claim t else Pass t)))
-    ≡ returned h (settled o waiting room (if claims then Claim t else Pass t))
+    → pass_reply (pass_result h (decided o waiting room (if claims then Claim t else Pass t)))
+    ≡ returned h (decided o waiting room (if claims then Claim t else Pass t))
 pass_returned h (Some r) waiting room claims t = refl
 pass_returned h None true room claims t = refl
 pass_returned h None false false claims t = refl
@@ -37,8 +37,8 @@ pass_returned h None false true false t = refl
 
 -- a `look`, which never waits
 pub look_returned : (h : List Event) (o : Option Refusal) (room : Bool) (t a : ℕ) (x : Look)
-    → look_reply (look_result (settled o false room (Looked t a x)))
-    ≡ returned h (settled o false room (Looked t a x))
+    → look_reply (look_result (decided o false room (Looked t a x)))
+    ≡ returned h (decided o false room (Looked t a x))
 look_returned h (Some r) room t a x = refl
 look_returned h None true t a x = refl
 look_returned h None false t a x = refl

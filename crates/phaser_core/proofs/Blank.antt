@@ -49,8 +49,6 @@ pub blank_stands : (s : Story) (new : Terms) (roll : Lines) (known : Numbers) (s
     → IsState s roll known single old
     → cells.ops ≡ new.ops → cells.phases ≡ old.phases → cells.from ≡ old.from → cells.sums ≡ old.sums
     → StandsFor cells (λ a p. [])
-    → IsState (record { limits = s.limits; terms = new; past = s.past }) roll known single cells
+    → IsState (record { limits = s.limits; terms = new; past = [] }) roll known single cells
 blank_stands s new roll known single old cells none i same phases from sums stands =
-    subst (λ (g : List Event). IsState (record { limits = s.limits; terms = new; past = g }) roll known single
-    cells) (sym none)
-    (blank_with s.limits s.terms new s.past roll known single old cells none i same phases from sums stands)
+    blank_with s.limits s.terms new s.past roll known single old cells none i same phases from sums stands

@@ -10,7 +10,7 @@ use Rattle.phase_model.specs.Singles.{is_settled}
 use Rattle.phase_model.specs.Rules.{Story, has_room, is_permitted}
 use Rattle.phase_model.specs.declared.call.Call.TheVariants.{Pass as pass}
 use Rattle.phase_model.specs.Conditions.{conditions}
-use Rattle.phase_model.specs.Replies.{reply, refused, not_yet, settled, must_wait, event_for}
+use Rattle.phase_model.specs.Replies.{reply, refused, not_yet, decided, must_wait, event_for}
 use Rattle.phase_model.proofs.Replied.{reply_by}
 
 -- a && not b, the other way round
@@ -61,7 +61,7 @@ module _ (s : Story) (t : ℕ) where
 
       -- the task claims
       pub claims : is_permitted s.limits s.terms s.past (Claim t) ≡ true
-          → reply s (pass t) ≡ settled None false (has_room s.limits (Claim t ∷ s.past)) (Claim t)
+          → reply s (pass t) ≡ decided None false (has_room s.limits (Claim t ∷ s.past)) (Claim t)
       claims c =
           let event_is : event_for s.limits s.terms s.past (pass t) ≡ Claim t = rw c refl in
           let held : must_wait s.limits s.terms s.past (pass t) ≡ false =
@@ -109,7 +109,7 @@ module _ (s : Story) (t : ℕ) where
         -- nothing holds the task up
         pub free : (has_mode can_wait t s.past
             && not (is_closed (waits t s.past) s.past && is_settled (waits t s.past) s.past)) ≡ false
-            → reply s (pass t) ≡ settled None false (has_room s.limits (Pass t ∷ s.past)) (Pass t)
+            → reply s (pass t) ≡ decided None false (has_room s.limits (Pass t ∷ s.past)) (Pass t)
         free o =
             reply_by s (pass t) None false (Pass t) no_cause
             (held_by false

@@ -10,7 +10,7 @@ use Rattle.phase_model.specs.Singles.{has_claimed, is_done, owes_nothing}
 use Rattle.phase_model.specs.Rules.{Story, has_room}
 use Rattle.phase_model.specs.declared.call.Call.TheVariants.{SingleDone as single_done, Drop as drop_task}
 use Rattle.phase_model.specs.Conditions.{conditions}
-use Rattle.phase_model.specs.Replies.{reply, refused, done, settled}
+use Rattle.phase_model.specs.Replies.{reply, refused, done, decided}
 use Rattle.phase_model.proofs.Replied.{reply_by}
 
 not_now : (a b : Bool) → (a && not b) ≡ false
@@ -43,7 +43,7 @@ module _ (s : Story) (t : ℕ) where
         let none : first_refusal (conditions s.limits s.terms s.past (single_done t)) ≡ None =
         rw (live, parts.0, parts.1) refl in
         reply_by s (single_done t) None false (Did t) none refl refl
-        ∙ ap (λ b. settled None false b (Did t)) room
+        ∙ ap (λ b. decided None false b (Did t)) room
 
     pub owes_single : owes_nothing t s.past ≡ false → reply s (drop_task t) ≡ refused NotNow
     owes_single a = rw (live, a) refl
@@ -54,4 +54,4 @@ module _ (s : Story) (t : ℕ) where
         let none : first_refusal (conditions s.limits s.terms s.past (drop_task t)) ≡ None =
         rw (live, a) refl in
         reply_by s (drop_task t) None false (Drop t) none refl refl
-        ∙ ap (λ b. settled None false b (Drop t)) room
+        ∙ ap (λ b. decided None false b (Drop t)) room

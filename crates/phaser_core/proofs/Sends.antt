@@ -7,7 +7,7 @@ use Rattle.phase_model.specs.Tasks.{is_live, has_mode}
 use Rattle.phase_model.specs.Phases.{waits}
 use Rattle.phase_model.specs.Rules.{Story, has_room, look_of}
 use Rattle.phase_model.specs.declared.call.Call.TheVariants.{Send as send, Look as look}
-use Rattle.phase_model.specs.Replies.{reply, refused, settled}
+use Rattle.phase_model.specs.Replies.{reply, refused, decided}
 
 module _ (s : Story) (t a : ℕ) (v : ℤ) where
   pub unknown : is_live t s.past ≡ false → reply s (send t a v) ≡ refused NotRegistered
@@ -22,7 +22,7 @@ module _ (s : Story) (t a : ℕ) (v : ℤ) where
       no_accumulator k = rw (live, signaller, k) refl
 
       pub free : nat_lt a (length s.terms.ops) ≡ true
-          → reply s (send t a v) ≡ settled None false (has_room s.limits (Send t a v ∷ s.past)) (Send t a v)
+          → reply s (send t a v) ≡ decided None false (has_room s.limits (Send t a v ∷ s.past)) (Send t a v)
       free k = rw (live, signaller, k) refl
 
 module _ (s : Story) (t a : ℕ) where
@@ -43,7 +43,7 @@ module _ (s : Story) (t a : ℕ) where
 
         pub free_look : nat_lt 0 (waits t s.past) ≡ true
             → reply s (look t a)
-            ≡ settled None false
+            ≡ decided None false
             (has_room s.limits (Looked t a (look_of s.terms.ops a (waits t s.past) s.past) ∷ s.past))
             (Looked t a (look_of s.terms.ops a (waits t s.past) s.past))
         free_look k = rw (live, waiter, fits, k) refl

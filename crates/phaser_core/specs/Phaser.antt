@@ -2,9 +2,7 @@
 use Rattle.std.specs.Prelude.{ℕ}
 use Rattle.phase_model.specs.Rules.{Story}
 
--- its limits, operators and past events, how many comparisons of task numbers its last call made, and for how
--- many accumulators it has room
+-- its limits, operators, bound and past events, and how many comparisons of task numbers its last call made
 pub record Phaser : Type 0 where
   pub story : Story
   pub compared : ℕ
-  pub room : ℕ

@@ -121,7 +121,6 @@ impl LinePartials {
         requires room { cells.old.sums.values + held (slice_index_or self.old place no_partial) ≤ 65536 }
         ensures partials { self.new ≡ slice_set self.old place no_partial }
         ensures ops { cells.new.ops ≡ cells.old.ops }
-        ensures room { cells.new.room ≡ cells.old.room }
         ensures cell_phases { cells.new.phases ≡ cells.old.phases }
         ensures from { cells.new.from ≡ cells.old.from }
         ensures sums { cells.new.sums ≡ sums_taken (slice_index_or self.old place no_partial) cells.old.sums }

@@ -14,7 +14,7 @@ use Rattle.phase_model.specs.declared.history.Event.TheVariants.{Make as Made}
 use Rattle.phase_model.specs.Conditions.{conditions}
 use Rattle.phase_model.specs.declared.call.Call.TheVariants.{Send as send, Look as look}
 use Rattle.phase_model.specs.Replies as phaser
-use Rattle.phase_model.specs.Replies.{settled}
+use Rattle.phase_model.specs.Replies.{decided}
 use Rattle.phase_model.specs.Rules.{has_room}
 use Rattle.finish_core.specs.Replies.{done_unless}
 use Rattle.finish_core.specs.declared.event.FinishEvent.{FinishEvent}
@@ -60,10 +60,10 @@ first_reported ((x, false) ∷ cs) r h k = subst (λ (y : Refusal). is_reported 
     got x y h = cc
 
 -- a phaser's reply, where its conditions are reported
-settled_goes : (h : List Event) (cs : List (Refusal × Bool)) (room : Bool) (e : Event) → all_reported cs ≡ true → Goes (returned h (settled (first_refusal cs) false room e))
+settled_goes : (h : List Event) (cs : List (Refusal × Bool)) (room : Bool) (e : Event) → all_reported cs ≡ true → Goes (returned h (decided (first_refusal cs) false room e))
 settled_goes h cs room e known = by (first_refusal cs) refl room
   where
-    by : (o : Option Refusal) → first_refusal cs ≡ o → (room : Bool) → Goes (returned h (settled o false room e))
+    by : (o : Option Refusal) → first_refusal cs ≡ o → (room : Bool) → Goes (returned h (decided o false room e))
     by (Some r) is room = inr (r, refl, first_reported cs r known is)
     by None is true = inl (event_made h e)
     by None is false = inr (HistoryFull, refl, refl)
@@ -93,7 +93,7 @@ done_goes l w t (New n m terms) free =
     let none : phaser_past n w ≡ [] = none_yet n w free in
     by (phaser_past n w) none (nat_lt t l.tasks) (has_room l (Made t m ∷ phaser_past n w))
   where
-    by : (h : List Event) → h ≡ [] → (below room : Bool) → Goes (returned h (settled (first_refusal ((NotNow, is_empty h) ∷ (TasksFull, below) ∷ [])) false room (Made t m)))
+    by : (h : List Event) → h ≡ [] → (below room : Bool) → Goes (returned h (decided (first_refusal ((NotNow, is_empty h) ∷ (TasksFull, below) ∷ [])) false room (Made t m)))
     by [] e true true = inl refl
     by [] e true false = inr (HistoryFull, refl, refl)
     by [] e false room = inr (TasksFull, refl, refl)

@@ -19,7 +19,7 @@ use Rattle.phase_model.specs.declared.history.Event.{Event}
 use Rattle.phase_model.specs.declared.history.Event.TheVariants.{Reg as Registered}
 use Rattle.phase_model.specs.Conditions.{conditions}
 use Rattle.phase_model.specs.declared.call.Call.TheVariants.{Make as make, Register as register, Signal as signal, Pass as pass, SingleDone as single_done, Send as send, Look as look, Drop as drop_task}
-use Rattle.phase_model.specs.Replies.{settled}
+use Rattle.phase_model.specs.Replies.{decided}
 use Rattle.phase_model.specs.Rules.{has_room}
 use Rattle.finish_core.specs.Finish as finish
 use Rattle.finish_core.specs.Finish.{all_ended}
@@ -105,7 +105,7 @@ reply_next l w (Fail t x) h k = absurd (k t x refl)
 reg_waits_not : (l : Limits) (w : List WorldEvent) (e : WorldEvent) → is_reg e ≡ true → next_done l w e ≡ Ok NotYet → ⊥
 reg_waits_not l w (Phaser n (Reg q t m)) h k = never (first_refusal (conditions l (terms_of n w) (phaser_past n w) (register q t m))) (has_room l (Registered q t m ∷ phaser_past n w)) k
   where
-    never : (o : Option Refusal) (room : Bool) → returned (phaser_past n w) (settled o false room (Registered q t m)) ≡ Ok NotYet → ⊥
+    never : (o : Option Refusal) (room : Bool) → returned (phaser_past n w) (decided o false room (Registered q t m)) ≡ Ok NotYet → ⊥
     never (Some r) room k = absurd cc
     never None true k = absurd cc
     never None false k = absurd cc
@@ -129,10 +129,10 @@ first_other ((x, false) ∷ cs) r h k = subst (λ (y : Refusal). not (is_regs y)
     got x y h = cc
 
 -- a call's reply
-call_other : (h : List Event) (cs : List (Refusal × Bool)) (waiting room : Bool) (e : Event) → none_regs cs ≡ true → returned h (settled (first_refusal cs) waiting room e) ≡ Err RegsFull → ⊥
+call_other : (h : List Event) (cs : List (Refusal × Bool)) (waiting room : Bool) (e : Event) → none_regs cs ≡ true → returned h (decided (first_refusal cs) waiting room e) ≡ Err RegsFull → ⊥
 call_other h cs waiting room e none k = by (first_refusal cs) refl waiting room k
   where
-    by : (o : Option Refusal) → first_refusal cs ≡ o → (waiting room : Bool) → returned h (settled o waiting room e) ≡ Err RegsFull → ⊥
+    by : (o : Option Refusal) → first_refusal cs ≡ o → (waiting room : Bool) → returned h (decided o waiting room e) ≡ Err RegsFull → ⊥
     by (Some r) is waiting room k = false≢true (subst (λ (y : Refusal). not (is_regs y) ≡ true) (got r RegsFull k) (first_other cs r none is))
       where
         got : (x y : Refusal) → ◌≡◌ {A = Result Reply Refusal} (Err x) (Err y) → x ≡ y

@@ -12,7 +12,7 @@ use Rattle.phase_model.specs.declared.op.Look.TheVariants as looks
 use Rattle.phase_model.specs.Phases.{waits}
 use Rattle.phase_model.specs.Conditions.{conditions}
 use Rattle.phase_model.specs.declared.call.Call.TheVariants.{Look as look}
-use Rattle.phase_model.specs.Replies.{settled}
+use Rattle.phase_model.specs.Replies.{decided}
 use Rattle.phase_model.specs.Rules.{same_look, has_room, look_of}
 use Rattle.world_model.specs.declared.event.Step.TheVariants.{Make, Reg, Sig, Claim, Did, Pass, Send, Look as Looking, Drop}
 use Rattle.world_model.specs.declared.event.Tried.TheVariants.{Look as TriedLook}
@@ -64,7 +64,7 @@ look_seen l w n t a x is made = by (first_refusal (act_conditions l w t (TriedLo
         got : (a b : Reply) → ◌≡◌ {A = Result Reply Refusal} (Ok a) (Ok b) → a ≡ b
         got a b h = cc
 
-    by : (o c : Option Refusal) (room : Bool) → unless o (returned (phaser_past n w) (settled c false room (Looked t a (look_of (terms_of n w).ops a (waits t (phaser_past n w)) (phaser_past n w))))) ≡ Ok x → explained.is_seen (seen x) (Ok x) ≡ true
+    by : (o c : Option Refusal) (room : Bool) → unless o (returned (phaser_past n w) (decided c false room (Looked t a (look_of (terms_of n w).ops a (waits t (phaser_past n w)) (phaser_past n w))))) ≡ Ok x → explained.is_seen (seen x) (Ok x) ≡ true
     by (Some r) c room h = absurd cc
     by None (Some r) room h = absurd cc
     by None None true h = of_value (look_of (terms_of n w).ops a (waits t (phaser_past n w)) (phaser_past n w)) h

@@ -15,7 +15,7 @@ use Rattle.phase_model.specs.declared.terms.Terms.{Terms}
 use Rattle.phase_model.specs.declared.call.Call.TheVariants.{Signal as signal}
 use Rattle.phase_model.specs.Conditions.{conditions, is_other_proposed}
 use Rattle.phase_model.specs.Phases.{waits, signals, is_within_bound}
-use Rattle.phase_model.specs.Replies.{settled}
+use Rattle.phase_model.specs.Replies.{decided}
 use Rattle.phase_model.specs.Tasks.{is_live, has_mode, live_tasks, live_count}
 use Rattle.phase_model.specs.Rules.{Story, with_event, is_legal, has_room}
 use Rattle.phase_model.proofs.Legal.{last_follows, reg_follows}
@@ -56,7 +56,7 @@ keeps_passers s e k legal t w = stays s t w e k legal
 pub keeps_signallers : (s : Story) (e : Event) → can_free_signal e ≡ false → is_legal s.limits s.terms (e ∷ s.past) ≡ true → KeepsSignallers s (with_event s e)
 keeps_signallers s e k legal t x w = others_free_no_signaller s e t x legal k w
 
-settled_waits : (o : Option Refusal) (w b : Bool) (e : Event) → is_not_yet (settled o w b e) ≡ true → (o ≡ None) × (w ≡ true)
+settled_waits : (o : Option Refusal) (w b : Bool) (e : Event) → is_not_yet (decided o w b e) ≡ true → (o ≡ None) × (w ≡ true)
 settled_waits (Some r) w b e k = absurd cc
 settled_waits None true b e k = (refl, refl)
 settled_waits None false true e k = absurd cc

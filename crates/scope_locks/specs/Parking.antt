@@ -105,12 +105,9 @@ parking true false p ps = ps ++ p ∷ []
 parking true true p ps = ps
 parking false again p ps = ps
 
--- a pass has added an event
+-- a pass has added an event: whoever asked goes on
 abbrev pub has_gone_on : Result Passing Refusal → Bool
-has_gone_on (Ok (Over p)) = true
-has_gone_on (Ok (Run n)) = true
-has_gone_on (Ok NotYet) = false
-has_gone_on (Err r) = false
+has_gone_on a = goes_on (locked_pass a true (tt {0}))
 
 -- it has to wait
 abbrev pub has_to_wait : Result Passing Refusal → Bool
@@ -146,11 +143,9 @@ IsBackFromSignal x (Signalled y) = y ≡ x
 IsBackFromSignal x IsHeld = Unit {0}
 IsBackFromSignal x (NoSignal y r) = y ≡ x
 
--- a signal has added an event
+-- a signal has added an event: whoever asked has signalled
 abbrev pub is_made : Result Signalling Refusal → Bool
-is_made (Ok Sent) = true
-is_made (Ok Held) = false
-is_made (Err r) = false
+is_made a = has_signalled (locked_signal a true (tt {0}))
 
 -- it is held
 abbrev pub is_held : Result Signalling Refusal → Bool

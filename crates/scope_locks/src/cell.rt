@@ -43,7 +43,6 @@ pub struct PhaserCell<T, K: Ledgers> {
     ghost kept: { IsKept state.story book parked.items },
     ghost ticketed: { vec_len drawn ≡ length state.story.past },
     ghost room_for_tickets: { state.story.limits.history ≤ vec_capacity drawn },
-    ghost any_ops: { state.room ≡ 4 },
     ghost seats: { 256 ≤ deque_capacity parked },
     ghost seated: { deque_len parked ≤ 256 },
 }
@@ -130,7 +129,6 @@ impl<T, K: Ledgers> PhaserCell<T, K> {
             book,
             ..
         } = self;
-        let _four_at_most = ops.len();
         let answer = state.make_with(task, mode, ops, bound);
         let event = Event::Make(task, mode);
         post_if(answer.is_ok(), tickets, drawn, book, books, mine, event);

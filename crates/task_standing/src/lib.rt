@@ -15,8 +15,8 @@
 mod due;
 mod held;
 mod plan;
+mod refusals;
 mod standing;
-mod trying;
 
 pub use held::Held;
 pub use plan::{Due, Plan};

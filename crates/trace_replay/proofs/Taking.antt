@@ -10,7 +10,7 @@ use Rattle.trace_model.specs.Run.{Entry}
 use Rattle.trace_model.specs.declared.event.TracedEvent.{TracedEvent}
 use Rattle.trace_model.specs.Explained.{event_of, past, is_answered, is_later, may_follow, ends_run}
 use Rattle.trace_model.proofs.Legal.{answered_made}
-use Rattle.trace_replay.specs.declared.replaying.Player.{Player}
+use Rattle.trace_replay.specs.declared.player.Player.{Player}
 use Rattle.trace_replay.specs.inner.HandedOver.{HandedOver, newest, is_later_than}
 
 later_is : (ticket : ℕ) (es : List Entry) → is_later_than ticket (newest es) ≡ is_later ticket es

@@ -5,7 +5,7 @@ use Rattle.phase_modes.specs.declared.limits.Limits.{Limits}
 use Rattle.phase_model.proofs.Reversed.{reverse_take_more}
 use Rattle.trace_model.specs.Run.{Entry, Run}
 use Rattle.trace_model.specs.Explained.{may_follow, fault_after, first_fault}
-use Rattle.trace_replay.specs.declared.replaying.Player.{Player}
+use Rattle.trace_replay.specs.declared.player.Player.{Player}
 use Rattle.trace_replay.specs.inner.HandedOver.{HandedOver, HandedUpTo, HandsOver}
 
 pub begins : (l : Limits) (es : List Entry) (s : Player) → HandedOver l [] s → HandedUpTo l es 0 s

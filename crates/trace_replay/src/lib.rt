@@ -3,8 +3,8 @@
 #![tactic(auto)]
 
 mod merging;
-mod replaying;
+mod player;
 mod turns;
 
 pub use merging::merge;
-pub use replaying::replay;
+pub use player::replay;

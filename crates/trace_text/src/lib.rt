@@ -12,4 +12,5 @@ pub use laws::{
     older_texts_are_read_back, texts_are_read_back, traces_are_read_back, worked_examples,
 };
 pub use reading::from_json;
+pub use trace_model::Trace;
 pub use writing::to_json;

@@ -16,7 +16,7 @@ use Rattle.phase_model.specs.Rules.{Story, is_permitted, has_room}
 use Rattle.phase_model.specs.Tasks.{is_live, has_mode}
 use Rattle.phase_model.specs.Phases.{signals, is_within_bound}
 use Rattle.phase_model.specs.Replies as phaser
-use Rattle.phase_model.specs.Replies.{settled}
+use Rattle.phase_model.specs.Replies.{decided}
 use Rattle.phase_model.specs.Waiting.{would_wait, signal_would_wait, is_not_yet}
 use Rattle.phase_modes.specs.Mode.{can_wait}
 use Rattle.phase_modes.specs.Refusal.{first_refusal}
@@ -127,7 +127,7 @@ module _ (l : Limits) (w : List WorldEvent) (t : ℕ) where
         (answered (first_refusal (conditions l (terms_of n w) h (pass t))) (has_mode can_wait t h) (is_permitted l (terms_of n w) h (Passed t)) (is_permitted l (terms_of n w) h (Claimed t))
         (has_room l (phaser.event_for l (terms_of n w) h (pass t) ∷ h)) (phaser.event_for l (terms_of n w) h (pass t)) free p.waiter p.no_pass p.no_claim)
       where
-        answered : (o : Option Refusal) (a b c room : Bool) (e : Event) → o ≡ None → a ≡ true → b ≡ false → c ≡ false → is_not_yet (settled o (a && not b && not c) room e) ≡ true
+        answered : (o : Option Refusal) (a b c room : Bool) (e : Event) → o ≡ None → a ≡ true → b ≡ false → c ≡ false → is_not_yet (decided o (a && not b && not c) room e) ≡ true
         answered o a b c room e x y z v = rw (x, y, z, v) refl
 
     waits_signal : (n : ℕ) → WaitsToSignal l t n w → waits_in l w (next_event l t w) ≡ true
@@ -138,7 +138,7 @@ module _ (l : Limits) (w : List WorldEvent) (t : ℕ) where
         (held (first_refusal (conditions l (terms_of n w) h (signal t p.number))) (is_within_bound (terms_of n w).bound (signals t h) h) (has_room l (Signed t p.number ∷ h))
         (Signed t p.number) p.causeless p.held)
       where
-        held : (o : Option Refusal) (near room : Bool) (e : Event) → o ≡ None → near ≡ false → is_not_yet (settled o (not near) room e) ≡ true
+        held : (o : Option Refusal) (near room : Bool) (e : Event) → o ≡ None → near ≡ false → is_not_yet (decided o (not near) room e) ≡ true
         held o near room e x y = rw (x, y) refl
 
     waits_shut : WaitsToShut t w → waits_in l w (next_event l t w) ≡ true

@@ -26,7 +26,7 @@ use Rattle.world_core.specs.TaskState.{TaskState}
 use Rattle.world_core.specs.WorldState.{WorldState}
 use Rattle.world_core.specs.Kept.{task_at, inner_at, is_idle_plan, past_in}
 use Rattle.world_core.specs.StandsFor.{TaskStands, StandsFor, due_by, end_of}
-use Rattle.world_core.specs.inner.Plans.{fits_plan, has_left}
+use Rattle.world_core.specs.Plans.{fits_plan, has_left}
 use Rattle.world_core.specs.inner.Steps.{owes, passing_on, turn_begun}
 use Rattle.world_core.specs.inner.Begins.{signals_begun, enclosed, shut_begun, end_begun, line_begun}
 use Rattle.world_core.proofs.Entries.{IsPlain, spawner_plain, named_plain}

@@ -8,7 +8,7 @@ use Rattle.phase_model.specs.Rules.{Story, is_permitted}
 use Rattle.phase_model.specs.declared.history.Event.{Event}
 use Rattle.phase_model.specs.declared.history.Event.TheVariants.{Sig, Claim, Pass}
 use Rattle.phaser_core.specs.Answers.{signal_result, pass_result}
-use Rattle.phase_model.specs.Replies.{Reply, refused, not_yet, done, settled, reply, after, done_result}
+use Rattle.phase_model.specs.Replies.{Reply, refused, not_yet, done, decided, reply, after, done_result}
 use Rattle.phase_model.specs.declared.call.Call.TheVariants.{Signal as signal, Pass as pass}
 
 refused_keeps : (s : Story) (r : Reply) (e : Refusal) → Err e ≡ done_result r → after s r ≡ s
@@ -22,14 +22,14 @@ kept xs n old new r e k moved read =
     ap (λ x. set xs n x) same ∙ set-get_or xs n old
 
 pass_by : (s : Story) (o : Option Refusal) (waiting room claims : Bool) (t : ℕ) (h : List Event) (e : Refusal)
-    → Err e ≡ pass_result h (settled o waiting room (cond claims (Claim t) (Pass t))) → after s (settled o waiting room (cond claims (Claim t) (Pass t))) ≡ s
+    → Err e ≡ pass_result h (decided o waiting room (cond claims (Claim t) (Pass t))) → after s (decided o waiting room (cond claims (Claim t) (Pass t))) ≡ s
 pass_by s (Some r) waiting room claims t h e k = refl
 pass_by s None true room claims t h e k = refl
 pass_by s None false false claims t h e k = refl
 pass_by s None false true true t h e k = absurd cc
 pass_by s None false true false t h e k = absurd cc
 
-signal_by : (s : Story) (o : Option Refusal) (waiting room : Bool) (e : Event) (r : Refusal) → Err r ≡ signal_result (settled o waiting room e) → after s (settled o waiting room e) ≡ s
+signal_by : (s : Story) (o : Option Refusal) (waiting room : Bool) (e : Event) (r : Refusal) → Err r ≡ signal_result (decided o waiting room e) → after s (decided o waiting room e) ≡ s
 signal_by s (Some x) waiting room e r k = refl
 signal_by s None true room e r k = refl
 signal_by s None false true e r k = absurd cc

@@ -14,7 +14,7 @@ use Rattle.phase_model.specs.Rules.{Story, with_event}
 use Rattle.phase_model.specs.Tasks.{is_live, is_registered, is_dropped}
 use Rattle.phase_model.specs.Singles.{owes_nothing}
 use Rattle.phase_model.specs.Replies as phaser
-use Rattle.phase_model.specs.Replies.{settled, done, done_result}
+use Rattle.phase_model.specs.Replies.{decided, done, done_result}
 use Rattle.phase_model.specs.declared.call.Call.TheVariants.{Drop as drop_task}
 use Rattle.finish_core.specs.declared.event.FinishEvent.TheVariants.{Spawned, Ended, Shut as Shutting}
 use Rattle.world_model.specs.declared.event.Step.TheVariants.{Reg, Sig, Claim, Did, Pass, Drop}
@@ -39,7 +39,7 @@ use Rattle.world_core.specs.inner.Steps.{done_by, with_task, is_first}
 use Rattle.world_core.specs.inner.DropSteps.{wants_drop, is_to_drop, dropper_at, drop_result, drop_answer, drop_state, gone_from, drop_noted, task_gone}
 use Rattle.world_core.proofs.LimitsStay.{limits_by}
 use Rattle.world_core.specs.StandsFor.{TaskStands, StandsFor, IsStep, due_by, inner_of, end_of}
-use Rattle.world_core.specs.inner.Plans.{fits_plan, has_left}
+use Rattle.world_core.specs.Plans.{fits_plan, has_left}
 use Rattle.world_model.proofs.OthersLeave.{due_other, due_own}
 use Rattle.world_core.proofs.TableReads.{read_set}
 use Rattle.world_model.proofs.PhasersOnce.{times, phasers_once}
@@ -395,7 +395,7 @@ module _ (s : WorldState) (w : List WorldEvent) (n t : ℕ) (st : StandsFor w s)
       (ap (λ y. with_event y (Dropped t)) (st.phasers n).story)
   story_by i false e = (st.phasers i).story
 
-done_is_live : (a b room : Bool) (t : ℕ) → done_result (settled (first_refusal ((NotRegistered, a) ∷ (NotNow, b) ∷ [])) false room (Dropped t)) ≡ Ok tt → a ≡ true
+done_is_live : (a b room : Bool) (t : ℕ) → done_result (decided (first_refusal ((NotRegistered, a) ∷ (NotNow, b) ∷ [])) false room (Dropped t)) ≡ Ok tt → a ≡ true
 done_is_live true b room t e = refl
 done_is_live false b room t e = absurd cc
 

@@ -25,7 +25,7 @@ use Rattle.world_core.specs.inner.Steps.{done_by, with_task}
 use Rattle.world_core.specs.inner.FinishSteps.{is_next, said, finish_called, end_asked, end_result, end_answer, end_noted, end_state}
 use Rattle.world_core.proofs.LimitsStay.{limits_by}
 use Rattle.world_core.specs.StandsFor.{TaskStands, StandsFor, IsStep, inner_of, end_of, due_by}
-use Rattle.world_core.specs.inner.Plans.{has_left}
+use Rattle.world_core.specs.Plans.{has_left}
 use Rattle.world_model.proofs.OthersLeave.{due_other, due_own}
 use Rattle.world_model.proofs.FinishesLegal.{event_allowed}
 use Rattle.world_core.proofs.TableReads.{read_set}

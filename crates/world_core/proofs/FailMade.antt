@@ -30,7 +30,7 @@ use Rattle.world_core.specs.WorldState.{WorldState}
 use Rattle.world_core.specs.Kept.{blank_task, task_at, story_at, is_ready, is_idle_plan}
 use Rattle.world_core.proofs.LimitsStay.{limits_where}
 use Rattle.world_core.specs.StandsFor.{StandsFor, IsStep, end_of}
-use Rattle.world_core.specs.inner.Plans.{fits_plan}
+use Rattle.world_core.specs.Plans.{fits_plan}
 use Rattle.world_core.specs.inner.Steps.{with_task, may_claim, may_report}
 use Rattle.world_core.specs.inner.Queries.{turn_event, drop_or, reg_or, shut_or, next_by, kept_next}
 use Rattle.world_core.specs.inner.Refusals.{refusal_in, is_make, given_up}

@@ -14,7 +14,7 @@ use Rattle.phase_model.specs.declared.history.Event.TheVariants.{Make as Made}
 use Rattle.phase_model.specs.Rules.{Story}
 use Rattle.phase_model.specs.Tasks.{is_registered}
 use Rattle.phase_model.specs.Replies as phaser
-use Rattle.phase_model.specs.Replies.{settled, done, done_result}
+use Rattle.phase_model.specs.Replies.{decided, done, done_result}
 use Rattle.phase_model.specs.declared.call.Call.TheVariants.{Make as make}
 use Rattle.world_model.specs.declared.event.Step.TheVariants.{Make}
 use Rattle.world_model.specs.declared.event.Tried.TheVariants.{New}

@@ -16,7 +16,7 @@ use Rattle.world_core.specs.TaskState.{TaskState}
 use Rattle.world_model.specs.Due.{or_single}
 use Rattle.world_model.specs.Continuing.{same_event, same_step}
 use Rattle.world_core.specs.StandsFor.{due_by, inner_of, end_of}
-use Rattle.world_core.specs.inner.Plans.{has_left}
+use Rattle.world_core.specs.Plans.{has_left}
 
 -- the first event due is this step on phaser n
 abbrev pub is_next : Limits → List WorldEvent → List WorldEvent → ℕ → Step → Bool

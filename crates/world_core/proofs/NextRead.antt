@@ -21,7 +21,7 @@ use Rattle.world_model.specs.TaskConditions.{last_entry, condition_in, condition
 use Rattle.world_model.specs.TaskConditions as history
 use Rattle.world_core.specs.inner.Steps.{may_claim, may_report}
 use Rattle.world_core.specs.StandsFor.{StandsFor, IsChain, inner_of, end_of, due_by}
-use Rattle.world_core.specs.inner.Plans.{fits_plan, has_left}
+use Rattle.world_core.specs.Plans.{fits_plan, has_left}
 use Rattle.world_core.specs.inner.Queries.{turn_event, drop_or, reg_or, shut_or, next_by, kept_next, kept_condition}
 use Rattle.world_core.specs.inner.Queries as kept
 

@@ -7,7 +7,7 @@ use Rattle.phase_model.specs.declared.call.Call.{Call}
 use Rattle.phase_model.specs.declared.history.Event.{Event}
 use Rattle.phase_model.specs.Rules.{Story}
 use Rattle.phase_model.specs.Replies as phaser
-use Rattle.phase_model.specs.Replies.{settled, done, done_result}
+use Rattle.phase_model.specs.Replies.{decided, done, done_result}
 use Rattle.world_model.specs.declared.reply.Reply.{Reply}
 use Rattle.world_model.specs.declared.reply.Reply.TheVariants.{Done}
 use Rattle.world_model.specs.PartReplies.{returned}
@@ -43,13 +43,13 @@ asked_and_done true u e = (refl, e)
 asked_and_done false u e = absurd cc
 
 -- a call that was done adds its event
-pub settled_as : (o : Option Refusal) (room : Bool) (e : Event) → done_result (settled o false room e) ≡ Ok tt → settled o false room e ≡ done e
+pub settled_as : (o : Option Refusal) (room : Bool) (e : Event) → done_result (decided o false room e) ≡ Ok tt → decided o false room e ≡ done e
 settled_as (Some r) room e k = absurd cc
 settled_as None true e k = refl
 settled_as None false e k = absurd cc
 
 -- a phaser's reply to a call that has no result of its own, as the world's
-pub done_as : (h : List Event) (o : Option Refusal) (room : Bool) (e : Event) → returned h (done e) ≡ Ok Done → done_by (done_result (settled o false room e)) ≡ returned h (settled o false room e)
+pub done_as : (h : List Event) (o : Option Refusal) (room : Bool) (e : Event) → returned h (done e) ≡ Ok Done → done_by (done_result (decided o false room e)) ≡ returned h (decided o false room e)
 done_as h (Some r) room e k = refl
 done_as h None true e k = sym k
 done_as h None false e k = refl

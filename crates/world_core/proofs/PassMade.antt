@@ -9,7 +9,7 @@ use Rattle.phase_model.specs.declared.history.Event.{Event}
 use Rattle.phase_model.specs.declared.history.Event.TheVariants.{Claim as Claimed, Did as Reported, Pass as Gone}
 use Rattle.phase_model.specs.Rules.{Story, is_permitted}
 use Rattle.phase_model.specs.Replies as phaser
-use Rattle.phase_model.specs.Replies.{settled, done}
+use Rattle.phase_model.specs.Replies.{decided, done}
 use Rattle.phase_model.specs.declared.call.Call.TheVariants.{Pass as pass}
 use Rattle.phaser_core.specs.declared.state.Passing.{Passing}
 use Rattle.phaser_core.specs.declared.state.Passing.TheVariants.{Passed, Claimed as Claims, NotYet as Waits}
@@ -33,7 +33,7 @@ use Rattle.world_model.specs.Replies.{reply, is_made}
 use Rattle.world_core.specs.inner.Steps.{is_first, wants_pass, is_to_pass, may_claim, may_report, pass_asked, passed_on, reply_by_pass, pass_outcome, pass_answer, pass_state, state_by_pass, note_pass, pass_noted, phaser_called, with_task}
 use Rattle.world_core.proofs.LimitsStay.{limits_by_pass}
 use Rattle.world_core.specs.StandsFor.{TaskStands, StandsFor, IsStep, due_by}
-use Rattle.world_core.specs.inner.Plans.{fits_plan, has_left}
+use Rattle.world_core.specs.Plans.{fits_plan, has_left}
 use Rattle.world_model.proofs.OthersLeave.{due_own}
 use Rattle.world_core.proofs.Quiet.{phasers_same}
 use Rattle.world_core.proofs.Called.{step_stands}
@@ -75,7 +75,7 @@ module _ (l : Limits) (w : List WorldEvent) (t n : ℕ) (k : TaskState) (fs : Li
 
 -- the reply to a pass is what the phaser returns
 pub pass_returned : (h : List Event) (o : Option Refusal) (waiting room b : Bool) (t : ℕ)
-    → reply_by_pass (pass_result h (settled o waiting room (cond b (Claimed t) (Gone t)))) ≡ returned h (settled o waiting room (cond b (Claimed t) (Gone t)))
+    → reply_by_pass (pass_result h (decided o waiting room (cond b (Claimed t) (Gone t)))) ≡ returned h (decided o waiting room (cond b (Claimed t) (Gone t)))
 pass_returned h (Some r) waiting room b t = refl
 pass_returned h None true room b t = refl
 pass_returned h None false false b t = refl
@@ -160,8 +160,8 @@ pub asked_made : (b : Bool) (u : Result Passing Refusal) → is_made (reply_by_p
 asked_made true u e = (refl, e)
 asked_made false u e = absurd cc
 
-gone : (h : List Event) (o : Option Refusal) (waiting room b : Bool) (t : ℕ) → b ≡ false → is_made (reply_by_pass (pass_result h (settled o waiting room (cond b (Claimed t) (Gone t))))) ≡ true
-    → settled o waiting room (cond b (Claimed t) (Gone t)) ≡ done (Gone t)
+gone : (h : List Event) (o : Option Refusal) (waiting room b : Bool) (t : ℕ) → b ≡ false → is_made (reply_by_pass (pass_result h (decided o waiting room (cond b (Claimed t) (Gone t))))) ≡ true
+    → decided o waiting room (cond b (Claimed t) (Gone t)) ≡ done (Gone t)
 gone h (Some r) waiting room b t f e = absurd cc
 gone h None true room b t f e = absurd cc
 gone h None false false b t f e = absurd cc

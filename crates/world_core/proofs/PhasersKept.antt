@@ -11,7 +11,7 @@ use Rattle.phase_model.specs.declared.history.Event.TheVariants.{Look as Looked}
 use Rattle.phase_model.specs.declared.op.Look.{Look}
 use Rattle.phase_model.specs.declared.terms.Terms.{Terms}
 use Rattle.phase_model.specs.Rules.{Story}
-use Rattle.phase_model.specs.Replies.{Reply, refused, not_yet, done, settled, reply, after, done_result}
+use Rattle.phase_model.specs.Replies.{Reply, refused, not_yet, done, decided, reply, after, done_result}
 use Rattle.phaser_core.specs.Answers.{made_with, look_result}
 use Rattle.world_core.specs.WorldState.{WorldState}
 use Rattle.world_core.proofs.Calls.{kept}
@@ -37,7 +37,7 @@ pub register_kept : (xs : List Story) (n : ℕ) (old new : Story) (q c : ℕ) (m
 register_kept xs n old new q c m e k moved read = kept xs n old new (reply old (register q c m)) e k moved read
 
 look_by : (s : Story) (o : Option Refusal) (room : Bool) (t a : ℕ) (x : Look) (e : Refusal)
-    → Err e ≡ look_result (settled o false room (Looked t a x)) → after s (settled o false room (Looked t a x)) ≡ s
+    → Err e ≡ look_result (decided o false room (Looked t a x)) → after s (decided o false room (Looked t a x)) ≡ s
 look_by s (Some r) room t a x e k = refl
 look_by s None false t a x e k = refl
 look_by s None true t a x e k = absurd cc

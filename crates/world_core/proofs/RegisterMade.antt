@@ -47,7 +47,7 @@ use Rattle.world_core.specs.WorldState.{WorldState}
 use Rattle.world_core.specs.Kept.{blank_task, blank_story, task_at, story_at, is_idle_plan}
 use Rattle.world_core.proofs.LimitsStay.{limits_by}
 use Rattle.world_core.specs.StandsFor.{TaskStands, StandsFor, IsStep, due_by, inner_of, end_of}
-use Rattle.world_core.specs.inner.Plans.{fits_plan}
+use Rattle.world_core.specs.Plans.{fits_plan}
 use Rattle.world_core.specs.inner.Steps.{done_by, with_task}
 use Rattle.world_core.specs.inner.RegisterSteps.{is_pair, wants_register, is_to_register, has_place, register_result, register_answer, register_state, joining, register_noted, to_next_pair, child_joined}
 use Rattle.world_core.proofs.TableReads.{read_set}

@@ -12,7 +12,7 @@ use Rattle.phase_model.specs.declared.op.Look.{Look as Seen}
 use Rattle.phase_model.specs.Phases.{waits}
 use Rattle.phase_model.specs.Rules.{Story, look_of}
 use Rattle.phase_model.specs.Replies as phaser
-use Rattle.phase_model.specs.Replies.{settled, done, done_result}
+use Rattle.phase_model.specs.Replies.{decided, done, done_result}
 use Rattle.phase_model.specs.declared.call.Call.TheVariants.{Send as send, Look as look}
 use Rattle.phaser_core.specs.Answers.{look_result}
 use Rattle.world_model.specs.declared.event.Step.{Step}
@@ -121,7 +121,7 @@ send_is_step s n t a v = record {
 }
 
 -- the reply to a look is what the phaser returns
-look_returned : (h : List Event) (o : Option Refusal) (room : Bool) (t a : ℕ) (x : Seen) → reply_by_look (look_result (settled o false room (Looked t a x))) ≡ returned h (settled o false room (Looked t a x))
+look_returned : (h : List Event) (o : Option Refusal) (room : Bool) (t a : ℕ) (x : Seen) → reply_by_look (look_result (decided o false room (Looked t a x))) ≡ returned h (decided o false room (Looked t a x))
 look_returned h (Some r) room t a x = refl
 look_returned h None true t a x = refl
 look_returned h None false t a x = refl
@@ -139,8 +139,8 @@ look_answers s w n t a st =
     in
     looked_by (act_refusal s t) (first_refusal (act_conditions s.limits w t (Looking n a))) (look_result (phaser.reply (story_at s n) (look t a))) (phaser_reply s.limits w n (Look t a)) (conditions_are s w n t a st) answer
 
-look_ok : (o p : Option Refusal) (room : Bool) (t a : ℕ) (x : Seen) → is_made (reply_by_look (unless_before o (look_result (settled p false room (Looked t a x))))) ≡ true
-    → (o ≡ None) × (settled p false room (Looked t a x) ≡ done (Looked t a x))
+look_ok : (o p : Option Refusal) (room : Bool) (t a : ℕ) (x : Seen) → is_made (reply_by_look (unless_before o (look_result (decided p false room (Looked t a x))))) ≡ true
+    → (o ≡ None) × (decided p false room (Looked t a x) ≡ done (Looked t a x))
 look_ok None None true t a x e = (refl, refl)
 look_ok None None false t a x e = absurd cc
 look_ok None (Some r) room t a x e = absurd cc

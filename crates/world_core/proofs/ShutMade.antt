@@ -26,7 +26,7 @@ use Rattle.world_core.specs.inner.FinishSteps.{shut_result, is_next, said, finis
 use Rattle.phase_modes.specs.declared.limits.Limits.{Limits}
 use Rattle.world_core.proofs.LimitsStay.{limits_by}
 use Rattle.world_core.specs.StandsFor.{TaskStands, StandsFor, IsStep, IsChain, inner_of, end_of, due_by}
-use Rattle.world_core.specs.inner.Plans.{fits_plan, has_left}
+use Rattle.world_core.specs.Plans.{fits_plan, has_left}
 use Rattle.world_model.proofs.OthersLeave.{due_other, due_own}
 use Rattle.world_model.proofs.FinishesLegal.{event_allowed}
 use Rattle.world_core.proofs.TableReads.{read_set}

@@ -11,7 +11,7 @@ use Rattle.phase_modes.specs.declared.refusal.Refusal.TheVariants.{NotNow}
 use Rattle.phase_model.specs.declared.history.Event.{Event}
 use Rattle.phase_model.specs.declared.history.Event.TheVariants.{Sig as Signed}
 use Rattle.phase_model.specs.Replies as phaser
-use Rattle.phase_model.specs.Replies.{settled, done}
+use Rattle.phase_model.specs.Replies.{decided, done}
 use Rattle.phase_model.specs.declared.call.Call.TheVariants.{Signal as signal}
 use Rattle.finish_core.specs.declared.event.FinishEvent.TheVariants.{Spawned, Ended, Shut as Shutting}
 use Rattle.world_model.specs.declared.reply.Reply.{Reply}
@@ -30,7 +30,7 @@ use Rattle.world_core.specs.TaskState.{TaskState}
 use Rattle.world_core.specs.WorldState.{WorldState}
 use Rattle.world_core.specs.Kept.{blank_task, blank_story, task_at, story_at, is_idle_plan}
 use Rattle.world_core.specs.StandsFor.{StandsFor, TaskStands, due_by, inner_of, end_of, IsStep}
-use Rattle.world_core.specs.inner.Plans.{fits_plan, has_left}
+use Rattle.world_core.specs.Plans.{fits_plan, has_left}
 use Rattle.world_model.specs.Parts.{phaser_past}
 use Rattle.world_model.specs.Scopes.{open_finishes}
 use Rattle.world_model.specs.Due.{due, or_single}
@@ -90,7 +90,7 @@ wanted_is_next l w t k fs n x (plan.Ending c) left e =
     (drops_are_none l w (map (λ f. Finish f Shutting) fs ++ end_of t k ∷ []) t t n x k.phasers (shuts_are_none l w t t n x k fs)))
 
 -- the reply to a signal is what the phaser returns
-signal_returned : (h : List Event) (o : Option Refusal) (waiting room : Bool) (t : ℕ) (x : Option ℕ) → reply_by_signal (signal_result (settled o waiting room (Signed t x))) ≡ returned h (settled o waiting room (Signed t x))
+signal_returned : (h : List Event) (o : Option Refusal) (waiting room : Bool) (t : ℕ) (x : Option ℕ) → reply_by_signal (signal_result (decided o waiting room (Signed t x))) ≡ returned h (decided o waiting room (Signed t x))
 signal_returned h (Some r) waiting room t x = refl
 signal_returned h None true room t x = refl
 signal_returned h None false true t x = refl
@@ -193,7 +193,7 @@ both_parts : (b : Bool) (u : Result Signalling Refusal) → cond b u (Err NotNow
 both_parts true u e = (refl, e)
 both_parts false u e = absurd cc
 
-done_by_settled : (o : Option Refusal) (waiting room : Bool) (e : Event) → signal_result (settled o waiting room e) ≡ Ok Signalled → settled o waiting room e ≡ done e
+done_by_settled : (o : Option Refusal) (waiting room : Bool) (e : Event) → signal_result (decided o waiting room e) ≡ Ok Signalled → decided o waiting room e ≡ done e
 done_by_settled (Some r) waiting room e k = absurd cc
 done_by_settled None true room e k = absurd cc
 done_by_settled None false true e k = refl

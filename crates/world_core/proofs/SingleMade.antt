@@ -10,7 +10,7 @@ use Rattle.phase_model.specs.declared.history.Event.{Event}
 use Rattle.phase_model.specs.declared.history.Event.TheVariants.{Claim as Claimed, Did as Reported, Pass as Gone}
 use Rattle.phase_model.specs.Rules.{Story, with_event}
 use Rattle.phase_model.specs.Replies as phaser
-use Rattle.phase_model.specs.Replies.{settled, done, done_result}
+use Rattle.phase_model.specs.Replies.{decided, done, done_result}
 use Rattle.phase_model.specs.declared.call.Call.TheVariants.{Pass as pass, SingleDone as single_done}
 use Rattle.phaser_core.specs.Answers.{pass_result}
 use Rattle.world_model.specs.declared.event.Step.TheVariants.{Claim, Did}
@@ -30,7 +30,7 @@ use Rattle.world_model.specs.Replies.{reply, is_made}
 use Rattle.world_core.specs.inner.Steps.{is_first, wants_pass, is_to_pass, may_claim, may_report, claim_asked, report_asked, passed_on, reply_by_pass, claim_outcome, claim_answer, claim_state, report_result, report_answer, report_state, done_by, state_by, phaser_called, with_task}
 use Rattle.world_core.proofs.LimitsStay.{limits_by_pass, limits_by}
 use Rattle.world_core.specs.StandsFor.{TaskStands, StandsFor, IsStep, due_by}
-use Rattle.world_core.specs.inner.Plans.{has_left}
+use Rattle.world_core.specs.Plans.{has_left}
 use Rattle.world_core.proofs.Quiet.{phasers_same}
 use Rattle.world_core.proofs.Called.{step_stands}
 use Rattle.world_core.proofs.NextOf.{is_next, IsOfTurn, other_plan, claim_by, report_by}
@@ -94,7 +94,7 @@ claim_answers s w n t st =
     answer_by (claim_asked s n t) (is_next l w (due t w) n (Claim t)) (passed_on s n t) (phaser_reply l w n (Claim t)) next answer
 
 -- the reply to a report is what the phaser returns
-report_returned : (h : List Event) (o : Option Refusal) (room : Bool) (t : ℕ) → done_by (done_result (settled o false room (Reported t))) ≡ returned h (settled o false room (Reported t))
+report_returned : (h : List Event) (o : Option Refusal) (room : Bool) (t : ℕ) → done_by (done_result (decided o false room (Reported t))) ≡ returned h (decided o false room (Reported t))
 report_returned h (Some r) room t = refl
 report_returned h None true t = refl
 report_returned h None false t = refl
@@ -167,8 +167,8 @@ report_line outers w n t k st =
     }
 
 -- a pass where the task may claim is the claim
-claims : (h : List Event) (o : Option Refusal) (waiting room b : Bool) (t : ℕ) → b ≡ true → is_made (reply_by_pass (pass_result h (settled o waiting room (cond b (Claimed t) (Gone t))))) ≡ true
-    → settled o waiting room (cond b (Claimed t) (Gone t)) ≡ done (Claimed t)
+claims : (h : List Event) (o : Option Refusal) (waiting room b : Bool) (t : ℕ) → b ≡ true → is_made (reply_by_pass (pass_result h (decided o waiting room (cond b (Claimed t) (Gone t))))) ≡ true
+    → decided o waiting room (cond b (Claimed t) (Gone t)) ≡ done (Claimed t)
 claims h (Some r) waiting room b t f e = absurd cc
 claims h None true room b t f e = absurd cc
 claims h None false false b t f e = absurd cc
@@ -203,7 +203,7 @@ made_ok true (Ok u) e = (refl, refl)
 made_ok true (Err r) e = absurd cc
 made_ok false u e = absurd cc
 
-reports : (o : Option Refusal) (room : Bool) (t : ℕ) → done_result (settled o false room (Reported t)) ≡ Ok tt → settled o false room (Reported t) ≡ done (Reported t)
+reports : (o : Option Refusal) (room : Bool) (t : ℕ) → done_result (decided o false room (Reported t)) ≡ Ok tt → decided o false room (Reported t) ≡ done (Reported t)
 reports (Some r) room t e = absurd cc
 reports None true t e = refl
 reports None false t e = absurd cc

@@ -38,7 +38,7 @@ use Rattle.world_core.specs.inner.Steps.{done_by, state_by, with_task}
 use Rattle.world_core.specs.inner.SpawnSteps.{wants_spawn, is_to_spawn, spawner_at, spawn_wanted, spawn_result, spawn_answer, spawn_state, born_in, spawn_noted, child_born}
 use Rattle.world_core.proofs.LimitsStay.{limits_by}
 use Rattle.world_core.specs.StandsFor.{TaskStands, StandsFor, IsStep, due_by, inner_of, end_of}
-use Rattle.world_core.specs.inner.Plans.{fits_plan, has_left}
+use Rattle.world_core.specs.Plans.{fits_plan, has_left}
 use Rattle.world_model.proofs.OthersLeave.{due_other, due_own}
 use Rattle.world_core.proofs.TableReads.{read_set}
 use Rattle.world_model.proofs.SpawnUnderWay.{begins_spawn, named_by_spawn}

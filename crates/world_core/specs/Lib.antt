@@ -2,5 +2,6 @@
 pub mod TaskState
 pub mod WorldState
 pub mod Kept
+pub mod Plans
 pub mod StandsFor
 pub mod inner

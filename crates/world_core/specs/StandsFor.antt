@@ -15,7 +15,7 @@ use Rattle.world_model.specs.declared.reply.Reply.{Reply}
 use Rattle.world_core.specs.TaskState.{TaskState}
 use Rattle.world_core.specs.WorldState.{WorldState}
 use Rattle.world_core.specs.Kept.{task_at, story_at, finish_at, is_idle_plan}
-use Rattle.world_core.specs.inner.Plans.{fits_plan, has_left}
+use Rattle.world_core.specs.Plans.{fits_plan, has_left}
 use Rattle.world_model.specs.Parts.{finish_past, story_of}
 use Rattle.world_model.specs.Tasks as of
 use Rattle.world_model.specs.Scopes as scope
@@ -51,7 +51,9 @@ abbrev pub IsChain : List (Option ℕ) → Option ℕ → List ℕ → Type 0
 IsChain outers top [] = top ≡ None
 IsChain outers top (f ∷ fs) = (top ≡ Some f) × IsChain outers (get_or outers f None) fs
 
--- what is kept of task t is what is read of it
+-- what is kept of task t is what is read of it. The first five lines are what the code goes on by: its plan gives the
+-- events that the task has still to make, and its own open finishes hang together, the innermost first. The others are
+-- readings as they are
 pub record TaskStands (outers : List (Option ℕ)) (w : List WorldEvent) (t : ℕ) (k : TaskState) : Type 0 where
   pub due_is : due t w ≡ due_by t k (scope.open_finishes t w) k.plan
   pub idle : is_idle_plan k.plan ≡ is_empty (due t w)

@@ -1,6 +1,5 @@
--- What the code's own functions say, and which plans a state may hold, by the state alone: no public contract cites it.
+-- What the code's own functions say, by the state alone: no public contract cites it.
 pub mod Sizes
-pub mod Plans
 pub mod Steps
 pub mod SpawnSteps
 pub mod Queries

@@ -4,7 +4,7 @@
 
 mod phaser;
 mod plan;
-mod reporting;
+mod report_rows;
 mod tables;
 mod task;
 mod world;

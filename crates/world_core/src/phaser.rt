@@ -1,5 +1,4 @@
-//! A phaser as a world keeps it: contracts see its story alone, and each has room for four
-//! accumulators, whatever it will be made with.
+//! A phaser as a world keeps it: contracts see its story alone.
 ghost use Rattle.std.specs.Prelude.{◌≡◌, [], length, true, IfOk, IfErr};
 ghost use Rattle.phase_modes.specs.Limits.{limits_fit};
 ghost use Rattle.phase_modes.specs.Lists.{is_empty};
@@ -24,14 +23,11 @@ pub(crate) struct KeptPhaser {
 }
 
 impl Model for KeptPhaser {
-    ghost use Rattle.std.specs.Prelude.{◌≡◌};
     ghost use Rattle.phase_model.specs.Rules.{Story};
 
     ghost Value = { Story };
 
     ghost view = { λ p. p.state.story };
-
-    ghost invariant = { λ p. p.state.room ≡ 4 };
 }
 
 impl KeptPhaser {
@@ -50,7 +46,6 @@ impl KeptPhaser {
         ensures reply { result ≡ done_result (reply self.old (make task mode)) }
         ensures history { self.new ≡ made_with self.old terms (reply self.old (make task mode)) }
     {
-        let _four_at_most = terms.ops.len();
         self.state.make_with(task, mode, terms.ops, terms.bound)
     }
 

@@ -16,23 +16,23 @@ use std::alloc::Global;
 use std::marker::Model;
 
 mod begins;
-mod drawing;
 mod dropping;
 mod ends;
 mod failures;
-mod handing;
 mod making;
+mod may_spawn;
 mod opening;
 mod queries;
 mod refusals;
 mod registering;
-mod reporting;
+mod report;
 mod sends;
 mod spawning;
-mod stepping;
+mod steps;
 mod turns;
+mod unused;
 
-pub use drawing::Unused;
+pub use unused::Unused;
 
 /// The tables of a world, each with a line for each number.
 #[derive(Drop)]

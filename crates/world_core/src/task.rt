@@ -12,9 +12,9 @@ use std::marker::Model;
 pub(crate) mod begins;
 mod dropping;
 mod giving_up;
-mod joining;
+mod phasers;
 mod registering;
-mod reporting;
+mod report_line;
 mod spawning;
 
 /// How many phasers a task is on at once, at most.

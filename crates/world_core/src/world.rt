@@ -119,10 +119,12 @@ impl World {
         self.tables.report(alloc)
     }
 
-    /// It does nothing. Its contract is a law of each world: as long as some task hasn't ended,
-    /// some task is able.
+    /// It does nothing. Its contract is a law of each world: there is a history for which it stands,
+    /// and in each such history some task is able, as long as some task hasn't ended. What is asked of
+    /// the world by `able` is what those histories answer.
     pub fn some_task_goes_on(&self)
-        ensures { (w : List Event) × StandsFor w self.now × (is_stuck self.now.limits w ≡ false) }
+        ensures world { (w : List Event) × StandsFor w self.now × (is_stuck self.now.limits w ≡ false) }
+        ensures able { (w : List Event) → StandsFor w self.now → is_stuck self.now.limits w ≡ false }
     {
         let _tables = &self.tables;
     }

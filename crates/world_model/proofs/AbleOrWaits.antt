@@ -18,7 +18,7 @@ use Rattle.phase_model.specs.Replies as phaser
 use Rattle.phase_model.specs.declared.call.Call.TheVariants.{Signal as signal}
 use Rattle.phase_model.specs.Conditions.{conditions}
 use Rattle.phase_model.specs.declared.call.Call.TheVariants.{Pass as pass}
-use Rattle.phase_model.specs.Replies.{settled}
+use Rattle.phase_model.specs.Replies.{decided}
 use Rattle.phase_model.proofs.Legal.{at_or_ahead}
 use Rattle.phase_model.proofs.SingleRules.{did_follows}
 use Rattle.phase_model.proofs.SingleReplies.{singles_are_answered, singles_have_room}
@@ -169,7 +169,7 @@ module _ (l : Limits) (w : List WorldEvent) (k : is_legal_world l w ≡ true) (t
       elim (sig_causes n x ds s here) [
         | inr mismatch ↦
             inl (fails_7 l w t going e next
-            (ap (λ o. is_refused_by 7 (returned h (settled o (not near) room (Signalled t x)))) mismatch))
+            (ap (λ o. is_refused_by 7 (returned h (decided o (not near) room (Signalled t x)))) mismatch))
         | inl agreed ↦
             elim (cases_Bool near) [
               | inr far ↦
@@ -220,7 +220,7 @@ module _ (l : Limits) (w : List WorldEvent) (k : is_legal_world l w ≡ true) (t
       (has_room l (Done t ∷ h)) f.live f.claimed f.undone room
     where
       answered : (h : List Event) (a b c room : Bool) → a ≡ true → b ≡ true → c ≡ false → room ≡ true
-          → is_made (returned h (settled (cond a (cond b (cond (not c) None (Some NotNow)) (Some NotNow))
+          → is_made (returned h (decided (cond a (cond b (cond (not c) None (Some NotNow)) (Some NotNow))
           (Some NotRegistered)) false room (Done t))) ≡ true
       answered h a b c room p q r s = rw (p, q, r, s) refl
 

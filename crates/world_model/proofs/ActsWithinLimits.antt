@@ -134,7 +134,7 @@ all_one_more (suc n) u e w s k =
     own x y b h = omega (arith, h)
 
 -- a number that a spawn named is below the limit
-named_fits : (l : Limits) (w : List WorldEvent) → is_legal_world l w ≡ true → (t : ℕ)
+pub named_fits : (l : Limits) (w : List WorldEvent) → is_legal_world l w ≡ true → (t : ℕ)
     → list_any (names t) w ≡ true → t < l.tasks
 named_fits l [] k t n = absurd cc
 named_fits l (e ∷ w) k t n =
@@ -152,7 +152,7 @@ named_fits l (e ∷ w) k t n =
         subst (λ v. v < l.tasks) (eqb-true c t b) (ltb-true c l.tasks asked.0)
     by_event e h b = absurd cc
 
-born_fits : (l : Limits) (w : List WorldEvent) → is_legal_world l w ≡ true → 1 ≤ l.tasks → (t : ℕ)
+pub born_fits : (l : Limits) (w : List WorldEvent) → is_legal_world l w ≡ true → 1 ≤ l.tasks → (t : ℕ)
     → is_born t w ≡ true → t < l.tasks
 born_fits l w k some t b =
     elim (or_cases (t == 0) (list_any (names t) w) (born_named l t w k b)) [

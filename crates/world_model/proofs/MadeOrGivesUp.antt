@@ -9,7 +9,7 @@ use Rattle.phase_modes.specs.declared.refusal.Refusal.TheVariants.{NotNow}
 use Rattle.phase_model.specs.declared.history.Event.{Event}
 use Rattle.phase_model.specs.declared.history.Event.TheVariants.{Pass as Passed, Look as Looked}
 use Rattle.phase_model.specs.Replies as phaser
-use Rattle.phase_model.specs.Replies.{settled}
+use Rattle.phase_model.specs.Replies.{decided}
 use Rattle.world_model.specs.declared.event.WorldEvent.{WorldEvent}
 use Rattle.world_model.specs.declared.event.WorldEvent.TheVariants.{Fail}
 use Rattle.world_model.specs.Tasks.{is_ended}
@@ -31,8 +31,8 @@ event_made h e = refl
 -- a call without a cause that doesn't wait is done, or has no room
 pub made_or_full : (h : List Event) (o : Option Refusal) (waiting room : Bool) (e : Event)
     → o ≡ None → waiting ≡ false
-    → (is_made (returned h (settled o waiting room e)) ≡ true)
-    ⊎ (is_refused_by 15 (returned h (settled o waiting room e)) ≡ true)
+    → (is_made (returned h (decided o waiting room e)) ≡ true)
+    ⊎ (is_refused_by 15 (returned h (decided o waiting room e)) ≡ true)
 made_or_full h o waiting true e n v = inl (rw (n, v) (event_made h e))
 made_or_full h o waiting false e n v = inr (rw (n, v) refl)
 

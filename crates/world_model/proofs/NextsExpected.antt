@@ -18,7 +18,7 @@ use Rattle.phase_model.specs.Replies as phaser
 use Rattle.phase_model.specs.declared.call.Call.TheVariants.{Signal as signal}
 use Rattle.phase_model.specs.Conditions.{conditions}
 use Rattle.phase_model.specs.declared.call.Call.TheVariants.{Pass as pass}
-use Rattle.phase_model.specs.Replies.{settled}
+use Rattle.phase_model.specs.Replies.{decided}
 use Rattle.phase_model.proofs.LiveTasks.{has}
 use Rattle.finish_core.specs.declared.event.FinishEvent.TheVariants.{Spawned, Ended, Shut as Shutting}
 use Rattle.finish_core.specs.Finish.{is_open, all_ended}
@@ -60,7 +60,7 @@ made_expected (Err r) k = absurd (false≢true k)
 
 -- a call without a cause is done, or has to wait, or has no room
 room_expected : (h : List Event) (o : Option Refusal) (waiting room : Bool) (e : Event) → o ≡ None
-    → is_expected (returned h (settled o waiting room e)) ≡ true
+    → is_expected (returned h (decided o waiting room e)) ≡ true
 room_expected h o true room e n = rw n refl
 room_expected h o false true e n = rw n (made_expected (returned h (phaser.done e)) (event_made h e))
 room_expected h o false false e n = rw n refl
@@ -91,7 +91,7 @@ module _ (l : Limits) (w : List WorldEvent) (k : is_legal_world l w ≡ true) (t
     where
       by : (a b d e f room : Bool) → a ≡ true → b ≡ true → d ≡ true → e ≡ false
           → is_expected (returned (phaser_past n w)
-          (settled (first_refusal ((NotRegistered, a) ∷ (MoreThanParent, b) ∷ (TasksFull, d)
+          (decided (first_refusal ((NotRegistered, a) ∷ (MoreThanParent, b) ∷ (TasksFull, d)
           ∷ (RegisteredTwice, not e) ∷ (RegsFull, f) ∷ [])) false room (Registered t c m))) ≡ true
       by a b d e true true x y z u = rw (x, y, z, u) refl
       by a b d e true false x y z u = rw (x, y, z, u) refl
@@ -160,7 +160,7 @@ module _ (l : Limits) (w : List WorldEvent) (k : is_legal_world l w ≡ true) (t
           | inl agreed ↦
               room_expected h (first_refusal (conditions l (terms_of n w) h (signal t x))) waiting room
               (Signalled t x) agreed
-          | inr mismatch ↦ ap (λ o. is_expected (returned h (settled o waiting room (Signalled t x)))) mismatch
+          | inr mismatch ↦ ap (λ o. is_expected (returned h (decided o waiting room (Signalled t x)))) mismatch
         ],
       )
 

@@ -13,7 +13,7 @@ use Rattle.phase_model.specs.Tasks.{is_live}
 use Rattle.phase_model.specs.Phases.{waits}
 use Rattle.phase_model.specs.Singles.{is_proposed, has_proposed, is_done, is_settled, owes_nothing}
 use Rattle.phase_model.specs.Rules.{has_room}
-use Rattle.phase_model.specs.Replies.{settled}
+use Rattle.phase_model.specs.Replies.{decided}
 use Rattle.phase_model.proofs.LiveTasks.{has}
 use Rattle.phase_model.proofs.SingleReplies.{singles_have_room}
 use Rattle.phase_model.proofs.OwnPhase.{owes_nothing_is}
@@ -104,7 +104,7 @@ module _ (l : Limits) (w : List WorldEvent) (k : is_legal_world l w ≡ true) (t
       (p.0, answered h (is_live u h) (owes_nothing u h) (has_room l (Dropped u ∷ h)) p.1 nothing room)
     where
       answered : (h : List Event) (a b room : Bool) → a ≡ true → b ≡ true → room ≡ true
-          → is_made (returned h (settled (cond a (cond b None (Some NotNow)) (Some NotRegistered)) false room
+          → is_made (returned h (decided (cond a (cond b None (Some NotNow)) (Some NotRegistered)) false room
           (Dropped u))) ≡ true
       answered h a b room x y z = rw (x, y, z) refl
 

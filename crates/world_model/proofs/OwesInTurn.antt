@@ -15,7 +15,7 @@ use Rattle.phase_model.specs.Singles.{has_proposed, has_claimed, is_done, is_set
 use Rattle.phase_model.specs.Rules.{is_permitted, has_room}
 use Rattle.phase_model.specs.Replies as phaser
 use Rattle.phase_model.specs.declared.call.Call.TheVariants.{Pass as pass}
-use Rattle.phase_model.specs.Replies.{settled}
+use Rattle.phase_model.specs.Replies.{decided}
 use Rattle.phase_model.proofs.Legal.{pass_follows}
 use Rattle.phase_model.proofs.SingleRules.{did_follows}
 use Rattle.phase_model.proofs.SingleReplies.{singles_are_answered}
@@ -83,7 +83,7 @@ module _ (l : Limits) (w : List WorldEvent) (k : is_legal_world l w ≡ true) (n
       (has_room l (Done t ∷ h)) f.live f.claimed f.undone room
     where
       answered : (a b c room : Bool) → a ≡ true → b ≡ true → c ≡ false → room ≡ true
-          → is_refused_by x (returned (phaser_past n w) (settled
+          → is_refused_by x (returned (phaser_past n w) (decided
           (cond a (cond b (cond (not c) None (Some NotNow)) (Some NotNow)) (Some NotRegistered)) false
           room (Done t))) ≡ false
       answered a b c room p q r s = rw (p, q, r, s) refl
@@ -110,7 +110,7 @@ module _ (l : Limits) (w : List WorldEvent) (k : is_legal_world l w ≡ true) (n
           ])
 
       answered : (a b c p q room : Bool) (e : Event) → c ≡ true → p ≡ false → q ≡ false
-          → is_refused_by x (returned (phaser_past n w) (settled (cond a (cond b None (Some NotSignalled))
+          → is_refused_by x (returned (phaser_past n w) (decided (cond a (cond b None (Some NotSignalled))
           (Some NotRegistered)) (c && not p && not q) room e)) ≡ false
       answered false b c p q room e y z v = number 1 refl refl
       answered true false c p q room e y z v = number 6 refl refl

@@ -4,7 +4,7 @@ ghost use Rattle.phase_model.specs.Rules.{is_permitted};
 ghost use Rattle.phaser_core.specs.Table.{registration};
 
 use crate::state::PhaserState;
-use crate::table::View;
+use crate::view::View;
 use phase_model::Event;
 use phase_modes::Reg;
 use reg_table::Comparisons;

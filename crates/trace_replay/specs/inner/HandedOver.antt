@@ -6,7 +6,7 @@ use Rattle.world_core.specs.WorldState.{WorldState}
 use Rattle.world_core.specs.StandsFor.{StandsFor}
 use Rattle.trace_model.specs.Run.{Entry, Run}
 use Rattle.trace_model.specs.Explained.{past, is_over, fault_after, first_fault}
-use Rattle.trace_replay.specs.declared.replaying.Player.{Player}
+use Rattle.trace_replay.specs.declared.player.Player.{Player}
 use Rattle.trace_replay.specs.Replaying.{IsRefused}
 
 -- the ticket of the newest of these

@@ -6,9 +6,7 @@ use phase_modes::Reg;
 
 /// A phaser that nobody has made yet, without accumulators and unbounded; `NotNow` where the limits
 /// are none.
-fn blank(alloc: Global) -> Result<PhaserState, Refusal>
-    ensures room { IfOk result (λ p. p.room ≡ 4) }
-{
+fn blank(alloc: Global) -> Result<PhaserState, Refusal> {
     let limits = limits_with(16, 4);
     if !limits.fits() {
         return Err(Refusal::NotNow);
@@ -24,9 +22,7 @@ fn is_blank(rt: &impl Abort, state: &PhaserState) {
 }
 
 /// Task 0 makes the phaser, with two accumulators and a bound.
-fn made_with_two(rt: &impl Abort, state: &mut PhaserState)
-    requires { state.old.room ≡ 4 }
-{
+fn made_with_two(rt: &impl Abort, state: &mut PhaserState) {
     let ops = first_ops(2);
     assert_eq!(rt; ops.len(), 2);
     assert_eq!(rt;
@@ -67,9 +63,7 @@ fn operators_come_with_the_making(rt: HostRuntime) -> Result<(), Fail> {
 }
 
 /// Task 0 makes the phaser for singles, without accumulators.
-fn made_for_singles(rt: &impl Abort, state: &mut PhaserState)
-    requires { state.old.room ≡ 4 }
-{
+fn made_for_singles(rt: &impl Abort, state: &mut PhaserState) {
     let ops = Ops::none();
     assert_eq!(rt; ops.len(), 0);
     assert_eq!(rt; state.make_with(0, Mode::Single, ops, None), Ok(()));

@@ -43,7 +43,6 @@ loop-accumulator-preserved c =
     record {
       end = l.invariant.end;
       ops = c.join.ensures.ops ∙ l.invariant.ops;
-      room = c.join.ensures.room ∙ l.invariant.room;
       phases = c.join.ensures.phases ∙ l.invariant.phases;
       from = c.join.ensures.from ∙ l.invariant.from;
       sums = c.join.ensures.sums

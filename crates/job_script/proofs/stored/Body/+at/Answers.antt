@@ -1,6 +1,7 @@
 use Rattle.std.proofs.Common.{mod-lt, ◌∙◌, ◌≡◌, ◌-◌, ◌<◌, sym, ap, subst, arith, slice_get, option_map}
 use Rattle.std.specs.List.Sorted.{IsNonDecreasing}
-use Rattle.job_script.specs.Acts.{depth, flat, flat_length, written, written_length, start_of, too_many}
+use Rattle.job_script.specs.Acts.{depth, flat, flat_length, written, written_length, too_many}
+use Rattle.job_script.specs.inner.Ends.{start_of}
 use Rattle.job_script.specs.inner.Views.{acts_view}
 use Rattle.job_script.specs.declared.stored.Body.TheView.{size}
 use Rattle.job_script.proofs.Ends.{ends-rise, inner_falls, not_there, there, nonzero, repeat_gives, plain_at}

@@ -39,7 +39,6 @@ invariant_of-self g c =
       kept = kept s _ cell.book _ cell.parked.items _ (drop_task c.args.task) _ _ cell.kept matches is c.post_if.ensures.book c.post_if.ensures.room (all_waiting s' cell.parked.items _ left) (once_waiting s' cell.parked.items _ cell.kept.once left);
       ticketed = drawn.each;
       room_for_tickets = drawn.fits;
-      any_ops = c.drop_task-answer.ensures.room ∙ cell.any_ops;
       seats = c.release_if.ensures.seats;
       seated = c.release_if.ensures.seated;
     }

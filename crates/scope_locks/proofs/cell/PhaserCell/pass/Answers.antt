@@ -59,7 +59,6 @@ invariant_of-self g c =
           (parking_once (has_to_wait c.pass-answer.result) p c.release_if.new.parked.items _ (once_waiting s' cell.parked.items _ cell.kept.once left) c.settle_pass.ensures.parked);
       ticketed = drawn.each;
       room_for_tickets = drawn.fits;
-      any_ops = c.pass-answer.ensures.room ∙ cell.any_ops;
       seats = c.settle_pass.ensures.seats;
       seated = c.settle_pass.ensures.seated;
     }

@@ -23,7 +23,6 @@ invariant_of-self g c =
       kept = kept s _ cell.book _ cell.parked.items cell.parked.items (register c.args.parent c.args.child c.args.mode) _ _ cell.kept matches is c.post_if.ensures.book c.post_if.ensures.room (stays_waiting s _ cell.book cell.parked.items (register c.args.parent c.args.child c.args.mode) cell.kept is refl refl) cell.kept.once;
       ticketed = drawn.each;
       room_for_tickets = drawn.fits;
-      any_ops = c.register-answer.ensures.room ∙ cell.any_ops;
       seats = cell.seats;
       seated = cell.seated;
     }

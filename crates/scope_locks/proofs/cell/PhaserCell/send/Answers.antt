@@ -28,7 +28,6 @@ invariant_of-self g c =
       kept = kept s _ cell.book _ cell.parked.items cell.parked.items (send c.args.task c.args.accumulator c.args.value) _ _ cell.kept matches is (rw round at c.post_if.ensures.book) (rw round at c.post_if.ensures.room) (stays_waiting s _ cell.book cell.parked.items (send c.args.task c.args.accumulator c.args.value) cell.kept is refl refl) cell.kept.once;
       ticketed = drawn.each;
       room_for_tickets = drawn.fits;
-      any_ops = c.send-answer.ensures.room ∙ cell.any_ops;
       seats = cell.seats;
       seated = cell.seated;
     }

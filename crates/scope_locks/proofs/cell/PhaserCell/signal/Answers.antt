@@ -58,7 +58,6 @@ invariant_of-self g c =
           (parking_once (is_held c.signal-answer.result) p c.release_if.new.parked.items _ (once_waiting s' cell.parked.items _ cell.kept.once left) c.settle_signal.ensures.parked);
       ticketed = drawn.each;
       room_for_tickets = drawn.fits;
-      any_ops = c.signal-answer.ensures.room ∙ cell.any_ops;
       seats = c.settle_signal.ensures.seats;
       seated = c.settle_signal.ensures.seated;
     }

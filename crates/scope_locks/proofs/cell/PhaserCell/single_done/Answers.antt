@@ -37,7 +37,6 @@ invariant_of-self g c =
       kept = kept s _ cell.book _ cell.parked.items _ (single_done c.args.task) _ _ cell.kept matches is c.post_if.ensures.book c.post_if.ensures.room (all_waiting s' cell.parked.items _ left) (once_waiting s' cell.parked.items _ cell.kept.once left);
       ticketed = drawn.each;
       room_for_tickets = drawn.fits;
-      any_ops = c.single_done-answer.ensures.room ∙ cell.any_ops;
       seats = c.release_if.ensures.seats;
       seated = c.release_if.ensures.seated;
     }

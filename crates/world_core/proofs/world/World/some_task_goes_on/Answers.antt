@@ -3,9 +3,13 @@ use Rattle.world_model.specs.declared.event.WorldEvent.{WorldEvent}
 use Rattle.world_model.specs.Able.{is_stuck}
 use Rattle.world_core.specs.WorldState.{WorldState}
 use Rattle.world_core.specs.StandsFor.{StandsFor}
+use Rattle.world_model.proofs.NeverStuck.{nobody_is_stuck}
 use Rattle.world_core.proofs.Worlds.{goes_on}
 use Rattle.world_core.proofs.world.World.some_task_goes_on.Goals as goal
 
-pub returns : goal.returns
-returns c =
+pub returns-clause-world : goal.returns-clause-world
+returns-clause-world c =
     subst (λ (s : WorldState). (w : List WorldEvent) × StandsFor w s × (is_stuck s.limits w ≡ false)) c.self.view_is (goes_on c.self.inside.tables c.self.invariant)
+
+pub returns-clause-able : goal.returns-clause-able
+returns-clause-able c = λ w stands. nobody_is_stuck c.args.self.now.limits w stands.legal
