@@ -11,6 +11,7 @@ use Rattle.trace_model.specs.declared.event.TracedEvent.TheVariants.{Phaser, Fin
 use Rattle.world_model.specs.ExampleWords.{unbounded}
 use Rattle.trace_model.specs.Run.{Entry, Run}
 use Rattle.trace_model.specs.Explained.{is_explained, first_fault}
+use Rattle.trace_model.specs.Projections.{phaser, finish, log, projection}
 
 -- a trace with the limits of a run that names none
 abbrev pub traced : List Entry → Run
@@ -41,6 +42,16 @@ SmallestTrace =
     × (first_fault (traced (made_and_begun
     ++ ((3, Phaser 0 (Sig 0 None)) ∷ (4, Phaser 0 (Pass 0)) ∷ [])
     ++ ended_but_for_shut)) ≡ Some 7)
+
+-- what the smallest trace has of phaser 0, of the log of task 0, of finish 0, and of a second task's log
+abbrev pub SmallestProjections : Type 0
+SmallestProjections =
+    (projection (phaser 0) smallest.events
+    ≡ (1, Phaser 0 (Make 0 SigWait (unbounded []))) ∷ (3, Phaser 0 (Sig 0 None)) ∷ (4, Phaser 0 (Pass 0))
+    ∷ (6, Phaser 0 (Drop 0)) ∷ [])
+    × (projection (log 0) smallest.events ≡ (2, Begin 0 Next) ∷ (5, Begin 0 End) ∷ [])
+    × (projection (finish 0) smallest.events ≡ (7, Finish 0 Shutting) ∷ [])
+    × (projection (log 1) smallest.events ≡ [])
 
 -- the owner of finish 1 waits for a task that its child spawned
 abbrev pub nested_finish : Run

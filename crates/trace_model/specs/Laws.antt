@@ -1,8 +1,14 @@
--- What it means that a trace is explained.
-use Rattle.std.specs.Prelude.{◌≡◌, true, reverse, is_none}
+-- What it means that a trace is explained, and that it is one of given parts.
+use Rattle.std.specs.Prelude.{◌≡◌, ◌≢◌, ℕ, true, List, [], ◌∷◌, ◌++◌, map, drop, reverse, is_none}
+use Rattle.std.specs.List.{All}
+use Rattle.finish_core.specs.declared.event.FinishEvent.{FinishEvent}
+use Rattle.phase_model.specs.Rules.{Story}
 use Rattle.world_model.specs.Replies.{is_legal_world}
-use Rattle.trace_model.specs.Run.{Run}
+use Rattle.trace_model.specs.Run.{Entry, Run}
 use Rattle.trace_model.specs.Explained.{past, is_explained, first_fault}
+use Rattle.trace_model.specs.Parts.{IsTraceOf}
+use Rattle.trace_model.specs.Projections.{Whose, phaser, finish, projection, AreOf, AreNotOf, HaveOwners}
+use Rattle.trace_model.specs.Told.{phaser_told, finish_told}
 
 -- a trace is explained exactly where it has no fault
 abbrev pub FaultlessIsExplained : Type 0
@@ -12,3 +18,35 @@ FaultlessIsExplained = (r : Run) → is_explained r ≡ is_none (first_fault r)
 abbrev pub ExplainedIsLegal : Type 0
 ExplainedIsLegal =
     (r : Run) → is_explained r ≡ true → is_legal_world r.limits (past (reverse r.events)) ≡ true
+
+-- what a trace has of each owner is exactly its part, entry by entry, where no two parts have the same owner
+abbrev pub ProjectionsAreParts : Type 0
+ProjectionsAreParts =
+    (owners : List Whose) (parts : List (List Entry)) (es : List Entry)
+    → IsTraceOf parts es → HaveOwners owners parts
+    → map (λ w. projection w es) owners ≡ parts
+
+-- of who owns none of the parts it has nothing
+abbrev pub OthersHaveNone : Type 0
+OthersHaveNone =
+    (w : Whose) (owners : List Whose) (parts : List (List Entry)) (es : List Entry)
+    → IsTraceOf parts es → HaveOwners owners parts → All (λ v. w ≢ v) owners
+    → projection w es ≡ []
+
+-- for one owner it is enough that no other part has an entry of that owner
+abbrev pub ProjectionIsPart : Type 0
+ProjectionIsPart =
+    (w : Whose) (part : List Entry) (before after : List (List Entry)) (es : List Entry)
+    → IsTraceOf (before ++ part ∷ after) es → AreOf w part → All (AreNotOf w) (before ++ after)
+    → projection w es ≡ part
+
+-- what a phaser's history tells is of that phaser
+abbrev pub PhasersTellTheirOwn : Type 0
+PhasersTellTheirOwn =
+    (n : ℕ) (s : Story) (tickets : List ℕ) → AreOf (phaser n) (phaser_told n s tickets)
+
+-- what a finish's history tells is of that finish, also without its first few
+abbrev pub FinishesTellTheirOwn : Type 0
+FinishesTellTheirOwn =
+    (f : ℕ) (h : List FinishEvent) (tickets : List ℕ) (first : ℕ)
+    → AreOf (finish f) (drop first (finish_told f h tickets))

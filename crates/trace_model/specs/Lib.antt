@@ -2,6 +2,7 @@ pub mod Examples
 pub mod Explained
 pub mod Laws
 pub mod Parts
+pub mod Projections
 pub mod Run
 pub mod TaskLog
 pub mod Told

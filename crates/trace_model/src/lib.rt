@@ -12,7 +12,10 @@ mod part;
 mod trace;
 
 pub use event::{TracedEvent, TracedStep};
-pub use laws::{explained_is_legal, faultless_is_explained, worked_traces};
+pub use laws::{
+    explained_is_legal, faultless_is_explained, parts_have_owners, projections_are_parts,
+    worked_traces,
+};
 pub use log::Log;
 pub use part::Part;
 pub use trace::Trace;
