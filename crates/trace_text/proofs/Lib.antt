@@ -1,6 +1,8 @@
 pub mod Events
+pub mod Held
 pub mod Lists
 pub mod Misnumbered
+pub mod Noted
 pub mod Parts
 pub mod Plain
 pub mod ReadBack

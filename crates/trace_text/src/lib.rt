@@ -3,13 +3,16 @@
 //! read: version 1 is of traces in which no phaser is bounded.
 #![tactic(auto)]
 
+mod forms;
 mod laws;
 mod reading;
 mod version;
 mod writing;
 
+pub use forms::held_traces_are_read_back;
 pub use laws::{
-    older_texts_are_read_back, texts_are_read_back, traces_are_read_back, worked_examples,
+    explained_note_refusals, older_texts_are_read_back, texts_are_read_back, traces_are_read_back,
+    worked_examples,
 };
 pub use reading::from_json;
 pub use trace_model::Trace;
