@@ -27,19 +27,30 @@ fn found_under(rt: &HostRuntime, name: &str) -> Result<Option<Identity>, Failure
     }
 }
 
-/// Whether OUT is FILE itself, by whatever name; `-` is the file that standard input is read from.
-fn is_file_itself(rt: &HostRuntime, file: &str, out: &str) -> Result<bool, Failure> {
-    let file = if file == "-" { "/dev/stdin" } else { file };
-    match (found_under(rt, file)?, found_under(rt, out)?) {
-        (Some(file), Some(out)) => Ok(file == out),
+/// Whether both names are of one file.
+fn are_one(rt: &HostRuntime, one: &str, other: &str) -> Result<bool, Failure> {
+    match (found_under(rt, one)?, found_under(rt, other)?) {
+        (Some(one), Some(other)) => Ok(one == other),
         _ => Ok(false),
     }
 }
 
-/// Makes or empties OUT. A fault where that can't be done, and where OUT is FILE: nothing of the
-/// user's is lost.
+/// Whether OUT is FILE itself, by whatever name; `-` is the file that standard input is read from.
+fn is_file_itself(rt: &HostRuntime, file: &str, out: &str) -> Result<bool, Failure> {
+    let file = if file == "-" { "/dev/stdin" } else { file };
+    are_one(rt, file, out)
+}
+
+/// Whether OUT is the file that standard output goes to: the report and the trace would overwrite
+/// each other there.
+pub(crate) fn takes_report(rt: &HostRuntime, out: &str) -> Result<bool, Failure> {
+    are_one(rt, "/dev/stdout", out)
+}
+
+/// Makes or empties OUT. A fault where that can't be done, and where OUT is FILE, or the file that
+/// the report goes to: nothing of the user's is lost.
 pub(crate) fn make_out(rt: &HostRuntime, file: &str, out: &str) -> Result<File, Failure> {
-    if is_file_itself(rt, file, out)? {
+    if is_file_itself(rt, file, out)? || takes_report(rt, out)? {
         return Err(Failure::Write);
     }
     match File::create(rt, out) {

@@ -1,4 +1,5 @@
 //! OUT, the file into which a trace that was replayed is written in the newest version.
+use crate::trace_file::takes_report;
 use job_ends::Failure;
 use phase_modes::Refusal;
 use std::alloc::AllocError;
@@ -23,8 +24,12 @@ pub(crate) struct Upgraded<'a> {
 }
 
 impl<'a> Upgraded<'a> {
-    /// OUT of this name. Nothing is made or opened yet.
+    /// OUT of this name. Nothing is made or opened yet. A fault where OUT is the file that the report
+    /// goes to.
     pub(crate) fn named(rt: &'a HostRuntime, name: &str) -> Result<Upgraded<'a>, Failure> {
+        if takes_report(rt, name)? {
+            return Err(Failure::Write);
+        }
         let out = match whole_path(rt, name)? {
             Some(path) => path,
             None => PathBuf::from_str(rt.alloc(), name).map_err(memory)?,
