@@ -101,6 +101,18 @@ reply_next l w (Begin t b) h k = absurd cc
 reply_next l w (Refuse t a x) h k = absurd cc
 reply_next l w (Fail t x) h k = absurd (k t x refl)
 
+-- what is next for a task that hasn't ended has the reply of what continues its act
+pub next_replied : (l : Limits) (w : List WorldEvent) (t : ℕ) (e : WorldEvent) → is_legal_world l w ≡ true → is_ended t w ≡ false → next_event l t w ≡ Some e → reply l w e ≡ next_done l w e
+next_replied l w t e k going next =
+    let said = nexts_are_expected l w k t e going next in
+    let none : act_of e ≡ None = next-continues l t w e next in
+    let other : (u x : ℕ) → e ≡ Fail u x → ⊥ = λ u x is. false≢true (subst (λ d. is_expected (next_done l w d) ≡ true) is said.1) in
+    let own : next_event l (actor w e) w ≡ Some e = subst (λ u. next_event l u w ≡ Some e) (sym said.0) next in
+    reply_next l w e none other ∙ as_next l w e own (same_self e none other)
+  where
+    as_next : (l : Limits) (w : List WorldEvent) (e : WorldEvent) → next_event l (actor w e) w ≡ Some e → same_event e e ≡ true → next_reply l w e ≡ next_done l w e
+    as_next l w e next same = rw (next, same) refl
+
 -- a registration is never put off
 reg_waits_not : (l : Limits) (w : List WorldEvent) (e : WorldEvent) → is_reg e ≡ true → next_done l w e ≡ Ok NotYet → ⊥
 reg_waits_not l w (Phaser n (Reg q t m)) h k = never (first_refusal (conditions l (terms_of n w) (phaser_past n w) (register q t m))) (has_room l (Registered q t m ∷ phaser_past n w)) k
@@ -277,16 +289,10 @@ busy_moves p w t k busy born going able =
     let n = next_of_busy l w t born going busy in
     let e = n.0 in
     let said = nexts_are_expected l w k t e going n.1 in
-    let none : act_of e ≡ None = next-continues l t w e n.1 in
-    let other : (u x : ℕ) → e ≡ Fail u x → ⊥ = λ u x is. false≢true (subst (λ d. is_expected (next_done l w d) ≡ true) is said.1) in
-    let own : next_event l (actor w e) w ≡ Some e = subst (λ u. next_event l u w ≡ Some e) (sym said.0) n.1 in
-    let same : reply l w e ≡ next_done l w e = reply_next l w e none other ∙ as_next l w e own (same_self e none other) in
+    let same : reply l w e ≡ next_done l w e = next_replied l w t e k going n.1 in
     moves_as p w t (record { event = e; reporting = λ x. Fail t x }) (asked_busy p w t e busy born going n.1)
     (reported_moves l w (record { event = e; reporting = λ x. Fail t x }) (reply l w e) (by e n.1 same said.1 (next_done l w e) refl))
   where
-    as_next : (l : Limits) (w : List WorldEvent) (e : WorldEvent) → next_event l (actor w e) w ≡ Some e → same_event e e ≡ true → next_reply l w e ≡ next_done l w e
-    as_next l w e next same = rw (next, same) refl
-
     by : (e : WorldEvent) → next_event p.limits t w ≡ Some e → reply p.limits w e ≡ next_done p.limits w e → is_expected (next_done p.limits w e) ≡ true
         → (r : Result Reply Refusal) → next_done p.limits w e ≡ r
         → (is_made (reply p.limits w e) ≡ true) ⊎ ((x : Refusal) × (reply p.limits w e ≡ Err x) × (is_accepted p.limits w (Fail t (number_of x)) ≡ true))

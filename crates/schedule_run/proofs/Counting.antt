@@ -1,8 +1,6 @@
 -- Rounds of a run, pick by pick.
-use Rattle.std.proofs.Common.{ℕ, zero, suc, ◌+◌, ◌<◌, ◌≤◌, ◌≡◌, true, false, List, length, reverse, refl, sym, subst, ap, ◌∙◌, inl, inr, arith}
+use Rattle.std.proofs.Common.{ℕ, zero, suc, ◌+◌, ◌<◌, ◌≤◌, ◌≡◌, true, false, List, length, refl, sym, ap, ◌∙◌, inl, inr, arith}
 use Rattle.std.proofs.lemmas.Bool.{cases_Bool, false_from_ne_true, true≢false}
-use Rattle.std.proofs.lemmas.List.{length-reverse, length-map}
-use Rattle.phase_modes.specs.declared.limits.Limits.{Limits}
 use Rattle.job_script.specs.Program.{Program}
 use Rattle.world_model.specs.declared.event.WorldEvent.{WorldEvent}
 use Rattle.world_model.specs.Drawing.{least_unused}
@@ -13,14 +11,10 @@ use Rattle.world_model.proofs.BornWhereNamed.{born_named}
 use Rattle.schedule_model.specs.Picks.{pick, round_from, rounds}
 use Rattle.schedule_model.proofs.Rounds.{rounds_move}
 use Rattle.schedule_model.proofs.Used.{task_free}
-use Rattle.trace_model.specs.Run.{Entry}
-use Rattle.trace_model.specs.Explained.{event_of}
 use Rattle.schedule_run.specs.declared.running.Runner.{Runner}
 use Rattle.schedule_run.specs.inner.Running.{RunStands}
-use Rattle.schedule_run.proofs.Picking.{picked_none}
-
-pub legal_of : (p : Program) (w : List WorldEvent) (r : Runner) → RunStands p w r → is_legal_world p.limits w ≡ true
-legal_of p w r st = subst (λ (l : Limits). is_legal_world l w ≡ true) st.recorded.limits st.recorded.stands.legal
+use Rattle.schedule_run.proofs.Noted.{long_as}
+use Rattle.schedule_run.proofs.Picking.{legal_of, picked_none}
 
 -- a round ends at the first number that isn't in use
 pub round_ends : (left t : ℕ) (p : Program) (v : List WorldEvent) → is_named t v ≡ false → round_from left t p v ≡ v
@@ -60,6 +54,4 @@ round_grows p v r st h = rounds_move p v st.fit (legal_of p v r st) st.gapless h
 
 -- the trace is as long as the history
 pub as_long : (p : Program) (w : List WorldEvent) (r : Runner) → RunStands p w r → length r.recorded.trace.events ≡ length w
-as_long p w r st =
-    let es = reverse r.recorded.trace.events in
-    sym (length-reverse r.recorded.trace.events) ∙ (sym (length-map es (λ (e : Entry). event_of e.1)) ∙ ap (λ (v : List WorldEvent). length v) st.recorded.traced.is)
+as_long p w r st = long_as p.limits w r.recorded st.recorded

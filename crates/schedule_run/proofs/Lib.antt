@@ -6,6 +6,7 @@ pub mod Counting
 pub mod Entries
 pub mod Histories
 pub mod Leaving
+pub mod Noted
 pub mod OwnPairs
 pub mod Seats
 pub mod Settling

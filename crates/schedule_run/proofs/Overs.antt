@@ -31,7 +31,7 @@ use Rattle.schedule_model.proofs.Follow.{runs-follow}
 use Rattle.schedule_run.specs.declared.running.Runner.{Runner}
 use Rattle.schedule_run.specs.inner.Records.{IsTraced}
 use Rattle.schedule_run.specs.inner.Running.{RunStands}
-use Rattle.schedule_run.proofs.Counting.{legal_of}
+use Rattle.schedule_run.proofs.Picking.{legal_of}
 
 -- the root ends with the shut of finish 0 alone
 root_never_ended : (l : Limits) (w : List WorldEvent) (f : ℕ) → is_legal_world l w ≡ true → is_accepted l w (world.Finish f (Ended 0)) ≡ true → ⊥

@@ -14,28 +14,32 @@ use Rattle.world_model.specs.declared.condition.Condition.TheVariants as conditi
 use Rattle.world_model.specs.declared.event.Begun.TheVariants.{Async, Signal, Wait, Next, NextSingle, Shut}
 use Rattle.world_model.specs.declared.event.Step.TheVariants.{Sig}
 use Rattle.world_model.specs.declared.event.Tried.{Tried}
+use Rattle.world_model.specs.declared.event.Tried.TheVariants.{Begun as Beginning, New, Open, Send as Sending, Look as Looking}
 use Rattle.world_model.specs.declared.event.WorldEvent.{WorldEvent}
 use Rattle.world_model.specs.declared.event.WorldEvent.TheVariants.{Phaser, Begin, Refuse, Fail}
 use Rattle.world_model.specs.declared.reply.Reply.{Reply}
 use Rattle.world_model.specs.declared.reply.Reply.TheVariants.{NotYet}
+use Rattle.world_model.specs.Actors.{actor}
 use Rattle.world_model.specs.Due.{is_idle, due, next_event}
+use Rattle.world_model.specs.Continuing.{next_done}
 use Rattle.world_model.specs.Drawing.{own_pairs}
 use Rattle.world_model.specs.GivingUp.{done_where}
 use Rattle.world_model.specs.Replies.{after, is_made, is_accepted, is_legal_world, reply}
 use Rattle.world_model.specs.TaskConditions.{last_entry, condition_in_turn, condition_in, condition_by, condition_of}
 use Rattle.world_model.specs.Tasks.{is_born, is_ended}
+use Rattle.world_model.proofs.NextsExpected.{nexts_are_expected}
 use Rattle.schedule_model.specs.Picks.{Asked, unused, event_of, asked, reported_or, made, pick}
 use Rattle.schedule_model.specs.Scripts.{Numbers, meanings, next_act, tried}
 use Rattle.schedule_model.proofs.Begins.{Goes, is_reported, may_report, event_reply, next_goes}
-use Rattle.schedule_model.proofs.GoesOn.{asked_idle, asked_busy}
+use Rattle.schedule_model.proofs.GoesOn.{asked_idle, asked_busy, next_replied}
 use Rattle.schedule_model.proofs.Rounds.{gapless_pick}
 use Rattle.schedule_run.specs.Given.{tried_of}
 use Rattle.schedule_run.specs.declared.bodies.Bodies.{Bodies}
 use Rattle.schedule_run.specs.declared.recording.Outcome.TheVariants.{Made, Waits, Refused}
 use Rattle.schedule_run.specs.declared.running.Runner.{Runner}
 use Rattle.schedule_run.specs.inner.Bodies.{BodiesStand, IsAsked, seat_at}
-use Rattle.schedule_run.specs.inner.Records.{outcome_of, Records}
-use Rattle.schedule_run.specs.inner.Running.{RunStands}
+use Rattle.schedule_run.specs.inner.Records.{outcome_of}
+use Rattle.schedule_run.specs.inner.Running.{Kept, RunStands}
 use Rattle.schedule_run.proofs.Giving.{given-is-tried}
 use Rattle.schedule_run.proofs.Seats.{quiet_stands, refused_stands, next_stands}
 
@@ -50,6 +54,11 @@ pub is_kept : (r : Result Reply Refusal) → Made ≡ outcome_of r → is_made r
 is_kept (Err y) h = absurd cc
 is_kept (Ok NotYet) h = absurd cc
 is_kept (Ok y) h = refl
+
+pub is_unmade : (r : Result Reply Refusal) → (Made ≡ outcome_of r → ⊥) → is_made r ≡ false
+is_unmade (Err y) h = refl
+is_unmade (Ok NotYet) h = refl
+is_unmade (Ok y) h = absurd (h refl)
 
 pub is_waiting : (r : Result Reply Refusal) → Waits ≡ outcome_of r → r ≡ Ok NotYet
 is_waiting (Err y) h = absurd cc
@@ -87,18 +96,35 @@ picked_none p w t h k = rw (h, k) refl
 
 -- of the bodies and the record
 pub run_stands : (p : Program) (w v : List WorldEvent) (t : ℕ) (old new : Runner) → RunStands p w old → v ≡ pick p w t
-    → Records p.limits v new.recorded.world new.recorded.trace → BodiesStand p v new.bodies.seats.items → length new.bodies.seats.items ≡ length old.bodies.seats.items → RunStands p (pick p w t) new
-run_stands p w v t old new st is rec bodies places = record {
+    → Kept p.limits v new.recorded new.notes → BodiesStand p v new.bodies.seats.items → length new.bodies.seats.items ≡ length old.bodies.seats.items → RunStands p (pick p w t) new
+run_stands p w v t old new st is kept bodies places = record {
   fit = st.fit;
-  recorded = subst (λ (u : List WorldEvent). Records p.limits u new.recorded.world new.recorded.trace) is rec;
+  recorded = (subst (λ (u : List WorldEvent). Kept p.limits u new.recorded new.notes) is kept).recorded;
+  noted = (subst (λ (u : List WorldEvent). Kept p.limits u new.recorded new.notes) is kept).noted;
   bodies = subst (λ (u : List WorldEvent). BodiesStand p u new.bodies.seats.items) is bodies;
   places = places ∙ st.places;
   gapless = gapless_pick p w t st.gapless;
 }
 
+-- its history is legal
+pub legal_of : (p : Program) (w : List WorldEvent) (r : Runner) → RunStands p w r → is_legal_world p.limits w ≡ true
+legal_of p w r st = subst (λ (l : Limits). is_legal_world l w ≡ true) st.recorded.limits st.recorded.stands.legal
+
+-- of its record and its notes
+pub kept_of : (p : Program) (w : List WorldEvent) (r : Runner) → RunStands p w r → Kept p.limits w r.recorded r.notes
+kept_of p w r st = record { recorded = st.recorded; noted = st.noted }
+
 -- where nothing changes
 pub run_stays : (p : Program) (w : List WorldEvent) (t : ℕ) (r : Runner) → RunStands p w r → pick p w t ≡ w → RunStands p (pick p w t) r
 run_stays p w t r st is = subst (λ (u : List WorldEvent). RunStands p u r) (sym is) st
+
+-- the event of an act is of the task that makes it
+pub act_is_own : (w : List WorldEvent) (t : ℕ) (a : Tried) → actor w (event_of t a) ≡ t
+act_is_own w t (New n m terms) = refl
+act_is_own w t (Open f) = refl
+act_is_own w t (Sending n a v) = refl
+act_is_own w t (Looking n a) = refl
+act_is_own w t (Beginning b) = refl
 
 -- what a task asks for that begins an act
 abbrev pub beginning : ℕ → Tried → Asked
@@ -122,12 +148,12 @@ module _ (p : Program) (w : List WorldEvent) (t : ℕ) (old : Runner) (st : RunS
     pub begun_accepted : Made ≡ outcome_of (reply p.limits w (event_of t a)) → is_accepted p.limits w (event_of t (tried p w t (unused p.limits w))) ≡ true
     begun_accepted h = subst (λ (x : Tried). is_accepted p.limits w (event_of t x) ≡ true) is (is_kept (reply p.limits w (event_of t a)) h)
 
-    pub begun_made : (new : Runner) → Made ≡ outcome_of (reply p.limits w (event_of t a)) → Records p.limits (after w (event_of t a) (reply p.limits w (event_of t a))) new.recorded.world new.recorded.trace
+    pub begun_made : (new : Runner) → Made ≡ outcome_of (reply p.limits w (event_of t a)) → Kept p.limits (after w (event_of t a) (reply p.limits w (event_of t a))) new.recorded new.notes
         → BodiesStand p (event_of t (tried p w t (unused p.limits w)) ∷ w) new.bodies.seats.items → length new.bodies.seats.items ≡ length old.bodies.seats.items → RunStands p (pick p w t) new
     begun_made new h rec bodies places =
         let kept = is_kept (reply p.limits w (event_of t a)) h in
         run_stands p w (event_of t a ∷ w) t old new st (sym (picked_made p w t (beginning t a) asks kept))
-        (subst (λ b. Records p.limits (if b then event_of t a ∷ w else w) new.recorded.world new.recorded.trace) kept rec)
+        (subst (λ b. Kept p.limits (if b then event_of t a ∷ w else w) new.recorded new.notes) kept rec)
         (subst (λ (x : Tried). BodiesStand p (event_of t x ∷ w) new.bodies.seats.items) (sym is) bodies) places
 
     -- it never has to wait
@@ -140,7 +166,7 @@ module _ (p : Program) (w : List WorldEvent) (t : ℕ) (old : Runner) (st : RunS
 
     -- it is refused, and its refusal reported
     pub begun_refused : (new : Runner) (x : Refusal) (v : List WorldEvent) → Refused x ≡ outcome_of (reply p.limits w (event_of t a)) → v ≡ after w (event_of t a) (reply p.limits w (event_of t a))
-        → Records p.limits (after v (Refuse t a (number_of x)) (reply p.limits v (Refuse t a (number_of x)))) new.recorded.world new.recorded.trace
+        → Kept p.limits (after v (Refuse t a (number_of x)) (reply p.limits v (Refuse t a (number_of x)))) new.recorded new.notes
         → IsAsked p w t new.bodies.seats.items → length new.bodies.seats.items ≡ length old.bodies.seats.items → RunStands p (pick p w t) new
     begun_refused new x v h same rec given places =
         let refused = is_refused (reply p.limits w (event_of t a)) x h in
@@ -150,7 +176,7 @@ module _ (p : Program) (w : List WorldEvent) (t : ℕ) (old : Runner) (st : RunS
         ap (λ b. done_where b) (may_report p.limits w t a x (sym (event_reply p.limits w t a) ∙ refused) (is_reporting (reply p.limits w (event_of t a)) x refused goes)) in
         let now : after w reporting (reply p.limits w reporting) ≡ reporting ∷ w = ap (λ (r : Result Reply Refusal). after w reporting r) known in
         run_stands p w (reporting ∷ w) t old new st (sym (picked_refused p w t (beginning t a) asks x refused ∙ now))
-        (subst (λ (u : List WorldEvent). Records p.limits u new.recorded.world new.recorded.trace) (ap (λ (u : List WorldEvent). after u reporting (reply p.limits u reporting)) left ∙ now) rec)
+        (subst (λ (u : List WorldEvent). Kept p.limits u new.recorded new.notes) (ap (λ (u : List WorldEvent). after u reporting (reply p.limits u reporting)) left ∙ now) rec)
         (refused_stands p w t (seat_at new.bodies.seats.items) a (number_of x) given) places
       where
         is_reporting : (r : Result Reply Refusal) (x : Refusal) → r ≡ Err x → Goes r → is_reported x ≡ true
@@ -171,8 +197,15 @@ module _ (p : Program) (w : List WorldEvent) (t : ℕ) (old : Runner) (st : RunS
         by true = next_stands p p.limits w t (seat_at old.bodies.seats.items) e next st.bodies
         by false = st.bodies
 
+    -- it is the task's own, and has the reply of what continues its act
+    pub next_is_own : actor w e ≡ t
+    next_is_own = (nexts_are_expected p.limits w (legal_of p w old st) t e under next).0
+
+    pub next_waits : Waits ≡ outcome_of (reply p.limits w e) → next_done p.limits w e ≡ Ok NotYet
+    next_waits h = sym (next_replied p.limits w t e (legal_of p w old st) under next) ∙ is_waiting (reply p.limits w e) h
+
     -- it is made, or has to wait
-    pub gone_on : (new : Runner) → ((x : Refusal) → Refused x ≡ outcome_of (reply p.limits w e) → ⊥) → Records p.limits (after w e (reply p.limits w e)) new.recorded.world new.recorded.trace
+    pub gone_on : (new : Runner) → ((x : Refusal) → Refused x ≡ outcome_of (reply p.limits w e) → ⊥) → Kept p.limits (after w e (reply p.limits w e)) new.recorded new.notes
         → new.bodies ≡ old.bodies → RunStands p (pick p w t) new
     gone_on new other rec same =
         run_stands p w (after w e (reply p.limits w e)) t old new st (sym (as_asked p w t (going t e) on ∙ by (reply p.limits w e) other)) rec
@@ -185,14 +218,14 @@ module _ (p : Program) (w : List WorldEvent) (t : ℕ) (old : Runner) (st : RunS
 
     -- it is given up
     pub given_up : (new : Runner) (x : Refusal) (v : List WorldEvent) → Refused x ≡ outcome_of (reply p.limits w e) → v ≡ after w e (reply p.limits w e)
-        → Records p.limits (after v (Fail t (number_of x)) (reply p.limits v (Fail t (number_of x)))) new.recorded.world new.recorded.trace
+        → Kept p.limits (after v (Fail t (number_of x)) (reply p.limits v (Fail t (number_of x)))) new.recorded new.notes
         → new.bodies ≡ old.bodies → RunStands p (pick p w t) new
     given_up new x v h same rec bodies =
         let refused = is_refused (reply p.limits w e) x h in
         let left : v ≡ w = same ∙ ap (λ (r : Result Reply Refusal). after w e r) refused in
         let failing = Fail t (number_of x) in
         run_stands p w (after w failing (reply p.limits w failing)) t old new st (sym (picked_refused p w t (going t e) on x refused))
-        (subst (λ (u : List WorldEvent). Records p.limits (after u failing (reply p.limits u failing)) new.recorded.world new.recorded.trace) left rec)
+        (subst (λ (u : List WorldEvent). Kept p.limits (after u failing (reply p.limits u failing)) new.recorded new.notes) left rec)
         (subst (λ (b : Bodies). BodiesStand p (after w failing (reply p.limits w failing)) b.seats.items) (sym bodies) (by (is_made (reply p.limits w failing))))
         (ap (λ (b : Bodies). length b.seats.items) bodies)
       where

@@ -3,3 +3,4 @@ pub mod Records
 pub mod Running
 pub mod Followers
 pub mod Holding
+pub mod Notes

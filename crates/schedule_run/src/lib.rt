@@ -5,6 +5,7 @@ mod acts;
 mod bodies;
 mod following;
 mod holding;
+mod notes;
 mod recording;
 mod run;
 mod running;

@@ -11,18 +11,21 @@ ghost use Rattle.world_core.specs.StandsFor.{StandsFor};
 ghost use Rattle.world_model.specs.declared.event.Begun.TheVariants.{Async};
 ghost use Rattle.world_model.specs.declared.event.WorldEvent.{WorldEvent as Event};
 ghost use Rattle.world_model.specs.declared.event.WorldEvent.TheVariants.{Begin, Refuse};
+ghost use Rattle.world_model.specs.Actors.{actor};
 ghost use Rattle.world_model.specs.Due.{is_idle};
-ghost use Rattle.world_model.specs.Replies.{is_accepted};
+ghost use Rattle.world_model.specs.Replies.{after, is_accepted, reply};
 ghost use Rattle.world_model.specs.Numbers.{is_named};
 ghost use Rattle.world_model.specs.Tasks.{is_born, is_ended};
 ghost use Rattle.schedule_model.specs.Picks.{unused, event_of, pick, picked, round_from, rounds, run_within};
 ghost use Rattle.schedule_model.specs.Scripts.{body_of, meanings, next_act, tried};
 ghost use Rattle.schedule_run.specs.Given.{numbers_view};
 ghost use Rattle.schedule_run.specs.inner.Bodies.{BodiesStand, IsAsked};
-ghost use Rattle.schedule_run.specs.inner.Running.{RunStands};
+ghost use Rattle.schedule_run.specs.inner.Records.{outcome_of};
+ghost use Rattle.schedule_run.specs.inner.Running.{Kept, RunStands};
 
 use crate::acts::{Numbers, event_of, tried_of};
 use crate::bodies::Bodies;
+use crate::notes::Notes;
 use crate::recording::{Outcome, Record};
 use job_script::{Act, Program, ScriptBody};
 use phase_modes::Refusal;
@@ -30,11 +33,12 @@ use std::alloc::Global;
 use trace_model::Trace;
 use world_model::{Condition, Tried, WorldEvent};
 
-/// A run under way: its record, and its tasks' bodies.
+/// A run under way: its record, its tasks' bodies, and the notes of those that wait.
 #[derive(Drop)]
 pub(crate) struct Runner<'p> {
     pub recorded: Record,
     pub bodies: Bodies<'p>,
+    pub notes: Notes,
 }
 
 /// The event by which a task makes the act.
@@ -81,16 +85,42 @@ fn seat<'p>(bodies: &mut Bodies<'p>, child: u32, body: ScriptBody<'p>)
     }
 }
 
+/// The task makes the event, if the world lets it. Nothing is noted of the task then.
+fn try_event(
+    recorded: &mut Record,
+    notes: &mut Notes,
+    task: u32,
+    event: WorldEvent,
+) -> Result<Outcome, Refusal>
+    ensures outcome { IfOk result (λ o. (l : limits.Limits) (w : List Event) → Kept l w recorded.old notes.old
+        → o ≡ outcome_of (reply l w event)) }
+    ensures kept { IfOk result (λ _. (l : limits.Limits) (w : List Event) → Kept l w recorded.old notes.old
+        → actor w event ≡ task → Kept l (after w event (reply l w event)) recorded.new notes.new) }
+    ensures memory { IfErr result (λ e. e ≡ NoMemory) }
+{
+    notes.forget(task);
+    let outcome = recorded.make(event)?;
+    if matches!(outcome, Outcome::Made) {
+        notes.renew(&event, recorded.trace.len() as u64);
+    }
+    Ok(outcome)
+}
+
 impl<'p> Runner<'p> {
-    /// The run before its first event. `Memory` where there is too little for the world, or for a
-    /// place for each task.
+    /// The run before its first event. `Memory` where there is too little for the world, for a
+    /// place for each task, or for the notes.
     pub(crate) fn new(alloc: Global, program: &'p Program) -> Result<Runner<'p>, Refusal>
         ensures stands { IfOk result (λ r. RunStands program.now [] r) }
         ensures memory { IfErr result (λ e. e ≡ NoMemory) }
     {
         let recorded = Record::new(alloc, program.limits())?;
         let bodies = Bodies::new(alloc, program)?;
-        Ok(Runner { recorded, bodies })
+        let notes = Notes::new(alloc, program.limits())?;
+        Ok(Runner {
+            recorded,
+            bodies,
+            notes,
+        })
     }
 
     /// The least numbers that aren't in use.
@@ -116,20 +146,23 @@ impl<'p> Runner<'p> {
         let own = self.recorded.world.own_pairs(task);
         let act = self.bodies.next_act(task);
         let tried = tried_of(own, new, &act);
-        match self.recorded.make(made(task, &tried))? {
+        let event = made(task, &tried);
+        match try_event(&mut self.recorded, &mut self.notes, task, event)? {
             Outcome::Made => {
                 settle(&mut self.bodies, task, new, act);
                 Ok(())
             }
             Outcome::Waits => Ok(()),
             Outcome::Refused(refusal) => {
-                self.recorded.make(refused(task, &tried, refusal))?;
+                let entry = refused(task, &tried, refusal);
+                try_event(&mut self.recorded, &mut self.notes, task, entry)?;
                 Ok(())
             }
         }
     }
 
-    /// A task goes on with its act. Where its event is refused, it gives up, and ends.
+    /// A task goes on with its act. Where its event is not yet made, that is noted, and where it is
+    /// refused, the task gives up, and ends.
     fn go_on(&mut self, task: u32) -> Result<(), Refusal>
         ensures stands { IfOk result (λ _. (p : programs.Program) (w : List Event) → RunStands p w self.old
             → is_idle task w ≡ false → is_born task w ≡ true → is_ended task w ≡ false
@@ -139,20 +172,24 @@ impl<'p> Runner<'p> {
         let Some(event) = self.recorded.world.next_event(task) else {
             return Ok(());
         };
-        match self.recorded.make(event)? {
+        match try_event(&mut self.recorded, &mut self.notes, task, event)? {
             Outcome::Made => Ok(()),
-            Outcome::Waits => Ok(()),
+            Outcome::Waits => {
+                self.notes
+                    .hold(task, &event, self.recorded.trace.len() as u64);
+                Ok(())
+            }
             Outcome::Refused(refusal) => {
-                self.recorded
-                    .make(WorldEvent::Fail(task, refusal.number()))?;
+                let entry = WorldEvent::Fail(task, refusal.number());
+                try_event(&mut self.recorded, &mut self.notes, task, entry)?;
                 Ok(())
             }
         }
     }
 
-    /// The task is picked: it makes at most one event. One that has to wait, has ended, or was
-    /// never spawned makes none. `Memory` where the trace can't grow.
-    pub(crate) fn pick(&mut self, task: u32) -> Result<(), Refusal>
+    /// The task is asked for its next event: it makes at most one. One that has to wait, has ended,
+    /// or was never spawned makes none. `Memory` where the trace can't grow.
+    fn ask(&mut self, task: u32) -> Result<(), Refusal>
         ensures stands { IfOk result (λ _. (p : programs.Program) (w : List Event) → RunStands p w self.old
             → RunStands p (pick p w task) self.new) }
         ensures memory { IfErr result (λ e. e ≡ NoMemory) }
@@ -165,6 +202,18 @@ impl<'p> Runner<'p> {
             Condition::Ended => Ok(()),
             _ => self.go_on(task),
         }
+    }
+
+    /// The task is picked: it is asked, unless it waits where nothing was done since.
+    pub(crate) fn pick(&mut self, task: u32) -> Result<(), Refusal>
+        ensures stands { IfOk result (λ _. (p : programs.Program) (w : List Event) → RunStands p w self.old
+            → RunStands p (pick p w task) self.new) }
+        ensures memory { IfErr result (λ e. e ≡ NoMemory) }
+    {
+        if self.notes.holds(task) {
+            return Ok(());
+        }
+        self.ask(task)
     }
 
     /// The tasks are picked in this order.
@@ -198,10 +247,13 @@ impl<'p> Runner<'p> {
     {
         let tasks = self.recorded.trace.limits().tasks;
         for task in 0..tasks {
+            if self.notes.holds(task) {
+                continue;
+            }
             if self.is_unused(task) {
                 return Ok(());
             }
-            self.pick(task)?;
+            self.ask(task)?;
         }
         Ok(())
     }
@@ -238,6 +290,7 @@ impl<'p> Runner<'p> {
         let Runner {
             recorded,
             bodies: _,
+            notes: _,
         } = self;
         let Record { world: _, trace } = recorded;
         trace
