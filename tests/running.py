@@ -9,6 +9,7 @@ import tempfile
 
 TOP = pathlib.Path(__file__).resolve().parent.parent
 PROGRAM = TOP / "crates/phaser_run/out/phaser_run"
+NOBODY = 65534  # the number of the user nobody, and of its group
 
 # What the program printed, and its exit status; None where it had to be stopped.
 Gave = collections.namedtuple("Gave", "out err status")
@@ -27,6 +28,17 @@ def words_of(text, at_once=True):
     if at_once:
         words.add_argument("--jobs", default=os.cpu_count(), type=int, help="how many at once (%(default)s)")
     return words
+
+
+def as_nobody():
+    """Leaves root, in a child."""
+    os.setgroups([])
+    os.setgid(NOBODY)
+    os.setuid(NOBODY)
+
+
+def is_root():
+    return os.geteuid() == 0
 
 
 def is_there(program):
