@@ -12,7 +12,8 @@ pub trait Goes: Body {
     /// What a task does that hears this, and what its body is after that.
     ghost next: { answers.Answer → Self → Does Self };
 
-    /// The next act, after the answer to the one before. It is what `step` gives.
+    /// The next act, after the answer to the one before. It is to be what `step` gives, which no
+    /// clause says.
     fn go(&mut self, heard: Answer) -> Act<Self>
         ensures does { result ≡ (next heard self.old).0 }
         ensures is { self.new ≡ (next heard self.old).1 };

@@ -13,8 +13,8 @@ use Rattle.phased_rt.specs.Totals.{is_phasers}
 abbrev pub IsApart : List Entry → Type 0
 IsApart es = All (λ e. is_phasers e.1 ≡ false) es
 
--- the trace is one of the parts that the locks held, phaser by phaser and finish by finish, and of the tasks'
--- logs; the totals are what the phasers' books came to, each what its history adds up to
+-- the trace is one of a part for each phaser and each finish, which tells a legal history as locks do, and of
+-- logs without an event of a phaser; the totals are what the phasers' histories add up to
 pub record IsToldBy (l : Limits) (es : List Entry) (t : Totals) : Type 0 where
   pub phasers : List (List Entry)
   pub sums : List Amount

@@ -17,10 +17,11 @@
 //!
 //! # What is promised
 //!
-//! Where `run` answers Ok, its trace is one of the histories that the locks held and of what the
-//! tasks noted, a world explains it, and the report is that of its history: each wait of the run
-//! passed when its phase was closed, and each fold is of exactly the values sent. The contract says
-//! no more than the trace does: not that it ends, nor in which order tasks go on.
+//! Where `run` answers Ok, its trace is one of a legal history for each phaser and finish and of
+//! logs, a world explains it, and the report is that of its history: each wait of it passed when its
+//! phase was closed, and each fold is of exactly the values sent. That these are the histories that
+//! the locks held, and what the tasks noted, is read in the code. The contract says no more than the
+//! trace does: not that it ends, nor in which order tasks go on.
 #![tactic(auto)]
 
 mod acts;
