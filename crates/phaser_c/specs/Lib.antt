@@ -1,0 +1,4 @@
+-- x
+pub mod Answers
+pub mod Checked
+pub mod Told

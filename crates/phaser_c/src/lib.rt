@@ -1,0 +1,6 @@
+//! What C calls of the library.
+#![tactic(auto)]
+
+mod answer;
+mod checking;
+mod telling;

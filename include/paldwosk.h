@@ -1,0 +1,306 @@
+/* Paldwosk for C: a checker of traces, and one phaser.
+ *
+ * Link crates/phaser_c/out/libphaser_c.a, which `cd crates/phaser_c && rt lib` proves and builds, and the
+ * toolchain's liblibc_c.a, by which it calls malloc, realloc and free (docs/linked.md has the command).
+ *
+ * WHAT IS PROVED, AND WHAT YOU OWE. Each function here passes its arguments on to one function of the archive,
+ * phaser_c_.., whose contract says what it answers: what the library's call answers. Nothing checks a C caller, so these
+ * are yours to uphold, for every function:
+ *
+ *   - A pointer is NULL or leads to what its type says, for the whole call. Of a pointer with a length, all
+ *     `length` items are there, initialised, and none of them is written by others during the call.
+ *   - What is written to (a room, a place of a result, a paldwosk_phaser) lies apart from all else that the call is
+ *     given.
+ *   - A paldwosk_phaser is zeroed before its first use, and is then only passed to these functions. It isn't copied:
+ *     of two copies the library can't know that they are one phaser.
+ *   - One thread at a time has a paldwosk_phaser. It may go from thread to thread, if a lock, the start or the join of
+ *     a thread orders their calls. For threads that share one, put a lock of your own round it:
+ *
+ *         pthread_mutex_lock(&lock);
+ *         answer = paldwosk_pass(&phaser, task, &phase);
+ *         pthread_mutex_unlock(&lock);
+ *
+ *     No call waits, so the lock is held for as long as the call takes, and who is answered PALDWOSK_NOT_YET asks again
+ *     after another's call (a condition variable that every caller signals serves). The functions of the checker have no
+ *     state, and any number of threads may be in them.
+ *   - malloc, realloc and free are of one allocator, with blocks aligned to 16. No function is called from a signal
+ *     handler, or in the forked child of a process with threads.
+ *
+ * A NULL pointer, a number that is no mode's and a room that is too small are answers, and change nothing. So is a
+ * paldwosk_phaser that holds no phaser.
+ */
+#ifndef PALDWOSK_H
+#define PALDWOSK_H
+
+#include <stddef.h>
+#include <stdint.h>
+
+#ifdef __cplusplus
+extern "C" {
+#endif
+
+/* What a function answers. */
+typedef enum paldwosk_answer {
+  PALDWOSK_DONE = 0, /* it was done */
+
+  /* The call was refused, and changed nothing. The numbers are those that the program prints. */
+  PALDWOSK_NOT_REGISTERED = 1,    /* the task isn't registered on the phaser */
+  PALDWOSK_NO_SIGNAL = 2,         /* its mode can't signal */
+  PALDWOSK_NO_WAIT = 3,           /* its mode can't wait */
+  PALDWOSK_NO_SINGLE = 4,         /* its mode isn't PALDWOSK_SINGLE */
+  PALDWOSK_ALREADY_SIGNALLED = 5, /* it has signalled since its last turn */
+  PALDWOSK_NOT_SIGNALLED = 6,     /* it can signal, and hasn't done so since its last turn */
+  PALDWOSK_SINGLE_MISMATCH = 7,   /* another number is proposed in this phase */
+  PALDWOSK_ONE_PHASER_ONLY = 8,   /* of worlds alone: a single asks for exactly one registration */
+  PALDWOSK_NO_ACCUMULATOR = 9,    /* the phaser has no accumulator of that index */
+  PALDWOSK_NO_PHASE_YET = 10,     /* the reader has ended no turn yet */
+  PALDWOSK_MORE_THAN_PARENT = 11, /* the child's mode isn't within the parent's */
+  PALDWOSK_OUTSIDE_SCOPE = 12,    /* of worlds alone */
+  PALDWOSK_REGISTERED_TWICE = 13, /* the child was registered there before */
+  PALDWOSK_REGS_FULL = 14,        /* registrations at once are at the limit */
+  PALDWOSK_HISTORY_FULL = 15,     /* the history has no room for the event */
+  PALDWOSK_PHASERS_FULL = 16,     /* of worlds alone */
+  PALDWOSK_TASKS_FULL = 17,       /* the task number is at the limit */
+  PALDWOSK_FINISHES_FULL = 18,    /* of worlds alone */
+  PALDWOSK_ACTS_FULL = 19,        /* of worlds alone */
+  PALDWOSK_FINISH_OPEN = 20,      /* of worlds alone */
+  PALDWOSK_NO_FINISH = 21,        /* of worlds alone */
+  PALDWOSK_NOT_NOW = 22,          /* the wrong moment: made already, no single to report, a proposed single not done */
+  PALDWOSK_MEMORY = 23,           /* memory was refused */
+  PALDWOSK_BAD_TEXT = 24,         /* of texts alone */
+  PALDWOSK_NOT_EXPLAINED = 25,    /* of traces alone */
+  PALDWOSK_SHARES_DIFFER = 26,    /* of runs on threads alone */
+
+  /* The call was answered, and isn't simply done. */
+  PALDWOSK_NOT_YET = 32,  /* nothing changed: the task asks again after another task's call */
+  PALDWOSK_CLAIMED = 33,  /* the task runs the single, reports it done, and asks to pass again */
+  PALDWOSK_NOTHING = 34,  /* there is no least and no greatest of no values */
+  PALDWOSK_NOT_KEPT = 35, /* no such accumulator, or the phase is too great, or its fold is given up */
+
+  /* What was passed is at fault. Nothing changed. */
+  PALDWOSK_NULL = 64,          /* a pointer is NULL */
+  PALDWOSK_CLOSED = 65,        /* the paldwosk_phaser holds no phaser */
+  PALDWOSK_OPEN = 66,          /* the paldwosk_phaser holds a phaser already */
+  PALDWOSK_SHORT = 67,         /* the room is too small: *written says how many bytes the text has */
+  PALDWOSK_BAD_MODE = 68,      /* no mode has this number */
+  PALDWOSK_BAD_LIMITS = 69,    /* a limit isn't between its least and its greatest */
+  PALDWOSK_BAD_OPERATORS = 70, /* no operator has one of the numbers, or there are more than four */
+  PALDWOSK_BAD_BOUND = 71,     /* the bound is over 65,536 */
+  PALDWOSK_BAD_TICKETS = 72    /* there aren't as many tickets as events */
+} paldwosk_answer;
+
+/* What a task may do on a phaser. */
+typedef enum paldwosk_mode {
+  PALDWOSK_SIG = 0,      /* signals, and waits for nobody */
+  PALDWOSK_WAIT = 1,     /* waits, and nobody waits for it */
+  PALDWOSK_SIG_WAIT = 2, /* signals and waits, as at a barrier */
+  PALDWOSK_SINGLE = 3    /* signals and waits, and may run a statement alone between two phases */
+} paldwosk_mode;
+
+/* How an accumulator folds the values of a phase. */
+typedef enum paldwosk_operator {
+  PALDWOSK_SUM = 0,     /* their sum, 0 for none */
+  PALDWOSK_LEAST = 1,   /* the least of them */
+  PALDWOSK_GREATEST = 2 /* the greatest of them */
+} paldwosk_operator;
+
+/* How much a run may have of each thing. A phaser alone looks at history, regs and tasks; all six stand in the text of
+ * its history. */
+typedef struct paldwosk_limits {
+  uint32_t acts;     /* acts of a task: 1 to 65,536 */
+  uint32_t finishes; /* finishes of a run: 1 to 1,024 */
+  uint32_t history;  /* events in a phaser's history: 4 to 65,536 */
+  uint32_t phasers;  /* phasers of a run: 1 to 64 */
+  uint32_t regs;     /* registrations on a phaser at once: 1 to 256 */
+  uint32_t tasks;    /* tasks of a run, whose numbers are below it: 1 to 4,096 */
+} paldwosk_limits;
+
+/* The limits where nothing else is said. */
+#define PALDWOSK_DEFAULT_LIMITS {4096, 64, 4096, 64, 256, 256}
+
+/* A phaser as C holds it: one pointer, NULL while there is no phaser. Its field is the library's. */
+typedef struct paldwosk_phaser {
+  void *held;
+} paldwosk_phaser;
+
+#define PALDWOSK_NO_PHASER {NULL}
+
+/* How a check ended. Where the program phaser_run has an exit status for it, it is that. */
+typedef enum paldwosk_status {
+  PALDWOSK_STATUS_DONE = 0,    /* the lines are written */
+  PALDWOSK_STATUS_REFUSED = 1, /* the text was refused, or memory: the line of the refusal is written */
+  PALDWOSK_STATUS_NULL = 64,   /* a pointer is NULL, nothing was written */
+  PALDWOSK_STATUS_SHORT = 67   /* the room is too small, nothing was written but how many bytes the text has */
+} paldwosk_status;
+
+/* ---- The archive's functions. Call those below, which look for NULL before. Here no pointer may be NULL. */
+
+uint32_t phaser_c_replay(const uint8_t *trace, size_t length, uint8_t *report, size_t room, size_t *written);
+uint32_t phaser_c_events(const uint8_t *file, size_t length, uint8_t *lines, size_t room, size_t *written);
+uint32_t phaser_c_new(paldwosk_phaser *phaser, const paldwosk_limits *limits, const uint32_t *operators, size_t count,
+                      uint32_t bound);
+void phaser_c_free(paldwosk_phaser *phaser);
+uint32_t phaser_c_make(paldwosk_phaser *phaser, uint32_t task, uint32_t mode);
+uint32_t phaser_c_register(paldwosk_phaser *phaser, uint32_t parent, uint32_t child, uint32_t mode);
+uint32_t phaser_c_signal(paldwosk_phaser *phaser, uint32_t task);
+uint32_t phaser_c_signal_single(paldwosk_phaser *phaser, uint32_t task, uint32_t number);
+uint32_t phaser_c_pass(paldwosk_phaser *phaser, uint32_t task, uint32_t *number);
+uint32_t phaser_c_single_done(paldwosk_phaser *phaser, uint32_t task);
+uint32_t phaser_c_send(paldwosk_phaser *phaser, uint32_t task, uint8_t accumulator, int32_t value);
+uint32_t phaser_c_look(paldwosk_phaser *phaser, uint32_t task, uint8_t accumulator, int64_t *value);
+uint32_t phaser_c_drop(paldwosk_phaser *phaser, uint32_t task);
+uint32_t phaser_c_is_closed(paldwosk_phaser *phaser, uint32_t phase, uint32_t *closed);
+uint32_t phaser_c_is_full(paldwosk_phaser *phaser, uint32_t *full);
+uint32_t phaser_c_fold_at(paldwosk_phaser *phaser, uint8_t accumulator, uint32_t phase, int64_t *value);
+uint32_t phaser_c_compared(paldwosk_phaser *phaser, uint32_t *count);
+uint32_t phaser_c_event_count(paldwosk_phaser *phaser, uint32_t *count);
+uint32_t phaser_c_history_text(paldwosk_phaser *phaser, uint32_t number, const uint64_t *tickets, size_t count,
+                               uint8_t *text, size_t room, size_t *written);
+
+/* ---- The checker */
+
+/* Replays the text of a trace (docs/formats.md), at most 67,108,864 bytes: makes its events again, one by one. Where they
+ * are a run, writes the lines of its report to `report`, else the line of the refusal, as `refused 25 NotExplained at 7`.
+ * No NUL is added. *written is how many bytes the text has, also where the room is too small for it; then nothing else is
+ * written, and a second call with more room answers the same. The room may be NULL where it is 0. */
+static inline paldwosk_status paldwosk_replay(const char *trace, size_t length, char *report, size_t room,
+                                              size_t *written) {
+  uint8_t none = 0, nowhere = 0;
+  if ((!trace && length) || (!report && room) || !written) return PALDWOSK_STATUS_NULL;
+  return (paldwosk_status)phaser_c_replay(trace ? (const uint8_t *)trace : &none, length,
+                                          report ? (uint8_t *)report : &nowhere, room, written);
+}
+
+/* Answers an events file (docs/formats.md), at most 1,048,576 bytes: makes its calls on one phaser, and writes the line of
+ * each reply to `lines`, or the line of the refusal of the file. The room and *written are as for paldwosk_replay. */
+static inline paldwosk_status paldwosk_events(const char *file, size_t length, char *lines, size_t room,
+                                              size_t *written) {
+  uint8_t none = 0, nowhere = 0;
+  if ((!file && length) || (!lines && room) || !written) return PALDWOSK_STATUS_NULL;
+  return (paldwosk_status)phaser_c_events(file ? (const uint8_t *)file : &none, length,
+                                          lines ? (uint8_t *)lines : &nowhere, room, written);
+}
+
+/* ---- One phaser. docs/rules.md says what each call is answered, and in which order refusals come. */
+
+/* Makes a phaser that nobody has made yet: of these limits, with an accumulator for each of at most four operators, and
+ * with a bound of 1 to 65,536 phases, or 0 for none. It takes all memory that the phaser will ever need. Answers, in this
+ * order: OPEN, BAD_LIMITS, BAD_OPERATORS, BAD_BOUND, MEMORY. On DONE the phaser is to be freed by paldwosk_free. */
+static inline paldwosk_answer paldwosk_new(paldwosk_phaser *phaser, const paldwosk_limits *limits,
+                                           const paldwosk_operator *operators, size_t count, uint32_t bound) {
+  uint32_t numbers[4] = {0, 0, 0, 0};
+  if (!phaser || !limits || (!operators && count)) return PALDWOSK_NULL;
+  for (size_t at = 0; at < count && at < 4; at++) numbers[at] = (uint32_t)operators[at];
+  if (count > 4) numbers[0] = 99; /* no operator's: refused in its turn */
+  return (paldwosk_answer)phaser_c_new(phaser, limits, numbers, count > 4 ? 4 : count, bound);
+}
+
+/* Frees the phaser, if there is one; `phaser` holds none from then on, and paldwosk_new may make one for it again. */
+static inline void paldwosk_free(paldwosk_phaser *phaser) {
+  if (phaser) phaser_c_free(phaser);
+}
+
+/* The task makes the phaser, and is registered on it. NOT_NOW, TASKS_FULL. */
+static inline paldwosk_answer paldwosk_make(paldwosk_phaser *phaser, uint32_t task, paldwosk_mode mode) {
+  return phaser ? (paldwosk_answer)phaser_c_make(phaser, task, (uint32_t)mode) : PALDWOSK_NULL;
+}
+
+/* The parent registers the child where it stands itself. NOT_REGISTERED, MORE_THAN_PARENT, TASKS_FULL, REGISTERED_TWICE,
+ * REGS_FULL, HISTORY_FULL. */
+static inline paldwosk_answer paldwosk_register(paldwosk_phaser *phaser, uint32_t parent, uint32_t child,
+                                                paldwosk_mode mode) {
+  return phaser ? (paldwosk_answer)phaser_c_register(phaser, parent, child, (uint32_t)mode) : PALDWOSK_NULL;
+}
+
+/* The task signals its phase. NOT_REGISTERED, NO_SIGNAL, ALREADY_SIGNALLED, then NOT_YET on a bounded phaser, then
+ * HISTORY_FULL. */
+static inline paldwosk_answer paldwosk_signal(paldwosk_phaser *phaser, uint32_t task) {
+  return phaser ? (paldwosk_answer)phaser_c_signal(phaser, task) : PALDWOSK_NULL;
+}
+
+/* The task signals, and proposes the single of this number. As paldwosk_signal, with NO_SINGLE after NO_SIGNAL, and
+ * SINGLE_MISMATCH after ALREADY_SIGNALLED. */
+static inline paldwosk_answer paldwosk_signal_single(paldwosk_phaser *phaser, uint32_t task, uint32_t number) {
+  return phaser ? (paldwosk_answer)phaser_c_signal_single(phaser, task, number) : PALDWOSK_NULL;
+}
+
+/* The task asks to end its turn. On DONE *number is the phase that it passed, on CLAIMED the number of the single that
+ * it runs; else it isn't written. NOT_REGISTERED, NOT_SIGNALLED, then NOT_YET, then HISTORY_FULL. */
+static inline paldwosk_answer paldwosk_pass(paldwosk_phaser *phaser, uint32_t task, uint32_t *number) {
+  return phaser && number ? (paldwosk_answer)phaser_c_pass(phaser, task, number) : PALDWOSK_NULL;
+}
+
+/* The task reports the single done that it claimed. NOT_REGISTERED, NOT_NOW. */
+static inline paldwosk_answer paldwosk_single_done(paldwosk_phaser *phaser, uint32_t task) {
+  return phaser ? (paldwosk_answer)phaser_c_single_done(phaser, task) : PALDWOSK_NULL;
+}
+
+/* The task sends a value to an accumulator, for the phase that it hasn't signalled yet. NOT_REGISTERED, NO_SIGNAL,
+ * NO_ACCUMULATOR, HISTORY_FULL. */
+static inline paldwosk_answer paldwosk_send(paldwosk_phaser *phaser, uint32_t task, uint32_t accumulator,
+                                            int32_t value) {
+  uint8_t index = accumulator < 255 ? (uint8_t)accumulator : 255; /* there are four at most */
+  return phaser ? (paldwosk_answer)phaser_c_send(phaser, task, index, value) : PALDWOSK_NULL;
+}
+
+/* What an accumulator holds of the phase before the task's own: on DONE *value is it; else it isn't written. NOTHING where
+ * there is no least and no greatest. NOT_REGISTERED, NO_WAIT, NO_ACCUMULATOR, NO_PHASE_YET, HISTORY_FULL. */
+static inline paldwosk_answer paldwosk_look(paldwosk_phaser *phaser, uint32_t task, uint32_t accumulator,
+                                            int64_t *value) {
+  uint8_t index = accumulator < 255 ? (uint8_t)accumulator : 255;
+  return phaser && value ? (paldwosk_answer)phaser_c_look(phaser, task, index, value) : PALDWOSK_NULL;
+}
+
+/* The task is dropped from the phaser. NOT_REGISTERED, NOT_NOW where it proposed a single that isn't done. */
+static inline paldwosk_answer paldwosk_drop(paldwosk_phaser *phaser, uint32_t task) {
+  return phaser ? (paldwosk_answer)phaser_c_drop(phaser, task) : PALDWOSK_NULL;
+}
+
+/* Whether each task that is registered and can signal has signalled the phase: *closed is 1 or 0. */
+static inline paldwosk_answer paldwosk_is_closed(paldwosk_phaser *phaser, uint32_t phase, uint32_t *closed) {
+  return phaser && closed ? (paldwosk_answer)phaser_c_is_closed(phaser, phase, closed) : PALDWOSK_NULL;
+}
+
+/* Whether an event that registers nobody and proposes nothing has no room in the history: *full is 1 or 0. */
+static inline paldwosk_answer paldwosk_is_full(paldwosk_phaser *phaser, uint32_t *full) {
+  return phaser && full ? (paldwosk_answer)phaser_c_is_full(phaser, full) : PALDWOSK_NULL;
+}
+
+/* What the values sent to an accumulator for a closed phase fold to; of a phase that isn't closed, what was folded so far.
+ * On DONE *value is it; else it isn't written. NOTHING, NOT_KEPT. */
+static inline paldwosk_answer paldwosk_fold_at(paldwosk_phaser *phaser, uint32_t accumulator, uint32_t phase,
+                                               int64_t *value) {
+  uint8_t index = accumulator < 255 ? (uint8_t)accumulator : 255;
+  return phaser && value ? (paldwosk_answer)phaser_c_fold_at(phaser, index, phase, value) : PALDWOSK_NULL;
+}
+
+/* How many comparisons of task numbers the last call made that changes the phaser. */
+static inline paldwosk_answer paldwosk_compared(paldwosk_phaser *phaser, uint32_t *count) {
+  return phaser && count ? (paldwosk_answer)phaser_c_compared(phaser, count) : PALDWOSK_NULL;
+}
+
+/* How many events the history has. */
+static inline paldwosk_answer paldwosk_event_count(paldwosk_phaser *phaser, uint32_t *count) {
+  return phaser && count ? (paldwosk_answer)phaser_c_event_count(phaser, count) : PALDWOSK_NULL;
+}
+
+/* Writes the history as the text of a trace that has this phaser's events alone, under this number, with these tickets,
+ * one for each event, in order: {"events":[[1,"p",0,"make",0,"SIG_WAIT",[],null],..],"limits":{..},"version":2}, without
+ * blanks and without a newline. To have a run judged, draw a ticket for each call that adds an event, and put the entries
+ * of all its phasers, finishes and tasks together, by ticket (docs/own-runtime.md): the events of a phaser alone are no
+ * run. No NUL is added; the room and *written are as for paldwosk_replay. Answers, in this order: CLOSED, BAD_TICKETS,
+ * MEMORY, SHORT. */
+static inline paldwosk_answer paldwosk_history_text(paldwosk_phaser *phaser, uint32_t number, const uint64_t *tickets,
+                                                    size_t count, char *text, size_t room, size_t *written) {
+  uint64_t none = 0;
+  uint8_t nowhere = 0;
+  if (!phaser || (!tickets && count) || (!text && room) || !written) return PALDWOSK_NULL;
+  return (paldwosk_answer)phaser_c_history_text(phaser, number, tickets ? tickets : &none, count,
+                                                text ? (uint8_t *)text : &nowhere, room, written);
+}
+
+#ifdef __cplusplus
+}
+#endif
+
+#endif

@@ -1,0 +1,43 @@
+//! Says where the archive is: `PALDWOSK_ARCHIVE`, or what `rt lib` makes in this checkout; and where the toolchain's
+//! archive is, by which it calls malloc: `RATTLE_C`, or the folder `c` of the kit whose command `rt` is on the PATH.
+use std::env::{split_paths, var_os};
+use std::path::{Path, PathBuf};
+
+/// The folder with libphaser_c.a.
+fn archive() -> PathBuf {
+    match var_os("PALDWOSK_ARCHIVE") {
+        Some(folder) => PathBuf::from(folder),
+        None => Path::new(env!("CARGO_MANIFEST_DIR")).join("../../crates/phaser_c/out"),
+    }
+}
+
+/// The folder with liblibc_c.a.
+fn toolchain() -> PathBuf {
+    if let Some(folder) = var_os("RATTLE_C") {
+        return PathBuf::from(folder);
+    }
+    let found = var_os("PATH")
+        .iter()
+        .flat_map(|path| split_paths(path).collect::<Vec<_>>())
+        .filter_map(|folder| folder.join("rt").canonicalize().ok())
+        .next();
+    match found {
+        Some(rt) => rt.join("../../c"),
+        None => panic!("the command rt isn't on the PATH: name the folder of liblibc_c.a by RATTLE_C"),
+    }
+}
+
+fn main() {
+    let (archive, toolchain) = (archive(), toolchain());
+    let file = archive.join("libphaser_c.a");
+    if !file.exists() {
+        panic!("there is no {}: make it by `cd crates/phaser_c && rt lib`", file.display());
+    }
+    println!("cargo:rerun-if-changed={}", file.display());
+    println!("cargo:rerun-if-env-changed=PALDWOSK_ARCHIVE");
+    println!("cargo:rerun-if-env-changed=RATTLE_C");
+    println!("cargo:rustc-link-search=native={}", archive.display());
+    println!("cargo:rustc-link-search=native={}", toolchain.display());
+    println!("cargo:rustc-link-lib=static=phaser_c");
+    println!("cargo:rustc-link-lib=static=libc_c");
+}

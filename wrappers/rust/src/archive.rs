@@ -1,0 +1,68 @@
+//! The functions of the archive, as `include/paldwosk.h` declares them, and what C holds of a phaser. Nothing compares
+//! the declarations with those of `crates/phaser_c`: who changes one changes the other.
+use std::ffi::c_void;
+
+/// What the library keeps of a phaser: a pointer, null while there is none.
+#[repr(C)]
+pub(crate) struct Handle {
+    pub(crate) held: *mut c_void,
+}
+
+/// `paldwosk_limits`.
+#[repr(C)]
+pub(crate) struct GivenLimits {
+    pub(crate) acts: u32,
+    pub(crate) finishes: u32,
+    pub(crate) history: u32,
+    pub(crate) phasers: u32,
+    pub(crate) regs: u32,
+    pub(crate) tasks: u32,
+}
+
+unsafe extern "C" {
+    pub(crate) fn phaser_c_replay(
+        trace: *const u8,
+        length: usize,
+        report: *mut u8,
+        room: usize,
+        written: &mut usize,
+    ) -> u32;
+    pub(crate) fn phaser_c_events(
+        file: *const u8,
+        length: usize,
+        lines: *mut u8,
+        room: usize,
+        written: &mut usize,
+    ) -> u32;
+    pub(crate) fn phaser_c_new(
+        phaser: &mut Handle,
+        limits: &GivenLimits,
+        operators: *const u32,
+        count: usize,
+        bound: u32,
+    ) -> u32;
+    pub(crate) fn phaser_c_free(phaser: &mut Handle);
+    pub(crate) fn phaser_c_make(phaser: &mut Handle, task: u32, mode: u32) -> u32;
+    pub(crate) fn phaser_c_register(phaser: &mut Handle, parent: u32, child: u32, mode: u32) -> u32;
+    pub(crate) fn phaser_c_signal(phaser: &mut Handle, task: u32) -> u32;
+    pub(crate) fn phaser_c_signal_single(phaser: &mut Handle, task: u32, number: u32) -> u32;
+    pub(crate) fn phaser_c_pass(phaser: &mut Handle, task: u32, number: &mut u32) -> u32;
+    pub(crate) fn phaser_c_single_done(phaser: &mut Handle, task: u32) -> u32;
+    pub(crate) fn phaser_c_send(phaser: &mut Handle, task: u32, accumulator: u8, value: i32) -> u32;
+    pub(crate) fn phaser_c_look(phaser: &mut Handle, task: u32, accumulator: u8, value: &mut i64) -> u32;
+    pub(crate) fn phaser_c_drop(phaser: &mut Handle, task: u32) -> u32;
+    pub(crate) fn phaser_c_is_closed(phaser: &mut Handle, phase: u32, closed: &mut u32) -> u32;
+    pub(crate) fn phaser_c_is_full(phaser: &mut Handle, full: &mut u32) -> u32;
+    pub(crate) fn phaser_c_fold_at(phaser: &mut Handle, accumulator: u8, phase: u32, value: &mut i64) -> u32;
+    pub(crate) fn phaser_c_compared(phaser: &mut Handle, count: &mut u32) -> u32;
+    pub(crate) fn phaser_c_event_count(phaser: &mut Handle, count: &mut u32) -> u32;
+    pub(crate) fn phaser_c_history_text(
+        phaser: &mut Handle,
+        number: u32,
+        tickets: *const u64,
+        count: usize,
+        text: *mut u8,
+        room: usize,
+        written: &mut usize,
+    ) -> u32;
+}

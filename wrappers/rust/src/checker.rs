@@ -1,0 +1,49 @@
+//! The checker: a trace's text is replayed, and an events file is answered.
+use crate::archive::{phaser_c_events, phaser_c_replay};
+use std::error::Error;
+use std::fmt;
+
+/// A text was refused, or memory for it.
+#[derive(Clone, Debug, PartialEq, Eq)]
+pub struct Refused {
+    /// The line of the refusal, with its newline, as `refused 25 NotExplained at 7`.
+    pub line: String,
+}
+
+impl fmt::Display for Refused {
+    fn fmt(&self, f: &mut fmt::Formatter<'_>) -> fmt::Result {
+        f.write_str(self.line.trim_end())
+    }
+}
+
+impl Error for Refused {}
+
+/// A function of the checker: bytes, a room for the lines, and how many bytes those are.
+type Check = unsafe extern "C" fn(*const u8, usize, *mut u8, usize, &mut usize) -> u32;
+
+/// Checks the text, at first with so much room, and with as much as the lines need where that was too little.
+fn check(function: Check, text: &[u8], room: usize) -> Result<String, Refused> {
+    let (mut room, mut written) = (vec![0; room], 0);
+    loop {
+        // SAFETY: the pointers and lengths are those of a slice and of a list that nobody else has.
+        let number = unsafe {
+            function(text.as_ptr(), text.len(), room.as_mut_ptr(), room.len(), &mut written)
+        };
+        let lines = |room: &[u8]| String::from_utf8_lossy(&room[..written]).into_owned();
+        match number {
+            0 => return Ok(lines(&room)),
+            67 => room.resize(written, 0),
+            _ => return Err(Refused { line: lines(&room) }),
+        }
+    }
+}
+
+/// Replays the text of a trace: makes its events again, one by one. The lines of the report, where they are a run.
+pub fn replay(trace: &[u8]) -> Result<String, Refused> {
+    check(phaser_c_replay, trace, 4096)
+}
+
+/// Answers an events file: makes its calls on one phaser. The line of each reply.
+pub fn events(file: &[u8]) -> Result<String, Refused> {
+    check(phaser_c_events, file, 4096)
+}
