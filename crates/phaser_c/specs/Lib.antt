@@ -1,4 +1,9 @@
--- x
+-- The definitions that the contracts cite.
 pub mod Answers
+pub mod Asked
+pub mod Calls
 pub mod Checked
+pub mod Given
+pub mod Held
+pub mod History
 pub mod Told

@@ -1,15 +1,11 @@
 //! The checker: a trace's text is replayed, and an events file is answered.
-ghost use Rattle.std.specs.Prelude.{◌≡◌, ◌≢◌, ◌<◌, ◌⊎◌, Ok, length, vec_len};
-ghost use Rattle.replay_job.specs.Replayed.{report_for, Explains, IsOfReplay};
-ghost use Rattle.events_text.specs.Form.{Form};
-ghost use Rattle.events_text.specs.Lines.{text_for};
-ghost use Rattle.events_job.specs.File.{file_spelled};
-ghost use Rattle.events_job.specs.Ends.{IsOfAnswer};
-ghost use Rattle.phaser_c.specs.Told.{IsTold};
-ghost use Rattle.phaser_c.specs.Checked.{without_write};
+ghost use Rattle.std.specs.Prelude.{◌≡◌};
+ghost use Rattle.phaser_c.specs.Checked.{without_write, IsEnd, IsReplayed, IsAnswered, IsHanded};
+ghost use Rattle.phaser_c.specs.declared.checking.Checked.{Checked as Outcome};
 
 use crate::answer::Answer;
 use crate::telling::tell;
+use events_job::answer;
 use job_ends::Failure;
 use phase_modes::Refusal;
 use replay_job::replay_bytes;
@@ -37,6 +33,7 @@ fn without_write(failure: Failure) -> Failure
 
 /// What a check came to that wrote these lines, or failed.
 fn end(alloc: Global, lines: Vec<u8>, outcome: Result<(), Failure>) -> Checked
+    ensures { IsEnd lines.items outcome result }
 {
     match outcome {
         Ok(()) => Checked::Done(lines),
@@ -48,8 +45,30 @@ fn end(alloc: Global, lines: Vec<u8>, outcome: Result<(), Failure>) -> Checked
     }
 }
 
+/// Replays a trace's text.
+#[tactic(auto, using(crate::proofs::Refusals::replay_refused))]
+fn replayed(alloc: Global, trace: &[u8]) -> Checked
+    ensures { IsReplayed trace.now result }
+{
+    let mut lines = Vec::new(alloc);
+    let outcome = replay_bytes(alloc, trace, &mut lines, &mut None::<Vec<u8>>);
+    end(alloc, lines, outcome)
+}
+
+/// Answers an events file.
+#[tactic(auto, using(crate::proofs::Refusals::answer_refused))]
+fn answered(alloc: Global, file: &[u8]) -> Checked
+    ensures { IsAnswered file.now result }
+{
+    let mut lines = Vec::new(alloc);
+    let outcome = answer(alloc, file, &mut lines);
+    end(alloc, lines, outcome)
+}
+
 /// The number that answers a check, whose text is written to the room.
-fn hand(ended: &Checked, room: &mut [u8], written: &mut usize) -> u32 {
+fn hand(ended: &Checked, room: &mut [u8], written: &mut usize) -> u32
+    ensures { IsHanded ended.now room.old room.new written.new result }
+{
     let (text, number) = match ended {
         Checked::Done(text) => (text, 0),
         Checked::Refused(text) => (text, 1),
@@ -68,10 +87,10 @@ pub extern "C" fn phaser_c_replay(
     trace: &[u8],
     report: &mut [u8],
     written: &mut usize,
-) -> u32 {
-    let mut lines = Vec::new(alloc);
-    let outcome = replay_bytes(alloc, trace, &mut lines, &mut None::<Vec<u8>>);
-    hand(&end(alloc, lines, outcome), report, written)
+) -> u32
+    ensures { (c : Outcome) × IsReplayed trace.now c × IsHanded c report.old report.new written.new result }
+{
+    hand(&replayed(alloc, trace), report, written)
 }
 
 /// `events_job::answer`, whose lines, or the line of whose failure, are written to the room.
@@ -81,8 +100,8 @@ pub extern "C" fn phaser_c_events(
     file: &[u8],
     lines: &mut [u8],
     written: &mut usize,
-) -> u32 {
-    let mut replies = Vec::new(alloc);
-    let outcome = events_job::answer(alloc, file, &mut replies);
-    hand(&end(alloc, replies, outcome), lines, written)
+) -> u32
+    ensures { (c : Outcome) × IsAnswered file.now c × IsHanded c lines.old lines.new written.new result }
+{
+    hand(&answered(alloc, file), lines, written)
 }

@@ -1,0 +1,19 @@
+-- What a handle owns.
+use Rattle.std.specs.Prelude.{None, Some}
+use Rattle.std.specs.declared.option.Option.{Option}
+use base.Fml.{Fml, ftrue, ffalse}
+use denote.RawPtr.{Ptr, block_ptr, null_ptr}
+use Rattle.std.specs.Box.Ownership.{box_owns}
+use Rattle.libc.specs.Heap.{chunk}
+use Rattle.phaser_core.specs.Phaser.{Phaser}
+use Rattle.phaser_core.specs.contracts.state.PhaserState.{the_row}
+
+-- at null nothing, and nowhere else
+abbrev pub nothing_at : Ptr → Fml
+nothing_at null_ptr = ftrue
+nothing_at (block_ptr b o) = ffalse
+
+-- the phaser in a block of its own, with the right to free it; where there is none, null
+abbrev pub held : Ptr → Option Phaser → Fml
+held p None = nothing_at p
+held p (Some x) = box_owns chunk the_row p x
