@@ -1,3 +1,4 @@
 mod Held
+mod Parts
 mod Refusals
 mod Values
