@@ -119,13 +119,14 @@ static int calls(void) {
   size_t count = 0;
   uint32_t bound;
   int at = 0, used = 0, operator;
-  if (scanf("%" SCNu32 " %" SCNu32 " %" SCNu32 " %" SCNu32 " %" SCNu32 " %" SCNu32 "\n", &limits.acts, &limits.finishes,
-            &limits.history, &limits.phasers, &limits.regs, &limits.tasks) != 6)
+  if (!fgets(line, sizeof line, stdin)) exit(3);
+  if (sscanf(line, "%" SCNu32 " %" SCNu32 " %" SCNu32 " %" SCNu32 " %" SCNu32 " %" SCNu32, &limits.acts, &limits.finishes,
+             &limits.history, &limits.phasers, &limits.regs, &limits.tasks) != 6)
     exit(3);
   if (!fgets(line, sizeof line, stdin)) exit(3);
   for (; count < 4 && sscanf(line + at, "%d%n", &operator, &used) == 1; at += used)
     operators[count++] = (paldwosk_operator)operator;
-  if (scanf("%" SCNu32 "\n", &bound) != 1) exit(3);
+  if (!fgets(line, sizeof line, stdin) || sscanf(line, "%" SCNu32, &bound) != 1) exit(3);
   MUST(paldwosk_new(&phaser, &limits, operators, count, bound) == PALDWOSK_DONE);
   while (fgets(line, sizeof line, stdin)) {
     long long n[3] = {0, 0, 0};

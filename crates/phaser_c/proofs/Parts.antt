@@ -12,9 +12,9 @@ added_more l es i old new less was added =
     elim (slice_get_cases es i).1 [
       | inl it ↦
           let e : Entry = it.0 in
-          let made : new ≡ with_event old e = subst (λ o. IfSome o (λ x. new ≡ with_event old x)) it.1.1.0 added in
+          let made : new ≡ with_event old e = subst (λ o. IfSome o (λ x. new ≡ with_event old x)) it.2 added in
           made
           ∙ ap (λ r. with_event r e) was
-          ∙ ap (λ xs. record { limits = l; events = xs }) (sym (take_more es i e less ∙ ap (λ x. take i es ++ x ∷ []) it.1.1.1))
+          ∙ ap (λ xs. record { limits = l; events = xs }) (sym (take_more es i e less ∙ ap (λ x. take i es ++ x ∷ []) it.3))
       | inr it ↦ let over = it.0 in absurd (omega (arith, less, over))
     ]

@@ -25,6 +25,13 @@ impl Model for Handle {
     ghost also_owns = { λ h. held h.at h.state };
 }
 
+/// The value, of a type that may go from thread to thread: so may a handle, with what it leads to.
+fn movable<T: Send>(value: T) -> T
+    ensures { result ≡ value }
+{
+    value
+}
+
 impl Handle {
     /// A handle that holds no phaser.
     fn closed() -> Handle
@@ -71,7 +78,7 @@ impl Handle {
     pub(crate) fn put(&mut self, alloc: Global, state: Box<PhaserState>)
         ensures { self.new.state ≡ Some state.value }
     {
-        let before = replace(self, Handle::of(Loose::of(state)));
+        let before = replace(self, Handle::of(Loose::of(movable(state))));
         if let Some(loose) = before.into_loose(alloc) {
             drop(loose.into_box());
         }
