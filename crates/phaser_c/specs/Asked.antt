@@ -20,9 +20,9 @@ IsFoldAt p accumulator phase r =
     IfSome r (λ x. accumulator < length p.story.terms.ops)
     × IfSome r (λ x. phase < p.story.limits.history)
     × (accumulator < length p.story.terms.ops → phase < p.story.limits.history
-        → is_needed phase p.story.past ≡ true → is_some r ≡ true)
+    → is_needed phase p.story.past ≡ true → is_some r ≡ true)
     × IfSome r (λ x. is_closed phase p.story.past ≡ true → Some x
-        ≡ option_map (λ op. fold op (sent accumulator phase p.story.past)) (slice_get p.story.terms.ops accumulator))
+    ≡ option_map (λ op. fold op (sent accumulator phase p.story.past)) (slice_get p.story.terms.ops accumulator))
 
 -- the number and the value that answer for a fold
 abbrev pub IsFold : Option Phaser → ℕ → ℕ → ℤ → ℤ → ℕ → Type 0

@@ -23,7 +23,7 @@ abbrev pub IsHistory : ℕ → Story → List ℕ → List ℕ → List ℕ → 
 IsHistory number s tickets old new before written a =
     (length tickets ≢ length s.past → (a ≡ BadTickets) × (new ≡ old) × (written ≡ before))
     × (length tickets ≡ length s.past → ((a ≡ Refused Memory) × (new ≡ old) × (written ≡ before))
-        ⊎ (IsTold (history_text number s tickets) old new written × (a ≡ answer_in (history_text number s tickets) old)))
+    ⊎ (IsTold (history_text number s tickets) old new written × (a ≡ answer_in (history_text number s tickets) old)))
 
 -- the same of what a handle holds
 abbrev pub IsHistoryTold : Option Phaser → ℕ → List ℕ → List ℕ → List ℕ → ℕ → ℕ → ℕ → Type 0

@@ -52,7 +52,12 @@ fn trace_of(alloc: Global, limits: Limits, part: &Part) -> Result<Trace, Refusal
 }
 
 /// The text of the trace that has the events of the history alone.
-fn text_of(alloc: Global, number: u32, history: &History, tickets: &[u64]) -> Result<String, Refusal>
+fn text_of(
+    alloc: Global,
+    number: u32,
+    history: &History,
+    tickets: &[u64],
+) -> Result<String, Refusal>
     requires { length tickets.now ≡ length history.now.past }
     ensures text { IfOk result (λ text. string_bytes text ≡ history_text number history.now tickets.now) }
     ensures memory { IfErr result (λ r. r ≡ Refusal.Memory) }

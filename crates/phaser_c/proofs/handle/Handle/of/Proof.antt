@@ -24,7 +24,7 @@ use Rattle.std.specs.contracts.impls.GlobalAllocator.TheImpl.{ghosts}
 use Rattle.std.proofs.raw_atomic.Walks.{proved_at, leaves}
 use Rattle.phaser_core.specs.contracts.state.PhaserState.{the_row as R}
 use Rattle.phaser_c.proofs.Values.{both, Loose, loose_good, loose_out}
-use Rattle.phaser_c.proofs.Held.{Hd, word, handle_in}
+use Rattle.phaser_c.proofs.Held.{word, handle_in}
 use Rattle.phaser_c.specs.contracts.handle.Handle.of.{ended, clauses}
 use Rattle.phaser_c.specs.contracts.handle.Handle.of.Key.{name as #self}
 use Rattle.phaser_c.proofs.handle.Handle.of.Statement.{statement}
