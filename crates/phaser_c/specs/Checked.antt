@@ -1,5 +1,5 @@
 -- What the checker hands out.
-use Rattle.std.specs.Prelude.{◌≡◌, ◌⊎◌, ℕ, List, length, take, nat_le, if◌then◌else◌, Result, Ok, Err}
+use Rattle.std.specs.Prelude.{◌≡◌, ◌⊎◌, ℕ, List, length, nat_le, if◌then◌else◌, Result, Ok, Err, ⊤}
 use Rattle.phase_modes.specs.declared.refusal.Refusal.TheVariants.{Memory}
 use Rattle.job_ends.specs.declared.failure.Failure.{Failure}
 use Rattle.job_ends.specs.declared.failure.Failure.TheVariants.{Refused, Read, Write}
@@ -22,10 +22,6 @@ without_write (Refused r) = Refused r
 without_write Read = Read
 without_write Write = Refused Memory
 
--- the text is the line of the failure; where memory for the line is refused, a beginning of it
-abbrev pub IsLine : Failure → List ℕ → Type 0
-IsLine f text = (n : ℕ) × (text ≡ take n (failure_line f))
-
 -- it is the failure, or want of memory for its line
 abbrev pub IsReported : Failure → Failure → Type 0
 IsReported f g = (g ≡ f) ⊎ (g ≡ Refused Memory)
@@ -34,22 +30,27 @@ IsReported f g = (g ≡ f) ⊎ (g ≡ Refused Memory)
 abbrev pub IsEnd : List ℕ → Result (Unit {0}) Failure → Checked → Type 0
 IsEnd lines (Ok u) (checked.Done text) = text.items ≡ lines
 IsEnd lines (Ok u) (checked.Refused text) = ⊥
+IsEnd lines (Ok u) checked.Lacking = ⊥
 IsEnd lines (Err f) (checked.Done text) = ⊥
-IsEnd lines (Err f) (checked.Refused text) = (g : Failure) × IsReported (without_write f) g × IsLine g text.items
+IsEnd lines (Err f) (checked.Refused text) =
+    (g : Failure) × IsReported (without_write f) g × (text.items ≡ failure_line g)
+IsEnd lines (Err f) checked.Lacking = ⊤
 
 -- a refusal, with this known of the failure, and its line
 abbrev pub IsRefusal : (Failure → Type 0) → List ℕ → Type 0
-IsRefusal Known text = (f : Failure) × (status_of f ≡ statuses.Refused) × Known f × IsLine f text
+IsRefusal Known text = (f : Failure) × (status_of f ≡ statuses.Refused) × Known f × (text ≡ failure_line f)
 
 -- what replaying these bytes comes to: the report of the one trace that they spell, or a refusal
 abbrev pub IsReplayed : List ℕ → Checked → Type 0
 IsReplayed bytes (checked.Done text) = Explains bytes (λ t. text.items ≡ report_for t)
 IsReplayed bytes (checked.Refused text) = IsRefusal (IsOfReplay bytes) text.items
+IsReplayed bytes checked.Lacking = IsOfReplay bytes (Refused Memory)
 
 -- what answering these bytes comes to: the reply lines of the file that they spell, or a refusal
 abbrev pub IsAnswered : List ℕ → Checked → Type 0
 IsAnswered bytes (checked.Done text) = (file : Form) × (file_spelled bytes ≡ Ok file) × (text.items ≡ text_for file)
 IsAnswered bytes (checked.Refused text) = IsRefusal (IsOfAnswer bytes) text.items
+IsAnswered bytes checked.Lacking = IsOfAnswer bytes (Refused Memory)
 
 -- the number, where the room is large enough for the text
 abbrev pub if_told : List ℕ → List ℕ → ℕ → ℕ
@@ -61,3 +62,5 @@ IsHanded (checked.Done text) old new written number =
     IsTold text.items old new written × (number ≡ if_told text.items old 0)
 IsHanded (checked.Refused text) old new written number =
     IsTold text.items old new written × (number ≡ if_told text.items old 1)
+IsHanded checked.Lacking old new written number =
+    IsTold (failure_line (Refused Memory)) old new written × (number ≡ if_told (failure_line (Refused Memory)) old 1)

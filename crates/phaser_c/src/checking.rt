@@ -1,6 +1,7 @@
 //! The checker: a trace's text is replayed, and an events file is answered.
 ghost use Rattle.std.specs.Prelude.{◌≡◌};
-ghost use Rattle.phaser_c.specs.Checked.{without_write, IsEnd, IsReplayed, IsAnswered, IsHanded};
+ghost use Rattle.phaser_c.specs.Checked.{without_write, IsEnd, IsReplayed, IsAnswered, IsHanded, if_told};
+ghost use Rattle.phaser_c.specs.Told.{IsTold};
 ghost use Rattle.phaser_c.specs.declared.checking.Checked.{Checked as Outcome};
 
 use crate::answer::Answer;
@@ -18,6 +19,8 @@ enum Checked {
     Done(Vec<u8>),
     /// The line of the refusal.
     Refused(Vec<u8>),
+    /// There is no memory for the line of a refusal.
+    Lacking,
 }
 
 /// The failure of lines that are written to a list of bytes, which takes every write but for want
@@ -39,8 +42,11 @@ fn end(alloc: Global, lines: Vec<u8>, outcome: Result<(), Failure>) -> Checked
         Ok(()) => Checked::Done(lines),
         Err(failure) => {
             let mut line = Vec::new(alloc);
-            without_write(failure).end(alloc, &mut line);
-            Checked::Refused(line)
+            if without_write(failure).end(alloc, &mut line).reported {
+                Checked::Refused(line)
+            } else {
+                Checked::Lacking
+            }
         }
     }
 }
@@ -65,18 +71,26 @@ fn answered(alloc: Global, file: &[u8]) -> Checked
     end(alloc, lines, outcome)
 }
 
-/// The number that answers a check, whose text is written to the room.
-fn hand(ended: &Checked, room: &mut [u8], written: &mut usize) -> u32
-    ensures { IsHanded ended.now room.old room.new written.new result }
+/// Writes the text to the room. The number, where the room is large enough.
+fn give(text: &[u8], number: u32, room: &mut [u8], written: &mut usize) -> u32
+    ensures told { IsTold text.now room.old room.new written.new }
+    ensures number { result ≡ if_told text.now room.old number }
 {
-    let (text, number) = match ended {
-        Checked::Done(text) => (text, 0),
-        Checked::Refused(text) => (text, 1),
-    };
-    if tell(text.as_slice(), room, written) {
+    if tell(text, room, written) {
         number
     } else {
         Answer::Short.number()
+    }
+}
+
+/// Writes what a check came to to the room. The number that answers the check.
+fn hand(ended: &Checked, room: &mut [u8], written: &mut usize) -> u32
+    ensures { IsHanded ended.now room.old room.new written.new result }
+{
+    match ended {
+        Checked::Done(text) => give(text.as_slice(), 0, room, written),
+        Checked::Refused(text) => give(text.as_slice(), 1, room, written),
+        Checked::Lacking => give("refused 23 Memory\n".as_bytes(), 1, room, written),
     }
 }
 
