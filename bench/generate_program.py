@@ -6,6 +6,7 @@ cells CELLS STEPS           a stencil of so many cells
 ring TASKS TURNS            each task has a phaser, and does next so often there and, as one who waits, at its left neighbour's
 spawns TASKS ACTS           so many tasks, each with a body of so many acts, of which it makes one
 children TASKS              so many tasks, each of which ends at once
+waits PHASERS TASKS SENDS   on each phaser so many tasks that wait for the root, which sends so often on one of its own
 nothing                     no act at all
 """
 import json
@@ -57,12 +58,19 @@ def children(tasks):
     return times(tasks, [["async", [], []]])
 
 
+def waits(phasers, tasks, sends):
+    names = ["p%d" % phaser for phaser in range(phasers)]
+    main = [["new", name, "SIG_WAIT", []] for name in names] + [["new", "own", "SIG_WAIT", ["sum"]]]
+    main += times(tasks, [["async", [[name, "SIG_WAIT"]], [["next"]]] for name in names])
+    return main + times(sends, [["send", "own", 0, 1]])
+
+
 def main(kind, *numbers):
-    kinds = (turns, cells, ring, spawns, children)
+    kinds = (turns, cells, ring, spawns, children, waits)
     made = {"nothing": lambda: [], **{make.__name__: make for make in kinds}}[kind]
     program = {"main": made(*map(int, numbers))}
     if kind != "nothing":
-        program["limits"] = {**LIMITS, "tasks": 4096} if kind in ("spawns", "children") else LIMITS
+        program["limits"] = {**LIMITS, "tasks": 4096} if kind in ("spawns", "children", "waits") else LIMITS
     print(json.dumps(program, separators=(",", ":")))
 
 

@@ -12,6 +12,7 @@ use std::test::Fail;
 use world_model::{Begun, Step, Tried, WorldEvent};
 
 mod traces;
+mod waiting;
 
 fn program_of(alloc: Global, text: &str) -> Result<Program, Fail> {
     match read_program(alloc, text.as_bytes()) {
