@@ -1,0 +1,338 @@
+//! A worker's hand: its way to all phasers, its shares of the books, and whom its calls let go on.
+ghost use Rattle.std.specs.Prelude.{◌≡◌, ◌++◌, ◌∷◌, [], ◌<◌, false, IfOk, IfErr, OnOk, OnErr, MatchOption, is_ok};
+ghost use Rattle.phase_model.specs.Amounts.{plus};
+ghost use Rattle.scope_locks.specs.Amounts.{amount_if};
+ghost use Rattle.scope_locks.specs.Parking.{goes_on, IsBack, has_signalled, IsBackFromSignal};
+ghost use Rattle.phaser_crew.specs.Hands.{BeginsWith};
+
+use phase_model::{Bound, Event, Look, Ops};
+use phase_modes::{Mode, Refusal};
+use scope_locks::{Out, PassAnswer, PhaserTable, SignalAnswer, Tickets};
+use share_book::{Ledgers, Shares};
+use std::alloc::Global;
+use std::collections::VecDeque;
+use std::sync::Wait;
+
+/// What one worker has of all phasers. A `T` stands for a task that is parked: whatever the worker
+/// who goes on with it wants to have. Contracts see the worker's number, how many phasers there are,
+/// the items of those whom the worker's calls have let go on, and what its calls add up to.
+///
+/// Each call is that of a `scope_locks::PhaserTable`, and is answered so. Besides, `PhasersFull` is
+/// answered where no phaser has the number, and `Memory` where there is none for the list of those
+/// who go on: neither changes anything.
+pub trait Hand<T> {
+    ghost use Rattle.phaser_crew.specs.Hands.{InHand};
+
+    /// What waits for a lock.
+    type Runtime: Wait;
+
+    ghost shown: { Self → InHand T };
+
+    /// The worker's number, from 0 on.
+    fn worker(&self) -> u32
+        ensures { result ≡ (shown self.now).worker };
+
+    /// How many phasers there are.
+    fn phasers(&self) -> usize
+        ensures { result ≡ (shown self.now).phasers };
+
+    /// Takes the item of whom this worker's calls let go on first. Nobody else has it: whoever takes
+    /// it goes on with the task.
+    fn next(&mut self) -> Option<T>
+        ensures first { MatchOption result (((shown self.old).freed ≡ []) × ((shown self.new).freed ≡ [])) (λ x. (shown self.old).freed ≡ x ∷ (shown self.new).freed) }
+        ensures posted { (shown self.new).posted ≡ (shown self.old).posted };
+
+    /// The task makes the phaser, and is registered on it.
+    fn make(
+        &mut self,
+        phaser: u32,
+        task: u32,
+        mode: Mode,
+        ops: Ops,
+        bound: Option<Bound>,
+    ) -> Result<(), Refusal>
+        ensures posted { (shown self.new).posted
+            ≡ plus (amount_if (is_ok result) (Event.Make task mode)) (shown self.old).posted }
+        ensures freed { (shown self.new).freed ≡ (shown self.old).freed };
+
+    /// The parent registers the child.
+    fn register(&mut self, phaser: u32, parent: u32, child: u32, mode: Mode) -> Result<(), Refusal>
+        ensures posted { (shown self.new).posted
+            ≡ plus (amount_if (is_ok result) (Event.Reg parent child mode)) (shown self.old).posted }
+        ensures freed { (shown self.new).freed ≡ (shown self.old).freed };
+
+    /// The task sends the value to the accumulator of this index.
+    fn send(&mut self, phaser: u32, task: u32, accumulator: u8, value: i32) -> Result<(), Refusal>
+        ensures posted { (shown self.new).posted
+            ≡ plus (amount_if (is_ok result) (Event.Send task accumulator value)) (shown self.old).posted }
+        ensures freed { (shown self.new).freed ≡ (shown self.old).freed };
+
+    /// The task looks at the accumulator of this index.
+    fn look(&mut self, phaser: u32, task: u32, accumulator: u8) -> Result<Look, Refusal>
+        ensures posted { (x : Look) → (shown self.new).posted
+            ≡ plus (amount_if (is_ok result) (Event.Look task accumulator x)) (shown self.old).posted }
+        ensures freed { (shown self.new).freed ≡ (shown self.old).freed };
+
+    /// The task signals, with the number of a single where it proposes one. The item comes back, or
+    /// is parked.
+    fn signal(&mut self, phaser: u32, task: u32, proposed: Option<u32>, item: T) -> SignalAnswer<T>
+        ensures posted { (shown self.new).posted
+            ≡ plus (amount_if (has_signalled result) (Event.Sig task proposed)) (shown self.old).posted }
+        ensures item { IsBackFromSignal item result }
+        ensures freed { BeginsWith (shown self.old).freed (shown self.new).freed }
+        ensures nobody { has_signalled result ≡ false → (shown self.new).freed ≡ (shown self.old).freed };
+
+    /// The task asks to end its turn. The item comes back, or is parked until a call of some worker
+    /// lets the task go on: then it is in that worker's hand.
+    fn pass(&mut self, phaser: u32, task: u32, item: T) -> PassAnswer<T>
+        ensures posted { (shown self.new).posted
+            ≡ plus (amount_if (goes_on result) (Event.Pass task)) (shown self.old).posted }
+        ensures item { IsBack item result }
+        ensures freed { BeginsWith (shown self.old).freed (shown self.new).freed }
+        ensures nobody { goes_on result ≡ false → (shown self.new).freed ≡ (shown self.old).freed };
+
+    /// The task reports that the single which it claimed is done.
+    fn single_done(&mut self, phaser: u32, task: u32) -> Result<(), Refusal>
+        ensures posted { (shown self.new).posted
+            ≡ plus (amount_if (is_ok result) (Event.Did task)) (shown self.old).posted }
+        ensures freed { BeginsWith (shown self.old).freed (shown self.new).freed }
+        ensures refused { OnErr result ((shown self.new).freed ≡ (shown self.old).freed) };
+
+    /// The task leaves the phaser.
+    fn drop_task(&mut self, phaser: u32, task: u32) -> Result<(), Refusal>
+        ensures posted { (shown self.new).posted
+            ≡ plus (amount_if (is_ok result) (Event.Drop task)) (shown self.old).posted }
+        ensures freed { BeginsWith (shown self.old).freed (shown self.new).freed }
+        ensures refused { OnErr result ((shown self.new).freed ≡ (shown self.old).freed) };
+}
+
+/// The hand of a worker of this run.
+#[derive(Drop)]
+pub(crate) struct Held<'a, T, K: Ledgers, R> {
+    worker: u32,
+    rt: &'a R,
+    table: &'a PhaserTable<T, K>,
+    tickets: &'a Tickets,
+    shares: Shares<K>,
+    /// Those whom the calls before the last one let go on.
+    ready: VecDeque<T>,
+    /// Those whom the last call let go on.
+    out: Out<T>,
+}
+
+/// The phaser's place in the table; `PhasersFull` where no phaser has the number.
+fn place<T, K: Ledgers>(table: &PhaserTable<T, K>, phaser: u32) -> Result<usize, Refusal>
+    ensures { IfOk result (λ n. n < table.now.phasers) }
+{
+    let number = phaser as usize;
+    if number < table.phasers {
+        Ok(number)
+    } else {
+        Err(Refusal::PhasersFull)
+    }
+}
+
+/// Puts the items of the out-list behind those that are ready; `Memory` where there is none for them.
+fn pour<T>(ready: &mut VecDeque<T>, out: &mut Out<T>) -> Result<(), Refusal>
+    ensures empty { OnOk result (out.new ≡ []) }
+    ensures same { ready.new.items ++ out.new ≡ ready.old.items ++ out.old }
+{
+    ready.reserve(out.len())?;
+    while let Some(item) = out.take() {
+        ready.push_back_reserved(item);
+    }
+    Ok(())
+}
+
+impl<'a, T: Drop, K: Ledgers, R> Held<'a, T, K, R> {
+    /// The hand of the worker of this number. `Memory` where its list gets none.
+    pub(crate) fn new(
+        alloc: Global,
+        worker: u32,
+        rt: &'a R,
+        table: &'a PhaserTable<T, K>,
+        tickets: &'a Tickets,
+        shares: Shares<K>,
+    ) -> Result<Held<'a, T, K, R>, Refusal>
+        ensures memory { IfErr result (λ e. e ≡ Refusal.Memory) }
+    {
+        Ok(Held {
+            worker,
+            rt,
+            table,
+            tickets,
+            shares,
+            ready: VecDeque::new(alloc),
+            out: Out::new(alloc)?,
+        })
+    }
+
+    /// The shares, once the worker is done.
+    pub(crate) fn into_shares(self) -> Shares<K> {
+        self.shares
+    }
+}
+
+impl<'a, T, K: Ledgers, R: Wait> Hand<T> for Held<'a, T, K, R> {
+    type Runtime = R;
+
+    ghost use Rattle.std.specs.Prelude.{◌++◌};
+
+    ghost shown = { λ h. record {
+      worker = h.worker;
+      phasers = h.table.now.phasers;
+      freed = h.ready.items ++ h.out;
+      posted = h.shares;
+    } };
+
+    fn worker(&self) -> u32 {
+        self.worker
+    }
+
+    fn phasers(&self) -> usize {
+        self.table.phasers
+    }
+
+    fn next(&mut self) -> Option<T> {
+        match self.ready.pop_front() {
+            Some(item) => Some(item),
+            None => self.out.take(),
+        }
+    }
+
+    fn make(
+        &mut self,
+        phaser: u32,
+        task: u32,
+        mode: Mode,
+        ops: Ops,
+        bound: Option<Bound>,
+    ) -> Result<(), Refusal> {
+        let number = place(self.table, phaser)?;
+        self.table.make(
+            self.rt,
+            number,
+            self.tickets,
+            &mut self.shares,
+            task,
+            mode,
+            ops,
+            bound,
+        )
+    }
+
+    fn register(
+        &mut self,
+        phaser: u32,
+        parent: u32,
+        child: u32,
+        mode: Mode,
+    ) -> Result<(), Refusal> {
+        let number = place(self.table, phaser)?;
+        self.table.register(
+            self.rt,
+            number,
+            self.tickets,
+            &mut self.shares,
+            parent,
+            child,
+            mode,
+        )
+    }
+
+    fn send(&mut self, phaser: u32, task: u32, accumulator: u8, value: i32) -> Result<(), Refusal> {
+        let number = place(self.table, phaser)?;
+        self.table.send(
+            self.rt,
+            number,
+            self.tickets,
+            &mut self.shares,
+            task,
+            accumulator,
+            value,
+        )
+    }
+
+    fn look(&mut self, phaser: u32, task: u32, accumulator: u8) -> Result<Look, Refusal> {
+        let number = place(self.table, phaser)?;
+        self.table.look(
+            self.rt,
+            number,
+            self.tickets,
+            &mut self.shares,
+            task,
+            accumulator,
+        )
+    }
+
+    fn signal(
+        &mut self,
+        phaser: u32,
+        task: u32,
+        proposed: Option<u32>,
+        item: T,
+    ) -> SignalAnswer<T> {
+        let number = match place(self.table, phaser) {
+            Ok(number) => number,
+            Err(refusal) => return SignalAnswer::Refused(item, refusal),
+        };
+        if let Err(refusal) = pour(&mut self.ready, &mut self.out) {
+            return SignalAnswer::Refused(item, refusal);
+        }
+        self.table.signal(
+            self.rt,
+            number,
+            self.tickets,
+            &mut self.shares,
+            &mut self.out,
+            task,
+            proposed,
+            item,
+        )
+    }
+
+    fn pass(&mut self, phaser: u32, task: u32, item: T) -> PassAnswer<T> {
+        let number = match place(self.table, phaser) {
+            Ok(number) => number,
+            Err(refusal) => return PassAnswer::Refused(item, refusal),
+        };
+        if let Err(refusal) = pour(&mut self.ready, &mut self.out) {
+            return PassAnswer::Refused(item, refusal);
+        }
+        self.table.pass(
+            self.rt,
+            number,
+            self.tickets,
+            &mut self.shares,
+            &mut self.out,
+            task,
+            item,
+        )
+    }
+
+    fn single_done(&mut self, phaser: u32, task: u32) -> Result<(), Refusal> {
+        let number = place(self.table, phaser)?;
+        pour(&mut self.ready, &mut self.out)?;
+        self.table.single_done(
+            self.rt,
+            number,
+            self.tickets,
+            &mut self.shares,
+            &mut self.out,
+            task,
+        )
+    }
+
+    fn drop_task(&mut self, phaser: u32, task: u32) -> Result<(), Refusal> {
+        let number = place(self.table, phaser)?;
+        pour(&mut self.ready, &mut self.out)?;
+        self.table.drop_task(
+            self.rt,
+            number,
+            self.tickets,
+            &mut self.shares,
+            &mut self.out,
+            task,
+        )
+    }
+}

@@ -1,0 +1,214 @@
+//! The entry: it makes the phasers and their books, lets the workers work, and gathers all.
+ghost use Rattle.std.specs.Prelude.{◌≡◌, ◌⊎◌, ◌<◌, true, IfOk, IfErr, vec_len};
+ghost use Rattle.phase_modes.specs.Limits.{limits_fit};
+ghost use Rattle.share_book.specs.Opening.{IsNamed, IsParted, AreAllParts};
+ghost use Rattle.phaser_crew.specs.Gathering.{AreGathered};
+
+use crate::crew::{Crew, Gathered};
+use crate::hand::Held;
+use crate::threads::{Work, in_threads};
+use phase_modes::{Limits, Refusal};
+use scope_locks::{PhaserParts, PhaserTable, Tickets};
+use share_book::{Blanks, Ledgers, Seven, Shares, gather, open};
+use std::alloc::Global;
+use std::marker::Brand;
+use std::sync::Wait;
+use std::sync::ledger::Ledger;
+use std::thread::Threads;
+
+/// A hand for each worker, with a share each.
+fn hands<'a, T: Drop, K: Ledgers, R>(
+    rt: &'a R,
+    alloc: Global,
+    table: &'a PhaserTable<T, K>,
+    tickets: &'a Tickets,
+    shares: Vec<Shares<K>>,
+) -> Result<Vec<Held<'a, T, K, R>>, Refusal>
+    ensures number { IfOk result (λ v. vec_len v ≡ vec_len shares) }
+    ensures memory { IfErr result (λ e. e ≡ Refusal.Memory) }
+{
+    let mut hands = Vec::new(alloc);
+    let mut worker = 0u32;
+    for mine in shares {
+        hands.push(Held::new(alloc, worker, rt, table, tickets, mine)?)?;
+        worker = worker.saturating_add(1);
+    }
+    Ok(hands)
+}
+
+/// The crew, as it does one worker's part.
+#[derive(Drop)]
+struct Team<'a, C> {
+    crew: &'a C,
+}
+
+impl<'a, 'b, T: Drop, C: Crew<T>, K: Ledgers, R: Wait> Work<
+    Held<'b, T, K, R>,
+    (C::Given, Shares<K>),
+> for Team<'a, C> {
+    /// What the worker gives back, and its shares.
+    fn work<S: Wait>(&self, _rt: &S, hand: Held<'b, T, K, R>) -> (C::Given, Shares<K>) {
+        let mut hand = hand;
+        let given = self.crew.work(&mut hand);
+        (given, hand.into_shares())
+    }
+}
+
+/// What the workers gave back, and their shares.
+fn parted<G: Drop, K: Ledgers>(
+    alloc: Global,
+    done: Vec<(G, Shares<K>)>,
+) -> Result<(Vec<G>, Vec<Shares<K>>), Refusal>
+    ensures number { IfOk result (λ r. (vec_len r.0 ≡ vec_len done) × (vec_len r.1 ≡ vec_len done)) }
+    ensures memory { IfErr result (λ e. e ≡ Refusal.Memory) }
+{
+    let mut all_given = Vec::new(alloc);
+    let mut shares = Vec::new(alloc);
+    for (given, mine) in done {
+        all_given.push(given)?;
+        shares.push(mine)?;
+    }
+    Ok((all_given, shares))
+}
+
+/// The phasers are made ready, and all workers work. What they give back, and their shares.
+fn worked<T: Send + Drop, C: Crew<T> + Sync, K: Ledgers + Send + Sync, R: Threads + Wait + Sync>(
+    rt: &R,
+    alloc: Global,
+    table: &PhaserTable<T, K>,
+    shares: Vec<Shares<K>>,
+    crew: &C,
+) -> Result<(Vec<C::Given>, Vec<Shares<K>>), Refusal>
+where
+    K::EventsByPhaser: Send + Sync,
+    K::EventsByWorker: Send + Sync,
+    K::UpByPhaser: Send + Sync,
+    K::UpByWorker: Send + Sync,
+    K::DownByPhaser: Send + Sync,
+    K::DownByWorker: Send + Sync,
+    K::Room: Send + Sync,
+    requires some { 0 < vec_len shares }
+    ensures number { IfOk result (λ r. (vec_len r.0 ≡ vec_len shares) × (vec_len r.1 ≡ vec_len shares)) }
+    ensures refused { IfErr result (λ e. (e ≡ Refusal.Memory) ⊎ C.refuses crew.now e) }
+{
+    let tickets = Tickets::new();
+    let mut hands = hands(rt, alloc, table, &tickets, shares)?;
+    crew.prepare(&mut hands[0])?;
+    let done = in_threads(rt, &Team { crew }, hands)?;
+    parted(alloc, done)
+}
+
+/// What is left of the table and the workers.
+fn gathered<T: Drop, G: Drop, K: Ledgers>(
+    table: PhaserTable<T, K>,
+    given: Vec<G>,
+    shares: Vec<Shares<K>>,
+) -> Gathered<G>
+    requires workers { AreAllParts (vec_len shares) K.EventsByWorker.parts K.UpByWorker.parts K.DownByWorker.parts }
+    requires phasers { AreAllParts table.phasers K.EventsByPhaser.parts K.UpByPhaser.parts K.DownByPhaser.parts }
+    ensures gathered { AreGathered table.phasers result.parts.items result.totals }
+    ensures given { vec_len result.given ≡ vec_len given }
+{
+    let left = table.into_parts();
+    let PhaserParts {
+        parts,
+        phasers,
+        books,
+    } = left;
+    let Ok(totals) = gather(shares, phasers, books) else {
+        unreachable!()
+    };
+    Gathered {
+        given,
+        parts,
+        totals,
+    }
+}
+
+fn run_in<T: Send + Drop, C: Crew<T> + Sync, K: Ledgers + Send + Sync, R: Threads + Wait + Sync>(
+    rt: &R,
+    alloc: Global,
+    limits: Limits,
+    blanks: Blanks,
+    crew: &C,
+) -> Result<Gathered<C::Given>, Refusal>
+where
+    K::EventsByPhaser: Send + Sync,
+    K::EventsByWorker: Send + Sync,
+    K::UpByPhaser: Send + Sync,
+    K::UpByWorker: Send + Sync,
+    K::DownByPhaser: Send + Sync,
+    K::DownByWorker: Send + Sync,
+    K::Room: Send + Sync,
+    requires names { IsNamed blanks K.EventsByPhaser.name K.EventsByWorker.name K.UpByPhaser.name
+        K.UpByWorker.name K.DownByPhaser.name K.DownByWorker.name K.Room.name }
+    requires parts { IsParted blanks K.EventsByPhaser.parts K.EventsByWorker.parts K.UpByPhaser.parts
+        K.UpByWorker.parts K.DownByPhaser.parts K.DownByWorker.parts K.Room.parts }
+    requires limits { limits_fit limits ≡ true }
+    requires workers { 0 < blanks.workers }
+    ensures gathered { IfOk result (λ g. AreGathered blanks.phasers g.parts.items g.totals) }
+    ensures given { IfOk result (λ g. vec_len g.given ≡ blanks.workers) }
+    ensures refused { IfErr result (λ e. (e ≡ Refusal.Memory) ⊎ C.refuses crew.now e) }
+{
+    let (books, phasers, shares) = open::<K>(alloc, blanks)?;
+    let table = PhaserTable::new(alloc, limits, books, phasers)?;
+    let (given, shares) = worked(rt, alloc, &table, shares, crew)?;
+    Ok(gathered(table, given, shares))
+}
+
+// Names the ledgers.
+fn run_over<
+    T: Send + Drop,
+    C: Crew<T> + Sync,
+    R: Threads + Wait + Sync,
+    EP: Ledger + Send + Sync,
+    EW: Ledger + Send + Sync,
+    UP: Ledger + Send + Sync,
+    UW: Ledger + Send + Sync,
+    DP: Ledger + Send + Sync,
+    DW: Ledger + Send + Sync,
+    RM: Ledger + Send + Sync,
+>(
+    rt: &R,
+    alloc: Global,
+    limits: Limits,
+    blanks: Blanks,
+    crew: &C,
+) -> Result<Gathered<C::Given>, Refusal>
+    requires names { IsNamed blanks EP.name EW.name UP.name UW.name DP.name DW.name RM.name }
+    requires parts { IsParted blanks EP.parts EW.parts UP.parts UW.parts DP.parts DW.parts RM.parts }
+    requires limits { limits_fit limits ≡ true }
+    requires workers { 0 < blanks.workers }
+    ensures gathered { IfOk result (λ g. AreGathered blanks.phasers g.parts.items g.totals) }
+    ensures given { IfOk result (λ g. vec_len g.given ≡ blanks.workers) }
+    ensures refused { IfErr result (λ e. (e ≡ Refusal.Memory) ⊎ C.refuses crew.now e) }
+{
+    run_in::<T, C, Seven<EP, EW, UP, UW, DP, DW, RM>, R>(rt, alloc, limits, blanks, crew)
+}
+
+/// Makes `limits.phasers` phasers, each behind a lock of its own, has the crew prepare them, lets it
+/// work by so many workers, each in a thread of its own, and gathers what they leave.
+///
+/// `Memory` where the phasers, a worker or a thread's result get none; else what `prepare` is refused
+/// by. What a worker's calls are refused by is the crew's own matter.
+pub fn with_phasers<T: Send + Drop, C: Crew<T> + Sync, R: Threads + Wait + Sync>(
+    rt: &R,
+    alloc: Global,
+    limits: Limits,
+    workers: u32,
+    crew: &C,
+) -> Result<Gathered<C::Given>, Refusal>
+    requires limits { limits_fit limits ≡ true }
+    requires workers { 0 < workers }
+    ensures gathered { IfOk result (λ g. AreGathered limits.phasers g.parts.items g.totals) }
+    ensures given { IfOk result (λ g. vec_len g.given ≡ workers) }
+    ensures refused { IfErr result (λ e. (e ≡ Refusal.Memory) ⊎ C.refuses crew.now e) }
+{
+    run_over::<T, C, R, Brand, Brand, Brand, Brand, Brand, Brand, Brand>(
+        rt,
+        alloc,
+        limits,
+        Blanks::new(limits.phasers, workers),
+        crew,
+    )
+}
