@@ -19,8 +19,8 @@ pub trait Crew<T> {
     /// What `prepare` can be refused by: anything where nobody says.
     ghost refuses: { Self → Refusal → Type 0 } = { λ _ _. Unit {0} };
 
-    /// Makes phasers and registers tasks by the hand of worker 0, before any thread is started. Where
-    /// it is refused nobody works.
+    /// Makes phasers and registers tasks by the hand of worker 0, before any thread is started.
+    /// Where it is refused nobody works.
     fn prepare<H: Hand<T>>(&self, hand: &mut H) -> Result<(), Refusal>
         ensures refused { IfErr result (λ e. refuses self.now e) };
 
@@ -29,8 +29,8 @@ pub trait Crew<T> {
     fn work<H: Hand<T>>(&self, hand: &mut H) -> Self::Given;
 }
 
-/// What is left once all workers are done: what each gave back, in order; the phasers' histories with
-/// their tickets, in order; and what these add up to.
+/// What is left once all workers are done: what each gave back, in order; the phasers' histories
+/// with their tickets, in order; and what these add up to.
 #[derive(Drop)]
 pub struct Gathered<G> {
     pub given: Vec<G>,

@@ -14,8 +14,8 @@ use std::collections::VecDeque;
 use std::sync::Wait;
 
 /// What one worker has of all phasers. A `T` stands for a task that is parked: whatever the worker
-/// who goes on with it wants to have. Contracts see the worker's number, how many phasers there are,
-/// the items of those whom the worker's calls have let go on, and what its calls add up to.
+/// who goes on with it wants to have. Contracts see the worker's number, how many phasers there
+/// are, the items of those whom the worker's calls have let go on, and what its calls add up to.
 ///
 /// Each call is that of a `scope_locks::PhaserTable`, and is answered so. Besides, `PhasersFull` is
 /// answered where no phaser has the number, and `Memory` where there is none for the list of those
@@ -36,10 +36,12 @@ pub trait Hand<T> {
     fn phasers(&self) -> usize
         ensures { result ≡ (shown self.now).phasers };
 
-    /// Takes the item of whom this worker's calls let go on first. Nobody else has it: whoever takes
-    /// it goes on with the task.
+    /// Takes the item of whom this worker's calls let go on first. Nobody else has it: whoever
+    /// takes it goes on with the task.
     fn next(&mut self) -> Option<T>
-        ensures first { MatchOption result (((shown self.old).freed ≡ []) × ((shown self.new).freed ≡ [])) (λ x. (shown self.old).freed ≡ x ∷ (shown self.new).freed) }
+        ensures first { MatchOption result
+            (((shown self.old).freed ≡ []) × ((shown self.new).freed ≡ []))
+            (λ x. (shown self.old).freed ≡ x ∷ (shown self.new).freed) }
         ensures posted { (shown self.new).posted ≡ (shown self.old).posted };
 
     /// The task makes the phaser, and is registered on it.
@@ -132,7 +134,8 @@ fn place<T, K: Ledgers>(table: &PhaserTable<T, K>, phaser: u32) -> Result<usize,
     }
 }
 
-/// Puts the items of the out-list behind those that are ready; `Memory` where there is none for them.
+/// Puts the items of the out-list behind those that are ready; `Memory` where there is none for
+/// them.
 fn pour<T>(ready: &mut VecDeque<T>, out: &mut Out<T>) -> Result<(), Refusal>
     ensures empty { OnOk result (out.new ≡ []) }
     ensures same { ready.new.items ++ out.new ≡ ready.old.items ++ out.old }

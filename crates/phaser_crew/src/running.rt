@@ -104,8 +104,10 @@ fn gathered<T: Drop, G: Drop, K: Ledgers>(
     given: Vec<G>,
     shares: Vec<Shares<K>>,
 ) -> Gathered<G>
-    requires workers { AreAllParts (vec_len shares) K.EventsByWorker.parts K.UpByWorker.parts K.DownByWorker.parts }
-    requires phasers { AreAllParts table.phasers K.EventsByPhaser.parts K.UpByPhaser.parts K.DownByPhaser.parts }
+    requires workers { AreAllParts (vec_len shares)
+        K.EventsByWorker.parts K.UpByWorker.parts K.DownByWorker.parts }
+    requires phasers { AreAllParts table.phasers
+        K.EventsByPhaser.parts K.UpByPhaser.parts K.DownByPhaser.parts }
     ensures gathered { AreGathered table.phasers result.parts.items result.totals }
     ensures given { vec_len result.given ≡ vec_len given }
 {
@@ -186,11 +188,11 @@ fn run_over<
     run_in::<T, C, Seven<EP, EW, UP, UW, DP, DW, RM>, R>(rt, alloc, limits, blanks, crew)
 }
 
-/// Makes `limits.phasers` phasers, each behind a lock of its own, has the crew prepare them, lets it
-/// work by so many workers, each in a thread of its own, and gathers what they leave.
+/// Takes `limits.phasers` phasers, each behind a lock of its own, has the crew prepare them, lets
+/// it work by so many workers, each in a thread of its own, and gathers what they leave.
 ///
-/// `Memory` where the phasers, a worker or a thread's result get none; else what `prepare` is refused
-/// by. What a worker's calls are refused by is the crew's own matter.
+/// `Memory` where the phasers, a worker or a thread's result get none; else what `prepare` is
+/// refused by. What a worker's calls are refused by is the crew's own matter.
 pub fn with_phasers<T: Send + Drop, C: Crew<T> + Sync, R: Threads + Wait + Sync>(
     rt: &R,
     alloc: Global,
