@@ -22,11 +22,10 @@ use Rattle.std.specs.contracts.impls.GlobalAllocator.TheImpl.{ghosts}
 use Rattle.std.specs.Box.Ownership.{box_owns}
 use Rattle.std.specs.declared.alloc.Global.{Global}
 use Rattle.std.proofs.GlobalToken.{dealloc_token-Testable}
-use Rattle.libc.specs.Heap.{chunk}
 use Rattle.phaser_core.specs.Phaser.{Phaser}
 use Rattle.phaser_core.specs.contracts.state.PhaserState.{the_row as R}
 use Rattle.phaser_c.specs.contracts.handle.Handle as handle
-use Rattle.phaser_c.specs.Held.{held}
+use Rattle.phaser_c.specs.Held.{chunk, held}
 
 abbrev pub Hd : RattleType
 Hd = handle.the_row
