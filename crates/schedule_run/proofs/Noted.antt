@@ -3,7 +3,7 @@ use Rattle.std.proofs.Common.{ℕ, zero, suc, ◌+◌, ◌≡◌, ◌≤◌, Boo
 use Rattle.std.specs.Prelude.{option_map}
 use Rattle.std.proofs.Math.ListN.{set}
 use Rattle.std.proofs.lemmas.List.{length-reverse, length-map}
-use Rattle.std.proofs.lemmas.Bool.{cases_Bool, or_right, eqb-true, eq-eqb, leb-true, true≢false, false≢true, false_from_ne_true, not-true, and_parts}
+use Rattle.std.proofs.lemmas.Bool.{cases_Bool, eqb-true, eq-eqb, leb-true, true≢false, false≢true, false_from_ne_true, not-true, and_parts}
 use Rattle.phase_modes.specs.Lists.{is_empty}
 use Rattle.phase_modes.specs.declared.limits.Limits.{Limits}
 use Rattle.phase_modes.specs.declared.refusal.Refusal.{Refusal}
@@ -30,20 +30,19 @@ use Rattle.world_model.specs.Due.{due, is_idle, next_event, or_single}
 use Rattle.world_model.specs.PartReplies.{call_for, finish_returned, returned}
 use Rattle.world_model.specs.Parts.{finish_past, phaser_past, terms_of}
 use Rattle.world_model.specs.Replies.{after, is_legal_world, is_made, reply}
-use Rattle.world_model.specs.Tasks.{ends, is_born, is_ended}
+use Rattle.world_model.specs.Tasks.{is_born, is_ended}
 use Rattle.world_model.proofs.OthersLeave.{due_other}
 use Rattle.schedule_model.specs.Picks.{pick}
 use Rattle.schedule_model.proofs.GoesOn.{asked_busy, next_replied}
 use Rattle.trace_model.specs.Run.{Entry}
 use Rattle.trace_model.specs.Explained.{event_of}
 use Rattle.schedule_run.specs.declared.notes.Note.{Note}
-use Rattle.schedule_run.specs.declared.notes.Note.TheVariants as note
 use Rattle.schedule_run.specs.declared.notes.Notes.{Notes}
 use Rattle.schedule_run.specs.declared.notes.Place.{Place}
 use Rattle.schedule_run.specs.declared.notes.Place.TheVariants.{Phaser, Finish}
 use Rattle.schedule_run.specs.declared.recording.Outcome.TheVariants as outcome
 use Rattle.schedule_run.specs.declared.recording.Record.{Record}
-use Rattle.schedule_run.specs.inner.Notes.{is_at, is_quiet, last_in, note_in, IsHeld, NoteStands, NotesStand, Waits}
+use Rattle.schedule_run.specs.inner.Notes.{is_at, is_quiet, last_in, note_in, NoteStands, NotesStand, Waits, WaitsSomewhere}
 use Rattle.schedule_run.specs.inner.Records.{outcome_of, Records}
 use Rattle.schedule_run.specs.inner.Running.{Kept}
 use Rattle.schedule_run.proofs.Picking.{going, is_waiting, picked_none, picked_waits}
@@ -164,19 +163,11 @@ waits_stay l t at e w other off h = record {
         let on : is_at at d ≡ true = sym (single_at at l w d) ∙ (ap (λ (x : WorldEvent). is_at at x) is ∙ h.there) in
         ap (λ (x : WorldEvent). Some x) (single_same l at e w off d on) ∙ k
 
--- ---- a task that waits, or has ended, makes no event where it is picked
+-- ---- a task that waits makes no event where it is picked
 
-pub held_unmoved : (p : Program) (w : List WorldEvent) (t : ℕ) → is_legal_world p.limits w ≡ true → IsHeld p.limits t w → pick p w t ≡ w
-held_unmoved p w t k (inr ended) = picked_none p w t (rw ended (none (is_born t w) (is_empty (due t w)))) (rw ended (never (is_born t w)))
-  where
-    never : (a : Bool) → (a && false) ≡ false
-    never true = refl
-    never false = refl
-
-    none : (a b : Bool) → ((a && false) && b) ≡ false
-    none true b = refl
-    none false b = refl
-held_unmoved p w t k (inl (at, h)) = by (is_born t w && not (is_ended t w)) refl
+pub waits_unmoved : (p : Program) (w : List WorldEvent) (t : ℕ) → is_legal_world p.limits w ≡ true → WaitsSomewhere p.limits t w
+    → pick p w t ≡ w
+waits_unmoved p w t k (at, h) = by (is_born t w && not (is_ended t w)) refl
   where
     full : (ds : List WorldEvent) → option_map (or_single p.limits w) (slice_get ds 0) ≡ Some h.event → is_empty ds ≡ false
     full [] k = absurd cc
@@ -206,29 +197,28 @@ none_some : {A : Type 0} (x : A) → None ≡ Some x → ⊥
 none_some x h = absurd cc
 
 -- an event of a task without a note, which is now the last one of its place
-pub stand_more : (l : Limits) (w : List WorldEvent) (e : WorldEvent) (u : ℕ) (last new : Place → Option ℕ) (noted : ℕ → Option Note)
-    → StandBy l w last noted → noted u ≡ None → actor w e ≡ u
+pub stand_more : (l : Limits) (w : List WorldEvent) (e : WorldEvent) (u : ℕ) (last new : Place → Option ℕ) (note : ℕ → Option Note)
+    → StandBy l w last note → note u ≡ None → actor w e ≡ u
     → ((at : Place) → is_at at e ≡ false → new at ≡ last at)
     → ((at : Place) (k : ℕ) → is_at at e ≡ true → is_quiet (new at) k ≡ true → length w + 1 ≤ k)
-    → StandBy l (e ∷ w) new noted
-stand_more l w e u last new noted stand none mine same late t = by (noted t) refl (stand t)
+    → StandBy l (e ∷ w) new note
+stand_more l w e u last new note stand none mine same late t = by (note t) refl (stand t)
   where
-    other : (n : Note) → noted t ≡ Some n → (actor w e == t) ≡ false
+    other : (n : Note) → note t ≡ Some n → (actor w e == t) ≡ false
     other n is =
         false_from_ne_true (actor w e == t)
-        (λ k. none_some n (sym (subst (λ (v : ℕ). noted v ≡ None) (sym mine ∙ eqb-true (actor w e) t k) none) ∙ is))
+        (λ k. none_some n (sym (subst (λ (v : ℕ). note v ≡ None) (sym mine ∙ eqb-true (actor w e) t k) none) ∙ is))
 
-    by : (o : Option Note) → noted t ≡ o → NoteStands l w last t o → NoteStands l (e ∷ w) new t o
+    by : (o : Option Note) → note t ≡ o → NoteStands l w last t o → NoteStands l (e ∷ w) new t o
     by None is h = tt
-    by (Some note.Ended) is h = or_right (ends t e) (is_ended t w) h
-    by (Some (note.Waits at asked)) is h = (
+    by (Some n) is h = (
       omega (arith, h.0),
       λ q.
-          elim (cases_Bool (is_at at e)) [
-            | inl on ↦ absurd (omega (arith, h.0, late at asked on q))
+          elim (cases_Bool (is_at n.place e)) [
+            | inl on ↦ absurd (omega (arith, h.0, late n.place n.asked on q))
             | inr off ↦
-                waits_stay l t at e w (other (note.Waits at asked) is) off
-                (h.1 (subst (λ (o : Option ℕ). is_quiet o asked ≡ true) (same at off) q))
+                waits_stay l t n.place e w (other n is) off
+                (h.1 (subst (λ (o : Option ℕ). is_quiet o n.asked ≡ true) (same n.place off) q))
           ],
     )
 
@@ -264,9 +254,9 @@ module _ (l : Limits) (w : List WorldEvent) (last : Place → Option ℕ) (t : �
       ]
 
 -- a task that was answered not yet has a note of that
-pub note_waits : (l : Limits) (w : List WorldEvent) (last : Place → Option ℕ) (t : ℕ) (at : Place) (asked : ℕ) (e : WorldEvent) → asked ≡ length w
-    → next_event l t w ≡ Some e → is_at at e ≡ true → next_done l w e ≡ Ok NotYet → NoteStands l w last t (Some (note.Waits at asked))
-note_waits l w last t at asked e long next there held =
+pub note_waits : (l : Limits) (w : List WorldEvent) (last : Place → Option ℕ) (t : ℕ) (note : Note) (e : WorldEvent) → note.asked ≡ length w
+    → next_event l t w ≡ Some e → is_at note.place e ≡ true → next_done l w e ≡ Ok NotYet → NoteStands l w last t (Some note)
+note_waits l w last t note e long next there held =
     (omega (arith, long), λ quiet. record { event = e; next = next; there = there; held = held })
 
 pub none_set : (xs : List (Option Note)) (i : ℕ) → ◌≡◌ {A = Option Note} (note_in (slice_get (set xs i None) i)) None

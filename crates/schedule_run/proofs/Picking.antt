@@ -35,8 +35,6 @@ use Rattle.schedule_model.proofs.GoesOn.{asked_idle, asked_busy, next_replied}
 use Rattle.schedule_model.proofs.Rounds.{gapless_pick}
 use Rattle.schedule_run.specs.Given.{tried_of}
 use Rattle.schedule_run.specs.declared.bodies.Bodies.{Bodies}
-use Rattle.schedule_run.specs.declared.notes.Notes.{Notes}
-use Rattle.schedule_run.specs.inner.Notes.{NotesStand}
 use Rattle.schedule_run.specs.declared.recording.Outcome.TheVariants.{Made, Waits, Refused}
 use Rattle.schedule_run.specs.declared.running.Runner.{Runner}
 use Rattle.schedule_run.specs.inner.Bodies.{BodiesStand, IsAsked, seat_at}
@@ -127,18 +125,6 @@ act_is_own w t (Open f) = refl
 act_is_own w t (Sending n a v) = refl
 act_is_own w t (Looking n a) = refl
 act_is_own w t (Beginning b) = refl
-
--- with other notes that stand
-pub noted_anew : (p : Program) (w : List WorldEvent) (r : Runner) (notes : Notes) → RunStands p w r → NotesStand p.limits w notes
-    → RunStands p w (record { recorded = r.recorded; bodies = r.bodies; notes = notes })
-noted_anew p w r notes st stand = record {
-  fit = st.fit;
-  recorded = st.recorded;
-  noted = stand;
-  bodies = st.bodies;
-  places = st.places;
-  gapless = st.gapless;
-}
 
 -- what a task asks for that begins an act
 abbrev pub beginning : ℕ → Tried → Asked
@@ -260,7 +246,7 @@ module _ (p : Program) (w : List WorldEvent) (t : ℕ) (old : Runner) (st : RunS
 abbrev pub Describes : Option Condition → ℕ → List WorldEvent → Type 0
 Describes None t w = (is_idle t w ≡ false) × ((is_born t w && not (is_ended t w)) ≡ false)
 Describes (Some conditions.Idle) t w = is_idle t w ≡ true
-Describes (Some conditions.Ended) t w = (is_idle t w ≡ false) × ((is_born t w && not (is_ended t w)) ≡ false) × (is_ended t w ≡ true)
+Describes (Some conditions.Ended) t w = (is_idle t w ≡ false) × ((is_born t w && not (is_ended t w)) ≡ false)
 Describes (Some _) t w = (is_idle t w ≡ false) × (is_born t w ≡ true) × (is_ended t w ≡ false)
 
 and_false : (b : Bool) → (b && false) ≡ false
@@ -290,7 +276,7 @@ condition_describes t w = by (is_ended t w) refl (is_born t w) refl (due t w) re
   where
     by : (ended : Bool) → is_ended t w ≡ ended → (born : Bool) → is_born t w ≡ born → (ds : List WorldEvent) → due t w ≡ ds
         → Describes (if ended then Some conditions.Ended else (if born then Some (condition_by (last_entry t w) ds) else None)) t w
-    by true e born b ds h = (rw e (and_none (is_born t w) (is_empty (due t w))), rw e (and_false (is_born t w)), e)
+    by true e born b ds h = (rw e (and_none (is_born t w) (is_empty (due t w))), rw e (and_false (is_born t w)))
     by false e true b [] h = rw (e, b, h) refl
     by false e true b (d ∷ ds) h = in_act (last_entry t w) d t w (rw (e, b, h) refl) b e
     by false e false b ds h = (rw b refl, rw b refl)

@@ -7,8 +7,7 @@ ghost use Rattle.world_model.specs.declared.reply.Reply.TheVariants.{NotYet};
 ghost use Rattle.world_model.specs.Actors.{actor};
 ghost use Rattle.world_model.specs.Continuing.{next_done};
 ghost use Rattle.world_model.specs.Due.{next_event};
-ghost use Rattle.world_model.specs.Tasks.{is_ended};
-ghost use Rattle.schedule_run.specs.inner.Notes.{is_at, is_current, is_quiet, last_at, note_at, IsHeld, NotesStand};
+ghost use Rattle.schedule_run.specs.inner.Notes.{is_at, is_quiet, last_at, note_at, NotesStand, WaitsSomewhere};
 
 use phase_modes::{Limits, Refusal};
 use std::alloc::Global;
@@ -21,13 +20,11 @@ pub(crate) enum Place {
     Finish(u32),
 }
 
-/// Why a task needn't be asked.
+/// A task waits there: its event was not yet made when the run had so many events.
 #[derive(Clone, Copy, Debug, PartialEq, Eq)]
-pub(crate) enum Note {
-    /// It waits there: its event was not yet made when the run had so many events.
-    Waits(Place, u64),
-    /// It has ended.
-    Ended,
+pub(crate) struct Note {
+    pub place: Place,
+    pub asked: u64,
 }
 
 /// The notes of the tasks, and how many events the run had with the last one of each place.
@@ -87,10 +84,10 @@ impl Notes {
         })
     }
 
-    /// Whether the task has ended, or nothing was done where it waits since its event was tried last.
+    /// Whether nothing was done where the task waits since its event was tried last.
     pub(crate) fn holds(&self, task: u32) -> bool
         ensures { result ≡ true → (l : RunLimits) (w : List Event) → NotesStand l w self.now
-            → IsHeld l task w }
+            → WaitsSomewhere l task w }
     {
         let place = task as usize;
         if place >= self.tasks.len() {
@@ -103,12 +100,11 @@ impl Notes {
     }
 
     fn is_current(&self, note: Note) -> bool
-        ensures { result ≡ is_current (last_at self.now) note }
+        ensures { result ≡ is_quiet (last_at self.now note.place) note.asked }
     {
-        match note {
-            Note::Waits(Place::Phaser(n), asked) => is_quiet(self.phasers.as_slice(), n, asked),
-            Note::Waits(Place::Finish(f), asked) => is_quiet(self.finishes.as_slice(), f, asked),
-            Note::Ended => true,
+        match note.place {
+            Place::Phaser(phaser) => is_quiet(self.phasers.as_slice(), phaser, note.asked),
+            Place::Finish(finish) => is_quiet(self.finishes.as_slice(), finish, note.asked),
         }
     }
 
@@ -134,18 +130,10 @@ impl Notes {
         };
         let place = task as usize;
         if place < self.tasks.len() {
-            self.tasks[place] = Some(Note::Waits(at, events));
-        }
-    }
-
-    /// The task has ended.
-    pub(crate) fn end(&mut self, task: u32)
-        ensures stand { (l : RunLimits) (w : List Event) → NotesStand l w self.old → is_ended task w ≡ true
-            → NotesStand l w self.new }
-    {
-        let place = task as usize;
-        if place < self.tasks.len() {
-            self.tasks[place] = Some(Note::Ended);
+            self.tasks[place] = Some(Note {
+                place: at,
+                asked: events,
+            });
         }
     }
 

@@ -199,15 +199,12 @@ impl<'p> Runner<'p> {
         };
         match condition {
             Condition::Idle => self.begin(task),
-            Condition::Ended => {
-                self.notes.end(task);
-                Ok(())
-            }
+            Condition::Ended => Ok(()),
             _ => self.go_on(task),
         }
     }
 
-    /// The task is picked: it is asked, unless it has ended, or waits where nothing was done since.
+    /// The task is picked: it is asked, unless it waits where nothing was done since.
     pub(crate) fn pick(&mut self, task: u32) -> Result<(), Refusal>
         ensures stands { IfOk result (λ _. (p : programs.Program) (w : List Event) → RunStands p w self.old
             → RunStands p (pick p w task) self.new) }

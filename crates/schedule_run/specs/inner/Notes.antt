@@ -1,14 +1,12 @@
 -- What a note of a waiting task says, and when it still holds.
-use Rattle.std.specs.Prelude.{ℕ, ◌≡◌, ◌≤◌, ◌==◌, ◌⊎◌, nat_le, Bool, true, false, List, length, Option, Some, None, Ok, slice_get}
+use Rattle.std.specs.Prelude.{ℕ, ◌≡◌, ◌≤◌, ◌==◌, nat_le, Bool, true, false, List, length, Option, Some, None, Ok, slice_get}
 use Rattle.phase_modes.specs.declared.limits.Limits.{Limits}
 use Rattle.world_model.specs.declared.event.WorldEvent.{WorldEvent}
 use Rattle.world_model.specs.declared.event.WorldEvent.TheVariants as world
 use Rattle.world_model.specs.declared.reply.Reply.TheVariants.{NotYet}
 use Rattle.world_model.specs.Continuing.{next_done}
 use Rattle.world_model.specs.Due.{next_event}
-use Rattle.world_model.specs.Tasks.{is_ended}
 use Rattle.schedule_run.specs.declared.notes.Note.{Note}
-use Rattle.schedule_run.specs.declared.notes.Note.TheVariants as note
 use Rattle.schedule_run.specs.declared.notes.Notes.{Notes}
 use Rattle.schedule_run.specs.declared.notes.Place.{Place}
 use Rattle.schedule_run.specs.declared.notes.Place.TheVariants.{Phaser, Finish}
@@ -26,9 +24,8 @@ pub record Waits (l : Limits) (t : ℕ) (at : Place) (w : List WorldEvent) : Typ
   pub there : is_at at event ≡ true
   pub held : next_done l w event ≡ Ok NotYet
 
--- t waits somewhere, or has ended
-abbrev pub IsHeld : Limits → ℕ → List WorldEvent → Type 0
-IsHeld l t w = ((at : Place) × Waits l t at w) ⊎ (is_ended t w ≡ true)
+abbrev pub WaitsSomewhere : Limits → ℕ → List WorldEvent → Type 0
+WaitsSomewhere l t w = (at : Place) × Waits l t at w
 
 -- how many events the run had with the last one of a place; a number past the lists has none
 abbrev pub last_in : List ℕ → List ℕ → Place → Option ℕ
@@ -43,11 +40,6 @@ abbrev pub is_quiet : Option ℕ → ℕ → Bool
 is_quiet None asked = false
 is_quiet (Some last) asked = nat_le last asked
 
--- a note holds: nothing was done there since, or the task has ended
-abbrev pub is_current : (Place → Option ℕ) → Note → Bool
-is_current last (note.Waits at asked) = is_quiet (last at) asked
-is_current last note.Ended = true
-
 -- a task's note, if it has one
 abbrev pub note_in : Option (Option Note) → Option Note
 note_in None = None
@@ -56,12 +48,11 @@ note_in (Some o) = o
 abbrev pub note_at : Notes → ℕ → Option Note
 note_at x t = note_in (slice_get x.tasks.items t)
 
--- what a note says of its task: it still waits there, if nothing was done there since; or it has ended
+-- a task with a note still waits there, if nothing was done there since
 abbrev pub NoteStands : Limits → List WorldEvent → (Place → Option ℕ) → ℕ → Option Note → Type 0
 NoteStands l w last t None = Unit {0}
-NoteStands l w last t (Some (note.Waits at asked)) =
-    (asked ≤ length w) × (is_quiet (last at) asked ≡ true → Waits l t at w)
-NoteStands l w last t (Some note.Ended) = is_ended t w ≡ true
+NoteStands l w last t (Some note) =
+    (note.asked ≤ length w) × (is_quiet (last note.place) note.asked ≡ true → Waits l t note.place w)
 
 abbrev pub NotesStand : Limits → List WorldEvent → Notes → Type 0
 NotesStand l w x = (t : ℕ) → NoteStands l w (last_at x) t (note_at x t)

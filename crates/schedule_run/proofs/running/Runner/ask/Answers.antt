@@ -1,7 +1,7 @@
 use Rattle.std.proofs.Common.{Some, sym, ap, ◌∙◌}
 use Rattle.world_model.specs.declared.condition.Condition.{Condition}
 use Rattle.world_model.specs.declared.condition.Condition.TheVariants as conditions
-use Rattle.schedule_run.proofs.Picking.{answer_describes, describes_busy, where_ok, noted_anew, run_stays, picked_none}
+use Rattle.schedule_run.proofs.Picking.{answer_describes, describes_busy, where_ok, run_stays, picked_none}
 use Rattle.schedule_run.proofs.running.Runner.ask.Goals as goal
 
 pub returns-in-Idle-clause-stands : goal.returns-in-Idle-clause-stands
@@ -14,9 +14,7 @@ returns-in-Idle-clause-stands c =
 pub returns-in-Ended-clause-stands : goal.returns-in-Ended-clause-stands
 returns-in-Ended-clause-stands c p w st =
     let known = answer_describes c.args.task w (Some conditions.Ended) (ap (λ (x : Condition). Some x) (sym c.in-Ended.is) ∙ (sym c.in-Some.is ∙ c.condition.ensures w st.recorded.stands)) in
-    run_stays p w c.args.task (record { recorded = c.args.self.now.recorded; bodies = c.args.self.now.bodies; notes = c.end.new.self })
-    (noted_anew p w c.args.self.now c.end.new.self st (c.end.ensures.stand p.limits w st.noted known.2))
-    (picked_none p w c.args.task known.0 known.1)
+    run_stays p w c.args.task c.args.self.now st (picked_none p w c.args.task known.0 known.1)
 
 pub returns-in_default-condition : goal.returns-in_default-condition
 returns-in_default-condition c = record {

@@ -5,7 +5,7 @@ use Rattle.world_model.specs.Numbers.{is_named}
 use Rattle.schedule_model.specs.Picks.{pick, round_from}
 use Rattle.schedule_run.specs.inner.Running.{RunStands}
 use Rattle.schedule_run.proofs.Counting.{round_ends, round_step}
-use Rattle.schedule_run.proofs.Noted.{held_unmoved}
+use Rattle.schedule_run.proofs.Noted.{waits_unmoved}
 use Rattle.schedule_run.proofs.Picking.{legal_of, run_stays}
 use Rattle.schedule_run.proofs.running.Runner.round.Goals as goal
 
@@ -45,7 +45,7 @@ loop-task-preserved-then-holds c = record {
   runs = λ p w st.
       let b = c.loop-task.invariant.runs p w st in
       let here : pick p b.0 c.loop-task.task ≡ b.0 =
-      held_unmoved p b.0 c.loop-task.task (legal_of p b.0 c.loop-task.self b.1) (c.holds.ensures c.if-holds.true p.limits b.0 b.1.noted) in (
+      waits_unmoved p b.0 c.loop-task.task (legal_of p b.0 c.loop-task.self b.1) (c.holds.ensures c.if-holds.true p.limits b.0 b.1.noted) in (
         pick p b.0 c.loop-task.task,
         run_stays p b.0 c.loop-task.task c.loop-task.self b.1 here,
         λ left same. sym (round_step p b.0 c.loop-task.self c.loop-task.task left b.1) ∙ b.2 (suc left) (omega (arith, same)),
