@@ -4,6 +4,7 @@
 
 mod crew;
 mod hand;
+mod held;
 mod running;
 mod threads;
 

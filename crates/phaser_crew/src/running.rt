@@ -5,7 +5,7 @@ ghost use Rattle.share_book.specs.Opening.{IsNamed, IsParted, AreAllParts};
 ghost use Rattle.phaser_crew.specs.Gathering.{AreGathered};
 
 use crate::crew::{Crew, Gathered};
-use crate::hand::Held;
+use crate::held::Held;
 use crate::threads::{Work, in_threads};
 use phase_modes::{Limits, Refusal};
 use scope_locks::{PhaserParts, PhaserTable, Tickets};
