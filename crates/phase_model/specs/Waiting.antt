@@ -1,4 +1,4 @@
--- Who waits, and which events can let a waiting task go on.
+-- Who waits, and which events can wake a waiting task.
 use Rattle.std.specs.Prelude.{ℕ, ◌≡◌, Bool, true, false, ◌&&◌, not, ◌∷◌, Option, Some}
 use Rattle.phase_model.specs.declared.history.Event.{Event}
 use Rattle.phase_model.specs.declared.history.Event.TheVariants.{Sig, Did, Pass as Passed, Drop}
@@ -15,7 +15,7 @@ is_not_yet (refused r) = false
 is_not_yet not_yet = true
 is_not_yet (done e) = false
 
--- a pass of t would be answered not yet: t waits
+-- a pass of t would be answered not yet: t waits to pass
 abbrev pub would_wait : Story → ℕ → Bool
 would_wait s t = is_not_yet (reply s (pass t))
 
@@ -23,19 +23,19 @@ would_wait s t = is_not_yet (reply s (pass t))
 abbrev pub is_in_open_phase : Story → ℕ → Bool
 is_in_open_phase s t = is_live t s.past && not (is_closed (waits t s.past) s.past)
 
--- the events that can let a waiting task go on: a signal, a single's report, and a drop
+-- the events that can wake a task that waits to pass: a signal, a single's report, and a drop
 abbrev pub can_free : Event → Bool
 can_free (Sig t x) = true
 can_free (Did t) = true
 can_free (Drop t) = true
 can_free _ = false
 
--- after any other event of a legal history, who waited before waits on
+-- after any other event of a legal history, who waited to pass before waits on
 abbrev pub OthersFreeNobody : Type 0
 OthersFreeNobody = (s : Story) (e : Event) (t : ℕ) → is_legal s.limits s.terms (e ∷ s.past) ≡ true
     → can_free e ≡ false → would_wait s t ≡ true → would_wait (with_event s e) t ≡ true
 
--- in a legal story all who wait stand at the same phase, whether for its signals or for its single
+-- in a legal story all who wait to pass stand at the same phase, whether for its signals or for its single
 abbrev pub AllWaitInOnePhase : Type 0
 AllWaitInOnePhase = (s : Story) (t u : ℕ) → IsLegal s
     → would_wait s t ≡ true → would_wait s u ≡ true → waits t s.past ≡ waits u s.past
@@ -44,7 +44,7 @@ AllWaitInOnePhase = (s : Story) (t u : ℕ) → IsLegal s
 abbrev pub signal_would_wait : Story → ℕ → Option ℕ → Bool
 signal_would_wait s t x = is_not_yet (reply s (signal t x))
 
--- the events that can let a task that waits to signal go on, if only to be refused: a proposal, a pass, and a drop
+-- the events that can wake a task that waits to signal, if only to be refused: a proposal, a pass, and a drop
 abbrev pub can_free_signal : Event → Bool
 can_free_signal (Sig t (Some n)) = true
 can_free_signal (Passed t) = true

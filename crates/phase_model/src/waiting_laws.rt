@@ -2,17 +2,17 @@
 //! proves it.
 ghost use Rattle.phase_model.specs.Waiting.{AllWaitInOnePhase, OthersFreeNobody, OthersFreeNoSignaller};
 
-/// Only a signal, a single's report and a drop can let a waiting task go on.
+/// Only a signal, a single's report and a drop can wake a task that waits to pass.
 pub fn others_free_nobody()
     ensures { OthersFreeNobody }
 {}
 
-/// All tasks that wait at a phaser stand at the same phase of it.
+/// All tasks that wait to pass at a phaser stand at the same phase of it.
 pub fn all_wait_in_one_phase()
     ensures { AllWaitInOnePhase }
 {}
 
-/// Only a proposal, a pass and a drop can let a task go on that waits to signal.
+/// Only a proposal, a pass and a drop can wake a task that waits to signal.
 pub fn others_free_no_signaller()
     ensures { OthersFreeNoSignaller }
 {}
