@@ -7,7 +7,7 @@ ghost use Rattle.phaser_core.specs.Outcomes.{unmade_reply, turn_reply};
 use super::look_reply;
 use crate::state::PhaserState;
 use crate::turn::{Signal, Turn, Unmade};
-use crate::view::View;
+use crate::view::{View, view_of};
 use phase_model::{Call, Reply};
 use phase_modes::Refusal;
 use reg_table::Comparisons;
@@ -18,11 +18,7 @@ impl PhaserState {
         ensures { result ≡ returned self.now.story.past (reply self.now.story call) }
     {
         let mut comparisons = Comparisons::none();
-        let view = View {
-            table: &self.table,
-            single: self.single,
-            history: &self.history,
-        };
+        let view = view_of!(self);
         match call {
             Call::Make(task, mode) => done_or_refused(view.may_make(task, mode)),
             Call::Register(parent, child, mode) => done_or_refused(view.may_register(

@@ -7,7 +7,7 @@ ghost use Rattle.phase_model.specs.declared.call.Call.TheVariants.{Register as r
 ghost use Rattle.phase_model.specs.Replies.{reply, after, done, done_result};
 
 use crate::state::PhaserState;
-use crate::view::View;
+use crate::view::{View, view_of};
 use phase_model::Event;
 use phase_modes::{Mode, Refusal};
 use reg_table::{Comparisons, Entry, TaskNumber};
@@ -28,11 +28,7 @@ impl PhaserState {
         ensures compared { self.new.compared ≤ 2 }
     {
         let mut comparisons = Comparisons::none();
-        let view = View {
-            table: &self.table,
-            single: self.single,
-            history: &self.history,
-        };
+        let view = view_of!(self);
         let joins = view.may_register_last(&self.known, parent, child, mode, &mut comparisons);
         self.compared = comparisons;
         let Some(reg) = joins else {
@@ -63,11 +59,7 @@ impl PhaserState {
             ≡ after self.old.story (reply self.old.story (register parent child mode)) }
         ensures compared { self.new.compared ≤ 18 }
     {
-        let view = View {
-            table: &self.table,
-            single: self.single,
-            history: &self.history,
-        };
+        let view = view_of!(self);
         let answer = view.may_register(&self.known, parent, child, mode, &mut self.compared);
         let reg = answer?;
         let place = self.table.place_for(child, &mut self.compared);
@@ -96,11 +88,7 @@ impl PhaserState {
         ensures full { 256 ≤ live_count self.old.story.past → self.new.compared ≡ 0 }
     {
         let mut comparisons = Comparisons::none();
-        let view = View {
-            table: &self.table,
-            single: self.single,
-            history: &self.history,
-        };
+        let view = view_of!(self);
         let leaves = view.may_drop_last(task, &mut comparisons);
         self.compared = comparisons;
         // There are at most four accumulators, so what a task holds back is all in its partial.
@@ -123,11 +111,7 @@ impl PhaserState {
         ensures history { self.new.story ≡ after self.old.story (reply self.old.story (drop_task task)) }
         ensures compared { self.new.compared ≤ 9 }
     {
-        let view = View {
-            table: &self.table,
-            single: self.single,
-            history: &self.history,
-        };
+        let view = view_of!(self);
         let answer = view.may_drop(task, &mut self.compared);
         let i = answer?;
         self.history.add(Event::Drop(task));

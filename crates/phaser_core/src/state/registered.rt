@@ -4,7 +4,7 @@ ghost use Rattle.phase_model.specs.Rules.{is_permitted};
 ghost use Rattle.phaser_core.specs.Table.{registration};
 
 use crate::state::PhaserState;
-use crate::view::View;
+use crate::view::{View, view_of};
 use phase_model::Event;
 use phase_modes::Reg;
 use reg_table::Comparisons;
@@ -27,11 +27,7 @@ impl PhaserState {
             ≡ is_permitted self.now.story.limits self.now.story.terms self.now.story.past (Event.Claim task) }
     {
         let mut comparisons = Comparisons::none();
-        let view = View {
-            table: &self.table,
-            single: self.single,
-            history: &self.history,
-        };
+        let view = view_of!(self);
         view.is_claimer(task, &mut comparisons)
     }
 
@@ -41,11 +37,7 @@ impl PhaserState {
             ≡ is_permitted self.now.story.limits self.now.story.terms self.now.story.past (Event.Did task) }
     {
         let mut comparisons = Comparisons::none();
-        let view = View {
-            table: &self.table,
-            single: self.single,
-            history: &self.history,
-        };
+        let view = view_of!(self);
         view.is_reporter(task, &mut comparisons)
     }
 }

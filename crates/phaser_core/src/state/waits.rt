@@ -4,7 +4,7 @@ ghost use Rattle.phase_model.specs.Waiting.{would_wait, signal_would_wait, is_in
 
 use crate::state::PhaserState;
 use crate::turn::{Turn, Unmade};
-use crate::view::View;
+use crate::view::{View, view_of};
 use reg_table::Comparisons;
 
 impl PhaserState {
@@ -13,11 +13,7 @@ impl PhaserState {
         ensures { result ≡ would_wait self.now.story task }
     {
         let mut comparisons = Comparisons::none();
-        let view = View {
-            table: &self.table,
-            single: self.single,
-            history: &self.history,
-        };
+        let view = view_of!(self);
         match view.may_pass(task, &mut comparisons) {
             Ok(Turn::Waits) => true,
             _ => false,
@@ -29,11 +25,7 @@ impl PhaserState {
         ensures { result ≡ signal_would_wait self.now.story task number }
     {
         let mut comparisons = Comparisons::none();
-        let view = View {
-            table: &self.table,
-            single: self.single,
-            history: &self.history,
-        };
+        let view = view_of!(self);
         match view.may_signal(task, number, &mut comparisons) {
             Err(Unmade::Held) => true,
             _ => false,
