@@ -6,7 +6,7 @@ use Rattle.std.proofs.lemmas.List.{length-map, map-append}
 use Rattle.task_queue.specs.Account.{Account}
 use Rattle.task_queue.specs.Accounts.{IsSeatOf, AreTogether}
 use Rattle.task_queue.proofs.Taking.{map_at}
-use Rattle.phased_rt.specs.Back.{AreBack, AreSeatsIn}
+use Rattle.phased_rt.specs.inner.Back.{AreBack, AreSeatsIn}
 
 abbrev answer : (W E : Type 0) → W → Result W E
 answer W E w = Ok w

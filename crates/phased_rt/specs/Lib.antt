@@ -1,5 +1,5 @@
-pub mod Back
 pub mod Left
 pub mod Refused
 pub mod Told
 pub mod Totals
+pub mod inner

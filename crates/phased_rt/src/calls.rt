@@ -1,4 +1,4 @@
-//! The calls on phasers and finishes behind their locks, by number. Those whom a call lets go on are
+//! The calls on phasers and finishes behind their locks, by number. Those whom a call wakes are
 //! given to the queue before it answers. A number past the tables is nobody's.
 ghost use Rattle.task_queue.specs.Accounts.{IsSeatOf};
 

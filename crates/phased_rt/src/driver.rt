@@ -43,7 +43,7 @@ impl<B: Body, K: Ledgers> Shared<B, K> {
         Ok(Some(item))
     }
 
-    /// A task that is parked signals again once it is let go on: its signal is still due.
+    /// A task that is parked signals again once it is woken: its signal is still due.
     fn signal<R: Wait>(
         &self,
         rt: &R,

@@ -13,7 +13,7 @@
 //!
 //! Each worker takes a task from the queue and makes its events one by one, each under the lock of
 //! one phaser or finish. A task that has to wait is parked behind that lock, and whoever makes the
-//! event that lets it go on puts it into the queue. No lock is held while a body runs.
+//! event that wakes it puts it into the queue. No lock is held while a body runs.
 //!
 //! # What is promised
 //!

@@ -6,7 +6,7 @@ ghost use Rattle.scope_locks.specs.Telling.{ArePhaserParts, AreFinishParts};
 ghost use Rattle.task_queue.specs.Accounts.{AreTogether, IsConserved};
 ghost use Rattle.world_model.specs.Report.{report_of};
 ghost use Rattle.trace_model.specs.Explained.{past, is_explained};
-ghost use Rattle.phased_rt.specs.Back.{AreBack, AreSeatsIn};
+ghost use Rattle.phased_rt.specs.inner.Back.{AreBack, AreSeatsIn};
 ghost use Rattle.phased_rt.specs.Left.{IsLeftByAll};
 ghost use Rattle.phased_rt.specs.Refused.{IsRunRefused};
 ghost use Rattle.phased_rt.specs.Told.{IsApart, IsToldBy};

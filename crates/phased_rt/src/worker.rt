@@ -121,7 +121,7 @@ impl<B: Body, K: Ledgers> Shared<B, K> {
         self.put(rt, seat, kept, item)
     }
 
-    /// Gives all whom a call let go on to the queue.
+    /// Gives all whom a call woke to the queue.
     pub(crate) fn flush<R: Wait>(
         &self,
         rt: &R,

@@ -29,7 +29,7 @@ use Rattle.world_core.specs.WorldState.{WorldState}
 use Rattle.trace_model.specs.Run.{Entry, Run, with_event}
 use Rattle.trace_model.specs.Explained as explained
 use Rattle.trace_model.specs.Explained.{past, is_answered, is_later, may_follow, all_follow}
-use Rattle.schedule_run.specs.Tracing.{seen, traced}
+use Rattle.schedule_run.specs.inner.Tracing.{seen, traced}
 use Rattle.schedule_run.specs.inner.Records.{Counted, IsTraced, Records}
 
 -- ---- an event as a trace has it

@@ -1,4 +1,3 @@
 pub mod Following
 pub mod Given
-pub mod Tracing
 pub mod inner

@@ -4,3 +4,4 @@ pub mod Running
 pub mod Followers
 pub mod Holding
 pub mod Notes
+pub mod Tracing

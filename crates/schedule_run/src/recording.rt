@@ -6,7 +6,7 @@ ghost use Rattle.phase_modes.specs.declared.refusal.Refusal.TheVariants.{Memory 
 ghost use Rattle.world_model.specs.declared.event.WorldEvent.{WorldEvent as Event};
 ghost use Rattle.world_model.specs.Replies.{after, reply};
 ghost use Rattle.trace_model.specs.Run.{with_event};
-ghost use Rattle.schedule_run.specs.Tracing.{seen, traced_step, traced};
+ghost use Rattle.schedule_run.specs.inner.Tracing.{seen, traced_step, traced};
 ghost use Rattle.schedule_run.specs.inner.Records.{outcome_of, Records};
 
 use phase_model::Look;

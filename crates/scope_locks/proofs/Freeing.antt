@@ -1,4 +1,4 @@
--- The calls that can let somebody go on, where they let nobody.
+-- The calls that can wake somebody, where they wake nobody.
 use Rattle.std.proofs.Common.{◌≡◌, ◌⊎◌, ℕ, Bool, true, false, ◌||◌, ◌&&◌, not, cond, List, [], ◌∷◌, Option, Some, None, is_some, refl, ap, sym, ◌∙◌, subst, inl, inr}
 use Rattle.std.specs.Result.{is_ok}
 use Rattle.std.proofs.lemmas.Bool.{cases_Bool, and_parts, and_from, or_parts}
@@ -16,7 +16,8 @@ use Rattle.scope_locks.specs.declared.parking.Parked.{Parked}
 use Rattle.scope_locks.specs.Cells.{IsKept}
 use Rattle.scope_locks.specs.declared.parking.ParkedCall.{ParkedCall}
 use Rattle.scope_locks.specs.declared.parking.ParkedCall.TheVariants.{Pass as ToPass, Signal as ToSignal}
-use Rattle.scope_locks.specs.Parking.{would_park, all_wait, is_pass, first_to_signal, is_phase_open, is_held_for, is_first_held}
+use Rattle.scope_locks.specs.Parking.{would_park, all_wait}
+use Rattle.scope_locks.specs.inner.Firsts.{is_pass, first_to_signal, is_phase_open, is_held_for, is_first_held}
 use Rattle.scope_locks.proofs.HeldPhase.{held_past_pass}
 use Rattle.scope_locks.proofs.Lists.{all_past_signal, all_past_closed_signal, all_past_drop, all_past_closed_drop}
 use Rattle.scope_locks.proofs.Parks.{KeepsPassers, KeepsSignallers, all_stay, keeps_passers, keeps_signallers, unbounded_keeps}
@@ -59,7 +60,7 @@ after_drop s u ps legal signallers all out k =
       | inr was ↦ all_past_closed_drop s u ps legal signallers all out was
     ]
 
--- a signal lets no other signaller go on, unless it is a proposal on a bounded phaser
+-- a signal wakes no other signaller, unless it is a proposal on a bounded phaser
 signal_keeps : (s : Story) (u : ℕ) (x : Option ℕ) → is_legal s.limits s.terms (Sig u x ∷ s.past) ≡ true → (is_some x && is_some s.terms.bound) ≡ false → KeepsSignallers s (with_event s (Sig u x))
 signal_keeps s u None next k = keeps_signallers s (Sig u None) refl next
 signal_keeps s u (Some n) next k = unbounded_keeps s (with_event s (Sig u (Some n))) k
@@ -111,7 +112,7 @@ pass_unbounded s s' b ps u k is none =
     (λ e same next now.
     all_stay s (with_event s e) ps (keeps_passers s e (ap can_free (sym same) ∙ pass_frees_nobody s u) next) (unbounded_keeps s (with_event s e) none) k.waiting)
 
--- where the first who waits to signal still waits, a pass lets no signaller go on
+-- where the first who waits to signal still waits, a pass wakes no signaller
 first_shows : {T : Type 0} (s : Story) (u : ℕ) (ps : List (Parked T)) → IsLegal s → is_legal s.limits s.terms (Pass u ∷ s.past) ≡ true → all_wait s ps ≡ true → is_first_held (with_event s (Pass u)) ps ≡ true → all_wait (with_event s (Pass u)) ps ≡ true
 first_shows s u [] legal next all held = refl
 first_shows s u (p ∷ ps) legal next all held = go p.call refl (first_shows s u ps legal next) all held

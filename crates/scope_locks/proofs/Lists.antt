@@ -12,7 +12,8 @@ use Rattle.phase_model.proofs.OnePhase.{same_phase, waits_past_signal, waits_pas
 use Rattle.scope_locks.specs.declared.parking.Parked.{Parked}
 use Rattle.scope_locks.specs.declared.parking.ParkedCall.{ParkedCall}
 use Rattle.scope_locks.specs.declared.parking.ParkedCall.TheVariants.{Pass as ToPass, Signal as ToSignal}
-use Rattle.scope_locks.specs.Parking.{would_park, all_wait, is_pass, first_to_pass, is_open_for, is_phase_open}
+use Rattle.scope_locks.specs.Parking.{would_park, all_wait}
+use Rattle.scope_locks.specs.inner.Firsts.{is_pass, first_to_pass, is_open_for, is_phase_open}
 use Rattle.scope_locks.proofs.Parks.{KeepsPassers, KeepsSignallers, all_stay}
 
 -- all wait on where no signaller goes on, and the first who waits to pass shows that no passer does

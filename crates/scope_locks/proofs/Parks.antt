@@ -48,11 +48,11 @@ all_stay s s' (p ∷ ps) passers signallers w =
     let parts = and_parts (would_park s p.task p.call) (all_wait s ps) w in
     and_from (would_park s' p.task p.call) (all_wait s' ps) (call_stays s s' passers signallers p.task p.call parts.0) (all_stay s s' ps passers signallers parts.1)
 
--- an event that can let no passer go on
+-- an event that can wake no passer
 pub keeps_passers : (s : Story) (e : Event) → can_free e ≡ false → is_legal s.limits s.terms (e ∷ s.past) ≡ true → KeepsPassers s (with_event s e)
 keeps_passers s e k legal t w = stays s t w e k legal
 
--- an event that can let no signaller go on
+-- an event that can wake no signaller
 pub keeps_signallers : (s : Story) (e : Event) → can_free_signal e ≡ false → is_legal s.limits s.terms (e ∷ s.past) ≡ true → KeepsSignallers s (with_event s e)
 keeps_signallers s e k legal t x w = others_free_no_signaller s e t x legal k w
 

@@ -29,7 +29,8 @@ use Rattle.share_book.specs.Accounts.{Entry}
 use Rattle.scope_locks.specs.declared.parking.Parked.{Parked}
 use Rattle.scope_locks.specs.Amounts.{weight, amount_if, plus_nothing}
 use Rattle.scope_locks.specs.Cells.{IsKept}
-use Rattle.scope_locks.specs.Parking.{all_wait, are_parked_once, freed, is_made, has_gone_on}
+use Rattle.scope_locks.specs.Parking.{all_wait, are_parked_once, freed}
+use Rattle.scope_locks.specs.inner.Firsts.{is_made, has_gone_on}
 use Rattle.scope_locks.proofs.Parks.{all_stay, keeps_passers, keeps_signallers, none_freed}
 
 -- the reply of a done call shows its event

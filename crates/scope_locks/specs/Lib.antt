@@ -4,3 +4,4 @@ pub mod Drawn
 pub mod Parking
 pub mod Shutting
 pub mod Telling
+pub mod inner

@@ -1,10 +1,10 @@
 -- Who waits in a cell, and what a signal and a pass through it answer.
 use Rattle.std.specs.Prelude.{ℕ, ◌≡◌, refl, Bool, true, false, ◌==◌, ◌&&◌, ◌++◌, ◌∷◌, [], List, Option, Some, None, Result, Ok, Err, not, map, filter}
-use Rattle.std.specs.List.{list_any, list_all, find}
+use Rattle.std.specs.List.{list_any, list_all}
 use Rattle.phase_modes.specs.declared.refusal.Refusal.{Refusal}
 use Rattle.phase_modes.specs.declared.refusal.Refusal.TheVariants.{NotNow}
 use Rattle.phase_model.specs.Rules.{Story}
-use Rattle.phase_model.specs.Waiting.{would_wait, signal_would_wait, is_in_open_phase}
+use Rattle.phase_model.specs.Waiting.{would_wait, signal_would_wait}
 use Rattle.phaser_core.specs.declared.state.Signalling.{Signalling}
 use Rattle.phaser_core.specs.declared.state.Signalling.TheVariants.{Signalled as Sent, NotYet as Held}
 use Rattle.phaser_core.specs.declared.state.Passing.{Passing}
@@ -46,37 +46,6 @@ waiting s ps = filter (λ p. would_park s p.task p.call) ps
 abbrev pub freed : {T : Type 0} → Story → List (Parked T) → List T
 freed s ps = map (λ p. p.item) (filter (λ p. not (would_park s p.task p.call)) ps)
 
--- the call is a pass
-abbrev pub is_pass : ParkedCall → Bool
-is_pass ToPass = true
-is_pass (ToSignal x) = false
-
--- the first of them who waits to pass
-abbrev pub first_to_pass : {T : Type 0} → List (Parked T) → Option (Parked T)
-first_to_pass ps = find (λ p. is_pass p.call) ps
-
--- the first of them who waits to signal
-abbrev pub first_to_signal : {T : Type 0} → List (Parked T) → Option (Parked T)
-first_to_signal ps = find (λ p. not (is_pass p.call)) ps
-
--- it stands in an open phase; where there is none, that may count as so
-abbrev pub is_open_for : {T : Type 0} → Story → Option (Parked T) → Bool
-is_open_for s None = true
-is_open_for s (Some p) = is_in_open_phase s p.task
-
--- the first of them who waits to pass stands in an open phase
-abbrev pub is_phase_open : {T : Type 0} → Story → List (Parked T) → Bool
-is_phase_open s ps = is_open_for s (first_to_pass ps)
-
--- it would still be answered `NotYet`; where there is none, that may count as so
-abbrev pub is_held_for : {T : Type 0} → Story → Option (Parked T) → Bool
-is_held_for s None = true
-is_held_for s (Some p) = would_park s p.task p.call
-
--- the first of them who waits to signal would still be answered `NotYet`
-abbrev pub is_first_held : {T : Type 0} → Story → List (Parked T) → Bool
-is_first_held s ps = is_held_for s (first_to_signal ps)
-
 -- what a pass with an item answers, by what the phaser answers and whether the task is parked already
 abbrev pub locked_pass : {T : Type 0} → Result Passing Refusal → Bool → T → PassAnswer T
 locked_pass (Ok (Over p)) again x = Passed x p
@@ -104,10 +73,6 @@ abbrev pub parking : {T : Type 0} → Bool → Bool → Parked T → List (Parke
 parking true false p ps = ps ++ p ∷ []
 parking true true p ps = ps
 parking false again p ps = ps
-
--- a pass has added an event: whoever asked goes on
-abbrev pub has_gone_on : Result Passing Refusal → Bool
-has_gone_on a = goes_on (locked_pass a true (tt {0}))
 
 -- it has to wait
 abbrev pub has_to_wait : Result Passing Refusal → Bool
@@ -142,10 +107,6 @@ abbrev pub IsBackFromSignal : {T : Type 0} → T → SignalAnswer T → Type 0
 IsBackFromSignal x (Signalled y) = y ≡ x
 IsBackFromSignal x IsHeld = Unit {0}
 IsBackFromSignal x (NoSignal y r) = y ≡ x
-
--- a signal has added an event: whoever asked has signalled
-abbrev pub is_made : Result Signalling Refusal → Bool
-is_made a = has_signalled (locked_signal a true (tt {0}))
 
 -- it is held
 abbrev pub is_held : Result Signalling Refusal → Bool

@@ -20,7 +20,7 @@ pub enum PassAnswer<T> {
     Passed(T, u32),
     /// The task claimed the single of this number.
     Claimed(T, u32),
-    /// The item waits in the cell until a call lets its task go on.
+    /// The item waits in the cell until a call wakes its task.
     Parked,
     /// Nothing was changed.
     Refused(T, Refusal),

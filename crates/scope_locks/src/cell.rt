@@ -12,7 +12,8 @@ ghost use Rattle.share_book.specs.Accounts.{nothing};
 ghost use Rattle.scope_locks.specs.Amounts.{amount_if};
 ghost use Rattle.scope_locks.specs.Cells.{IsKept};
 ghost use Rattle.scope_locks.specs.Drawn.{IsDrawn};
-ghost use Rattle.scope_locks.specs.Parking.{is_parked, is_first_held, waiting, freed, locked_pass, parking, has_gone_on, has_to_wait, goes_on, answered, IsBack, locked_signal, has_signalled, is_made, is_held, signal_answered, IsBackFromSignal};
+ghost use Rattle.scope_locks.specs.Parking.{is_parked, waiting, freed, locked_pass, parking, has_to_wait, goes_on, answered, IsBack, locked_signal, has_signalled, is_held, signal_answered, IsBackFromSignal};
+ghost use Rattle.scope_locks.specs.inner.Firsts.{is_first_held, has_gone_on, is_made};
 
 use crate::answer::{PassAnswer, SignalAnswer};
 use crate::out::Out;
@@ -74,7 +75,7 @@ fn is_bounded(state: &PhaserState) -> bool
     state.history().bound().is_some()
 }
 
-/// Whether a signal may let a task go on that waits to signal: by a proposal, after which one that
+/// Whether a signal may wake a task that waits to signal: by a proposal, after which one that
 /// waits to propose another number is refused.
 fn may_part_proposers(state: &PhaserState, number: Option<u32>) -> bool
     ensures { result ≡ (is_some number && is_some state.now.story.terms.bound) }
@@ -89,7 +90,7 @@ fn may_be_parked(state: &PhaserState, task: u32) -> bool
     is_bounded(state) || state.would_wait(task)
 }
 
-/// Whether a pass may have let somebody go on: the first who waited to signal for the bound.
+/// Whether a pass may have woken somebody: the first who waited to signal for the bound.
 fn may_come_near<T>(
     bounded: bool,
     gone_on: bool,
@@ -103,7 +104,7 @@ fn may_come_near<T>(
 
 impl<T, K: Ledgers> PhaserCell<T, K> {
     /// The phaser's `make_with`, with its refusals: makes it with these operators and this bound.
-    /// Nobody is let go on by it.
+    /// It wakes nobody.
     pub fn make<B: Post<K>>(
         &mut self,
         tickets: &Tickets,
@@ -135,7 +136,7 @@ impl<T, K: Ledgers> PhaserCell<T, K> {
         answer
     }
 
-    /// The phaser's `register`, with its refusals. Nobody is let go on by it.
+    /// The phaser's `register`, with its refusals. It wakes nobody.
     pub fn register<B: Post<K>>(
         &mut self,
         tickets: &Tickets,
@@ -165,7 +166,7 @@ impl<T, K: Ledgers> PhaserCell<T, K> {
         answer
     }
 
-    /// The phaser's `send`, with its refusals. Nobody is let go on by it.
+    /// The phaser's `send`, with its refusals. It wakes nobody.
     pub fn send<B: Post<K>>(
         &mut self,
         tickets: &Tickets,
@@ -197,7 +198,7 @@ impl<T, K: Ledgers> PhaserCell<T, K> {
         answer
     }
 
-    /// The phaser's `look`, with its refusals. Nobody is let go on by it.
+    /// The phaser's `look`, with its refusals. It wakes nobody.
     pub fn look<B: Post<K>>(
         &mut self,
         tickets: &Tickets,
@@ -231,7 +232,7 @@ impl<T, K: Ledgers> PhaserCell<T, K> {
 
     /// The phaser's `signal`, with its refusals; a task that is too far ahead of a waiter leaves its
     /// item here instead, or has it back with `NotNow` where it is parked already. The items of all
-    /// whom it lets go on are put into `out`.
+    /// whom it wakes are put into `out`.
     pub fn signal<B: Post<K>>(
         &mut self,
         tickets: &Tickets,
@@ -276,7 +277,7 @@ impl<T, K: Ledgers> PhaserCell<T, K> {
         settle_signal(answer, parked, task, number, item)
     }
 
-    /// The phaser's `drop_task`, with its refusals. The items of all whom it lets go on are put
+    /// The phaser's `drop_task`, with its refusals. The items of all whom it wakes are put
     /// into `out`, the dropped task's own too where it was parked.
     pub fn drop_task<B: Post<K>>(
         &mut self,
@@ -313,7 +314,7 @@ impl<T, K: Ledgers> PhaserCell<T, K> {
         answer
     }
 
-    /// The phaser's `single_done`, with its refusals. The items of all whom it lets go on are put
+    /// The phaser's `single_done`, with its refusals. The items of all whom it wakes are put
     /// into `out`.
     pub fn single_done<B: Post<K>>(
         &mut self,
@@ -349,7 +350,7 @@ impl<T, K: Ledgers> PhaserCell<T, K> {
 
     /// The phaser's `pass`, with its refusals; a task that has to wait leaves its item here
     /// instead, or has it back with `NotNow` where it is parked already. The items of all whom it
-    /// lets go on are put into `out`: those who waited to signal, for the bound.
+    /// wakes are put into `out`: those who waited to signal, for the bound.
     pub fn pass<B: Post<K>>(
         &mut self,
         tickets: &Tickets,

@@ -124,23 +124,23 @@ impl<T: Drop, L: Drop> FinishTable<T, L> {
 
 impl<T, L> FinishTable<T, L> {
     /// Takes the finish's lock, and lends what stands behind it until the guard is dropped.
-    pub fn lock<R: Wait>(&self, rt: &R, number: usize) -> MutexGuard<'_, FinishCell<T, L>>
-        requires { number < self.now.finishes }
+    pub fn lock<R: Wait>(&self, rt: &R, finish: usize) -> MutexGuard<'_, FinishCell<T, L>>
+        requires { finish < self.now.finishes }
     {
-        self.cells[number].lock(rt)
+        self.cells[finish].lock(rt)
     }
 
     /// The cell's `opened`, under the finish's lock.
     pub fn opened<R: Wait>(
         &self,
         rt: &R,
-        number: usize,
+        finish: usize,
         tickets: &Tickets,
         owner: u32,
     ) -> Result<(), Refusal>
-        requires { number < self.now.finishes }
+        requires { finish < self.now.finishes }
     {
-        let mut cell = self.cells[number].lock(rt);
+        let mut cell = self.cells[finish].lock(rt);
         cell.opened(tickets, owner)
     }
 
@@ -148,13 +148,13 @@ impl<T, L> FinishTable<T, L> {
     pub fn spawned<R: Wait>(
         &self,
         rt: &R,
-        number: usize,
+        finish: usize,
         tickets: &Tickets,
         child: u32,
     ) -> Result<(), Refusal>
-        requires { number < self.now.finishes }
+        requires { finish < self.now.finishes }
     {
-        let mut cell = self.cells[number].lock(rt);
+        let mut cell = self.cells[finish].lock(rt);
         cell.spawned(tickets, child)
     }
 
@@ -162,27 +162,27 @@ impl<T, L> FinishTable<T, L> {
     pub fn ended<R: Wait>(
         &self,
         rt: &R,
-        number: usize,
+        finish: usize,
         tickets: &Tickets,
         child: u32,
         log: L,
         out: &mut Out<T>,
     ) -> Result<(), L>
-        requires number { number < self.now.finishes }
+        requires finish { finish < self.now.finishes }
         requires empty { out.old ≡ [] }
         ensures log { IfErr result (λ l. l ≡ log) }
         ensures few { length out.new ≤ 1 }
     {
-        let mut cell = self.cells[number].lock(rt);
+        let mut cell = self.cells[finish].lock(rt);
         cell.ended(tickets, child, log, out)
     }
 
     /// The cell's `shut`, under the finish's lock. The item comes back, or it is parked.
-    pub fn shut<R: Wait>(&self, rt: &R, number: usize, tickets: &Tickets, item: T) -> ShutAnswer<T>
-        requires { number < self.now.finishes }
+    pub fn shut<R: Wait>(&self, rt: &R, finish: usize, tickets: &Tickets, item: T) -> ShutAnswer<T>
+        requires { finish < self.now.finishes }
         ensures item { IsBackFromShut item result }
     {
-        let mut cell = self.cells[number].lock(rt);
+        let mut cell = self.cells[finish].lock(rt);
         cell.shut(tickets, item)
     }
 }

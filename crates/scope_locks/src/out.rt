@@ -1,4 +1,4 @@
-//! The items that a call lets go on.
+//! The items of those whom a call wakes.
 ghost use Rattle.std.specs.Prelude.{◌≡◌, ◌++◌, ◌∷◌, [], ◌<◌, length, IfOk, IfErr, MatchOption};
 
 use phase_modes::Refusal;

@@ -1,9 +1,10 @@
-//! The list of those who wait at a phaser: who is put in, and who is let go on.
+//! The list of those who wait at a phaser: who is put in, and who is woken.
 ghost use Rattle.std.specs.Prelude.{◌≡◌, option_map, ◌||◌, ◌&&◌, not, Ok, [], ◌<◌, ◌≤◌, true, false};
 ghost use Rattle.std.specs.VecDeque.{deque_len, deque_capacity};
 ghost use Rattle.phaser_core.specs.declared.state.Signalling.TheVariants.{NotYet as Held};
 ghost use Rattle.phaser_core.specs.declared.state.Passing.TheVariants.{NotYet};
-ghost use Rattle.scope_locks.specs.Parking.{is_parked, would_park, all_wait, waiting, freed, is_pass, first_to_pass, first_to_signal, is_phase_open, is_first_held, locked_pass, goes_on, has_gone_on, has_to_wait, IsBack, locked_signal, has_signalled, is_made, is_held, IsBackFromSignal, parking};
+ghost use Rattle.scope_locks.specs.Parking.{is_parked, would_park, all_wait, waiting, freed, locked_pass, goes_on, has_to_wait, IsBack, locked_signal, has_signalled, is_held, IsBackFromSignal, parking};
+ghost use Rattle.scope_locks.specs.inner.Firsts.{is_pass, first_to_pass, first_to_signal, is_phase_open, is_first_held, has_gone_on, is_made};
 
 use crate::answer::{PassAnswer, SignalAnswer};
 use crate::out::Out;
@@ -20,7 +21,7 @@ pub enum ParkedCall {
     Signal(Option<u32>),
 }
 
-/// A task that waits at a phaser, and the item that goes on with it.
+/// A task that waits at a phaser, and the item that leaves with it.
 #[derive(Drop)]
 pub struct Parked<T> {
     pub task: u32,
@@ -47,8 +48,8 @@ fn would_park(state: &PhaserState, task: u32, call: ParkedCall) -> bool
     }
 }
 
-/// Lets go on all who need no longer wait.
-// Rare beside the calls that let nobody go on, which it would make larger.
+/// Wakes all who need no longer wait.
+// Rare beside the calls that wake nobody, which it would make larger.
 #[inline(never)]
 fn release<T>(state: &PhaserState, parked: &mut VecDeque<Parked<T>>, out: &mut Out<T>)
     requires seats { 256 ≤ deque_capacity parked.old }
@@ -109,7 +110,7 @@ pub(crate) fn is_first_held<T>(state: &PhaserState, parked: &VecDeque<Parked<T>>
     }
 }
 
-/// Whether a signal or a drop may let somebody go on: it closed the phase of those who wait to
+/// Whether a signal or a drop may wake somebody: it closed the phase of those who wait to
 /// pass, or there is another reason.
 pub(crate) fn may_leave(otherwise: bool, was_open: bool, is_open: bool) -> bool
     ensures exactly { result ≡ (otherwise || (was_open && not is_open)) }
@@ -119,7 +120,7 @@ pub(crate) fn may_leave(otherwise: bool, was_open: bool, is_open: bool) -> bool
     otherwise || (was_open && !is_open)
 }
 
-/// Lets go on all who need no longer wait. Where nobody can have been let go on, the list isn't
+/// Wakes all who need no longer wait. Where nobody can have been woken, the list isn't
 /// gone through.
 pub(crate) fn release_if<T>(
     may_leave: bool,

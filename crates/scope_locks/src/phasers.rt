@@ -170,10 +170,10 @@ impl<T: Drop, K: Ledgers> PhaserTable<T, K> {
 
 impl<T, K: Ledgers> PhaserTable<T, K> {
     /// Takes the phaser's lock, and lends what stands behind it until the guard is dropped.
-    pub fn lock<R: Wait>(&self, rt: &R, number: usize) -> MutexGuard<'_, PhaserCell<T, K>>
-        requires { number < self.now.phasers }
+    pub fn lock<R: Wait>(&self, rt: &R, phaser: usize) -> MutexGuard<'_, PhaserCell<T, K>>
+        requires { phaser < self.now.phasers }
     {
-        self.cells[number].lock(rt)
+        self.cells[phaser].lock(rt)
     }
 
     /// Takes the books' lock, and answers what all phasers together add up to so far: of no kind
@@ -190,7 +190,7 @@ impl<T, K: Ledgers> PhaserTable<T, K> {
     pub fn make<R: Wait>(
         &self,
         rt: &R,
-        number: usize,
+        phaser: usize,
         tickets: &Tickets,
         mine: &mut Shares<K>,
         task: u32,
@@ -198,10 +198,10 @@ impl<T, K: Ledgers> PhaserTable<T, K> {
         ops: Ops,
         bound: Option<Bound>,
     ) -> Result<(), Refusal>
-        requires { number < self.now.phasers }
+        requires { phaser < self.now.phasers }
         ensures mine { mine.new ≡ plus (amount_if (is_ok result) (Event.Make task mode)) mine.old }
     {
-        let mut cell = self.cells[number].lock(rt);
+        let mut cell = self.cells[phaser].lock(rt);
         let mut books = Locked {
             rt,
             books: &self.books,
@@ -213,17 +213,17 @@ impl<T, K: Ledgers> PhaserTable<T, K> {
     pub fn register<R: Wait>(
         &self,
         rt: &R,
-        number: usize,
+        phaser: usize,
         tickets: &Tickets,
         mine: &mut Shares<K>,
         parent: u32,
         child: u32,
         mode: Mode,
     ) -> Result<(), Refusal>
-        requires { number < self.now.phasers }
+        requires { phaser < self.now.phasers }
         ensures mine { mine.new ≡ plus (amount_if (is_ok result) (Event.Reg parent child mode)) mine.old }
     {
-        let mut cell = self.cells[number].lock(rt);
+        let mut cell = self.cells[phaser].lock(rt);
         let mut books = Locked {
             rt,
             books: &self.books,
@@ -235,18 +235,18 @@ impl<T, K: Ledgers> PhaserTable<T, K> {
     pub fn send<R: Wait>(
         &self,
         rt: &R,
-        number: usize,
+        phaser: usize,
         tickets: &Tickets,
         mine: &mut Shares<K>,
         task: u32,
         accumulator: u8,
         value: i32,
     ) -> Result<(), Refusal>
-        requires { number < self.now.phasers }
+        requires { phaser < self.now.phasers }
         ensures mine { mine.new
             ≡ plus (amount_if (is_ok result) (Event.Send task accumulator value)) mine.old }
     {
-        let mut cell = self.cells[number].lock(rt);
+        let mut cell = self.cells[phaser].lock(rt);
         let mut books = Locked {
             rt,
             books: &self.books,
@@ -258,17 +258,17 @@ impl<T, K: Ledgers> PhaserTable<T, K> {
     pub fn look<R: Wait>(
         &self,
         rt: &R,
-        number: usize,
+        phaser: usize,
         tickets: &Tickets,
         mine: &mut Shares<K>,
         task: u32,
         accumulator: u8,
     ) -> Result<Look, Refusal>
-        requires { number < self.now.phasers }
+        requires { phaser < self.now.phasers }
         ensures mine { (x : Look) → mine.new
             ≡ plus (amount_if (is_ok result) (Event.Look task accumulator x)) mine.old }
     {
-        let mut cell = self.cells[number].lock(rt);
+        let mut cell = self.cells[phaser].lock(rt);
         let mut books = Locked {
             rt,
             books: &self.books,
@@ -280,7 +280,7 @@ impl<T, K: Ledgers> PhaserTable<T, K> {
     pub fn signal<R: Wait>(
         &self,
         rt: &R,
-        number: usize,
+        phaser: usize,
         tickets: &Tickets,
         mine: &mut Shares<K>,
         out: &mut Out<T>,
@@ -288,13 +288,13 @@ impl<T, K: Ledgers> PhaserTable<T, K> {
         proposed: Option<u32>,
         item: T,
     ) -> SignalAnswer<T>
-        requires number { number < self.now.phasers }
+        requires phaser { phaser < self.now.phasers }
         requires empty { out.old ≡ [] }
         ensures mine { mine.new ≡ plus (amount_if (has_signalled result) (Event.Sig task proposed)) mine.old }
         ensures item { IsBackFromSignal item result }
         ensures nobody { has_signalled result ≡ false → out.new ≡ [] }
     {
-        let mut cell = self.cells[number].lock(rt);
+        let mut cell = self.cells[phaser].lock(rt);
         let mut books = Locked {
             rt,
             books: &self.books,
@@ -306,18 +306,18 @@ impl<T, K: Ledgers> PhaserTable<T, K> {
     pub fn single_done<R: Wait>(
         &self,
         rt: &R,
-        number: usize,
+        phaser: usize,
         tickets: &Tickets,
         mine: &mut Shares<K>,
         out: &mut Out<T>,
         task: u32,
     ) -> Result<(), Refusal>
-        requires number { number < self.now.phasers }
+        requires phaser { phaser < self.now.phasers }
         requires empty { out.old ≡ [] }
         ensures mine { mine.new ≡ plus (amount_if (is_ok result) (Event.Did task)) mine.old }
         ensures refused { OnErr result (out.new ≡ []) }
     {
-        let mut cell = self.cells[number].lock(rt);
+        let mut cell = self.cells[phaser].lock(rt);
         let mut books = Locked {
             rt,
             books: &self.books,
@@ -329,18 +329,18 @@ impl<T, K: Ledgers> PhaserTable<T, K> {
     pub fn drop_task<R: Wait>(
         &self,
         rt: &R,
-        number: usize,
+        phaser: usize,
         tickets: &Tickets,
         mine: &mut Shares<K>,
         out: &mut Out<T>,
         task: u32,
     ) -> Result<(), Refusal>
-        requires number { number < self.now.phasers }
+        requires phaser { phaser < self.now.phasers }
         requires empty { out.old ≡ [] }
         ensures mine { mine.new ≡ plus (amount_if (is_ok result) (Event.Drop task)) mine.old }
         ensures refused { OnErr result (out.new ≡ []) }
     {
-        let mut cell = self.cells[number].lock(rt);
+        let mut cell = self.cells[phaser].lock(rt);
         let mut books = Locked {
             rt,
             books: &self.books,
@@ -352,20 +352,20 @@ impl<T, K: Ledgers> PhaserTable<T, K> {
     pub fn pass<R: Wait>(
         &self,
         rt: &R,
-        number: usize,
+        phaser: usize,
         tickets: &Tickets,
         mine: &mut Shares<K>,
         out: &mut Out<T>,
         task: u32,
         item: T,
     ) -> PassAnswer<T>
-        requires number { number < self.now.phasers }
+        requires phaser { phaser < self.now.phasers }
         requires empty { out.old ≡ [] }
         ensures mine { mine.new ≡ plus (amount_if (goes_on result) (Event.Pass task)) mine.old }
         ensures item { IsBack item result }
         ensures nobody { goes_on result ≡ false → out.new ≡ [] }
     {
-        let mut cell = self.cells[number].lock(rt);
+        let mut cell = self.cells[phaser].lock(rt);
         let mut books = Locked {
             rt,
             books: &self.books,

@@ -13,7 +13,7 @@ use Rattle.task_queue.specs.Fair.{weigh, each_from}
 use Rattle.task_queue.specs.Reaches.{reach_deque, stolen_of, row_weight}
 use Rattle.task_queue.specs.Account.{Account}
 use Rattle.task_queue.specs.Accounts.{IsConserved}
-use Rattle.task_queue.specs.Emptied.{own_put, own_taken, AreRows, IsEmptied, IsRestOf, AreApart, IsOrdered}
+use Rattle.task_queue.specs.inner.Emptied.{own_put, own_taken, AreRows, IsEmptied, IsRestOf, AreApart, IsOrdered}
 use Rattle.task_queue.proofs.Fairs.{weigh-append}
 use Rattle.task_queue.proofs.Taking.{map_at}
 

@@ -8,7 +8,7 @@ use Rattle.std.proofs.lemmas.List.Elements.{All-cons, All-head, All-tail, All-se
 use Rattle.atomic_blocks.specs.Lent.{RowsId}
 use Rattle.task_queue.specs.Account.{Account}
 use Rattle.task_queue.specs.Accounts.{IsSeatOf, IsSeatAt, HaveAll, AreTogether}
-use Rattle.task_queue.specs.Emptied.{AreInOrder, IsOrdered, IsOut}
+use Rattle.task_queue.specs.inner.Emptied.{AreInOrder, IsOrdered, IsOut}
 use Rattle.task_queue.specs.Fair.{weigh}
 use Rattle.task_queue.proofs.Fairs.{all_more, map_kept, weigh-append}
 use Rattle.task_queue.proofs.Taking.{map_at}

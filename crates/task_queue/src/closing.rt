@@ -2,9 +2,9 @@
 ghost use Rattle.std.specs.Prelude.{◌≡◌, ℕ, [], ◌∷◌, ◌++◌, ◌+◌, All, map, IfOk, length};
 ghost use Rattle.crossbeam_deque.specs.Handles.{worker_deque, IsPassOf};
 ghost use Rattle.task_queue.specs.Accounts.{AreTogether, IsConserved};
-ghost use Rattle.task_queue.specs.Emptied.{IsWholeBut, AreRows, IsEmptied, IsRestOf, AreApart, AreInOrder};
+ghost use Rattle.task_queue.specs.inner.Emptied.{IsWholeBut, AreRows, IsEmptied, IsRestOf, AreApart, AreInOrder};
 ghost use Rattle.task_queue.specs.Fair.{weigh};
-ghost use Rattle.task_queue.specs.Passes.{parts_of, put_of, taken_weight};
+ghost use Rattle.task_queue.specs.inner.Passes.{parts_of, put_of, taken_weight};
 ghost use Rattle.task_queue.specs.Reaches.{reach_deque, IsReach, row_weight};
 ghost use Rattle.task_queue.specs.Seats.{account_of};
 

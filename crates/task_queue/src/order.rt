@@ -2,7 +2,7 @@
 ghost use Rattle.std.specs.Prelude.{◌≡◌, ◌<◌, Contains, map, IfOk, length};
 ghost use Rattle.std.specs.List.{HoldsAt};
 ghost use Rattle.task_queue.specs.Accounts.{HaveAll};
-ghost use Rattle.task_queue.specs.Emptied.{IsOrdered, IsOut};
+ghost use Rattle.task_queue.specs.inner.Emptied.{IsOrdered, IsOut};
 
 use crate::opening::add;
 use crate::seat::Seat;

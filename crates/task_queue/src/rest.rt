@@ -3,7 +3,7 @@ ghost use Rattle.std.specs.Prelude.{◌≡◌, ℕ, ◌++◌, ◌∷◌, [], ◌
 ghost use Rattle.std.specs.List.{flat_map};
 ghost use Rattle.crossbeam_deque.specs.Handles.{worker_view, worker_deque, worker_flavor, view, IsPassOf};
 ghost use Rattle.task_queue.specs.Fair.{hand, weigh};
-ghost use Rattle.task_queue.specs.Passes.{parts_of, put_of, taken_of};
+ghost use Rattle.task_queue.specs.inner.Passes.{parts_of, put_of, taken_of};
 
 use crate::deque;
 use crate::deque::Deque;

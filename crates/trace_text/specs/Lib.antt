@@ -3,4 +3,4 @@ pub mod Json
 pub mod Laws
 pub mod Noted
 pub mod Text
-pub mod Writing
+pub mod inner

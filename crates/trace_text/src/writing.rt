@@ -2,7 +2,7 @@
 ghost use Rattle.std.specs.Prelude.{◌≡◌, ◌++◌, ◌∷◌, [], map, string_bytes, nat_lt, IfOk, IfErr, decimal};
 ghost use Rattle.trace_model.specs.declared.event.TracedEvent.TheVariants.{Refuse};
 ghost use Rattle.serde_json.specs.Written.{compact_text, comma_if};
-ghost use Rattle.trace_text.specs.Writing.{Appends};
+ghost use Rattle.trace_text.specs.inner.Writing.{Appends};
 ghost use Rattle.trace_text.specs.Text.{list, rest_text, mode_data, op_data, ops_data, bound_items, terms_items, seen_data, step_items, finish_items, pair_data, pairs_data, begun_items, tried_items, event_items, entry_data, limits_data, trace_text};
 ghost use Rattle.trace_text.specs.declared.version.Version.TheVariants.{Second};
 

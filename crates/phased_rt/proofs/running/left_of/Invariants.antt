@@ -1,5 +1,5 @@
 use Rattle.std.proofs.Common.{◌≡◌, length, vec_len}
-use Rattle.phased_rt.specs.Back.{AreSeatsIn}
+use Rattle.phased_rt.specs.inner.Back.{AreSeatsIn}
 use Rattle.phased_rt.proofs.running.left_of.Given as goal
 
 abbrev pub invariant-loop-worker : goal.invariant-loop-worker

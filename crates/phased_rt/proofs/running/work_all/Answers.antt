@@ -1,6 +1,6 @@
 use Rattle.std.proofs.Common.{map, arith}
 use Rattle.std.proofs.lemmas.Result.{IfOk-weaker}
-use Rattle.phased_rt.specs.Back.{AreBack, AreSeatsIn}
+use Rattle.phased_rt.specs.inner.Back.{AreBack, AreSeatsIn}
 use Rattle.phased_rt.proofs.Seats.{back_from}
 use Rattle.phased_rt.proofs.running.work_all.Goals as goal
 

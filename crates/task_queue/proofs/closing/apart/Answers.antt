@@ -7,7 +7,7 @@ use Rattle.task_queue.specs.Account.{Account}
 use Rattle.task_queue.specs.declared.reach.Reach.{Reach}
 use Rattle.task_queue.specs.Fair.{weigh, each_from}
 use Rattle.task_queue.specs.Reaches.{reach_deque, IsReach, row_weight}
-use Rattle.task_queue.specs.Emptied.{IsWholeBut, own_put, own_taken}
+use Rattle.task_queue.specs.inner.Emptied.{IsWholeBut, own_put, own_taken}
 use Rattle.task_queue.proofs.Fairs.{weigh-append}
 use Rattle.task_queue.proofs.Emptying.{joined, one_less, same_length}
 use Rattle.task_queue.proofs.closing.apart.Goals as goal

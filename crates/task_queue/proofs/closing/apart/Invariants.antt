@@ -2,7 +2,7 @@ use Rattle.std.proofs.Common.{◌≡◌, ℕ, ◌+◌, ◌++◌, All, map, lengt
 use Rattle.crossbeam_deque.specs.Handles.{worker_deque}
 use Rattle.task_queue.specs.Fair.{weigh, each_from}
 use Rattle.task_queue.specs.Reaches.{row_weight}
-use Rattle.task_queue.specs.Emptied.{IsWholeBut, AreRows, own_put, own_taken}
+use Rattle.task_queue.specs.inner.Emptied.{IsWholeBut, AreRows, own_put, own_taken}
 use Rattle.task_queue.proofs.closing.apart.Given as goal
 
 abbrev pub invariant-loop-seat : goal.invariant-loop-seat

@@ -5,7 +5,7 @@ use Rattle.crossbeam_deque.specs.Handles.{Pass, worker_deque, IsPassOf}
 use Rattle.task_queue.specs.declared.rule.Hand.{Hand}
 use Rattle.task_queue.specs.declared.reach.Reach.{Reach}
 use Rattle.task_queue.specs.Fair.{weigh}
-use Rattle.task_queue.specs.Passes.{parts_of, put_of, taken_weight}
+use Rattle.task_queue.specs.inner.Passes.{parts_of, put_of, taken_weight}
 use Rattle.task_queue.specs.Reaches.{reach_deque, IsReach, row_weight}
 use Rattle.task_queue.proofs.Fairs.{all_more, weigh-append}
 use Rattle.task_queue.proofs.closing.column.Goals as goal

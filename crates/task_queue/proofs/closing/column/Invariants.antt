@@ -1,8 +1,8 @@
 use Rattle.std.proofs.Common.{◌≡◌, [], ℕ, ◌+◌, All, map, length}
 use Rattle.crossbeam_deque.specs.Handles.{worker_deque, IsPassOf}
-use Rattle.task_queue.specs.Emptied.{AreRows}
+use Rattle.task_queue.specs.inner.Emptied.{AreRows}
 use Rattle.task_queue.specs.Fair.{weigh}
-use Rattle.task_queue.specs.Passes.{parts_of, put_of, taken_weight}
+use Rattle.task_queue.specs.inner.Passes.{parts_of, put_of, taken_weight}
 use Rattle.task_queue.specs.Reaches.{row_weight}
 use Rattle.task_queue.proofs.closing.column.Given as goal
 

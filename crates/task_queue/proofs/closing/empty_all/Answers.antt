@@ -2,7 +2,7 @@ use Rattle.std.proofs.Common.{◌≡◌, ◌∷◌, [], Some, map, length, ap, �
 use Rattle.std.proofs.lemmas.List.{map-append, nil_from_length}
 use Rattle.std.proofs.lemmas.List.Elements.{All-pop}
 use Rattle.crossbeam_deque.specs.Handles.{worker_deque}
-use Rattle.task_queue.specs.Emptied.{IsWholeBut, AreRows}
+use Rattle.task_queue.specs.inner.Emptied.{IsWholeBut, AreRows}
 use Rattle.task_queue.proofs.Emptying.{part_grows, part_ends}
 use Rattle.task_queue.proofs.closing.empty_all.Goals as goal
 

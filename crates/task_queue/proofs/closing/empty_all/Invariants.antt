@@ -1,6 +1,6 @@
 use Rattle.std.proofs.Common.{◌≡◌, All, map, length}
 use Rattle.crossbeam_deque.specs.Handles.{worker_deque}
-use Rattle.task_queue.specs.Emptied.{IsWholeBut, AreRows}
+use Rattle.task_queue.specs.inner.Emptied.{IsWholeBut, AreRows}
 use Rattle.task_queue.proofs.Emptying.{IsPartOf}
 use Rattle.task_queue.proofs.closing.empty_all.Given as goal
 

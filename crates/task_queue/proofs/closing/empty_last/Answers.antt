@@ -2,7 +2,7 @@ use Rattle.std.proofs.Common.{length, ap, ◌∙◌, arith}
 use Rattle.crossbeam_deque.specs.Handles.{worker_view}
 use Rattle.std.specs.List.{flat_map}
 use Rattle.task_queue.specs.Fair.{weigh}
-use Rattle.task_queue.specs.Passes.{parts_of, put_of, taken_of}
+use Rattle.task_queue.specs.inner.Passes.{parts_of, put_of, taken_of}
 use Rattle.task_queue.proofs.Fairs.{weigh-append}
 use Rattle.task_queue.proofs.Emptying.{all_one, all_weigh, flat_weighs}
 use Rattle.task_queue.proofs.closing.empty_last.Goals as goal

@@ -1,6 +1,6 @@
 use Rattle.std.proofs.lemmas.Result.{IfOk-weaker}
 use Rattle.task_queue.specs.Accounts.{IsConserved}
-use Rattle.task_queue.specs.Emptied.{IsRestOf}
+use Rattle.task_queue.specs.inner.Emptied.{IsRestOf}
 use Rattle.task_queue.proofs.Emptying.{left_from}
 use Rattle.task_queue.proofs.Ordering.{together_in_order}
 use Rattle.task_queue.proofs.closing.rest_of.Goals as goal

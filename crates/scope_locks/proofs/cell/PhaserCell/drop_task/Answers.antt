@@ -3,7 +3,7 @@ use Rattle.std.specs.Result.{is_ok}
 use Rattle.std.proofs.lemmas.Bool.{false≢true}
 use Rattle.phase_model.specs.declared.call.Call.TheVariants.{Drop as drop_task}
 use Rattle.phase_model.specs.Waiting.{would_wait}
-use Rattle.scope_locks.specs.Parking.{is_phase_open}
+use Rattle.scope_locks.specs.inner.Firsts.{is_phase_open}
 use Rattle.scope_locks.proofs.Freeing.{neither_leaves, drop_frees_nobody}
 use Rattle.scope_locks.proofs.Parks.{all_waiting, once_waiting}
 use Rattle.scope_locks.proofs.Written.{matches_result, kept, ticketed, ticket_fits, none_where_refused}

@@ -5,7 +5,8 @@ use Rattle.phase_model.specs.declared.history.Event.TheVariants.{Pass}
 use Rattle.phaser_core.specs.declared.state.Passing.{Passing}
 use Rattle.scope_locks.specs.declared.parking.Parked.{Parked}
 use Rattle.scope_locks.specs.declared.parking.ParkedCall.TheVariants.{Pass as ToPass}
-use Rattle.scope_locks.specs.Parking.{is_parked, is_first_held, locked_pass, parking, has_gone_on, has_to_wait, answered, answered_is}
+use Rattle.scope_locks.specs.Parking.{is_parked, locked_pass, parking, has_to_wait, answered, answered_is}
+use Rattle.scope_locks.specs.inner.Firsts.{is_first_held, has_gone_on}
 use Rattle.scope_locks.proofs.Freeing.{pass_frees_no_signaller}
 use Rattle.scope_locks.proofs.Parks.{all_waiting, once_waiting}
 use Rattle.scope_locks.proofs.Passing.{pass_waits, kept_where_same, place_where_same, parking_same, pass_same, parking_waits, parking_once}

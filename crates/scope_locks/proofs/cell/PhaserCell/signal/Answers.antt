@@ -6,7 +6,8 @@ use Rattle.phase_model.specs.declared.history.Event.TheVariants.{Sig}
 use Rattle.phaser_core.specs.declared.state.Signalling.{Signalling}
 use Rattle.scope_locks.specs.declared.parking.Parked.{Parked}
 use Rattle.scope_locks.specs.declared.parking.ParkedCall.TheVariants.{Signal as ToSignal}
-use Rattle.scope_locks.specs.Parking.{is_parked, is_phase_open, locked_signal, parking, is_made, is_held, signal_answered, signal_answered_is}
+use Rattle.scope_locks.specs.Parking.{is_parked, locked_signal, parking, is_held, signal_answered, signal_answered_is}
+use Rattle.scope_locks.specs.inner.Firsts.{is_phase_open, is_made}
 use Rattle.scope_locks.proofs.Freeing.{neither_leaves, signal_frees_nobody}
 use Rattle.scope_locks.proofs.Parks.{all_waiting, once_waiting}
 use Rattle.scope_locks.proofs.Passing.{signal_waits, kept_where_same, place_where_same, parking_same, signal_same, parking_waits, parking_once}

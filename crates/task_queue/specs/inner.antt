@@ -1,0 +1,3 @@
+-- What the code's own functions say: no public contract cites it.
+pub mod Passes
+pub mod Emptied
