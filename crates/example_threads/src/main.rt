@@ -21,7 +21,7 @@ fn arrive<H: Hand<u32>>(hand: &mut H, task: u32, number: i32) -> Result<(), Refu
 }
 
 /// The task ends its turn, and arrives again with the sum that it sees, or leaves. With whom the
-/// worker goes on: where this task is parked or has left, with one whom a call let go on.
+/// worker goes on: where this task is parked or has left, with one whom a call woke.
 fn turn<H: Hand<u32>>(hand: &mut H, task: u32) -> Result<Option<u32>, Refusal> {
     let phase = match hand.pass(0, task, task) {
         PassAnswer::Passed(_, phase) => phase,

@@ -21,7 +21,7 @@ pub fn is_drained(out: &mut Out<u32>) -> bool
     false
 }
 
-/// The task signals, and those whom it lets go on are taken out. In a full history the call is
+/// The task signals, and those whom it wakes are taken out. In a full history the call is
 /// refused.
 fn signal<K: Ledgers, R: Wait>(
     rt: &R,
@@ -39,7 +39,7 @@ fn signal<K: Ledgers, R: Wait>(
     }
 }
 
-/// The task asks to pass. On a phaser without a bound that lets nobody go on.
+/// The task asks to pass. On a phaser without a bound that wakes nobody.
 fn pass<K: Ledgers, R: Wait>(
     rt: &R,
     table: &PhaserTable<u32, K>,

@@ -10,12 +10,12 @@ pub enum Kind {
     /// All tasks signal, and then all pass.
     Turn,
     /// One task signals and passes, ahead of another that never signals. All others wait, parked,
-    /// and no signal lets one of them go on.
+    /// and no signal wakes one of them.
     Ahead,
     /// One task signals and passes, and then all others pass.
     Follow,
-    /// As in `Follow`, but all others ask first, so that they are parked, and the signal lets all
-    /// of them go on.
+    /// As in `Follow`, but all others ask first, so that they are parked, and the signal wakes
+    /// all of them.
     Free,
 }
 

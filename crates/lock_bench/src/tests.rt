@@ -1,4 +1,4 @@
-//! Phasers shared through a table: the worked examples by one thread, a waiter that is let go on,
+//! Phasers shared through a table: the worked examples by one thread, a waiter that is woken,
 //! and threads that call at the same time; below, the tests of the books.
 ghost use Rattle.std.specs.Prelude.{◌≡◌, [], ◌<◌, ◌≤◌, true};
 ghost use Rattle.phase_modes.specs.Limits.{limits_fit};
@@ -130,7 +130,7 @@ fn first_ops(count: usize) -> Ops {
 }
 
 /// What the call on phaser 0 is answered; `Memory` where there is none for the list of those whom
-/// it lets go on. They are dropped.
+/// it wakes. They are dropped.
 fn answer_alone<K: Ledgers, R: Wait>(
     rt: &R,
     alloc: Global,

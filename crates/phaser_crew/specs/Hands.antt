@@ -2,7 +2,7 @@
 use Rattle.std.specs.Prelude.{ℕ, ◌≡◌, List, ◌++◌}
 use Rattle.phase_model.specs.Amounts.{Amount}
 
--- its number, how many phasers there are, the items of those whom its calls have let go on, and what its calls
+-- its number, how many phasers there are, the items of those whom its calls have woken, and what its calls
 -- add up to
 pub record InHand (T : Type 0) : Type 0 where
   pub worker : ℕ

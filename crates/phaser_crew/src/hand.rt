@@ -1,4 +1,4 @@
-//! A worker's hand, as a crew sees it: its calls on all phasers, and whom they let go on.
+//! A worker's hand, as a crew sees it: its calls on all phasers, and whom they wake.
 ghost use Rattle.std.specs.Prelude.{◌≡◌, ◌∷◌, [], false, OnErr, MatchOption, is_ok};
 ghost use Rattle.phase_model.specs.Amounts.{plus};
 ghost use Rattle.scope_locks.specs.Amounts.{amount_if};
@@ -12,7 +12,7 @@ use std::sync::Wait;
 
 /// What one worker has of all phasers. A `T` stands for a task that is parked: whatever the worker
 /// who goes on with it wants to have. Contracts see the worker's number, how many phasers there
-/// are, the items of those whom the worker's calls have let go on, and what its calls add up to.
+/// are, the items of those whom the worker's calls have woken, and what its calls add up to.
 ///
 /// Each call is that of a `scope_locks::PhaserTable`, and is answered so. Besides, `PhasersFull` is
 /// answered where no phaser has the number, and `Memory` where there is none for the list of those
@@ -33,7 +33,7 @@ pub trait Hand<T> {
     fn phasers(&self) -> usize
         ensures { result ≡ (shown self.now).phasers };
 
-    /// Takes the item of whom this worker's calls let go on first. Nobody else has it: whoever
+    /// Takes the item of whom this worker's calls woke first. Nobody else has it: whoever
     /// takes it goes on with the task.
     fn next(&mut self) -> Option<T>
         ensures first { MatchOption result
@@ -82,7 +82,7 @@ pub trait Hand<T> {
         ensures nobody { has_signalled result ≡ false → (shown self.new).freed ≡ (shown self.old).freed };
 
     /// The task asks to end its turn. The item comes back, or is parked until a call of some worker
-    /// lets the task go on: then it is in that worker's hand.
+    /// wakes the task: then it is in that worker's hand.
     fn pass(&mut self, phaser: u32, task: u32, item: T) -> PassAnswer<T>
         ensures posted { (shown self.new).posted
             ≡ plus (amount_if (goes_on result) (Event.Pass task)) (shown self.old).posted }

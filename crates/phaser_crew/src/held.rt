@@ -1,5 +1,5 @@
 //! The hand of a worker of a run: its way to the table, its shares of the books, and whom its calls
-//! let go on.
+//! wake.
 ghost use Rattle.std.specs.Prelude.{◌≡◌, ◌++◌, [], ◌<◌, IfOk, IfErr, OnOk};
 
 use crate::hand::Hand;
@@ -19,9 +19,9 @@ pub(crate) struct Held<'a, T, K: Ledgers, R> {
     table: &'a PhaserTable<T, K>,
     tickets: &'a Tickets,
     shares: Shares<K>,
-    /// Those whom the calls before the last one let go on.
+    /// Those whom the calls before the last one woke.
     ready: VecDeque<T>,
-    /// Those whom the last call let go on.
+    /// Those whom the last call woke.
     out: Out<T>,
 }
 

@@ -85,7 +85,7 @@ fn parks_its_owner<R: Abort + Wait>(rt: &R, table: &FinishTable<u32, u32>, ticke
     assert_eq!(rt; shut(rt, table, tickets, 1, 101), AGAIN);
 }
 
-/// The log that a task's end gives back, where it is refused, and the owner that it lets go on.
+/// The log that a task's end gives back, where it is refused, and the owner that it wakes.
 type Back = (Option<u32>, Option<u32>);
 
 /// The task ends in finish 1, and leaves this log.
@@ -147,7 +147,7 @@ fn leaves_logs(rt: &impl Abort, table: FinishTable<u32, u32>, logs: &[u32]) {
     tell_five(rt, &parts.parts);
 }
 
-/// Task 3 isn't of the finish; the last of its two tasks lets the owner go on.
+/// Task 3 isn't of the finish; the last of its two tasks wakes the owner.
 #[test]
 fn parked_owner(rt: HostRuntime) -> Result<(), Fail> {
     const ENDS: [(u32, u32, Back); 3] = [

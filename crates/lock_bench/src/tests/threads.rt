@@ -219,7 +219,7 @@ const CROWD: Limits = Limits {
 };
 
 /// On one phaser the task signals, asks to pass, sends this value and looks. Refused where somebody
-/// whom it let go on before is still in the list.
+/// whom it woke before is still in the list.
 fn call_one<K: Ledgers, R: Wait>(
     rt: &R,
     table: &PhaserTable<u32, K>,
@@ -294,7 +294,7 @@ fn call_in_turns<K: Ledgers, R: Wait>(
     check_registrations(rt, table, mine)
 }
 
-/// All turns, with a list of its own for those whom the task lets go on.
+/// All turns, with a list of its own for those whom the task wakes.
 fn call_all<K: Ledgers, R: Wait>(
     rt: &R,
     alloc: Global,

@@ -1,4 +1,4 @@
-//! A waiter that is let go on by the other's signal, and a signaller that is by the other's pass, on
+//! A waiter that is woken by the other's signal, and a signaller that is by the other's pass, on
 //! one cell.
 ghost use Rattle.std.specs.Prelude.{◌≡◌, All};
 ghost use Rattle.share_book.specs.Accounts.{nothing};
@@ -40,7 +40,7 @@ fn signalling_of(answer: SignalAnswer<u32>) -> Signalling {
     }
 }
 
-/// The task asks to pass, with this item. Returns the item that this lets go on too.
+/// The task asks to pass, with this item. Returns the item of whom this wakes too.
 fn pass<K: Ledgers>(
     alloc: Global,
     cell: &mut PhaserCell<u32, K>,
@@ -55,7 +55,7 @@ fn pass<K: Ledgers>(
     Ok((answer, out.take()))
 }
 
-/// The task signals, with this item. Returns the item that this lets go on too.
+/// The task signals, with this item. Returns the item of whom this wakes too.
 fn signal<K: Ledgers>(
     alloc: Global,
     cell: &mut PhaserCell<u32, K>,
@@ -70,7 +70,7 @@ fn signal<K: Ledgers>(
     Ok((answer, out.take()))
 }
 
-/// The task is dropped. Returns the item that this lets go on.
+/// The task is dropped. Returns the item of whom this wakes.
 fn drop_task<K: Ledgers>(
     alloc: Global,
     cell: &mut PhaserCell<u32, K>,
@@ -123,7 +123,7 @@ fn park_twice<K: Ledgers>(
     assert_eq!(rt; pass(alloc, cell, tickets, books, mine, 0, 102), Ok(AGAIN));
 }
 
-/// The other's signal lets it go on.
+/// The other's signal wakes it.
 fn let_go<K: Ledgers>(
     rt: &impl Abort,
     alloc: Global,
@@ -141,7 +141,7 @@ fn let_go<K: Ledgers>(
     assert_eq!(rt; pass(alloc, cell, tickets, books, mine, 0, 100), Ok(PASSED));
 }
 
-/// The other hasn't passed yet, so task 0 waits to signal. The other's pass lets it go on, and the
+/// The other hasn't passed yet, so task 0 waits to signal. The other's pass wakes it, and the
 /// other's drop nobody.
 fn hold_and_let_go<K: Ledgers>(
     rt: &impl Abort,

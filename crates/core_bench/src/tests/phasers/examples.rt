@@ -505,7 +505,7 @@ fn bounded_signaller(rt: HostRuntime) -> Result<(), Fail> {
     replies_within_one(&rt, rt.alloc(), ROWS.as_slice())
 }
 
-/// A signal is refused before it has to wait, and a drop of the slowest waiter lets it go on.
+/// A signal is refused before it has to wait, and a drop of the slowest waiter wakes it.
 #[test]
 fn bound_and_refusals(rt: HostRuntime) -> Result<(), Fail> {
     const ROWS: [Row; 8] = [
