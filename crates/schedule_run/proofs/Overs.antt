@@ -28,7 +28,7 @@ use Rattle.schedule_model.specs.Laws.{AllGiveUp}
 use Rattle.schedule_model.specs.Picks.{run_within}
 use Rattle.schedule_model.proofs.Failures.{runs_give_up}
 use Rattle.schedule_model.proofs.Follow.{runs-follow}
-use Rattle.schedule_run.specs.declared.running.Runner.{Runner}
+use Rattle.schedule_run.specs.declared.runner.Runner.{Runner}
 use Rattle.schedule_run.specs.inner.Records.{IsTraced}
 use Rattle.schedule_run.specs.inner.Running.{RunStands}
 use Rattle.schedule_run.proofs.Picking.{legal_of}

@@ -19,8 +19,8 @@ use Rattle.phaser_core.specs.declared.state.Passing.{Passing}
 use Rattle.phaser_core.specs.declared.state.Passing.TheVariants.{Passed, Claimed, NotYet}
 use Rattle.phaser_core.specs.Answers.{signal_result, pass_result}
 use Rattle.share_book.specs.Accounts.{Entry, nothing}
-use Rattle.scope_locks.specs.declared.parking.Parked.{Parked}
-use Rattle.scope_locks.specs.declared.parking.ParkedCall.TheVariants.{Pass as ToPass, Signal as ToSignal}
+use Rattle.scope_locks.specs.declared.parked.Parked.{Parked}
+use Rattle.scope_locks.specs.declared.parked.ParkedCall.TheVariants.{Pass as ToPass, Signal as ToSignal}
 use Rattle.scope_locks.specs.Cells.{IsKept}
 use Rattle.scope_locks.specs.Parking.{is_parked, are_parked_once, would_park, all_wait, waiting, has_to_wait, is_held, locked_pass, locked_signal, parking}
 use Rattle.scope_locks.proofs.Parks.{all_kept, all_push, once_push, one_place_more}

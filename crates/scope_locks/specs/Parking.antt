@@ -16,9 +16,9 @@ use Rattle.scope_locks.specs.declared.answer.SignalAnswer.{SignalAnswer}
 use Rattle.scope_locks.specs.declared.answer.SignalAnswer.TheVariants.{Signalled, Parked as IsHeld, Refused as NoSignal}
 use Rattle.scope_locks.specs.declared.answer.PassAnswer.{PassAnswer}
 use Rattle.scope_locks.specs.declared.answer.PassAnswer.TheVariants.{Passed, Claimed, Parked as Waits, Refused}
-use Rattle.scope_locks.specs.declared.parking.ParkedCall.{ParkedCall}
-use Rattle.scope_locks.specs.declared.parking.ParkedCall.TheVariants.{Pass as ToPass, Signal as ToSignal}
-use Rattle.scope_locks.specs.declared.parking.Parked.{Parked}
+use Rattle.scope_locks.specs.declared.parked.ParkedCall.{ParkedCall}
+use Rattle.scope_locks.specs.declared.parked.ParkedCall.TheVariants.{Pass as ToPass, Signal as ToSignal}
+use Rattle.scope_locks.specs.declared.parked.Parked.{Parked}
 
 -- the task is among the parked ones
 abbrev pub is_parked : {T : Type 0} → ℕ → List (Parked T) → Bool
