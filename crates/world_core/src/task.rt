@@ -10,12 +10,12 @@ use std::alloc::Global;
 use std::marker::Model;
 
 pub(crate) mod begins;
-mod dropping;
+mod drops;
 mod giving_up;
 mod phasers;
-mod registering;
+mod registrations;
 mod report_line;
-mod spawning;
+mod spawns;
 
 /// How many phasers a task is on at once, at most.
 pub(crate) const MOST_PHASERS: usize = 16;
