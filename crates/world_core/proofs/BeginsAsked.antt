@@ -16,8 +16,8 @@ use Rattle.phase_modes.specs.Refusal.{first_refusal}
 use Rattle.phase_model.specs.declared.history.Event.{Event}
 use Rattle.phase_model.specs.Tasks.{is_live, mode_of, has_mode}
 use Rattle.phase_model.specs.Conditions.{is_within_task}
-use Rattle.phaser_core.specs.Table.{registration}
-use Rattle.phaser_core.proofs.Reading.{mode_of_live}
+use Rattle.phaser_answers.specs.Registration.{registration}
+use Rattle.phaser_answers.proofs.Registration.{mode_of_live}
 use Rattle.world_model.specs.declared.event.Begun.{Begun}
 use Rattle.world_model.specs.declared.event.Begun.TheVariants.{Async, Signal, Wait, Next, NextSingle, Shut, End}
 use Rattle.world_model.specs.declared.event.Tried.TheVariants.{Begun as Beginning}

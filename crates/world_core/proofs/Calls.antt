@@ -7,7 +7,7 @@ use Rattle.phase_modes.specs.declared.refusal.Refusal.{Refusal}
 use Rattle.phase_model.specs.Rules.{Story, is_permitted}
 use Rattle.phase_model.specs.declared.history.Event.{Event}
 use Rattle.phase_model.specs.declared.history.Event.TheVariants.{Sig, Claim, Pass}
-use Rattle.phaser_core.specs.Answers.{signal_result, pass_result}
+use Rattle.phaser_answers.specs.Answers.{signal_result, pass_result}
 use Rattle.phase_model.specs.Replies.{Reply, refused, not_yet, done, decided, reply, after, done_result}
 use Rattle.phase_model.specs.declared.call.Call.TheVariants.{Signal as signal, Pass as pass}
 

@@ -2,8 +2,8 @@
 use Rattle.std.proofs.Common.{◌≡◌, ℕ, Bool, true, false, Option, Some, None, Result, Ok, Err, refl}
 use Rattle.phase_modes.specs.declared.refusal.Refusal.{Refusal}
 use Rattle.phase_model.specs.declared.op.Look.{Look as Seen}
-use Rattle.phaser_core.specs.declared.state.Passing.{Passing}
-use Rattle.phaser_core.specs.declared.state.Passing.TheVariants.{Passed, Claimed as Claims, NotYet as Waits}
+use Rattle.phaser_answers.specs.declared.answer.Passing.{Passing}
+use Rattle.phaser_answers.specs.declared.answer.Passing.TheVariants.{Passed, Claimed as Claims, NotYet as Waits}
 use Rattle.world_model.specs.declared.event.Begun.{Begun}
 use Rattle.world_model.specs.declared.event.Begun.TheVariants.{Async, Signal, Wait, Next, NextSingle, Shut, End}
 use Rattle.world_core.specs.WorldState.{WorldState}

@@ -11,9 +11,9 @@ use Rattle.phase_model.specs.Rules.{Story, is_permitted}
 use Rattle.phase_model.specs.Replies as phaser
 use Rattle.phase_model.specs.Replies.{decided, done}
 use Rattle.phase_model.specs.declared.call.Call.TheVariants.{Pass as pass}
-use Rattle.phaser_core.specs.declared.state.Passing.{Passing}
-use Rattle.phaser_core.specs.declared.state.Passing.TheVariants.{Passed, Claimed as Claims, NotYet as Waits}
-use Rattle.phaser_core.specs.Answers.{pass_result}
+use Rattle.phaser_answers.specs.declared.answer.Passing.{Passing}
+use Rattle.phaser_answers.specs.declared.answer.Passing.TheVariants.{Passed, Claimed as Claims, NotYet as Waits}
+use Rattle.phaser_answers.specs.Answers.{pass_result}
 use Rattle.world_model.specs.declared.event.Step.TheVariants.{Pass}
 use Rattle.world_model.specs.declared.event.WorldEvent.{WorldEvent}
 use Rattle.world_model.specs.declared.event.WorldEvent.TheVariants.{Phaser}

@@ -12,7 +12,7 @@ use Rattle.phase_model.specs.declared.op.Look.{Look}
 use Rattle.phase_model.specs.declared.terms.Terms.{Terms}
 use Rattle.phase_model.specs.Rules.{Story}
 use Rattle.phase_model.specs.Replies.{Reply, refused, not_yet, done, decided, reply, after, done_result}
-use Rattle.phaser_core.specs.Answers.{made_with, look_result}
+use Rattle.phaser_answers.specs.Answers.{made_with, look_result}
 use Rattle.world_core.specs.WorldState.{WorldState}
 use Rattle.world_core.proofs.Calls.{kept}
 

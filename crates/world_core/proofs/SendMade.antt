@@ -14,7 +14,7 @@ use Rattle.phase_model.specs.Rules.{Story, look_of}
 use Rattle.phase_model.specs.Replies as phaser
 use Rattle.phase_model.specs.Replies.{decided, done, done_result}
 use Rattle.phase_model.specs.declared.call.Call.TheVariants.{Send as send, Look as look}
-use Rattle.phaser_core.specs.Answers.{look_result}
+use Rattle.phaser_answers.specs.Answers.{look_result}
 use Rattle.world_model.specs.declared.event.Step.{Step}
 use Rattle.world_model.specs.declared.event.Step.TheVariants.{Send, Look}
 use Rattle.world_model.specs.declared.event.Tried.TheVariants.{Send as Sending, Look as Looking}

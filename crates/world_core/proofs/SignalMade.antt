@@ -37,9 +37,9 @@ use Rattle.world_model.specs.Due.{due, or_single}
 use Rattle.world_model.specs.Continuing.{same_event, same_number}
 use Rattle.world_model.specs.PartReplies.{returned, phaser_reply}
 use Rattle.world_model.specs.Replies.{reply, is_made}
-use Rattle.phaser_core.specs.declared.state.Signalling.{Signalling}
-use Rattle.phaser_core.specs.declared.state.Signalling.TheVariants.{Signalled, NotYet as Holds}
-use Rattle.phaser_core.specs.Answers.{signal_result}
+use Rattle.phaser_answers.specs.declared.answer.Signalling.{Signalling}
+use Rattle.phaser_answers.specs.declared.answer.Signalling.TheVariants.{Signalled, NotYet as Holds}
+use Rattle.phaser_answers.specs.Answers.{signal_result}
 use Rattle.world_core.specs.inner.Steps.{wants_signal, is_to_signal, signalled_on, reply_by_signal, signal_answer, signal_state, signal_outcome, state_by_signal, signal_noted, phaser_called, with_task, after_signals_on, note_signal}
 
 never : (a : Bool) → (a && false) ≡ false

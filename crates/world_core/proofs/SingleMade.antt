@@ -12,7 +12,7 @@ use Rattle.phase_model.specs.Rules.{Story, with_event}
 use Rattle.phase_model.specs.Replies as phaser
 use Rattle.phase_model.specs.Replies.{decided, done, done_result}
 use Rattle.phase_model.specs.declared.call.Call.TheVariants.{Pass as pass, SingleDone as single_done}
-use Rattle.phaser_core.specs.Answers.{pass_result}
+use Rattle.phaser_answers.specs.Answers.{pass_result}
 use Rattle.world_model.specs.declared.event.Step.TheVariants.{Claim, Did}
 use Rattle.world_model.specs.declared.event.WorldEvent.{WorldEvent}
 use Rattle.world_model.specs.declared.event.WorldEvent.TheVariants.{Phaser}

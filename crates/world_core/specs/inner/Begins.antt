@@ -10,7 +10,7 @@ use Rattle.phase_modes.specs.declared.refusal.Refusal.{Refusal}
 use Rattle.phase_modes.specs.declared.refusal.Refusal.TheVariants.{NotRegistered, NoSingle, AlreadySignalled, NotSignalled, OnePhaserOnly, MoreThanParent, OutsideScope, RegisteredTwice, TasksFull, ActsFull, FinishOpen, NoFinish, NotNow}
 use Rattle.phase_modes.specs.Refusal.{first_refusal}
 use Rattle.phase_model.specs.declared.history.Event.{Event}
-use Rattle.phaser_core.specs.Table.{registration}
+use Rattle.phaser_answers.specs.Registration.{registration}
 use Rattle.world_model.specs.declared.event.Begun.{Begun}
 use Rattle.world_model.specs.declared.event.Begun.TheVariants.{Async, Signal, Wait, Next, NextSingle, Shut, End}
 use Rattle.world_model.specs.declared.event.Tried.TheVariants.{Begun as Beginning}

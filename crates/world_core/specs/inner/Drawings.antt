@@ -5,7 +5,7 @@ use Rattle.phase_modes.specs.declared.reg.Mode.{Mode}
 use Rattle.phase_modes.specs.declared.reg.Mode.TheVariants.{Wait}
 use Rattle.phase_modes.specs.declared.phased.Pair.{Pair}
 use Rattle.phase_model.specs.declared.history.Event.{Event}
-use Rattle.phaser_core.specs.Table.{registration}
+use Rattle.phaser_answers.specs.Registration.{registration}
 use Rattle.world_core.specs.WorldState.{WorldState}
 use Rattle.world_core.specs.Kept.{task_at, past_in}
 

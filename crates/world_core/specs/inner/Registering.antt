@@ -9,7 +9,7 @@ use Rattle.phase_model.specs.declared.terms.Terms.{Terms}
 use Rattle.phase_model.specs.Replies as phaser
 use Rattle.phase_model.specs.Replies.{done_result}
 use Rattle.phase_model.specs.declared.call.Call.TheVariants.{Make as make}
-use Rattle.phaser_core.specs.Answers.{made_with}
+use Rattle.phaser_answers.specs.Answers.{made_with}
 use Rattle.world_model.specs.declared.reply.Reply.{Reply}
 use Rattle.world_core.specs.TaskState.{TaskState}
 use Rattle.world_core.specs.WorldState.{WorldState}

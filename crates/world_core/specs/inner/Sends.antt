@@ -6,7 +6,7 @@ use Rattle.phase_model.specs.declared.op.Look.{Look}
 use Rattle.phase_model.specs.Replies as phaser
 use Rattle.phase_model.specs.Replies.{done_result}
 use Rattle.phase_model.specs.declared.call.Call.TheVariants.{Send as send, Look as look}
-use Rattle.phaser_core.specs.Answers.{look_result}
+use Rattle.phaser_answers.specs.Answers.{look_result}
 use Rattle.world_model.specs.declared.reply.Reply.{Reply}
 use Rattle.world_model.specs.declared.reply.Reply.TheVariants.{Value}
 use Rattle.world_core.specs.WorldState.{WorldState}

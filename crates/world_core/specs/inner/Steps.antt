@@ -9,12 +9,12 @@ use Rattle.phase_modes.specs.Refusal.{first_refusal}
 use Rattle.phase_model.specs.declared.history.Event.{Event}
 use Rattle.phase_model.specs.declared.history.Event.TheVariants.{Claim as Claimed, Did as Reported}
 use Rattle.phase_model.specs.Rules.{Story, is_permitted}
-use Rattle.phaser_core.specs.declared.state.Passing.{Passing}
-use Rattle.phaser_core.specs.declared.state.Passing.TheVariants.{Passed, Claimed as Claims, NotYet as Waits}
-use Rattle.phaser_core.specs.declared.state.Signalling.{Signalling}
-use Rattle.phaser_core.specs.declared.state.Signalling.TheVariants.{Signalled, NotYet as Holds}
-use Rattle.phaser_core.specs.Answers.{signal_result, pass_result}
-use Rattle.phaser_core.specs.Table.{registration}
+use Rattle.phaser_answers.specs.declared.answer.Passing.{Passing}
+use Rattle.phaser_answers.specs.declared.answer.Passing.TheVariants.{Passed, Claimed as Claims, NotYet as Waits}
+use Rattle.phaser_answers.specs.declared.answer.Signalling.{Signalling}
+use Rattle.phaser_answers.specs.declared.answer.Signalling.TheVariants.{Signalled, NotYet as Holds}
+use Rattle.phaser_answers.specs.Answers.{signal_result, pass_result}
+use Rattle.phaser_answers.specs.Registration.{registration}
 use Rattle.phase_model.specs.Replies as phaser
 use Rattle.phase_model.specs.declared.call.Call.{Call}
 use Rattle.phase_model.specs.Replies.{after, done_result}

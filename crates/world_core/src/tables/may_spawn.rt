@@ -2,7 +2,7 @@
 ghost use Rattle.std.specs.Prelude.{◌≡◌, ◌<◌, get_or, length, take, [], true, IfOk};
 ghost use Rattle.std.specs.List.{list_any};
 ghost use Rattle.phase_modes.specs.Refusal.{first_refusal};
-ghost use Rattle.phaser_core.specs.Table.{registration};
+ghost use Rattle.phaser_answers.specs.Registration.{registration};
 ghost use Rattle.world_core.specs.Kept.{task_at, past_in, inner_at};
 ghost use Rattle.world_core.specs.inner.Steps.{free_unless};
 ghost use Rattle.world_core.specs.inner.Begins.{begin_refusal, hand_conditions, pair_conditions, is_on};

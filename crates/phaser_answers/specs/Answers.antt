@@ -10,11 +10,11 @@ use Rattle.phase_model.specs.Singles.{number_of}
 use Rattle.phase_model.specs.declared.terms.Terms.{Terms}
 use Rattle.phase_model.specs.Rules.{Story}
 use Rattle.phase_model.specs.Replies.{Reply, refused, not_yet, done}
-use Rattle.phaser_core.specs.declared.state.Signalling.{Signalling}
-use Rattle.phaser_core.specs.declared.state.Signalling.TheVariants.{Signalled}
-use Rattle.phaser_core.specs.declared.state.Signalling.TheVariants as signallings
-use Rattle.phaser_core.specs.declared.state.Passing.{Passing}
-use Rattle.phaser_core.specs.declared.state.Passing.TheVariants.{Passed, Claimed, NotYet}
+use Rattle.phaser_answers.specs.declared.answer.Signalling.{Signalling}
+use Rattle.phaser_answers.specs.declared.answer.Signalling.TheVariants.{Signalled}
+use Rattle.phaser_answers.specs.declared.answer.Signalling.TheVariants as signallings
+use Rattle.phaser_answers.specs.declared.answer.Passing.{Passing}
+use Rattle.phaser_answers.specs.declared.answer.Passing.TheVariants.{Passed, Claimed, NotYet}
 
 -- what a `signal` returns
 abbrev pub signal_result : Reply → Result Signalling Refusal
