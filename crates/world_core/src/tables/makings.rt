@@ -4,10 +4,10 @@ ghost use Rattle.phase_modes.specs.Lists.{is_empty};
 ghost use Rattle.phase_modes.specs.Refusal.{first_refusal};
 ghost use Rattle.phase_model.specs.Replies.{reply, done_result};
 ghost use Rattle.phase_model.specs.declared.call.Call.TheVariants.{Make as make};
-ghost use Rattle.world_core.specs.Kept.{story_at, task_at};
-ghost use Rattle.world_core.specs.inner.Steps.{free_unless};
-ghost use Rattle.world_core.specs.inner.Registering.{make_conditions, make_answer, make_state, phaser_made};
-ghost use Rattle.world_core.specs.StandsFor.{IsStep};
+ghost use Rattle.world_steps.specs.Kept.{story_at, task_at};
+ghost use Rattle.world_steps.specs.inner.Steps.{free_unless};
+ghost use Rattle.world_steps.specs.inner.Registering.{make_conditions, make_answer, make_state, phaser_made};
+ghost use Rattle.world_steps.specs.StandsFor.{IsStep};
 
 use super::*;
 use phase_model::Terms;
@@ -15,7 +15,7 @@ use phase_modes::Mode;
 use world_model::{Reply, Step, WorldEvent};
 
 impl Tables {
-    #[tactic(auto, using(crate::proofs::PhasersKept::some_at_all))]
+    #[tactic(auto, using(world_steps::proofs::PhasersKept::some_at_all))]
     /// Whether the number is a phaser's.
     fn is_phaser(&self, phaser: u32) -> bool
         ensures { result ≡ not (is_empty (story_at self.now phaser).past) }

@@ -2,9 +2,9 @@
 ghost use Rattle.std.specs.Prelude.{◌≡◌, ◌<◌, not, length, IfOk};
 ghost use Rattle.phase_modes.specs.Lists.{is_empty};
 ghost use Rattle.phase_modes.specs.Refusal.{first_refusal};
-ghost use Rattle.world_core.specs.Kept.{finish_at};
-ghost use Rattle.world_core.specs.inner.Steps.{free_unless, open_conditions, open_answer, open_state};
-ghost use Rattle.world_core.specs.StandsFor.{IsStep};
+ghost use Rattle.world_steps.specs.Kept.{finish_at};
+ghost use Rattle.world_steps.specs.inner.Steps.{free_unless, open_conditions, open_answer, open_state};
+ghost use Rattle.world_steps.specs.StandsFor.{IsStep};
 
 use super::Tables;
 use finish_core::FinishEvent;
@@ -12,7 +12,7 @@ use phase_modes::Refusal;
 use world_model::{Reply, WorldEvent};
 
 impl Tables {
-    #[tactic(auto, using(crate::proofs::Calls::none_at_all))]
+    #[tactic(auto, using(world_steps::proofs::Calls::none_at_all))]
     /// Whether the number is a finish's.
     fn is_finish(&self, finish: u32) -> bool
         ensures { result ≡ not (is_empty (finish_at self.now finish).past) }

@@ -2,10 +2,10 @@
 ghost use Rattle.std.specs.Prelude.{◌≡◌, ◌<◌, length, IfOk, IfErr, true};
 ghost use Rattle.phase_model.specs.Replies.{reply, done_result};
 ghost use Rattle.phase_model.specs.declared.call.Call.TheVariants.{Register as register};
-ghost use Rattle.world_core.specs.Kept.{story_at, task_at};
-ghost use Rattle.world_core.specs.inner.Steps.{phaser_called};
-ghost use Rattle.world_core.specs.inner.RegisterSteps.{has_place, is_to_register, register_answer, register_state};
-ghost use Rattle.world_core.specs.StandsFor.{IsStep};
+ghost use Rattle.world_steps.specs.Kept.{story_at, task_at};
+ghost use Rattle.world_steps.specs.inner.Steps.{phaser_called};
+ghost use Rattle.world_steps.specs.inner.RegisterSteps.{has_place, is_to_register, register_answer, register_state};
+ghost use Rattle.world_steps.specs.StandsFor.{IsStep};
 
 use super::*;
 use phase_modes::Mode;

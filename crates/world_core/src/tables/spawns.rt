@@ -1,9 +1,9 @@
 //! The spawn of a child.
 ghost use Rattle.std.specs.Prelude.{◌≡◌, ◌<◌, length, IfOk, IfErr, true};
 ghost use Rattle.finish_core.specs.Replies.{reply as answer};
-ghost use Rattle.world_core.specs.Kept.{finish_at, task_at};
-ghost use Rattle.world_core.specs.inner.SpawnSteps.{spawner_at, is_to_spawn, spawn_wanted, spawn_answer, spawn_state, finish_spawned};
-ghost use Rattle.world_core.specs.StandsFor.{IsStep};
+ghost use Rattle.world_steps.specs.Kept.{finish_at, task_at};
+ghost use Rattle.world_steps.specs.inner.SpawnSteps.{spawner_at, is_to_spawn, spawn_wanted, spawn_answer, spawn_state, finish_spawned};
+ghost use Rattle.world_steps.specs.StandsFor.{IsStep};
 
 use super::Tables;
 use finish_core::FinishEvent;

@@ -1,6 +1,6 @@
 //! What a task's record keeps of the drops that it still has to make.
 ghost use Rattle.std.specs.Prelude.{◌≡◌, ◌≤◌, ◌==◌, not, length, filter, vec_capacity};
-ghost use Rattle.world_core.specs.inner.DropSteps.{is_to_drop, gone_from, drop_noted};
+ghost use Rattle.world_steps.specs.inner.DropSteps.{is_to_drop, gone_from, drop_noted};
 
 use super::*;
 

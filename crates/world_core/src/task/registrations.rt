@@ -1,7 +1,7 @@
 //! What a task's record keeps of the registrations of a child that it is spawning.
 ghost use Rattle.std.specs.Prelude.{◌≡◌, ◌<◌, length};
 ghost use Rattle.world_model.specs.Continuing.{same_mode};
-ghost use Rattle.world_core.specs.inner.RegisterSteps.{is_to_register, joining, register_noted, to_next_pair};
+ghost use Rattle.world_steps.specs.inner.RegisterSteps.{is_to_register, joining, register_noted, to_next_pair};
 
 use super::*;
 use phase_modes::Mode;

@@ -1,9 +1,9 @@
 //! What a task's record keeps of a spawn under way.
 ghost use Rattle.std.specs.Prelude.{◌≡◌};
-ghost use Rattle.world_core.specs.inner.SpawnSteps.{is_to_spawn, born_in, spawn_noted};
+ghost use Rattle.world_steps.specs.inner.SpawnSteps.{is_to_spawn, born_in, spawn_noted};
 
 use super::Task;
-use crate::plan::Plan;
+use world_steps::Plan;
 
 impl Task {
     /// Whether its next event is to spawn this child in this finish.
