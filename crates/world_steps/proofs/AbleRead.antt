@@ -37,7 +37,7 @@ use Rattle.world_model.specs.GivingUp.{may_fail, is_reg}
 use Rattle.world_model.specs.Replies.{reply, is_made, is_accepted, is_legal_world}
 use Rattle.world_model.specs.Able.{is_able}
 use Rattle.world_model.proofs.AgentOfTask.{unborn_idle}
-use Rattle.world_model.proofs.AbleOrWaits.{WaitsToPass, WaitsToSignal, WaitsAtPhaser, WaitsToShut, pass_causeless, next_by}
+use Rattle.world_model.proofs.AbleOrWaits.{WaitsToPass, WaitsToSignal, WaitsToShut, pass_causeless, next_by}
 use Rattle.world_model.proofs.MadeOrGivesUp.{next_is as next_due}
 use Rattle.world_model.proofs.OutcomeOfEach.{outcome}
 use Rattle.world_steps.specs.WorldState.{WorldState}
