@@ -7,7 +7,7 @@ ghost use Rattle.phase_modes.specs.declared.refusal.Refusal.TheVariants.{Memory 
 ghost use Rattle.phase_modes.specs.Refusal.{number_of};
 ghost use Rattle.job_script.specs.Program as programs;
 ghost use Rattle.job_script.specs.Steps.{begun, next_for};
-ghost use Rattle.world_core.specs.StandsFor.{StandsFor};
+ghost use Rattle.world_steps.specs.StandsFor.{StandsFor};
 ghost use Rattle.world_model.specs.declared.event.Begun.TheVariants.{Async};
 ghost use Rattle.world_model.specs.declared.event.WorldEvent.{WorldEvent as Event};
 ghost use Rattle.world_model.specs.declared.event.WorldEvent.TheVariants.{Begin, Refuse};

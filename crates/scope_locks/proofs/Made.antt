@@ -11,7 +11,7 @@ use Rattle.phase_model.specs.Tasks.{is_live}
 use Rattle.phase_model.specs.Rules.{Story, is_legal}
 use Rattle.phase_model.specs.declared.call.Call.TheVariants.{Make as make}
 use Rattle.phase_model.specs.Replies.{Reply, refused, not_yet, done, reply, after}
-use Rattle.phaser_core.specs.Answers.{made_with}
+use Rattle.phaser_answers.specs.Answers.{made_with}
 use Rattle.share_book.specs.Accounts.{Entry}
 use Rattle.scope_locks.specs.declared.parked.Parked.{Parked}
 use Rattle.scope_locks.specs.declared.parked.ParkedCall.{ParkedCall}

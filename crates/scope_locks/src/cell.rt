@@ -7,7 +7,7 @@ ghost use Rattle.phase_model.specs.declared.call.Call.TheVariants.{Make as make,
 ghost use Rattle.phase_model.specs.Replies.{reply, after, done_result};
 ghost use Rattle.phase_model.specs.Rules.{no_terms};
 ghost use Rattle.phase_model.specs.Waiting.{would_wait};
-ghost use Rattle.phaser_core.specs.Answers.{look_result, made_with};
+ghost use Rattle.phaser_answers.specs.Answers.{look_result, made_with};
 ghost use Rattle.share_book.specs.Accounts.{nothing};
 ghost use Rattle.scope_locks.specs.Amounts.{amount_if};
 ghost use Rattle.scope_locks.specs.Cells.{IsKept};

@@ -1,8 +1,8 @@
 //! The list of those who wait at a phaser: who is put in, and who is woken.
 ghost use Rattle.std.specs.Prelude.{◌≡◌, option_map, ◌||◌, ◌&&◌, not, Ok, [], ◌<◌, ◌≤◌, true, false};
 ghost use Rattle.std.specs.VecDeque.{deque_len, deque_capacity};
-ghost use Rattle.phaser_core.specs.declared.state.Signalling.TheVariants.{NotYet as Held};
-ghost use Rattle.phaser_core.specs.declared.state.Passing.TheVariants.{NotYet};
+ghost use Rattle.phaser_answers.specs.declared.answer.Signalling.TheVariants.{NotYet as Held};
+ghost use Rattle.phaser_answers.specs.declared.answer.Passing.TheVariants.{NotYet};
 ghost use Rattle.scope_locks.specs.Parking.{is_parked, would_park, all_wait, waiting, freed, locked_pass, goes_on, has_to_wait, IsBack, locked_signal, has_signalled, is_held, IsBackFromSignal, parking};
 ghost use Rattle.scope_locks.specs.inner.Firsts.{is_pass, first_to_pass, first_to_signal, is_phase_open, is_first_held, has_gone_on, is_made};
 

@@ -3,7 +3,7 @@ use Rattle.std.proofs.lemmas.Bool.{false≢true}
 use Rattle.phase_modes.specs.declared.refusal.Refusal.{Refusal}
 use Rattle.phase_model.specs.declared.call.Call.TheVariants.{Signal as signal}
 use Rattle.phase_model.specs.declared.history.Event.TheVariants.{Sig}
-use Rattle.phaser_core.specs.declared.state.Signalling.{Signalling}
+use Rattle.phaser_answers.specs.declared.answer.Signalling.{Signalling}
 use Rattle.scope_locks.specs.declared.parked.Parked.{Parked}
 use Rattle.scope_locks.specs.declared.parked.ParkedCall.TheVariants.{Signal as ToSignal}
 use Rattle.scope_locks.specs.Parking.{is_parked, locked_signal, parking, is_held, signal_answered, signal_answered_is}
