@@ -1,6 +1,6 @@
 use Rattle.phased_rt.specs.Told.{IsApart}
 use Rattle.phased_rt.proofs.Sums.{all_more}
-use Rattle.phased_rt.proofs.running.add_logs.Goals as goal
+use Rattle.phased_rt.proofs.told.add_logs.Goals as goal
 
 pub loop-log-preserved : goal.loop-log-preserved
 loop-log-preserved c =

@@ -1,6 +1,6 @@
 use Rattle.std.proofs.Common.{◌≡◌, length, vec_len}
 use Rattle.phased_rt.specs.inner.Back.{AreSeatsIn}
-use Rattle.phased_rt.proofs.running.left_of.Given as goal
+use Rattle.phased_rt.proofs.staff.left_of.Given as goal
 
 abbrev pub invariant-loop-worker : goal.invariant-loop-worker
 invariant-loop-worker g l = record {

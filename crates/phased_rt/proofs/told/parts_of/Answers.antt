@@ -1,6 +1,6 @@
 use Rattle.phased_rt.specs.Told.{IsApart}
 use Rattle.phased_rt.proofs.Sums.{all_more}
-use Rattle.phased_rt.proofs.running.parts_of.Goals as goal
+use Rattle.phased_rt.proofs.told.parts_of.Goals as goal
 
 pub returns-clause-apart : goal.returns-clause-apart
 returns-clause-apart c =

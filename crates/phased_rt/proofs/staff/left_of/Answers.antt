@@ -1,6 +1,6 @@
 use Rattle.std.proofs.Common.{◌∷◌, ◌++◌, [], refl, ap, length-append, arith}
 use Rattle.phased_rt.proofs.Seats.{one_more_in}
-use Rattle.phased_rt.proofs.running.left_of.Goals as goal
+use Rattle.phased_rt.proofs.staff.left_of.Goals as goal
 
 pub loop-worker-init : goal.loop-worker-init
 loop-worker-init g c = record {

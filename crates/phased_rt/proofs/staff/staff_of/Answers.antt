@@ -1,7 +1,7 @@
 use Rattle.std.proofs.Common.{◌≡◌, map, sym, subst}
 use Rattle.std.proofs.lemmas.Result.{IfOk-weaker}
 use Rattle.task_queue.specs.Accounts.{AreTogether}
-use Rattle.phased_rt.proofs.running.staff_of.Goals as goal
+use Rattle.phased_rt.proofs.staff.staff_of.Goals as goal
 
 pub returns-clause-together : goal.returns-clause-together
 returns-clause-together g c =

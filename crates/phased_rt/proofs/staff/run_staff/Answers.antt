@@ -1,6 +1,6 @@
 use Rattle.std.proofs.Common.{map}
 use Rattle.phased_rt.proofs.Seats.{together_back}
-use Rattle.phased_rt.proofs.running.run_staff.Goals as goal
+use Rattle.phased_rt.proofs.staff.run_staff.Goals as goal
 
 pub none_left-requires-clause-together : goal.none_left-requires-clause-together
 none_left-requires-clause-together g c =

@@ -2,7 +2,7 @@ use Rattle.std.proofs.Common.{map, arith}
 use Rattle.std.proofs.lemmas.Result.{IfOk-weaker}
 use Rattle.phased_rt.specs.inner.Back.{AreBack, AreSeatsIn}
 use Rattle.phased_rt.proofs.Seats.{back_from}
-use Rattle.phased_rt.proofs.running.work_all.Goals as goal
+use Rattle.phased_rt.proofs.staff.work_all.Goals as goal
 
 pub returns-clause-seats : goal.returns-clause-seats
 returns-clause-seats g c =

@@ -2,7 +2,7 @@ use Rattle.std.proofs.Common.{List, length, map, refl, sym, subst, ◌∙◌, ar
 use Rattle.trace_model.specs.Parts.{IsTraceOf}
 use Rattle.trace_model.specs.Run.{Entry}
 use Rattle.phased_rt.proofs.Totalled.{books_sum, told_totals}
-use Rattle.phased_rt.proofs.running.summed.Goals as goal
+use Rattle.phased_rt.proofs.told.summed.Goals as goal
 
 pub returns-clause-told : goal.returns-clause-told
 returns-clause-told g c =

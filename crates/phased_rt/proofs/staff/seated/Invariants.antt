@@ -1,5 +1,5 @@
 use Rattle.std.proofs.Common.{◌≡◌, ◌+◌, length, map, vec_len}
-use Rattle.phased_rt.proofs.running.seated.Given as goal
+use Rattle.phased_rt.proofs.staff.seated.Given as goal
 
 abbrev pub invariant-loop-seat : goal.invariant-loop-seat
 invariant-loop-seat g l = record {
