@@ -1,11 +1,7 @@
-//! The arguments, and how many calls a history has room for; below, the tests of the core's crates.
+//! The arguments, and how many calls a history has room for.
 use super::*;
 use crate::kind::Kind;
 use std::test::Fail;
-
-mod cells;
-mod histories;
-mod phasers;
 
 #[test]
 fn words_name_a_job(rt: HostRuntime) -> Result<(), Fail> {

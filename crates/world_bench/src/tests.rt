@@ -1,11 +1,6 @@
-//! The arguments, how many steps a history has room for; worlds driven from outside, and beside a slow one.
+//! The arguments, and how many steps a history has room for.
 use super::*;
 use std::process::Abort;
-
-mod definitions;
-mod side_by_side;
-mod sums;
-mod worlds;
 
 #[test]
 fn words_name_a_job(rt: HostRuntime) {
