@@ -32,7 +32,9 @@ mod diary;
 mod driver;
 mod report;
 mod running;
+mod staff;
 mod task;
+mod told;
 mod worker;
 
 pub use body::{Body, Gate, OpenGate};

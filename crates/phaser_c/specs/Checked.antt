@@ -13,8 +13,8 @@ use Rattle.events_job.specs.Ends.{IsOfAnswer}
 use Rattle.phaser_c.specs.Answers.{number_of_answer}
 use Rattle.phaser_c.specs.Told.{IsTold}
 use Rattle.phaser_c.specs.declared.answer.Answer.TheVariants.{Short}
-use Rattle.phaser_c.specs.declared.checking.Checked.{Checked}
-use Rattle.phaser_c.specs.declared.checking.Checked.TheVariants as checked
+use Rattle.phaser_c.specs.declared.checker.Checked.{Checked}
+use Rattle.phaser_c.specs.declared.checker.Checked.TheVariants as checked
 
 -- a list of bytes takes every write but for want of memory
 abbrev pub without_write : Failure → Failure

@@ -1,9 +1,11 @@
 //! The numbers by which C is answered. The enum `paldwosk_answer` of the header has each by name.
 ghost use Rattle.std.specs.Prelude.{◌≡◌};
+ghost use Rattle.phaser_core.specs.Outcomes.{signal_reply, pass_reply};
 ghost use Rattle.phaser_c.specs.Answers.{number_of_answer, answer_for};
 
 use phase_model::{Look, Reply};
 use phase_modes::Refusal;
+use phaser_core::{Passing, Signalling};
 
 /// What an export answers.
 #[derive(Clone, Copy, Debug, PartialEq, Eq)]
@@ -58,6 +60,29 @@ impl Answer {
             Answer::BadOperators => 70,
             Answer::BadBound => 71,
             Answer::BadTickets => 72,
+        }
+    }
+
+    /// What is answered where a signal came to this.
+    pub(crate) fn of_signal(outcome: Result<Signalling, Refusal>) -> Answer
+        ensures { result ≡ answer_for (signal_reply outcome) }
+    {
+        match outcome {
+            Ok(Signalling::Signalled) => Answer::Done,
+            Ok(Signalling::NotYet) => Answer::NotYet,
+            Err(refusal) => Answer::Refused(refusal),
+        }
+    }
+
+    /// What is answered where a pass came to this.
+    pub(crate) fn of_pass(outcome: Result<Passing, Refusal>) -> Answer
+        ensures { result ≡ answer_for (pass_reply outcome) }
+    {
+        match outcome {
+            Ok(Passing::Passed(_)) => Answer::Done,
+            Ok(Passing::Claimed(_)) => Answer::Claimed,
+            Ok(Passing::NotYet) => Answer::NotYet,
+            Err(refusal) => Answer::Refused(refusal),
         }
     }
 

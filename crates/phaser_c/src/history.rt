@@ -6,7 +6,7 @@ ghost use Rattle.phaser_c.specs.History.{history_text, IsHistory, IsHistoryTold}
 
 use crate::answer::Answer;
 use crate::handle::Handle;
-use crate::telling::tell;
+use crate::room::tell;
 use phase_model::History;
 use phase_modes::{Limits, Refusal};
 use std::alloc::Global;

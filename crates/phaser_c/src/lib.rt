@@ -4,15 +4,15 @@
 #![tactic(auto)]
 
 mod answer;
-mod calling;
-mod checking;
+mod calls;
+mod checker;
 mod given;
 mod handle;
 mod history;
 mod loose;
-mod making;
-mod reading;
-mod telling;
+mod made;
+mod questions;
+mod room;
 
 pub use given::GivenLimits;
 pub use handle::Handle;

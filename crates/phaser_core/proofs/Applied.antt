@@ -6,7 +6,7 @@ use Rattle.phase_model.specs.declared.history.Event.TheVariants.{Sig, Claim, Pas
 use Rattle.phase_model.specs.declared.op.Look.{Look}
 use Rattle.phase_model.specs.declared.call.Reply.TheVariants.{Done}
 use Rattle.phase_model.specs.Replies.{decided, done_result, returned, returned_for}
-use Rattle.phaser_core.specs.Answers.{signal_result, pass_result, look_result}
+use Rattle.phaser_answers.specs.Answers.{signal_result, pass_result, look_result}
 use Rattle.phaser_core.specs.Outcomes.{done_reply, signal_reply, pass_reply, look_reply}
 
 -- a call that never waits, and whose event has no result of its own

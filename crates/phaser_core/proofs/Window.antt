@@ -18,9 +18,11 @@ use Rattle.phase_model.proofs.LiveTasks.{has-live_tasks}
 use Rattle.single_state.specs.declared.statement.Statement.{Statement}
 use Rattle.reg_table.specs.declared.table.Entry.{Entry}
 use Rattle.phaser_core.specs.Line.{has_passed, is_waiter_past}
-use Rattle.phaser_core.specs.Table.{has, reg_of, entry_of, tasks_of, Stands}
+use Rattle.phaser_answers.specs.Registration.{reg_of}
+use Rattle.phaser_answers.proofs.Registration.{mode_of_live}
+use Rattle.phaser_core.specs.Table.{has, entry_of, tasks_of, Stands}
 use Rattle.phaser_core.specs.Window.{may_read, is_needed, IsWindow}
-use Rattle.phaser_core.proofs.Reading.{mode_of_live, list_any-map, all_at}
+use Rattle.phaser_core.proofs.Reading.{list_any-map, all_at}
 
 -- who is live after a drop was live before it
 live_before : (u t : ℕ) (h : List Event) → is_live t (Drop u ∷ h) ≡ true → is_live t h ≡ true

@@ -4,15 +4,15 @@ use Rattle.phase_modes.specs.declared.refusal.Refusal.{Refusal}
 use Rattle.phase_model.specs.declared.op.Look.{Look}
 use Rattle.phase_model.specs.declared.call.Reply.{Reply}
 use Rattle.phase_model.specs.declared.call.Reply.TheVariants.{Done, Phase, Claim, Saw, NotYet, Refused}
-use Rattle.phaser_core.specs.declared.state.Signalling.{Signalling}
-use Rattle.phaser_core.specs.declared.state.Signalling.TheVariants.{Signalled}
-use Rattle.phaser_core.specs.declared.state.Signalling.TheVariants as signallings
+use Rattle.phaser_answers.specs.declared.answer.Signalling.{Signalling}
+use Rattle.phaser_answers.specs.declared.answer.Signalling.TheVariants.{Signalled}
+use Rattle.phaser_answers.specs.declared.answer.Signalling.TheVariants as signallings
 use Rattle.phaser_core.specs.declared.turn.Unmade.{Unmade}
 use Rattle.phaser_core.specs.declared.turn.Unmade.TheVariants.{Held}
 use Rattle.phaser_core.specs.declared.turn.Unmade.TheVariants as unmades
-use Rattle.phaser_core.specs.declared.state.Passing.{Passing}
-use Rattle.phaser_core.specs.declared.state.Passing.TheVariants.{Passed, Claimed}
-use Rattle.phaser_core.specs.declared.state.Passing.TheVariants as passings
+use Rattle.phaser_answers.specs.declared.answer.Passing.{Passing}
+use Rattle.phaser_answers.specs.declared.answer.Passing.TheVariants.{Passed, Claimed}
+use Rattle.phaser_answers.specs.declared.answer.Passing.TheVariants as passings
 use Rattle.phaser_core.specs.declared.turn.Turn.{Turn}
 use Rattle.phaser_core.specs.declared.turn.Turn.TheVariants.{Passes, Claims, Waits}
 

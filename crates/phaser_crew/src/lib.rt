@@ -3,11 +3,11 @@
 #![tactic(auto)]
 
 mod crew;
+mod entry;
 mod hand;
 mod held;
-mod running;
 mod threads;
 
 pub use crew::{Crew, Gathered};
+pub use entry::with_phasers;
 pub use hand::Hand;
-pub use running::with_phasers;

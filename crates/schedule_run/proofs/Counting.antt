@@ -11,7 +11,7 @@ use Rattle.world_model.proofs.BornWhereNamed.{born_named}
 use Rattle.schedule_model.specs.Picks.{pick, round_from, rounds}
 use Rattle.schedule_model.proofs.Rounds.{rounds_move}
 use Rattle.schedule_model.proofs.Used.{task_free}
-use Rattle.schedule_run.specs.declared.running.Runner.{Runner}
+use Rattle.schedule_run.specs.declared.runner.Runner.{Runner}
 use Rattle.schedule_run.specs.inner.Running.{RunStands}
 use Rattle.schedule_run.proofs.Noted.{long_as}
 use Rattle.schedule_run.proofs.Picking.{legal_of, picked_none}

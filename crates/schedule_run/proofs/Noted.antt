@@ -40,8 +40,8 @@ use Rattle.schedule_run.specs.declared.notes.Note.{Note}
 use Rattle.schedule_run.specs.declared.notes.Notes.{Notes}
 use Rattle.schedule_run.specs.declared.notes.Place.{Place}
 use Rattle.schedule_run.specs.declared.notes.Place.TheVariants.{Phaser, Finish}
-use Rattle.schedule_run.specs.declared.recording.Outcome.TheVariants as outcome
-use Rattle.schedule_run.specs.declared.recording.Record.{Record}
+use Rattle.schedule_run.specs.declared.record.Outcome.TheVariants as outcome
+use Rattle.schedule_run.specs.declared.record.Record.{Record}
 use Rattle.schedule_run.specs.inner.Notes.{is_at, is_quiet, last_in, note_in, NoteStands, NotesStand, Waits, WaitsSomewhere}
 use Rattle.schedule_run.specs.inner.Records.{outcome_of, Records}
 use Rattle.schedule_run.specs.inner.Running.{Kept}

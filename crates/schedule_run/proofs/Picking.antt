@@ -35,8 +35,8 @@ use Rattle.schedule_model.proofs.GoesOn.{asked_idle, asked_busy, next_replied}
 use Rattle.schedule_model.proofs.Rounds.{gapless_pick}
 use Rattle.schedule_run.specs.Given.{tried_of}
 use Rattle.schedule_run.specs.declared.bodies.Bodies.{Bodies}
-use Rattle.schedule_run.specs.declared.recording.Outcome.TheVariants.{Made, Waits, Refused}
-use Rattle.schedule_run.specs.declared.running.Runner.{Runner}
+use Rattle.schedule_run.specs.declared.record.Outcome.TheVariants.{Made, Waits, Refused}
+use Rattle.schedule_run.specs.declared.runner.Runner.{Runner}
 use Rattle.schedule_run.specs.inner.Bodies.{BodiesStand, IsAsked, seat_at}
 use Rattle.schedule_run.specs.inner.Records.{outcome_of}
 use Rattle.schedule_run.specs.inner.Running.{Kept, RunStands}

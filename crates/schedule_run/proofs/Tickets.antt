@@ -5,7 +5,7 @@ use Rattle.std.proofs.lemmas.List.{map-append, reverse-append, reverse-reverse, 
 use Rattle.job_script.specs.Program.{Program}
 use Rattle.world_model.specs.declared.event.WorldEvent.{WorldEvent}
 use Rattle.trace_model.specs.Run.{Entry}
-use Rattle.schedule_run.specs.declared.running.Runner.{Runner}
+use Rattle.schedule_run.specs.declared.runner.Runner.{Runner}
 use Rattle.schedule_run.specs.inner.Records.{Counted}
 use Rattle.schedule_run.specs.inner.Running.{RunStands}
 

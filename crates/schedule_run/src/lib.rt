@@ -3,18 +3,17 @@
 
 mod acts;
 mod bodies;
-mod following;
-mod holding;
+mod followers;
 mod notes;
-mod recording;
+mod phasers_held;
+mod record;
 mod run;
-mod running;
+mod runner;
+mod same_act;
 
 pub use acts::{MadeAct, act_of};
-pub use following::{follows, is_given};
+pub use followers::{follows, is_given};
 pub use run::{Run, run_picks};
 
-#[cfg(test)]
-mod run_tests;
 #[cfg(test)]
 mod tests;

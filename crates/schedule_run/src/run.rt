@@ -8,7 +8,7 @@ ghost use Rattle.schedule_model.specs.Laws.{AllGiveUp};
 ghost use Rattle.schedule_model.specs.Picks.{run_within};
 ghost use Rattle.trace_model.specs.Explained.{is_explained, past};
 
-use crate::running::played;
+use crate::runner::played;
 use job_script::Program;
 use phase_modes::Refusal;
 use std::alloc::Global;

@@ -1,7 +1,8 @@
 //! Programs stepped through task by task, and acts as the world knows them.
-use crate::acts::{MadeAct, Numbers, act_of, drawn, event_of, is_same_act, tried_of};
+use crate::acts::{MadeAct, Numbers, act_of, drawn, event_of, tried_of};
 use crate::bodies::{Bodies, Seat};
 use crate::follows;
+use crate::same_act::is_same_act;
 use finish_core::FinishEvent;
 use job_script::{Act, Answer, Program, ScriptBody, read_program};
 use phase_model::{Ops, Terms};
@@ -11,6 +12,7 @@ use std::process::Abort;
 use std::test::Fail;
 use world_model::{Begun, Step, Tried, WorldEvent};
 
+mod runs;
 mod traces;
 mod waiting;
 

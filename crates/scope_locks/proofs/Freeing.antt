@@ -12,10 +12,10 @@ use Rattle.phase_model.specs.Replies.{Reply, refused, not_yet, done, reply, afte
 use Rattle.phase_model.specs.Waiting.{would_wait, signal_would_wait, can_free}
 use Rattle.phase_model.proofs.Replied.{done_is_allowed}
 use Rattle.share_book.specs.Accounts.{Entry}
-use Rattle.scope_locks.specs.declared.parking.Parked.{Parked}
+use Rattle.scope_locks.specs.declared.parked.Parked.{Parked}
 use Rattle.scope_locks.specs.Cells.{IsKept}
-use Rattle.scope_locks.specs.declared.parking.ParkedCall.{ParkedCall}
-use Rattle.scope_locks.specs.declared.parking.ParkedCall.TheVariants.{Pass as ToPass, Signal as ToSignal}
+use Rattle.scope_locks.specs.declared.parked.ParkedCall.{ParkedCall}
+use Rattle.scope_locks.specs.declared.parked.ParkedCall.TheVariants.{Pass as ToPass, Signal as ToSignal}
 use Rattle.scope_locks.specs.Parking.{would_park, all_wait}
 use Rattle.scope_locks.specs.inner.Firsts.{is_pass, first_to_signal, is_phase_open, is_held_for, is_first_held}
 use Rattle.scope_locks.proofs.HeldPhase.{held_past_pass}

@@ -9,9 +9,9 @@ use Rattle.phase_model.specs.Rules.{Story, with_event, is_legal}
 use Rattle.phase_model.specs.Waiting.{would_wait, is_in_open_phase}
 use Rattle.phase_model.proofs.Waiting.{held}
 use Rattle.phase_model.proofs.OnePhase.{same_phase, waits_past_signal, waits_past_drop, closed_past_signal, closed_past_drop}
-use Rattle.scope_locks.specs.declared.parking.Parked.{Parked}
-use Rattle.scope_locks.specs.declared.parking.ParkedCall.{ParkedCall}
-use Rattle.scope_locks.specs.declared.parking.ParkedCall.TheVariants.{Pass as ToPass, Signal as ToSignal}
+use Rattle.scope_locks.specs.declared.parked.Parked.{Parked}
+use Rattle.scope_locks.specs.declared.parked.ParkedCall.{ParkedCall}
+use Rattle.scope_locks.specs.declared.parked.ParkedCall.TheVariants.{Pass as ToPass, Signal as ToSignal}
 use Rattle.scope_locks.specs.Parking.{would_park, all_wait}
 use Rattle.scope_locks.specs.inner.Firsts.{is_pass, first_to_pass, is_open_for, is_phase_open}
 use Rattle.scope_locks.proofs.Parks.{KeepsPassers, KeepsSignallers, all_stay}

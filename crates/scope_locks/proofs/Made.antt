@@ -11,11 +11,11 @@ use Rattle.phase_model.specs.Tasks.{is_live}
 use Rattle.phase_model.specs.Rules.{Story, is_legal}
 use Rattle.phase_model.specs.declared.call.Call.TheVariants.{Make as make}
 use Rattle.phase_model.specs.Replies.{Reply, refused, not_yet, done, reply, after}
-use Rattle.phaser_core.specs.Answers.{made_with}
+use Rattle.phaser_answers.specs.Answers.{made_with}
 use Rattle.share_book.specs.Accounts.{Entry}
-use Rattle.scope_locks.specs.declared.parking.Parked.{Parked}
-use Rattle.scope_locks.specs.declared.parking.ParkedCall.{ParkedCall}
-use Rattle.scope_locks.specs.declared.parking.ParkedCall.TheVariants.{Pass as ToPass, Signal as ToSignal}
+use Rattle.scope_locks.specs.declared.parked.Parked.{Parked}
+use Rattle.scope_locks.specs.declared.parked.ParkedCall.{ParkedCall}
+use Rattle.scope_locks.specs.declared.parked.ParkedCall.TheVariants.{Pass as ToPass, Signal as ToSignal}
 use Rattle.scope_locks.specs.Amounts.{amount_if}
 use Rattle.scope_locks.specs.Cells.{IsKept}
 use Rattle.scope_locks.specs.Parking.{would_park}

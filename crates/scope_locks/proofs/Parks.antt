@@ -21,9 +21,9 @@ use Rattle.phase_model.specs.Rules.{Story, with_event, is_legal, has_room}
 use Rattle.phase_model.proofs.Legal.{last_follows, reg_follows}
 use Rattle.phase_model.proofs.LiveTasks.{has, has-filter, has-live_tasks, empty_is, live_tasks-reg, live_tasks-drop}
 use Rattle.phase_model.specs.Waiting.{is_not_yet, would_wait, signal_would_wait, can_free, can_free_signal}
-use Rattle.scope_locks.specs.declared.parking.Parked.{Parked}
-use Rattle.scope_locks.specs.declared.parking.ParkedCall.{ParkedCall}
-use Rattle.scope_locks.specs.declared.parking.ParkedCall.TheVariants.{Pass as ToPass, Signal as ToSignal}
+use Rattle.scope_locks.specs.declared.parked.Parked.{Parked}
+use Rattle.scope_locks.specs.declared.parked.ParkedCall.{ParkedCall}
+use Rattle.scope_locks.specs.declared.parked.ParkedCall.TheVariants.{Pass as ToPass, Signal as ToSignal}
 use Rattle.scope_locks.specs.Parking.{is_parked, are_parked_once, would_park, all_wait, waiting, freed}
 use Rattle.scope_locks.proofs.Turns.{all_filter}
 use Rattle.phase_model.proofs.Waiting.{stays, held}

@@ -13,14 +13,14 @@ use Rattle.phase_model.specs.declared.call.Call.TheVariants.{Signal as signal, P
 use Rattle.phase_model.specs.Replies.{Reply, refused, not_yet, done, reply, after}
 use Rattle.phase_model.specs.Waiting.{would_wait, signal_would_wait, is_not_yet}
 use Rattle.phase_model.proofs.OrderingLaw.{legal_is_ordered}
-use Rattle.phaser_core.specs.declared.state.Signalling.{Signalling}
-use Rattle.phaser_core.specs.declared.state.Signalling.TheVariants.{Signalled as Sent, NotYet as Held}
-use Rattle.phaser_core.specs.declared.state.Passing.{Passing}
-use Rattle.phaser_core.specs.declared.state.Passing.TheVariants.{Passed, Claimed, NotYet}
-use Rattle.phaser_core.specs.Answers.{signal_result, pass_result}
+use Rattle.phaser_answers.specs.declared.answer.Signalling.{Signalling}
+use Rattle.phaser_answers.specs.declared.answer.Signalling.TheVariants.{Signalled as Sent, NotYet as Held}
+use Rattle.phaser_answers.specs.declared.answer.Passing.{Passing}
+use Rattle.phaser_answers.specs.declared.answer.Passing.TheVariants.{Passed, Claimed, NotYet}
+use Rattle.phaser_answers.specs.Answers.{signal_result, pass_result}
 use Rattle.share_book.specs.Accounts.{Entry, nothing}
-use Rattle.scope_locks.specs.declared.parking.Parked.{Parked}
-use Rattle.scope_locks.specs.declared.parking.ParkedCall.TheVariants.{Pass as ToPass, Signal as ToSignal}
+use Rattle.scope_locks.specs.declared.parked.Parked.{Parked}
+use Rattle.scope_locks.specs.declared.parked.ParkedCall.TheVariants.{Pass as ToPass, Signal as ToSignal}
 use Rattle.scope_locks.specs.Cells.{IsKept}
 use Rattle.scope_locks.specs.Parking.{is_parked, are_parked_once, would_park, all_wait, waiting, has_to_wait, is_held, locked_pass, locked_signal, parking}
 use Rattle.scope_locks.proofs.Parks.{all_kept, all_push, once_push, one_place_more}

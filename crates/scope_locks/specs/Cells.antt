@@ -5,7 +5,7 @@ use Rattle.phase_model.specs.Amounts.{totals}
 use Rattle.phase_model.specs.Ordering.{IsOrdered}
 use Rattle.phase_model.specs.Rules.{Story, is_legal}
 use Rattle.share_book.specs.Accounts.{Entry}
-use Rattle.scope_locks.specs.declared.parking.Parked.{Parked}
+use Rattle.scope_locks.specs.declared.parked.Parked.{Parked}
 use Rattle.scope_locks.specs.Parking.{all_wait, are_parked_once}
 
 -- the history is legal and ordered; the phaser's book has what it adds up to, and room for what is left of 65,536 events; who is parked would still be answered `NotYet` to the call for which it is parked, and is parked once

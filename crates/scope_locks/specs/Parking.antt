@@ -5,20 +5,20 @@ use Rattle.phase_modes.specs.declared.refusal.Refusal.{Refusal}
 use Rattle.phase_modes.specs.declared.refusal.Refusal.TheVariants.{NotNow}
 use Rattle.phase_model.specs.Rules.{Story}
 use Rattle.phase_model.specs.Waiting.{would_wait, signal_would_wait}
-use Rattle.phaser_core.specs.declared.state.Signalling.{Signalling}
-use Rattle.phaser_core.specs.declared.state.Signalling.TheVariants.{Signalled as Sent, NotYet as Held}
-use Rattle.phaser_core.specs.declared.state.Passing.{Passing}
-use Rattle.phaser_core.specs.declared.state.Passing.TheVariants.{Passed as Over, Claimed as Run, NotYet}
+use Rattle.phaser_answers.specs.declared.answer.Signalling.{Signalling}
+use Rattle.phaser_answers.specs.declared.answer.Signalling.TheVariants.{Signalled as Sent, NotYet as Held}
+use Rattle.phaser_answers.specs.declared.answer.Passing.{Passing}
+use Rattle.phaser_answers.specs.declared.answer.Passing.TheVariants.{Passed as Over, Claimed as Run, NotYet}
 use Rattle.phase_model.specs.declared.call.Call.TheVariants.{Signal as signal, Pass as pass}
 use Rattle.phase_model.specs.Replies.{reply}
-use Rattle.phaser_core.specs.Answers.{signal_result, pass_result}
+use Rattle.phaser_answers.specs.Answers.{signal_result, pass_result}
 use Rattle.scope_locks.specs.declared.answer.SignalAnswer.{SignalAnswer}
 use Rattle.scope_locks.specs.declared.answer.SignalAnswer.TheVariants.{Signalled, Parked as IsHeld, Refused as NoSignal}
 use Rattle.scope_locks.specs.declared.answer.PassAnswer.{PassAnswer}
 use Rattle.scope_locks.specs.declared.answer.PassAnswer.TheVariants.{Passed, Claimed, Parked as Waits, Refused}
-use Rattle.scope_locks.specs.declared.parking.ParkedCall.{ParkedCall}
-use Rattle.scope_locks.specs.declared.parking.ParkedCall.TheVariants.{Pass as ToPass, Signal as ToSignal}
-use Rattle.scope_locks.specs.declared.parking.Parked.{Parked}
+use Rattle.scope_locks.specs.declared.parked.ParkedCall.{ParkedCall}
+use Rattle.scope_locks.specs.declared.parked.ParkedCall.TheVariants.{Pass as ToPass, Signal as ToSignal}
+use Rattle.scope_locks.specs.declared.parked.Parked.{Parked}
 
 -- the task is among the parked ones
 abbrev pub is_parked : {T : Type 0} → ℕ → List (Parked T) → Bool

@@ -7,7 +7,7 @@ ghost use Rattle.phase_model.specs.declared.call.Call.TheVariants.{Make as make,
 ghost use Rattle.phase_model.specs.Replies.{reply, after, done_result};
 ghost use Rattle.phase_model.specs.Rules.{no_terms};
 ghost use Rattle.phase_model.specs.Waiting.{would_wait};
-ghost use Rattle.phaser_core.specs.Answers.{look_result, made_with};
+ghost use Rattle.phaser_answers.specs.Answers.{look_result, made_with};
 ghost use Rattle.share_book.specs.Accounts.{nothing};
 ghost use Rattle.scope_locks.specs.Amounts.{amount_if};
 ghost use Rattle.scope_locks.specs.Cells.{IsKept};
@@ -17,11 +17,11 @@ ghost use Rattle.scope_locks.specs.inner.Firsts.{is_first_held, has_gone_on, is_
 
 use crate::answer::{PassAnswer, SignalAnswer};
 use crate::out::Out;
-use crate::parking::{
+use crate::parked::{
     Parked, ParkedCall, is_first_held, is_phase_open, may_leave, release_if, settle_pass,
     settle_signal,
 };
-use crate::posting::{Post, post_if};
+use crate::posts::{Post, post_if};
 use crate::tickets::Tickets;
 use phase_model::{Bound, Event, Look, Ops};
 use phase_modes::{Limits, Mode, Refusal};

@@ -15,7 +15,7 @@ use crate::answer::{PassAnswer, SignalAnswer};
 use crate::cell::PhaserCell;
 use crate::lock::Lock;
 use crate::out::Out;
-use crate::posting::Locked;
+use crate::posts::Locked;
 use crate::tickets::Tickets;
 use phase_model::{Bound, Event, Look, Ops};
 use phase_modes::{Limits, Mode, Refusal};

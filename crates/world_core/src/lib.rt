@@ -3,7 +3,6 @@
 #![tactic(auto)]
 
 mod phaser;
-mod plan;
 mod report_rows;
 mod tables;
 mod task;

@@ -4,7 +4,7 @@ ghost use Rattle.phase_modes.specs.Lists.{is_empty};
 ghost use Rattle.finish_core.specs.Finish.{spawned_tasks};
 ghost use Rattle.world_model.specs.Report.{totals_line};
 ghost use Rattle.report_lines.specs.Lines.{lines_of, IsWithin};
-ghost use Rattle.world_core.specs.inner.Reports.{story_in, made, born, opened, task_row, finish_row, row_if_made, with_if_made, row_if_born, row_if_opened};
+ghost use Rattle.world_steps.specs.inner.Reports.{story_in, made, born, opened, task_row, finish_row, row_if_made, with_if_made, row_if_born, row_if_opened};
 
 use crate::phaser::KeptPhaser;
 use crate::task::Task;
@@ -140,7 +140,7 @@ fn add_finish(rows: &mut Vec<FinishLine>, number: u32, finish: &FinishState)
     }
 }
 
-#[tactic(auto, using(crate::proofs::Calls::none_at_all))]
+#[tactic(auto, using(world_steps::proofs::Calls::none_at_all))]
 /// Whether the finish was opened.
 fn is_opened(finish: &FinishState) -> bool
     ensures { result ≡ not (is_empty finish.now.past) }

@@ -4,9 +4,9 @@ ghost use Rattle.std.specs.Prelude.{◌≡◌, ◌<◌, not, nat_lt, length, IfO
 ghost use Rattle.phase_modes.specs.Limits.{limits_fit};
 ghost use Rattle.phase_modes.specs.Refusal.{first_refusal};
 ghost use Rattle.finish_core.specs.Finish.{fresh};
-ghost use Rattle.world_core.specs.Kept.{blank_task, blank_story, first_state, task_at, is_ready};
-ghost use Rattle.world_core.specs.inner.Steps.{first_conditions, free_unless};
-ghost use Rattle.world_core.specs.StandsFor.{StandsFor};
+ghost use Rattle.world_steps.specs.Kept.{blank_task, blank_story, first_state, task_at, is_ready};
+ghost use Rattle.world_steps.specs.inner.Steps.{first_conditions, free_unless};
+ghost use Rattle.world_steps.specs.StandsFor.{StandsFor};
 
 use crate::phaser::KeptPhaser;
 use crate::task::Task;
@@ -16,18 +16,18 @@ use std::alloc::Global;
 use std::marker::Model;
 
 mod begins;
-mod dropping;
+mod drops;
 mod ends;
 mod failures;
-mod making;
+mod makings;
 mod may_spawn;
-mod opening;
+mod openings;
 mod queries;
 mod refusals;
-mod registering;
+mod registrations;
 mod report;
 mod sends;
-mod spawning;
+mod spawns;
 mod steps;
 mod turns;
 mod unused;
@@ -48,11 +48,11 @@ pub(crate) struct Tables {
 
 impl Model for Tables {
     ghost use Rattle.std.specs.Prelude.{◌≡◌, length};
-    ghost use Rattle.world_core.specs.WorldState.{WorldState};
+    ghost use Rattle.world_steps.specs.WorldState.{WorldState};
 
     ghost Value = { WorldState };
 
-    ghost use Rattle.world_core.specs.inner.Sizes.{IsSized};
+    ghost use Rattle.world_steps.specs.inner.Sizes.{IsSized};
 
     ghost view = { λ a. record {
       limits = a.limits;

@@ -1,21 +1,21 @@
 //! What a world keeps of one task.
 ghost use Rattle.std.specs.Prelude.{◌≡◌, ◌≤◌, ◌&&◌, not, length, filter, vec_capacity, IfOk, IfErr, true};
-ghost use Rattle.world_core.specs.Kept.{blank_task, inner_at, is_idle_plan, past_in};
-ghost use Rattle.world_core.specs.inner.Steps.{owes, turn_begun, passing, is_to_signal, signal_noted, is_to_pass, pass_noted, opening};
+ghost use Rattle.world_steps.specs.Kept.{blank_task, inner_at, is_idle_plan, past_in};
+ghost use Rattle.world_steps.specs.inner.Steps.{owes, turn_begun, passing, is_to_signal, signal_noted, is_to_pass, pass_noted, opening};
 
 use crate::phaser::KeptPhaser;
-use crate::plan::Plan;
 use phase_modes::Refusal;
 use std::alloc::Global;
 use std::marker::Model;
+use world_steps::Plan;
 
 pub(crate) mod begins;
-mod dropping;
+mod drops;
 mod giving_up;
 mod phasers;
-mod registering;
+mod registrations;
 mod report_line;
-mod spawning;
+mod spawns;
 
 /// How many phasers a task is on at once, at most.
 pub(crate) const MOST_PHASERS: usize = 16;
@@ -39,7 +39,7 @@ pub(crate) struct Task {
 
 impl Model for Task {
     ghost use Rattle.std.specs.Prelude.{◌≤◌, length, vec_capacity};
-    ghost use Rattle.world_core.specs.TaskState.{TaskState};
+    ghost use Rattle.world_steps.specs.TaskState.{TaskState};
 
     ghost Value = { TaskState };
 

@@ -9,7 +9,7 @@ ghost use Rattle.world_model.specs.Able.{is_able, is_stuck};
 ghost use Rattle.world_model.specs.Drawing.{least_unused, own_pairs};
 ghost use Rattle.world_model.specs.Report.{report_of};
 ghost use Rattle.world_model.specs.Numbers.{is_phaser, is_finish, is_named};
-ghost use Rattle.world_core.specs.StandsFor.{StandsFor, IsStep};
+ghost use Rattle.world_steps.specs.StandsFor.{StandsFor, IsStep};
 
 use crate::tables::{Tables, Unused};
 use phase_modes::{Limits, Phased, Refusal};
@@ -28,8 +28,8 @@ pub struct World {
 }
 
 impl Model for World {
-    ghost use Rattle.world_core.specs.WorldState.{WorldState};
-    ghost use Rattle.world_core.specs.StandsFor.{IsWorld};
+    ghost use Rattle.world_steps.specs.WorldState.{WorldState};
+    ghost use Rattle.world_steps.specs.StandsFor.{IsWorld};
 
     ghost Value = { WorldState };
 

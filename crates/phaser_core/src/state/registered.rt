@@ -1,7 +1,7 @@
 //! Questions on one task of a phaser. They change nothing.
 ghost use Rattle.std.specs.Prelude.{◌≡◌};
 ghost use Rattle.phase_model.specs.Rules.{is_permitted};
-ghost use Rattle.phaser_core.specs.Table.{registration};
+ghost use Rattle.phaser_answers.specs.Registration.{registration};
 
 use crate::state::PhaserState;
 use crate::view::{View, view_of};

@@ -5,12 +5,12 @@ use Rattle.phase_modes.specs.declared.refusal.Refusal.{Refusal}
 use Rattle.world_model.specs.declared.event.WorldEvent.{WorldEvent}
 use Rattle.world_model.specs.declared.reply.Reply.{Reply}
 use Rattle.world_model.specs.declared.reply.Reply.TheVariants.{NotYet}
-use Rattle.world_core.specs.StandsFor.{StandsFor}
-use Rattle.world_core.specs.WorldState.{WorldState}
+use Rattle.world_steps.specs.StandsFor.{StandsFor}
+use Rattle.world_steps.specs.WorldState.{WorldState}
 use Rattle.trace_model.specs.Run.{Entry, Run}
 use Rattle.trace_model.specs.Explained.{past, all_follow}
-use Rattle.schedule_run.specs.declared.recording.Outcome.{Outcome}
-use Rattle.schedule_run.specs.declared.recording.Outcome.TheVariants.{Made, Waits, Refused}
+use Rattle.schedule_run.specs.declared.record.Outcome.{Outcome}
+use Rattle.schedule_run.specs.declared.record.Outcome.TheVariants.{Made, Waits, Refused}
 
 -- what an event comes to, by its reply
 abbrev pub outcome_of : Result Reply Refusal → Outcome

@@ -6,8 +6,8 @@ use Rattle.job_script.specs.Program.{Program}
 use Rattle.world_model.specs.declared.event.WorldEvent.{WorldEvent}
 use Rattle.world_model.specs.Numbers.{is_named}
 use Rattle.schedule_run.specs.declared.notes.Notes.{Notes}
-use Rattle.schedule_run.specs.declared.recording.Record.{Record}
-use Rattle.schedule_run.specs.declared.running.Runner.{Runner}
+use Rattle.schedule_run.specs.declared.record.Record.{Record}
+use Rattle.schedule_run.specs.declared.runner.Runner.{Runner}
 use Rattle.schedule_run.specs.inner.Bodies.{BodiesStand}
 use Rattle.schedule_run.specs.inner.Notes.{NotesStand}
 use Rattle.schedule_run.specs.inner.Records.{Records}

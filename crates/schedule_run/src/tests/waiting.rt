@@ -1,6 +1,6 @@
 //! Tasks that wait: from when on, and until when, they aren't asked.
 use super::*;
-use crate::running::Runner;
+use crate::runner::Runner;
 
 /// A task that is picked, and whether the watched one waits then where nothing was done since.
 type Row = (u32, bool);

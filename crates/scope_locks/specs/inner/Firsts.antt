@@ -4,11 +4,11 @@ use Rattle.std.specs.List.{find}
 use Rattle.phase_modes.specs.declared.refusal.Refusal.{Refusal}
 use Rattle.phase_model.specs.Rules.{Story}
 use Rattle.phase_model.specs.Waiting.{is_in_open_phase}
-use Rattle.phaser_core.specs.declared.state.Signalling.{Signalling}
-use Rattle.phaser_core.specs.declared.state.Passing.{Passing}
-use Rattle.scope_locks.specs.declared.parking.ParkedCall.{ParkedCall}
-use Rattle.scope_locks.specs.declared.parking.ParkedCall.TheVariants.{Pass as ToPass, Signal as ToSignal}
-use Rattle.scope_locks.specs.declared.parking.Parked.{Parked}
+use Rattle.phaser_answers.specs.declared.answer.Signalling.{Signalling}
+use Rattle.phaser_answers.specs.declared.answer.Passing.{Passing}
+use Rattle.scope_locks.specs.declared.parked.ParkedCall.{ParkedCall}
+use Rattle.scope_locks.specs.declared.parked.ParkedCall.TheVariants.{Pass as ToPass, Signal as ToSignal}
+use Rattle.scope_locks.specs.declared.parked.Parked.{Parked}
 use Rattle.scope_locks.specs.Parking.{would_park, goes_on, locked_pass, has_signalled, locked_signal}
 
 -- the call is a pass

@@ -1,16 +1,16 @@
 //! How a task ends, and how a finish is shut.
 ghost use Rattle.std.specs.Prelude.{◌≡◌, ◌<◌, length, get_or, IfOk, IfErr, true};
 ghost use Rattle.finish_core.specs.Finish.{all_ended};
-ghost use Rattle.world_core.specs.inner.FinishSteps.{said, finish_called, end_asked, end_answer, end_noted, end_state, owner_in, shut_asked, shut_answer, shut_noted, shut_state};
-ghost use Rattle.world_core.specs.Kept.{finish_at};
-ghost use Rattle.world_core.specs.StandsFor.{IsStep};
+ghost use Rattle.world_steps.specs.inner.FinishSteps.{said, finish_called, end_asked, end_answer, end_noted, end_state, owner_in, shut_asked, shut_answer, shut_noted, shut_state};
+ghost use Rattle.world_steps.specs.Kept.{finish_at};
+ghost use Rattle.world_steps.specs.StandsFor.{IsStep};
 
 use super::Tables;
-use crate::plan::Plan;
 use crate::task::Task;
 use finish_core::FinishEvent;
 use phase_modes::Refusal;
 use world_model::{Reply, WorldEvent};
+use world_steps::Plan;
 
 impl Task {
     /// Notes that it has ended.

@@ -2,18 +2,18 @@
 ghost use Rattle.std.specs.Prelude.{◌≡◌, ◌≤◌, ◌<◌, ◌==◌, length, take, true, Some, None};
 ghost use Rattle.world_model.specs.PartReplies.{call_for};
 ghost use Rattle.world_model.specs.GivingUp.{done_where, is_reg};
-ghost use Rattle.world_core.specs.Kept.{task_at};
-ghost use Rattle.world_core.specs.inner.Steps.{with_task};
-ghost use Rattle.world_core.specs.inner.Refusals.{is_make};
-ghost use Rattle.world_core.specs.inner.Failures.{next_refusal, has_number, may_fail_by, spawn_failed, failed, fail_state};
-ghost use Rattle.world_core.specs.StandsFor.{IsStep};
+ghost use Rattle.world_steps.specs.Kept.{task_at};
+ghost use Rattle.world_steps.specs.inner.Steps.{with_task};
+ghost use Rattle.world_steps.specs.inner.Refusals.{is_make};
+ghost use Rattle.world_steps.specs.inner.Failures.{next_refusal, has_number, may_fail_by, spawn_failed, failed, fail_state};
+ghost use Rattle.world_steps.specs.StandsFor.{IsStep};
 
 use super::Tables;
-use crate::plan::Plan;
 use crate::task::MOST_PHASERS;
 use phase_model::Call;
 use phase_modes::Refusal;
 use world_model::{Reply, Step, WorldEvent};
+use world_steps::Plan;
 
 /// The call that makes the step on its phaser.
 fn call_for(step: Step) -> Call
@@ -123,7 +123,7 @@ impl Tables {
         }
     }
 
-    #[tactic(auto, using(crate::proofs::FailMade::fail_within))]
+    #[tactic(auto, using(world_steps::proofs::FailMade::fail_within))]
     /// Gives up what the task is about, where it may by the refusal of this number.
     fn fail(&mut self, task: u32, number: u8) -> Result<Reply, Refusal>
         ensures answer { result ≡ done_where (may_fail_by self.old task number) }

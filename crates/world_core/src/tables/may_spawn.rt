@@ -2,10 +2,10 @@
 ghost use Rattle.std.specs.Prelude.{◌≡◌, ◌<◌, get_or, length, take, [], true, IfOk};
 ghost use Rattle.std.specs.List.{list_any};
 ghost use Rattle.phase_modes.specs.Refusal.{first_refusal};
-ghost use Rattle.phaser_core.specs.Table.{registration};
-ghost use Rattle.world_core.specs.Kept.{task_at, past_in, inner_at};
-ghost use Rattle.world_core.specs.inner.Steps.{free_unless};
-ghost use Rattle.world_core.specs.inner.Begins.{begin_refusal, hand_conditions, pair_conditions, is_on};
+ghost use Rattle.phaser_answers.specs.Registration.{registration};
+ghost use Rattle.world_steps.specs.Kept.{task_at, past_in, inner_at};
+ghost use Rattle.world_steps.specs.inner.Steps.{free_unless};
+ghost use Rattle.world_steps.specs.inner.Begins.{begin_refusal, hand_conditions, pair_conditions, is_on};
 
 use super::Tables;
 use crate::phaser::KeptPhaser;
@@ -65,7 +65,7 @@ impl Tables {
         Ok(())
     }
 
-    #[tactic(auto, using(crate::proofs::Handing::pair_met))]
+    #[tactic(auto, using(world_steps::proofs::Handing::pair_met))]
     /// What handing on these phasers is refused by, pair by pair.
     fn may_hand_on(&self, task: u32, pairs: &[Pair]) -> Result<(), Refusal>
         requires { task < length self.now.tasks }

@@ -6,15 +6,15 @@ ghost use Rattle.world_model.specs.Clock.{clock};
 ghost use Rattle.world_model.specs.Due.{next_event};
 ghost use Rattle.world_model.specs.Able.{is_able};
 ghost use Rattle.phase_model.specs.Waiting.{signal_would_wait, would_wait};
-ghost use Rattle.world_core.specs.Kept.{task_at, story_at, inner_at};
-ghost use Rattle.world_core.specs.inner.Queries.{turn_event, drop_or, shut_or, kept_next, kept_condition, waits_at, able_at};
-ghost use Rattle.world_core.specs.StandsFor.{StandsFor, end_of};
+ghost use Rattle.world_steps.specs.Kept.{task_at, story_at, inner_at};
+ghost use Rattle.world_steps.specs.inner.Queries.{turn_event, drop_or, shut_or, kept_next, kept_condition, waits_at, able_at};
+ghost use Rattle.world_steps.specs.StandsFor.{StandsFor, end_of};
 
 use super::Tables;
-use crate::plan::Plan;
 use crate::task::Task;
 use finish_core::FinishEvent;
 use world_model::{Condition, Step, WorldEvent};
+use world_steps::Plan;
 
 impl Task {
     /// What it is about; a number without a task is about nothing.

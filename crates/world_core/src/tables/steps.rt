@@ -1,6 +1,6 @@
 //! Any step, by its kind.
 ghost use Rattle.std.specs.Prelude.{◌≡◌};
-ghost use Rattle.world_core.specs.StandsFor.{IsStep};
+ghost use Rattle.world_steps.specs.StandsFor.{IsStep};
 
 use super::Tables;
 use finish_core::FinishEvent;

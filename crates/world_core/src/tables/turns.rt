@@ -2,9 +2,9 @@
 ghost use Rattle.std.specs.Prelude.{◌≡◌, ◌<◌, length, IfOk, IfErr, true};
 ghost use Rattle.phase_model.specs.Replies.{reply, done_result};
 ghost use Rattle.phase_model.specs.declared.call.Call.TheVariants.{Signal as signal, Pass as pass, SingleDone as single_done};
-ghost use Rattle.world_core.specs.Kept.{task_at, story_at};
-ghost use Rattle.world_core.specs.inner.Steps.{phaser_called, is_to_signal, signalled_on, signal_answer, signal_state, is_to_pass, may_claim, may_report, passed_on, pass_answer, pass_state, claim_answer, claim_state, report_answer, report_state};
-ghost use Rattle.world_core.specs.StandsFor.{IsStep};
+ghost use Rattle.world_steps.specs.Kept.{task_at, story_at};
+ghost use Rattle.world_steps.specs.inner.Steps.{phaser_called, is_to_signal, signalled_on, signal_answer, signal_state, is_to_pass, may_claim, may_report, passed_on, pass_answer, pass_state, claim_answer, claim_state, report_answer, report_state};
+ghost use Rattle.world_steps.specs.StandsFor.{IsStep};
 
 use super::Tables;
 use phase_modes::Refusal;

@@ -5,9 +5,9 @@ ghost use Rattle.finish_core.specs.Finish.{fresh};
 ghost use Rattle.world_model.specs.declared.event.WorldEvent.{WorldEvent as Event};
 ghost use Rattle.world_model.specs.Drawing.{least_unused, own_pairs};
 ghost use Rattle.world_model.specs.Numbers.{is_phaser, is_finish, is_named};
-ghost use Rattle.world_core.specs.Kept.{blank_task, past_in};
-ghost use Rattle.world_core.specs.inner.Drawings.{mode_at, pairs_at};
-ghost use Rattle.world_core.specs.StandsFor.{StandsFor};
+ghost use Rattle.world_steps.specs.Kept.{blank_task, past_in};
+ghost use Rattle.world_steps.specs.inner.Drawings.{mode_at, pairs_at};
+ghost use Rattle.world_steps.specs.StandsFor.{StandsFor};
 
 use super::Tables;
 use crate::phaser::KeptPhaser;
@@ -121,7 +121,7 @@ fn mode_on(phasers: &[KeptPhaser], phaser: u32, task: u32) -> Mode
     }
 }
 
-#[tactic(auto, using(crate::proofs::Least::least_found, crate::proofs::Least::least_later, crate::proofs::Least::least_none))]
+#[tactic(auto, using(world_steps::proofs::Least::least_found, world_steps::proofs::Least::least_later, world_steps::proofs::Least::least_none))]
 /// The first phaser that nobody made.
 fn first_unmade(phasers: &[KeptPhaser], limit: u32) -> u32
     ensures { result ≡ least_unused (λ n. not (is_empty (past_in phasers.now n))) limit }
@@ -134,7 +134,7 @@ fn first_unmade(phasers: &[KeptPhaser], limit: u32) -> u32
     limit
 }
 
-#[tactic(auto, using(crate::proofs::Least::least_found, crate::proofs::Least::least_later, crate::proofs::Least::least_none))]
+#[tactic(auto, using(world_steps::proofs::Least::least_found, world_steps::proofs::Least::least_later, world_steps::proofs::Least::least_none))]
 /// The first task number that no spawn named.
 fn first_unnamed(tasks: &[Task], limit: u32) -> u32
     ensures { result ≡ least_unused (λ t. (get_or tasks.now t blank_task).is_named) limit }
@@ -147,7 +147,7 @@ fn first_unnamed(tasks: &[Task], limit: u32) -> u32
     limit
 }
 
-#[tactic(auto, using(crate::proofs::Least::least_found, crate::proofs::Least::least_later, crate::proofs::Least::least_none))]
+#[tactic(auto, using(world_steps::proofs::Least::least_found, world_steps::proofs::Least::least_later, world_steps::proofs::Least::least_none))]
 /// The first finish that nobody opened.
 fn first_unopened(finishes: &[FinishState], limit: u32) -> u32
     ensures { result ≡ least_unused (λ f. not (is_empty (get_or finishes.now f (fresh 0)).past)) limit }
@@ -182,7 +182,7 @@ fn is_named_in(tasks: &[Task], number: u32) -> bool
     line.is_named()
 }
 
-#[tactic(auto, using(crate::proofs::Calls::none_at_all))]
+#[tactic(auto, using(world_steps::proofs::Calls::none_at_all))]
 /// Whether the number is a finish's.
 fn is_begun(finishes: &[FinishState], number: u32) -> bool
     ensures { result ≡ not (is_empty (get_or finishes.now number (fresh 0)).past) }

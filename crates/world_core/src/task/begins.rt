@@ -2,14 +2,14 @@
 ghost use Rattle.std.specs.Prelude.{◌≡◌, ◌≤◌, ◌==◌, not, get_or, length, vec_capacity, is_some};
 ghost use Rattle.std.specs.List.{list_any};
 ghost use Rattle.phase_modes.specs.Lists.{is_one};
-ghost use Rattle.world_core.specs.Kept.{past_in};
-ghost use Rattle.world_core.specs.inner.Steps.{owes, passing};
-ghost use Rattle.world_core.specs.inner.Begins.{leads, has_single, counted, signals_begun, enclosed, shut_begun, end_begun, spawn_begun, named_for};
+ghost use Rattle.world_steps.specs.Kept.{past_in};
+ghost use Rattle.world_steps.specs.inner.Steps.{owes, passing};
+ghost use Rattle.world_steps.specs.inner.Begins.{leads, has_single, counted, signals_begun, enclosed, shut_begun, end_begun, spawn_begun, named_for};
 
 use super::{Task, is_owed};
 use crate::phaser::KeptPhaser;
-use crate::plan::Plan;
 use phase_modes::Phased;
+use world_steps::Plan;
 
 impl Task {
     /// Whether it has signalled on one of its phasers since its last turn there.
@@ -33,7 +33,7 @@ impl Task {
         any_without_single(&self.phasers, phasers, task)
     }
 
-    #[tactic(auto, using(crate::proofs::Acts::one_long))]
+    #[tactic(auto, using(world_steps::proofs::Acts::one_long))]
     /// Whether it is on exactly one phaser.
     pub(crate) fn is_on_one(&self) -> bool
         ensures { result ≡ is_one self.now.phasers }

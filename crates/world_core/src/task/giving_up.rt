@@ -1,10 +1,10 @@
 //! What a task's record notes where the task gives up what it is about, or what it tried.
 ghost use Rattle.std.specs.Prelude.{◌≡◌, ◌≤◌, length, take};
-ghost use Rattle.world_core.specs.inner.Refusals.{given_up};
-ghost use Rattle.world_core.specs.inner.Failures.{spawn_given_up};
+ghost use Rattle.world_steps.specs.inner.Refusals.{given_up};
+ghost use Rattle.world_steps.specs.inner.Failures.{spawn_given_up};
 
 use super::{MOST_PHASERS, Task, list_all};
-use crate::plan::Plan;
+use world_steps::Plan;
 
 impl Task {
     /// Comes to its end by the refusal of this number; this child is dropped from no phaser.

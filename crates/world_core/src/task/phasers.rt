@@ -1,6 +1,6 @@
 //! What a task's record keeps of the phasers on which it is registered.
 ghost use Rattle.std.specs.Prelude.{◌≡◌, ◌<◌, nat_lt, length};
-ghost use Rattle.world_core.specs.inner.Registering.{making};
+ghost use Rattle.world_steps.specs.inner.Registering.{making};
 
 use super::*;
 

@@ -2,7 +2,7 @@
 use Rattle.std.proofs.Common.{◌≡◌, Option, Some, None, refl, ap, subst}
 use Rattle.phase_modes.specs.declared.reg.Reg.{Reg}
 use Rattle.phaser_core.specs.Phaser.{Phaser}
-use Rattle.phaser_core.specs.Table.{registration}
+use Rattle.phaser_answers.specs.Registration.{registration}
 use Rattle.phaser_core.proofs.Reading.{not_live, found_in, found_reg}
 use Rattle.phaser_core.proofs.state.PhaserState.registration.Goals as goal
 

@@ -2,9 +2,9 @@ use Rattle.std.proofs.Common.{◌<◌, ◌&&◌, not, length, List, Result, ap, 
 use Rattle.phase_modes.specs.declared.refusal.Refusal.{Refusal}
 use Rattle.phase_model.specs.declared.call.Call.TheVariants.{Pass as pass}
 use Rattle.phase_model.specs.declared.history.Event.TheVariants.{Pass}
-use Rattle.phaser_core.specs.declared.state.Passing.{Passing}
-use Rattle.scope_locks.specs.declared.parking.Parked.{Parked}
-use Rattle.scope_locks.specs.declared.parking.ParkedCall.TheVariants.{Pass as ToPass}
+use Rattle.phaser_answers.specs.declared.answer.Passing.{Passing}
+use Rattle.scope_locks.specs.declared.parked.Parked.{Parked}
+use Rattle.scope_locks.specs.declared.parked.ParkedCall.TheVariants.{Pass as ToPass}
 use Rattle.scope_locks.specs.Parking.{is_parked, locked_pass, parking, has_to_wait, answered, answered_is}
 use Rattle.scope_locks.specs.inner.Firsts.{is_first_held, has_gone_on}
 use Rattle.scope_locks.proofs.Freeing.{pass_frees_no_signaller}

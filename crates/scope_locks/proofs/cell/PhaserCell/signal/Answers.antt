@@ -3,9 +3,9 @@ use Rattle.std.proofs.lemmas.Bool.{false≢true}
 use Rattle.phase_modes.specs.declared.refusal.Refusal.{Refusal}
 use Rattle.phase_model.specs.declared.call.Call.TheVariants.{Signal as signal}
 use Rattle.phase_model.specs.declared.history.Event.TheVariants.{Sig}
-use Rattle.phaser_core.specs.declared.state.Signalling.{Signalling}
-use Rattle.scope_locks.specs.declared.parking.Parked.{Parked}
-use Rattle.scope_locks.specs.declared.parking.ParkedCall.TheVariants.{Signal as ToSignal}
+use Rattle.phaser_answers.specs.declared.answer.Signalling.{Signalling}
+use Rattle.scope_locks.specs.declared.parked.Parked.{Parked}
+use Rattle.scope_locks.specs.declared.parked.ParkedCall.TheVariants.{Signal as ToSignal}
 use Rattle.scope_locks.specs.Parking.{is_parked, locked_signal, parking, is_held, signal_answered, signal_answered_is}
 use Rattle.scope_locks.specs.inner.Firsts.{is_phase_open, is_made}
 use Rattle.scope_locks.proofs.Freeing.{neither_leaves, signal_frees_nobody}

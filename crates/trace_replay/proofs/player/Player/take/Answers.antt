@@ -1,6 +1,6 @@
 use Rattle.std.proofs.Common.{◌≡◌, true, ◌&&◌, ◌||◌, Some, refl, sym, ap, subst, ◌∙◌}
 use Rattle.world_model.specs.declared.event.WorldEvent.{WorldEvent}
-use Rattle.world_core.specs.StandsFor.{IsStep}
+use Rattle.world_steps.specs.StandsFor.{IsStep}
 use Rattle.trace_model.specs.Explained.{is_answered, ends_run}
 use Rattle.trace_replay.specs.inner.HandedOver.{is_later_than}
 use Rattle.trace_replay.proofs.Taking.{goes_on}

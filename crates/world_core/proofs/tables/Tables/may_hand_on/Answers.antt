@@ -1,4 +1,4 @@
-use Rattle.world_core.proofs.Handing.{pair_unmet}
+use Rattle.world_steps.proofs.Handing.{pair_unmet}
 use Rattle.world_core.proofs.tables.Tables.may_hand_on.Goals as goal
 
 pub returns-in-Err : goal.returns-in-Err

@@ -1,7 +1,7 @@
 -- No pair that was come to is refused, so the first refusal is one of the rest.
 use Rattle.std.proofs.Common.{◌≡◌, take, drop, []}
 use Rattle.phase_modes.specs.Refusal.{first_refusal}
-use Rattle.world_core.specs.inner.Begins.{pair_conditions}
+use Rattle.world_steps.specs.inner.Begins.{pair_conditions}
 use Rattle.world_core.proofs.tables.Tables.may_hand_on.Given as goal
 
 abbrev pub invariant-loop-i : goal.invariant-loop-i

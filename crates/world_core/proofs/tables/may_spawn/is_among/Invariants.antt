@@ -1,7 +1,7 @@
 -- Whether one of those that were come to is on the phaser.
 use Rattle.std.proofs.Common.{◌≡◌, take}
 use Rattle.std.specs.List.{list_any}
-use Rattle.world_core.specs.inner.Begins.{is_on}
+use Rattle.world_steps.specs.inner.Begins.{is_on}
 use Rattle.world_core.proofs.tables.may_spawn.is_among.Given as goal
 
 abbrev pub invariant-loop-i : goal.invariant-loop-i

@@ -1,0 +1,3 @@
+-- What the calls return, and how a task is registered, by the history.
+pub mod Answers
+pub mod Registration

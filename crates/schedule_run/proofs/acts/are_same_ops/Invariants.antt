@@ -1,9 +1,0 @@
-use Rattle.std.proofs.Common.{◌≡◌, drop, length}
-use Rattle.schedule_model.specs.Follows.{same_ops}
-use Rattle.schedule_run.proofs.acts.are_same_ops.Given as goal
-
-abbrev pub invariant-loop-i : goal.invariant-loop-i
-invariant-loop-i l = record {
-  so_far : same_ops (drop l.i l.ops) (drop l.i l.others) ≡ same_ops l.ops l.others;
-  long : length l.ops ≡ length l.others;
-}

@@ -1,0 +1,9 @@
+use Rattle.std.proofs.Common.{◌≡◌, drop, length}
+use Rattle.schedule_model.specs.Follows.{same_pairs}
+use Rattle.schedule_run.proofs.same_act.are_same_pairs.Given as goal
+
+abbrev pub invariant-loop-i : goal.invariant-loop-i
+invariant-loop-i l = record {
+  so_far : same_pairs (drop l.i l.pairs) (drop l.i l.others) ≡ same_pairs l.pairs l.others;
+  long : length l.pairs ≡ length l.others;
+}

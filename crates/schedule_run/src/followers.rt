@@ -1,0 +1,187 @@
+//! Whether a trace follows a program: one pass over its events, with a seat for each task.
+ghost use Rattle.std.specs.Prelude.{◌≡◌, ℕ, ◌≤◌, ◌∷◌, [], List, length, take, true, false, Err, IfOk, IfErr};
+ghost use Rattle.phase_modes.specs.declared.reg.Mode as modes;
+ghost use Rattle.phase_modes.specs.declared.phased.Pair as phased;
+ghost use Rattle.phase_modes.specs.declared.refusal.Refusal.TheVariants.{Memory as NoMemory};
+ghost use Rattle.phase_model.specs.declared.terms.Terms.{Terms};
+ghost use Rattle.job_script.specs.Program as programs;
+ghost use Rattle.job_script.specs.Steps.{begun, next_for};
+ghost use Rattle.world_model.specs.Drawing.{own_pairs};
+ghost use Rattle.world_model.specs.declared.event.Begun.TheVariants.{Async};
+ghost use Rattle.world_model.specs.declared.event.Step.TheVariants.{Make};
+ghost use Rattle.world_model.specs.declared.event.WorldEvent.TheVariants.{Phaser, Begin};
+ghost use Rattle.world_model.specs.declared.event.WorldEvent as events;
+ghost use Rattle.schedule_model.specs.Scripts.{act_of, body_of, is_of, meanings, next_act};
+ghost use Rattle.schedule_model.specs.Follows.{drawn, follows, is_next, same_act};
+ghost use Rattle.schedule_run.specs.Following.{first_not_next, history, AnswersPlace};
+ghost use Rattle.schedule_run.specs.Given.{tried_of};
+ghost use Rattle.schedule_run.specs.inner.Bodies.{IsAskedOf, SeatsStand};
+ghost use Rattle.schedule_run.specs.inner.Followers.{seat_of, IsTaken};
+
+use crate::acts::{MadeAct, act_of, drawn, tried_of};
+use crate::bodies::Seat;
+use crate::phasers_held::are_own_pairs;
+use crate::same_act::is_same_act;
+use job_script::{Act, Answer, Program, ScriptBody};
+use phase_modes::{Phased, Refusal};
+use std::alloc::Global;
+use std::collections::BTreeMap;
+use trace_model::Trace;
+use world_model::{Begun, Step, Tried, WorldEvent};
+
+/// Whether a task's act is the one that its body gives after so many events of a trace, the numbers
+/// that it drew being any. Of a spawn on all phasers it goes over the events before it, once for each
+/// phaser that the task ever came to.
+pub fn is_given<B: Drop>(trace: &Trace, count: usize, made: &MadeAct, act: &Act<B>) -> bool
+    requires { count ≤ length trace.now.events }
+    ensures { result ≡ same_act made.now.act
+        (tried_of (own_pairs made.now.task (history (take count trace.now.events)))
+        (drawn made.now.act) act.now) }
+{
+    match (act, &made.act) {
+        (Act::AsyncAll(_), Tried::Begun(Begun::Async(_, pairs))) => {
+            are_own_pairs(trace, count, made.task, pairs.as_slice())
+        }
+        _ => is_same_act(&made.act, &tried_of(Phased::none(), drawn(&made.act), act)),
+    }
+}
+
+/// The tasks of a trace by their numbers, which may be any. A task has a seat from its spawn on.
+#[derive(Drop)]
+struct Followers<'p> {
+    seats: BTreeMap<u32, Seat<'p>>,
+}
+
+impl<'p> Followers<'p> {
+    /// The tasks before the first event: the root alone has a seat.
+    fn new(alloc: Global, program: &'p Program) -> Result<Followers<'p>, Refusal>
+        ensures stand { IfOk result (λ f. SeatsStand program.now [] (seat_of f.seats)) }
+        ensures memory { IfErr result (λ e. e ≡ NoMemory) }
+    {
+        let mut seats = BTreeMap::new(alloc);
+        seats.insert(0, Seat::begun(program.root()))?;
+        Ok(Followers { seats })
+    }
+
+    /// The next act of a task, which it goes past; its end where it has no seat.
+    fn next_act(&mut self, task: u32) -> Act<ScriptBody<'p>>
+        ensures given { (p : programs.Program) (w : List events.WorldEvent)
+            → SeatsStand p w (seat_of self.old.seats)
+            → result ≡ next_for (meanings p w task) (next_act p w task) }
+        ensures asked { (p : programs.Program) (w : List events.WorldEvent)
+            → SeatsStand p w (seat_of self.old.seats)
+            → IsAskedOf p w task (seat_of self.new.seats) }
+    {
+        match self.seats.get_mut(&task) {
+            Some(seat) => seat.next_act(),
+            None => Act::End,
+        }
+    }
+
+    /// Reports to a task that it made the phaser that its last act asked for.
+    fn report_made(&mut self, task: u32, phaser: u32)
+        ensures { (p : programs.Program) (w : List events.WorldEvent)
+            (m : modes.Mode) (terms : Terms)
+            → IsAskedOf p w task (seat_of self.old.seats)
+            → SeatsStand p (Phaser phaser (Make task m terms) ∷ w) (seat_of self.new.seats) }
+    {
+        if let Some(seat) = self.seats.get_mut(&task) {
+            seat.answer = Answer::Made(phaser);
+        }
+    }
+
+    /// Gives the child of a task's last act its seat.
+    fn seat_child(&mut self, child: u32, body: ScriptBody<'p>) -> Result<(), Refusal>
+        ensures stand { (p : programs.Program) (w : List events.WorldEvent) (t : _) (pairs : List phased.Pair)
+            → IsAskedOf p w t (seat_of self.old.seats)
+            → body.entry ≡ begun (body_of (next_act p w t)) (meanings p w t)
+            → IfOk result (λ _. SeatsStand p (Begin t (Async child pairs) ∷ w) (seat_of self.new.seats)) }
+        ensures memory { IfErr result (λ e. e ≡ NoMemory) }
+    {
+        self.seats.insert(child, Seat::begun(body))?;
+        Ok(())
+    }
+
+    /// Reports to a task what came of the act that it was given, by a step that makes it.
+    fn settle_step(&mut self, task: u32, phaser: u32, step: Step)
+        ensures { (p : programs.Program) (w : List events.WorldEvent)
+            → IsAskedOf p w task (seat_of self.old.seats)
+            → is_of task (act_of (Phaser phaser step)) ≡ true
+            → SeatsStand p (Phaser phaser step ∷ w) (seat_of self.new.seats) }
+    {
+        if let Step::Make(_, _, _) = step {
+            self.report_made(task, phaser);
+        }
+    }
+
+    /// Reports to a task what came of the act that it was given, by the event that makes or refuses it:
+    /// a phaser has its number, and a child its seat.
+    fn settle(
+        &mut self,
+        task: u32,
+        event: &WorldEvent,
+        act: Act<ScriptBody<'p>>,
+    ) -> Result<(), Refusal>
+        ensures settled { (p : programs.Program) (w : List events.WorldEvent)
+            → IsAskedOf p w task (seat_of self.old.seats)
+            → act.entry ≡ next_for (meanings p w task) (next_act p w task)
+            → is_of task (act_of event.now) ≡ true → is_next p w (act_of event.now) ≡ true
+            → IfOk result (λ _. SeatsStand p (event.now ∷ w) (seat_of self.new.seats)) }
+        ensures memory { IfErr result (λ e. e ≡ NoMemory) }
+    {
+        match event {
+            WorldEvent::Phaser(n, step) => {
+                self.settle_step(task, *n, *step);
+                Ok(())
+            }
+            WorldEvent::Begin(_, Begun::Async(child, _)) => match act {
+                Act::Async(body, _) | Act::AsyncAll(body) => self.seat_child(*child, body),
+                _ => Ok(()),
+            },
+            _ => Ok(()),
+        }
+    }
+
+    /// Whether an event is no act, or its task's next one after so many of a trace before it; it is
+    /// gone past then.
+    fn takes(&mut self, trace: &Trace, count: usize, event: &WorldEvent) -> Result<bool, Refusal>
+        requires { count ≤ length trace.now.events }
+        ensures taken { (p : programs.Program)
+            → SeatsStand p (history (take count trace.now.events)) (seat_of self.old.seats)
+            → IfOk result (λ b. IsTaken p
+            (history (take count trace.now.events)) event.now (seat_of self.new.seats) b) }
+        ensures memory { IfErr result (λ e. e ≡ NoMemory) }
+    {
+        let made = match act_of(event) {
+            None => return Ok(true),
+            Some(made) => made,
+        };
+        let act = self.next_act(made.task);
+        if !is_given(trace, count, &made, &act) {
+            return Ok(false);
+        }
+        self.settle(made.task, event, act)?;
+        Ok(true)
+    }
+}
+
+/// Whether each act of a trace, made or refused, is its task's next one by the program: `Ok`, or
+/// `NotExplained` with the place of the first event that isn't, counted from 1. Any trace is
+/// taken, whether the world explains it or not. `Memory` where there is too little for the tasks.
+/// A spawn on all phasers goes over the events before it, once for each phaser that its task ever
+/// came to.
+pub fn follows(alloc: Global, program: &Program, trace: &Trace) -> Result<(), Refusal>
+    ensures place { AnswersPlace (first_not_next program.now trace.now) result }
+    ensures follows { IfOk result (λ _. follows program.now (history trace.now.events) ≡ true) }
+    ensures leaves { (k : ℕ) → result ≡ Err (Refusal.NotExplained k)
+        → follows program.now (history trace.now.events) ≡ false }
+{
+    let mut followers = Followers::new(alloc, program)?;
+    for i in 0..trace.len() {
+        let (_, event) = trace.entry(i);
+        if !followers.takes(trace, i, &event.event())? {
+            return Err(Refusal::NotExplained(i as u64 + 1));
+        }
+    }
+    Ok(())
+}

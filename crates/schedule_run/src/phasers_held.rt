@@ -1,0 +1,111 @@
+//! The phasers that a task holds, read off the events of a trace.
+ghost use Rattle.std.specs.Prelude.{◌≡◌, ◌≤◌, ◌∷◌, List, length, take};
+ghost use Rattle.phase_model.specs.declared.history.Event.{Event as PhaserEvent};
+ghost use Rattle.phase_model.specs.declared.terms.Terms.{Terms};
+ghost use Rattle.world_model.specs.declared.event.WorldEvent as events;
+ghost use Rattle.world_model.specs.Drawing.{own_pairs};
+ghost use Rattle.world_model.specs.Parts.{event_for};
+ghost use Rattle.world_model.specs.Tasks.{joined_by};
+ghost use Rattle.schedule_model.specs.Follows.{same_pairs};
+ghost use Rattle.trace_model.specs.Explained.{step_of, event_of};
+ghost use Rattle.schedule_run.specs.Following.{history};
+ghost use Rattle.schedule_run.specs.inner.Holding.{stay_in, stay_of, mode_on, pair_by};
+
+use crate::same_act::is_same_pair;
+use phase_modes::{Mode, Pair};
+use trace_model::{Trace, TracedEvent, TracedStep};
+
+/// What events say of a task and a phaser: the mode in which it was last registered there, and
+/// whether it was dropped.
+#[derive(Clone, Copy, Debug, PartialEq, Eq)]
+struct Stay {
+    mode: Option<Mode>,
+    left: bool,
+}
+
+impl Stay {
+    /// The same after one step more on the phaser.
+    fn after_step(self, task: u32, step: &TracedStep) -> Stay
+        ensures { (terms : Terms) (h : List PhaserEvent)
+            → self ≡ stay_in task h → result ≡ stay_in task (event_for terms h (step_of step.now) ∷ h) }
+    {
+        match step {
+            TracedStep::Make(t, mode, _) | TracedStep::Reg(_, t, mode) if *t == task => Stay {
+                mode: Some(*mode),
+                ..self
+            },
+            TracedStep::Drop(t) if *t == task => Stay { left: true, ..self },
+            _ => self,
+        }
+    }
+
+    /// The same after one event more.
+    fn after(self, task: u32, phaser: u32, event: &TracedEvent) -> Stay
+        ensures { (w : List events.WorldEvent)
+            → self ≡ stay_of task phaser w → result ≡ stay_of task phaser (event_of event.now ∷ w) }
+    {
+        match event {
+            TracedEvent::Phaser(n, step) if *n == phaser => self.after_step(task, step),
+            _ => self,
+        }
+    }
+}
+
+/// The mode in which a task is registered on a phaser after so many events of a trace; none where
+/// it isn't.
+fn mode_on(trace: &Trace, count: usize, task: u32, phaser: u32) -> Option<Mode>
+    requires { count ≤ length trace.now.events }
+    ensures { result ≡ mode_on task phaser (history (take count trace.now.events)) }
+{
+    let mut stay = Stay {
+        mode: None,
+        left: false,
+    };
+    for place in 0..count {
+        let (_, event) = trace.entry(place);
+        stay = stay.after(task, phaser, &event);
+    }
+    if stay.left { None } else { stay.mode }
+}
+
+/// The phaser on which an event registers a task.
+fn joined_by(task: u32, event: &TracedEvent) -> Option<u32>
+    ensures { result ≡ joined_by task (event_of event.now) }
+{
+    match event {
+        TracedEvent::Phaser(n, TracedStep::Make(t, _, _) | TracedStep::Reg(_, t, _))
+            if *t == task => { Some(*n) }
+        _ => None,
+    }
+}
+
+/// The phaser on which an event registers a task, with the task's mode on it after so many events
+/// of a trace; none where it isn't registered there any more.
+fn pair_by(trace: &Trace, count: usize, task: u32, event: &TracedEvent) -> Option<Pair>
+    requires { count ≤ length trace.now.events }
+    ensures { result ≡ pair_by task (history (take count trace.now.events)) (event_of event.now) }
+{
+    let phaser = joined_by(task, event)?;
+    let mode = mode_on(trace, count, task, phaser)?;
+    Some(Pair { phaser, mode })
+}
+
+/// Whether these are all phasers that a task holds after so many events of a trace, in the order in
+/// which it came to them and each in its own mode. It goes over the events once for each phaser
+/// that the task ever came to, and once more.
+pub(crate) fn are_own_pairs(trace: &Trace, count: usize, task: u32, pairs: &[Pair]) -> bool
+    requires { count ≤ length trace.now.events }
+    ensures { result ≡ same_pairs pairs.now (own_pairs task (history (take count trace.now.events))) }
+{
+    let mut found = 0;
+    for place in 0..count {
+        let (_, event) = trace.entry(place);
+        if let Some(own) = pair_by(trace, count, task, &event) {
+            if found >= pairs.len() || !is_same_pair(pairs[found], own) {
+                return false;
+            }
+            found += 1;
+        }
+    }
+    found == pairs.len()
+}

@@ -1,0 +1,315 @@
+//! A program's run: its tasks are picked one after the other,
+//! and each pick makes at most one event.
+ghost use Rattle.std.specs.Prelude.{ℕ, ◌≡◌, ◌∷◌, ◌<◌, List, [], length, IfOk, IfErr, true, false};
+ghost use Rattle.phase_modes.specs.declared.limits.Limits as limits;
+ghost use Rattle.phase_modes.specs.declared.phased.Pair.{Pair};
+ghost use Rattle.phase_modes.specs.declared.refusal.Refusal.TheVariants.{Memory as NoMemory};
+ghost use Rattle.phase_modes.specs.Refusal.{number_of};
+ghost use Rattle.job_script.specs.Program as programs;
+ghost use Rattle.job_script.specs.Steps.{begun, next_for};
+ghost use Rattle.world_steps.specs.StandsFor.{StandsFor};
+ghost use Rattle.world_model.specs.declared.event.Begun.TheVariants.{Async};
+ghost use Rattle.world_model.specs.declared.event.WorldEvent.{WorldEvent as Event};
+ghost use Rattle.world_model.specs.declared.event.WorldEvent.TheVariants.{Begin, Refuse};
+ghost use Rattle.world_model.specs.Actors.{actor};
+ghost use Rattle.world_model.specs.Due.{is_idle};
+ghost use Rattle.world_model.specs.Replies.{after, is_accepted, reply};
+ghost use Rattle.world_model.specs.Numbers.{is_named};
+ghost use Rattle.world_model.specs.Tasks.{is_born, is_ended};
+ghost use Rattle.schedule_model.specs.Picks.{unused, event_of, pick, picked, round_from, rounds, run_within};
+ghost use Rattle.schedule_model.specs.Scripts.{body_of, meanings, next_act, tried};
+ghost use Rattle.schedule_run.specs.Given.{numbers_view};
+ghost use Rattle.schedule_run.specs.inner.Bodies.{BodiesStand, IsAsked};
+ghost use Rattle.schedule_run.specs.inner.Records.{outcome_of};
+ghost use Rattle.schedule_run.specs.inner.Running.{Kept, RunStands};
+
+use crate::acts::{Numbers, event_of, tried_of};
+use crate::bodies::Bodies;
+use crate::notes::Notes;
+use crate::record::{Outcome, Record};
+use job_script::{Act, Program, ScriptBody};
+use phase_modes::Refusal;
+use std::alloc::Global;
+use trace_model::Trace;
+use world_model::{Condition, Tried, WorldEvent};
+
+/// A run under way: its record, its tasks' bodies, and the notes of those that wait.
+#[derive(Drop)]
+pub(crate) struct Runner<'p> {
+    pub recorded: Record,
+    pub bodies: Bodies<'p>,
+    pub notes: Notes,
+}
+
+/// The event by which a task makes the act.
+fn made(task: u32, act: &Tried) -> WorldEvent
+    ensures { result ≡ event_of task act.now }
+{
+    event_of(task, *act)
+}
+
+/// The entry by which a task reports that the act was refused.
+fn refused(task: u32, act: &Tried, refusal: Refusal) -> WorldEvent
+    ensures { result ≡ Refuse task act.now (number_of refusal) }
+{
+    WorldEvent::Refuse(task, *act, refusal.number())
+}
+
+/// The task's act was made: a phaser gets its name, and a child its seat.
+fn settle<'p>(bodies: &mut Bodies<'p>, task: u32, new: Numbers, act: Act<ScriptBody<'p>>)
+    ensures stand { (p : programs.Program) (w : List Event) → IsAsked p w task bodies.old.seats.items
+        → length bodies.old.seats.items ≡ p.limits.tasks
+        → act.entry ≡ next_for (meanings p w task) (next_act p w task)
+        → is_accepted p.limits w (event_of task (tried p w task (numbers_view new))) ≡ true
+        → BodiesStand p (event_of task (tried p w task (numbers_view new)) ∷ w) bodies.new.seats.items }
+    ensures places { length bodies.new.seats.items ≡ length bodies.old.seats.items }
+{
+    match act {
+        Act::Async(body, _) => seat(bodies, new.task, body),
+        Act::AsyncAll(body) => seat(bodies, new.task, body),
+        Act::New(_, _, _) => bodies.report_made(task, new.phaser),
+        _ => {}
+    }
+}
+
+/// Gives a child its seat.
+fn seat<'p>(bodies: &mut Bodies<'p>, child: u32, body: ScriptBody<'p>)
+    ensures stand { (p : programs.Program) (w : List Event) (t : ℕ) (pairs : List Pair)
+        → IsAsked p w t bodies.old.seats.items → child < length bodies.old.seats.items
+        → body.entry ≡ begun (body_of (next_act p w t)) (meanings p w t)
+        → BodiesStand p (Begin t (Async child pairs) ∷ w) bodies.new.seats.items }
+    ensures places { length bodies.new.seats.items ≡ length bodies.old.seats.items }
+{
+    if (child as usize) < bodies.seats.len() {
+        bodies.seat_child(child, body);
+    }
+}
+
+/// The task makes the event, if the world lets it. Nothing is noted of the task then.
+fn try_event(
+    recorded: &mut Record,
+    notes: &mut Notes,
+    task: u32,
+    event: WorldEvent,
+) -> Result<Outcome, Refusal>
+    ensures outcome { IfOk result (λ o. (l : limits.Limits) (w : List Event) → Kept l w recorded.old notes.old
+        → o ≡ outcome_of (reply l w event)) }
+    ensures kept { IfOk result (λ _. (l : limits.Limits) (w : List Event) → Kept l w recorded.old notes.old
+        → actor w event ≡ task → Kept l (after w event (reply l w event)) recorded.new notes.new) }
+    ensures memory { IfErr result (λ e. e ≡ NoMemory) }
+{
+    notes.forget(task);
+    let outcome = recorded.make(event)?;
+    if matches!(outcome, Outcome::Made) {
+        notes.renew(&event, recorded.trace.len() as u64);
+    }
+    Ok(outcome)
+}
+
+impl<'p> Runner<'p> {
+    /// The run before its first event. `Memory` where there is too little for the world, for a
+    /// place for each task, or for the notes.
+    pub(crate) fn new(alloc: Global, program: &'p Program) -> Result<Runner<'p>, Refusal>
+        ensures stands { IfOk result (λ r. RunStands program.now [] r) }
+        ensures memory { IfErr result (λ e. e ≡ NoMemory) }
+    {
+        let recorded = Record::new(alloc, program.limits())?;
+        let bodies = Bodies::new(alloc, program)?;
+        let notes = Notes::new(alloc, program.limits())?;
+        Ok(Runner {
+            recorded,
+            bodies,
+            notes,
+        })
+    }
+
+    /// The least numbers that aren't in use.
+    fn unused(&self) -> Numbers
+        ensures { (l : limits.Limits) (w : List Event) → StandsFor w self.now.recorded.world
+            → self.now.recorded.world.limits ≡ l → numbers_view result ≡ unused l w }
+    {
+        let least = self.recorded.world.unused();
+        Numbers {
+            phaser: least.phaser,
+            task: least.task,
+            finish: least.finish,
+        }
+    }
+
+    /// An idle task begins its next act. Where that is refused, its log says so, and it ends.
+    fn begin(&mut self, task: u32) -> Result<(), Refusal>
+        ensures stands { IfOk result (λ _. (p : programs.Program) (w : List Event) → RunStands p w self.old
+            → is_idle task w ≡ true → RunStands p (pick p w task) self.new) }
+        ensures memory { IfErr result (λ e. e ≡ NoMemory) }
+    {
+        let new = self.unused();
+        let own = self.recorded.world.own_pairs(task);
+        let act = self.bodies.next_act(task);
+        let tried = tried_of(own, new, &act);
+        let event = made(task, &tried);
+        match try_event(&mut self.recorded, &mut self.notes, task, event)? {
+            Outcome::Made => {
+                settle(&mut self.bodies, task, new, act);
+                Ok(())
+            }
+            Outcome::Waits => Ok(()),
+            Outcome::Refused(refusal) => {
+                let entry = refused(task, &tried, refusal);
+                try_event(&mut self.recorded, &mut self.notes, task, entry)?;
+                Ok(())
+            }
+        }
+    }
+
+    /// A task goes on with its act. Where its event is not yet made, that is noted, and where it is
+    /// refused, the task gives up, and ends.
+    fn go_on(&mut self, task: u32) -> Result<(), Refusal>
+        ensures stands { IfOk result (λ _. (p : programs.Program) (w : List Event) → RunStands p w self.old
+            → is_idle task w ≡ false → is_born task w ≡ true → is_ended task w ≡ false
+            → RunStands p (pick p w task) self.new) }
+        ensures memory { IfErr result (λ e. e ≡ NoMemory) }
+    {
+        let Some(event) = self.recorded.world.next_event(task) else {
+            return Ok(());
+        };
+        match try_event(&mut self.recorded, &mut self.notes, task, event)? {
+            Outcome::Made => Ok(()),
+            Outcome::Waits => {
+                self.notes
+                    .hold(task, &event, self.recorded.trace.len() as u64);
+                Ok(())
+            }
+            Outcome::Refused(refusal) => {
+                let entry = WorldEvent::Fail(task, refusal.number());
+                try_event(&mut self.recorded, &mut self.notes, task, entry)?;
+                Ok(())
+            }
+        }
+    }
+
+    /// The task is asked for its next event: it makes at most one. One that has to wait, has ended,
+    /// or was never spawned makes none. `Memory` where the trace can't grow.
+    fn ask(&mut self, task: u32) -> Result<(), Refusal>
+        ensures stands { IfOk result (λ _. (p : programs.Program) (w : List Event) → RunStands p w self.old
+            → RunStands p (pick p w task) self.new) }
+        ensures memory { IfErr result (λ e. e ≡ NoMemory) }
+    {
+        let Some(condition) = self.recorded.world.condition(task) else {
+            return Ok(());
+        };
+        match condition {
+            Condition::Idle => self.begin(task),
+            Condition::Ended => Ok(()),
+            _ => self.go_on(task),
+        }
+    }
+
+    /// The task is picked: it is asked, unless it waits where nothing was done since.
+    pub(crate) fn pick(&mut self, task: u32) -> Result<(), Refusal>
+        ensures stands { IfOk result (λ _. (p : programs.Program) (w : List Event) → RunStands p w self.old
+            → RunStands p (pick p w task) self.new) }
+        ensures memory { IfErr result (λ e. e ≡ NoMemory) }
+    {
+        if self.notes.holds(task) {
+            return Ok(());
+        }
+        self.ask(task)
+    }
+
+    /// The tasks are picked in this order.
+    fn picks(&mut self, picks: &[u32]) -> Result<(), Refusal>
+        ensures stands { IfOk result (λ _. (p : programs.Program) (w : List Event) → RunStands p w self.old
+            → RunStands p (picked p w picks.now) self.new) }
+        ensures memory { IfErr result (λ e. e ≡ NoMemory) }
+    {
+        for task in picks {
+            self.pick(*task)?;
+        }
+        Ok(())
+    }
+
+    /// Whether no task has the number, and so none a greater one: numbers are drawn without gaps.
+    fn is_unused(&self, task: u32) -> bool
+        ensures { result ≡ true → (p : programs.Program) (w : List Event) → RunStands p w self.now
+            → is_named task w ≡ false }
+    {
+        if self.recorded.world.condition(task).is_some() {
+            return false;
+        }
+        self.recorded.world.unused().task <= task
+    }
+
+    /// Each task is picked once, by number, up to the first number that no task has.
+    fn round(&mut self) -> Result<(), Refusal>
+        ensures stands { IfOk result (λ _. (p : programs.Program) (w : List Event) → RunStands p w self.old
+            → RunStands p (round_from p.limits.tasks 0 p w) self.new) }
+        ensures memory { IfErr result (λ e. e ≡ NoMemory) }
+    {
+        let tasks = self.recorded.trace.limits().tasks;
+        for task in 0..tasks {
+            if self.notes.holds(task) {
+                continue;
+            }
+            if self.is_unused(task) {
+                return Ok(());
+            }
+            self.ask(task)?;
+        }
+        Ok(())
+    }
+
+    /// Whether the root has ended, and with it the run.
+    fn has_ended(&self) -> bool
+        ensures { (w : List Event) → StandsFor w self.now.recorded.world → result ≡ is_ended 0 w }
+    {
+        matches!(self.recorded.world.condition(0), Some(Condition::Ended))
+    }
+
+    /// The tasks are picked by number, round after round, until the root has ended. In each round
+    /// some task moves, so the rounds come to an end before they can't be counted any more.
+    fn rounds(&mut self) -> Result<(), Refusal>
+        requires stands { (p : programs.Program) × (w : List Event) × RunStands p w self.old }
+        ensures ended { IfOk result (λ _. (p : programs.Program) (w : List Event) → RunStands p w self.old
+            → (n : ℕ) × (is_ended 0 (rounds n p w) ≡ true) × RunStands p (rounds n p w) self.new) }
+        ensures memory { IfErr result (λ e. e ≡ NoMemory) }
+    {
+        for _round in 0..u64::MAX {
+            if self.has_ended() {
+                return Ok(());
+            }
+            self.round()?;
+        }
+        let _events = self.recorded.trace.len();
+        unreachable!()
+    }
+
+    /// The trace of the run.
+    pub(crate) fn into_trace(self) -> Trace
+        ensures { result ≡ self.entry.recorded.trace }
+    {
+        let Runner {
+            recorded,
+            bodies: _,
+            notes: _,
+        } = self;
+        let Record { world: _, trace } = recorded;
+        trace
+    }
+}
+
+/// The run by these picks, and then by rounds until the root has ended. `Memory` where there is too
+/// little for it.
+pub(crate) fn played<'p>(
+    alloc: Global,
+    program: &'p Program,
+    picks: &[u32],
+) -> Result<Runner<'p>, Refusal>
+    ensures run { IfOk result (λ r. (n : ℕ) × (is_ended 0 (run_within n program.now picks.now) ≡ true)
+        × RunStands program.now (run_within n program.now picks.now) r) }
+    ensures memory { IfErr result (λ e. e ≡ NoMemory) }
+{
+    let mut runner = Runner::new(alloc, program)?;
+    runner.picks(picks)?;
+    runner.rounds()?;
+    Ok(runner)
+}

@@ -1,0 +1,77 @@
+//! The spawn of a child.
+ghost use Rattle.std.specs.Prelude.{◌≡◌, ◌<◌, length, IfOk, IfErr, true};
+ghost use Rattle.finish_core.specs.Replies.{reply as answer};
+ghost use Rattle.world_steps.specs.Kept.{finish_at, task_at};
+ghost use Rattle.world_steps.specs.inner.SpawnSteps.{spawner_at, is_to_spawn, spawn_wanted, spawn_answer, spawn_state, finish_spawned};
+ghost use Rattle.world_steps.specs.StandsFor.{IsStep};
+
+use super::Tables;
+use finish_core::FinishEvent;
+use phase_modes::Refusal;
+use world_model::{Reply, WorldEvent};
+
+impl Tables {
+    /// Who began to spawn the task; a number without a task has the root.
+    fn spawner(&self, child: u32) -> u32
+        ensures { result ≡ spawner_at self.now child }
+    {
+        if child as usize >= self.tasks.len() {
+            return 0;
+        }
+        let line = &self.tasks[child as usize];
+        line.spawner()
+    }
+
+    /// Whether the task's next event is to spawn this child in this finish.
+    fn is_to_spawn(&self, task: u32, finish: u32, child: u32) -> bool
+        ensures to { result ≡ is_to_spawn (task_at self.now task) finish child }
+        ensures place { result ≡ true → task < length self.now.tasks }
+    {
+        if task as usize >= self.tasks.len() {
+            return false;
+        }
+        let line = &self.tasks[task as usize];
+        line.is_to_spawn(finish, child)
+    }
+
+    /// Asks a finish to note a spawn. A number without a finish has none open.
+    fn spawn_in(&mut self, finish: u32, child: u32) -> Result<(), Refusal>
+        ensures reply { result ≡ answer (finish_at self.old finish).tasks (finish_at self.old finish).past
+            (FinishEvent.Spawned child) }
+        ensures state { IfOk result (λ _. self.new ≡ finish_spawned self.old finish child) }
+        ensures place { IfOk result (λ _. finish < length self.old.finishes) }
+        ensures kept { IfErr result (λ _. self.new ≡ self.old) }
+    {
+        if finish as usize >= self.finishes.len() {
+            return Err(Refusal::NotNow);
+        }
+        let state = &mut self.finishes[finish as usize];
+        state.spawned(child)?;
+        Ok(())
+    }
+
+    /// The spawn of a child that was named.
+    fn spawn_child(&mut self, finish: u32, child: u32) -> Result<Reply, Refusal>
+        ensures answer { result ≡ spawn_answer self.old finish child }
+        ensures state { self.new ≡ spawn_state self.old finish child }
+    {
+        let spawner = self.spawner(child);
+        if !self.is_to_spawn(spawner, finish, child) || child as usize >= self.tasks.len() {
+            return Err(Refusal::NotNow);
+        }
+        self.spawn_in(finish, child)?;
+        let clock = self.tasks[spawner as usize].clock();
+        let born = &mut self.tasks[child as usize];
+        born.note_birth(finish, clock);
+        let line = &mut self.tasks[spawner as usize];
+        line.note_spawn();
+        Ok(Reply::Done)
+    }
+
+    /// The step that spawns a child.
+    pub(super) fn step_spawn(&mut self, finish: u32, child: u32) -> Result<Reply, Refusal>
+        ensures { IsStep (WorldEvent.Finish finish (FinishEvent.Spawned child)) self.old self.new result }
+    {
+        self.spawn_child(finish, child)
+    }
+}

@@ -1,0 +1,56 @@
+//! What a task's record keeps of the drops that it still has to make.
+ghost use Rattle.std.specs.Prelude.{◌≡◌, ◌≤◌, ◌==◌, not, length, filter, vec_capacity};
+ghost use Rattle.world_steps.specs.inner.DropSteps.{is_to_drop, gone_from, drop_noted};
+
+use super::*;
+
+impl Task {
+    /// Whether its next event is that this task leaves this phaser; the first number is its own.
+    pub(crate) fn is_to_drop(&self, own: u32, phaser: u32, task: u32) -> bool
+        ensures { result ≡ is_to_drop self.now own phaser task }
+    {
+        match self.plan {
+            Plan::Shutting => self.left.first().copied() == Some(phaser) && own == task,
+            Plan::Ending(child) => {
+                if self.left.is_empty() {
+                    self.phasers.first().copied() == Some(phaser) && own == task
+                } else {
+                    self.left[0] == phaser && child == task
+                }
+            }
+            _ => false,
+        }
+    }
+
+    /// Whether it was spawned.
+    pub(crate) fn is_born(&self) -> bool
+        ensures { result ≡ self.now.is_born }
+    {
+        self.born
+    }
+
+    /// Notes that it has left this phaser.
+    pub(crate) fn note_gone(&mut self, phaser: u32)
+        ensures { self.new ≡ gone_from phaser self.old }
+    {
+        take_off(&mut self.phasers, phaser);
+    }
+
+    /// Notes that the first drop was made.
+    pub(crate) fn note_drop(&mut self)
+        ensures { self.new ≡ drop_noted self.old }
+    {
+        if !self.left.is_empty() {
+            let _made = self.left.remove(0);
+        }
+    }
+}
+
+/// Takes a number off the list.
+fn take_off(list: &mut Vec<u32>, phaser: u32)
+    ensures left { list.new.items ≡ filter (λ m. not (m == phaser)) list.old.items }
+    ensures few { length list.new.items ≤ length list.old.items }
+    ensures room { vec_capacity list.new ≡ vec_capacity list.old }
+{
+    list.retain(|m| *m != phaser);
+}

@@ -1,0 +1,51 @@
+//! What a task's record keeps of a spawn under way.
+ghost use Rattle.std.specs.Prelude.{◌≡◌};
+ghost use Rattle.world_steps.specs.inner.SpawnSteps.{is_to_spawn, born_in, spawn_noted};
+
+use super::Task;
+use world_steps::Plan;
+
+impl Task {
+    /// Whether its next event is to spawn this child in this finish.
+    pub(crate) fn is_to_spawn(&self, finish: u32, child: u32) -> bool
+        ensures { result ≡ is_to_spawn self.now finish child }
+    {
+        match self.plan {
+            Plan::Spawning(named, pairs, made) => made as usize >= pairs.len()
+                && self.inner() == finish
+                && named == child,
+            _ => false,
+        }
+    }
+
+    /// Who began to spawn it.
+    pub(crate) fn spawner(&self) -> u32
+        ensures { result ≡ self.now.spawner }
+    {
+        self.spawner
+    }
+
+    /// How many turns it has completed.
+    pub(crate) fn clock(&self) -> u32
+        ensures { result ≡ self.now.clock }
+    {
+        self.clock
+    }
+
+    /// Notes that it was spawned in this finish, by a task with this clock.
+    pub(crate) fn note_birth(&mut self, finish: u32, clock: u32)
+        ensures { self.new ≡ born_in finish clock self.old }
+    {
+        self.born = true;
+        self.home = finish;
+        self.clock = clock;
+    }
+
+    /// Notes that it has spawned its child.
+    pub(crate) fn note_spawn(&mut self)
+        ensures { self.new ≡ spawn_noted self.old }
+    {
+        self.plan = Plan::Idle;
+        self.left.clear();
+    }
+}
