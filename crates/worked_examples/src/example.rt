@@ -1,5 +1,5 @@
 //! What an example is made of.
-ghost use Rattle.std.specs.Prelude.{◌≡◌, ◌<◌, ◌≤◌, take, ◌∷◌, [], none, some};
+ghost use Rattle.std.specs.Prelude.{◌≡◌, ◌<◌, ◌≤◌, take, ◌∷◌, [], None, Some, MatchOption};
 ghost use Rattle.phase_model.specs.declared.op.Op.TheVariants.{Sum, Least, Greatest};
 
 use phase_model::{Bound, Call, Op, Ops, Reply, Terms};
@@ -88,9 +88,8 @@ impl Example {
     /// What the example's phaser is made with.
     pub fn terms(&self) -> Terms
         ensures ops { result.ops ≡ take self.now.operators (Sum ∷ Least ∷ Greatest ∷ Sum ∷ []) }
-        ensures unbounded { self.now.bound ≡ none → result.bound ≡ none }
-        ensures bounded { (phases : _) → 0 < phases → phases ≤ 65536 → self.now.bound ≡ some phases
-            → result.bound ≡ some phases }
+        ensures bound { MatchOption self.now.bound (result.bound ≡ None)
+            (λ phases. 0 < phases → phases ≤ 65536 → result.bound ≡ Some phases) }
     {
         Terms {
             ops: first_ops(self.operators),
