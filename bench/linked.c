@@ -1,4 +1,4 @@
-/* Measures turns of one phaser through the C interface: linked TASKS PHASERS. As `core_bench turn` does, it registers so
+/* Measures turns of one phaser through the C interface: linked TASKS PHASERS. As `phaser_bench core turn` does, it registers so
  * many tasks, who signal in turn and then pass in turn until the history is full, phaser after phaser. It prints how many
  * calls were made, and nanoseconds of processor time for each. */
 #include "paldwosk.h"

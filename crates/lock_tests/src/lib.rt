@@ -1,0 +1,14 @@
+//! Tests of `share_book` and `scope_locks`, which call what these export.
+//!
+//! A library of tests alone: where they stood in the crates themselves, these would be proved once
+//! more with each change of a test.
+#![tactic(auto)]
+
+#[cfg(test)]
+mod books;
+#[cfg(test)]
+mod finishes;
+#[cfg(test)]
+mod tables;
+#[cfg(test)]
+mod waiter;

@@ -1,0 +1,304 @@
+//! The worked examples of one phaser, by one thread through a table. A task that has to come again
+//! is parked.
+ghost use Rattle.std.specs.Prelude.{◌≡◌, [], ◌<◌, ◌≤◌, true};
+ghost use Rattle.phase_modes.specs.Limits.{limits_fit};
+ghost use Rattle.share_book.specs.Opening.{IsNamed, IsParted};
+
+use super::*;
+use phase_model::{Call, Look, Terms};
+use scope_locks::Tickets;
+use share_book::Seven;
+use std::marker::Brand;
+use std::sync::Wait;
+use std::sync::ledger::Ledger;
+use std::test::Fail;
+use worked_examples::*;
+
+fn plainly(answer: Result<(), Refusal>) -> Reply {
+    match answer {
+        Ok(()) => Reply::Done,
+        Err(refusal) => Reply::Refused(refusal),
+    }
+}
+
+fn looked(answer: Result<Look, Refusal>) -> Reply {
+    match answer {
+        Ok(seen) => Reply::Saw(seen),
+        Err(refusal) => Reply::Refused(refusal),
+    }
+}
+
+/// Makes the call on a phaser of the table, a making with these terms. The item of a task is
+/// its number.
+fn answer_to<K: Ledgers, R: Wait>(
+    rt: &R,
+    table: &PhaserTable<u32, K>,
+    number: usize,
+    tickets: &Tickets,
+    mine: &mut Shares<K>,
+    out: &mut Out<u32>,
+    terms: Terms,
+    call: Call,
+) -> Reply
+    requires number { number < table.now.phasers }
+    requires empty { out.old ≡ [] }
+{
+    match call {
+        Call::Make(task, mode) => {
+            let Terms { ops, bound } = terms;
+            plainly(table.make(rt, number, tickets, mine, task, mode, ops, bound))
+        }
+        Call::Register(parent, child, mode) => {
+            plainly(table.register(rt, number, tickets, mine, parent, child, mode))
+        }
+        Call::Signal(task, proposed) => {
+            signalled(table.signal(rt, number, tickets, mine, out, task, proposed, task))
+        }
+        Call::Pass(task) => turned(table.pass(rt, number, tickets, mine, out, task, task)),
+        Call::SingleDone(task) => plainly(table.single_done(rt, number, tickets, mine, out, task)),
+        Call::Send(task, accumulator, value) => {
+            plainly(table.send(rt, number, tickets, mine, task, accumulator, value))
+        }
+        Call::Look(task, accumulator) => looked(table.look(
+            rt,
+            number,
+            tickets,
+            mine,
+            task,
+            accumulator,
+        )),
+        Call::Drop(task) => plainly(table.drop_task(rt, number, tickets, mine, out, task)),
+    }
+}
+
+/// What the call on phaser 0 is answered; `Memory` where there is none for the list of those whom
+/// it wakes. They are dropped.
+fn answer_alone<K: Ledgers, R: Wait>(
+    rt: &R,
+    alloc: Global,
+    table: &PhaserTable<u32, K>,
+    tickets: &Tickets,
+    mine: &mut Shares<K>,
+    terms: Terms,
+    call: Call,
+) -> Reply
+    requires { 0 < table.now.phasers }
+{
+    let Ok(mut out) = Out::new(alloc) else {
+        return Reply::Refused(Refusal::Memory);
+    };
+    answer_to(rt, table, 0, tickets, mine, &mut out, terms, call)
+}
+
+/// Each call on phaser 0 is answered as its row says.
+fn answers<K: Ledgers, R: Abort + Wait>(
+    rt: &R,
+    alloc: Global,
+    table: &PhaserTable<u32, K>,
+    tickets: &Tickets,
+    mine: &mut Shares<K>,
+    terms: &Terms,
+    rows: &[Row],
+)
+    requires { 0 < table.now.phasers }
+{
+    for (call, expected) in rows {
+        let answer = answer_alone(rt, alloc, table, tickets, mine, *terms, *call);
+        assert_eq!(rt; answer, *expected, "{call:?}");
+    }
+}
+
+/// Each call of the one worker on phaser 0 is answered as its row says.
+fn answers_the_one<K: Ledgers, R: Abort + Wait>(
+    rt: &R,
+    alloc: Global,
+    table: &PhaserTable<u32, K>,
+    tickets: &Tickets,
+    shares: &mut Vec<Shares<K>>,
+    terms: Terms,
+    rows: &[Row],
+)
+    requires { 0 < table.now.phasers }
+{
+    assert_eq!(rt; shares.len(), 1);
+    if let Some(mine) = shares.get_mut(0) {
+        answers(rt, alloc, table, tickets, mine, &terms, rows);
+    }
+}
+
+/// How many of the rows are events: those that are neither refused nor have to come again.
+fn events_of_rows(rows: &[Row]) -> u64 {
+    let mut events = 0u64;
+    for (_call, reply) in rows {
+        match reply {
+            Reply::NotYet | Reply::Refused(_) => {}
+            _ => events = events.saturating_add(1),
+        }
+    }
+    events
+}
+
+/// Each call on a new phaser is answered as its row says; the history that they leave is merged, and
+/// gathered. Names the ledgers.
+fn answers_as_worked_out<R: Abort + Wait>(
+    rt: &R,
+    alloc: Global,
+    example: &Example,
+) -> Result<(), Fail> {
+    let limits = example.limits();
+    if !limits.fits() {
+        return Err(Fail::from("the limits are none"));
+    }
+    let blanks = Blanks::new(1, 1);
+    let totals = named::<R, Brand, Brand, Brand, Brand, Brand, Brand, Brand>(
+        rt,
+        alloc,
+        blanks,
+        limits,
+        example.terms(),
+        example.rows,
+    )?;
+    assert_eq!(rt; totals.events, events_of_rows(example.rows));
+    Ok(())
+}
+
+fn named<
+    R: Abort + Wait,
+    A: Ledger,
+    B: Ledger,
+    C: Ledger,
+    D: Ledger,
+    E: Ledger,
+    F: Ledger,
+    G: Ledger,
+>(
+    rt: &R,
+    alloc: Global,
+    blanks: Blanks,
+    limits: Limits,
+    terms: Terms,
+    rows: &[Row],
+) -> Result<Totals, Refusal>
+    requires names { IsNamed blanks A.name B.name C.name D.name E.name F.name G.name }
+    requires parts { IsParted blanks A.parts B.parts C.parts D.parts E.parts F.parts G.parts }
+    requires limits { limits_fit limits ≡ true }
+    requires one { blanks.phasers ≡ 1 }
+{
+    play::<Seven<A, B, C, D, E, F, G>, R>(rt, alloc, blanks, limits, terms, rows)
+}
+
+/// What is gathered once each call was answered as its row says.
+fn play<K: Ledgers, R: Abort + Wait>(
+    rt: &R,
+    alloc: Global,
+    blanks: Blanks,
+    limits: Limits,
+    terms: Terms,
+    rows: &[Row],
+) -> Result<Totals, Refusal>
+    requires names { IsNamed blanks K.EventsByPhaser.name K.EventsByWorker.name K.UpByPhaser.name
+        K.UpByWorker.name K.DownByPhaser.name K.DownByWorker.name K.Room.name }
+    requires parts { IsParted blanks K.EventsByPhaser.parts K.EventsByWorker.parts K.UpByPhaser.parts
+        K.UpByWorker.parts K.DownByPhaser.parts K.DownByWorker.parts K.Room.parts }
+    requires limits { limits_fit limits ≡ true }
+    requires one { blanks.phasers ≡ 1 }
+{
+    let (table, mut shares) = fresh::<K>(alloc, limits, blanks)?;
+    answers_the_one(rt, alloc, &table, &Tickets::new(), &mut shares, terms, rows);
+    gathered(rt, alloc, limits, table, shares)
+}
+
+#[test]
+fn one_task_turn(rt: HostRuntime) -> Result<(), Fail> {
+    answers_as_worked_out(&rt, rt.alloc(), &ONE_TASK_TURN)
+}
+
+#[test]
+fn late_reader(rt: HostRuntime) -> Result<(), Fail> {
+    answers_as_worked_out(&rt, rt.alloc(), &LATE_READER)
+}
+
+#[test]
+fn two_tasks_turn(rt: HostRuntime) -> Result<(), Fail> {
+    answers_as_worked_out(&rt, rt.alloc(), &TWO_TASKS_TURN)
+}
+
+#[test]
+fn waiter_alone(rt: HostRuntime) -> Result<(), Fail> {
+    answers_as_worked_out(&rt, rt.alloc(), &WAITER_ALONE)
+}
+
+#[test]
+fn split_phase_child(rt: HostRuntime) -> Result<(), Fail> {
+    answers_as_worked_out(&rt, rt.alloc(), &SPLIT_PHASE_CHILD)
+}
+
+#[test]
+fn signaller_runs_ahead(rt: HostRuntime) -> Result<(), Fail> {
+    answers_as_worked_out(&rt, rt.alloc(), &SIGNALLER_RUNS_AHEAD)
+}
+
+#[test]
+fn value_of_dropped_sender(rt: HostRuntime) -> Result<(), Fail> {
+    answers_as_worked_out(&rt, rt.alloc(), &VALUE_OF_DROPPED_SENDER)
+}
+
+#[test]
+fn empty_folds(rt: HostRuntime) -> Result<(), Fail> {
+    answers_as_worked_out(&rt, rt.alloc(), &EMPTY_FOLDS)
+}
+
+#[test]
+fn extreme_values(rt: HostRuntime) -> Result<(), Fail> {
+    answers_as_worked_out(&rt, rt.alloc(), &EXTREME_VALUES)
+}
+
+#[test]
+fn value_after_signal(rt: HostRuntime) -> Result<(), Fail> {
+    answers_as_worked_out(&rt, rt.alloc(), &VALUE_AFTER_SIGNAL)
+}
+
+#[test]
+fn single_statement(rt: HostRuntime) -> Result<(), Fail> {
+    answers_as_worked_out(&rt, rt.alloc(), &SINGLE_STATEMENT)
+}
+
+#[test]
+fn history_full(rt: HostRuntime) -> Result<(), Fail> {
+    answers_as_worked_out(&rt, rt.alloc(), &HISTORY_FULL)
+}
+
+#[test]
+fn refusals_in_order(rt: HostRuntime) -> Result<(), Fail> {
+    answers_as_worked_out(&rt, rt.alloc(), &REFUSALS_IN_ORDER)
+}
+
+#[test]
+fn registrations_full(rt: HostRuntime) -> Result<(), Fail> {
+    answers_as_worked_out(&rt, rt.alloc(), &REGISTRATIONS_FULL)
+}
+
+#[test]
+fn no_room_for_a_single(rt: HostRuntime) -> Result<(), Fail> {
+    answers_as_worked_out(&rt, rt.alloc(), &NO_ROOM_FOR_A_SINGLE)
+}
+
+#[test]
+fn room_for_a_single(rt: HostRuntime) -> Result<(), Fail> {
+    answers_as_worked_out(&rt, rt.alloc(), &ROOM_FOR_A_SINGLE)
+}
+
+#[test]
+fn bounded_signaller(rt: HostRuntime) -> Result<(), Fail> {
+    answers_as_worked_out(&rt, rt.alloc(), &BOUNDED_SIGNALLER)
+}
+
+#[test]
+fn bound_and_refusals(rt: HostRuntime) -> Result<(), Fail> {
+    answers_as_worked_out(&rt, rt.alloc(), &BOUND_AND_REFUSALS)
+}
+
+#[test]
+fn asked_again_while_parked(rt: HostRuntime) -> Result<(), Fail> {
+    answers_as_worked_out(&rt, rt.alloc(), &ASKED_AGAIN_WHILE_PARKED)
+}

@@ -1,0 +1,494 @@
+//! Threads that call at the same time: two phasers are locked apart, and four threads on eight
+//! phasers leave histories that are merged by their tickets, and books that are gathered.
+ghost use Rattle.std.specs.Prelude.{◌≡◌, [], ◌<◌, true};
+ghost use Rattle.share_book.specs.Opening.{IsNamed, IsParted};
+
+use super::*;
+use phase_model::Ops;
+use phase_modes::Mode;
+use scope_locks::Tickets;
+use share_book::Seven;
+use std::marker::Brand;
+use std::sync::Wait;
+use std::sync::atomic::{AtomicU64, Ordering};
+use std::sync::ledger::Ledger;
+use std::test::Fail;
+use std::thread;
+use std::thread::Threads;
+use worked_examples::first_ops;
+
+/// How many turns a thread waits for the other before it gives up.
+const MOST_TURNS: u64 = 10_000_000;
+
+/// Waits until the word isn't 0, at most so many turns. Whether it saw that.
+fn saw(word: &AtomicU64, turns: u64) -> bool {
+    for _turn in 0..turns {
+        if word.load(Ordering::SeqCst) > 0 {
+            return true;
+        }
+        thread::yield_now();
+    }
+    false
+}
+
+/// Tells the other thread that the lock is held, and waits for its answer, for so many turns.
+/// Whether that came.
+fn wait_for_answer(held: &AtomicU64, answered: &AtomicU64, turns: u64) -> bool {
+    held.store(1, Ordering::SeqCst);
+    saw(answered, turns)
+}
+
+/// Holds phaser 0's lock until the other thread's call has answered, or for so many turns. Whether
+/// the call has answered before the lock was given back.
+fn hold<K: Ledgers, R: Wait>(
+    rt: &R,
+    table: &PhaserTable<u32, K>,
+    held: &AtomicU64,
+    answered: &AtomicU64,
+    turns: u64,
+) -> bool
+    requires { 0 < table.now.phasers }
+{
+    let guard = table.lock(rt, 0);
+    let seen = wait_for_answer(held, answered, turns);
+    drop(guard);
+    seen
+}
+
+/// Task 0 signals on the phaser once the other thread has phaser 0's lock.
+/// Whether that was so, and it has signalled.
+fn call<K: Ledgers, R: Wait>(
+    rt: &R,
+    alloc: Global,
+    table: &PhaserTable<u32, K>,
+    number: usize,
+    tickets: &Tickets,
+    held: &AtomicU64,
+    answered: &AtomicU64,
+    mine: &mut Shares<K>,
+) -> bool
+    requires { number < table.now.phasers }
+{
+    let Ok(mut out) = Out::new(alloc) else {
+        return false;
+    };
+    let seen = saw(held, MOST_TURNS);
+    let answer = signalled(table.signal(rt, number, tickets, mine, &mut out, 0, None, 0));
+    answered.store(1, Ordering::SeqCst);
+    seen && answer == Reply::Done
+}
+
+/// Task 0 makes this phaser. Then one thread holds phaser 0's lock, for so many turns, while another
+/// signals on this one.
+fn hold_and_call<K: Ledgers + Send + Sync, R: Threads + Wait + Sync>(
+    rt: &R,
+    alloc: Global,
+    table: &PhaserTable<u32, K>,
+    mut mine: Shares<K>,
+    number: usize,
+    turns: u64,
+) -> Result<(bool, bool), Refusal>
+where
+    K::EventsByPhaser: Send + Sync,
+    K::EventsByWorker: Send + Sync,
+    K::UpByPhaser: Send + Sync,
+    K::UpByWorker: Send + Sync,
+    K::DownByPhaser: Send + Sync,
+    K::DownByWorker: Send + Sync,
+    K::Room: Send + Sync,
+    requires held { 0 < table.now.phasers }
+    requires number { number < table.now.phasers }
+{
+    let held = AtomicU64::new(0);
+    let answered = AtomicU64::new(0);
+    let tickets = Tickets::new();
+    table.make(
+        rt,
+        number,
+        &tickets,
+        &mut mine,
+        0,
+        Mode::SigWait,
+        Ops::none(),
+        None,
+    )?;
+    let drawn = &tickets;
+    let first = &held;
+    let second = &answered;
+    Ok(thread::join(
+        rt,
+        move || hold(rt, table, first, second, turns),
+        move || call(rt, alloc, table, number, drawn, first, second, &mut mine),
+    ))
+}
+
+/// The share of the only worker.
+fn only_share<K: Ledgers>(mut shares: Vec<Shares<K>>) -> Result<Shares<K>, Refusal> {
+    shares.pop().ok_or(Refusal::SharesDiffer)
+}
+
+/// Both threads' parts, on a new table.
+fn apart<K: Ledgers + Send + Sync, R: Threads + Wait + Sync>(
+    rt: &R,
+    alloc: Global,
+    blanks: Blanks,
+    number: usize,
+    turns: u64,
+) -> Result<(bool, bool), Refusal>
+where
+    K::EventsByPhaser: Send + Sync,
+    K::EventsByWorker: Send + Sync,
+    K::UpByPhaser: Send + Sync,
+    K::UpByWorker: Send + Sync,
+    K::DownByPhaser: Send + Sync,
+    K::DownByWorker: Send + Sync,
+    K::Room: Send + Sync,
+    requires names { IsNamed blanks K.EventsByPhaser.name K.EventsByWorker.name K.UpByPhaser.name
+        K.UpByWorker.name K.DownByPhaser.name K.DownByWorker.name K.Room.name }
+    requires parts { IsParted blanks K.EventsByPhaser.parts K.EventsByWorker.parts K.UpByPhaser.parts
+        K.UpByWorker.parts K.DownByPhaser.parts K.DownByWorker.parts K.Room.parts }
+    requires two { blanks.phasers ≡ 2 }
+    requires number { number < 2 }
+{
+    let (table, shares) = fresh::<K>(alloc, Limits::default(), blanks)?;
+    let mine = only_share(shares)?;
+    hold_and_call(rt, alloc, &table, mine, number, turns)
+}
+
+fn named_apart<
+    R: Threads + Wait + Sync,
+    A: Ledger + Send + Sync,
+    B: Ledger + Send + Sync,
+    C: Ledger + Send + Sync,
+    D: Ledger + Send + Sync,
+    E: Ledger + Send + Sync,
+    F: Ledger + Send + Sync,
+    G: Ledger + Send + Sync,
+>(rt: &R, alloc: Global, blanks: Blanks, number: usize, turns: u64) -> Result<(bool, bool), Refusal>
+    requires names { IsNamed blanks A.name B.name C.name D.name E.name F.name G.name }
+    requires parts { IsParted blanks A.parts B.parts C.parts D.parts E.parts F.parts G.parts }
+    requires two { blanks.phasers ≡ 2 }
+    requires number { number < 2 }
+{
+    apart::<Seven<A, B, C, D, E, F, G>, R>(rt, alloc, blanks, number, turns)
+}
+
+/// Names the ledgers.
+fn held_while_signalled<R: Threads + Wait + Sync>(
+    rt: &R,
+    alloc: Global,
+    number: usize,
+    turns: u64,
+) -> Result<(bool, bool), Refusal>
+    requires { number < 2 }
+{
+    let blanks = Blanks::new(2, 1);
+    named_apart::<R, Brand, Brand, Brand, Brand, Brand, Brand, Brand>(
+        rt, alloc, blanks, number, turns,
+    )
+}
+
+/// While one thread holds phaser 0's lock, another's signal on phaser 1 answers.
+#[test]
+fn two_phasers_lock_apart(rt: HostRuntime) -> Result<(), Fail> {
+    assert_eq!(rt;
+        held_while_signalled(&rt, rt.alloc(), 1, MOST_TURNS),
+        Ok((true, true))
+    );
+    Ok(())
+}
+
+/// A signal on phaser 0 itself answers only once the lock is given back. So the test above would fail
+/// if one lock were for the whole table.
+#[test]
+fn one_phaser_locks_once(rt: HostRuntime) -> Result<(), Fail> {
+    assert_eq!(rt;
+        held_while_signalled(&rt, rt.alloc(), 0, 10_000),
+        Ok((false, true))
+    );
+    Ok(())
+}
+
+const PHASERS: u32 = 8;
+
+const WORKERS: u32 = 4;
+
+/// So many turns of each worker on each phaser, with four calls a turn, and so many runs.
+const TURNS: u32 = 4;
+
+const RUNS: u32 = 200;
+
+/// Room for all events of a run, and no more than its tasks.
+const CROWD: Limits = Limits {
+    acts: 4_096,
+    finishes: 64,
+    history: 128,
+    phasers: 8,
+    regs: 4,
+    tasks: 4,
+};
+
+/// On one phaser the task signals, asks to pass, sends this value and looks. Refused where somebody
+/// whom it woke before is still in the list.
+fn call_one<K: Ledgers, R: Wait>(
+    rt: &R,
+    table: &PhaserTable<u32, K>,
+    number: usize,
+    tickets: &Tickets,
+    mine: &mut Shares<K>,
+    out: &mut Out<u32>,
+    task: u32,
+    value: i32,
+) -> Result<(), Refusal>
+    requires { number < table.now.phasers }
+{
+    if !is_drained(out) {
+        return Err(Refusal::SharesDiffer);
+    }
+    let _signalled = signalled(table.signal(rt, number, tickets, mine, out, task, None, task));
+    if !is_drained(out) {
+        return Err(Refusal::SharesDiffer);
+    }
+    let _passed = turned(table.pass(rt, number, tickets, mine, out, task, task));
+    let _sent = table.send(rt, number, tickets, mine, task, 0, value);
+    let _seen = table.look(rt, number, tickets, mine, task, 0);
+    Ok(())
+}
+
+/// A turn on each phaser.
+fn call_each<K: Ledgers, R: Wait>(
+    rt: &R,
+    table: &PhaserTable<u32, K>,
+    tickets: &Tickets,
+    mine: &mut Shares<K>,
+    out: &mut Out<u32>,
+    task: u32,
+    value: i32,
+) -> Result<(), Refusal>
+    requires { table.now.phasers ≡ 8 }
+{
+    for number in 0..PHASERS as usize {
+        call_one(rt, table, number, tickets, mine, out, task, value)?;
+    }
+    Ok(())
+}
+
+/// The books have an event for each task on each phaser, at least; else `SharesDiffer`.
+fn check_registrations<K: Ledgers, R: Wait>(
+    rt: &R,
+    table: &PhaserTable<u32, K>,
+    mine: &mut Shares<K>,
+) -> Result<(), Refusal> {
+    let so_far = table.so_far(rt, mine);
+    if so_far.events < u64::from(PHASERS * WORKERS) {
+        return Err(Refusal::SharesDiffer);
+    }
+    Ok(())
+}
+
+/// All turns, in each of which the task sends the turn's number. The books have all registrations
+/// then.
+fn call_in_turns<K: Ledgers, R: Wait>(
+    rt: &R,
+    table: &PhaserTable<u32, K>,
+    tickets: &Tickets,
+    mine: &mut Shares<K>,
+    out: &mut Out<u32>,
+    task: u32,
+) -> Result<(), Refusal>
+    requires { table.now.phasers ≡ 8 }
+{
+    for turn in 0..TURNS {
+        call_each(rt, table, tickets, mine, out, task, turn as i32)?;
+    }
+    check_registrations(rt, table, mine)
+}
+
+/// All turns, with a list of its own for those whom the task wakes.
+fn call_all<K: Ledgers, R: Wait>(
+    rt: &R,
+    alloc: Global,
+    table: &PhaserTable<u32, K>,
+    tickets: &Tickets,
+    mine: &mut Shares<K>,
+    task: u32,
+) -> Result<(), Refusal>
+    requires { table.now.phasers ≡ 8 }
+{
+    let mut out = Out::new(alloc)?;
+    call_in_turns(rt, table, tickets, mine, &mut out, task)
+}
+
+/// One worker's part: on each phaser in turn it signals, asks to pass, sends and turns, as the task
+/// of its number.
+fn work<K: Ledgers, R: Wait>(
+    rt: &R,
+    alloc: Global,
+    table: &PhaserTable<u32, K>,
+    tickets: &Tickets,
+    worker: (u32, Shares<K>),
+) -> Result<Shares<K>, Refusal>
+    requires { table.now.phasers ≡ 8 }
+{
+    let (task, mut mine) = worker;
+    call_all(rt, alloc, table, tickets, &mut mine, task)?;
+    Ok(mine)
+}
+
+/// Makes the phaser and registers all workers' tasks on it.
+fn register_all<K: Ledgers, R: Abort + Wait>(
+    rt: &R,
+    table: &PhaserTable<u32, K>,
+    number: usize,
+    tickets: &Tickets,
+    mine: &mut Shares<K>,
+)
+    requires { number < table.now.phasers }
+{
+    let made = table.make(
+        rt,
+        number,
+        tickets,
+        mine,
+        0,
+        Mode::SigWait,
+        first_ops(1),
+        None,
+    );
+    assert_eq!(rt; made, Ok(()));
+    for task in 1..WORKERS {
+        let registered = table.register(rt, number, tickets, mine, 0, task, Mode::SigWait);
+        assert_eq!(rt; registered, Ok(()), "task {task}");
+    }
+}
+
+/// Makes each phaser and registers all workers' tasks on it, all by the first worker's share.
+fn set_up<K: Ledgers, R: Abort + Wait>(
+    rt: &R,
+    table: &PhaserTable<u32, K>,
+    tickets: &Tickets,
+    shares: &mut Vec<Shares<K>>,
+)
+    requires { table.now.phasers ≡ 8 }
+{
+    assert_eq!(rt; shares.len(), WORKERS as usize);
+    if let Some(mine) = shares.get_mut(0) {
+        for number in 0..PHASERS as usize {
+            register_all(rt, table, number, tickets, mine);
+        }
+    }
+}
+
+/// The workers' shares, each with the number of its worker.
+fn numbered<K: Ledgers>(
+    alloc: Global,
+    shares: Vec<Shares<K>>,
+) -> Result<Vec<(u32, Shares<K>)>, Refusal> {
+    let mut staff = Vec::new(alloc);
+    let mut number = 0u32;
+    for mine in shares {
+        staff.push((number, mine))?;
+        number = number.saturating_add(1);
+    }
+    Ok(staff)
+}
+
+/// The shares that the workers gave back.
+fn given_back<K: Ledgers>(
+    alloc: Global,
+    done: Vec<Result<Shares<K>, Refusal>>,
+) -> Result<Vec<Shares<K>>, Refusal> {
+    let mut shares = Vec::new(alloc);
+    for mine in done {
+        shares.push(mine?)?;
+    }
+    Ok(shares)
+}
+
+/// The workers' parts, each in a thread. Returns their shares.
+fn work_all<K: Ledgers + Send + Sync, R: Threads + Wait + Sync>(
+    rt: &R,
+    alloc: Global,
+    table: &PhaserTable<u32, K>,
+    tickets: &Tickets,
+    shares: Vec<Shares<K>>,
+) -> Result<Vec<Shares<K>>, Refusal>
+where
+    K::EventsByPhaser: Send + Sync,
+    K::EventsByWorker: Send + Sync,
+    K::UpByPhaser: Send + Sync,
+    K::UpByWorker: Send + Sync,
+    K::DownByPhaser: Send + Sync,
+    K::DownByWorker: Send + Sync,
+    K::Room: Send + Sync,
+    requires { table.now.phasers ≡ 8 }
+{
+    let staff = numbered(alloc, shares)?;
+    let done = thread::map_vec(rt, staff, &|worker| work(rt, alloc, table, tickets, worker))?;
+    given_back(alloc, done)
+}
+
+/// What is gathered once all workers have done their parts on a new table.
+fn crowd<K: Ledgers + Send + Sync, R: Abort + Threads + Wait + Sync>(
+    rt: &R,
+    alloc: Global,
+    blanks: Blanks,
+) -> Result<Totals, Refusal>
+where
+    K::EventsByPhaser: Send + Sync,
+    K::EventsByWorker: Send + Sync,
+    K::UpByPhaser: Send + Sync,
+    K::UpByWorker: Send + Sync,
+    K::DownByPhaser: Send + Sync,
+    K::DownByWorker: Send + Sync,
+    K::Room: Send + Sync,
+    requires names { IsNamed blanks K.EventsByPhaser.name K.EventsByWorker.name K.UpByPhaser.name
+        K.UpByWorker.name K.DownByPhaser.name K.DownByWorker.name K.Room.name }
+    requires parts { IsParted blanks K.EventsByPhaser.parts K.EventsByWorker.parts K.UpByPhaser.parts
+        K.UpByWorker.parts K.DownByPhaser.parts K.DownByWorker.parts K.Room.parts }
+    requires eight { blanks.phasers ≡ 8 }
+{
+    let (table, mut shares) = fresh::<K>(alloc, CROWD, blanks)?;
+    let tickets = Tickets::new();
+    set_up(rt, &table, &tickets, &mut shares);
+    let shares = work_all(rt, alloc, &table, &tickets, shares)?;
+    gathered(rt, alloc, CROWD, table, shares)
+}
+
+fn named_crowd<
+    R: Abort + Threads + Wait + Sync,
+    A: Ledger + Send + Sync,
+    B: Ledger + Send + Sync,
+    C: Ledger + Send + Sync,
+    D: Ledger + Send + Sync,
+    E: Ledger + Send + Sync,
+    F: Ledger + Send + Sync,
+    G: Ledger + Send + Sync,
+>(rt: &R, alloc: Global, blanks: Blanks) -> Result<Totals, Refusal>
+    requires names { IsNamed blanks A.name B.name C.name D.name E.name F.name G.name }
+    requires parts { IsParted blanks A.parts B.parts C.parts D.parts E.parts F.parts G.parts }
+    requires eight { blanks.phasers ≡ 8 }
+{
+    crowd::<Seven<A, B, C, D, E, F, G>, R>(rt, alloc, blanks)
+}
+
+/// Names the ledgers.
+fn crowd_once<R: Abort + Threads + Wait + Sync>(rt: &R, alloc: Global) -> Result<Totals, Refusal> {
+    let blanks = Blanks::new(PHASERS, WORKERS);
+    named_crowd::<R, Brand, Brand, Brand, Brand, Brand, Brand, Brand>(rt, alloc, blanks)
+}
+
+/// Four threads make some 100,000 calls on eight phasers. Whatever their order, the histories are
+/// merged by their tickets to one trace, and the gathered totals are those of all histories.
+#[test]
+fn four_threads_on_eight_phasers(rt: HostRuntime) -> Result<(), Fail> {
+    for _run in 0..RUNS {
+        let totals = crowd_once(&rt, rt.alloc())?;
+        assert!(rt;
+            totals.events >= u64::from(PHASERS * WORKERS),
+            "each task was registered"
+        );
+        assert!(rt; totals.up > 0, "values were sent");
+    }
+    Ok(())
+}

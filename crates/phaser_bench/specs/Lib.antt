@@ -1,0 +1,4 @@
+pub mod CommandLine
+pub mod CoreKind
+pub mod LocksKind
+pub mod WorldsKind

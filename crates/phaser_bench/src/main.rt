@@ -1,0 +1,101 @@
+//! Calls and steps, many in one process, for the benchmark: of phasers alone, of phasers behind locks,
+//! and of worlds. Prints how many each job did.
+#![tactic(auto)]
+
+mod command_line;
+mod job;
+mod locks;
+mod phasers;
+mod worlds;
+
+use command_line::jobs_of;
+use job::Job;
+use locks::threads::events_of;
+use phasers::calls::calls_on_all;
+use std::alloc::Global;
+use std::env;
+use std::process::ExitCode;
+use std::sync::Wait;
+use std::thread::Threads;
+use worlds::steps_of;
+
+/// What is printed where the arguments are bad.
+const USAGE: &str = "usage: phaser_bench JOB.., where a JOB is one of
+core none|turn|send|look|drop TASKS PHASERS
+    (1 to 256 tasks, 1 to 1000 phasers)
+locks none|turn|ahead|follow|free TASKS PHASES PHASERS THREADS
+    (1 to 256 tasks, 1 to 32768 phases, 1 to 32 phasers for each of 1 or 2 threads)
+worlds calls|alone|beside|reported|default|greatest TURNS WORLDS
+    (0 to 65536 turns, 1 to 1000 worlds)\n";
+
+/// Exit status: 0 done, 1 out of memory, 2 bad arguments, 3 a write failed.
+fn main(rt: HostRuntime) -> ExitCode {
+    let status = match named_jobs(&rt) {
+        Ok(jobs) => do_each(&rt, &rt, jobs.as_slice()),
+        Err(status) => status,
+    };
+    ExitCode::from(status)
+}
+
+/// Reads the arguments as jobs, or returns the exit status: 1 out of memory, 2 bad arguments.
+fn named_jobs(rt: &HostRuntime) -> Result<Vec<Job>, u8> {
+    let Ok(args) = env::args(rt) else {
+        return Err(print_usage(rt));
+    };
+    let arguments: Vec<String> = match args.collect(rt.alloc()) {
+        Ok(arguments) => arguments,
+        Err(_) => return Err(1),
+    };
+    let mut borrowed: Vec<&str> = Vec::new(rt.alloc());
+    for argument in &arguments {
+        if borrowed.push(argument.as_str()).is_err() {
+            return Err(1);
+        }
+    }
+    match jobs_of(rt.alloc(), borrowed.as_slice()) {
+        Ok(Some(jobs)) => Ok(jobs),
+        Ok(None) => Err(print_usage(rt)),
+        Err(_) => Err(1),
+    }
+}
+
+/// Does the jobs in order, and prints each one's count. Returns the exit status; after a job that
+/// failed none is done.
+fn do_each<R: Threads + Wait + Sync>(rt: &HostRuntime, threads: &R, jobs: &[Job]) -> u8 {
+    for job in jobs {
+        let status = report(rt, count_of(threads, rt.alloc(), *job));
+        if status != 0 {
+            return status;
+        }
+    }
+    0
+}
+
+/// Does the job, and returns how many calls, events or steps it was; none where there was no memory
+/// for it.
+fn count_of<R: Threads + Wait + Sync>(threads: &R, alloc: Global, job: Job) -> Option<u64> {
+    match job {
+        Job::Core(job) => calls_on_all(alloc, job).ok(),
+        Job::Locks(job) => events_of(threads, alloc, job).ok(),
+        Job::Worlds(job) => steps_of(alloc, job).ok(),
+    }
+}
+
+/// Prints the count, where there was memory for the job.
+fn report(rt: &HostRuntime, count: Option<u64>) -> u8 {
+    let Some(count) = count else {
+        return 1;
+    };
+    match println!(rt; "{count}") {
+        Ok(()) => 0,
+        Err(_) => 3,
+    }
+}
+
+fn print_usage(rt: &HostRuntime) -> u8 {
+    let _ = rt.eprint(USAGE);
+    2
+}
+
+#[cfg(test)]
+mod tests;
