@@ -13,3 +13,7 @@ pub record InHand (T : Type 0) : Type 0 where
 -- the list begins with these items: what comes after them is new
 abbrev pub BeginsWith : {T : Type 0} → List T → List T → Type 0
 BeginsWith {T} first all = (more : List T) × (all ≡ first ++ more)
+
+-- the hand of the same worker, on as many phasers
+abbrev pub IsSameHand : {T : Type 0} → InHand T → InHand T → Type 0
+IsSameHand old new = (new.worker ≡ old.worker) × (new.phasers ≡ old.phasers)

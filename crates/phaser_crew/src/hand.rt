@@ -1,9 +1,9 @@
 //! A worker's hand, as a crew sees it: its calls on all phasers, and whom they wake.
-ghost use Rattle.std.specs.Prelude.{◌≡◌, ◌∷◌, [], false, OnErr, MatchOption, is_ok};
+ghost use Rattle.std.specs.Prelude.{◌≡◌, ◌≤◌, ◌∷◌, [], false, Err, OnErr, MatchOption, is_ok};
 ghost use Rattle.phase_model.specs.Amounts.{plus};
 ghost use Rattle.scope_locks.specs.Amounts.{amount_if};
 ghost use Rattle.scope_locks.specs.Parking.{goes_on, IsBack, has_signalled, IsBackFromSignal};
-ghost use Rattle.phaser_crew.specs.Hands.{BeginsWith};
+ghost use Rattle.phaser_crew.specs.Hands.{BeginsWith, IsSameHand};
 
 use phase_model::{Bound, Event, Look, Ops};
 use phase_modes::{Mode, Refusal};
@@ -16,7 +16,7 @@ use std::sync::Wait;
 ///
 /// Each call is that of a `scope_locks::PhaserTable`, and is answered so. Besides, `PhasersFull` is
 /// answered where no phaser has the number, and `Memory` where there is none for the list of those
-/// who go on: neither changes anything.
+/// who are woken: neither changes anything.
 pub trait Hand<T> {
     ghost use Rattle.phaser_crew.specs.Hands.{InHand};
 
@@ -39,6 +39,7 @@ pub trait Hand<T> {
         ensures first { MatchOption result
             (((shown self.old).freed ≡ []) × ((shown self.new).freed ≡ []))
             (λ x. (shown self.old).freed ≡ x ∷ (shown self.new).freed) }
+        ensures same { IsSameHand (shown self.old) (shown self.new) }
         ensures posted { (shown self.new).posted ≡ (shown self.old).posted };
 
     /// The task makes the phaser, and is registered on it.
@@ -52,24 +53,32 @@ pub trait Hand<T> {
     ) -> Result<(), Refusal>
         ensures posted { (shown self.new).posted
             ≡ plus (amount_if (is_ok result) (Event.Make task mode)) (shown self.old).posted }
+        ensures unknown { (shown self.old).phasers ≤ phaser → result ≡ Err Refusal.PhasersFull }
+        ensures same { IsSameHand (shown self.old) (shown self.new) }
         ensures freed { (shown self.new).freed ≡ (shown self.old).freed };
 
     /// The parent registers the child.
     fn register(&mut self, phaser: u32, parent: u32, child: u32, mode: Mode) -> Result<(), Refusal>
         ensures posted { (shown self.new).posted
             ≡ plus (amount_if (is_ok result) (Event.Reg parent child mode)) (shown self.old).posted }
+        ensures unknown { (shown self.old).phasers ≤ phaser → result ≡ Err Refusal.PhasersFull }
+        ensures same { IsSameHand (shown self.old) (shown self.new) }
         ensures freed { (shown self.new).freed ≡ (shown self.old).freed };
 
     /// The task sends the value to the accumulator of this index.
     fn send(&mut self, phaser: u32, task: u32, accumulator: u8, value: i32) -> Result<(), Refusal>
         ensures posted { (shown self.new).posted
             ≡ plus (amount_if (is_ok result) (Event.Send task accumulator value)) (shown self.old).posted }
+        ensures unknown { (shown self.old).phasers ≤ phaser → result ≡ Err Refusal.PhasersFull }
+        ensures same { IsSameHand (shown self.old) (shown self.new) }
         ensures freed { (shown self.new).freed ≡ (shown self.old).freed };
 
     /// The task looks at the accumulator of this index.
     fn look(&mut self, phaser: u32, task: u32, accumulator: u8) -> Result<Look, Refusal>
         ensures posted { (x : Look) → (shown self.new).posted
             ≡ plus (amount_if (is_ok result) (Event.Look task accumulator x)) (shown self.old).posted }
+        ensures unknown { (shown self.old).phasers ≤ phaser → result ≡ Err Refusal.PhasersFull }
+        ensures same { IsSameHand (shown self.old) (shown self.new) }
         ensures freed { (shown self.new).freed ≡ (shown self.old).freed };
 
     /// The task signals, with the number of a single where it proposes one. The item comes back, or
@@ -79,6 +88,8 @@ pub trait Hand<T> {
             ≡ plus (amount_if (has_signalled result) (Event.Sig task proposed)) (shown self.old).posted }
         ensures item { IsBackFromSignal item result }
         ensures freed { BeginsWith (shown self.old).freed (shown self.new).freed }
+        ensures unknown { (shown self.old).phasers ≤ phaser → result ≡ SignalAnswer.Refused item Refusal.PhasersFull }
+        ensures same { IsSameHand (shown self.old) (shown self.new) }
         ensures nobody { has_signalled result ≡ false → (shown self.new).freed ≡ (shown self.old).freed };
 
     /// The task asks to end its turn. The item comes back, or is parked until a call of some worker
@@ -88,6 +99,8 @@ pub trait Hand<T> {
             ≡ plus (amount_if (goes_on result) (Event.Pass task)) (shown self.old).posted }
         ensures item { IsBack item result }
         ensures freed { BeginsWith (shown self.old).freed (shown self.new).freed }
+        ensures unknown { (shown self.old).phasers ≤ phaser → result ≡ PassAnswer.Refused item Refusal.PhasersFull }
+        ensures same { IsSameHand (shown self.old) (shown self.new) }
         ensures nobody { goes_on result ≡ false → (shown self.new).freed ≡ (shown self.old).freed };
 
     /// The task reports that the single which it claimed is done.
@@ -95,6 +108,8 @@ pub trait Hand<T> {
         ensures posted { (shown self.new).posted
             ≡ plus (amount_if (is_ok result) (Event.Did task)) (shown self.old).posted }
         ensures freed { BeginsWith (shown self.old).freed (shown self.new).freed }
+        ensures unknown { (shown self.old).phasers ≤ phaser → result ≡ Err Refusal.PhasersFull }
+        ensures same { IsSameHand (shown self.old) (shown self.new) }
         ensures refused { OnErr result ((shown self.new).freed ≡ (shown self.old).freed) };
 
     /// The task leaves the phaser.
@@ -102,5 +117,7 @@ pub trait Hand<T> {
         ensures posted { (shown self.new).posted
             ≡ plus (amount_if (is_ok result) (Event.Drop task)) (shown self.old).posted }
         ensures freed { BeginsWith (shown self.old).freed (shown self.new).freed }
+        ensures unknown { (shown self.old).phasers ≤ phaser → result ≡ Err Refusal.PhasersFull }
+        ensures same { IsSameHand (shown self.old) (shown self.new) }
         ensures refused { OnErr result ((shown self.new).freed ≡ (shown self.old).freed) };
 }

@@ -27,7 +27,9 @@ pub(crate) struct Held<'a, T, K: Ledgers, R> {
 
 /// The phaser's place in the table; `PhasersFull` where no phaser has the number.
 fn place<T, K: Ledgers>(table: &PhaserTable<T, K>, phaser: u32) -> Result<usize, Refusal>
-    ensures { IfOk result (λ n. n < table.now.phasers) }
+    ensures place { IfOk result (λ n. n < table.now.phasers) }
+    ensures known { IfOk result (λ _. phaser < table.now.phasers) }
+    ensures unknown { IfErr result (λ e. e ≡ Refusal.PhasersFull) }
 {
     let number = phaser as usize;
     if number < table.phasers {
