@@ -37,7 +37,8 @@ fn core_job(words: &[&str]) -> Option<CoreJob>
     })
 }
 
-/// The job that the words `locks KIND TASKS PHASES PHASERS THREADS` name; none where they name none.
+/// The job that the words `locks KIND TASKS PHASES PHASERS THREADS` name; none where they name
+/// none.
 fn locks_job(words: &[&str]) -> Option<LocksJob>
     ensures { MatchOption result
         ((job : _) → ¬ (NamesLocks job (map (λ w. w.now) words.now)))
