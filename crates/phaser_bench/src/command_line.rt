@@ -21,8 +21,7 @@ fn number_of(argument: &str, least: u32, most: u32) -> Option<u32>
     }
 }
 
-/// The job that the words name, `core KIND TASKS PHASERS`; none where they
-/// name none.
+/// The job that the words `core KIND TASKS PHASERS` name; none where they name none.
 fn core_job(words: &[&str]) -> Option<CoreJob>
     ensures { MatchOption result
         ((job : _) → ¬ (NamesCore job (map (λ w. w.now) words.now)))
@@ -38,8 +37,8 @@ fn core_job(words: &[&str]) -> Option<CoreJob>
     })
 }
 
-/// The job that the words name, `locks KIND TASKS PHASES PHASERS THREADS`; none where they
-/// name none.
+/// The job that the words `locks KIND TASKS PHASES PHASERS THREADS` name; none where they name
+/// none.
 fn locks_job(words: &[&str]) -> Option<LocksJob>
     ensures { MatchOption result
         ((job : _) → ¬ (NamesLocks job (map (λ w. w.now) words.now)))
@@ -57,8 +56,7 @@ fn locks_job(words: &[&str]) -> Option<LocksJob>
     })
 }
 
-/// The job that the words name, `worlds KIND TURNS WORLDS`; none where they
-/// name none.
+/// The job that the words `worlds KIND TURNS WORLDS` name; none where they name none.
 fn worlds_job(words: &[&str]) -> Option<WorldsJob>
     ensures { MatchOption result
         ((job : _) → ¬ (NamesWorlds job (map (λ w. w.now) words.now)))

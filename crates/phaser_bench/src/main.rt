@@ -1,5 +1,5 @@
-//! Calls and steps, many in one process, for the benchmark: of phasers alone, of phasers behind locks,
-//! and of worlds. Prints how many each job did.
+//! Calls and steps, many in one process, for the benchmark: of phasers alone, of phasers behind
+//! locks, and of worlds. Prints how many each job did.
 #![tactic(auto)]
 
 mod command_line;

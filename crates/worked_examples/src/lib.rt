@@ -1,5 +1,5 @@
-//! The worked examples of one phaser: its limits, its accumulators and its bound, the calls, and the
-//! reply to each call.
+//! The worked examples of one phaser: its limits, its accumulators and its bound, the calls, and
+//! the reply to each call.
 //!
 //! They were worked out by hand from the rules. Whatever answers calls has to answer these: the
 //! phaser alone (`core_tests`), and a phaser of a table behind its lock (`lock_tests`).

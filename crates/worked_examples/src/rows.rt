@@ -346,8 +346,9 @@ pub const BOUND_AND_REFUSALS: Example = Example {
     ..PLAIN
 };
 
-/// The same where a table keeps whom a bound holds: a parked signaller that asks again has its item
-/// back, and the drop lets it go on. A phaser alone knows nothing of items, and answers `NotYet` again.
+/// The calls of [`BOUND_AND_REFUSALS`], where a signaller that is parked asks again: a table gives
+/// its item back, and the drop lets it go on. A phaser alone knows nothing of items, and answers
+/// `NotYet` once more: this one is for a table.
 pub const ASKED_AGAIN_WHILE_PARKED: Example = Example {
     bound: Some(1),
     rows: &[

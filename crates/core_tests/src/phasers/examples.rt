@@ -1,4 +1,5 @@
-//! The worked examples, on a phaser alone: what each call is replied, and of some what the calls leave.
+//! The worked examples, on a phaser alone: what each call is replied, and of some what the calls
+//! leave.
 use super::*;
 use worked_examples::*;
 

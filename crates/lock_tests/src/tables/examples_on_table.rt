@@ -138,8 +138,8 @@ fn events_of_rows(rows: &[Row]) -> u64 {
     events
 }
 
-/// Each call on a new phaser is answered as its row says; the history that they leave is merged, and
-/// gathered. Names the ledgers.
+/// Each call on a new phaser is answered as its row says; the history that they leave is merged,
+/// and gathered. Names the ledgers.
 fn answers_as_worked_out<R: Abort + Wait>(
     rt: &R,
     alloc: Global,
