@@ -1,5 +1,5 @@
 -- The operators of a phaser that nobody has made may be fixed.
-use Rattle.std.proofs.Common.{◌≡◌, List, [], Option, refl, ap, sym, subst, ◌∙◌, arith}
+use Rattle.std.proofs.Common.{◌≡◌, List, [], Option, refl, ap, subst, ◌∙◌, arith}
 use Rattle.phase_modes.specs.declared.limits.Limits.{Limits}
 use Rattle.phase_model.specs.declared.history.Event.{Event}
 use Rattle.phase_model.specs.declared.terms.Terms.{Terms}

@@ -1,5 +1,5 @@
 -- Who waits in a cell, and what a signal and a pass through it answer.
-use Rattle.std.specs.Prelude.{ℕ, ◌≡◌, refl, Bool, true, false, ◌==◌, ◌&&◌, ◌++◌, ◌∷◌, [], List, Option, Some, None, Result, Ok, Err, not, map, filter}
+use Rattle.std.specs.Prelude.{ℕ, ◌≡◌, refl, Bool, true, false, ◌==◌, ◌&&◌, ◌++◌, ◌∷◌, [], List, Option, Result, Ok, Err, not, map, filter}
 use Rattle.std.specs.List.{list_any, list_all}
 use Rattle.phase_modes.specs.declared.refusal.Refusal.{Refusal}
 use Rattle.phase_modes.specs.declared.refusal.Refusal.TheVariants.{NotNow}
