@@ -1,11 +1,12 @@
 -- What it means that a trace is explained, and that it is one of given parts.
-use Rattle.std.specs.Prelude.{◌≡◌, ◌≢◌, ℕ, true, List, [], ◌∷◌, ◌++◌, map, drop, reverse, is_none}
+use Rattle.std.specs.Prelude.{◌≡◌, ◌≢◌, ℕ, ◌+◌, true, false, List, [], ◌∷◌, ◌++◌, length, map, drop, reverse, Some, is_none}
 use Rattle.std.specs.List.{All}
+use Rattle.phase_modes.specs.declared.limits.Limits.{Limits}
 use Rattle.finish_core.specs.declared.event.FinishEvent.{FinishEvent}
 use Rattle.phase_model.specs.Rules.{Story}
 use Rattle.world_model.specs.Replies.{is_legal_world}
 use Rattle.trace_model.specs.Run.{Entry, Run}
-use Rattle.trace_model.specs.Explained.{past, is_explained, first_fault}
+use Rattle.trace_model.specs.Explained.{past, may_follow, all_follow, is_over, is_explained, first_fault}
 use Rattle.trace_model.specs.Parts.{IsTraceOf}
 use Rattle.trace_model.specs.Projections.{Whose, phaser, finish, projection, AreOf, AreNotOf, HaveOwners}
 use Rattle.trace_model.specs.Told.{phaser_told, finish_told}
@@ -13,6 +14,26 @@ use Rattle.trace_model.specs.Told.{phaser_told, finish_told}
 -- a trace is explained exactly where it has no fault
 abbrev pub FaultlessIsExplained : Type 0
 FaultlessIsExplained = (r : Run) → is_explained r ≡ is_none (first_fault r)
+
+-- the first of these entries may not follow those before, the newest of these first; where there is none, the
+-- run hasn't ended
+abbrev pub IsAtFault : Limits → List Entry → List Entry → Type 0
+IsAtFault l before [] = is_over before ≡ false
+IsAtFault l before (e ∷ es) = may_follow l before e ≡ false
+
+-- each entry before this place may follow those before it, and the one there may not; past the last, the run
+-- hasn't ended
+pub record IsFirstFault (r : Run) (place : ℕ) : Type 0 where
+  pub before : List Entry
+  pub after : List Entry
+  pub all : before ++ after ≡ r.events
+  pub here : place ≡ length before + 1
+  pub follow : all_follow r.limits (reverse before) ≡ true
+  pub fault : IsAtFault r.limits (reverse before) after
+
+-- what is called the first fault of a trace is the first
+abbrev pub FirstFaultIsFirst : Type 0
+FirstFaultIsFirst = (r : Run) (place : ℕ) → first_fault r ≡ Some place → IsFirstFault r place
 
 -- the events of an explained trace are a legal history of the world: so each law of such a history holds of it
 abbrev pub ExplainedIsLegal : Type 0

@@ -46,15 +46,6 @@ impl TracedStep {
             TracedStep::Drop(task) => Step::Drop(task),
         }
     }
-
-    fn is_answered(&self, reply: Result<Reply, Refusal>) -> bool
-        ensures { result ≡ is_answered (TracedEvent.Phaser 0 self.now) reply }
-    {
-        match *self {
-            TracedStep::Look(_, _, seen) => is_seen(seen, reply),
-            _ => is_made(reply),
-        }
-    }
 }
 
 impl TracedEvent {
@@ -76,7 +67,7 @@ impl TracedEvent {
         ensures { result ≡ is_answered self.now reply }
     {
         match *self {
-            TracedEvent::Phaser(_, step) => step.is_answered(reply),
+            TracedEvent::Phaser(_, TracedStep::Look(_, _, seen)) => is_seen(seen, reply),
             _ => is_made(reply),
         }
     }

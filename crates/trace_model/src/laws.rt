@@ -1,11 +1,16 @@
 //! What it means that a trace is explained, and that it is one of given parts, and worked examples.
 //! Each function does nothing: its contract says it, and the check proves it.
 ghost use Rattle.trace_model.specs.Examples.{NestedFinish, SentAndSeen, SmallestProjections, SmallestTrace};
-ghost use Rattle.trace_model.specs.Laws.{ExplainedIsLegal, FaultlessIsExplained, FinishesTellTheirOwn, OthersHaveNone, PhasersTellTheirOwn, ProjectionIsPart, ProjectionsAreParts};
+ghost use Rattle.trace_model.specs.Laws.{ExplainedIsLegal, FaultlessIsExplained, FinishesTellTheirOwn, FirstFaultIsFirst, OthersHaveNone, PhasersTellTheirOwn, ProjectionIsPart, ProjectionsAreParts};
 
 /// A trace is explained exactly where no place of it is at fault.
 pub fn faultless_is_explained()
     ensures { FaultlessIsExplained }
+{}
+
+/// Before the first fault of a trace no entry is at fault.
+pub fn first_fault_is_first()
+    ensures { FirstFaultIsFirst }
 {}
 
 /// The events of an explained trace are a legal history of the world.

@@ -13,8 +13,8 @@ mod trace;
 
 pub use event::{TracedEvent, TracedStep};
 pub use laws::{
-    explained_is_legal, faultless_is_explained, parts_have_owners, projections_are_parts,
-    worked_traces,
+    explained_is_legal, faultless_is_explained, first_fault_is_first, parts_have_owners,
+    projections_are_parts, worked_traces,
 };
 pub use log::Log;
 pub use part::Part;
