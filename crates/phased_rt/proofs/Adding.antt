@@ -1,17 +1,15 @@
 -- What the events of one phaser, or of all, add up to: in its history, in its part and in the trace.
-use Rattle.std.proofs.Common.{◌≡◌, ℕ, ◌+◌, ◌≤◌, Bool, true, false, ◌==◌, List, [], ◌∷◌, length, map, reverse, get_or, refl, ap, sym, subst, ◌∙◌, inl, inr, arith}
+use Rattle.std.proofs.Common.{◌≡◌, ℕ, ◌+◌, ◌≤◌, Bool, true, false, ◌==◌, List, [], ◌∷◌, length, map, reverse, get_or, refl, ap, sym, ◌∙◌, inl, inr, arith}
 use Rattle.std.specs.Prelude.{if◌then◌else◌}
-use Rattle.std.specs.List.{sum_by, range_with_len, zip, All}
+use Rattle.std.specs.List.{sum_by, range_with_len, All}
 use Rattle.std.proofs.lemmas.Bool.{cases_Bool, true≢false}
 use Rattle.std.proofs.lemmas.List.{length-map, length-reverse}
-use Rattle.std.proofs.lemmas.List.Elements.{All-nil, All-cons, All-drop}
 use Rattle.std.proofs.lemmas.List.Sums.{sum_by-cons}
 use Rattle.phase_model.specs.declared.history.Event.{Event}
 use Rattle.phase_model.specs.declared.history.Event.TheVariants as plain
 use Rattle.phase_model.specs.declared.terms.Terms.{Terms}
 use Rattle.phase_model.specs.Rules.{no_terms}
 use Rattle.phase_model.specs.Amounts.{Amount, amount, plus, totals}
-use Rattle.finish_core.specs.declared.event.FinishEvent.{FinishEvent}
 use Rattle.world_model.specs.declared.event.Step.{Step}
 use Rattle.world_model.specs.declared.event.Step.TheVariants.{Make, Reg, Sig, Claim, Did, Pass, Send, Look, Drop}
 use Rattle.world_model.specs.declared.event.WorldEvent.{WorldEvent}
@@ -20,10 +18,10 @@ use Rattle.trace_model.specs.declared.event.TracedEvent.{TracedEvent}
 use Rattle.trace_model.specs.declared.event.TracedEvent.TheVariants.{Phaser, Finish, Begin, Refuse, Fail}
 use Rattle.trace_model.specs.Run.{Entry}
 use Rattle.trace_model.specs.Explained.{step_of, event_of, past}
-use Rattle.trace_model.specs.Told.{step_told, phaser_told, finish_told}
-use Rattle.scope_locks.specs.Telling.{IsPhaserPart, ArePhaserParts, IsFinishPart, AreFinishParts, untold}
-use Rattle.phased_rt.specs.Told.{IsApart}
+use Rattle.trace_model.specs.Told.{step_told, phaser_told}
+use Rattle.scope_locks.specs.Telling.{IsPhaserPart, ArePhaserParts}
 use Rattle.phased_rt.specs.Totals.{is_phasers}
+use Rattle.phased_rt.proofs.Owned.{IsApart}
 use Rattle.phased_rt.proofs.Sums.{sum_both, sum_same, sum_none, sum_map, sum_reverse, sum_zip, sum_picked}
 
 -- one of the three numbers of an amount
@@ -184,22 +182,3 @@ others_weigh f part test ps apart =
     sum_none (λ p. weigh f test p) ps
     (λ k d lt. sum_none (λ (e : Entry). f (weight test e.1)) (get_or ps k d)
     (λ j e below. apart_weighs f part test (get_or (get_or ps k d) j e).1 (apart k d lt j e below)))
-
-finish_entries : (n : ℕ) (tickets : List ℕ) (es : List FinishEvent) → IsApart (zip tickets (map (λ e. Finish n e) es))
-finish_entries n [] es = All-nil (λ (e : Entry). is_phasers e.1 ≡ false)
-finish_entries n (k ∷ tickets) [] = All-nil (λ (e : Entry). is_phasers e.1 ≡ false)
-finish_entries n (k ∷ tickets) (e ∷ es) =
-    All-cons (λ (x : Entry). is_phasers x.1 ≡ false) (k, Finish n e) (zip tickets (map (λ x. Finish n x) es)) refl (finish_entries n tickets es)
-
-finish_apart : (n : ℕ) (p : List Entry) (k : ℕ) → IsFinishPart n p k → IsApart p
-finish_apart n p k is =
-    subst (λ (es : List Entry). IsApart es) (sym is.told)
-    (All-drop (λ (e : Entry). is_phasers e.1 ≡ false) (untold n) (finish_told n is.past is.tickets) (finish_entries n is.tickets (reverse is.past)))
-
--- the finishes' parts have no event of a phaser
-pub finishes_apart : (n : ℕ) (ps : List (List Entry)) (logs : List ℕ) → AreFinishParts n ps logs → All (λ p. IsApart p) ps
-finishes_apart n [] [] are = All-nil (λ p. IsApart p)
-finishes_apart n (p ∷ ps) (k ∷ logs) are =
-    All-cons (λ q. IsApart q) p ps (finish_apart n p k are.0) (finishes_apart (n + 1) ps logs are.1)
-finishes_apart n [] (k ∷ logs) are = absurd are
-finishes_apart n (p ∷ ps) [] are = absurd are

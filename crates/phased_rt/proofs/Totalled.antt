@@ -23,10 +23,11 @@ use Rattle.trace_model.specs.Parts.{IsTraceOf}
 use Rattle.scope_locks.specs.Telling.{ArePhaserParts}
 use Rattle.share_book.specs.declared.gathering.Totals.{Totals}
 use Rattle.share_book.specs.Accounts.{Entry as Book, sum, sum_of_books, amount_of}
-use Rattle.phased_rt.specs.Told.{IsApart, IsToldBy}
+use Rattle.phased_rt.specs.Told.{IsToldBy}
 use Rattle.phased_rt.specs.Totals.{is_phasers, all_totals, AreTotals}
 use Rattle.phased_rt.proofs.Sums.{sum_same, sum_map, sum_reverse, sum_flat, sum_filter}
-use Rattle.phased_rt.proofs.Adding.{IsPart, weight, weigh, past_weighs, parts_weigh, all_weigh, others_weigh, finishes_apart}
+use Rattle.phased_rt.proofs.Adding.{IsPart, weight, weigh, past_weighs, parts_weigh, all_weigh, others_weigh}
+use Rattle.phased_rt.proofs.Owned.{IsApart, finishes_apart, logs_apart}
 
 -- the trace weighs what the phasers' parts do
 trace_weighs : (f : Amount → ℕ) → IsPart f → (test : ℕ → Bool) (phasers others : List (List Entry)) (es : List Entry)
@@ -149,7 +150,7 @@ told_totals l es t world told is =
     let others : List (List Entry) = told.finishes ++ told.logs in
     let merged : IsTraceOf (told.phasers ++ others) es = rw append_assoc at told.merged in
     let apart : All (λ p. IsApart p) others =
-    All-append (λ p. IsApart p) told.finishes told.logs (finishes_apart 0 told.finishes told.ended told.of_finishes) told.of_tasks
+    All-append (λ p. IsApart p) told.finishes told.logs (finishes_apart 0 told.finishes told.ended told.of_finishes) (logs_apart told.logs told.of_tasks)
     in
     let all : amount_of t ≡ all_totals l (past (reverse es)) =
     told.added ∙ sym (totalled l told.phasers others told.sums es merged apart told.of_phasers told.all_phasers)

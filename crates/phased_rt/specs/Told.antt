@@ -1,20 +1,20 @@
 -- What a run's trace was put together from.
-use Rattle.std.specs.Prelude.{◌≡◌, ℕ, false, List, ◌++◌, length, All}
+use Rattle.std.specs.Prelude.{◌≡◌, ℕ, List, ◌++◌, length, All}
 use Rattle.phase_modes.specs.declared.limits.Limits.{Limits}
 use Rattle.phase_model.specs.Amounts.{Amount}
 use Rattle.share_book.specs.declared.gathering.Totals.{Totals}
 use Rattle.share_book.specs.Accounts.{sum, amount_of}
 use Rattle.scope_locks.specs.Telling.{ArePhaserParts, AreFinishParts}
 use Rattle.trace_model.specs.Parts.{IsTraceOf}
+use Rattle.trace_model.specs.Projections.{log, AreOf}
 use Rattle.trace_model.specs.Run.{Entry}
-use Rattle.phased_rt.specs.Totals.{is_phasers}
 
--- none of the entries is of a phaser
-abbrev pub IsApart : List Entry → Type 0
-IsApart es = All (λ e. is_phasers e.1 ≡ false) es
+-- the entries are one task's log: what it began, was refused and gave up
+abbrev pub IsTaskLog : List Entry → Type 0
+IsTaskLog es = (t : ℕ) × AreOf (log t) es
 
 -- the trace is one of a part for each phaser and each finish, which tells a legal history as locks do, and of
--- logs without an event of a phaser; the totals are what the phasers' histories add up to
+-- logs, each of one task; the totals are what the phasers' histories add up to
 pub record IsToldBy (l : Limits) (es : List Entry) (t : Totals) : Type 0 where
   pub phasers : List (List Entry)
   pub sums : List Amount
@@ -24,7 +24,7 @@ pub record IsToldBy (l : Limits) (es : List Entry) (t : Totals) : Type 0 where
   pub merged : IsTraceOf ((phasers ++ finishes) ++ logs) es
   pub of_phasers : ArePhaserParts 0 phasers sums
   pub of_finishes : AreFinishParts 0 finishes ended
-  pub of_tasks : All (λ p. IsApart p) logs
+  pub of_tasks : All (λ p. IsTaskLog p) logs
   pub all_phasers : length phasers ≡ l.phasers
   pub all_finishes : length finishes ≡ l.finishes
   pub added : amount_of t ≡ sum sums

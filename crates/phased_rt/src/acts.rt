@@ -1,6 +1,4 @@
 //! How a task's act is begun, and made where it is one event.
-ghost use Rattle.std.specs.Prelude.{◌≡◌, false};
-ghost use Rattle.phased_rt.specs.Totals.{is_phasers};
 ghost use Rattle.task_queue.specs.Accounts.{IsSeatOf};
 
 use crate::body::{Body, Gate};
@@ -12,28 +10,19 @@ use phase_modes::{Mode, Phased, Refusal};
 use share_book::{Ledgers, Shares};
 use std::sync::Wait;
 use task_standing::Plan;
-use trace_model::TracedEvent;
 use world_model::{Begun, Tried};
 
 impl<B: Body, K: Ledgers> Shared<B, K> {
-    /// Adds an entry to the task's log.
-    fn note(&self, task: &mut Task<B>, entry: TracedEvent) -> Result<(), Refusal>
-        requires { is_phasers entry ≡ false }
-    {
-        task.log.add(self.tickets.draw(), entry)
-    }
-
     /// The task gives up what it is about, and comes to its end.
     pub(crate) fn fail(&self, task: &mut Task<B>, refusal: Refusal) -> Result<(), Refusal> {
-        self.note(task, TracedEvent::Fail(task.number(), refusal.number()))?;
+        task.log.note_failed(self.tickets.draw(), refusal)?;
         task.standing.give_up();
         Ok(())
     }
 
     /// The act is refused, and the task comes to its end.
     fn refuse(&self, task: &mut Task<B>, tried: Tried, refusal: Refusal) -> Result<(), Refusal> {
-        let entry = TracedEvent::Refuse(task.number(), tried, refusal.number());
-        self.note(task, entry)?;
+        task.log.note_refused(self.tickets.draw(), tried, refusal)?;
         task.standing.give_up();
         Ok(())
     }
@@ -130,7 +119,7 @@ impl<B: Body, K: Ledgers> Shared<B, K> {
         if !self.may_try(task, Tried::Begun(begun))? {
             return Ok(false);
         }
-        self.note(task, TracedEvent::Begin(task.number(), begun))?;
+        task.log.note_begun(self.tickets.draw(), begun)?;
         task.standing.begin(plan);
         Ok(true)
     }

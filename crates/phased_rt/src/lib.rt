@@ -30,6 +30,7 @@ mod calls;
 mod crew;
 mod diary;
 mod driver;
+mod laws;
 mod report;
 mod running;
 mod staff;
@@ -39,6 +40,7 @@ mod worker;
 
 pub use body::{Body, Gate, OpenGate};
 pub use job_script::{Act, Answer};
+pub use laws::runs_are_traced;
 pub use phase_modes::Phased;
 pub use report::Report;
 pub use running::run;

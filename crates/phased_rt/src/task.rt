@@ -39,7 +39,7 @@ impl<B: Body> Task<B> {
     ) -> Result<Box<Task<B>>, Refusal>
         ensures memory { IfErr result (λ e. e ≡ Refusal.Memory) }
     {
-        let log = Diary::new(alloc, acts)?;
+        let log = Diary::new(alloc, number, acts)?;
         let task = Task {
             body,
             answer: Answer::Started,

@@ -7,7 +7,7 @@ ghost use Rattle.world_model.specs.Report.{report_of};
 ghost use Rattle.trace_model.specs.Explained.{past, is_explained};
 ghost use Rattle.phased_rt.specs.Left.{IsLeftByAll};
 ghost use Rattle.phased_rt.specs.Refused.{IsRunRefused};
-ghost use Rattle.phased_rt.specs.Told.{IsApart, IsToldBy};
+ghost use Rattle.phased_rt.specs.Told.{IsTaskLog, IsToldBy};
 ghost use Rattle.phased_rt.specs.Totals.{AreTotals};
 
 use crate::body::Body;
@@ -35,8 +35,8 @@ fn joined(phasers: Vec<Part>, finishes: Vec<Part>, logs: Vec<Part>) -> Result<Ve
 
 /// Adds the parts of these logs.
 fn add_logs(parts: &mut Vec<Part>, logs: Vec<Diary>) -> Result<(), Refusal>
-    requires { All (λ p. IsApart p) parts.old.items }
-    ensures apart { IfOk result (λ _. All (λ p. IsApart p) parts.new.items) }
+    requires { All (λ p. IsTaskLog p) parts.old.items }
+    ensures own { IfOk result (λ _. All (λ p. IsTaskLog p) parts.new.items) }
     ensures memory { IfErr result (λ e. e ≡ Refusal.Memory) }
 {
     for log in logs {
@@ -47,7 +47,7 @@ fn add_logs(parts: &mut Vec<Part>, logs: Vec<Diary>) -> Result<(), Refusal>
 
 /// The parts of all logs.
 fn parts_of(alloc: Global, logs: Vec<Vec<Diary>>, root: Diary) -> Result<Vec<Part>, Refusal>
-    ensures apart { IfOk result (λ parts. All (λ p. IsApart p) parts.items) }
+    ensures own { IfOk result (λ parts. All (λ p. IsTaskLog p) parts.items) }
     ensures memory { IfErr result (λ e. e ≡ Refusal.Memory) }
 {
     let mut parts = Vec::new(alloc);

@@ -1,0 +1,106 @@
+-- What a run's trace has of each phaser and each finish is exactly its part.
+use Rattle.std.proofs.Common.{◌≡◌, ◌≢◌, ℕ, ◌+◌, ◌≤◌, List, [], ◌∷◌, ◌++◌, length, map, refl, sym, ap₂, subst, ◌∙◌, append_assoc, arith}
+use Rattle.std.specs.List.{All, range_with_len}
+use Rattle.std.proofs.lemmas.List.Elements.{All-nil, All-cons, All-append, All-push, All-weaker}
+use Rattle.phase_modes.specs.declared.limits.Limits.{Limits}
+use Rattle.share_book.specs.declared.gathering.Totals.{Totals}
+use Rattle.world_model.specs.Report.{below}
+use Rattle.trace_model.specs.Run.{Entry}
+use Rattle.trace_model.specs.Parts.{IsTraceOf}
+use Rattle.trace_model.specs.Projections.{Whose, phaser, finish, log, whose, projection, AreOf, AreNotOf}
+use Rattle.trace_model.proofs.Owners.{projection_is_part}
+use Rattle.phased_rt.specs.Told.{IsTaskLog, IsToldBy}
+use Rattle.phased_rt.proofs.Owned.{AreOfEach, phasers_owned, finishes_owned}
+
+-- ---- entries of another
+
+of_another : (w v : Whose) (p : List Entry) → AreOf v p → v ≢ w → AreNotOf w p
+of_another w v p own other =
+    All-weaker (λ (e : Entry). whose e.1 ≡ v) (λ e. whose e.1 ≢ w) (λ e is same. other (sym is ∙ same)) p own
+
+-- none of these parts is of an owner that has none of their numbers
+of_others : (w : ℕ → Whose) (v : Whose) (n : ℕ) (ps : List (List Entry))
+    → ((m : ℕ) → n ≤ m → w m ≢ v) → AreOfEach w n ps → All (AreNotOf v) ps
+of_others w v n [] other own = All-nil (AreNotOf v)
+of_others w v n (p ∷ ps) other own =
+    All-cons (AreNotOf v) p ps (of_another v (w n) p own.0 (other n (omega arith)))
+    (of_others w v (n + 1) ps (λ m above. other m (omega (arith, above))) own.1)
+
+of_logs : (v : Whose) → ((t : ℕ) → log t ≢ v) → (ps : List (List Entry)) → All (λ p. IsTaskLog p) ps
+    → All (AreNotOf v) ps
+of_logs v other ps of =
+    All-weaker (λ (p : List Entry). IsTaskLog p) (AreNotOf v)
+    (λ p is. of_another v (log is.0) p is.1 (other is.0)) ps of
+
+-- ---- of owners in a row
+
+each_traced : (w : ℕ → Whose) → ((m n : ℕ) → w m ≡ w n → m ≡ n)
+    → (n : ℕ) (before ps after : List (List Entry)) (es : List Entry)
+    → IsTraceOf (before ++ (ps ++ after)) es → AreOfEach w n ps
+    → ((m : ℕ) → n ≤ m → All (AreNotOf (w m)) before) → ((m : ℕ) → All (AreNotOf (w m)) after)
+    → map (λ k. projection (w k) es) (range_with_len n (length ps)) ≡ ps
+each_traced w one n before [] after es trace own front back = refl
+each_traced w one n before (p ∷ ps) after es trace own front back =
+    let rest : All (AreNotOf (w n)) ps =
+    of_others w (w n) (n + 1) ps (λ m above same. absurd (omega (arith, above, one m n same))) own.1 in
+    let none : All (AreNotOf (w n)) (before ++ (ps ++ after)) =
+    All-append (AreNotOf (w n)) before (ps ++ after) (front n (omega arith))
+    (All-append (AreNotOf (w n)) ps after rest (back n)) in
+    let moved : IsTraceOf ((before ++ p ∷ []) ++ (ps ++ after)) es =
+    subst (λ (l : List (List Entry)). IsTraceOf l es) (sym (append_assoc before (p ∷ []) (ps ++ after))) trace
+    in
+    ap₂ (λ (x : List Entry) (xs : List (List Entry)). x ∷ xs)
+    (projection_is_part (w n) p before (ps ++ after) es trace own.0 none)
+    (each_traced w one (n + 1) (before ++ p ∷ []) ps after es moved own.1
+    (λ m above. All-push (AreNotOf (w m)) before p (front m (omega (arith, above)))
+    (of_another (w m) (w n) p own.0 (λ same. absurd (omega (arith, above, one n m same)))))
+    back)
+
+one_phaser : (m n : ℕ) → phaser m ≡ phaser n → m ≡ n
+one_phaser m n same = cc
+
+one_finish : (m n : ℕ) → finish m ≡ finish n → m ≡ n
+one_finish m n same = cc
+
+finish_no_phaser : (f n : ℕ) → finish f ≢ phaser n
+finish_no_phaser f n same = cc
+
+phaser_no_finish : (n f : ℕ) → phaser n ≢ finish f
+phaser_no_finish n f same = cc
+
+log_no_phaser : (t n : ℕ) → log t ≢ phaser n
+log_no_phaser t n same = cc
+
+log_no_finish : (t f : ℕ) → log t ≢ finish f
+log_no_finish t f same = cc
+
+-- ---- of a run
+
+pub phasers_traced : (l : Limits) (es : List Entry) (t : Totals) (told : IsToldBy l es t)
+    → map (λ n. projection (phaser n) es) (below l.phasers) ≡ told.phasers
+phasers_traced l es t told =
+    let merged : IsTraceOf ([] ++ (told.phasers ++ (told.finishes ++ told.logs))) es =
+    subst (λ (ps : List (List Entry)). IsTraceOf ps es) (append_assoc told.phasers told.finishes told.logs)
+    told.merged in
+    let finishes = finishes_owned 0 told.finishes told.ended told.of_finishes in
+    subst (λ (k : ℕ). map (λ n. projection (phaser n) es) (range_with_len 0 k) ≡ told.phasers)
+    told.all_phasers
+    (each_traced phaser one_phaser 0 [] told.phasers (told.finishes ++ told.logs) es merged
+    (phasers_owned 0 told.phasers told.sums told.of_phasers) (λ m above. All-nil (AreNotOf (phaser m)))
+    (λ m. All-append (AreNotOf (phaser m)) told.finishes told.logs
+    (of_others finish (phaser m) 0 told.finishes (λ f above. finish_no_phaser f m) finishes)
+    (of_logs (phaser m) (λ t. log_no_phaser t m) told.logs told.of_tasks)))
+
+pub finishes_traced : (l : Limits) (es : List Entry) (t : Totals) (told : IsToldBy l es t)
+    → map (λ f. projection (finish f) es) (below l.finishes) ≡ told.finishes
+finishes_traced l es t told =
+    let merged : IsTraceOf (told.phasers ++ (told.finishes ++ told.logs)) es =
+    subst (λ (ps : List (List Entry)). IsTraceOf ps es) (append_assoc told.phasers told.finishes told.logs)
+    told.merged in
+    let phasers = phasers_owned 0 told.phasers told.sums told.of_phasers in
+    subst (λ (k : ℕ). map (λ f. projection (finish f) es) (range_with_len 0 k) ≡ told.finishes)
+    told.all_finishes
+    (each_traced finish one_finish 0 told.phasers told.finishes told.logs es merged
+    (finishes_owned 0 told.finishes told.ended told.of_finishes)
+    (λ m above. of_others phaser (finish m) 0 told.phasers (λ n from. phaser_no_finish n m) phasers)
+    (λ m. of_logs (finish m) (λ t. log_no_finish t m) told.logs told.of_tasks))
