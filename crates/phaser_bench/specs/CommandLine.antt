@@ -1,5 +1,5 @@
--- The arguments of the command line, and the jobs that they name.
-use Rattle.std.specs.Prelude.{◌≡◌, ℕ, ◌≤◌, List, [], ◌∷◌, codes, take, drop}
+-- The words of the command line, and the job that they name.
+use Rattle.std.specs.Prelude.{◌≡◌, ℕ, ◌≤◌, List, [], ◌∷◌, codes}
 use Rattle.std.specs.Str.Parse.{IsNumeral, digits_value, without_leading_plus}
 use Rattle.phaser_bench.specs.declared.phasers.job.CoreJob.{CoreJob}
 use Rattle.phaser_bench.specs.declared.locks.job.LocksJob.{LocksJob}
@@ -56,24 +56,8 @@ NamesWorlds job (what ∷ kind ∷ turns ∷ worlds ∷ []) =
     × Spells job.worlds 1 1000 worlds
 NamesWorlds _ _ = ⊥
 
--- how many words name the job
-abbrev pub width : Job → ℕ
-width (Core _) = 4
-width (Locks _) = 6
-width (Worlds _) = 4
-
--- the first of the words name the job
-abbrev pub NamesFirst : Job → List (List ℕ) → Type 0
-NamesFirst (Core job) words = NamesCore job (take 4 words)
-NamesFirst (Locks job) words = NamesLocks job (take 6 words)
-NamesFirst (Worlds job) words = NamesWorlds job (take 4 words)
-
--- the words name these jobs one after the other, and no word is left
-abbrev pub NamesEach : List Job → List (List ℕ) → Type 0
-NamesEach [] words = words ≡ []
-NamesEach (job ∷ jobs) words = NamesFirst job words × NamesEach jobs (drop (width job) words)
-
--- the arguments are the program's own name, and then the words of these jobs, of which there is one at least
-abbrev pub Names : List Job → List (List ℕ) → Type 0
-Names jobs (_ ∷ word ∷ words) = NamesEach jobs (word ∷ words)
-Names _ _ = ⊥
+-- the words name the job
+abbrev pub Names : Job → List (List ℕ) → Type 0
+Names (Core job) words = NamesCore job words
+Names (Locks job) words = NamesLocks job words
+Names (Worlds job) words = NamesWorlds job words

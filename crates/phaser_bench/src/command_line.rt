@@ -1,6 +1,6 @@
-//! The arguments of the command line, as jobs.
-ghost use Rattle.std.specs.Prelude.{◌≡◌, take, drop, map, SomeIff, MatchOption, IfOk};
-ghost use Rattle.phaser_bench.specs.CommandLine.{IsNumberFrom, number_in, NamesCore, NamesLocks, NamesWorlds, NamesFirst, NamesEach, Names};
+//! The words of the command line, as a job.
+ghost use Rattle.std.specs.Prelude.{map, SomeIff, MatchOption};
+ghost use Rattle.phaser_bench.specs.CommandLine.{IsNumberFrom, number_in, NamesCore, NamesLocks, NamesWorlds, Names};
 
 use crate::job::Job;
 use crate::locks::job::LocksJob;
@@ -9,7 +9,6 @@ use crate::phasers::job::CoreJob;
 use crate::phasers::kind::Kind as CoreKind;
 use crate::worlds::job::WorldsJob;
 use crate::worlds::kind::Kind as WorldsKind;
-use std::alloc::{AllocError, Global};
 
 /// The number that the argument spells, where it is from the first of these to the second.
 fn number_of(argument: &str, least: u32, most: u32) -> Option<u32>
@@ -72,73 +71,20 @@ fn worlds_job(words: &[&str]) -> Option<WorldsJob>
     })
 }
 
-/// The first so many of the words, or all of them.
-fn first<'w, 's>(words: &'w [&'s str], count: usize) -> &'w [&'s str]
-    ensures { result.now ≡ take count words.now }
-{
-    if words.len() < count {
-        words
-    } else {
-        &words[..count]
-    }
-}
-
-/// The job that the first of the words name; none where they name none.
-fn job_of(words: &[&str]) -> Option<Job>
+/// The job that the words name; none where they name none.
+pub fn job_of(words: &[&str]) -> Option<Job>
     ensures { MatchOption result
-        ((job : _) → ¬ (NamesFirst job (map (λ w. w.now) words.now)))
-        (λ job. NamesFirst job (map (λ w. w.now) words.now)) }
+        ((job : _) → ¬ (Names job (map (λ w. w.now) words.now)))
+        (λ job. Names job (map (λ w. w.now) words.now)) }
 {
-    if let Some(job) = core_job(first(words, 4)) {
+    if let Some(job) = core_job(words) {
         return Some(Job::Core(job));
     }
-    if let Some(job) = locks_job(first(words, 6)) {
+    if let Some(job) = locks_job(words) {
         return Some(Job::Locks(job));
     }
-    if let Some(job) = worlds_job(first(words, 4)) {
+    if let Some(job) = worlds_job(words) {
         return Some(Job::Worlds(job));
     }
     None
-}
-
-/// The words after the first so many.
-fn after<'w, 's>(words: &'w [&'s str], count: usize) -> &'w [&'s str]
-    ensures { result.now ≡ drop count words.now }
-{
-    if words.len() < count {
-        &words[words.len()..]
-    } else {
-        &words[count..]
-    }
-}
-
-/// The jobs that the words name one after the other; none where they name none.
-fn each_job(alloc: Global, words: &[&str]) -> Result<Option<Vec<Job>>, AllocError>
-    ensures { IfOk result (λ named. MatchOption named
-        ((jobs : _) → ¬ (NamesEach jobs (map (λ w. w.now) words.now)))
-        (λ jobs. NamesEach jobs.items (map (λ w. w.now) words.now))) }
-{
-    let mut jobs = Vec::new(alloc);
-    let mut rest = words;
-    while !rest.is_empty() {
-        let Some(job) = job_of(rest) else {
-            return Ok(None);
-        };
-        jobs.push(job)?;
-        rest = after(rest, job.width());
-    }
-    Ok(Some(jobs))
-}
-
-/// The jobs that the arguments name one after the other, one at least; none where they name none.
-/// The first argument is the program's own name.
-pub fn jobs_of(alloc: Global, arguments: &[&str]) -> Result<Option<Vec<Job>>, AllocError>
-    ensures { IfOk result (λ named. MatchOption named
-        ((jobs : _) → ¬ (Names jobs (map (λ w. w.now) arguments.now)))
-        (λ jobs. Names jobs.items (map (λ w. w.now) arguments.now))) }
-{
-    let [_program, _word, ..] = arguments else {
-        return Ok(None);
-    };
-    each_job(alloc, after(arguments, 1))
 }

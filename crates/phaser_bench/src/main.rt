@@ -1,5 +1,5 @@
 //! Calls and steps, many in one process, for the benchmark: of phasers alone, of phasers behind
-//! locks, and of worlds. Prints how many each job did.
+//! locks, or of worlds. Prints how many there were.
 #![tactic(auto)]
 
 mod command_line;
@@ -8,7 +8,7 @@ mod locks;
 mod phasers;
 mod worlds;
 
-use command_line::jobs_of;
+use command_line::job_of;
 use job::Job;
 use locks::threads::events_of;
 use phasers::calls::calls_on_all;
@@ -20,7 +20,7 @@ use std::thread::Threads;
 use worlds::steps_of;
 
 /// What is printed where the arguments are bad.
-const USAGE: &str = "usage: phaser_bench JOB.., where a JOB is one of
+const USAGE: &str = "usage: phaser_bench JOB, where JOB is one of
 core none|turn|send|look|drop TASKS PHASERS
     (1 to 256 tasks, 1 to 1000 phasers)
 locks none|turn|ahead|follow|free TASKS PHASES PHASERS THREADS
@@ -30,15 +30,15 @@ worlds calls|alone|beside|reported|default|greatest TURNS WORLDS
 
 /// Exit status: 0 done, 1 out of memory, 2 bad arguments, 3 a write failed.
 fn main(rt: HostRuntime) -> ExitCode {
-    let status = match named_jobs(&rt) {
-        Ok(jobs) => do_each(&rt, &rt, jobs.as_slice()),
+    let status = match named_job(&rt) {
+        Ok(job) => report(&rt, count_of(&rt, rt.alloc(), job)),
         Err(status) => status,
     };
     ExitCode::from(status)
 }
 
-/// Reads the arguments as jobs, or returns the exit status: 1 out of memory, 2 bad arguments.
-fn named_jobs(rt: &HostRuntime) -> Result<Vec<Job>, u8> {
+/// Reads the arguments as a job, or returns the exit status: 1 out of memory, 2 bad arguments.
+fn named_job(rt: &HostRuntime) -> Result<Job, u8> {
     let Ok(args) = env::args(rt) else {
         return Err(print_usage(rt));
     };
@@ -46,29 +46,17 @@ fn named_jobs(rt: &HostRuntime) -> Result<Vec<Job>, u8> {
         Ok(arguments) => arguments,
         Err(_) => return Err(1),
     };
-    let mut borrowed: Vec<&str> = Vec::new(rt.alloc());
-    for argument in &arguments {
-        if borrowed.push(argument.as_str()).is_err() {
+    let mut words: Vec<&str> = Vec::new(rt.alloc());
+    // The first argument is the program's own name.
+    for argument in arguments.iter().skip(1) {
+        if words.push(argument.as_str()).is_err() {
             return Err(1);
         }
     }
-    match jobs_of(rt.alloc(), borrowed.as_slice()) {
-        Ok(Some(jobs)) => Ok(jobs),
-        Ok(None) => Err(print_usage(rt)),
-        Err(_) => Err(1),
+    match job_of(words.as_slice()) {
+        Some(job) => Ok(job),
+        None => Err(print_usage(rt)),
     }
-}
-
-/// Does the jobs in order, and prints each one's count. Returns the exit status; after a job that
-/// failed none is done.
-fn do_each<R: Threads + Wait + Sync>(rt: &HostRuntime, threads: &R, jobs: &[Job]) -> u8 {
-    for job in jobs {
-        let status = report(rt, count_of(threads, rt.alloc(), *job));
-        if status != 0 {
-            return status;
-        }
-    }
-    0
 }
 
 /// Does the job, and returns how many calls, events or steps it was; none where there was no memory
@@ -96,6 +84,3 @@ fn print_usage(rt: &HostRuntime) -> u8 {
     let _ = rt.eprint(USAGE);
     2
 }
-
-#[cfg(test)]
-mod tests;

@@ -1,14 +1,19 @@
-use Rattle.phaser_bench.proofs.Jobs.{none_named, at_front}
-use Rattle.phaser_bench.specs.CommandLine.{NamesCore, NamesLocks, NamesWorlds}
+use Rattle.std.proofs.Common.{ℕ, List}
+use Rattle.phaser_bench.specs.declared.phasers.job.CoreJob.{CoreJob}
+use Rattle.phaser_bench.specs.declared.locks.job.LocksJob.{LocksJob}
+use Rattle.phaser_bench.specs.declared.worlds.job.WorldsJob.{WorldsJob}
+use Rattle.phaser_bench.specs.declared.job.Job.{Job}
+use Rattle.phaser_bench.specs.declared.job.Job.TheVariants.{Core, Locks, Worlds}
+use Rattle.phaser_bench.specs.CommandLine.{NamesCore, NamesLocks, NamesWorlds, Names}
 use Rattle.phaser_bench.proofs.command_line.job_of.Goals as goal
 
+-- where words name no job of any sort, they name none
+none_named : (words : List (List ℕ)) → ((job : CoreJob) → NamesCore job words → ⊥)
+    → ((job : LocksJob) → NamesLocks job words → ⊥) → ((job : WorldsJob) → NamesWorlds job words → ⊥)
+    → (job : Job) → Names job words → ⊥
+none_named words no_core no_locks no_worlds (Core job) named = no_core job named
+none_named words no_core no_locks no_worlds (Locks job) named = no_locks job named
+none_named words no_core no_locks no_worlds (Worlds job) named = no_worlds job named
+
 pub returns : goal.returns
-returns c =
-    let words = c.args.words.now in
-    none_named _
-    (λ job named. c.in_default.ensures job
-    (at_front (NamesCore job) (λ w. w.now) 4 words _ c.first.ensures named))
-    (λ job named. c.in_default-locks_job.ensures job
-    (at_front (NamesLocks job) (λ w. w.now) 6 words _ c.first-2.ensures named))
-    (λ job named. c.in_default-worlds_job.ensures job
-    (at_front (NamesWorlds job) (λ w. w.now) 4 words _ c.first-3.ensures named))
+returns c = none_named _ c.in_default.ensures c.in_default-locks_job.ensures c.in_default-worlds_job.ensures
