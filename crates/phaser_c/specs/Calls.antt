@@ -22,9 +22,9 @@ answered held call = option_map (λ s. returned s.past (reply s call)) held
 abbrev pub gone_on : Option Story → Call → Option Story
 gone_on held call = option_map (λ s. after s (reply s call)) held
 
--- how a phaser is made for a handle: one that holds a phaser keeps it; else it holds none where what was given is
--- bad or memory is refused, and holds the phaser that was given where it is done
+-- how a phaser is made for a handle: one that holds a phaser keeps it; where what was given is bad, the answer says
+-- why, and the handle holds none; else it holds the phaser that was given, unless memory is refused
 abbrev pub MadeFrom : Option Story → Option Story → Result Story Answer → Answer → Type 0
 MadeFrom (Some s) new given a = (a ≡ Open) × (new ≡ Some s)
-MadeFrom None new (Err why) a = ((a ≡ why) ⊎ (a ≡ Refused Memory)) × (new ≡ None)
+MadeFrom None new (Err why) a = (a ≡ why) × (new ≡ None)
 MadeFrom None new (Ok s) a = ((a ≡ Done) × (new ≡ Some s)) ⊎ ((a ≡ Refused Memory) × (new ≡ None))

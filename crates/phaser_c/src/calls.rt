@@ -1,5 +1,5 @@
 //! The calls on a phaser.
-ghost use Rattle.std.specs.Prelude.{◌≡◌, None, Some, MatchOption};
+ghost use Rattle.std.specs.Prelude.{◌≡◌, ◌≤◌, None, Some, IfSome, MatchOption};
 ghost use Rattle.phase_model.specs.declared.call.Call.TheVariants.{Make as make, Register as register, Signal as signal, Pass as pass, SingleDone as single_done, Send as send, Look as look, Drop as drop_task};
 ghost use Rattle.phaser_core.specs.Outcomes.{pass_reply};
 ghost use Rattle.phaser_c.specs.Answers.{number_of_answer, number_given, value_given, number_for};
@@ -19,6 +19,7 @@ use std::alloc::Global;
 fn call(alloc: Global, phaser: &mut Handle, call: Call) -> Option<Reply>
     ensures answer { result ≡ answered (story phaser.old.state) call }
     ensures history { story phaser.new.state ≡ gone_on (story phaser.old.state) call }
+    ensures compared { IfSome phaser.new.state (λ p. p.compared ≤ 18) }
 {
     let mut state = phaser.take(alloc)?;
     let reply = state.apply(call);
@@ -43,6 +44,8 @@ pub extern "C" fn phaser_c_make(alloc: Global, phaser: &mut Handle, task: u32, m
         (λ m. result ≡ number_for (answered (story phaser.old.state) (make task m))) }
     ensures history { MatchOption (mode_of mode) (phaser.new ≡ phaser.old)
         (λ m. story phaser.new.state ≡ gone_on (story phaser.old.state) (make task m)) }
+    ensures compared { MatchOption (mode_of mode) (phaser.new ≡ phaser.old)
+        (λ m. IfSome phaser.new.state (λ p. p.compared ≤ 18)) }
 {
     match mode_of(mode) {
         None => Answer::BadMode.number(),
@@ -63,6 +66,8 @@ pub extern "C" fn phaser_c_register(
         (λ m. result ≡ number_for (answered (story phaser.old.state) (register parent child m))) }
     ensures history { MatchOption (mode_of mode) (phaser.new ≡ phaser.old)
         (λ m. story phaser.new.state ≡ gone_on (story phaser.old.state) (register parent child m)) }
+    ensures compared { MatchOption (mode_of mode) (phaser.new ≡ phaser.old)
+        (λ m. IfSome phaser.new.state (λ p. p.compared ≤ 18)) }
 {
     match mode_of(mode) {
         None => Answer::BadMode.number(),
@@ -76,6 +81,7 @@ pub extern "C" fn phaser_c_register(
 fn signal(alloc: Global, phaser: &mut Handle, task: u32, proposed: Option<u32>) -> u32
     ensures answer { result ≡ number_for (answered (story phaser.old.state) (signal task proposed)) }
     ensures history { story phaser.new.state ≡ gone_on (story phaser.old.state) (signal task proposed) }
+    ensures compared { IfSome phaser.new.state (λ p. p.compared ≤ 9) }
 {
     let Some(mut state) = phaser.take(alloc) else {
         return Answer::Closed.number();
@@ -90,6 +96,7 @@ fn signal(alloc: Global, phaser: &mut Handle, task: u32, proposed: Option<u32>) 
 pub extern "C" fn phaser_c_signal(alloc: Global, phaser: &mut Handle, task: u32) -> u32
     ensures answer { result ≡ number_for (answered (story phaser.old.state) (signal task None)) }
     ensures history { story phaser.new.state ≡ gone_on (story phaser.old.state) (signal task None) }
+    ensures compared { IfSome phaser.new.state (λ p. p.compared ≤ 9) }
 {
     signal(alloc, phaser, task, None)
 }
@@ -104,6 +111,7 @@ pub extern "C" fn phaser_c_signal_single(
 ) -> u32
     ensures answer { result ≡ number_for (answered (story phaser.old.state) (signal task (Some number))) }
     ensures history { story phaser.new.state ≡ gone_on (story phaser.old.state) (signal task (Some number)) }
+    ensures compared { IfSome phaser.new.state (λ p. p.compared ≤ 9) }
 {
     signal(alloc, phaser, task, Some(number))
 }
@@ -129,6 +137,7 @@ pub extern "C" fn phaser_c_pass(
     ensures answer { result ≡ number_for (answered (story phaser.old.state) (pass task)) }
     ensures number { number.new ≡ number_given number.old (answered (story phaser.old.state) (pass task)) }
     ensures history { story phaser.new.state ≡ gone_on (story phaser.old.state) (pass task) }
+    ensures compared { IfSome phaser.new.state (λ p. p.compared ≤ 9) }
 {
     let Some(mut state) = phaser.take(alloc) else {
         return Answer::Closed.number();
@@ -144,6 +153,7 @@ pub extern "C" fn phaser_c_pass(
 pub extern "C" fn phaser_c_single_done(alloc: Global, phaser: &mut Handle, task: u32) -> u32
     ensures answer { result ≡ number_for (answered (story phaser.old.state) (single_done task)) }
     ensures history { story phaser.new.state ≡ gone_on (story phaser.old.state) (single_done task) }
+    ensures compared { IfSome phaser.new.state (λ p. p.compared ≤ 18) }
 {
     number_for(call(alloc, phaser, Call::SingleDone(task)))
 }
@@ -160,6 +170,7 @@ pub extern "C" fn phaser_c_send(
     ensures answer { result ≡ number_for (answered (story phaser.old.state) (send task accumulator value)) }
     ensures history { story phaser.new.state
         ≡ gone_on (story phaser.old.state) (send task accumulator value) }
+    ensures compared { IfSome phaser.new.state (λ p. p.compared ≤ 18) }
 {
     number_for(call(alloc, phaser, Call::Send(task, accumulator, value)))
 }
@@ -185,6 +196,7 @@ pub extern "C" fn phaser_c_look(
     ensures answer { result ≡ number_for (answered (story phaser.old.state) (look task accumulator)) }
     ensures value { value.new ≡ value_given value.old (answered (story phaser.old.state) (look task accumulator)) }
     ensures history { story phaser.new.state ≡ gone_on (story phaser.old.state) (look task accumulator) }
+    ensures compared { IfSome phaser.new.state (λ p. p.compared ≤ 18) }
 {
     let reply = call(alloc, phaser, Call::Look(task, accumulator));
     give_value(reply, value);
@@ -196,6 +208,7 @@ pub extern "C" fn phaser_c_look(
 pub extern "C" fn phaser_c_drop(alloc: Global, phaser: &mut Handle, task: u32) -> u32
     ensures answer { result ≡ number_for (answered (story phaser.old.state) (drop_task task)) }
     ensures history { story phaser.new.state ≡ gone_on (story phaser.old.state) (drop_task task) }
+    ensures compared { IfSome phaser.new.state (λ p. p.compared ≤ 18) }
 {
     number_for(call(alloc, phaser, Call::Drop(task)))
 }

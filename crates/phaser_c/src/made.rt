@@ -1,5 +1,5 @@
 //! A phaser is made for a handle, and freed.
-ghost use Rattle.std.specs.Prelude.{◌≡◌, ◌⊎◌, None, Some, Ok, Err, IfOk, IfErr};
+ghost use Rattle.std.specs.Prelude.{◌≡◌, None, Some, Ok, MatchResult, IfOk, IfErr};
 ghost use Rattle.phase_modes.specs.Limits.{limits_fit};
 ghost use Rattle.phaser_c.specs.Answers.{number_of_answer};
 ghost use Rattle.phaser_c.specs.Calls.{story, MadeFrom};
@@ -24,8 +24,8 @@ fn state_of(
     bound: u32,
 ) -> Result<PhaserState, Answer>
     ensures made { IfOk result (λ p. story_given limits operators.now bound ≡ Ok p.story) }
-    ensures refused { IfErr result (λ a. (story_given limits operators.now bound ≡ Err a)
-        ⊎ (a ≡ refused Memory)) }
+    ensures refused { IfErr result (λ a. MatchResult (story_given limits operators.now bound)
+        (λ _. a ≡ refused Memory) (λ why. a ≡ why)) }
 {
     if !limits.fits() {
         return Err(Answer::BadLimits);
@@ -50,8 +50,8 @@ fn boxed(
     bound: u32,
 ) -> Result<Box<PhaserState>, Answer>
     ensures made { IfOk result (λ b. story_given limits operators.now bound ≡ Ok b.value.story) }
-    ensures refused { IfErr result (λ a. (story_given limits operators.now bound ≡ Err a)
-        ⊎ (a ≡ refused Memory)) }
+    ensures refused { IfErr result (λ a. MatchResult (story_given limits operators.now bound)
+        (λ _. a ≡ refused Memory) (λ why. a ≡ why)) }
 {
     let state = state_of(alloc, limits, operators, bound)?;
     match Box::new(alloc, state) {
