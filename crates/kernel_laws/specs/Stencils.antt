@@ -22,7 +22,8 @@ OfEachStencil P = (l : Limits) (first : List ℕ) (steps : ℕ) (w : List WorldE
     → length first ≤ 16 → AtMost greatest first
     → IsSmooth stencil_next (root_task first steps) l w → P first steps w
 
--- the phaser of a cell is sent, for each phase, that cell after as many steps, and nothing else
+-- each value that is sent goes to the phaser of a cell, by accumulator 0, and is that cell after as many steps as
+-- its sender has signalled there
 abbrev pub ValuesAreCells : Type 0
 ValuesAreCells = OfEachStencil (λ first steps w.
     (later before : List WorldEvent) (n t a : ℕ) (v : ℤ) → w ≡ later ++ Phaser n (Send t a v) ∷ before

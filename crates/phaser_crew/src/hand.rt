@@ -14,9 +14,9 @@ use std::sync::Wait;
 /// who goes on with it wants to have. Contracts see the worker's number, how many phasers there
 /// are, the items of those whom the worker's calls have woken, and what its calls add up to.
 ///
-/// Each call is that of a `scope_locks::PhaserTable`, and is answered so. Besides, `PhasersFull` is
-/// answered where no phaser has the number, and `Memory` where there is none for the list of those
-/// who are woken: neither changes anything.
+/// Each call is that of a `scope_locks::PhaserTable`; that it is answered so no clause says. Besides,
+/// `PhasersFull` is answered where no phaser has the number, and `Memory` where there is none for the
+/// list of those who are woken: neither changes anything.
 pub trait Hand<T> {
     ghost use Rattle.phaser_crew.specs.Hands.{InHand};
 
