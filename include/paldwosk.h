@@ -26,8 +26,8 @@
  *   - malloc, realloc and free are of one allocator, with blocks aligned to 16. No function is called from a signal
  *     handler, or in the forked child of a process with threads.
  *
- * A NULL pointer, a number that is no mode's and a room that is too small are answers, and change nothing. So is a
- * paldwosk_phaser that holds no phaser.
+ * A NULL pointer, a number that is no mode's and a room that is too small are answers, and change nothing but *written,
+ * which says how much room it takes. So is a paldwosk_phaser that holds no phaser.
  */
 #ifndef PALDWOSK_H
 #define PALDWOSK_H
@@ -77,7 +77,7 @@ typedef enum paldwosk_answer {
   PALDWOSK_NOTHING = 34,  /* there is no least and no greatest of no values */
   PALDWOSK_NOT_KEPT = 35, /* no such accumulator, or the phase is too great, or its fold is given up */
 
-  /* What was passed is at fault. Nothing changed. */
+  /* What was passed is at fault. Nothing changed, but *written where the room is too small. */
   PALDWOSK_NULL = 64,          /* a pointer is NULL */
   PALDWOSK_CLOSED = 65,        /* the paldwosk_phaser holds no phaser */
   PALDWOSK_OPEN = 66,          /* the paldwosk_phaser holds a phaser already */
@@ -162,7 +162,8 @@ uint32_t phaser_c_history_text(paldwosk_phaser *phaser, uint32_t number, const u
 /* Replays the text of a trace (docs/formats.md), at most 67,108,864 bytes: makes its events again, one by one. Where they
  * are a run, writes the lines of its report to `report`, else the line of the refusal, as `refused 25 NotExplained at 7`.
  * No NUL is added. *written is how many bytes the text has, also where the room is too small for it; then nothing else is
- * written, and a second call with more room answers the same. The room may be NULL where it is 0. */
+ * written, and a second call with as much room writes it, unless memory is refused to one of the two. The room may be NULL
+ * where it is 0. */
 static inline paldwosk_status paldwosk_replay(const char *trace, size_t length, char *report, size_t room,
                                               size_t *written) {
   uint8_t none = 0, nowhere = 0;

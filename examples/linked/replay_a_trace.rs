@@ -1,4 +1,4 @@
-//! Replays the trace of a file, and prints the report, or the line of the refusal: replay_a_trace TRACE
+//! Replays the trace of a file, and prints the report, or `Error: ` and the line of the refusal: replay_a_trace TRACE
 use std::error::Error;
 
 fn main() -> Result<(), Box<dyn Error>> {

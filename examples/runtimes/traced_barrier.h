@@ -100,10 +100,9 @@ static inline uint64_t traced_drawn(struct traced_log *log) {
     return draws / 2 * 3;
 }
 
-/* The events of the turns, by their tickets. */
-static inline void traced_turns(struct traced_log *log, FILE *out, uint64_t first) {
+/* The events of the turns, by their tickets: so many from the first on. */
+static inline void traced_turns(struct traced_log *log, FILE *out, uint64_t first, uint64_t drawn) {
     struct turn_event { unsigned task; char kind; } *events;
-    uint64_t drawn = traced_drawn(log);
     events = calloc(drawn + 1, sizeof *events);
     if (events == NULL)
         traced_refuse("there is no memory for the trace");
@@ -131,6 +130,7 @@ static inline unsigned long long traced_leave(FILE *out, unsigned long long tick
 
 /* The making of the barrier, the turns, and the leaving of all threads. */
 static inline void traced_write(struct traced_log *log) {
+    uint64_t drawn = traced_drawn(log); /* first: where there is no trace, no file is touched */
     FILE *out = traced_file();
     unsigned long long ticket = 1;
     fprintf(out, "{\"events\":[\n[%llu,\"p\",0,\"make\",0,\"SIG_WAIT\",[]" TRACED_UNBOUNDED "],\n", ticket++);
@@ -138,7 +138,7 @@ static inline void traced_write(struct traced_log *log) {
         fprintf(out, "[%llu,\"t\",0,\"begin\",[\"async\",%u,[[0,\"SIG_WAIT\"]]]],\n[%llu,\"p\",0,\"reg\",0,%u,\"SIG_WAIT\"],\n"
             "[%llu,\"f\",0,\"spawned\",%u],\n", ticket, task, ticket + 1, task, ticket + 2, task);
     ticket = traced_leave(out, ticket, 0);
-    traced_turns(log, out, ticket);
+    traced_turns(log, out, ticket, drawn);
     ticket = atomic_load(&log->tickets);
     for (unsigned task = 1; task <= log->parties; task++, ticket++) {
         ticket = traced_leave(out, ticket, task);

@@ -16,13 +16,13 @@ fn toolchain() -> PathBuf {
     if let Some(folder) = var_os("RATTLE_C") {
         return PathBuf::from(folder);
     }
-    let found = var_os("PATH")
+    let rt = var_os("PATH")
         .iter()
         .flat_map(|path| split_paths(path).collect::<Vec<_>>())
-        .filter_map(|folder| folder.join("rt").canonicalize().ok())
-        .next();
-    match found {
-        Some(rt) => rt.join("../../c"),
+        .find_map(|folder| folder.join("rt").canonicalize().ok());
+    // The command is KIT/bin/rt.
+    match rt.as_deref().and_then(Path::parent).and_then(Path::parent) {
+        Some(kit) => kit.join("c"),
         None => panic!("the command rt isn't on the PATH: name the folder of liblibc_c.a by RATTLE_C"),
     }
 }

@@ -4,7 +4,7 @@ use std::error::Error;
 use std::fmt;
 
 /// A text was refused, or memory for it.
-#[derive(Clone, Debug, PartialEq, Eq)]
+#[derive(Clone, PartialEq, Eq)]
 pub struct Refused {
     /// The line of the refusal, with its newline, as `refused 25 NotExplained at 7`.
     pub line: String,
@@ -13,6 +13,13 @@ pub struct Refused {
 impl fmt::Display for Refused {
     fn fmt(&self, f: &mut fmt::Formatter<'_>) -> fmt::Result {
         f.write_str(self.line.trim_end())
+    }
+}
+
+/// The line too, since it is this that Rust prints of an `Err` that `main` returns.
+impl fmt::Debug for Refused {
+    fn fmt(&self, f: &mut fmt::Formatter<'_>) -> fmt::Result {
+        fmt::Display::fmt(self, f)
     }
 }
 
