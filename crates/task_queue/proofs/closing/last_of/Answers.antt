@@ -6,6 +6,16 @@ use Rattle.task_queue.proofs.Fairs.{last_leaves}
 use Rattle.task_queue.proofs.Emptying.{each_last, same_length}
 use Rattle.task_queue.proofs.closing.last_of.Goals as goal
 
+pub returns-clause-fits : goal.returns-clause-fits
+returns-clause-fits g c =
+    let is : c.args.row.items ≡ c.pop.new.self.items ++ c.in-Some.reach ∷ [] = c.in-Some.ensures.items in
+    (last_leaves reach_deque c.args.row.items c.pop.new.self.items c.in-Some.reach (map worker_deque c.args.owns.now.items) (worker_deque c.args.own.now) c.requires.fits is).0
+
+pub returns-clause-ready : goal.returns-clause-ready
+returns-clause-ready g c =
+    let is : c.args.row.items ≡ c.pop.new.self.items ++ c.in-Some.reach ∷ [] = c.in-Some.ensures.items in
+    (All-pop IsReach c.args.row.items c.pop.new.self.items (Some c.in-Some.reach) is c.requires.ready).0
+
 pub returns-clause-pass : goal.returns-clause-pass
 returns-clause-pass g c =
     let reach = c.in-Some.reach in
