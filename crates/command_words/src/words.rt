@@ -57,9 +57,9 @@ const VERSION: &str = "0.1.0";
 
 /// What `events --help` says of the file and of the lines.
 const EVENTS_HELP: &str = "\
-The file is JSON: {\"limits\":{..},\"accs\":[..],\"calls\":[..]}, at most 1,048,576 bytes.
+The file is JSON: {\"limits\":{..},\"accs\":[..],\"bound\":b,\"calls\":[..]}, at most 1,048,576 bytes.
 Limits, all optional: acts, finishes, history, phasers, regs, tasks.
-Accumulators, optional: up to four of \"sum\", \"least\", \"greatest\".
+Accumulators, optional: up to four of \"sum\", \"least\", \"greatest\". The bound, optional: 1 to 65536.
 Calls, with task numbers t and q, and a mode SIG, WAIT, SIG_WAIT or SINGLE:
   [\"make\",t,mode]   [\"reg\",q,t,mode]   [\"sig\",t]   [\"sig\",t,number]
   [\"pass\",t]   [\"did\",t]   [\"send\",t,acc,value]   [\"look\",t,acc]   [\"drop\",t]
@@ -73,9 +73,10 @@ const SCHEDULE_HELP: &str = "\
 The file is JSON: {\"limits\":{..},\"main\":[acts]}, at most 1,048,576 bytes.
 Limits, all optional: acts, finishes, history, phasers, regs, tasks.
 Acts, with a phaser's name, a mode SIG, WAIT, SIG_WAIT or SINGLE, and numbers:
-  [\"new\",name,mode,[\"sum\",\"least\",\"greatest\"]]   [\"async\",[[name,mode],..],[acts]]
+  [\"new\",name,mode,[\"sum\",\"least\",\"greatest\"],bound]   [\"async\",[[name,mode],..],[acts]]
   [\"async_all\",[acts]]   [\"open\"]   [\"shut\"]   [\"signal\"]   [\"wait\"]   [\"next\"]
   [\"single\",number]   [\"send\",name,acc,value]   [\"look\",name,acc]   [\"repeat\",times,[acts]]
+The bound of new, 1 to 65536, may be left out.
 A pick is the number of a task, which makes one event, if it can. After LIST the tasks are picked
 by number, round after round, until all have ended.
 Lines: phaser N phases K, its folds, task T ended or refused, finish F tasks N, totals.
@@ -131,8 +132,8 @@ const UPGRADE_HELP: &str =
 
 /// What `--help` says of the exit status.
 const PROGRAM_HELP: &str = "\
-Exit status: 0 done, 1 refused (bad text, or memory ran out), 2 bad words, help or version,
-3 a read or a write failed.";
+Exit status: 0 done, 1 refused (a bad text, a trace that no run makes, or memory ran out),
+2 bad words, help or version, 3 a read or a write failed.";
 
 /// FILE, which has to be there.
 fn file_argument<'a>(alloc: Global, help: &'a str) -> Arg<'a>
