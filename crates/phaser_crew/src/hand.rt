@@ -15,8 +15,9 @@ use std::sync::Wait;
 /// are, the items of those whom the worker's calls have woken, and what its calls add up to.
 ///
 /// Each call is that of a `scope_locks::PhaserTable`; that it is answered so no clause says. Besides,
-/// `PhasersFull` is answered where no phaser has the number, and `Memory` where there is none for the
-/// list of those who are woken: neither changes anything.
+/// where no phaser has the number, `make` answers `PhasersFull` and every other call `NotRegistered`,
+/// as in a run; and `Memory` is answered where there is none for the list of those who are woken. None
+/// of these changes anything.
 pub trait Hand<T> {
     ghost use Rattle.phaser_crew.specs.Hands.{InHand};
 
@@ -61,7 +62,7 @@ pub trait Hand<T> {
     fn register(&mut self, phaser: u32, parent: u32, child: u32, mode: Mode) -> Result<(), Refusal>
         ensures posted { (shown self.new).posted
             ≡ plus (amount_if (is_ok result) (Event.Reg parent child mode)) (shown self.old).posted }
-        ensures unknown { (shown self.old).phasers ≤ phaser → result ≡ Err Refusal.PhasersFull }
+        ensures unknown { (shown self.old).phasers ≤ phaser → result ≡ Err Refusal.NotRegistered }
         ensures same { IsSameHand (shown self.old) (shown self.new) }
         ensures freed { (shown self.new).freed ≡ (shown self.old).freed };
 
@@ -69,7 +70,7 @@ pub trait Hand<T> {
     fn send(&mut self, phaser: u32, task: u32, accumulator: u8, value: i32) -> Result<(), Refusal>
         ensures posted { (shown self.new).posted
             ≡ plus (amount_if (is_ok result) (Event.Send task accumulator value)) (shown self.old).posted }
-        ensures unknown { (shown self.old).phasers ≤ phaser → result ≡ Err Refusal.PhasersFull }
+        ensures unknown { (shown self.old).phasers ≤ phaser → result ≡ Err Refusal.NotRegistered }
         ensures same { IsSameHand (shown self.old) (shown self.new) }
         ensures freed { (shown self.new).freed ≡ (shown self.old).freed };
 
@@ -77,7 +78,7 @@ pub trait Hand<T> {
     fn look(&mut self, phaser: u32, task: u32, accumulator: u8) -> Result<Look, Refusal>
         ensures posted { (x : Look) → (shown self.new).posted
             ≡ plus (amount_if (is_ok result) (Event.Look task accumulator x)) (shown self.old).posted }
-        ensures unknown { (shown self.old).phasers ≤ phaser → result ≡ Err Refusal.PhasersFull }
+        ensures unknown { (shown self.old).phasers ≤ phaser → result ≡ Err Refusal.NotRegistered }
         ensures same { IsSameHand (shown self.old) (shown self.new) }
         ensures freed { (shown self.new).freed ≡ (shown self.old).freed };
 
@@ -88,7 +89,7 @@ pub trait Hand<T> {
             ≡ plus (amount_if (has_signalled result) (Event.Sig task proposed)) (shown self.old).posted }
         ensures item { IsBackFromSignal item result }
         ensures freed { BeginsWith (shown self.old).freed (shown self.new).freed }
-        ensures unknown { (shown self.old).phasers ≤ phaser → result ≡ SignalAnswer.Refused item Refusal.PhasersFull }
+        ensures unknown { (shown self.old).phasers ≤ phaser → result ≡ SignalAnswer.Refused item Refusal.NotRegistered }
         ensures same { IsSameHand (shown self.old) (shown self.new) }
         ensures nobody { has_signalled result ≡ false → (shown self.new).freed ≡ (shown self.old).freed };
 
@@ -99,7 +100,7 @@ pub trait Hand<T> {
             ≡ plus (amount_if (goes_on result) (Event.Pass task)) (shown self.old).posted }
         ensures item { IsBack item result }
         ensures freed { BeginsWith (shown self.old).freed (shown self.new).freed }
-        ensures unknown { (shown self.old).phasers ≤ phaser → result ≡ PassAnswer.Refused item Refusal.PhasersFull }
+        ensures unknown { (shown self.old).phasers ≤ phaser → result ≡ PassAnswer.Refused item Refusal.NotRegistered }
         ensures same { IsSameHand (shown self.old) (shown self.new) }
         ensures nobody { goes_on result ≡ false → (shown self.new).freed ≡ (shown self.old).freed };
 
@@ -108,7 +109,7 @@ pub trait Hand<T> {
         ensures posted { (shown self.new).posted
             ≡ plus (amount_if (is_ok result) (Event.Did task)) (shown self.old).posted }
         ensures freed { BeginsWith (shown self.old).freed (shown self.new).freed }
-        ensures unknown { (shown self.old).phasers ≤ phaser → result ≡ Err Refusal.PhasersFull }
+        ensures unknown { (shown self.old).phasers ≤ phaser → result ≡ Err Refusal.NotRegistered }
         ensures same { IsSameHand (shown self.old) (shown self.new) }
         ensures refused { OnErr result ((shown self.new).freed ≡ (shown self.old).freed) };
 
@@ -117,7 +118,7 @@ pub trait Hand<T> {
         ensures posted { (shown self.new).posted
             ≡ plus (amount_if (is_ok result) (Event.Drop task)) (shown self.old).posted }
         ensures freed { BeginsWith (shown self.old).freed (shown self.new).freed }
-        ensures unknown { (shown self.old).phasers ≤ phaser → result ≡ Err Refusal.PhasersFull }
+        ensures unknown { (shown self.old).phasers ≤ phaser → result ≡ Err Refusal.NotRegistered }
         ensures same { IsSameHand (shown self.old) (shown self.new) }
         ensures refused { OnErr result ((shown self.new).freed ≡ (shown self.old).freed) };
 }

@@ -25,17 +25,21 @@ pub(crate) struct Held<'a, T, K: Ledgers, R> {
     out: Out<T>,
 }
 
-/// The phaser's place in the table; `PhasersFull` where no phaser has the number.
-fn place<T, K: Ledgers>(table: &PhaserTable<T, K>, phaser: u32) -> Result<usize, Refusal>
+/// The phaser's place in the table; the refusal where no phaser has the number.
+fn place<T, K: Ledgers>(
+    table: &PhaserTable<T, K>,
+    phaser: u32,
+    refusal: Refusal,
+) -> Result<usize, Refusal>
     ensures place { IfOk result (λ n. n < table.now.phasers) }
     ensures known { IfOk result (λ _. phaser < table.now.phasers) }
-    ensures unknown { IfErr result (λ e. e ≡ Refusal.PhasersFull) }
+    ensures unknown { IfErr result (λ e. e ≡ refusal) }
 {
     let number = phaser as usize;
     if number < table.phasers {
         Ok(number)
     } else {
-        Err(Refusal::PhasersFull)
+        Err(refusal)
     }
 }
 
@@ -116,7 +120,7 @@ impl<'a, T, K: Ledgers, R: Wait> Hand<T> for Held<'a, T, K, R> {
         ops: Ops,
         bound: Option<Bound>,
     ) -> Result<(), Refusal> {
-        let number = place(self.table, phaser)?;
+        let number = place(self.table, phaser, Refusal::PhasersFull)?;
         self.table.make(
             self.rt,
             number,
@@ -136,7 +140,7 @@ impl<'a, T, K: Ledgers, R: Wait> Hand<T> for Held<'a, T, K, R> {
         child: u32,
         mode: Mode,
     ) -> Result<(), Refusal> {
-        let number = place(self.table, phaser)?;
+        let number = place(self.table, phaser, Refusal::NotRegistered)?;
         self.table.register(
             self.rt,
             number,
@@ -149,7 +153,7 @@ impl<'a, T, K: Ledgers, R: Wait> Hand<T> for Held<'a, T, K, R> {
     }
 
     fn send(&mut self, phaser: u32, task: u32, accumulator: u8, value: i32) -> Result<(), Refusal> {
-        let number = place(self.table, phaser)?;
+        let number = place(self.table, phaser, Refusal::NotRegistered)?;
         self.table.send(
             self.rt,
             number,
@@ -162,7 +166,7 @@ impl<'a, T, K: Ledgers, R: Wait> Hand<T> for Held<'a, T, K, R> {
     }
 
     fn look(&mut self, phaser: u32, task: u32, accumulator: u8) -> Result<Look, Refusal> {
-        let number = place(self.table, phaser)?;
+        let number = place(self.table, phaser, Refusal::NotRegistered)?;
         self.table.look(
             self.rt,
             number,
@@ -180,7 +184,7 @@ impl<'a, T, K: Ledgers, R: Wait> Hand<T> for Held<'a, T, K, R> {
         proposed: Option<u32>,
         item: T,
     ) -> SignalAnswer<T> {
-        let number = match place(self.table, phaser) {
+        let number = match place(self.table, phaser, Refusal::NotRegistered) {
             Ok(number) => number,
             Err(refusal) => return SignalAnswer::Refused(item, refusal),
         };
@@ -200,7 +204,7 @@ impl<'a, T, K: Ledgers, R: Wait> Hand<T> for Held<'a, T, K, R> {
     }
 
     fn pass(&mut self, phaser: u32, task: u32, item: T) -> PassAnswer<T> {
-        let number = match place(self.table, phaser) {
+        let number = match place(self.table, phaser, Refusal::NotRegistered) {
             Ok(number) => number,
             Err(refusal) => return PassAnswer::Refused(item, refusal),
         };
@@ -219,7 +223,7 @@ impl<'a, T, K: Ledgers, R: Wait> Hand<T> for Held<'a, T, K, R> {
     }
 
     fn single_done(&mut self, phaser: u32, task: u32) -> Result<(), Refusal> {
-        let number = place(self.table, phaser)?;
+        let number = place(self.table, phaser, Refusal::NotRegistered)?;
         pour(&mut self.ready, &mut self.out)?;
         self.table.single_done(
             self.rt,
@@ -232,7 +236,7 @@ impl<'a, T, K: Ledgers, R: Wait> Hand<T> for Held<'a, T, K, R> {
     }
 
     fn drop_task(&mut self, phaser: u32, task: u32) -> Result<(), Refusal> {
-        let number = place(self.table, phaser)?;
+        let number = place(self.table, phaser, Refusal::NotRegistered)?;
         pour(&mut self.ready, &mut self.out)?;
         self.table.drop_task(
             self.rt,

@@ -1,10 +1,11 @@
 //! What a world keeps, by number: its phasers, its finishes and its tasks.
 //! `world` is the public face.
-ghost use Rattle.std.specs.Prelude.{◌≡◌, ◌<◌, not, nat_lt, length, IfOk, IfErr, true, [], replicate};
+ghost use Rattle.std.specs.Prelude.{◌≡◌, ◌<◌, not, nat_lt, length, IfOk, IfErr, true, [], ◌∷◌, replicate, set};
 ghost use Rattle.phase_modes.specs.Limits.{limits_fit};
 ghost use Rattle.phase_modes.specs.Refusal.{first_refusal};
 ghost use Rattle.finish_core.specs.Finish.{fresh};
-ghost use Rattle.world_steps.specs.Kept.{blank_task, blank_story, first_state, task_at, is_ready};
+ghost use Rattle.finish_core.specs.declared.event.FinishEvent.TheVariants.{Opened as opened};
+ghost use Rattle.world_steps.specs.Kept.{blank_task, root_task, blank_story, first_state, task_at, is_ready};
 ghost use Rattle.world_steps.specs.inner.Steps.{first_conditions, free_unless};
 ghost use Rattle.world_steps.specs.StandsFor.{StandsFor};
 
@@ -112,6 +113,31 @@ fn blank_tasks(alloc: Global, limits: Limits) -> Result<Vec<Task>, Refusal>
     Ok(tasks)
 }
 
+/// The finishes of a world in which nothing has happened yet: finish 0 is open.
+fn first_finishes(alloc: Global, limits: Limits) -> Result<Vec<FinishState>, Refusal>
+    requires { limits_fit limits ≡ true }
+    ensures first { IfOk result (λ v. v.items ≡ set (replicate limits.finishes (fresh limits.tasks)) 0
+        (record { tasks = limits.tasks; past = opened 0 ∷ [] })) }
+    ensures memory { IfErr result (λ r. r ≡ Refusal.Memory) }
+{
+    let mut finishes = fresh_finishes(alloc, limits)?;
+    let first = &mut finishes[0];
+    let _opened = first.opened(0);
+    Ok(finishes)
+}
+
+/// The tasks of a world in which nothing has happened yet: task 0 runs.
+fn first_tasks(alloc: Global, limits: Limits) -> Result<Vec<Task>, Refusal>
+    requires { limits_fit limits ≡ true }
+    ensures first { IfOk result (λ v. v.items ≡ set (replicate limits.tasks blank_task) 0 root_task) }
+    ensures memory { IfErr result (λ r. r ≡ Refusal.Memory) }
+{
+    let mut tasks = blank_tasks(alloc, limits)?;
+    let root = &mut tasks[0];
+    root.become_root();
+    Ok(tasks)
+}
+
 impl Tables {
     /// A world in which nothing has happened yet. All memory that its steps will ever need is taken
     /// here; `Memory` where that is refused.
@@ -130,22 +156,19 @@ impl Tables {
         ensures first { IfOk result (λ s. s ≡ first_state limits) }
         ensures memory { IfErr result (λ r. r ≡ Refusal.Memory) }
     {
-        let phasers = blank_phasers(alloc, limits)?;
         let Ok(enclosing) = vec![in alloc; 0; limits.phasers as usize] else {
             return Err(Refusal::Memory);
         };
-        let mut finishes = fresh_finishes(alloc, limits)?;
         let Ok(owners) = vec![in alloc; 0; limits.finishes as usize] else {
             return Err(Refusal::Memory);
         };
         let Ok(outers) = vec![in alloc; None; limits.finishes as usize] else {
             return Err(Refusal::Memory);
         };
-        let mut tasks = blank_tasks(alloc, limits)?;
-        let first = &mut finishes[0];
-        let _opened = first.opened(0);
-        let root = &mut tasks[0];
-        root.become_root();
+        let finishes = first_finishes(alloc, limits)?;
+        let tasks = first_tasks(alloc, limits)?;
+        // Last, since they are the dearest to give back where others get no memory.
+        let phasers = blank_phasers(alloc, limits)?;
         Ok(Tables {
             limits,
             phasers,
