@@ -12,39 +12,62 @@ struct Identity {
     number: u64,
 }
 
-/// What is there under this name, links followed; none where nothing is, where it can't be told, and
-/// of a device or a pipe, which nobody can empty.
-fn found_under(rt: &HostRuntime, name: &str) -> Result<Option<Identity>, Failure> {
+/// What stands under a name, links followed.
+#[derive(Clone, Copy)]
+enum Found {
+    File(Identity),
+    /// A folder, a device or a pipe, which nobody can empty.
+    Other,
+    Nothing,
+}
+
+/// What is there under this name. A fault where that can't be told.
+fn found_under(rt: &HostRuntime, name: &str) -> Result<Found, Failure> {
     match metadata(rt, name) {
-        Ok(found) if found.is_file() => Ok(Some(Identity {
+        Ok(found) if found.is_file() => Ok(Found::File(Identity {
             device: found.dev(),
             number: found.ino(),
         })),
-        Err(error) if error.kind() == ErrorKind::OutOfMemory => {
-            Err(Failure::Refused(Refusal::Memory))
-        }
-        _ => Ok(None),
+        Ok(_) => Ok(Found::Other),
+        Err(error) => match error.kind() {
+            ErrorKind::OutOfMemory => Err(Failure::Refused(Refusal::Memory)),
+            ErrorKind::NotFound => Ok(Found::Nothing),
+            _ => Err(Failure::Write),
+        },
     }
 }
 
-/// Whether both names are of one file.
-fn are_one(rt: &HostRuntime, one: &str, other: &str) -> Result<bool, Failure> {
-    match (found_under(rt, one)?, found_under(rt, other)?) {
-        (Some(one), Some(other)) => Ok(one == other),
+/// Whether FILE and OUT are one file, by whatever names.
+fn are_one(rt: &HostRuntime, file: &str, out: &str) -> Result<bool, Failure> {
+    match (found_under(rt, file)?, found_under(rt, out)?) {
+        (Found::File(one), Found::File(other)) => Ok(one == other),
         _ => Ok(false),
     }
 }
 
-/// Whether OUT is FILE itself, by whatever name; `-` is the file that standard input is read from.
+/// Whether OUT is the file that this stream, as `/dev/stdin`, comes from or goes to. Where the system
+/// has no such name that can't be told, and a file that is there is taken for it.
+fn is_of_stream(rt: &HostRuntime, stream: &str, out: &str) -> Result<bool, Failure> {
+    match (found_under(rt, stream)?, found_under(rt, out)?) {
+        (Found::Nothing, Found::File(_)) => Ok(true),
+        (Found::File(one), Found::File(other)) => Ok(one == other),
+        _ => Ok(false),
+    }
+}
+
+/// Whether OUT is FILE itself; `-` is the file that standard input is read from.
 fn is_file_itself(rt: &HostRuntime, file: &str, out: &str) -> Result<bool, Failure> {
-    let file = if file == "-" { "/dev/stdin" } else { file };
-    are_one(rt, file, out)
+    if file == "-" {
+        is_of_stream(rt, "/dev/stdin", out)
+    } else {
+        are_one(rt, file, out)
+    }
 }
 
 /// Whether OUT is the file that standard output goes to: the report and the trace would overwrite
 /// each other there.
 pub(crate) fn takes_report(rt: &HostRuntime, out: &str) -> Result<bool, Failure> {
-    are_one(rt, "/dev/stdout", out)
+    is_of_stream(rt, "/dev/stdout", out)
 }
 
 /// Makes or empties OUT. A fault where that can't be done, and where OUT is FILE, or the file that
