@@ -9,7 +9,7 @@ use body_follows::Goes;
 use job_script::{Act, Answer};
 use phase_model::Op;
 use phase_modes::{Mode, Phased, Refusal};
-use phased_rt::Body;
+use task_crew::Body;
 
 /// The most that a cell holds.
 const GREATEST: u32 = 1_000_000;

@@ -9,7 +9,7 @@ use Rattle.world_model.specs.ReportLines.{totals_row}
 use Rattle.trace_model.specs.Run.{Run}
 use Rattle.trace_model.specs.Explained.{past, is_explained}
 use Rattle.body_follows.specs.Going.{Does, goes_by}
-use Rattle.phased_rt.specs.Refused.{IsRunRefused}
+use Rattle.task_crew.specs.Refused.{IsRunRefused}
 use Rattle.kernels_job.specs.Printed.{value_text}
 
 -- the report is that of a trace under the default limits that a world explains, and in which each task goes by its body;

@@ -22,7 +22,8 @@ use Rattle.trace_model.specs.Told.{step_told, phaser_told}
 use Rattle.scope_locks.specs.Telling.{IsPhaserPart, ArePhaserParts}
 use Rattle.phased_rt.specs.Totals.{is_phasers}
 use Rattle.phased_rt.proofs.Owned.{IsApart}
-use Rattle.phased_rt.proofs.Sums.{sum_both, sum_same, sum_none, sum_map, sum_reverse, sum_zip, sum_picked}
+use Rattle.task_crew.proofs.Sums.{sum_map}
+use Rattle.phased_rt.proofs.Sums.{sum_both, sum_same, sum_none, sum_reverse, sum_zip, sum_picked}
 
 -- one of the three numbers of an amount
 pub record IsPart (f : Amount → ℕ) : Type 0 where

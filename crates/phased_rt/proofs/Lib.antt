@@ -2,7 +2,6 @@ pub mod Adding
 pub mod Emptied
 pub mod Owned
 pub mod Refusals
-pub mod Seats
 pub mod Sums
 pub mod Totalled
 pub mod Traced

@@ -9,7 +9,7 @@ use Rattle.trace_model.specs.Run.{Entry}
 use Rattle.trace_model.specs.Projections.{Whose, phaser, finish, log, whose, AreOf}
 use Rattle.trace_model.proofs.Owners.{phasers_tell, finishes_tell}
 use Rattle.scope_locks.specs.Telling.{ArePhaserParts, AreFinishParts, untold}
-use Rattle.phased_rt.specs.Told.{IsTaskLog}
+use Rattle.task_crew.specs.Remaining.{IsTaskLog}
 use Rattle.phased_rt.specs.Totals.{is_phasers}
 
 -- parts of the owners of this number, the next and so on

@@ -1,10 +1,10 @@
 -- Sums over lists.
-use Rattle.std.proofs.Common.{◌≡◌, ℕ, zero, suc, ◌+◌, ◌<◌, ◌≤◌, Bool, true, false, ◌==◌, List, [], ◌∷◌, ◌++◌, length, map, reverse, count_by, refl, sym, subst, inl, inr, arith}
+use Rattle.std.proofs.Common.{◌≡◌, ℕ, zero, suc, ◌+◌, ◌<◌, ◌≤◌, Bool, true, false, ◌==◌, List, [], ◌∷◌, length, reverse, count_by, refl, inl, inr, arith}
 use Rattle.std.specs.Prelude.{if◌then◌else◌}
 use Rattle.std.specs.List.{sum_by, filter, flat_map, range_with_len, zip, All}
 use Rattle.std.proofs.lemmas.List.Sums.{sum_by-cons, sum_by-append}
 use Rattle.std.proofs.lemmas.Bool.{cases_Bool, eqb-true, eq-eqb}
-use Rattle.std.proofs.lemmas.List.Elements.{All-nil, All-cons, All-head, All-tail, All-append}
+use Rattle.std.proofs.lemmas.List.Elements.{All-head, All-tail}
 use Rattle.std.proofs.lemmas.List.Sorted.{sum_by-IsPermutation, IsPermutation-reverse}
 
 -- element by element two at once
@@ -20,10 +20,6 @@ sum_same f g (x ∷ xs) same = omega (arith, sum_by-cons f x xs, sum_by-cons g x
 pub sum_none : {X : Type 0} (f : X → ℕ) (xs : List X) → All (λ x. f x ≡ 0) xs → sum_by f xs ≡ 0
 sum_none f [] none = refl
 sum_none f (x ∷ xs) none = omega (arith, sum_by-cons f x xs, sum_none f xs (All-tail (λ y. f y ≡ 0) x xs none), All-head (λ y. f y ≡ 0) x xs none)
-
-pub sum_map : {X Y : Type 0} (f : Y → ℕ) (g : X → Y) (xs : List X) → sum_by f (map g xs) ≡ sum_by (λ x. f (g x)) xs
-sum_map f g [] = refl
-sum_map f g (x ∷ xs) = omega (arith, sum_by-cons f (g x) (map g xs), sum_by-cons (λ y. f (g y)) x xs, sum_map f g xs)
 
 pub sum_reverse : {X : Type 0} (f : X → ℕ) (xs : List X) → sum_by f (reverse xs) ≡ sum_by f xs
 sum_reverse f xs = sum_by-IsPermutation f xs (reverse xs) (IsPermutation-reverse xs)
@@ -85,7 +81,3 @@ sum_picked x m a (suc n) from below =
       | inl is ↦ omega (arith, first, here x m a is, sum_before x m (a + 1) n (omega (arith, eqb-true m a is)))
       | inr isnt ↦ omega (arith, first, elsewhere x m a isnt, sum_picked x m (a + 1) n (later m a isnt from) (omega arith))
     ]
-
--- one more of the same kind
-pub all_more : {X : Type 0} (P : X → Type 0) (xs ys : List X) (x : X) → ys ≡ xs ++ x ∷ [] → All P xs → P x → All P ys
-all_more P xs ys x more all one = subst (λ (l : List _). All P l) (sym more) (All-append P xs (x ∷ []) all (All-cons P x [] one (All-nil P)))

@@ -22,10 +22,11 @@ use Rattle.trace_model.specs.Explained.{past}
 use Rattle.trace_model.specs.Parts.{IsTraceOf}
 use Rattle.scope_locks.specs.Telling.{ArePhaserParts}
 use Rattle.share_book.specs.declared.gathering.Totals.{Totals}
-use Rattle.share_book.specs.Accounts.{Entry as Book, sum, sum_of_books, amount_of}
+use Rattle.share_book.specs.Accounts.{sum, amount_of}
 use Rattle.phased_rt.specs.Told.{IsToldBy}
 use Rattle.phased_rt.specs.Totals.{is_phasers, all_totals, AreTotals}
-use Rattle.phased_rt.proofs.Sums.{sum_same, sum_map, sum_reverse, sum_flat, sum_filter}
+use Rattle.task_crew.proofs.Sums.{sum_map, same_amounts}
+use Rattle.phased_rt.proofs.Sums.{sum_same, sum_reverse, sum_flat, sum_filter}
 use Rattle.phased_rt.proofs.Adding.{IsPart, weight, weigh, past_weighs, parts_weigh, all_weigh, others_weigh}
 use Rattle.phased_rt.proofs.Owned.{IsApart, finishes_apart, logs_apart}
 
@@ -65,11 +66,6 @@ are_up = record { adds = λ a b. refl; none = refl }
 
 are_down : IsPart (λ a. a.down)
 are_down = record { adds = λ a b. refl; none = refl }
-
-same_amounts : (a b : Amount) → a.events ≡ b.events → a.up ≡ b.up → a.down ≡ b.down → a ≡ b
-same_amounts a b events up down =
-    let whole : record { events = a.events; up = a.up; down = a.down } ≡ record { events = b.events; up = b.up; down = b.down } = cc in
-    whole
 
 -- the histories of all phasers in the trace add up to what the phasers' parts do
 pub totalled : (l : Limits) (phasers others : List (List Entry)) (sums : List Amount) (es : List Entry)
@@ -134,14 +130,6 @@ pub down_reported : (l : Limits) (w : List WorldEvent) → (report_of l w).total
 down_reported l w = line_adds (λ a. a.down) are_down l w
 
 -- ---- of a run
-
--- the sums of the phasers' books
-pub books_sum : (books : List Book) → sum_of_books books ≡ sum (map (λ b. b.totals) books)
-books_sum books =
-    same_amounts (sum_of_books books) (sum (map (λ b. b.totals) books))
-    (sym (sum_map (λ (a : Amount). a.events) (λ (b : Book). b.totals) books))
-    (sym (sum_map (λ (a : Amount). a.up) (λ (b : Book). b.totals) books))
-    (sym (sum_map (λ (a : Amount). a.down) (λ (b : Book). b.totals) books))
 
 -- what a run says of its totals, by what its trace was put together from
 pub told_totals : (l : Limits) (es : List Entry) (t : Totals) (world : Report) → IsToldBy l es t → world ≡ report_of l (past (reverse es))

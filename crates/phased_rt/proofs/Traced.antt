@@ -9,7 +9,8 @@ use Rattle.trace_model.specs.Run.{Entry}
 use Rattle.trace_model.specs.Parts.{IsTraceOf}
 use Rattle.trace_model.specs.Projections.{Whose, phaser, finish, log, whose, projection, AreOf, AreNotOf}
 use Rattle.trace_model.proofs.Owners.{projection_is_part}
-use Rattle.phased_rt.specs.Told.{IsTaskLog, IsToldBy}
+use Rattle.task_crew.specs.Remaining.{IsTaskLog}
+use Rattle.phased_rt.specs.Told.{IsToldBy}
 use Rattle.phased_rt.proofs.Owned.{AreOfEach, phasers_owned, finishes_owned}
 
 -- ---- entries of another

@@ -1,6 +1,4 @@
 pub mod Left
-pub mod Refused
 pub mod Told
 pub mod Totals
 pub mod Traced
-pub mod inner

@@ -6,12 +6,8 @@ use Rattle.share_book.specs.declared.gathering.Totals.{Totals}
 use Rattle.share_book.specs.Accounts.{sum, amount_of}
 use Rattle.scope_locks.specs.Telling.{ArePhaserParts, AreFinishParts}
 use Rattle.trace_model.specs.Parts.{IsTraceOf}
-use Rattle.trace_model.specs.Projections.{log, AreOf}
 use Rattle.trace_model.specs.Run.{Entry}
-
--- the entries are one task's log: what it began, was refused and gave up
-abbrev pub IsTaskLog : List Entry → Type 0
-IsTaskLog es = (t : ℕ) × AreOf (log t) es
+use Rattle.task_crew.specs.Remaining.{IsTaskLog}
 
 -- the trace is one of a part for each phaser and each finish, which tells a legal history as locks do, and of
 -- logs, each of one task; the totals are what the phasers' histories add up to

@@ -11,9 +11,9 @@
 //!
 //! # How it goes
 //!
-//! Each worker takes a task from the queue and makes its events one by one, each under the lock of
-//! one phaser or finish. A task that has to wait is parked behind that lock, and whoever makes the
-//! event that wakes it puts it into the queue. No lock is held while a body runs.
+//! The workers stand in `task_crew`: they run the tasks, and leave a part for each phaser and finish,
+//! the tasks' logs and the sums. Here the parts are merged to a trace, and that is replayed on a world.
+//! The two are apart so that the workers are proved beside the core of a world, and not after it.
 //!
 //! # What is promised
 //!
@@ -24,23 +24,14 @@
 //! trace does: not that it ends, nor in which order tasks go on.
 #![tactic(auto)]
 
-mod acts;
-mod body;
-mod calls;
-mod crew;
-mod diary;
-mod driver;
 mod laws;
 mod report;
 mod running;
-mod staff;
-mod task;
 mod told;
-mod worker;
 
-pub use body::{Body, Gate, OpenGate};
 pub use job_script::{Act, Answer};
 pub use laws::runs_are_traced;
 pub use phase_modes::Phased;
 pub use report::Report;
 pub use running::run;
+pub use task_crew::{Body, Gate, OpenGate};

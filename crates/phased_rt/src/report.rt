@@ -1,11 +1,11 @@
-//! What a run is reported as, by the parts that its tables and its tasks leave.
+//! What a run is reported as, by the parts that it leaves.
 ghost use Rattle.std.specs.Prelude.{◌≡◌, true, reverse, IfOk, IfErr};
 ghost use Rattle.phase_modes.specs.Limits.{limits_fit};
 ghost use Rattle.world_model.specs.Report.{report_of};
 ghost use Rattle.trace_model.specs.Explained.{past, is_explained};
 ghost use Rattle.trace_model.specs.Parts.{IsTraceOf};
+ghost use Rattle.task_crew.specs.Refused.{IsRunRefused};
 ghost use Rattle.phased_rt.specs.Left.{IsLeftByAll};
-ghost use Rattle.phased_rt.specs.Refused.{IsRunRefused};
 
 use phase_modes::{Limits, Refusal};
 use share_book::Totals;

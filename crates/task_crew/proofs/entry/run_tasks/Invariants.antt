@@ -1,0 +1,22 @@
+use Rattle.task_crew.proofs.entry.run_tasks.Given as goal
+
+abbrev pub ghosts-run_over-EP-Ledger : goal.ghosts-run_over-EP-Ledger
+ghosts-run_over-EP-Ledger g a = record { name = a.blanks.events_by_phaser.name; parts = a.blanks.events_by_phaser.parts }
+
+abbrev pub ghosts-run_over-EW-Ledger : goal.ghosts-run_over-EW-Ledger
+ghosts-run_over-EW-Ledger g a = record { name = a.blanks.events_by_worker.name; parts = a.blanks.events_by_worker.parts }
+
+abbrev pub ghosts-run_over-UP-Ledger : goal.ghosts-run_over-UP-Ledger
+ghosts-run_over-UP-Ledger g a = record { name = a.blanks.up_by_phaser.name; parts = a.blanks.up_by_phaser.parts }
+
+abbrev pub ghosts-run_over-UW-Ledger : goal.ghosts-run_over-UW-Ledger
+ghosts-run_over-UW-Ledger g a = record { name = a.blanks.up_by_worker.name; parts = a.blanks.up_by_worker.parts }
+
+abbrev pub ghosts-run_over-DP-Ledger : goal.ghosts-run_over-DP-Ledger
+ghosts-run_over-DP-Ledger g a = record { name = a.blanks.down_by_phaser.name; parts = a.blanks.down_by_phaser.parts }
+
+abbrev pub ghosts-run_over-DW-Ledger : goal.ghosts-run_over-DW-Ledger
+ghosts-run_over-DW-Ledger g a = record { name = a.blanks.down_by_worker.name; parts = a.blanks.down_by_worker.parts }
+
+abbrev pub ghosts-run_over-RM-Ledger : goal.ghosts-run_over-RM-Ledger
+ghosts-run_over-RM-Ledger g a = record { name = a.blanks.room.name; parts = a.blanks.room.parts }

@@ -1,0 +1,6 @@
+use Rattle.std.proofs.Common.{All}
+use Rattle.task_crew.specs.Remaining.{IsTaskLog}
+use Rattle.task_crew.proofs.remains.add_logs.Given as goal
+
+abbrev pub invariant-loop-log : goal.invariant-loop-log
+invariant-loop-log l = All (λ p. IsTaskLog p) l.parts.items

@@ -1,0 +1,328 @@
+//! How a worker drives a task, event by event.
+ghost use Rattle.std.specs.Prelude.{IfOk, IfErr};
+ghost use Rattle.task_crew.specs.Refused.{IsRunRefused};
+ghost use Rattle.task_queue.specs.Accounts.{IsSeatOf};
+
+use crate::body::{Body, Gate};
+use crate::crew::Crew;
+use crate::task::{Item, Task};
+use crate::worker::{Shared, Worker};
+use phase_modes::{Pair, Refusal};
+use scope_locks::{PassAnswer, ShutAnswer, SignalAnswer};
+use share_book::Ledgers;
+use std::sync::Wait;
+use task_standing::Due;
+
+/// How many steps and events of a task a worker makes before it takes another, if there is one. A
+/// task that parks or ends comes to fewer. So the queue is asked once for many events, and whoever
+/// stands in it comes on soon.
+const STRETCH: u32 = 64;
+
+/// A task that goes on; none where it is parked or has ended.
+type Next<B> = Option<Item<B>>;
+
+/// What is answered where a call on a phaser or a finish was refused that no act under way can be
+/// refused. Memory may be wanting anywhere.
+fn told(refusal: Refusal) -> Refusal
+    ensures { IsRunRefused result }
+{
+    match refusal {
+        Refusal::Memory => Refusal::Memory,
+        _ => Refusal::NotExplained(0),
+    }
+}
+
+impl<B: Body, K: Ledgers> Shared<B, K> {
+    /// The task gives up by this refusal, where its event may be refused by it.
+    fn give_up(&self, item: Item<B>, refusal: Refusal, may_fail: bool) -> Result<Next<B>, Refusal> {
+        let mut item = item;
+        if !may_fail {
+            return Err(refusal);
+        }
+        self.fail(&mut item.task, refusal)?;
+        Ok(Some(item))
+    }
+
+    /// A task that is parked signals again once it is woken: its signal is still due.
+    fn signal<R: Wait>(
+        &self,
+        rt: &R,
+        worker: &mut Worker<B, K>,
+        item: Item<B>,
+        phaser: u32,
+        number: Option<u32>,
+    ) -> Result<Next<B>, Refusal>
+        ensures seat { IsSeatOf worker.old.seat worker.new.seat }
+    {
+        match self.signal_on(rt, worker, item, phaser, number)? {
+            SignalAnswer::Signalled(signalled) => {
+                let mut item = signalled;
+                item.task.standing.note_signal(phaser);
+                Ok(Some(item))
+            }
+            SignalAnswer::Parked => Ok(None),
+            SignalAnswer::Refused(item, refusal) => {
+                let may_fail = matches!(refusal, Refusal::SingleMismatch | Refusal::HistoryFull);
+                self.give_up(item, refusal, may_fail)
+            }
+        }
+    }
+
+    /// Runs the statement that the task has claimed, and reports it done. The pass comes again.
+    fn run_single<R: Wait>(
+        &self,
+        rt: &R,
+        worker: &mut Worker<B, K>,
+        item: Item<B>,
+        phaser: u32,
+        number: u32,
+    ) -> Result<Next<B>, Refusal>
+        ensures seat { IsSeatOf worker.old.seat worker.new.seat }
+    {
+        let mut item = item;
+        item.task.body.single(number);
+        self.report_on(rt, worker, item.task.number(), phaser)?;
+        Ok(Some(item))
+    }
+
+    fn pass<R: Wait>(
+        &self,
+        rt: &R,
+        worker: &mut Worker<B, K>,
+        item: Item<B>,
+        phaser: u32,
+    ) -> Result<Next<B>, Refusal>
+        ensures seat { IsSeatOf worker.old.seat worker.new.seat }
+    {
+        match self.pass_on(rt, worker, item, phaser)? {
+            PassAnswer::Passed(passed, _) => {
+                let mut item = passed;
+                item.task.standing.note_pass(phaser);
+                Ok(Some(item))
+            }
+            PassAnswer::Claimed(item, number) => self.run_single(rt, worker, item, phaser, number),
+            PassAnswer::Parked => Ok(None),
+            PassAnswer::Refused(item, refusal) => {
+                let may_fail = matches!(refusal, Refusal::HistoryFull);
+                self.give_up(item, refusal, may_fail)
+            }
+        }
+    }
+
+    fn register<R: Wait>(
+        &self,
+        rt: &R,
+        worker: &mut Worker<B, K>,
+        item: Item<B>,
+        child: u32,
+        pair: Pair,
+    ) -> Result<Next<B>, Refusal>
+        ensures seat { IsSeatOf worker.old.seat worker.new.seat }
+    {
+        let mut item = item;
+        match self.register_on(rt, &mut worker.shares, item.task.number(), child, pair) {
+            Ok(()) => {
+                item.note_registration(pair)?;
+                Ok(Some(item))
+            }
+            Err(refusal) => {
+                let may_fail = matches!(refusal, Refusal::RegsFull | Refusal::HistoryFull);
+                self.give_up(item, refusal, may_fail)
+            }
+        }
+    }
+
+    /// The child is born, and any worker may run it.
+    fn bear<R: Wait>(
+        &self,
+        rt: &R,
+        worker: &mut Worker<B, K>,
+        item: Item<B>,
+        finish: u32,
+    ) -> Result<Next<B>, Refusal>
+        ensures seat { IsSeatOf worker.old.seat worker.new.seat }
+    {
+        let Item { task, unborn } = item;
+        let mut task = task;
+        let Some(child) = unborn else {
+            return Err(Refusal::NotNow);
+        };
+        let number = child.number();
+        self.spawn_on(rt, number, finish)?;
+        task.note_birth(number);
+        self.give(rt, worker, Item::of(child))?;
+        Ok(Some(Item::of(task)))
+    }
+
+    /// The task leaves a phaser.
+    fn leave<R: Wait>(
+        &self,
+        rt: &R,
+        worker: &mut Worker<B, K>,
+        item: Item<B>,
+        phaser: u32,
+    ) -> Result<Next<B>, Refusal>
+        ensures seat { IsSeatOf worker.old.seat worker.new.seat }
+    {
+        let mut item = item;
+        self.drop_on(rt, worker, item.task.number(), phaser)?;
+        item.task.standing.leave(phaser);
+        Ok(Some(item))
+    }
+
+    /// The unborn child is taken off a phaser.
+    fn drop_child<R: Wait>(
+        &self,
+        rt: &R,
+        worker: &mut Worker<B, K>,
+        item: Item<B>,
+        child: u32,
+        phaser: u32,
+    ) -> Result<Next<B>, Refusal>
+        ensures seat { IsSeatOf worker.old.seat worker.new.seat }
+    {
+        let mut item = item;
+        self.drop_on(rt, worker, child, phaser)?;
+        item.note_child_gone(phaser);
+        Ok(Some(item))
+    }
+
+    fn shut<R: Wait>(&self, rt: &R, item: Item<B>, finish: u32) -> Result<Next<B>, Refusal> {
+        match self.shut_on(rt, item, finish) {
+            ShutAnswer::Done(shut) => {
+                let mut item = shut;
+                item.task.standing.note_shut();
+                Ok(Some(item))
+            }
+            ShutAnswer::Parked => Ok(None),
+            ShutAnswer::Refused(_, refusal) => Err(refusal),
+        }
+    }
+
+    /// The task ends, and leaves its log in the finish in which it was spawned.
+    fn end<R: Wait>(
+        &self,
+        rt: &R,
+        worker: &mut Worker<B, K>,
+        item: Item<B>,
+        finish: u32,
+    ) -> Result<Next<B>, Refusal>
+        ensures seat { IsSeatOf worker.old.seat worker.new.seat }
+    {
+        let Item { task, unborn: _ } = item;
+        let number = task.number();
+        let Task { log, .. } = Box::into_inner(task);
+        self.end_on(rt, worker, number, log, finish)?;
+        Ok(None)
+    }
+
+    /// The root shuts finish 0: the run is over, and the root's log is its worker's.
+    fn close<R: Wait>(
+        &self,
+        rt: &R,
+        worker: &mut Worker<B, K>,
+        item: Item<B>,
+    ) -> Result<Next<B>, Refusal>
+        ensures seat { IsSeatOf worker.old.seat worker.new.seat }
+    {
+        match self.shut_on(rt, item, 0) {
+            ShutAnswer::Done(item) => {
+                let Item { task, unborn: _ } = item;
+                let Task { log, .. } = Box::into_inner(task);
+                worker.root = Some(log);
+                self.queue.close(rt);
+                Ok(None)
+            }
+            ShutAnswer::Parked => Ok(None),
+            ShutAnswer::Refused(_, refusal) => Err(refusal),
+        }
+    }
+
+    /// Makes the event that comes next, or asks the body for an act.
+    fn go_on<G: Gate, R: Wait>(
+        &self,
+        rt: &R,
+        gate: &G,
+        worker: &mut Worker<B, K>,
+        item: Item<B>,
+    ) -> Result<Next<B>, Refusal>
+        ensures seat { IsSeatOf worker.old.seat worker.new.seat }
+    {
+        let mut item = item;
+        match item.due() {
+            Due::Step => {
+                self.step(rt, gate, worker, &mut item)?;
+                Ok(Some(item))
+            }
+            Due::Signal(phaser, number) => self.signal(rt, worker, item, phaser, number),
+            Due::Pass(phaser) => self.pass(rt, worker, item, phaser),
+            Due::Register(child, pair) => self.register(rt, worker, item, child, pair),
+            Due::Spawn(_, finish) => self.bear(rt, worker, item, finish),
+            Due::DropChild(child, phaser) => self.drop_child(rt, worker, item, child, phaser),
+            Due::Leave(phaser) => self.leave(rt, worker, item, phaser),
+            Due::Shut(finish) => self.shut(rt, item, finish),
+            Due::End(finish) => self.end(rt, worker, item, finish),
+            Due::Close => self.close(rt, worker, item),
+        }
+    }
+
+    /// Drives the task until it parks or ends, or for as long as a stretch is; then it waits in the
+    /// queue for its next one.
+    fn drive<G: Gate, R: Wait>(
+        &self,
+        rt: &R,
+        gate: &G,
+        worker: &mut Worker<B, K>,
+        item: Item<B>,
+    ) -> Result<(), Refusal>
+        ensures seat { IsSeatOf worker.old.seat worker.new.seat }
+    {
+        let mut driven = item;
+        for _event in 0..STRETCH {
+            match self.go_on(rt, gate, worker, driven)? {
+                Some(item) => driven = item,
+                None => return Ok(()),
+            }
+        }
+        self.give(rt, worker, driven)
+    }
+
+    /// Takes tasks and drives them, until the queue is closed. Where something is amiss, the queue
+    /// is closed first, so that nobody waits at it for ever.
+    pub(crate) fn work<G: Gate, R: Wait>(
+        &self,
+        rt: &R,
+        gate: &G,
+        worker: Worker<B, K>,
+    ) -> Result<Worker<B, K>, Refusal>
+        ensures seat { IfOk result (λ w. IsSeatOf worker.seat w.seat) }
+        ensures refused { IfErr result (λ e. IsRunRefused e) }
+    {
+        let mut worker = worker;
+        for _ in rt.forever() {
+            let Some(item) = self.next(rt, &mut worker) else {
+                return Ok(worker);
+            };
+            if let Err(refusal) = self.drive(rt, gate, &mut worker, item) {
+                self.queue.close(rt);
+                return Err(told(refusal));
+            }
+        }
+        unreachable!()
+    }
+}
+
+/// What all workers share, with the gate round each step.
+#[derive(Drop)]
+pub(crate) struct Team<'a, B: Body, K: Ledgers, G: Gate> {
+    pub(crate) shared: &'a Shared<B, K>,
+    pub(crate) gate: &'a G,
+}
+
+impl<'a, B: Body, K: Ledgers, G: Gate> Crew<Worker<B, K>> for Team<'a, B, K, G> {
+    ghost stays = { λ old new. IsSeatOf old.seat new.seat };
+
+    fn work<R: Wait>(&self, rt: &R, worker: Worker<B, K>) -> Result<Worker<B, K>, Refusal> {
+        self.shared.work(rt, self.gate, worker)
+    }
+}

@@ -1,0 +1,128 @@
+//! The entry: it makes the tables, the queue and the workers, lets them work, and gathers what they leave.
+ghost use Rattle.std.specs.Prelude.{◌≡◌, ◌<◌, ◌≤◌, true, IfOk, IfErr};
+ghost use Rattle.phase_modes.specs.Limits.{limits_fit};
+ghost use Rattle.share_book.specs.Opening.{IsNamed, IsParted};
+ghost use Rattle.task_crew.specs.Refused.{IsRunRefused};
+ghost use Rattle.task_crew.specs.Remaining.{AreRemains};
+
+use crate::body::{Body, Gate};
+use crate::remains::Remains;
+use crate::staff::{put_root, run_staff, staff_of};
+use crate::task::{Item, Task};
+use crate::worker::{Numbers, Shared};
+use phase_modes::{Limits, Refusal};
+use scope_locks::{FinishTable, PhaserTable, Tickets};
+use share_book::{Blanks, Ledgers, Seven, open};
+use std::alloc::Global;
+use std::marker::Brand;
+use std::sync::Wait;
+use std::sync::ledger::Ledger;
+use std::thread::Threads;
+use task_queue::RunQueue;
+
+/// The workers work, with books of these ledgers.
+fn run_in<K: Ledgers + Send + Sync, B: Body + Send, G: Gate + Sync, R: Threads + Wait + Sync>(
+    rt: &R,
+    alloc: Global,
+    root: B,
+    limits: Limits,
+    blanks: Blanks,
+    gate: &G,
+) -> Result<Remains, Refusal>
+where
+    K::EventsByPhaser: Send + Sync,
+    K::EventsByWorker: Send + Sync,
+    K::UpByPhaser: Send + Sync,
+    K::UpByWorker: Send + Sync,
+    K::DownByPhaser: Send + Sync,
+    K::DownByWorker: Send + Sync,
+    K::Room: Send + Sync,
+    requires names { IsNamed blanks K.EventsByPhaser.name K.EventsByWorker.name K.UpByPhaser.name
+        K.UpByWorker.name K.DownByPhaser.name K.DownByWorker.name K.Room.name }
+    requires parts { IsParted blanks K.EventsByPhaser.parts K.EventsByWorker.parts K.UpByPhaser.parts
+        K.UpByWorker.parts K.DownByPhaser.parts K.DownByWorker.parts K.Room.parts }
+    requires blanks { blanks.phasers ≡ limits.phasers }
+    requires workers { (0 < blanks.workers) × (blanks.workers ≤ 16) }
+    requires limits { limits_fit limits ≡ true }
+    ensures remains { IfOk result (λ r. AreRemains limits r.phasers.items r.finishes.items r.logs.items r.totals) }
+    ensures refused { IfErr result (λ e. IsRunRefused e) }
+{
+    let workers = blanks.workers;
+    let (books, phasers, shares) = open::<K>(alloc, blanks)?;
+    let phasers = PhaserTable::new(alloc, limits, books, phasers)?;
+    let finishes = FinishTable::new(alloc, limits)?;
+    let (queue, mut seats) = RunQueue::new(alloc, workers, limits.tasks as usize)?;
+    let root = Item::of(Task::new(alloc, 0, root, 0, limits.acts)?);
+    put_root(rt, &queue, &mut seats, root)?;
+    let staff = staff_of::<B, K>(alloc, limits, seats, shares)?;
+    let shared = Shared {
+        alloc,
+        limits,
+        phasers,
+        finishes,
+        queue,
+        tickets: Tickets::new(),
+        numbers: Numbers::new(),
+    };
+    run_staff(rt, shared, staff, gate)
+}
+
+// Names the ledgers.
+fn run_over<
+    B: Body + Send,
+    G: Gate + Sync,
+    R: Threads + Wait + Sync,
+    EP: Ledger + Send + Sync,
+    EW: Ledger + Send + Sync,
+    UP: Ledger + Send + Sync,
+    UW: Ledger + Send + Sync,
+    DP: Ledger + Send + Sync,
+    DW: Ledger + Send + Sync,
+    RM: Ledger + Send + Sync,
+>(
+    rt: &R,
+    alloc: Global,
+    root: B,
+    limits: Limits,
+    blanks: Blanks,
+    gate: &G,
+) -> Result<Remains, Refusal>
+    requires names { IsNamed blanks EP.name EW.name UP.name UW.name DP.name DW.name RM.name }
+    requires parts { IsParted blanks EP.parts EW.parts UP.parts UW.parts DP.parts DW.parts RM.parts }
+    requires blanks { blanks.phasers ≡ limits.phasers }
+    requires workers { (0 < blanks.workers) × (blanks.workers ≤ 16) }
+    requires limits { limits_fit limits ≡ true }
+    ensures remains { IfOk result (λ r. AreRemains limits r.phasers.items r.finishes.items r.logs.items r.totals) }
+    ensures refused { IfErr result (λ e. IsRunRefused e) }
+{
+    run_in::<Seven<EP, EW, UP, UW, DP, DW, RM>, B, G, R>(rt, alloc, root, limits, blanks, gate)
+}
+
+/// Runs the root, and every task that comes of it, by so many workers, each in a thread of its own,
+/// until the root has ended. `gate` is called round each step of a body.
+///
+/// A task that is refused something ends by itself, and the others go on. `Memory` where the tables,
+/// the workers or the logs' parts get none; `NotExplained(0)` where a lock or the queue answered what
+/// no run can bring about.
+pub fn run_tasks<B: Body + Send, G: Gate + Sync, R: Threads + Wait + Sync>(
+    rt: &R,
+    alloc: Global,
+    root: B,
+    limits: Limits,
+    workers: u32,
+    gate: &G,
+) -> Result<Remains, Refusal>
+    requires limits { limits_fit limits ≡ true }
+    requires workers { (0 < workers) × (workers ≤ 16) }
+    ensures remains { IfOk result (λ r. AreRemains limits r.phasers.items r.finishes.items r.logs.items r.totals) }
+    ensures refused { IfErr result (λ e. IsRunRefused e) }
+{
+    run_over::<B, G, R, Brand, Brand, Brand, Brand, Brand, Brand, Brand>(
+        rt,
+        alloc,
+        root,
+        limits,
+        Blanks::new(limits.phasers, workers),
+        gate,
+    )
+}

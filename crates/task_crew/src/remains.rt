@@ -1,0 +1,113 @@
+//! What a run leaves once its workers are done: its tables and logs as parts of a trace.
+ghost use Rattle.std.specs.Prelude.{◌≡◌, map, length, vec_len, All, IfOk, IfErr};
+ghost use Rattle.share_book.specs.Opening.{AreAllParts};
+ghost use Rattle.scope_locks.specs.Telling.{ArePhaserParts, AreFinishParts};
+ghost use Rattle.task_crew.specs.Refused.{IsRunRefused};
+ghost use Rattle.task_crew.specs.Remaining.{IsTaskLog, AreRemains};
+
+use crate::body::Body;
+use crate::diary::Diary;
+use crate::task::Item;
+use phase_modes::{Limits, Refusal};
+use scope_locks::{FinishParts, FinishTable, PhaserParts, PhaserTable};
+use share_book::{Ledgers, Shares, Totals, gather};
+use std::alloc::Global;
+use trace_model::Part;
+
+/// What a run leaves: the histories of its phasers and finishes with their tickets, each kind in
+/// order, the tasks' logs, and what all phasers together add up to.
+#[derive(Drop)]
+pub struct Remains {
+    pub phasers: Vec<Part>,
+    pub finishes: Vec<Part>,
+    pub logs: Vec<Part>,
+    pub totals: Totals,
+}
+
+/// Adds the parts of these logs.
+fn add_logs(parts: &mut Vec<Part>, logs: Vec<Diary>) -> Result<(), Refusal>
+    requires { All (λ p. IsTaskLog p) parts.old.items }
+    ensures own { IfOk result (λ _. All (λ p. IsTaskLog p) parts.new.items) }
+    ensures memory { IfErr result (λ e. e ≡ Refusal.Memory) }
+{
+    for log in logs {
+        parts.push(log.into_part())?;
+    }
+    Ok(())
+}
+
+/// The parts of all logs.
+fn logs_of(alloc: Global, logs: Vec<Vec<Diary>>, root: Diary) -> Result<Vec<Part>, Refusal>
+    ensures own { IfOk result (λ parts. All (λ p. IsTaskLog p) parts.items) }
+    ensures memory { IfErr result (λ e. e ≡ Refusal.Memory) }
+{
+    let mut parts = Vec::new(alloc);
+    for of_finish in logs {
+        add_logs(&mut parts, of_finish)?;
+    }
+    parts.push(root.into_part())?;
+    Ok(parts)
+}
+
+/// What a run leaves, by what its tables and its workers leave.
+fn gathered<K: Ledgers>(
+    alloc: Global,
+    limits: Limits,
+    phasers: PhaserParts<K>,
+    finishes: FinishParts<Diary>,
+    shares: Vec<Shares<K>>,
+    root: Diary,
+) -> Result<Remains, Refusal>
+    requires phasers { vec_len phasers.parts ≡ limits.phasers }
+    requires finishes { vec_len finishes.parts ≡ limits.finishes }
+    requires told_phasers { ArePhaserParts 0 phasers.parts.items (map (λ b. b.totals) phasers.phasers.items) }
+    requires workers { AreAllParts (vec_len shares) K.EventsByWorker.parts K.UpByWorker.parts K.DownByWorker.parts }
+    requires books { AreAllParts (vec_len phasers.phasers) K.EventsByPhaser.parts K.UpByPhaser.parts K.DownByPhaser.parts }
+    requires told_finishes { AreFinishParts 0 finishes.parts.items (map (λ l. length l.items) finishes.logs.items) }
+    ensures remains { IfOk result (λ r. AreRemains limits r.phasers.items r.finishes.items r.logs.items r.totals) }
+    ensures memory { IfErr result (λ e. e ≡ Refusal.Memory) }
+{
+    let PhaserParts {
+        parts: of_phasers,
+        phasers: held,
+        books,
+    } = phasers;
+    let FinishParts {
+        parts: of_finishes,
+        logs,
+    } = finishes;
+    let Ok(totals) = gather(shares, held, books) else {
+        unreachable!()
+    };
+    let of_logs = logs_of(alloc, logs, root)?;
+    Ok(Remains {
+        phasers: of_phasers,
+        finishes: of_finishes,
+        logs: of_logs,
+        totals,
+    })
+}
+
+/// The same, where the tables are still whole. `NotExplained` where the root has left no log.
+pub(crate) fn remains_of<K: Ledgers, B: Body>(
+    alloc: Global,
+    limits: Limits,
+    phasers: PhaserTable<Item<B>, K>,
+    finishes: FinishTable<Item<B>, Diary>,
+    shares: Vec<Shares<K>>,
+    root: Option<Diary>,
+) -> Result<Remains, Refusal>
+    requires phasers { phasers.phasers ≡ limits.phasers }
+    requires finishes { finishes.finishes ≡ limits.finishes }
+    requires workers { AreAllParts (vec_len shares) K.EventsByWorker.parts K.UpByWorker.parts K.DownByWorker.parts }
+    requires books { AreAllParts limits.phasers K.EventsByPhaser.parts K.UpByPhaser.parts K.DownByPhaser.parts }
+    ensures remains { IfOk result (λ r. AreRemains limits r.phasers.items r.finishes.items r.logs.items r.totals) }
+    ensures refused { IfErr result (λ e. IsRunRefused e) }
+{
+    let Some(root) = root else {
+        return Err(Refusal::NotExplained(0));
+    };
+    let of_phasers = phasers.into_parts();
+    let of_finishes = finishes.into_parts();
+    gathered(alloc, limits, of_phasers, of_finishes, shares, root)
+}
