@@ -16,8 +16,8 @@ use std::sync::Wait;
 use std::thread::Threads;
 use task_crew::{Body, Gate, run_tasks};
 
-/// Runs the root, and every task that comes of it, by 1 to 16 workers, each in a thread of its own,
-/// until the root has ended. `gate` is called round each step of a body; `OpenGate` does nothing.
+/// Runs the root, and every task that comes of it, by 1 to 16 workers, each in a thread of its own
+/// where one can be made, until the root has ended. `gate` is called round each step of a body; `OpenGate` does nothing.
 ///
 /// A task that is refused something ends by itself, and the others go on: it is a line of the
 /// report, and no error. `Memory` where the tables, the workers or the report get none; a task that

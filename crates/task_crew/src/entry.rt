@@ -98,8 +98,8 @@ fn run_over<
     run_in::<Seven<EP, EW, UP, UW, DP, DW, RM>, B, G, R>(rt, alloc, root, limits, blanks, gate)
 }
 
-/// Runs the root, and every task that comes of it, by so many workers, each in a thread of its own,
-/// until the root has ended. `gate` is called round each step of a body.
+/// Runs the root, and every task that comes of it, by so many workers, each in a thread of its own
+/// where one can be made, until the root has ended. `gate` is called round each step of a body.
 ///
 /// A task that is refused something ends by itself, and the others go on. `Memory` where the tables,
 /// the workers or the logs' parts get none; `NotExplained(0)` where a lock or the queue answered what

@@ -156,7 +156,7 @@ fn none_left<B: Body>(queue: RunQueue<Item<B>>, seats: Vec<Seat<Item<B>>>) -> Re
     Ok(())
 }
 
-/// Runs the workers, each in a thread of its own, until all of them are done.
+/// Runs the workers, each in a thread of its own where one can be made, until all of them are done.
 fn work_all<K: Ledgers + Send + Sync, B: Body + Send, G: Gate + Sync, R: Threads + Wait + Sync>(
     rt: &R,
     shared: &Shared<B, K>,
