@@ -1,0 +1,134 @@
+"""Which act of a program a task was refused: the acts of a trace's tasks, beside those of the program that they were given."""
+from __future__ import annotations
+
+import re
+from dataclasses import dataclass
+
+from .programs import written
+from .world import refusal, told
+from .world import written as spelled
+
+NO_PHASER = 2**32 - 1  # what a name without a meaning stands for
+AS_ACT = {"make": "new", "opened": "open", "send": "send", "look": "look"}
+ALIKE = {"async": ("async", "async_all")}
+
+
+class OtherProgram(Exception):
+    """The trace isn't one of the program: the place of the event that shows it, and why."""
+
+    def __init__(self, place, why):
+        super().__init__(place, why)
+        self.place, self.why = place, why
+
+
+@dataclass
+class Seat:
+    """Where a task is in its body: what its names mean, and the acts that it still has to make."""
+    names: dict
+    acts: object
+    act: object = None  # the one that it is about
+    made: int = 0
+
+
+@dataclass
+class Refused:
+    task: int
+    act: object  # of the program; none where the body had ended
+    why: str
+
+
+def act_of(event):
+    """The act that an event tries, and whether it is refused; none where the event is no act."""
+    kind, number, name, *items = event
+    if kind == "t":
+        return (items[0], name == "refuse") if name in ("begin", "refuse") else None
+    if name in AS_ACT:
+        return [AS_ACT[name], number, *items[1:]], False
+    return None
+
+
+class Follower:
+    """Goes along a trace with the program, act by act, and keeps the tasks that were refused."""
+
+    def __init__(self, acts):
+        self.seats = {0: Seat({}, iter(written(acts)))}
+        self.refused = []
+
+    def see(self, world, place, event):
+        if event[0] == "t" and event[2] == "fail":
+            self.keep(world, event[1], event[-1], world.part_of(world.next_event(world.task(event[1]))) if world.task(event[1]).due else None)
+            return
+        tried = act_of(event)
+        if not tried:
+            return
+        act, is_refused = tried
+        task = event[1] if event[0] == "t" else event[3]
+        seat = self.seats[task]
+        seat.act = next(seat.acts, None)
+        seat.made += 1
+        self.compare(place, task, seat.act, act, seat)
+        if is_refused:
+            self.keep(world, task, event[-1], world.why_no_act(world.task(task), act))
+        elif act[0] == "new":
+            seat.names[seat.act.items[0]] = act[1]
+        elif act[0] == "async":
+            self.seats[act[1]] = Seat(dict(seat.names), iter(written(seat.act.inner)))
+
+    def compare(self, place, task, wanted, act, seat):
+        word = wanted.word if wanted else "end"
+        if word in ALIKE.get(act[0], (act[0],)) and self.same_items(wanted, act, seat):
+            return
+        has = "%s, %s" % (placed(wanted), spelled([wanted.word, *wanted.items])[:80]) if wanted else "its end"
+        why = "task %d tries %s, and what the program has for it there is %s"
+        raise OtherProgram(place, why % (task, spelled(act)[:80], has))
+
+    def same_items(self, wanted, act, seat):
+        """Whether the items of the act are those of the program's, its names and the new numbers aside."""
+        word, *items = act
+        if word in ("send", "look"):
+            named, *rest = wanted.items
+            return items[0] == seat.names.get(named, NO_PHASER) and items[1:1 + len(rest)] == rest
+        if word == "new":
+            return items[1:] == [*wanted.items[1:3], wanted.items[3] if len(wanted.items) == 4 else None]
+        if word == "async" and wanted.word == "async":
+            return items[1] == [[seat.names.get(name, NO_PHASER), mode] for name, mode in wanted.items[0]]
+        return word != "single" or items == wanted.items
+
+    def keep(self, world, task, number, reason):
+        seat = self.seats[task]
+        why = "task %d is refused by %s" % (task, refusal(number))
+        if reason:
+            why += ": " + self.named(reason[1], seat)
+        elif number == 23:
+            why += ": it went without memory, which no trace explains"
+        elif number == 14:
+            why += ": registrations were at the limit when it asked"
+        self.refused.append(Refused(task, seat.act, why))
+
+    def named(self, text, seat):
+        """The words with the names that phasers have in the task's acts."""
+        names = {}
+        for name, number in seat.names.items():
+            names.setdefault(number, []).append('"%s"' % name)
+
+        def with_name(found):
+            number = int(found[1])
+            if number == NO_PHASER:
+                return "a phaser that no name of the task means"
+            return found[0] + (" (%s)" % ", ".join(names[number]) if number in names else " (which has no name there)")
+
+        without = [it for it in self.names_in(seat.act) if it not in seat.names]
+        text = re.sub(r"\bphaser (\d+)", with_name, text)
+        return text + ("; %s: no \"new\" of the task or of those who spawned it made it before" % ", ".join('"%s"' % it for it in without) if without else "")
+
+    def names_in(self, act):
+        if act is None or act.word not in ("async", "send", "look"):
+            return []
+        return [name for name, _ in act.items[0]] if act.word == "async" else [act.items[0]]
+
+
+def placed(act):
+    return "act %d, %s" % (act.place, act.part)
+
+
+__all__ = ["Follower", "OtherProgram", "placed", "told"]
