@@ -8,7 +8,7 @@ from .events import Events
 from .forms import CALLED, KINDS, Fault, count_of, near
 from .json_text import NoJson, line_and_column, offset_of, value_of
 from .programs import Program
-from .refused import Follower, OtherProgram, placed
+from .refused import Follower, OtherProgram
 from .traces import Trace
 from .world import first_fault
 
@@ -219,11 +219,7 @@ def said_of_run(program, trace):
         raise Stop(WRONG, event_at(trace, other.place, why)) from None
     if not follower.refused:
         return DONE, ["%s: nothing is wrong: no task was refused in %s" % (called(program.name), called(trace.name))]
-    lines = []
-    for it in follower.refused:
-        where = "%s: " % placed(it.act) if it.act else "after the last act of its body: "
-        lines.append(program.at(it.act.path if it.act else ("main",), where + it.why))
-    return WRONG, lines
+    return WRONG, [program.at(it.path, it.why) for it in follower.refused]
 
 
 def said(wanted):

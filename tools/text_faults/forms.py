@@ -118,7 +118,8 @@ class Form:
         name = value[index]
         if not isinstance(name, str) or name not in forms:
             here = shown(name) if isinstance(name, str) else "whose name is %s" % shown(name)
-            self.fault((*path, index), "there is no %s %s%s" % (what.split()[-1], here, near(name, forms)))
+            meant = near(name, forms) or "; there is %s" % ", ".join(forms)
+            self.fault((*path, index), "there is no %s %s%s" % (what.split()[-1], here, meant))
         return name
 
     def counted(self, value, path, before, least, form):

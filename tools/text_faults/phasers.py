@@ -122,7 +122,8 @@ class Phaser:
         room = self.count + 1 + self.alive + live + (self.owed() if owed is None else owed)
         if room <= self.limits["history"]:
             return None
-        return 15, "the history of %s is full: it has %d events, and the limit is %d" % (self, self.count, self.limits["history"])
+        kept = "%d events, room is kept for the %d on it to leave" % (self.count, self.alive)
+        return 15, "the history of %s is full: it has %s, and the limit is %d" % (self, kept, self.limits["history"])
 
     def why_no_make(self, task):
         if self.is_made():

@@ -5,7 +5,7 @@ import re
 from dataclasses import dataclass
 
 from .programs import written
-from .world import refusal, told
+from .world import refusal
 from .world import written as spelled
 
 NO_PHASER = 2**32 - 1  # what a name without a meaning stands for
@@ -26,14 +26,13 @@ class Seat:
     """Where a task is in its body: what its names mean, and the acts that it still has to make."""
     names: dict
     acts: object
+    body: tuple  # the path to it
     act: object = None  # the one that it is about
-    made: int = 0
 
 
 @dataclass
 class Refused:
-    task: int
-    act: object  # of the program; none where the body had ended
+    path: tuple  # to the act, or to the body where its acts had all been made
     why: str
 
 
@@ -51,34 +50,35 @@ class Follower:
     """Goes along a trace with the program, act by act, and keeps the tasks that were refused."""
 
     def __init__(self, acts):
-        self.seats = {0: Seat({}, iter(written(acts)))}
+        self.seats = {0: Seat({}, iter(written(acts)), ("main",))}
         self.refused = []
 
     def see(self, world, place, event):
-        if event[0] == "t" and event[2] == "fail":
-            self.keep(world, event[1], event[-1], world.part_of(world.next_event(world.task(event[1]))) if world.task(event[1]).due else None)
-            return
+        """Looks at an event before it is made."""
         tried = act_of(event)
-        if not tried:
-            return
-        act, is_refused = tried
+        if event[0] == "t" and event[2] == "fail":
+            following = world.next_event(world.task(event[1]))
+            self.keep(event[1], event[-1], following and world.part_of(following))
+        elif tried:
+            self.see_act(world, place, event, *tried)
+
+    def see_act(self, world, place, event, act, is_refused):
         task = event[1] if event[0] == "t" else event[3]
         seat = self.seats[task]
         seat.act = next(seat.acts, None)
-        seat.made += 1
         self.compare(place, task, seat.act, act, seat)
         if is_refused:
-            self.keep(world, task, event[-1], world.why_no_act(world.task(task), act))
+            self.keep(task, event[-1], world.why_no_act(world.task(task), act))
         elif act[0] == "new":
             seat.names[seat.act.items[0]] = act[1]
         elif act[0] == "async":
-            self.seats[act[1]] = Seat(dict(seat.names), iter(written(seat.act.inner)))
+            self.seats[act[1]] = Seat(dict(seat.names), iter(written(seat.act.inner)), (*seat.act.path, len(seat.act.items)))
 
     def compare(self, place, task, wanted, act, seat):
         word = wanted.word if wanted else "end"
         if word in ALIKE.get(act[0], (act[0],)) and self.same_items(wanted, act, seat):
             return
-        has = "%s, %s" % (placed(wanted), spelled([wanted.word, *wanted.items])[:80]) if wanted else "its end"
+        has = "act %d, %s" % (wanted.place, spelled([wanted.word, *wanted.items])[:80]) if wanted else "its end"
         why = "task %d tries %s, and what the program has for it there is %s"
         raise OtherProgram(place, why % (task, spelled(act)[:80], has))
 
@@ -94,7 +94,7 @@ class Follower:
             return items[1] == [[seat.names.get(name, NO_PHASER), mode] for name, mode in wanted.items[0]]
         return word != "single" or items == wanted.items
 
-    def keep(self, world, task, number, reason):
+    def keep(self, task, number, reason):
         seat = self.seats[task]
         why = "task %d is refused by %s" % (task, refusal(number))
         if reason:
@@ -103,7 +103,8 @@ class Follower:
             why += ": it went without memory, which no trace explains"
         elif number == 14:
             why += ": registrations were at the limit when it asked"
-        self.refused.append(Refused(task, seat.act, why))
+        where = "act %d, %s" % (seat.act.place, seat.act.part) if seat.act else "at the end of this body"
+        self.refused.append(Refused(seat.act.path if seat.act else seat.body, "%s: %s" % (where, why)))
 
     def named(self, text, seat):
         """The words with the names that phasers have in the task's acts."""
@@ -117,18 +118,12 @@ class Follower:
                 return "a phaser that no name of the task means"
             return found[0] + (" (%s)" % ", ".join(names[number]) if number in names else " (which has no name there)")
 
-        without = [it for it in self.names_in(seat.act) if it not in seat.names]
         text = re.sub(r"\bphaser (\d+)", with_name, text)
-        return text + ("; %s: no \"new\" of the task or of those who spawned it made it before" % ", ".join('"%s"' % it for it in without) if without else "")
+        without = ['"%s"' % it for it in self.names_in(seat.act) if it not in seat.names]
+        more = '; no "new" of the task, or of those who spawned it, came before that names %s' % ", ".join(without)
+        return text + (more if without else "")
 
     def names_in(self, act):
         if act is None or act.word not in ("async", "send", "look"):
             return []
         return [name for name, _ in act.items[0]] if act.word == "async" else [act.items[0]]
-
-
-def placed(act):
-    return "act %d, %s" % (act.place, act.part)
-
-
-__all__ = ["Follower", "OtherProgram", "placed", "told"]
