@@ -108,20 +108,17 @@ class Follower:
 
     def named(self, text, seat):
         """The words with the names that phasers have in the task's acts."""
+        without = ['"%s"' % it for it in self.names_in(seat.act) if it not in seat.names]
+        if without and "phaser %d " % NO_PHASER in text:
+            why = 'the name %s means no phaser there: the task made none of that name before, nor did who spawned it'
+            return why % without[0]
         names = {}
         for name, number in seat.names.items():
             names.setdefault(number, []).append('"%s"' % name)
+        return re.sub(r"\bphaser (\d+)", lambda found: found[0] + self.name_of(names.get(int(found[1]), [])), text)
 
-        def with_name(found):
-            number = int(found[1])
-            if number == NO_PHASER:
-                return "a phaser that no name of the task means"
-            return found[0] + (" (%s)" % ", ".join(names[number]) if number in names else " (which has no name there)")
-
-        text = re.sub(r"\bphaser (\d+)", with_name, text)
-        without = ['"%s"' % it for it in self.names_in(seat.act) if it not in seat.names]
-        more = '; no "new" of the task, or of those who spawned it, came before that names %s' % ", ".join(without)
-        return text + (more if without else "")
+    def name_of(self, names):
+        return " (%s)" % ", ".join(names) if names else " (which has no name there)"
 
     def names_in(self, act):
         if act is None or act.word not in ("async", "send", "look"):
