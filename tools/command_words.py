@@ -1,0 +1,170 @@
+"""The words of ./phaser_run, as the program reads them (crates/command_words), for the scripts that read them without it."""
+import os
+import re
+
+from processes import PROGRAM, TOP
+
+WORDS = TOP / "crates/command_words/src/words.rt"  # has the program's version
+HELP = TOP / "tools/help.txt"  # what the built program prints on --help, and after each command
+
+# By command, its words and what it does.
+COMMANDS = {
+    "run": ("FILE [--workers N] [--trace OUT]", "runs a program on threads, and prints its report"),
+    "schedule": ("FILE [--picks LIST] [--trace OUT]", "runs a program without threads, the same each time"),
+    "replay": ("FILE [--upgrade OUT]", "replays a trace, and prints its report"),
+    "stencil": ("--first LIST --steps S [--workers N]", "runs a stencil on threads, and prints its cells"),
+    "pipeline": ("--stages K --items N [--workers N]", "runs a pipeline on threads, and prints its items"),
+    "events": ("FILE", "answers the calls of an events file"),
+}
+# By option, how many numbers its value may have, their range, and what is said of another value. OUT is any text.
+VALUES = {
+    "picks": (10000, 0, 4294967295, "LIST is 1 to 10,000 numbers of 0 to 4294967295 with commas between them"),
+    "first": (16, 0, 1000000, "LIST is 1 to 16 numbers of 0 to 1000000 with commas between them"),
+    "steps": (1, 0, 100, "S is a number of 0 to 100"),
+    "stages": (1, 1, 15, "K is a number of 1 to 15"),
+    "items": (1, 0, 100, "the items are a number of 0 to 100"),
+    "workers": (1, 1, 16, "the workers are a number of 1 to 16"),
+}
+UNBUILT = """\
+phaser_run isn't built from these sources yet, and this help doesn't build it. Once built it prints this:
+
+"""
+FIRST_CALL = """
+The first call proves and builds the program, which takes {first_time}; later calls take milliseconds.
+Try: ./phaser_run events examples/events/two_tasks_turn.json
+Before the command these words may stand, in any order:
+  --try     builds the sources unproved, with run-time checks, in a minute or two; later calls with it take less than a second
+  --strict  ends with status 1, not 0, where the report of run, schedule or replay has a task that was refused
+./program_check FILE says where and why a text is refused.
+"""
+
+
+class NoJob(Exception):
+    """The words name no job; the text says why, or is what they ask for."""
+
+
+# ---- what is printed
+
+
+def usage():
+    """The lines of all commands."""
+    lines = ["%s %s" % (PROGRAM, ("%s %s" % (name, words)).ljust(46) + does) for name, (words, does) in COMMANDS.items()]
+    return "Usage: " + "\n       ".join(lines)
+
+
+def help_of(words):
+    """What the program prints on these words and --help, as tools/help.txt has it."""
+    called = "$ " + " ".join([PROGRAM, *words, "--help"]) + "\n"
+    return HELP.read_text().partition(called)[2].partition("\n$ ")[0].rstrip("\n") + "\n"
+
+
+def help_text(*words):
+    first_time = (TOP / "tools/first_build_time").read_text().strip()
+    return UNBUILT + help_of(words) + FIRST_CALL.format(first_time=first_time)
+
+
+def version_text():
+    """What the program says, with the version in its source."""
+    found = re.search(r'const VERSION: &str = "(.*)"', WORDS.read_text())
+    return "%s %s\n" % (PROGRAM, found[1] if found else "of a version that isn't found")
+
+
+def bad(text, command=None):
+    """The fault of words, with the usage of their command or of all."""
+    of = "Usage: %s %s %s" % (PROGRAM, command, COMMANDS[command][0]) if command else usage()
+    return NoJob("error: %s\n\n%s\n" % (text, of))
+
+
+# ---- the words
+
+
+def command_of(words):
+    """The command that the first word names."""
+    first = words[0] if words else "--help"
+    if first.startswith("-h") or first == "--help":
+        raise NoJob(help_text())
+    if first.startswith("-V") or first == "--version":
+        raise NoJob(version_text())
+    if first not in COMMANDS:
+        raise bad("there is no command '%s'" % first)
+    return first
+
+
+def read_words(words):
+    """The command, the place of FILE among the words if there is one, and the values of the options."""
+    command = command_of(words)
+    takes = re.findall(r"--(\w+)", COMMANDS[command][0])
+    place, values, waiting, are_over = None, {}, None, False
+    for at, word in enumerate(words[1:], 1):
+        is_plain = are_over or not word.startswith("-") or word == "-"
+        option, _, value = word[2:].partition("=")
+        if waiting and not is_plain:
+            raise bad("--%s wants a value" % waiting, command)
+        if waiting:
+            values[waiting], waiting = word, None
+        elif is_plain and place is None and "FILE" in COMMANDS[command][0]:
+            place = at
+        elif word == "--" and not are_over:
+            are_over = True
+        elif not is_plain and (word.startswith("-h") or word == "--help"):
+            raise NoJob(help_text(command))
+        elif is_plain or not word.startswith("--") or option not in takes:
+            raise bad("unexpected argument '%s'" % word, command)
+        elif option in values:
+            raise bad("--%s stands there twice" % option, command)
+        elif "=" in word:
+            values[option] = value
+        else:
+            waiting = option
+    if waiting:
+        raise bad("--%s wants a value" % waiting, command)
+    return command, place, values
+
+
+def look_for_all(command, place, values):
+    """Stops where a word is missing that the command needs."""
+    needed = re.sub(r"\[.*?\]", "", COMMANDS[command][0])
+    missing = [word for word in re.findall(r"--(\w+)", needed) if word not in values]
+    if missing:
+        raise bad("--%s is missing" % missing[0], command)
+    if place is None and "FILE" in needed:
+        raise bad("FILE is missing", command)
+
+
+def is_number(text, least, greatest):
+    is_short = re.fullmatch("[0-9]+", text) and len(text.lstrip("0")) <= 10
+    return bool(is_short) and least <= int(text) <= greatest
+
+
+def look_at_values(command, values):
+    """Stops at the first value that is out of its range."""
+    for option in re.findall(r"--(\w+)", COMMANDS[command][0]):
+        if option not in values or option not in VALUES:
+            continue
+        most, least, greatest, wanted = VALUES[option]
+        pieces = values[option].split(",")
+        if len(pieces) > most or not all(is_number(it, least, greatest) for it in pieces):
+            raise NoJob("error: %s\n" % wanted)
+
+
+def is_text(word):
+    try:
+        os.fsencode(word).decode("utf-8")
+    except UnicodeDecodeError:
+        return False
+    return True
+
+
+def job_of(words):
+    """The place of FILE and the values of the options, where the words name a job."""
+    if not all(map(is_text, words)):
+        raise NoJob("error: the words are not text\n")
+    command, place, values = read_words(words)
+    look_for_all(command, place, values)
+    look_at_values(command, values)
+    return place, values
+
+
+def out_of(values):
+    """OUT, where an option names it."""
+    return values.get("trace", values.get("upgrade"))

@@ -1,0 +1,270 @@
+"""The words of the command line, the files, the lines and the statuses."""
+from __future__ import annotations
+
+import os
+from dataclasses import dataclass
+
+from .events import Events
+from .forms import CALLED, KINDS, Fault, count_of, near
+from .json_text import NoJson, line_and_column, offset_of, value_of
+from .programs import Program
+from .refused import Follower, OtherProgram
+from .traces import Trace
+from .world import first_fault
+
+USAGE = """\
+usage: program_check [--kind KIND] FILE
+       program_check --trace TRACE
+       program_check PROGRAM --trace TRACE
+
+Says where and why ./phaser_run refuses a text: file, line, column, the number of the act, call or event, and why. It judges
+nothing: what counts is the program's answer. FILE is a program, an events file or a trace, or - for standard input.
+
+  --kind KIND   what FILE is: program, events or trace; without it that is found by its keys
+  --trace TRACE a trace; where no run makes it: its first event that can't be made, and why
+  -h, --help    prints this
+
+With PROGRAM and a TRACE of its run: of each task that was refused, the act in PROGRAM, the phaser by its name there, and why.
+
+Status 0: nothing is wrong. 1: something is, or standard output was closed. 2: wrong words. 3: a file can't be read, or
+standard output can't be written.
+"""
+FORMS = {"program": Program, "events": Events, "trace": Trace}
+MOST_READ = max(most for _, _, most, _, _ in KINDS.values()) + 1
+OUTPUT, ERRORS = 1, 2
+DONE, WRONG, BAD_WORDS, FAULT = 0, 1, 2, 3
+
+
+class Stop(Exception):
+    """The status, and the line that says why."""
+
+    def __init__(self, status, line):
+        super().__init__(status, line)
+        self.status, self.line = status, line
+
+
+@dataclass
+class Wanted:
+    file: str | None = None
+    kind: str | None = None
+    trace: str | None = None
+
+
+# ---- the words
+
+
+def wrong_words(why):
+    return Stop(BAD_WORDS, "%s; program_check --help says more" % why)
+
+
+def wanted_of(words):
+    wanted, words = Wanted(), list(words)
+    while words:
+        word = words.pop(0)
+        name, is_option = ("file", False) if word == "-" or not word.startswith("-") else (word[2:], True)
+        if is_option and word not in ("--kind", "--trace", "--"):
+            raise wrong_words("there is no option %s" % word)
+        if is_option and not words:
+            raise wrong_words("%s wants a value" % word)
+        if word == "--":
+            name = "file"
+        if getattr(wanted, name) is not None:
+            raise wrong_words("%s is one too many" % word)
+        setattr(wanted, name, words.pop(0) if is_option else word)
+    if wanted.file is None and wanted.trace is None:
+        raise wrong_words("no FILE is named")
+    if wanted.kind is not None and wanted.kind not in FORMS:
+        raise wrong_words("a kind is one of %s" % ", ".join(FORMS) + near(wanted.kind, FORMS))
+    if wanted.file is not None and wanted.trace is not None and wanted.kind not in (None, "program"):
+        raise wrong_words("with --trace FILE is a program")
+    return wanted
+
+
+# ---- the files
+
+
+def called(name):
+    return "standard input" if name == "-" else name
+
+
+def read(name):
+    """The bytes of a file, but for those that are past every limit. Standard input by its number: it may be closed."""
+    try:
+        with open(0 if name == "-" else name, "rb", closefd=name != "-") as file:
+            return file.read(MOST_READ)
+    except OSError as error:
+        raise Stop(FAULT, "%s can't be read: %s" % (called(name), error.strerror)) from None
+
+
+def kind_by_keys(words):
+    """The kind of which most keys are among the words; of what is of none, a program."""
+    def score(kind):
+        listed, known = KINDS[kind][:2]
+        own = [it for it in known if it != "limits"]
+        return sum(it in words for it in own) + 2 * (listed in words), sum(bool(near(word, own)) for word in words)
+    return max(KINDS, key=score)
+
+
+@dataclass
+class Text:
+    """A file as it was read, and its value."""
+    name: str
+    text: str
+    kind: str
+    value: object
+
+    def line(self, at, words):
+        return "%s:%d:%d: %s" % (called(self.name), *line_and_column(self.text, at), words)
+
+    def at(self, path, words):
+        return self.line(offset_of(self.text, path), words)
+
+
+def decoded(name, raw):
+    try:
+        return raw.decode()
+    except UnicodeDecodeError as error:
+        before = Text(name, raw[:error.start].decode(), "", None)
+        why = "the byte 0x%02x isn't UTF-8" % raw[error.start]
+        if raw[:2] in (b"\xff\xfe", b"\xfe\xff"):
+            why = "the file is UTF-16: save it as UTF-8, without a byte order mark"
+        raise Stop(WRONG, before.line(len(before.text), why)) from None
+
+
+def text_of(name, kind):
+    """The text of a file with its JSON value."""
+    raw = read(name)
+    guess = kind or kind_by_keys([it for kind in KINDS.values() for it in kind[1] if ('"%s"' % it).encode() in raw])
+    most = KINDS[guess][2]
+    if len(raw) > most:
+        before = Text(name, raw[:most].decode(errors="replace"), "", None)
+        why = "the text goes on, and %s has at most %s bytes" % (CALLED[guess], format(most, ","))
+        raise Stop(WRONG, before.line(len(before.text), why))
+    text = decoded(name, raw)
+    try:
+        value = value_of(text)
+    except NoJson as fault:
+        raise Stop(WRONG, Text(name, text, guess, None).line(fault.at, "no JSON: %s" % fault.why)) from None
+    return Text(name, text, kind or kind_by_keys(list(value) if isinstance(value, dict) else []), value)
+
+
+# ---- what is said
+
+
+def checked(text):
+    """What the text of its kind spells. Stops where it is refused."""
+    try:
+        return FORMS[text.kind]().read(text.value)
+    except Fault as fault:
+        item = KINDS[text.kind][3]
+        where = "%s %d, %s: " % (item, fault.place, fault.part) if fault.place else ""
+        why = fault.why
+        own = kind_by_keys(list(text.value)) if isinstance(text.value, dict) else text.kind
+        if not fault.place and own != text.kind:
+            why += "; by its keys the file is %s, which %s read%s" % (CALLED[own], KINDS[own][4], "" if " and " in KINDS[own][4] else "s")
+        raise Stop(WRONG, text.at(fault.path, where + why)) from None
+
+
+def event_at(text, place, why):
+    """The line of an event of a trace, or of what is missing after the last."""
+    events = text.value["events"]
+    if place > len(events):
+        return text.at(("events",), "event %d, after the last: %s" % (place, why))
+    return text.at(("events", place - 1), "event %d, ticket %d: %s" % (place, events[place - 1][0], why))
+
+
+def replayed(text, seen=None):
+    """Makes the events of a trace again; stops at the first that can't be made."""
+    limits, events = checked(text)
+    fault = first_fault(limits, events, *[seen] * (seen is not None))
+    if fault:
+        raise Stop(WRONG, event_at(text, *fault))
+    return events
+
+
+def refused_tasks(events):
+    return sum(it.kind == "t" and it.name in ("refuse", "fail") for it in events)
+
+
+def fine(text, many, more=""):
+    return ["%s: nothing is wrong: %s of %s%s" % (called(text.name), CALLED[text.kind], many, more)]
+
+
+def said_of_trace(text):
+    events = replayed(text)
+    refused = refused_tasks(events)
+    more = ", which a run makes"
+    if refused:
+        which = "program_check PROGRAM --trace %s says which act, where PROGRAM is what was run" % text.name
+        more += "; %s refused in it: %s" % ("1 task is" if refused == 1 else "%d tasks are" % refused, which)
+    return DONE, fine(text, count_of(len(events), "event"), more)
+
+
+def said_of_text(text):
+    if text.kind == "trace":
+        return said_of_trace(text)
+    read_of = checked(text)
+    if text.kind == "events":
+        return DONE, fine(text, count_of(len(read_of), "call"))
+    return DONE, fine(text, "%s in its own list" % count_of(len(read_of), "act"))
+
+
+def said_of_run(program, trace):
+    """Of each task that was refused in the trace of a run of the program: its act, and why."""
+    follower = Follower(checked(program))
+    try:
+        replayed(trace, follower.see)
+    except OtherProgram as other:
+        why = "this isn't a trace of %s, so nothing is known of its acts: %s" % (called(program.name), other.why)
+        raise Stop(WRONG, event_at(trace, other.place, why)) from None
+    if not follower.refused:
+        return DONE, ["%s: nothing is wrong: no task was refused in %s" % (called(program.name), called(trace.name))]
+    return WRONG, [program.at(it.path, it.why) for it in follower.refused]
+
+
+def said(wanted):
+    if wanted.trace is None:
+        return said_of_text(text_of(wanted.file, wanted.kind))
+    if wanted.file is None:
+        return said_of_text(text_of(wanted.trace, "trace"))
+    return said_of_run(text_of(wanted.file, "program"), text_of(wanted.trace, "trace"))
+
+
+# ---- the streams
+
+
+def write(data, file):
+    """Writes all bytes. Python's own files would keep back what can't be written, and fail again at the end."""
+    left = memoryview(data)
+    while left:
+        left = left[os.write(file, left):]
+
+
+def put(lines, status):
+    """Writes lines to standard output; the status."""
+    try:
+        write(os.fsencode("".join("%s\n" % it.encode("utf-8", "surrogateescape").decode("utf-8", "replace") for it in lines)), OUTPUT)
+    except BrokenPipeError:
+        return WRONG  # whoever reads has enough, as head does
+    except OSError as error:
+        raise Stop(FAULT, "standard output can't be written: %s" % error.strerror) from None
+    return status
+
+
+def main(words):
+    try:
+        if "-h" in words or "--help" in words:
+            return put([USAGE.rstrip("\n")], DONE)
+        try:
+            status, lines = said(wanted_of(words))
+        except Stop as stop:
+            if stop.status != WRONG:
+                raise
+            status, lines = WRONG, [stop.line]
+        return put(lines, status)
+    except Stop as stop:
+        try:
+            write(os.fsencode("program_check: %s\n" % stop.line), ERRORS)
+        except OSError:
+            pass
+        return stop.status
