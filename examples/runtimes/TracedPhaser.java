@@ -297,7 +297,6 @@ public class TracedPhaser extends Phaser {
                         calls.add(open.peek());
                     }
                 }
-                open.stream().filter(Call::waits).forEach(call -> waiting.add(log.thread.getName()));
             }
             cut = there.nextClearBit(0);
             isStill = cut == drawn && !isTerminated();
@@ -307,6 +306,8 @@ public class TracedPhaser extends Phaser {
                     cut = Math.min(cut, call.begun);
                 }
             }
+            calls.stream().filter(call -> call.waits() && call.begun < cut).forEach(
+                call -> waiting.add(call.log.thread.getName()));
             if (cut < there.length() && !isFull) {
                 note = "threads still ran: it tells the run up to where each of them was known";
             }
@@ -498,7 +499,7 @@ public class TracedPhaser extends Phaser {
             onPhaser++;
         }
 
-        /** Who waits in which phase, and who is missing there; nothing where nobody waits. */
+        /** Who waits in which phase, and who is missing there; nothing where that can't be told, or nobody is missing. */
         String hang() {
             int phase = here.stream().filter(task -> task.signals).mapToInt(task -> task.arrives).min().orElse(0);
             TreeSet<String> missing = new TreeSet<>();
@@ -507,7 +508,8 @@ public class TracedPhaser extends Phaser {
                     missing.add(task.owner == null ? "a party that no thread came as" : task.owner.thread.getName());
                 }
             }
-            return waiting.isEmpty() ? null : "in phase " + phase + " " + String.join(", ", waiting) + " wait"
+            missing.removeAll(waiting);
+            return waiting.isEmpty() || missing.isEmpty() || isFull ? null : "in phase " + phase + " " + String.join(", ", waiting) + " wait"
                 + (waiting.size() == 1 ? "s; " : "; ") + String.join(", ", missing) + " didn't arrive";
         }
 

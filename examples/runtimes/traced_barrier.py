@@ -134,7 +134,7 @@ class _Trace:
                     call = _Call(log, ticket)
                     calls.append(call)
         self.cut = next(ticket for ticket in itertools.count() if ticket not in tickets)
-        self.waiting = sorted(call.log.thread.name for call in calls if call.answer is None)
+        self.waiting = sorted(call.log.thread.name for call in calls if call.answer is None and call.begun < self.cut)
         self.is_full = barrier._is_full
         if tickets and self.cut < max(tickets) and not self.is_full:
             self.note = "threads still ran: it tells the run up to where each of them was known"
@@ -225,12 +225,12 @@ class _Trace:
         self.phaser("drop", task)
 
     def hang(self):
-        """Who waits in which phase, and who is missing there; None where nobody waits."""
-        if not self.waiting:
-            return None
+        """Who waits in which phase, and who is missing there; None where that can't be told, or nobody is missing."""
         phase = min(task.arrived for task in self.tasks)
-        missing = sorted(task.owner.thread.name if task.owner else "a party that no thread came as"
-                         for task in self.tasks if task.arrived == phase)
+        missing = sorted({task.owner.thread.name if task.owner else "a party that no thread came as"
+                          for task in self.tasks if task.arrived == phase} - set(self.waiting))
+        if not self.waiting or not missing or self.is_full:
+            return None
         return "in phase %d %s wait; %s didn't arrive" % (phase, ", ".join(self.waiting), ", ".join(missing))
 
     def write(self, name):
