@@ -70,3 +70,7 @@ def each(jobs, judge, cases):
     """What is judged of each case, in their order, so many at once."""
     with concurrent.futures.ThreadPoolExecutor(max_workers=jobs) as several:
         yield from several.map(judge, cases)
+
+
+class Missing(Exception):
+    """The tools that a part of a test needs and that aren't here."""
