@@ -3,7 +3,7 @@ import os
 import shutil
 import subprocess
 
-from runtimes_runs import PROGRAMS, RUNTIMES, again, as_right, as_wrong, is_built, lacking, ran, stopped, turning
+from runtimes_runs import PROGRAMS, RUNTIMES, again, as_right, as_wrong, full, is_built, lacking, ran, stopped, turning
 
 WARN = ["-O1", "-g", "-Wall", "-Wextra", "-Werror"]
 INCLUDE = ["-I", PROGRAMS, "-I", RUNTIMES]
@@ -22,11 +22,11 @@ def pthreads(folder, times, judge):
     yield "two_pools", as_right(call("two_pools"), traces=1, totals="signals 6 passes 6")
     yield "own_handler", as_right(call("own_handler"), 7, traces=1, totals="signals 6 passes 6")
     yield "forks", as_right(call("forks"), traces=1, totals="signals 27 passes 27")
-    yield "full", as_right(call("full"), says="the log was full", traces=1)
+    yield "full", as_right(full(judge, folder, times, program), says="the log was full", traces=1)
     yield "many_parties", as_right(call("many_parties"), says="a trace has room for 255 parties", traces=0)
     run = call("joined", PHASER_TRACE="/dev/null/trace.json")
     yield "no folder", as_right(run._replace(traces=[]), says="the trace can't be written")
-    yield from again(judge, folder, times, program, ["destroyed_at_once"], as_right, traces=20)
+    yield from again(judge, folder, min(times, 10), program, ["destroyed_at_once"], as_right, traces=20)
     yield from again(judge, folder, times, program, ["too_many"], as_right)
     yield from again(judge, folder, times, program, ["still_turning", "still_waiting"], as_right, traces=1)
     yield from stopped(judge, folder, times, program)

@@ -9,7 +9,7 @@ import signal
 import subprocess
 import time
 
-from running import TOP
+from running import TOP, Gave
 
 RUNTIMES = TOP / "examples/runtimes"
 PROGRAMS = TOP / "tests/runtimes_programs"
@@ -41,12 +41,12 @@ def all_wait(process):
         return False
 
 
-def until(seconds, holds):
-    """Waits until it holds three times on end, 10 milliseconds apart."""
+def until(seconds, holds, often=1):
+    """Waits until it holds so often on end, some milliseconds apart."""
     end, held = time.monotonic() + seconds, 0
-    while held < 3 and time.monotonic() < end:
+    while held < often and time.monotonic() < end:
         held = held + 1 if holds() else 0
-        time.sleep(0.01)
+        time.sleep(0.01 if often > 1 else 0.001)
 
 
 def ran(judge, folder, words, stop=None, hangs=False, **settings):
@@ -67,10 +67,10 @@ def ran(judge, folder, words, stop=None, hangs=False, **settings):
             old = YESTERDAY.read_bytes()
             until(SECONDS, lambda: not first.exists() or first.read_bytes() != old)
             if hangs:
-                until(SECONDS, lambda: all_wait(process))
+                until(SECONDS, lambda: all_wait(process), 3)
                 time.sleep(float(settings.get("PHASER_TRACE_AFTER", 0)))
             else:
-                time.sleep(random.uniform(0, 0.02))
+                time.sleep(random.uniform(0, 0.01))
             process.send_signal(stop)
         err = process.communicate(timeout=SECONDS)[1].decode(errors="replace")
     except subprocess.TimeoutExpired:
@@ -82,17 +82,18 @@ def ran(judge, folder, words, stop=None, hangs=False, **settings):
 
 
 def early_pass(trace):
-    """The place of the first pass that stands before a signal of its phase; 0 where none does."""
-    last, turns, passes = {}, collections.Counter(), []
+    """The place of the first pass of a phase that not all have signalled; 0 where there is none. Nobody leaves early."""
+    tasks, signals, turns = 0, collections.Counter(), collections.Counter()
     for place, event in enumerate(json.loads(trace.read_text())["events"], 1):
-        if event[1] == "p" and event[3] in ("sig", "pass"):
-            phase = turns[event[3], event[4]]
-            turns[event[3], event[4]] += 1
-            if event[3] == "sig":
-                last[phase] = place
-            else:
-                passes.append((place, phase))
-    return next((place for place, phase in passes if place < last.get(phase, 0)), 0)
+        if event[1] != "p" or event[3] not in ("reg", "sig", "pass"):
+            continue
+        phase = turns[event[3], event[4]]
+        turns[event[3], event[4]] += 1
+        tasks += event[3] == "reg"
+        signals[phase] += event[3] == "sig"
+        if event[3] == "pass" and signals[phase] < tasks:
+            return place
+    return 0
 
 
 def as_right(run, status=0, says="", traces=None, totals=""):
@@ -122,6 +123,12 @@ def as_wrong(run, status=0):
     place = early_pass(run.traces[0])
     must = "", "refused 25 NotExplained at %d\n" % place, 1
     return "" if place and tuple(run.gave[0]) == must else "early at %d: %s" % (place, run.gave[0])
+
+
+def full(judge, folder, times, program):
+    """A run that is longer than its log. Its trace is judged in the long form alone: by the unproved program that takes
+    half a minute."""
+    return ran(judge if times > 2 else lambda trace: Gave("", "", 0), folder, [program, "full"])
 
 
 def stopped(judge, folder, times, program):

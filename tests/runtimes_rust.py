@@ -1,7 +1,7 @@
 """The cases of tests/runtimes for Rust."""
 import shutil
 
-from runtimes_runs import PROGRAMS, RUNTIMES, again, as_right, as_wrong, is_built, lacking, ran, stopped
+from runtimes_runs import PROGRAMS, RUNTIMES, again, as_right, as_wrong, full, is_built, lacking, ran, stopped
 
 
 def built(folder, edition, program, change=lambda text: text):
@@ -30,7 +30,7 @@ def cases(folder, times, judge):
     yield "of_none", as_right(call("of_none"), traces=2)
     yield "in_a_static", as_right(call("in_a_static"), traces=1, totals="signals 3 passes 3")
     yield "come_and_go", as_right(call("come_and_go"), traces=1, totals="signals 60 passes 60")
-    yield "full", as_right(call("full"), says="the log was full", traces=1)
+    yield "full", as_right(full(judge, folder, times, program), says="the log was full", traces=1)
     yield "many_parties", as_right(call("many_parties"), says="a trace has room for 255 parties", traces=0)
     yield from again(judge, folder, times, program, ["exits"], as_right, status=7, traces=1)
     yield from again(judge, folder, times, program, ["still_turning", "still_waiting"], as_right, traces=1)

@@ -94,9 +94,11 @@ static void turning(int threads) {
     auto *barrier = new traced_barrier<>(threads);
     for (int at = 0; at < threads; at++)
         std::thread([=] {
-            for (;;) {
+            for (int turn = 1;; turn++) {
                 barrier->arrive_and_wait();
                 passed++;
+                if (turn % 8 == 0) /* so that the trace is short */
+                    std::this_thread::sleep_for(std::chrono::microseconds(100));
             }
         }).detach();
 }

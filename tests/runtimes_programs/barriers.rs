@@ -25,9 +25,12 @@ fn until(turns: usize) {
 fn start(threads: usize, turns: usize, started: usize) -> Vec<thread::JoinHandle<usize>> {
     let barrier = Arc::new(Barrier::new(threads));
     let work = move |barrier: Arc<Barrier>| {
-        (0..turns).filter(|_| {
+        (0..turns).filter(|turn| {
             let result: BarrierWaitResult = barrier.wait();
             PASSED.fetch_add(1, SeqCst);
+            if turns == usize::MAX && turn % 8 == 7 {
+                thread::sleep(Duration::from_micros(100)); // so that the trace is short
+            }
             result.is_leader()
         }).count()
     };

@@ -20,12 +20,13 @@ static struct pool pool;
 static int last_number;
 
 static void *take_turns(void *unused) {
-    (void)unused;
     for (int turn = 0; turn != pool.turns; turn++) {
         pthread_barrier_wait(&pool.barrier);
         __atomic_add_fetch(&pool.passed, 1, __ATOMIC_RELAXED);
+        if (pool.turns < 0 && turn % 8 == 7)
+            usleep(100); /* a run without end is to leave a short trace */
     }
-    return NULL;
+    return unused;
 }
 
 /* The last thread comes to its third turn once another thread has ended it: a right barrier would wait for ever. */
@@ -36,6 +37,7 @@ static void *take_turns_late(void *unused) {
             usleep(100);
         pthread_barrier_wait(&pool.barrier);
         __atomic_add_fetch(&pool.passed, 1, __ATOMIC_RELAXED);
+        usleep(pool.turns < 0 ? 100 : 0); /* so that the log isn't full at once */
     }
     return unused;
 }
