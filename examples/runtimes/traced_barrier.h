@@ -1,207 +1,486 @@
-/* A barrier of pthreads that leaves a trace of its run: include this after <pthread.h>. The trace is written when the
-   barrier is destroyed, which has to be after its threads have ended their turns.
+/* A barrier of pthreads that leaves a trace of its run: include this after <pthread.h>. With OpenMP write
+   traced_omp_barrier() for `#pragma omp barrier`. For std::barrier of C++20 see traced_barrier.hpp. It is C11 and C++17,
+   by gcc and clang.
 
-   With OpenMP write traced_omp_barrier() for `#pragma omp barrier`. The trace is written when the program ends.
+   The trace is written when the barrier is destroyed, and else when the program ends by exit, a return from main,
+   SIGINT, SIGQUIT or SIGTERM. The environment variable PHASER_TRACE names the file, else it is trace.json; that of the
+   program's second barrier has the ending .2, and so on. Older files of these names are removed where the first barrier
+   is made. After PHASER_TRACE_AFTER seconds, and at the signals, standard error says who waits, and who is missing.
 
-   The environment variable PHASER_TRACE names the file, else it is trace.json; the trace of the program's second barrier
-   has the ending .2, and so on.
+   Each call draws a ticket before it arrives, and one after its wait: so in the order of tickets an arrival never stands
+   after a pass that it let go. The log is an array by ticket. Which task of the trace a call is, is settled when the
+   trace is written. What can't be told changes nothing in the program: there is no trace then, and it is said. */
+#ifndef TRACED_LOG_H
+#define TRACED_LOG_H
 
-   A thread is a task of the trace, numbered from 1 on as it comes, or by its number in OpenMP. Task 0 is no thread: it
-   makes the barrier and leaves it. A ticket is drawn before an arrival, and after a wait. So in the order of tickets an
-   arrival never stands after a pass that it let go. What a trace can't tell ends the program with a message. */
-#ifndef TRACED_BARRIER_H
-#define TRACED_BARRIER_H
-
+#include <errno.h>
+#include <fcntl.h>
+#include <poll.h>
 #include <pthread.h>
-#include <stdatomic.h>
+#include <sched.h>
+#include <signal.h>
+#include <stdarg.h>
 #include <stdint.h>
-#include <stdio.h>
 #include <stdlib.h>
+#include <string.h>
+#include <sys/stat.h>
+#include <time.h>
+#include <unistd.h>
 
 #define TRACED_VERSION 2
 #define TRACED_UNBOUNDED ",null" /* the last item of a make, since version 2 */
-#define TRACED_ENDING "],\"limits\":{\"acts\":65536,\"history\":65536},\"version\":%d}\n"
+#define TRACED_ENDING "],\"limits\":{\"acts\":65536,\"history\":65536},\"version\":#}\n"
+#define TRACED_TICKETS (((uint64_t)1 << 48) - 1)
 
-enum { TRACED_MOST_PARTIES = 255, TRACED_MOST_EVENTS = 65536, TRACED_LINE = 64 };
+enum { TRACED_PARTIES = 255, TRACED_EVENTS = 65536, TRACED_PATH = 4000, TRACED_PATIENCE = 1000 /* milliseconds */ };
+/* What an entry is of. Its other bits are the thread's number, of a pass the ticket of its arrival. */
+enum { TRACED_ARRIVE = 1, TRACED_SIGNAL, TRACED_LEAVE, TRACED_PASS };
+/* Whose turn an arrival is: that of any party that waits for none, that of any party, that of the party of its number. */
+enum { TRACED_BY_THREADS, TRACED_BY_COUNT, TRACED_BY_NUMBER };
+enum { TRACED_FREE, TRACED_TAKEN, TRACED_LIVE };
 
-/* Only its own thread writes here, on cache lines of its own. */
+/* A party of the barrier as its log is read: task 1 is the first. */
 struct traced_party {
-    _Alignas(TRACED_LINE) uint64_t *tickets; /* two for each turn: of the arrival, of the pass */
-    size_t length, room;
+    uint32_t owner, last; /* the thread that it is, and its last arrival */
+    uint32_t signals, passes;
+    int is_waiting, can_wait, has_left;
 };
 
 struct traced_log {
+    struct traced_log *next;
+    int state, rule;
     unsigned parties;
-    struct traced_party *party;
-    _Alignas(TRACED_LINE) atomic_uint_fast64_t tickets;
+    unsigned long number;
+    uint64_t key; /* of a team of OpenMP */
+    pid_t process;
+    const char *untold; /* why there is no trace */
+    uint32_t room, *entries;
+    int is_early, is_full; /* what reading found */
+    unsigned char passed[TRACED_EVENTS / 8]; /* by the ticket of an arrival */
+    struct traced_party party[TRACED_PARTIES];
+    char before[64]; /* what all threads write stands on a line of its own */
+    uint64_t drawn; /* tickets, and above 48 bits how many calls are under way */
+    char after[64];
 };
 
 /* Of all files of a program there is one of each. */
-__attribute__((weak)) atomic_uint traced_logs;
+__attribute__((weak)) struct traced_log *traced_first;
+__attribute__((weak)) pthread_once_t traced_once = PTHREAD_ONCE_INIT;
+__attribute__((weak)) unsigned long traced_made;
+__attribute__((weak)) uint32_t traced_threads;
+__attribute__((weak)) __thread uint32_t traced_self;
+__attribute__((weak)) char traced_path[TRACED_PATH];
+__attribute__((weak)) struct timespec traced_after;
 
-static inline void traced_refuse(const char *why) {
-    fprintf(stderr, "traced_barrier: %s\n", why);
-    abort();
+/* ---- in the turns */
+
+static inline uint32_t traced_who(void) {
+    if (traced_self == 0)
+        traced_self = __atomic_add_fetch(&traced_threads, 1, __ATOMIC_RELAXED);
+    return traced_self;
 }
 
-static inline void traced_open(struct traced_log *log, unsigned parties) {
-    if (parties > TRACED_MOST_PARTIES)
-        traced_refuse("a trace has room for 255 parties");
-    log->parties = parties;
-    log->party = aligned_alloc(TRACED_LINE, parties * sizeof *log->party);
-    if (log->party == NULL)
-        traced_refuse("there is no memory for the trace");
-    for (unsigned at = 0; at < parties; at++)
-        log->party[at] = (struct traced_party){NULL, 0, 0};
-    atomic_init(&log->tickets, 3 * parties + 4); /* the first are for the making, see traced_write */
+/* It orders nothing between the threads that the barrier doesn't. After its last store the log may be gone. */
+static inline uint32_t traced_draw(struct traced_log *log, uint32_t kind, uint32_t of, int more_inside) {
+    if (log == NULL)
+        return 0;
+    uint32_t room = log->room, *entries = log->entries;
+    uint64_t ticket = __atomic_fetch_add(&log->drawn, 1 + ((uint64_t)more_inside << 48), __ATOMIC_RELEASE) & TRACED_TICKETS;
+    if (ticket < room)
+        __atomic_store_n(&entries[ticket], of << 3 | kind, __ATOMIC_RELEASE);
+    return ticket < room ? (uint32_t)ticket : room;
 }
 
-static inline void traced_draw(struct traced_log *log, struct traced_party *own, unsigned many) {
-    if (own->length == own->room) {
-        own->room = own->room ? 2 * own->room : 128;
-        own->tickets = realloc(own->tickets, own->room * sizeof *own->tickets);
-        if (own->tickets == NULL)
-            traced_refuse("there is no memory for the trace");
+/* ---- writing, by calls alone that a handler of a signal may make */
+
+struct traced_out { int file, has_failed; size_t length; char text[TRACED_PATH + 64]; };
+
+static inline void traced_flush(struct traced_out *out) {
+    for (size_t at = 0; at < out->length && !out->has_failed;) {
+        ssize_t wrote = write(out->file, out->text + at, out->length - at);
+        if (wrote > 0)
+            at += (size_t)wrote;
+        else if (wrote == 0 || errno != EINTR)
+            out->has_failed = 1;
     }
-    own->tickets[own->length++] = atomic_fetch_add(&log->tickets, many);
+    out->length = 0;
 }
 
-/* Before the others can see the arrival: a ticket for the beginning of the turn, and one for its signal. */
-static inline void traced_arrive(struct traced_log *log, struct traced_party *own) {
-    traced_draw(log, own, 2);
+static inline void traced_put(struct traced_out *out, char letter) {
+    if (out->length == sizeof out->text)
+        traced_flush(out);
+    out->text[out->length++] = letter;
 }
 
-/* When the wait is over. */
-static inline void traced_pass(struct traced_log *log, struct traced_party *own) {
-    traced_draw(log, own, 1);
-}
-
-static inline FILE *traced_file(void) {
-    const char *name = getenv("PHASER_TRACE");
-    unsigned number = atomic_fetch_add(&traced_logs, 1) + 1;
-    char path[4096];
-    int length = snprintf(path, sizeof path, number > 1 ? "%s.%u" : "%s", name ? name : "trace.json", number);
-    FILE *out = length < (int)sizeof path ? fopen(path, "w") : NULL;
-    if (out == NULL)
-        traced_refuse("the trace's file can't be opened");
-    return out;
-}
-
-/* How many tickets the turns have drawn, where each was ended and a trace has room for them. */
-static inline uint64_t traced_drawn(struct traced_log *log) {
-    uint64_t draws = 0;
-    for (unsigned at = 0; at < log->parties; at++) {
-        if (log->party[at].length % 2)
-            traced_refuse("a thread still waits, so there is no trace");
-        draws += log->party[at].length;
-    }
-    if (draws + 2 * (log->parties + 1) > TRACED_MOST_EVENTS)
-        traced_refuse("a phaser of a trace has room for 65536 events, so there is no trace");
-    return draws / 2 * 3;
-}
-
-/* The events of the turns, by their tickets: so many from the first on. */
-static inline void traced_turns(struct traced_log *log, FILE *out, uint64_t first, uint64_t drawn) {
-    struct turn_event { unsigned task; char kind; } *events;
-    events = calloc(drawn + 1, sizeof *events);
-    if (events == NULL)
-        traced_refuse("there is no memory for the trace");
-    for (unsigned at = 0; at < log->parties; at++)
-        for (size_t turn = 0; turn < log->party[at].length; turn += 2) {
-            uint64_t begun = log->party[at].tickets[turn] - first, passed = log->party[at].tickets[turn + 1] - first;
-            events[begun] = (struct turn_event){at + 1, 'b'};
-            events[begun + 1] = (struct turn_event){at + 1, 's'};
-            events[passed] = (struct turn_event){at + 1, 'p'};
-        }
-    for (uint64_t at = 0; at < drawn; at++) {
-        unsigned long long ticket = first + at;
-        if (events[at].kind == 'b')
-            fprintf(out, "[%llu,\"t\",%u,\"begin\",[\"next\"]],\n", ticket, events[at].task);
+/* In the form # stands for an unsigned long, and % for a text. */
+static inline void traced_print(struct traced_out *out, const char *form, ...) {
+    va_list values;
+    va_start(values, form);
+    for (; *form; form++) {
+        char digits[24] = "";
+        const char *text = digits + 23;
+        if (*form == '#') {
+            unsigned long number = va_arg(values, unsigned long);
+            char *digit = digits + 23;
+            do *--digit = (char)('0' + number % 10); while (number /= 10);
+            text = digit;
+        } else if (*form == '%')
+            text = va_arg(values, const char *);
         else
-            fprintf(out, "[%llu,\"p\",0,\"%s\",%u],\n", ticket, events[at].kind == 's' ? "sig" : "pass", events[at].task);
+            traced_put(out, *form);
+        while (*text)
+            traced_put(out, *text++);
     }
-    free(events);
+    va_end(values);
 }
 
-static inline unsigned long long traced_leave(FILE *out, unsigned long long ticket, unsigned task) {
-    fprintf(out, "[%llu,\"t\",%u,\"begin\",[\"end\"]],\n[%llu,\"p\",0,\"drop\",%u],\n", ticket, task, ticket + 1, task);
-    return ticket + 2;
+static inline void traced_name(unsigned long number, struct traced_out *name) {
+    name->length = 0;
+    traced_print(name, number > 1 ? "%.#" : "%", traced_path, number);
+    traced_put(name, 0);
 }
 
-/* The making of the barrier, the turns, and the leaving of all threads. */
-static inline void traced_write(struct traced_log *log) {
-    uint64_t drawn = traced_drawn(log); /* first: where there is no trace, no file is touched */
-    FILE *out = traced_file();
-    unsigned long long ticket = 1;
-    fprintf(out, "{\"events\":[\n[%llu,\"p\",0,\"make\",0,\"SIG_WAIT\",[]" TRACED_UNBOUNDED "],\n", ticket++);
-    for (unsigned task = 1; task <= log->parties; task++, ticket += 3)
-        fprintf(out, "[%llu,\"t\",0,\"begin\",[\"async\",%u,[[0,\"SIG_WAIT\"]]]],\n[%llu,\"p\",0,\"reg\",0,%u,\"SIG_WAIT\"],\n"
-            "[%llu,\"f\",0,\"spawned\",%u],\n", ticket, task, ticket + 1, task, ticket + 2, task);
-    ticket = traced_leave(out, ticket, 0);
-    traced_turns(log, out, ticket, drawn);
-    ticket = atomic_load(&log->tickets);
-    for (unsigned task = 1; task <= log->parties; task++, ticket++) {
-        ticket = traced_leave(out, ticket, task);
-        fprintf(out, "[%llu,\"f\",0,\"ended\",%u],\n", ticket, task);
+static inline void traced_say(unsigned long number, const char *first, const char *second) {
+    struct traced_out name = {-1, 0, 0, ""}, out = {2, 0, 0, ""};
+    traced_name(number, &name);
+    traced_print(&out, "traced_barrier: %: %%\n", name.text, first, second);
+    traced_flush(&out);
+}
+
+/* Removes what an earlier run left; a device or a pipe stays. Whether there was a file. */
+static inline int traced_remove(unsigned long number) {
+    struct traced_out name = {-1, 0, 0, ""};
+    struct stat is;
+    traced_name(number, &name);
+    if (stat(name.text, &is) != 0 || !S_ISREG(is.st_mode) || strncmp(name.text, "/dev/", 5) == 0)
+        return 0;
+    if (unlink(name.text) != 0 && truncate(name.text, 0) != 0)
+        traced_say(number, "an older trace can't be removed", "");
+    return 1;
+}
+
+/* ---- reading the log */
+
+static inline int traced_choice(struct traced_log *log, uint32_t who) {
+    int takes_busy = log->rule == TRACED_BY_COUNT || log->parties == 1, best = -1;
+    uint64_t least = ~(uint64_t)0;
+    if (log->rule == TRACED_BY_NUMBER)
+        return log->party[who].signals == log->party[who].passes ? (int)who : -1;
+    for (unsigned at = 0; at < log->parties; at++) {
+        struct traced_party *party = &log->party[at];
+        int is_own = party->owner == who, is_idle = party->signals == party->passes;
+        if (party->has_left || (!is_idle && !takes_busy))
+            continue;
+        if (is_own && is_idle)
+            return (int)at;
+        uint64_t score = 4 * (uint64_t)party->signals + (is_own ? 0 : !is_idle ? 3 : party->owner == 0 ? 1 : 2);
+        if (score < least)
+            least = score, best = (int)at;
     }
-    fprintf(out, "[%llu,\"f\",0,\"shut\"]" TRACED_ENDING, ticket, TRACED_VERSION);
-    if (fclose(out) != 0)
-        traced_refuse("the trace can't be written");
+    return best;
 }
 
-static inline void traced_close(struct traced_log *log) {
-    traced_write(log);
+static inline void traced_passes(struct traced_log *log, struct traced_party *party) {
+    log->passed[party->last / 8] |= (unsigned char)(1 << party->last % 8);
+    party->passes++;
+}
+
+/* Reads entries up to the end, or the first that can't be told; writes their events where there is a file. The first
+   time `passed` is found, which the second needs. How many were read. */
+static inline uint32_t traced_read(struct traced_log *log, uint32_t end, struct traced_out *out, unsigned long *ticket) {
+    uint32_t at, left = TRACED_EVENTS - 2 * log->parties - 2;
+    for (unsigned number = 0; number < log->parties; number++) {
+        struct traced_party fresh = {0, 0, 0, 0, 0, out ? log->party[number].can_wait : 0, 0};
+        log->party[number] = fresh;
+    }
+    for (at = 0; at < end; at++) {
+        uint32_t entry = __atomic_load_n(&log->entries[at], __ATOMIC_ACQUIRE), kind = entry & 7, of = entry >> 3;
+        int chosen = -1;
+        if (kind == TRACED_PASS) {
+            for (unsigned number = 0; number < log->parties && chosen < 0; number++)
+                if (log->party[number].last == of && log->party[number].signals > log->party[number].passes)
+                    chosen = (int)number;
+            if (chosen < 0)
+                continue; /* a later arrival of this party said already that the phase was over */
+        } else if ((chosen = traced_choice(log, of)) < 0) {
+            log->untold = log->rule == TRACED_BY_NUMBER ? "two regions of one size are at their barriers at once"
+                : "more threads than parties are at the barrier at once";
+            break;
+        }
+        struct traced_party *party = &log->party[chosen];
+        int is_pass = kind == TRACED_PASS, passes = is_pass || party->signals > party->passes;
+        unsigned long task = (unsigned long)chosen + 1;
+        if (left < (uint32_t)(passes + !is_pass)) {
+            log->is_full = 1;
+            break;
+        }
+        left -= (uint32_t)(passes + !is_pass);
+        if (is_pass)
+            for (unsigned number = 0; number < log->parties; number++)
+                log->is_early |= log->party[number].signals <= party->passes && !log->party[number].has_left;
+        if (passes)
+            traced_passes(log, party);
+        if (passes && out)
+            traced_print(out, "[#,\"p\",0,\"pass\",#],\n", (*ticket)++, task);
+        party->is_waiting = kind == TRACED_ARRIVE;
+        party->can_wait |= is_pass || kind == TRACED_ARRIVE;
+        if (is_pass)
+            continue;
+        party->owner = of, party->last = at, party->signals++, party->has_left = kind == TRACED_LEAVE;
+        if (out == NULL)
+            continue;
+        const char *act = log->passed[at / 8] >> at % 8 & 1 ? "next" : "signal";
+        traced_print(out, "[#,\"t\",#,\"begin\",[\"%\"]],\n", (*ticket)++, task, act);
+        traced_print(out, "[#,\"p\",0,\"sig\",#],\n", (*ticket)++, task);
+        if (kind == TRACED_LEAVE) {
+            traced_print(out, "[#,\"t\",#,\"begin\",[\"end\"]],\n", (*ticket)++, task);
+            traced_print(out, "[#,\"p\",0,\"drop\",#],\n", (*ticket)++, task);
+            traced_print(out, "[#,\"f\",0,\"ended\",#],\n", (*ticket)++, task);
+        }
+    }
+    return at;
+}
+
+/* The making of the barrier, the turns, and the leaving of all. */
+static inline void traced_events(struct traced_log *log, uint32_t end, struct traced_out *out) {
+    unsigned long ticket = 1;
+    traced_print(out, "{\"events\":[\n[#,\"p\",0,\"make\",0,\"SIG_WAIT\",[]" TRACED_UNBOUNDED "],\n", ticket++);
+    for (unsigned long task = 1; task <= log->parties; task++) {
+        struct traced_party *party = &log->party[task - 1];
+        const char *mode = party->signals && !party->can_wait ? "SIG" : "SIG_WAIT";
+        traced_print(out, "[#,\"t\",0,\"begin\",[\"async\",#,[[0,\"%\"]]]],\n", ticket++, task, mode);
+        traced_print(out, "[#,\"p\",0,\"reg\",0,#,\"%\"],\n", ticket++, task, mode);
+        traced_print(out, "[#,\"f\",0,\"spawned\",#],\n", ticket++, task);
+    }
+    traced_print(out, "[#,\"t\",0,\"begin\",[\"end\"]],\n[#,\"p\",0,\"drop\",0],\n", ticket, ticket + 1);
+    ticket += 2;
+    traced_read(log, end, out, &ticket);
+    for (unsigned long task = 1; task <= log->parties; task++) {
+        if (log->party[task - 1].has_left)
+            continue;
+        traced_print(out, "[#,\"t\",#,\"begin\",[\"end\"]],\n", ticket++, task);
+        traced_print(out, "[#,\"p\",0,\"drop\",#],\n[#,\"f\",0,\"ended\",#],\n", ticket, task, ticket + 1, task);
+        ticket += 2;
+    }
+    traced_print(out, "[#,\"f\",0,\"shut\"]" TRACED_ENDING, ticket, (unsigned long)TRACED_VERSION);
+    traced_flush(out);
+}
+
+/* Who waits in the least phase in which somebody does, and who is missing there. */
+static inline void traced_say_who(struct traced_log *log) {
+    struct traced_out name = {-1, 0, 0, ""}, out = {2, 0, 0, ""};
+    uint32_t phase = ~(uint32_t)0;
+    int is_missing = 0;
     for (unsigned at = 0; at < log->parties; at++)
-        free(log->party[at].tickets);
-    free(log->party);
+        if (log->party[at].is_waiting && log->party[at].passes < phase)
+            phase = log->party[at].passes;
+    if (phase == ~(uint32_t)0)
+        return;
+    traced_name(log->number, &name);
+    traced_print(&out, "traced_barrier: %: tasks that wait in phase #:", name.text, (unsigned long)phase);
+    for (unsigned long task = 1; task <= log->parties; task++)
+        if (log->party[task - 1].is_waiting && log->party[task - 1].passes == phase)
+            traced_print(&out, " #", task);
+    for (unsigned long task = 1; task <= log->parties; task++)
+        if (log->party[task - 1].signals <= phase && !log->party[task - 1].has_left) {
+            traced_print(&out, is_missing++ ? " #%" : "; missing: #%", task, log->party[task - 1].signals ? "" : " (nobody yet)");
+        }
+    traced_print(&out, is_missing ? "\n" : "; nobody is missing\n");
+    traced_flush(&out);
 }
+
+/* The trace so far; the caller has taken the log. What was drawn and isn't stored yet is waited for. */
+static inline void traced_write(struct traced_log *log, int says_who) {
+    uint64_t drawn = __atomic_load_n(&log->drawn, __ATOMIC_ACQUIRE) & TRACED_TICKETS;
+    uint32_t end = drawn < log->room ? (uint32_t)drawn : log->room, stored = 0;
+    struct traced_out out = {-1, 0, 0, ""};
+    log->is_early = 0, log->is_full = drawn > log->room;
+    for (int waits = 0; stored < end && waits < TRACED_PATIENCE;)
+        if (__atomic_load_n(&log->entries[stored], __ATOMIC_ACQUIRE))
+            stored++;
+        else
+            poll(NULL, 0, 1), waits++;
+    for (uint32_t at = stored; at < end && log->untold == NULL; at++)
+        if (__atomic_load_n(&log->entries[at], __ATOMIC_ACQUIRE))
+            log->untold = "a thread was stopped while it logged";
+    memset(log->passed, 0, sizeof log->passed);
+    end = traced_read(log, stored, NULL, NULL);
+    if (says_who && !log->untold && !log->is_full)
+        traced_say_who(log);
+    if (log->untold && !log->is_early) { /* a pass that was early before that is told all the same */
+        traced_remove(log->number);
+        traced_say(log->number, "no trace is written: ", log->untold);
+        return;
+    }
+    struct traced_out name = {-1, 0, 0, ""};
+    traced_name(log->number, &name);
+    out.file = open(name.text, O_WRONLY | O_CREAT | O_TRUNC | O_CLOEXEC, 0666);
+    if (out.file >= 0)
+        traced_events(log, end, &out);
+    if (out.file < 0 || (close(out.file) != 0) | out.has_failed)
+        traced_say(log->number, "the trace can't be written", "");
+    else if (log->is_full)
+        traced_say(log->number, "the log was full: the trace ends before the run", "");
+}
+
+/* Takes the log from LIVE, or by force where whoever has it doesn't go on: a handler may have interrupted it. */
+static inline int traced_take(struct traced_log *log, int by_force) {
+    for (int waits = 0; waits < TRACED_PATIENCE; waits++, poll(NULL, 0, 1)) {
+        int state = TRACED_LIVE;
+        if (__atomic_compare_exchange_n(&log->state, &state, TRACED_TAKEN, 0, __ATOMIC_ACQUIRE, __ATOMIC_RELAXED))
+            return 1;
+        if (state == TRACED_FREE)
+            return 0;
+    }
+    return by_force;
+}
+
+static inline void traced_write_all(int says_who, int by_force) {
+    for (struct traced_log *log = __atomic_load_n(&traced_first, __ATOMIC_ACQUIRE); log; log = log->next)
+        if (__atomic_load_n(&log->state, __ATOMIC_ACQUIRE) != TRACED_FREE && traced_take(log, by_force)) {
+            if (log->process == getpid()) /* a forked child writes no trace of its parent's barriers */
+                traced_write(log, says_who);
+            __atomic_store_n(&log->state, TRACED_LIVE, __ATOMIC_RELEASE);
+        }
+}
+
+/* ---- the beginning and the end of the program */
+
+static inline void traced_end(void) {
+    traced_write_all(0, 1);
+}
+
+static inline void traced_signal(int number) {
+    traced_write_all(1, 1);
+    signal(number, SIG_DFL);
+    raise(number);
+}
+
+static inline void *traced_watch(void *unused) {
+    while (nanosleep(&traced_after, &traced_after) != 0 && errno == EINTR)
+        ;
+    traced_write_all(1, 0);
+    return unused;
+}
+
+static inline void traced_begin(void) {
+    const char *name = getenv("PHASER_TRACE"), *after = getenv("PHASER_TRACE_AFTER");
+    const int numbers[] = {SIGINT, SIGQUIT, SIGTERM};
+    name = name ? name : "trace.json";
+    if (name[0] != '/' && getcwd(traced_path, TRACED_PATH) == NULL)
+        traced_path[0] = 0;
+    size_t length = name[0] == '/' ? 0 : strlen(traced_path);
+    if (length + strlen(name) + 2 <= TRACED_PATH) /* else the folder is no file, and that is said */
+        strcpy(traced_path + length, length ? "/" : ""), strcat(traced_path, name);
+    for (unsigned long number = 1; traced_remove(number) || number < 100; number++)
+        ;
+    atexit(traced_end);
+    for (int at = 0; at < 3; at++) {
+        struct sigaction old, now;
+        memset(&now, 0, sizeof now);
+        now.sa_handler = traced_signal;
+        sigfillset(&now.sa_mask);
+        if (sigaction(numbers[at], NULL, &old) == 0 && !(old.sa_flags & SA_SIGINFO) && old.sa_handler == SIG_DFL)
+            sigaction(numbers[at], &now, NULL);
+    }
+    double seconds = after ? strtod(after, NULL) : 0;
+    if (seconds > 0 && seconds < 1e9) {
+        pthread_t watcher;
+        sigset_t all, old;
+        traced_after.tv_sec = (time_t)seconds;
+        traced_after.tv_nsec = (long)(1e9 * (seconds - (double)traced_after.tv_sec));
+        sigfillset(&all);
+        pthread_sigmask(SIG_SETMASK, &all, &old);
+        if (pthread_create(&watcher, NULL, traced_watch, NULL) == 0)
+            pthread_detach(watcher);
+        pthread_sigmask(SIG_SETMASK, &old, NULL);
+    }
+}
+
+/* Where there is no memory for a log there is none. A log stays where it is, and serves another barrier later. */
+static inline struct traced_log *traced_make(unsigned long parties, int rule, uint64_t key, const char *untold) {
+    pthread_once(&traced_once, traced_begin);
+    struct traced_log *log = __atomic_load_n(&traced_first, __ATOMIC_ACQUIRE);
+    for (int state = TRACED_FREE; log; log = log->next, state = TRACED_FREE)
+        if (__atomic_compare_exchange_n(&log->state, &state, TRACED_TAKEN, 0, __ATOMIC_ACQUIRE, __ATOMIC_RELAXED))
+            break;
+    unsigned long number = __atomic_add_fetch(&traced_made, 1, __ATOMIC_RELAXED);
+    if (log == NULL && (log = (struct traced_log *)calloc(1, sizeof *log)) != NULL) {
+        log->state = TRACED_TAKEN;
+        log->next = __atomic_load_n(&traced_first, __ATOMIC_RELAXED);
+        while (!__atomic_compare_exchange_n(&traced_first, &log->next, log, 0, __ATOMIC_RELEASE, __ATOMIC_RELAXED))
+            ;
+    }
+    traced_remove(number);
+    if (log == NULL) {
+        traced_say(number, "no trace is written: there is no memory for it", "");
+        return NULL;
+    }
+    if (parties > TRACED_PARTIES)
+        untold = "a trace has room for 255 parties";
+    log->parties = untold ? 0 : (unsigned)parties;
+    log->rule = rule, log->key = key, log->number = number, log->process = getpid();
+    __atomic_store_n(&log->drawn, 0, __ATOMIC_RELAXED);
+    log->entries = (uint32_t *)(untold ? NULL : calloc(TRACED_EVENTS, sizeof *log->entries));
+    log->untold = untold ? untold : log->entries ? NULL : "there is no memory for it";
+    log->room = log->entries ? TRACED_EVENTS - 2 * log->parties - 2 : 0;
+    __atomic_store_n(&log->state, TRACED_LIVE, __ATOMIC_RELEASE);
+    return log;
+}
+
+/* Once the barrier itself is gone: calls that it let go may still draw, and are waited for. */
+static inline void traced_close(struct traced_log *log) {
+    int state = TRACED_FREE;
+    if (log == NULL)
+        return;
+    for (int waits = 0; waits < 2 * TRACED_PATIENCE && __atomic_load_n(&log->drawn, __ATOMIC_ACQUIRE) > TRACED_TICKETS; waits++)
+        waits < TRACED_PATIENCE ? sched_yield() : poll(NULL, 0, 1);
+    if (!traced_take(log, 0))
+        return;
+    if (log->process == getpid())
+        traced_write(log, 0);
+    if (__atomic_load_n(&log->drawn, __ATOMIC_ACQUIRE) > TRACED_TICKETS)
+        state = TRACED_LIVE; /* somebody still waits: it is written again at the end */
+    else
+        free(log->entries), log->entries = NULL, log->room = 0;
+    __atomic_store_n(&log->state, state, __ATOMIC_RELEASE);
+}
+#endif
+
+#if !defined(TRACED_BARRIER_H) && !defined(TRACED_LOG_ALONE)
+#define TRACED_BARRIER_H
 
 typedef struct {
     pthread_barrier_t real;
-    pthread_key_t own; /* the party that a thread is */
-    atomic_uint taken; /* how many parties have become threads */
-    struct traced_log log;
+    struct traced_log *log;
 } traced_barrier_t;
 
 static inline int traced_barrier_init(traced_barrier_t *barrier, const pthread_barrierattr_t *how, unsigned parties) {
-    int shared = PTHREAD_PROCESS_PRIVATE;
-    if (how != NULL && pthread_barrierattr_getpshared(how, &shared) == 0 && shared == PTHREAD_PROCESS_SHARED)
-        traced_refuse("a barrier of several processes has no trace");
-    int status = pthread_barrier_init(&barrier->real, how, parties);
-    if (status != 0)
-        return status;
-    if (pthread_key_create(&barrier->own, NULL) != 0)
-        traced_refuse("there are too many barriers");
-    atomic_init(&barrier->taken, 0);
-    traced_open(&barrier->log, parties);
-    return 0;
-}
-
-static inline struct traced_party *traced_own(traced_barrier_t *barrier) {
-    struct traced_party *own = pthread_getspecific(barrier->own);
-    if (own == NULL) {
-        unsigned number = atomic_fetch_add(&barrier->taken, 1);
-        if (number >= barrier->log.parties)
-            traced_refuse("there are more threads than parties");
-        own = &barrier->log.party[number];
-        if (pthread_setspecific(barrier->own, own) != 0)
-            traced_refuse("there is no memory for the trace");
-    }
-    return own;
+    int shared = PTHREAD_PROCESS_PRIVATE, status = pthread_barrier_init(&barrier->real, how, parties);
+    if (how != NULL)
+        pthread_barrierattr_getpshared(how, &shared);
+    barrier->log = NULL;
+    if (status == 0 && shared == PTHREAD_PROCESS_SHARED)
+        traced_make(parties, TRACED_BY_THREADS, 0, "it is a barrier of several processes");
+    else if (status == 0)
+        barrier->log = traced_make(parties, TRACED_BY_THREADS, 0, NULL);
+    return status;
 }
 
 static inline int traced_barrier_wait(traced_barrier_t *barrier) {
-    struct traced_party *own = traced_own(barrier);
-    traced_arrive(&barrier->log, own);
+    struct traced_log *log = barrier->log; /* after the wait the barrier may be gone */
+    uint32_t arrival = traced_draw(log, TRACED_ARRIVE, traced_who(), 1);
     int answer = pthread_barrier_wait(&barrier->real);
-    traced_pass(&barrier->log, own);
+    traced_draw(log, TRACED_PASS, arrival, -1);
     return answer;
 }
 
 static inline int traced_barrier_destroy(traced_barrier_t *barrier) {
-    traced_close(&barrier->log);
-    pthread_key_delete(barrier->own);
-    return pthread_barrier_destroy(&barrier->real);
+    struct traced_log *log = barrier->log;
+    int status = pthread_barrier_destroy(&barrier->real);
+    if (status == 0)
+        traced_close(log);
+    return status;
 }
 
 /* From here on the program's calls are these. One in parentheses, as (pthread_barrier_wait)(..), is that of pthreads. */
@@ -213,33 +492,38 @@ static inline int traced_barrier_destroy(traced_barrier_t *barrier) {
 #ifdef _OPENMP
 #include <omp.h>
 
-/* The team of every parallel region: a thread of the same number is the same task in each. */
-__attribute__((weak)) struct traced_log traced_team;
-__attribute__((weak)) atomic_bool traced_team_stands;
-
-static inline void traced_team_end(void) {
-    traced_close(&traced_team);
-}
-
-static inline void traced_team_begin(void) {
+/* The log of this thread's team; a team of one has none. Regions of one size that the same thread begins, one after the
+   other, share one, and a thread of the same number is the same task in each. */
+static inline struct traced_log *traced_team(void) {
+    static __thread uint64_t last_key;
+    static __thread struct traced_log *last;
+    int level = omp_get_level(), size = omp_get_num_threads();
+    uint64_t key = (uint64_t)size;
+    for (int above = 1; above < level; above++)
+        key = level > 7 ? 0 : key * 256 + (uint64_t)omp_get_ancestor_thread_num(above) + 1;
+    if (size == 1)
+        return NULL;
+    if (last != NULL && last_key == key)
+        return last;
 #pragma omp critical(traced_team)
-    if (!atomic_load(&traced_team_stands)) {
-        traced_open(&traced_team, omp_get_num_threads());
-        atexit(traced_team_end);
-        atomic_store(&traced_team_stands, 1);
+    {
+        for (last = __atomic_load_n(&traced_first, __ATOMIC_ACQUIRE); last; last = last->next)
+            if (last->rule == TRACED_BY_NUMBER && last->key == key)
+                break;
+        const char *untold = level > 7 ? "regions are nested more than 7 deep"
+            : omp_get_cancellation() ? "where regions may be cancelled, a barrier may be left" : NULL;
+        if (last == NULL)
+            last = traced_make((unsigned long)size, TRACED_BY_NUMBER, key, untold);
     }
+    last_key = key;
+    return last;
 }
 
 static inline void traced_omp_barrier(void) {
-    if (!atomic_load(&traced_team_stands))
-        traced_team_begin();
-    if (omp_get_level() != 1 || omp_get_num_threads() != (int)traced_team.parties)
-        traced_refuse("a trace has one team: regions of one size, none in another");
-    struct traced_party *own = &traced_team.party[omp_get_thread_num()];
-    traced_arrive(&traced_team, own);
+    struct traced_log *log = traced_team();
+    uint32_t arrival = traced_draw(log, TRACED_ARRIVE, (uint32_t)omp_get_thread_num(), 1);
 #pragma omp barrier
-    traced_pass(&traced_team, own);
+    traced_draw(log, TRACED_PASS, arrival, -1);
 }
 #endif
-
 #endif
