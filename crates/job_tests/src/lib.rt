@@ -1,16 +1,10 @@
-//! Tests of what a job without threads is made of, which call what these crates export: the words of
-//! the command line, the texts, the runs by picks, the traces, and how a job ends.
+//! Tests of what a job without threads is made of, which call what these crates export: programs,
+//! their runs by picks, traces, and what a task in flight knows of itself.
 //!
 //! A library of tests alone: where they stood in the crates themselves, these would be proved once
 //! more with each change of a test.
 #![tactic(auto)]
 
-#[cfg(test)]
-mod ends;
-#[cfg(test)]
-mod events;
-#[cfg(test)]
-mod json_words;
 #[cfg(test)]
 mod programs_by_picks;
 #[cfg(test)]
@@ -19,5 +13,3 @@ mod replays;
 mod schedules;
 #[cfg(test)]
 mod standings;
-#[cfg(test)]
-mod words;
