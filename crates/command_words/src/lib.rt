@@ -6,6 +6,3 @@ mod lists;
 mod words;
 
 pub use command_line::{Job, NoJob, Value, job_of};
-
-#[cfg(test)]
-mod tests;

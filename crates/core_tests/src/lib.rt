@@ -1,4 +1,5 @@
-//! Tests of `phase_model`, `acc_cells` and `phaser_core`, which call what these export.
+//! Tests of one phaser's crates, up to `phaser_core`, and of `phase_modes`, `phase_model` and
+//! `finish_core`, which call what these export.
 //!
 //! A library of tests alone: where they stood in the crates themselves, these would be proved once
 //! more with each change of a test.
@@ -7,6 +8,20 @@
 #[cfg(test)]
 mod cells;
 #[cfg(test)]
+mod finishes;
+#[cfg(test)]
+mod fronts;
+#[cfg(test)]
 mod histories;
 #[cfg(test)]
+mod lines;
+#[cfg(test)]
+mod modes;
+#[cfg(test)]
+mod numbers;
+#[cfg(test)]
 mod phasers;
+#[cfg(test)]
+mod singles;
+#[cfg(test)]
+mod spawn_lists;

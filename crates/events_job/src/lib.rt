@@ -4,6 +4,3 @@
 mod events;
 
 pub use events::{MOST_BYTES, answer, ending_from, ending_on, events_from, events_on};
-
-#[cfg(test)]
-mod tests;

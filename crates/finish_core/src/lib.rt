@@ -14,6 +14,3 @@ pub use laws::{
 };
 pub use may_follow::allowed;
 pub use state::FinishState;
-
-#[cfg(test)]
-mod tests;

@@ -9,6 +9,3 @@ mod output;
 pub use failure::{Ending, Failure, Status};
 pub use input::{ReadAll, Reads, bytes_of, read_all};
 pub use output::{put_text, write_text};
-
-#[cfg(test)]
-mod tests;

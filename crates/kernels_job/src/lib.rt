@@ -6,6 +6,3 @@ mod running;
 
 pub use printing::{Kernel, ending_on, print_report};
 pub use running::{pipeline_on, stencil_on};
-
-#[cfg(test)]
-mod tests;

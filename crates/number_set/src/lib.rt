@@ -4,6 +4,3 @@
 mod set;
 
 pub use set::NumberSet;
-
-#[cfg(test)]
-mod tests;

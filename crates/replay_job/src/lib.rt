@@ -5,6 +5,3 @@
 mod replaying;
 
 pub use replaying::{MOST_BYTES, ending_on, replay_bytes, replay_on};
-
-#[cfg(test)]
-mod tests;

@@ -4,6 +4,3 @@
 mod working;
 
 pub use working::{ending_on, run_bytes, run_on};
-
-#[cfg(test)]
-mod tests;

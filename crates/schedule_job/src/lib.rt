@@ -4,6 +4,3 @@
 mod scheduling;
 
 pub use scheduling::{ending_on, schedule_bytes, schedule_on};
-
-#[cfg(test)]
-mod tests;

@@ -14,6 +14,3 @@ mod same_act;
 pub use acts::{MadeAct, act_of};
 pub use followers::{follows, is_given};
 pub use run::{Run, run_picks};
-
-#[cfg(test)]
-mod tests;

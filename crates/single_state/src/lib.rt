@@ -9,6 +9,3 @@ mod statement;
 pub use laws::{claims_are_unique, reports_are_unique};
 pub use single::Single;
 pub use statement::{Stage, Statement};
-
-#[cfg(test)]
-mod tests;

@@ -21,6 +21,3 @@ mod standing;
 pub use held::Held;
 pub use plan::{Due, Plan};
 pub use standing::Standing;
-
-#[cfg(test)]
-mod tests;

@@ -11,6 +11,3 @@ pub use items::{
     value_at, word_at,
 };
 pub use objects::{has_only_keys, limits_of};
-
-#[cfg(test)]
-mod tests;

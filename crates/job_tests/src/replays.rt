@@ -1,0 +1,281 @@
+//! The smallest trace, and texts that are none.
+use job_ends::{Failure, Status};
+use phase_modes::{Limits, Refusal};
+use replay_job::{ending_on, replay_bytes, replay_on};
+use std::alloc::Global;
+use std::process::Abort;
+use std::test::Fail;
+use trace_model::{Trace, TracedEvent};
+
+mod logs;
+mod parts;
+mod texts;
+mod traces;
+
+/// The first event, up to what a version has after the operators.
+const HEAD: &str = "{\"events\":[[1,\"p\",0,\"make\",0,\"SIG_WAIT\",[]";
+
+const TURN: &str = ",[2,\"t\",0,\"begin\",[\"next\"]],[3,\"p\",0,\"sig\",0],[4,\"p\",0,\"pass\",0]";
+
+const END: &str = ",[5,\"t\",0,\"begin\",[\"end\"]],[6,\"p\",0,\"drop\",0],[7,\"f\",0,\"shut\"]";
+
+const TAIL: &str = "],\"limits\":{\"acts\":4096,\"finishes\":64,\"history\":4096,\"phasers\":64,\
+    \"regs\":256,\"tasks\":256},\"version\":";
+
+/// The smallest trace as it is written.
+const SMALLEST: &str = "{\"events\":[[1,\"p\",0,\"make\",0,\"SIG_WAIT\",[],null],\
+    [2,\"t\",0,\"begin\",[\"next\"]],[3,\"p\",0,\"sig\",0],[4,\"p\",0,\"pass\",0],\
+    [5,\"t\",0,\"begin\",[\"end\"]],[6,\"p\",0,\"drop\",0],[7,\"f\",0,\"shut\"]],\
+    \"limits\":{\"acts\":4096,\"finishes\":64,\"history\":4096,\"phasers\":64,\"regs\":256,\
+    \"tasks\":256},\"version\":2}\n";
+
+/// A version, and what it has after the operators of a phaser without a bound.
+type Form = (u32, &'static str);
+
+const FORMS: [Form; 2] = [(1, ""), (2, ",null")];
+
+const REPORT: &str = "phaser 0 phases 1\ntask 0 ended\nfinish 0 tasks 0\n\
+    totals registered 1 signals 1 passes 1 drops 1 sends 0 up 0 down 0\n";
+
+/// What is written of a text: the report, the trace in OUT, and the line of a failure.
+type Written = (&'static str, &'static str, &'static str);
+
+/// Replays the text with an OUT, and compares how that ends, and what is written.
+fn check(rt: &impl Abort, alloc: Global, text: &str, status: Status, wanted: Written) {
+    let mut out = Vec::new(alloc);
+    let mut faults = Vec::new(alloc);
+    let mut trace_out = Some(Vec::new(alloc));
+    let ended = replay_on(
+        alloc,
+        text.as_bytes(),
+        &mut out,
+        &mut faults,
+        &mut trace_out,
+    );
+    assert_eq!(rt; ended, status, "{text}");
+    are_bytes(rt, &out, wanted.0, text);
+    is_trace(rt, trace_out.as_ref(), wanted.1, text);
+    are_bytes(rt, &faults, wanted.2, text);
+}
+
+/// Replays the text to its report alone, and compares the lines.
+fn reports(rt: &impl Abort, alloc: Global, text: &str, lines: &str) {
+    let mut out = Vec::new(alloc);
+    let mut nowhere: Option<Vec<u8>> = None;
+    let done = replay_bytes(alloc, text.as_bytes(), &mut out, &mut nowhere);
+    assert_eq!(rt; done, Ok(()), "{text}");
+    are_bytes(rt, &out, lines, text);
+}
+
+/// What was written to OUT for this text.
+fn is_trace(rt: &impl Abort, trace: Option<&Vec<u8>>, wanted: &str, text: &str) {
+    match trace {
+        Some(trace) => are_bytes(rt, trace, wanted, text),
+        None => assert!(rt; false, "no OUT"),
+    }
+}
+
+/// What was written for this text.
+fn are_bytes(rt: &impl Abort, written: &[u8], wanted: &str, text: &str) {
+    assert_eq!(rt; written, wanted.as_bytes(), "{text}");
+}
+
+/// The text of a trace in this form: the first event of the smallest, and these after it.
+fn text_in(alloc: Global, form: Form, events: &str) -> Result<String, Fail> {
+    let (version, bound) = form;
+    Ok(format!(in alloc; "{HEAD}{bound}]{events}{TAIL}{version}}}")?)
+}
+
+/// The text of the smallest trace in this form.
+fn smallest_in(alloc: Global, form: Form) -> Result<String, Fail> {
+    let events = format!(in alloc; "{TURN}{END}")?;
+    text_in(alloc, form, events.as_str())
+}
+
+// Both versions are replayed to one report and one text, and so is that text again.
+#[test]
+fn smallest_trace(rt: HostRuntime) -> Result<(), Fail> {
+    for form in FORMS {
+        let text = smallest_in(rt.alloc(), form)?;
+        let written = (REPORT, SMALLEST, "");
+        check(&rt, rt.alloc(), text.as_str(), Status::Done, written);
+        reports(&rt, rt.alloc(), text.as_str(), REPORT);
+    }
+    check(
+        &rt,
+        rt.alloc(),
+        SMALLEST,
+        Status::Done,
+        (REPORT, SMALLEST, ""),
+    );
+    Ok(())
+}
+
+/// The text is refused with this line, and nothing else is written.
+fn is_refused(rt: &impl Abort, alloc: Global, text: &str, line: &'static str) {
+    check(rt, alloc, text, Status::Refused, ("", "", line));
+}
+
+/// What follows the first event, and what is said of the trace: its turn the other way round, a
+/// ticket twice, its last event missing, and no end.
+const CHANGED: [(&str, &str); 4] = [
+    (
+        ",[2,\"t\",0,\"begin\",[\"next\"]],[3,\"p\",0,\"pass\",0],[4,\"p\",0,\"sig\",0],\
+         [5,\"t\",0,\"begin\",[\"end\"]],[6,\"p\",0,\"drop\",0],[7,\"f\",0,\"shut\"]",
+        "refused 25 NotExplained at 3\n",
+    ),
+    (
+        ",[2,\"t\",0,\"begin\",[\"next\"]],[3,\"p\",0,\"sig\",0],[3,\"p\",0,\"pass\",0],\
+         [5,\"t\",0,\"begin\",[\"end\"]],[6,\"p\",0,\"drop\",0],[7,\"f\",0,\"shut\"]",
+        "refused 25 NotExplained at 4\n",
+    ),
+    (
+        ",[2,\"t\",0,\"begin\",[\"next\"]],[3,\"p\",0,\"sig\",0],[4,\"p\",0,\"pass\",0],\
+         [5,\"t\",0,\"begin\",[\"end\"]],[6,\"p\",0,\"drop\",0]",
+        "refused 25 NotExplained at 7\n",
+    ),
+    (TURN, "refused 25 NotExplained at 5\n"),
+];
+
+/// Each changed trace is refused in this form.
+fn all_refused(rt: &impl Abort, alloc: Global, form: Form) -> Result<(), Fail> {
+    for (events, line) in CHANGED {
+        let text = text_in(alloc, form, events)?;
+        is_refused(rt, alloc, text.as_str(), line);
+    }
+    Ok(())
+}
+
+#[test]
+fn changed_traces(rt: HostRuntime) -> Result<(), Fail> {
+    for form in FORMS {
+        all_refused(&rt, rt.alloc(), form)?;
+    }
+    Ok(())
+}
+
+#[test]
+fn cut_inside_a_string(rt: HostRuntime) -> Result<(), Fail> {
+    for (_, bound) in FORMS {
+        let text = format!(in rt.alloc(); "{HEAD}{bound}],[2,\"t\",0,\"begi")?;
+        is_refused(&rt, rt.alloc(), text.as_str(), "refused 24 BadText at 0\n");
+    }
+    Ok(())
+}
+
+// A version that there is not is at fault before the first event, the other version's form there.
+#[test]
+fn versions_and_forms(rt: HostRuntime) -> Result<(), Fail> {
+    const ROWS: [(Form, &str); 4] = [
+        ((3, ",null"), "refused 24 BadText at 0\n"),
+        ((0, ""), "refused 24 BadText at 0\n"),
+        ((1, ",null"), "refused 24 BadText at 1\n"),
+        ((2, ""), "refused 24 BadText at 1\n"),
+    ];
+    for (form, line) in ROWS {
+        let text = smallest_in(rt.alloc(), form)?;
+        is_refused(&rt, rt.alloc(), text.as_str(), line);
+    }
+    Ok(())
+}
+
+/// With room for 20 bytes, the report of this text can't be written.
+fn has_no_room(rt: &impl Abort, alloc: Global, text: &str) {
+    let mut full = [0u8; 20];
+    let mut out = &mut full[..];
+    let mut faults = Vec::new(alloc);
+    let mut trace_out = Some(Vec::new(alloc));
+    let ended = ending_on(
+        alloc,
+        text.as_bytes(),
+        &mut out,
+        &mut faults,
+        &mut trace_out,
+    );
+    assert_eq!(rt; ended.status, Status::Fault);
+    assert!(rt; ended.reported);
+    is_trace(rt, trace_out.as_ref(), SMALLEST, text);
+    are_bytes(rt, &faults, "fault write\n", text);
+}
+
+// The report that can't be written is a fault. The trace was written before it.
+#[test]
+fn report_fails(rt: HostRuntime) -> Result<(), Fail> {
+    let text = smallest_in(rt.alloc(), (1, ""))?;
+    has_no_room(&rt, rt.alloc(), text.as_str());
+    Ok(())
+}
+
+/// With room for 20 bytes in OUT, nothing is reported of this text.
+fn has_no_room_in_out(rt: &impl Abort, alloc: Global, text: &str) {
+    let mut full = [0u8; 20];
+    let mut trace_out = Some(&mut full[..]);
+    let mut out = Vec::new(alloc);
+    let mut faults = Vec::new(alloc);
+    let ended = ending_on(
+        alloc,
+        text.as_bytes(),
+        &mut out,
+        &mut faults,
+        &mut trace_out,
+    );
+    assert_eq!(rt; ended.status, Status::Fault);
+    are_bytes(rt, &out, "", text);
+    are_bytes(rt, &faults, "fault write\n", text);
+}
+
+// A trace that can't be written is a fault, and then there is no report.
+#[test]
+fn trace_fails(rt: HostRuntime) -> Result<(), Fail> {
+    let text = smallest_in(rt.alloc(), (1, ""))?;
+    has_no_room_in_out(&rt, rt.alloc(), text.as_str());
+    Ok(())
+}
+
+#[test]
+fn text_that_is_none(rt: HostRuntime) {
+    let mut out = Vec::new(rt.alloc());
+    let mut trace_out = Some(Vec::new(rt.alloc()));
+    let refused = Err(Failure::Refused(Refusal::BadText(0)));
+    let answer = replay_bytes(rt.alloc(), b"7", &mut out, &mut trace_out);
+    assert_eq!(rt; answer, refused);
+    is_trace(&rt, trace_out.as_ref(), "", "7");
+}
+
+/// A ticket and its event.
+type Entry = (u64, TracedEvent);
+
+/// Adds these events at the end of the trace.
+fn fill(trace: &mut Trace, entries: &[Entry]) -> Result<(), Fail> {
+    for entry in entries {
+        let (ticket, event) = *entry;
+        trace.push(ticket, event).map_err(|_| Fail::from("memory"))?;
+    }
+    Ok(())
+}
+
+/// The trace of these events, with the limits of a file that names none.
+fn trace_of(alloc: Global, entries: &[Entry]) -> Result<Trace, Fail> {
+    let mut trace = Trace::new(alloc, Limits::default());
+    fill(&mut trace, entries)?;
+    Ok(trace)
+}
+
+/// Whether both have the same events, with the same tickets.
+fn have_same_events(one: &Trace, other: &Trace) -> bool {
+    if one.len() != other.len() {
+        return false;
+    }
+    for place in 0..one.len() {
+        if one.entry(place) != other.entry(place) {
+            return false;
+        }
+    }
+    true
+}
+
+/// The trace has the events of the other, and the limits of a file that names none.
+fn are_alike(rt: &impl Abort, trace: &Trace, other: &Trace) {
+    assert_eq!(rt; trace.limits(), Limits::default());
+    assert!(rt; have_same_events(trace, other));
+}

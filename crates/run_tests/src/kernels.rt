@@ -1,0 +1,154 @@
+//! What is printed of small runs, and of runs that were refused.
+mod going;
+mod on_workers;
+mod on_world;
+
+use job_ends::Status;
+use kernels_job::{Kernel, ending_on};
+use phase_model::Look;
+use phase_modes::Refusal;
+use std::alloc::Global;
+use std::process::Abort;
+use std::test::Fail;
+use world_model::{FoldLine, PhaserLines, TaskLine, TotalsLine, WorldReport};
+
+const ONE_CELL: TotalsLine = TotalsLine {
+    registered: 2,
+    signals: 1,
+    passes: 1,
+    drops: 2,
+    sends: 2,
+    up: 6,
+    down: 0,
+};
+
+const NO_ITEM: TotalsLine = TotalsLine {
+    registered: 6,
+    signals: 0,
+    passes: 1,
+    drops: 6,
+    sends: 0,
+    up: 0,
+    down: 0,
+};
+
+/// A report of phaser 0 with these values phase by phase, and of as many tasks as there are
+/// refusals here.
+fn report_of(
+    alloc: Global,
+    values: &[i64],
+    refused: &[Option<u8>],
+    totals: TotalsLine,
+) -> Result<WorldReport, Refusal> {
+    let mut folds = Vec::new(alloc);
+    for (phase, value) in (0..).zip(values) {
+        folds.push(FoldLine {
+            phase,
+            acc: 0,
+            value: Look::Value(*value),
+        })?;
+    }
+    let mut phasers = Vec::new(alloc);
+    phasers.push(PhaserLines {
+        phaser: 0,
+        phases: 2,
+        folds,
+    })?;
+    let mut tasks = Vec::new(alloc);
+    for (task, refused) in (0..).zip(refused) {
+        tasks.push(TaskLine {
+            task,
+            refused: *refused,
+        })?;
+    }
+    Ok(WorldReport {
+        phasers,
+        tasks,
+        finishes: Vec::new(alloc),
+        totals,
+    })
+}
+
+/// How the command ends, what it prints, and what it reports.
+fn ends(
+    rt: &impl Abort,
+    alloc: Global,
+    kernel: Kernel,
+    ran: Result<WorldReport, Refusal>,
+    status: Status,
+    lines: &str,
+    line: &str,
+) {
+    let mut out = Vec::new(alloc);
+    let mut faults = Vec::new(alloc);
+    let ending = ending_on(alloc, kernel, ran, &mut out, &mut faults);
+    assert!(rt; ending.status == status);
+    assert!(rt; out.as_slice() == lines.as_bytes());
+    assert!(rt; faults.as_slice() == line.as_bytes());
+}
+
+#[test]
+fn results_are_printed(rt: HostRuntime) {
+    ends(
+        &rt,
+        rt.alloc(),
+        Kernel::Stencil(1),
+        report_of(rt.alloc(), &[4, 2], &[None, None], ONE_CELL),
+        Status::Done,
+        "cells 2\ntotals registered 2 signals 1 passes 1 drops 2 sends 2 up 6 down 0\n",
+        "",
+    );
+    ends(
+        &rt,
+        rt.alloc(),
+        Kernel::Pipeline(0),
+        report_of(rt.alloc(), &[1, 2], &[None, None, None], ONE_CELL),
+        Status::Done,
+        "items 1 2\ntotals registered 2 signals 1 passes 1 drops 2 sends 2 up 6 down 0\n",
+        "",
+    );
+    ends(
+        &rt,
+        rt.alloc(),
+        Kernel::Pipeline(1),
+        report_of(rt.alloc(), &[], &[None, None, None, None], NO_ITEM),
+        Status::Done,
+        "items\ntotals registered 6 signals 0 passes 1 drops 6 sends 0 up 0 down 0\n",
+        "",
+    );
+}
+
+#[test]
+fn refusals_are_told(rt: HostRuntime) {
+    ends(
+        &rt,
+        rt.alloc(),
+        Kernel::Stencil(1),
+        report_of(rt.alloc(), &[4], &[None, Some(23), Some(15)], ONE_CELL),
+        Status::Refused,
+        "",
+        "refused 23 Memory\n",
+    );
+    ends(
+        &rt,
+        rt.alloc(),
+        Kernel::Stencil(1),
+        Err(Refusal::SharesDiffer),
+        Status::Refused,
+        "",
+        "refused 26 SharesDiffer\n",
+    );
+}
+
+// A writer that is full is a fault.
+#[test]
+fn results_that_cannot_be_written(rt: HostRuntime) -> Result<(), Fail> {
+    let mut full = [0u8; 3];
+    let mut out = &mut full[..];
+    let mut faults = Vec::new(rt.alloc());
+    let ran = report_of(rt.alloc(), &[4, 2], &[None, None], ONE_CELL);
+    let ending = ending_on(rt.alloc(), Kernel::Stencil(1), ran, &mut out, &mut faults);
+    assert!(rt; ending.status == Status::Fault);
+    assert!(rt; faults.as_slice() == b"fault write\n".as_slice());
+    Ok(())
+}

@@ -1,0 +1,157 @@
+//! The worked examples by 1, 2 and 16 workers, as their commands print them.
+ghost use Rattle.std.specs.Prelude.{◌≤◌, ◌<◌, length};
+
+use super::ends;
+use job_ends::Status;
+use job_kernels::{PipelineBody, StencilBody, cells_of, items_of, pipeline_plain, stencil_plain};
+use kernels_job::Kernel;
+use phase_modes::{Limits, Refusal};
+use phased_rt::{Body, OpenGate, run};
+use std::alloc::Global;
+use std::process::Abort;
+use std::sync::Wait;
+use std::test::Fail;
+use std::thread::Threads;
+use world_model::WorldReport;
+
+/// The report of the world in which the workers ran this task.
+fn world_of<B: Body + Send, R: Threads + Wait + Sync>(
+    rt: &R,
+    alloc: Global,
+    root: B,
+    workers: u32,
+) -> Result<WorldReport, Refusal>
+    requires some { 0 < workers }
+    requires few { workers ≤ 16 }
+{
+    Ok(run(rt, alloc, root, Limits::default(), workers, &OpenGate)?.world)
+}
+
+/// Whether both lists hold the same numbers.
+fn are_same(plain: &[u32], seen: &[i64]) -> bool {
+    plain.iter().map(|x| i64::from(*x)).eq(seen.iter().copied())
+}
+
+/// The stencil by so many workers comes to these lines, and to what one thread comes to.
+fn stencil_prints<R: Threads + Wait + Sync + Abort>(
+    rt: &R,
+    alloc: Global,
+    first: &[u32],
+    steps: u32,
+    lines: &str,
+) -> Result<(), Fail>
+    requires { length first.now ≤ 16 }
+{
+    let plain = stencil_plain(alloc, first, steps)?;
+    for workers in [1, 2, 16] {
+        let world = world_of(rt, alloc, StencilBody::root(first, steps), workers)?;
+        let cells = cells_of(alloc, &world, steps)?;
+        assert!(rt; are_same(&plain, &cells), "{workers} workers");
+        ends(
+            rt,
+            alloc,
+            Kernel::Stencil(steps),
+            Ok(world),
+            Status::Done,
+            lines,
+            "",
+        );
+    }
+    Ok(())
+}
+
+/// The pipeline by so many workers comes to these lines, and to what one thread comes to.
+fn pipeline_prints<R: Threads + Wait + Sync + Abort>(
+    rt: &R,
+    alloc: Global,
+    stages: u32,
+    items: u32,
+    lines: &str,
+) -> Result<(), Fail>
+    requires stages { stages ≤ 15 }
+    requires items { items ≤ 100 }
+{
+    let plain = pipeline_plain(alloc, stages, items)?;
+    for workers in [1, 2, 16] {
+        let world = world_of(rt, alloc, PipelineBody::root(stages, items), workers)?;
+        let seen = items_of(alloc, &world, stages)?;
+        assert!(rt; are_same(&plain, &seen), "{workers} workers");
+        ends(
+            rt,
+            alloc,
+            Kernel::Pipeline(stages),
+            Ok(world),
+            Status::Done,
+            lines,
+            "",
+        );
+    }
+    Ok(())
+}
+
+#[test]
+fn stencil_eight_cells(rt: HostRuntime) -> Result<(), Fail> {
+    stencil_prints(
+        &rt,
+        rt.alloc(),
+        &[0, 0, 0, 256, 0, 0, 0, 0],
+        5,
+        "cells 11 30 52 63 52 30 11 2\n\
+         totals registered 30 signals 40 passes 110 drops 30 sends 48 up 1530 down 0\n",
+    )
+}
+
+#[test]
+fn stencil_one_cell(rt: HostRuntime) -> Result<(), Fail> {
+    stencil_prints(
+        &rt,
+        rt.alloc(),
+        &[4],
+        1,
+        "cells 2\ntotals registered 2 signals 1 passes 1 drops 2 sends 2 up 6 down 0\n",
+    )?;
+    stencil_prints(
+        &rt,
+        rt.alloc(),
+        &[4],
+        0,
+        "cells 4\ntotals registered 2 signals 0 passes 0 drops 2 sends 1 up 4 down 0\n",
+    )
+}
+
+#[test]
+fn pipeline_two_stages(rt: HostRuntime) -> Result<(), Fail> {
+    pipeline_prints(
+        &rt,
+        rt.alloc(),
+        2,
+        3,
+        "items 4 5 6\ntotals registered 9 signals 10 passes 22 drops 9 sends 9 up 30 down 0\n",
+    )
+}
+
+#[test]
+fn pipeline_no_items(rt: HostRuntime) -> Result<(), Fail> {
+    pipeline_prints(
+        &rt,
+        rt.alloc(),
+        1,
+        0,
+        "items\ntotals registered 6 signals 0 passes 1 drops 6 sends 0 up 0 down 0\n",
+    )
+}
+
+// The largest of both, 16 cells in 100 steps, and 15 stages for 100 items.
+#[test]
+fn largest(rt: HostRuntime) -> Result<(), Fail> {
+    let first = [1_000_000; 16];
+    let plain = stencil_plain(rt.alloc(), &first, 100)?;
+    let world = world_of(&rt, rt.alloc(), StencilBody::root(&first, 100), 16)?;
+    let cells = cells_of(rt.alloc(), &world, 100)?;
+    assert!(rt; are_same(&plain, &cells));
+    let plain = pipeline_plain(rt.alloc(), 15, 100)?;
+    let world = world_of(&rt, rt.alloc(), PipelineBody::root(15, 100), 16)?;
+    let items = items_of(rt.alloc(), &world, 15)?;
+    assert!(rt; are_same(&plain, &items));
+    Ok(())
+}

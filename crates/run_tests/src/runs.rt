@@ -1,0 +1,262 @@
+//! Worked examples of runs by 1, 2 and 16 workers, with the lines that they print whatever the
+//! order, and runs that print none.
+ghost use Rattle.std.specs.Prelude.{◌<◌, ◌≤◌};
+
+use job_ends::{Failure, Status};
+use phase_modes::Refusal;
+use run_job::{ending_on, run_bytes, run_on};
+use std::alloc::Global;
+use std::process::Abort;
+use std::sync::Wait;
+use std::thread::Threads;
+
+mod gates;
+mod queues;
+mod singles;
+
+fn is_written(rt: &impl Abort, bytes: &[u8], text: &str) {
+    assert_eq!(rt; bytes, text.as_bytes());
+}
+
+/// Runs the text by as many workers, and compares how that ends, the lines, and what is reported.
+fn check_by<R: Abort + Threads + Wait + Sync>(
+    rt: &R,
+    alloc: Global,
+    text: &str,
+    workers: u32,
+    status: Status,
+    lines: &str,
+    faults: &str,
+)
+    requires { (0 < workers) × (workers ≤ 16) }
+{
+    let mut out = Vec::new(alloc);
+    let mut reported = Vec::new(alloc);
+    let mut nowhere: Option<Vec<u8>> = None;
+    let ended = run_on(
+        rt,
+        alloc,
+        text.as_bytes(),
+        workers,
+        &mut out,
+        &mut reported,
+        &mut nowhere,
+    );
+    assert_eq!(rt; ended, status, "{text}");
+    is_written(rt, &out, lines);
+    is_written(rt, &reported, faults);
+}
+
+/// By 1, 2 and 16 workers the text's run is reported by these lines.
+fn reports<R: Abort + Threads + Wait + Sync>(rt: &R, alloc: Global, text: &str, lines: &str) {
+    check_by(rt, alloc, text, 1, Status::Done, lines, "");
+    check_by(rt, alloc, text, 2, Status::Done, lines, "");
+    check_by(rt, alloc, text, 16, Status::Done, lines, "");
+}
+
+/// Programs, each with the lines of its report.
+const PROGRAMS: [(&str, &str); 20] = [
+    (
+        r#"{"main":[]}"#,
+        "task 0 ended\nfinish 0 tasks 0\n\
+         totals registered 0 signals 0 passes 0 drops 0 sends 0 up 0 down 0\n",
+    ),
+    (
+        r#"{"main":[["new","p","SIG_WAIT",[]],["open"],["async",[["p","SIG"]],[["next"]]],
+            ["shut"]]}"#,
+        "phaser 0 phases 0\ntask 0 refused 12 OutsideScope\nfinish 0 tasks 0\nfinish 1 tasks 0\n\
+         totals registered 1 signals 0 passes 0 drops 1 sends 0 up 0 down 0\n",
+    ),
+    (
+        r#"{"main":[["new","p","SIG_WAIT",["sum"]],
+            ["async",[["p","SIG_WAIT"]],
+                [["send","p",0,1],["next"],["send","p",0,10],["next"]]],
+            ["async",[["p","SIG_WAIT"]],
+                [["send","p",0,2],["next"],["send","p",0,20],["next"]]]]}"#,
+        "phaser 0 phases 2\nphaser 0 phase 0 acc 0 value 3\nphaser 0 phase 1 acc 0 value 30\n\
+         task 0 ended\ntask 1 ended\ntask 2 ended\nfinish 0 tasks 2\n\
+         totals registered 3 signals 4 passes 4 drops 3 sends 4 up 33 down 0\n",
+    ),
+    (
+        r#"{"main":[["open"],["async",[],[["async",[],[["next"]]]]],["shut"]]}"#,
+        "task 0 ended\ntask 1 ended\ntask 2 ended\nfinish 0 tasks 0\nfinish 1 tasks 2\n\
+         totals registered 0 signals 0 passes 0 drops 0 sends 0 up 0 down 0\n",
+    ),
+    (
+        r#"{"main":[["open"],["new","p","SIG_WAIT",[]],["async",[["p","WAIT"]],[["next"]]],
+            ["shut"]]}"#,
+        "phaser 0 phases 1\ntask 0 ended\ntask 1 ended\nfinish 0 tasks 0\nfinish 1 tasks 1\n\
+         totals registered 2 signals 0 passes 1 drops 2 sends 0 up 0 down 0\n",
+    ),
+    (
+        r#"{"main":[["new","p","SIG_WAIT",[]],["new","q","SIG_WAIT",[]],
+            ["async",[["p","SIG"],["q","WAIT"]],[["repeat",3,[["next"]]]]],
+            ["async",[["q","SIG"],["p","WAIT"]],[["repeat",3,[["next"]]]]]]}"#,
+        "phaser 0 phases 3\nphaser 1 phases 3\ntask 0 ended\ntask 1 ended\ntask 2 ended\n\
+         finish 0 tasks 2\n\
+         totals registered 6 signals 6 passes 12 drops 6 sends 0 up 0 down 0\n",
+    ),
+    (
+        r#"{"main":[["new","p","SIG_WAIT",[]],["new","q","SIG_WAIT",[]],
+            ["async",[["p","SIG"],["q","WAIT"]],[["wait"],["repeat",3,[["next"]]]]],
+            ["async",[["q","SIG"],["p","WAIT"]],[["repeat",3,[["next"]]]]]]}"#,
+        "phaser 0 phases 3\nphaser 1 phases 3\ntask 0 ended\ntask 1 refused 6 NotSignalled\n\
+         task 2 ended\nfinish 0 tasks 2\n\
+         totals registered 6 signals 3 passes 6 drops 6 sends 0 up 0 down 0\n",
+    ),
+    (
+        r#"{"main":[["new","p","SIG_WAIT",["sum"],1],
+            ["async",[["p","SIG"]],[["repeat",3,[["send","p",0,1],["next"]]]]],
+            ["async",[["p","WAIT"]],[["repeat",3,[["next"],["look","p",0]]]]]]}"#,
+        "phaser 0 phases 3\nphaser 0 phase 0 acc 0 value 1\nphaser 0 phase 1 acc 0 value 1\n\
+         phaser 0 phase 2 acc 0 value 1\ntask 0 ended\ntask 1 ended\ntask 2 ended\n\
+         finish 0 tasks 2\n\
+         totals registered 3 signals 3 passes 6 drops 3 sends 3 up 3 down 0\n",
+    ),
+    (
+        r#"{"limits":{"acts":2},"main":[["next"],["next"],["next"]]}"#,
+        "task 0 refused 19 ActsFull\nfinish 0 tasks 0\n\
+         totals registered 0 signals 0 passes 0 drops 0 sends 0 up 0 down 0\n",
+    ),
+    (
+        r#"{"limits":{"tasks":1},"main":[["async",[],[]]]}"#,
+        "task 0 refused 17 TasksFull\nfinish 0 tasks 0\n\
+         totals registered 0 signals 0 passes 0 drops 0 sends 0 up 0 down 0\n",
+    ),
+    (
+        r#"{"limits":{"finishes":1},"main":[["open"]]}"#,
+        "task 0 refused 18 FinishesFull\nfinish 0 tasks 0\n\
+         totals registered 0 signals 0 passes 0 drops 0 sends 0 up 0 down 0\n",
+    ),
+    (
+        r#"{"limits":{"phasers":1},"main":[["new","p","SIG",[]],["new","q","SIG",[]]]}"#,
+        "phaser 0 phases 0\ntask 0 refused 16 PhasersFull\nfinish 0 tasks 0\n\
+         totals registered 1 signals 0 passes 0 drops 1 sends 0 up 0 down 0\n",
+    ),
+    (
+        r#"{"main":[["open"]]}"#,
+        "task 0 refused 20 FinishOpen\nfinish 0 tasks 0\nfinish 1 tasks 0\n\
+         totals registered 0 signals 0 passes 0 drops 0 sends 0 up 0 down 0\n",
+    ),
+    (
+        r#"{"main":[["shut"]]}"#,
+        "task 0 refused 21 NoFinish\nfinish 0 tasks 0\n\
+         totals registered 0 signals 0 passes 0 drops 0 sends 0 up 0 down 0\n",
+    ),
+    (
+        r#"{"main":[["single",1]]}"#,
+        "task 0 refused 8 OnePhaserOnly\nfinish 0 tasks 0\n\
+         totals registered 0 signals 0 passes 0 drops 0 sends 0 up 0 down 0\n",
+    ),
+    (
+        r#"{"main":[["send","p",0,1]]}"#,
+        "task 0 refused 1 NotRegistered\nfinish 0 tasks 0\n\
+         totals registered 0 signals 0 passes 0 drops 0 sends 0 up 0 down 0\n",
+    ),
+    (
+        r#"{"main":[["new","p","SINGLE",[]],["async_all",[["single",7]]],["single",7]]}"#,
+        "phaser 0 phases 1\ntask 0 ended\ntask 1 ended\nfinish 0 tasks 1\n\
+         totals registered 2 signals 2 passes 2 drops 2 sends 0 up 0 down 0\n",
+    ),
+    (
+        r#"{"limits":{"regs":2},"main":[["new","p","SIG_WAIT",[]],["new","q","SIG_WAIT",[]],
+            ["async",[["q","WAIT"]],[["next"]]],["async",[["p","SIG"],["q","SIG"]],[]]]}"#,
+        "phaser 0 phases 0\nphaser 1 phases 1\ntask 0 refused 14 RegsFull\ntask 1 ended\n\
+         finish 0 tasks 1\n\
+         totals registered 4 signals 0 passes 1 drops 4 sends 0 up 0 down 0\n",
+    ),
+    (
+        r#"{"limits":{"history":5},"main":[["new","p","SIG_WAIT",[]],
+            ["new","q","SIG_WAIT",["sum"]],["send","q",0,7],["next"],["next"]]}"#,
+        "phaser 0 phases 2\nphaser 1 phases 1\nphaser 1 phase 0 acc 0 value 7\n\
+         task 0 refused 15 HistoryFull\nfinish 0 tasks 0\n\
+         totals registered 2 signals 3 passes 2 drops 2 sends 1 up 7 down 0\n",
+    ),
+    (SMALLEST, SMALLEST_REPORT),
+];
+
+#[test]
+fn worked_programs(rt: HostRuntime) {
+    for (text, lines) in PROGRAMS {
+        reports(&rt, rt.alloc(), text, lines);
+    }
+}
+
+const SMALLEST: &str = r#"{"main":[["new","p","SIG_WAIT",[]],["next"]]}"#;
+
+const SMALLEST_REPORT: &str = "phaser 0 phases 1\ntask 0 ended\nfinish 0 tasks 0\n\
+    totals registered 1 signals 1 passes 1 drops 1 sends 0 up 0 down 0\n";
+
+const SMALLEST_TRACE: &str = "{\"events\":[[1,\"p\",0,\"make\",0,\"SIG_WAIT\",[],null],\
+    [2,\"t\",0,\"begin\",[\"next\"]],[3,\"p\",0,\"sig\",0],[4,\"p\",0,\"pass\",0],\
+    [5,\"t\",0,\"begin\",[\"end\"]],[6,\"p\",0,\"drop\",0],[7,\"f\",0,\"shut\"]],\
+    \"limits\":{\"acts\":4096,\"finishes\":64,\"history\":4096,\"phasers\":64,\"regs\":256,\
+    \"tasks\":256},\"version\":2}\n";
+
+fn is_trace(rt: &impl Abort, trace: Option<&Vec<u8>>, text: &str) {
+    match trace {
+        Some(trace) => is_written(rt, trace, text),
+        None => assert!(rt; false, "no trace"),
+    }
+}
+
+// One task makes its events in one order, and draws each ticket for one of them.
+#[test]
+fn smallest_trace(rt: HostRuntime) {
+    let mut out = Vec::new(rt.alloc());
+    let mut trace_out = Some(Vec::new(rt.alloc()));
+    let done = run_bytes(
+        &rt,
+        rt.alloc(),
+        SMALLEST.as_bytes(),
+        2,
+        &mut out,
+        &mut trace_out,
+    );
+    assert_eq!(rt; done, Ok(()));
+    is_written(&rt, &out, SMALLEST_REPORT);
+    is_trace(&rt, trace_out.as_ref(), SMALLEST_TRACE);
+}
+
+// A trace that can't be written is a fault, and then there is no report.
+#[test]
+fn trace_fails(rt: HostRuntime) {
+    let mut out = Vec::new(rt.alloc());
+    let mut faults = Vec::new(rt.alloc());
+    let mut full = [0u8; 20];
+    let mut trace_out = Some(&mut full[..]);
+    let ended = ending_on(
+        &rt,
+        rt.alloc(),
+        SMALLEST.as_bytes(),
+        2,
+        &mut out,
+        &mut faults,
+        &mut trace_out,
+    );
+    assert_eq!(rt; ended.status, Status::Fault);
+    assert_eq!(rt; out.len(), 0);
+    assert_eq!(rt; faults.as_slice(), b"fault write\n".as_slice());
+}
+
+#[test]
+fn bad_text(rt: HostRuntime) {
+    check_by(
+        &rt,
+        rt.alloc(),
+        r#"{"main":[["next"],["jump"]]}"#,
+        2,
+        Status::Refused,
+        "",
+        "refused 24 BadText at 2\n",
+    );
+}
+
+#[test]
+fn a_text_that_is_refused_has_no_trace(rt: HostRuntime) {
+    let mut out = Vec::new(rt.alloc());
+    let mut trace_out = Some(Vec::new(rt.alloc()));
+    let answer = run_bytes(&rt, rt.alloc(), b"7", 1, &mut out, &mut trace_out);
+    assert_eq!(rt; answer, Err(Failure::Refused(Refusal::BadText(0))));
+    is_trace(&rt, trace_out.as_ref(), "");
+}

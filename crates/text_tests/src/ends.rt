@@ -1,0 +1,137 @@
+//! Readers that fail, and the line of a failure.
+use job_ends::{Failure, ReadAll, Reads, Status, bytes_of, put_text, read_all, write_text};
+use phase_modes::Refusal;
+use std::io;
+use std::io::{Error, ErrorKind, Read, Write};
+use std::test::Fail;
+
+const INPUT: &[u8] = b"{\"calls\":[]}";
+
+/// A reader that gives a byte of the text a call. The call of one number fails, and those after it
+/// would go on.
+#[derive(Drop)]
+struct FailsOnce<'a> {
+    text: &'a [u8],
+    fails_at: usize,
+    calls: usize,
+}
+
+impl Read for FailsOnce<'_> {
+    fn read(&mut self, buf: &mut [u8]) -> io::Result<usize> {
+        self.calls = self.calls.saturating_add(1);
+        if self.calls == self.fails_at {
+            return Err(Error::from(ErrorKind::Interrupted));
+        }
+        match (self.text, buf.first_mut()) {
+            ([byte, rest @ ..], Some(first)) => {
+                *first = *byte;
+                self.text = rest;
+                Ok(1)
+            }
+            _ => Ok(0),
+        }
+    }
+}
+
+/// A writer that takes all that it is given, and counts its calls.
+#[derive(Drop)]
+struct CountsWrites {
+    taken: usize,
+    calls: usize,
+}
+
+impl Write for CountsWrites {
+    fn write(&mut self, buf: &[u8]) -> io::Result<usize> {
+        self.calls = self.calls.saturating_add(1);
+        self.taken = self.taken.saturating_add(buf.len());
+        Ok(buf.len())
+    }
+
+    fn flush(&mut self) -> io::Result<()> {
+        Ok(())
+    }
+}
+
+// After a read that failed there is no other, though the reader would go on.
+#[test]
+fn no_read_after_a_fault(rt: HostRuntime) {
+    for fails_at in 1..=INPUT.len() + 1 {
+        let mut reader = FailsOnce {
+            text: INPUT,
+            fails_at,
+            calls: 0,
+        };
+        let mut reads = Reads::none();
+        let bytes = read_all(rt.alloc(), &mut reader, &mut reads, INPUT.len());
+        assert!(rt; matches!(bytes, ReadAll::Fault), "{fails_at}");
+        assert_eq!(rt; reader.calls, fails_at);
+        assert_eq!(rt; reads.made as usize, fails_at);
+        assert!(rt; reads.failed, "{fails_at}");
+    }
+}
+
+// Exactly the greatest number of bytes is read; one more is refused.
+#[test]
+fn bytes_within(rt: HostRuntime) -> Result<(), Fail> {
+    let mut reads = Reads::none();
+    let bytes = bytes_of(rt.alloc(), &mut &INPUT[..], &mut reads, INPUT.len());
+    let bytes = bytes.ok().ok_or("bytes")?;
+    assert_eq!(rt; bytes.as_slice(), INPUT);
+    let mut reads = Reads::none();
+    let bytes = bytes_of(rt.alloc(), &mut &INPUT[..], &mut reads, INPUT.len() - 1);
+    let refused = Failure::Refused(Refusal::BadText(0));
+    assert!(rt; matches!(&bytes, Err(failure) if *failure == refused));
+    Ok(())
+}
+
+// The line of a failure is one write.
+#[test]
+fn one_write_a_line(rt: HostRuntime) {
+    let lines: [(Failure, &str); 4] = [
+        (Failure::Read, "fault read\n"),
+        (Failure::Write, "fault write\n"),
+        (Failure::Refused(Refusal::Memory), "refused 23 Memory\n"),
+        (
+            Failure::Refused(Refusal::BadText(12_345)),
+            "refused 24 BadText at 12345\n",
+        ),
+    ];
+    for (failure, line) in lines {
+        let mut faults = CountsWrites { taken: 0, calls: 0 };
+        let ended = failure.end(rt.alloc(), &mut faults);
+        assert!(rt; ended.reported, "{line}");
+        assert_eq!(rt; faults.calls, 1, "{line}");
+        assert_eq!(rt; faults.taken, line.len());
+        let mut text = Vec::new(rt.alloc());
+        let ended = failure.end(rt.alloc(), &mut text);
+        assert!(rt; ended.reported, "{line}");
+        assert_eq!(rt; text.as_slice(), line.as_bytes());
+    }
+}
+
+// A writer that takes nothing is a fault.
+#[test]
+fn whole_text(rt: HostRuntime) {
+    let mut text = Vec::new(rt.alloc());
+    assert_eq!(rt; put_text(&mut text, "two\nlines\n"), Ok(()));
+    assert_eq!(rt; text.as_slice(), b"two\nlines\n".as_slice());
+    let mut full = [0u8; 3];
+    let mut out = &mut full[..];
+    assert_eq!(rt; put_text(&mut out, "four"), Err(Failure::Write));
+}
+
+#[test]
+fn texts_and_statuses(rt: HostRuntime) {
+    let mut text = Vec::new(rt.alloc());
+    assert!(rt; write_text(&mut text, "a line\n"));
+    assert_eq!(rt; text.as_slice(), b"a line\n".as_slice());
+    let codes = [
+        (Status::Done, 0),
+        (Status::Refused, 1),
+        (Status::Usage, 2),
+        (Status::Fault, 3),
+    ];
+    for (status, code) in codes {
+        assert_eq!(rt; status.code(), code);
+    }
+}

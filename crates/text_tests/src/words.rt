@@ -1,0 +1,346 @@
+//! Words that name a job, and words that name none.
+mod bad_words;
+
+use command_words::{Job, NoJob, Value, job_of};
+use std::alloc::Global;
+use std::process::Abort;
+use std::test::Fail;
+
+/// The words name the events job of this file.
+fn answers<'a>(rt: &impl Abort, alloc: Global, arguments: &'a [&'a str], file: &str) {
+    let job = job_of(alloc, arguments);
+    assert!(rt;
+        matches!(&job, Ok(Job::Events { file: named }) if *named == file),
+        "{arguments:?}"
+    );
+}
+
+/// The words name the replay of this file, with this OUT.
+fn replays<'a>(
+    rt: &impl Abort,
+    alloc: Global,
+    arguments: &'a [&'a str],
+    wanted: &str,
+    out: Option<&str>,
+) {
+    match job_of(alloc, arguments) {
+        Ok(Job::Replay { file, upgrade }) => {
+            assert_eq!(rt; file, wanted);
+            assert_eq!(rt; upgrade, out);
+        }
+        _ => panic!(rt; "no replay: {arguments:?}"),
+    }
+}
+
+/// Words, and the file that they name.
+type Row = (&'static [&'static str], &'static str);
+
+#[test]
+fn events_words(rt: HostRuntime) {
+    const ROWS: [Row; 6] = [
+        (&["phaser_run", "events", "-"], "-"),
+        (&["phaser_run", "events", "x.json"], "x.json"),
+        (&["phaser_run", "events", "--", "--help"], "--help"),
+        (&["phaser_run", "events", "events"], "events"),
+        (&["phaser_run", "events", "help"], "help"),
+        (&["", "events", ""], ""),
+    ];
+    for (arguments, file) in ROWS {
+        answers(&rt, rt.alloc(), arguments, file);
+    }
+}
+
+/// Words of `replay`, with the file and OUT that they name.
+type Replayed = (&'static [&'static str], &'static str, Option<&'static str>);
+
+#[test]
+fn replay_words(rt: HostRuntime) {
+    const ROWS: [Replayed; 5] = [
+        (&["phaser_run", "replay", "-"], "-", None),
+        (&["phaser_run", "replay", "x.trace"], "x.trace", None),
+        (
+            &["phaser_run", "replay", "x", "--upgrade", "y"],
+            "x",
+            Some("y"),
+        ),
+        (
+            &["phaser_run", "replay", "--upgrade=x", "x"],
+            "x",
+            Some("x"),
+        ),
+        (
+            &["phaser_run", "replay", "--upgrade", "-", "--", "--upgrade"],
+            "--upgrade",
+            Some("-"),
+        ),
+    ];
+    for (arguments, file, out) in ROWS {
+        replays(&rt, rt.alloc(), arguments, file, out);
+    }
+}
+
+/// Words of `schedule p`, with the picks and OUT that they name.
+type Scheduled = (
+    &'static [&'static str],
+    &'static [u32],
+    Option<&'static str>,
+);
+
+/// The words name the schedule of `p` with these picks and OUT.
+fn schedules<'a>(
+    rt: &impl Abort,
+    alloc: Global,
+    arguments: &'a [&'a str],
+    wanted: &[u32],
+    out: Option<&str>,
+) {
+    match job_of(alloc, arguments) {
+        Ok(Job::Schedule { file, picks, trace }) => {
+            assert_eq!(rt; file, "p");
+            assert_eq!(rt; picks.as_slice(), wanted);
+            assert_eq!(rt; trace, out);
+        }
+        _ => panic!(rt; "no schedule: {arguments:?}"),
+    }
+}
+
+#[test]
+fn schedule_words(rt: HostRuntime) {
+    const ROWS: [Scheduled; 4] = [
+        (&["phaser_run", "schedule", "p"], &[], None),
+        (
+            &["phaser_run", "schedule", "p", "--picks", "9,0,0,1,0"],
+            &[9, 0, 0, 1, 0],
+            None,
+        ),
+        (
+            &["phaser_run", "schedule", "--picks=007,4294967295", "p"],
+            &[7, 4_294_967_295],
+            None,
+        ),
+        (
+            &[
+                "phaser_run",
+                "schedule",
+                "--trace",
+                "t",
+                "p",
+                "--picks",
+                "0",
+            ],
+            &[0],
+            Some("t"),
+        ),
+    ];
+    for (arguments, picks, out) in ROWS {
+        schedules(&rt, rt.alloc(), arguments, picks, out);
+    }
+}
+
+/// Words of `run p`, with the workers and OUT that they name.
+type Ran = (&'static [&'static str], u32, Option<&'static str>);
+
+/// The words name the run of `p` by so many workers, with this OUT.
+fn runs<'a>(
+    rt: &impl Abort,
+    alloc: Global,
+    arguments: &'a [&'a str],
+    wanted: u32,
+    out: Option<&str>,
+) {
+    match job_of(alloc, arguments) {
+        Ok(
+            Job::Run {
+                file,
+                workers,
+                trace,
+            },
+        ) => {
+            assert_eq!(rt; file, "p");
+            assert_eq!(rt; workers, wanted);
+            assert_eq!(rt; trace, out);
+        }
+        _ => panic!(rt; "no run: {arguments:?}"),
+    }
+}
+
+#[test]
+fn run_words(rt: HostRuntime) {
+    const ROWS: [Ran; 5] = [
+        (&["phaser_run", "run", "p"], 2, None),
+        (&["phaser_run", "run", "p", "--workers", "1"], 1, None),
+        (&["phaser_run", "run", "--workers=16", "p"], 16, None),
+        (&["phaser_run", "run", "--trace", "t", "p"], 2, Some("t")),
+        (
+            &["phaser_run", "run", "p", "--trace", "t", "--workers", "007"],
+            7,
+            Some("t"),
+        ),
+    ];
+    for (arguments, workers, out) in ROWS {
+        runs(&rt, rt.alloc(), arguments, workers, out);
+    }
+}
+
+/// The words name the stencil of these values, steps and workers.
+fn is_stencil<'a>(
+    rt: &impl Abort,
+    alloc: Global,
+    arguments: &'a [&'a str],
+    wanted: (&[u32], u32, u32),
+) {
+    match job_of(alloc, arguments) {
+        Ok(
+            Job::Stencil {
+                first,
+                steps,
+                workers,
+            },
+        ) => {
+            assert_eq!(rt; first.as_slice(), wanted.0);
+            assert_eq!(rt; steps, wanted.1);
+            assert_eq!(rt; workers, wanted.2);
+        }
+        _ => panic!(rt; "no stencil: {arguments:?}"),
+    }
+}
+
+/// The words name the pipeline of so many stages, items and workers.
+fn is_pipeline<'a>(
+    rt: &impl Abort,
+    alloc: Global,
+    arguments: &'a [&'a str],
+    wanted: (u32, u32, u32),
+) {
+    match job_of(alloc, arguments) {
+        Ok(
+            Job::Pipeline {
+                stages,
+                items,
+                workers,
+            },
+        ) => {
+            assert_eq!(rt; stages, wanted.0);
+            assert_eq!(rt; items, wanted.1);
+            assert_eq!(rt; workers, wanted.2);
+        }
+        _ => panic!(rt; "no pipeline: {arguments:?}"),
+    }
+}
+
+#[test]
+fn kernel_words(rt: HostRuntime) {
+    is_stencil(
+        &rt,
+        rt.alloc(),
+        &[
+            "phaser_run",
+            "stencil",
+            "--first",
+            "0,1000000",
+            "--steps",
+            "0",
+        ],
+        (&[0, 1_000_000], 0, 2),
+    );
+    is_stencil(
+        &rt,
+        rt.alloc(),
+        &[
+            "phaser_run",
+            "stencil",
+            "--workers",
+            "3",
+            "--steps=100",
+            "--first",
+            "1,2,3,4,5,6,7,8,9,10,11,12,13,14,15,16",
+        ],
+        (
+            &[1, 2, 3, 4, 5, 6, 7, 8, 9, 10, 11, 12, 13, 14, 15, 16],
+            100,
+            3,
+        ),
+    );
+    is_pipeline(
+        &rt,
+        rt.alloc(),
+        &["phaser_run", "pipeline", "--stages", "1", "--items", "0"],
+        (1, 0, 2),
+    );
+    is_pipeline(
+        &rt,
+        rt.alloc(),
+        &[
+            "phaser_run",
+            "pipeline",
+            "--items",
+            "100",
+            "--stages",
+            "15",
+            "--workers",
+            "16",
+        ],
+        (15, 100, 16),
+    );
+}
+
+/// How many picks LIST spells; none where it is no list.
+fn length(alloc: Global, list: &str) -> Result<Option<usize>, Fail> {
+    let option = format!(in alloc; "--picks={list}")?;
+    match job_of(alloc, &["phaser_run", "schedule", "p", option.as_str()]) {
+        Ok(Job::Schedule { picks, .. }) => Ok(Some(picks.len())),
+        Err(NoJob::BadValue(Value::Picks)) => Ok(None),
+        _ => Err(Fail::from("neither picks nor a bad list")),
+    }
+}
+
+/// LIST spells no picks.
+fn is_no_list(rt: &impl Abort, alloc: Global, list: &str) -> Result<(), Fail> {
+    let picks = length(alloc, list)?;
+    assert_eq!(rt; picks, None, "{list:?}");
+    Ok(())
+}
+
+#[test]
+fn bad_lists(rt: HostRuntime) -> Result<(), Fail> {
+    const BAD: [&str; 16] = [
+        "",
+        ",",
+        "1,",
+        ",1",
+        "1,,2",
+        "+1",
+        "-1",
+        " 1",
+        "1 ",
+        "1;2",
+        "a",
+        "0x1",
+        "4294967296",
+        "99999999999999999999",
+        "1.0",
+        "\u{661}",
+    ];
+    for list in BAD {
+        is_no_list(&rt, rt.alloc(), list)?;
+    }
+    Ok(())
+}
+
+/// So many ones with commas between them.
+fn ones(alloc: Global, count: usize) -> Result<String, Fail> {
+    let mut list = String::new(alloc);
+    for place in 0..count {
+        list.push_str(if place == 0 { "1" } else { ",1" })?;
+    }
+    Ok(list)
+}
+
+// Exactly the greatest number of picks is read; one more is refused.
+#[test]
+fn many_picks(rt: HostRuntime) -> Result<(), Fail> {
+    let most = ones(rt.alloc(), 10_000)?;
+    assert_eq!(rt; length(rt.alloc(), most.as_str())?, Some(10_000));
+    let more = ones(rt.alloc(), 10_001)?;
+    is_no_list(&rt, rt.alloc(), more.as_str())
+}
