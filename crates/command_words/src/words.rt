@@ -98,7 +98,8 @@ first bad act, or 0.
 Exit status: 0 done, 1 refused, 2 bad words or this help, 3 a read or a write failed.";
 
 /// What the options `--trace` say of OUT.
-const TRACE_HELP: &str = "Writes the trace into this file, which is made or emptied first, even if FILE is then refused";
+const TRACE_HELP: &str =
+    "Writes the trace into this file, which is made or emptied first, even if FILE is then refused";
 
 /// What the options `--workers` say of N.
 const WORKERS_HELP: &str = "How many threads: 1 to 16; without it 2";
