@@ -36,11 +36,11 @@ DONE, WRONG, BAD_WORDS, FAULT = 0, 1, 2, 3
 
 
 class Stop(Exception):
-    """The status, and the line that says why."""
+    """The status, the line that says why, and the place of the fault, if a text has one."""
 
-    def __init__(self, status, line):
-        super().__init__(status, line)
-        self.status, self.line = status, line
+    def __init__(self, status, line, place=None):
+        super().__init__(status, line, place)
+        self.status, self.line, self.place = status, line, place
 
 
 @dataclass
@@ -128,23 +128,26 @@ def decoded(name, raw):
         why = "the byte 0x%02x isn't UTF-8" % raw[error.start]
         if raw[:2] in (b"\xff\xfe", b"\xfe\xff"):
             why = "the file is UTF-16: save it as UTF-8, without a byte order mark"
-        raise Stop(WRONG, before.line(len(before.text), why)) from None
+        raise Stop(WRONG, before.line(len(before.text), why), 0) from None
 
 
 def text_of(name, kind):
     """The text of a file with its JSON value."""
-    raw = read(name)
+    return text_in(name, read(name), kind)
+
+
+def text_in(name, raw, kind):
     guess = kind or kind_by_keys([it for kind in KINDS.values() for it in kind[1] if ('"%s"' % it).encode() in raw])
     most = KINDS[guess][2]
     if len(raw) > most:
         before = Text(name, raw[:most].decode(errors="replace"), "", None)
         why = "the text goes on, and %s has at most %s bytes" % (CALLED[guess], format(most, ","))
-        raise Stop(WRONG, before.line(len(before.text), why))
+        raise Stop(WRONG, before.line(len(before.text), why), 0)
     text = decoded(name, raw)
     try:
         value = value_of(text)
     except NoJson as fault:
-        raise Stop(WRONG, Text(name, text, guess, None).line(fault.at, "no JSON: %s" % fault.why)) from None
+        raise Stop(WRONG, Text(name, text, guess, None).line(fault.at, "no JSON: %s" % fault.why), 0) from None
     return Text(name, text, kind or kind_by_keys(list(value) if isinstance(value, dict) else []), value)
 
 
@@ -162,7 +165,7 @@ def checked(text):
         own = kind_by_keys(list(text.value)) if isinstance(text.value, dict) else text.kind
         if not fault.place and own != text.kind:
             why += "; by its keys the file is %s, which %s read%s" % (CALLED[own], KINDS[own][4], "" if " and " in KINDS[own][4] else "s")
-        raise Stop(WRONG, text.at(fault.path, where + why)) from None
+        raise Stop(WRONG, text.at(fault.path, where + why), fault.place) from None
 
 
 def event_at(text, place, why):
@@ -178,7 +181,7 @@ def replayed(text, seen=None):
     limits, events = checked(text)
     fault = first_fault(limits, events, *[seen] * (seen is not None))
     if fault:
-        raise Stop(WRONG, event_at(text, *fault))
+        raise Stop(WRONG, event_at(text, *fault), fault[0])
     return events
 
 
@@ -228,6 +231,15 @@ def said(wanted):
     if wanted.file is None:
         return said_of_text(text_of(wanted.trace, "trace"))
     return said_of_run(text_of(wanted.file, "program"), text_of(wanted.trace, "trace"))
+
+
+def place_of_fault(raw, kind):
+    """The place at which a text of this kind is refused; none where it isn't."""
+    try:
+        said_of_text(text_in("-", raw, kind))
+    except Stop as stop:
+        return stop.place
+    return None
 
 
 # ---- the streams
