@@ -58,8 +58,8 @@ def ran(judge, folder, words, stop=None, hangs=False, **settings):
     first = here / "trace.json"
     for name in ("trace.json", "trace.json.2", "trace.json.3", "trace.json.70"):
         shutil.copy(str(YESTERDAY), str(here / name))
-    given = {**os.environ, "PHASER_TRACE": str(first), **settings}
-    given.pop("PHASER_TRACE_AFTER", None) if "PHASER_TRACE_AFTER" not in settings else None
+    plain = {name: word for name, word in os.environ.items() if name != "PHASER_TRACE_AFTER"}
+    given = {**plain, "PHASER_TRACE": str(first), **settings}
     pipes = {"stdin": subprocess.DEVNULL, "stdout": subprocess.DEVNULL, "stderr": subprocess.PIPE}
     process = subprocess.Popen(list(map(str, words)), cwd=str(here), env=given, **pipes)
     try:
@@ -68,7 +68,7 @@ def ran(judge, folder, words, stop=None, hangs=False, **settings):
             until(SECONDS, lambda: not first.exists() or first.read_bytes() != old)
             if hangs:
                 until(SECONDS, lambda: all_wait(process), 3)
-                time.sleep(float(settings.get("PHASER_TRACE_AFTER", 0)))
+                time.sleep(3 * float(settings.get("PHASER_TRACE_AFTER", 0)))
             else:
                 time.sleep(random.uniform(0, 0.01))
             process.send_signal(stop)
