@@ -5,8 +5,8 @@ import os
 from dataclasses import dataclass
 
 from .events import Events
-from .forms import CALLED, KINDS, Fault, count_of, near
-from .json_text import NoJson, line_and_column, offset_of, value_of
+from .forms import CALLED, KINDS, Fault, count_of, near, shown
+from .json_text import NoJson, keys_twice, line_and_column, offset_of, value_of
 from .programs import Program
 from .refused import Follower, OtherProgram
 from .traces import Trace
@@ -189,18 +189,21 @@ def refused_tasks(events):
     return sum(it.kind == "t" and it.name in ("refuse", "fail") for it in events)
 
 
-def fine(text, many, more=""):
-    return ["%s: nothing is wrong: %s of %s%s" % (called(text.name), CALLED[text.kind], many, more)]
+def fine(text, what):
+    twice = keys_twice(text.text)
+    if twice:
+        what += "; the key %s stands twice in one object, and which counts isn't specified" % shown(twice[0])
+    return ["%s: nothing is wrong: %s %s" % (called(text.name), CALLED[text.kind], what)]
 
 
 def said_of_trace(text):
     events = replayed(text)
     refused = refused_tasks(events)
-    more = ", which a run makes"
+    what = "of %s, which a run makes" % count_of(len(events), "event")
     if refused:
         which = "program_check PROGRAM --trace %s says which act, where PROGRAM is what was run" % text.name
-        more += "; %s refused in it: %s" % ("1 task is" if refused == 1 else "%d tasks are" % refused, which)
-    return DONE, fine(text, count_of(len(events), "event"), more)
+        what += "; %s refused in it: %s" % ("1 task is" if refused == 1 else "%d tasks are" % refused, which)
+    return DONE, fine(text, what)
 
 
 def said_of_text(text):
@@ -208,8 +211,8 @@ def said_of_text(text):
         return said_of_trace(text)
     read_of = checked(text)
     if text.kind == "events":
-        return DONE, fine(text, count_of(len(read_of), "call"))
-    return DONE, fine(text, "%s in its own list" % count_of(len(read_of), "act"))
+        return DONE, fine(text, "of " + count_of(len(read_of), "call"))
+    return DONE, fine(text, "whose root has " + count_of(len(read_of), "act"))
 
 
 def said_of_run(program, trace):

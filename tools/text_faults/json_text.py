@@ -204,6 +204,19 @@ class Reader:
             raise NoJson(at, "this number is too large for a float of 64 bits") from None
 
 
+def keys_twice(text):
+    """The keys that an object of the text names twice, which is JSON, and means what isn't specified."""
+    found = []
+
+    def look(members):
+        keys = [key for key, _ in members]
+        found.extend(key for at, key in enumerate(keys) if key in keys[:at])
+        return dict(members)
+
+    json.loads(text, object_pairs_hook=look, parse_int=str, parse_float=str)
+    return found
+
+
 # ---- where a value stands
 
 SKIPPER = json.JSONDecoder(parse_int=str, parse_float=str)

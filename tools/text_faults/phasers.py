@@ -3,6 +3,8 @@ from __future__ import annotations
 
 from dataclasses import dataclass, field
 
+from .forms import count_of
+
 # By mode, whether it can signal, wait and run singles.
 CAN = {"SIG": (True, False, False), "WAIT": (False, True, False), "SIG_WAIT": (True, True, False), "SINGLE": (True, True, True)}
 FOLDS = {"sum": sum, "least": min, "greatest": max}
@@ -213,7 +215,8 @@ class Phaser:
     def no_accumulator(self, accumulator):
         if accumulator < len(self.operators):
             return None
-        return 9, "%s has %d accumulators, counted from 0, so none of index %d" % (self, len(self.operators), accumulator)
+        has = count_of(len(self.operators), "accumulator")
+        return 9, "%s has %s, counted from 0, so none of index %d" % (self, has, accumulator)
 
     def why_no_drop(self, task):
         if not self.is_live(task):

@@ -62,7 +62,8 @@ class Trace(Form):
 
     def event(self, value, path):
         if not isinstance(value, list) or not value:
-            self.fault(path, 'an event is a list, as [1,"p",0,"sig",0], and here stands %s' % ("an empty list" if value == [] else shown(value)))
+            here = "an empty list" if value == [] else shown(value)
+            self.fault(path, 'an event is a list, as [1,"p",0,"sig",0], and here stands %s' % here)
         self.number(value[0], (*path, 0), "the ticket", 0, MOST_TICKET)
         if len(value) < 4:
             self.fault(path, "an event has a ticket, \"p\", \"f\" or \"t\", a number and a name, and here stand %d items" % len(value))

@@ -95,13 +95,13 @@ class World:
         return (self.open_finishes(task) or [task.home])[0]
 
     def actor(self, event):
+        """The task that makes the event: of a child that isn't spawned yet its spawner, of a shut the finish's owner."""
         kind, number, name, *items = event
         if kind == "t":
             return number
-        if kind == "f":
-            finish = self.finishes.get(number)
-            return {"spawned": lambda: self.task(items[0]).spawner, "shut": lambda: finish.owner if finish else 0}.get(name, lambda: items[0])()
-        if name == "drop" and not self.task(items[0]).is_born:
+        if name == "shut":
+            return self.finishes[number].owner if number in self.finishes else 0
+        if name == "spawned" or name == "drop" and not self.task(items[0]).is_born:
             return self.task(items[0]).spawner
         return items[0]
 
@@ -387,7 +387,8 @@ class World:
         going = [it for it in self.tasks.values() if it.is_born and not it.is_ended]
         able = [(it, self.next_event(it)) for it in going]
         words = ["task %d %s" % (it.number, "is idle" if event is None else "has to make: " + said(event)) for it, event in able]
-        return "finish 0 isn't shut, with which a run ends: " + "; ".join(words[:6] + ["%d tasks more" % (len(words) - 6)] * (len(words) > 6))
+        more = ["%d tasks more" % (len(words) - 6)] if len(words) > 6 else []
+        return "finish 0 isn't shut, with which a run ends: " + "; ".join(words[:6] + more)
 
 
 def told(reason):
