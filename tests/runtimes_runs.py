@@ -49,6 +49,12 @@ def until(seconds, holds, often=1):
         time.sleep(0.01 if often > 1 else 0.001)
 
 
+def heed():
+    """A shell has a program in the background ignore these, and a drop-in leaves them ignored."""
+    for number in (signal.SIGINT, signal.SIGQUIT):
+        signal.signal(number, signal.SIG_DFL)
+
+
 def ran(judge, folder, words, stop=None, hangs=False, **settings):
     """Runs a program where the traces of an earlier run stand. With a signal to stop by, it gets it once it waits, if
     it hangs, and else at any time after the first barrier is made."""
@@ -60,7 +66,7 @@ def ran(judge, folder, words, stop=None, hangs=False, **settings):
         shutil.copy(str(YESTERDAY), str(here / name))
     plain = {name: word for name, word in os.environ.items() if name != "PHASER_TRACE_AFTER"}
     given = {**plain, "PHASER_TRACE": str(first), **settings}
-    pipes = {"stdin": subprocess.DEVNULL, "stdout": subprocess.DEVNULL, "stderr": subprocess.PIPE}
+    pipes = {"stdin": subprocess.DEVNULL, "stdout": subprocess.DEVNULL, "stderr": subprocess.PIPE, "preexec_fn": heed}
     process = subprocess.Popen(list(map(str, words)), cwd=str(here), env=given, **pipes)
     try:
         if stop is not None:
