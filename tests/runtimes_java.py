@@ -115,7 +115,7 @@ def cases(folder, times, judge):
     yield from hanging(folder, classes, judge)
     trace = folder / "old.json"
     for old in (trace, folder / "old.json.2", folder / "old.json.7"):
-        old.write_text("yesterday's")
+        old.write_text('{"events":[],"version":2}')
     ran(classes, "halt", trace)
     yield "yesterday's traces", "".join(str(old) for old in folder.glob("old.json*"))
     began = time.monotonic()

@@ -90,6 +90,6 @@ def cases(folder, times, judge):
     yield from hanging(folder, judge)
     old = [folder / ("old.json" + ending) for ending in ("", ".2", ".7")]
     for file in old:
-        file.write_text("yesterday's")
+        file.write_text('{"events":[],"version":2}')
     ran("leave", old[0])
     yield "yesterday's traces", "".join(str(file) for file in old if file.exists())
