@@ -46,7 +46,7 @@ def fault_of(told, trace, judge, may_lack=False, is_wrong=False, silent=False):
     answer = judge(trace)
     if is_wrong:
         said = "" if not silent or told.err else ", and nothing was said"
-        return "accepted" + said if answer.status != 1 else said
+        return "accepted: %s%s" % (answer.out, told.err) if answer.status != 1 else said
     return "" if answer.status == 0 else "%s%s" % (answer.err, told.err)
 
 
