@@ -46,7 +46,7 @@ def fault_of(told, trace, judge, may_lack=False, is_wrong=False, silent=False):
     answer = judge(trace)
     if is_wrong:
         said = "" if not silent or told.err else ", and nothing was said"
-        return "accepted" + said if answer.status != 1 else said
+        return "accepted: %s%s" % (answer.out, told.err) if answer.status != 1 else said
     return "" if answer.status == 0 else "%s%s" % (answer.err, told.err)
 
 
@@ -115,7 +115,7 @@ def cases(folder, times, judge):
     yield from hanging(folder, classes, judge)
     trace = folder / "old.json"
     for old in (trace, folder / "old.json.2", folder / "old.json.7"):
-        old.write_text("yesterday's")
+        old.write_text('{"events":[],"version":2}')
     ran(classes, "halt", trace)
     yield "yesterday's traces", "".join(str(old) for old in folder.glob("old.json*"))
     began = time.monotonic()

@@ -33,7 +33,7 @@ def fault_of(told, trace, judge, may_lack=False, is_wrong=False):
         return "" if may_lack or is_wrong and told.err else "no trace: " + told.err
     answer = judge(trace)
     if is_wrong:
-        return "accepted" if answer.status != 1 else ""
+        return "accepted: %s%s" % (answer.out, told.err) if answer.status != 1 else ""
     return "" if answer.status == 0 else "%s%s" % (answer.err, told.err)
 
 
@@ -90,6 +90,6 @@ def cases(folder, times, judge):
     yield from hanging(folder, judge)
     old = [folder / ("old.json" + ending) for ending in ("", ".2", ".7")]
     for file in old:
-        file.write_text("yesterday's")
+        file.write_text('{"events":[],"version":2}')
     ran("leave", old[0])
     yield "yesterday's traces", "".join(str(file) for file in old if file.exists())

@@ -1,4 +1,5 @@
 import java.io.IOException;
+import java.io.InputStream;
 import java.io.PrintWriter;
 import java.nio.file.*;
 import java.util.*;
@@ -24,6 +25,7 @@ public class TracedPhaser extends Phaser {
     private static final int NEVER = Integer.MAX_VALUE; // a ticket that nobody draws
     private static final long NO_ANSWER = Long.MAX_VALUE; // the call hasn't come back
     private static final long THREW = Long.MIN_VALUE;
+    private static final String START = "{\"events\":["; // of the text of a trace
     private static final String NAME = System.getenv().getOrDefault("PHASER_TRACE", "trace.json");
     private static final String AFTER = System.getenv("PHASER_TRACE_AFTER"); // seconds
     private static final List<TracedPhaser> TRACED = new ArrayList<>(); // this and the next: under the lock of the list
@@ -246,6 +248,7 @@ public class TracedPhaser extends Phaser {
     private final class Trace {
         final List<Call> calls = new ArrayList<>();
         final TreeSet<String> waiting = new TreeSet<>();
+        int drawn; // how many tickets were, when the logs were read
         int cut; // the first ticket that isn't told
         boolean isStill; // nothing goes on meanwhile
         String note; // what is to be said
@@ -267,8 +270,10 @@ public class TracedPhaser extends Phaser {
                 tell();
             } while (cut < before);
             long parties = here.stream().filter(task -> task.signals).count();
-            if (isStill && hasRoom() && parties != getRegisteredParties()) {
-                doubt = getRegisteredParties() + " parties are registered, and " + parties + " were seen to be";
+            int registered = getRegisteredParties();
+            isStill &= drawn == tickets.get(); // so nobody has begun to register before they were counted
+            if (isStill && hasRoom() && parties != registered) {
+                doubt = registered + " parties are registered, and " + parties + " were seen to be";
             }
             if (!isFalse && doubt != null) {
                 refuse(doubt);
@@ -279,7 +284,7 @@ public class TracedPhaser extends Phaser {
 
         /** Tickets have no gaps: one that isn't here was drawn by a thread that still runs, and there the trace is cut. */
         void collect() {
-            int drawn = tickets.get();
+            drawn = tickets.get();
             BitSet there = new BitSet();
             for (Log log : logs) {
                 Deque<Call> open = new ArrayDeque<>();
@@ -311,7 +316,6 @@ public class TracedPhaser extends Phaser {
             if (cut < there.length() && !isFull) {
                 note = "threads still ran: it tells the run up to where each of them was known";
             }
-            isStill &= drawn == tickets.get();
         }
 
         /** Puts the calls in order. One of a later phase never stands before one of an earlier, where it was over after. */
@@ -517,7 +521,7 @@ public class TracedPhaser extends Phaser {
             try (PrintWriter out = new PrintWriter(name)) {
                 for (int at = 0; at < events.size(); at++) {
                     String line = "[" + (at + 1) + "," + events.get(at).replace('\'', '"') + "]";
-                    out.print((at == 0 ? "{\"events\":[\n" : ",\n") + line);
+                    out.print((at == 0 ? START + "\n" : ",\n") + line);
                 }
                 out.println("],\"limits\":{\"acts\":65536,\"history\":65536,\"tasks\":4096},\"version\":2}");
             } catch (IOException fault) {
@@ -542,12 +546,12 @@ public class TracedPhaser extends Phaser {
         try {
             Path named = Paths.get(NAME).toAbsolutePath();
             if (!named.startsWith("/dev") && !named.startsWith("/proc")) {
-                Files.deleteIfExists(named);
                 String begin = named.getFileName() + ".";
                 try (DirectoryStream<Path> files = Files.newDirectoryStream(named.getParent())) {
                     for (Path file : files) {
-                        String end = file.getFileName().toString();
-                        if (end.startsWith(begin) && end.substring(begin.length()).matches("[1-9][0-9]*")) {
+                        String name = file.getFileName().toString();
+                        boolean isNext = name.startsWith(begin) && name.substring(begin.length()).matches("[1-9][0-9]*");
+                        if (Files.isRegularFile(file) && (file.equals(named) || isNext && isTrace(file))) {
                             Files.delete(file);
                         }
                     }
@@ -573,6 +577,12 @@ public class TracedPhaser extends Phaser {
             }
         } catch (IllegalStateException | NumberFormatException fault) {
             say(NAME, "it isn't written, or not after the seconds of PHASER_TRACE_AFTER: " + fault);
+        }
+    }
+
+    private static boolean isTrace(Path file) throws IOException {
+        try (InputStream in = Files.newInputStream(file)) {
+            return new String(in.readNBytes(START.length())).equals(START);
         }
     }
 

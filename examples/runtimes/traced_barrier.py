@@ -22,11 +22,12 @@ MOST_EVENTS = 65536  # on a phaser of a trace
 MOST_TICKETS = 2 * MOST_EVENTS
 MOST_AT_ONCE = 256  # tasks on the phaser
 LIMITS = {"acts": 65536, "history": MOST_EVENTS}
+START = '{"events":['  # of the text of a trace
 PASSED, THREW = "passed", "threw"
 
 _traced = []  # the barriers
 _lock = threading.RLock()  # one writes at a time; a signal may come while its own thread writes
-_process = os.getpid()  # a process that is forked off writes nothing
+_process = None  # that made the first barrier; one that it forks off writes nothing
 
 
 class Barrier(threading.Barrier):
@@ -236,7 +237,7 @@ class _Trace:
     def write(self, name):
         with open(name, "w", encoding="utf-8") as out:
             lines = (json.dumps([ticket, *event], separators=(",", ":")) for ticket, event in enumerate(self.events, 1))
-            out.write('{"events":[\n%s],"limits":%s,"version":2}\n' % (",\n".join(lines), json.dumps(LIMITS)))
+            out.write('%s\n%s],"limits":%s,"version":2}\n' % (START, ",\n".join(lines), json.dumps(LIMITS)))
         if self.is_false:
             _say(name, "the trace can't tell this, and a replay refuses it: " + self.note)
         elif self.is_full or not self.has_room():
@@ -260,13 +261,18 @@ def _named():
 
 def _prepare():
     """Takes yesterday's traces away, and has today's written: once for the whole program."""
+    global _process
+    _process = os.getpid()
     try:
         path = pathlib.Path(os.path.abspath(_named()))
         if path.parts[1:2] not in (("dev",), ("proc",)):
             ending = re.compile(re.escape(path.name) + r"(\.[1-9][0-9]*)?")
             for file in list(path.parent.iterdir()):
-                if ending.fullmatch(file.name):
-                    file.unlink()
+                if ending.fullmatch(file.name) and file.is_file():
+                    with open(file, "rb") as old:
+                        is_trace = old.read(len(START)) == START.encode()
+                    if is_trace or file == path:
+                        file.unlink()
     except OSError as fault:
         _say(_named(), "an old trace may be left: %s" % fault)
     atexit.register(_write_all)

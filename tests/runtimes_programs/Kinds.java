@@ -335,7 +335,7 @@ class Kinds {
                 }
             }).setName("worker " + number);
         }
-        long end = System.nanoTime() + 1_000_000_000L;
+        long end = System.nanoTime() + 500_000_000L;
         for (Thread thread : started) {
             thread.join(Math.max(1, (end - System.nanoTime()) / 1_000_000));
         }

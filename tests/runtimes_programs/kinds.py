@@ -210,7 +210,7 @@ def faulty():
             time.sleep(random.random() / 500)
             barrier.wait()
 
-    end = time.monotonic() + 1
+    end = time.monotonic() + 0.5
     for thread in start(4, work, daemon=True):
         thread.join(max(0.001, end - time.monotonic()))
 
