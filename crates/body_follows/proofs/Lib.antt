@@ -3,3 +3,4 @@ pub mod Named
 pub mod Prefixes
 pub mod Gone
 pub mod Spawns
+pub mod SameActs

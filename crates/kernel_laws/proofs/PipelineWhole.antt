@@ -26,7 +26,7 @@ use Rattle.job_kernels.specs.Results.{value_seen, values_of, items_of}
 use Rattle.job_kernels.specs.PipelineLines.{number_at, items_at}
 use Rattle.job_kernels.specs.PipelineTasks.{root_task, pipeline_next}
 use Rattle.job_kernels.proofs.PipelineRuns.{items_in_order}
-use Rattle.kernel_laws.specs.Going.{IsWhole}
+use Rattle.body_follows.specs.Whole.{IsWhole}
 use Rattle.kernel_laws.proofs.Goes.{GoesSmoothly, smoothly}
 use Rattle.kernel_laws.specs.Pipelines.{RunsComeToPipeline}
 use Rattle.kernel_laws.proofs.Plain.{IsPlain}

@@ -45,7 +45,7 @@ use Rattle.job_kernels.specs.Tasks.{pair_on}
 use Rattle.job_kernels.specs.StencilTasks.{greatest, neighbours, phasers_of, root_task, stencil_next}
 use Rattle.job_kernels.specs.Results.{value_in, cell_of, cells_of}
 use Rattle.job_kernels.proofs.StencilRuns.{length-stencil}
-use Rattle.kernel_laws.specs.Going.{IsWhole}
+use Rattle.body_follows.specs.Whole.{IsWhole}
 use Rattle.kernel_laws.proofs.Goes.{smoothly}
 use Rattle.kernel_laws.specs.Stencils.{RunsComeToStencil}
 use Rattle.kernel_laws.proofs.Plain.{IsPlain, is_plain, any_kept, due_next, spawned, spawner_is_root}

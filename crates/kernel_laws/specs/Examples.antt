@@ -12,7 +12,7 @@ use Rattle.world_model.specs.declared.event.WorldEvent.TheVariants.{Phaser, Fini
 use Rattle.job_kernels.specs.Tasks.{pair_on}
 use Rattle.job_kernels.specs.StencilTasks as stencils
 use Rattle.job_kernels.specs.PipelineTasks as pipelines
-use Rattle.kernel_laws.specs.Going.{IsWhole}
+use Rattle.body_follows.specs.Whole.{IsWhole}
 
 -- a step of two cells, 4 and 8, which come to 4 and 5
 abbrev pub step_of_two : List WorldEvent

@@ -1,5 +1,4 @@
 -- The definitions that contracts cite, in the order in which they are read.
-pub mod Going
 pub mod Stencils
 pub mod Pipelines
 pub mod Examples

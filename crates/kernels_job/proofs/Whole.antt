@@ -15,7 +15,7 @@ use Rattle.trace_model.proofs.Legal.{explained_legal}
 use Rattle.phased_rt.proofs.Emptied.{over_ended}
 use Rattle.body_follows.specs.Going.{Does, IsRefusedAt}
 use Rattle.job_kernels.specs.Results.{refusal_of}
-use Rattle.kernel_laws.specs.Going.{IsWhole}
+use Rattle.body_follows.specs.Whole.{IsWhole}
 use Rattle.kernels_job.specs.Worked.{IsKernelRun}
 use Rattle.kernels_job.proofs.Unrefused.{unrefused}
 

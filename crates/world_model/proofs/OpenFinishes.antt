@@ -138,7 +138,7 @@ open_later l f (Finish g d) w k s =
     open_step (g == f) d (finish_past f w) (not-true (is_empty (finish_past f w)) k) refl
 open_later l f e w k s = refl
 
-filter_same : (p q : ℕ → Bool) (xs : List ℕ) → ((x : ℕ) → has x xs ≡ true → p x ≡ q x)
+pub filter_same : (p q : ℕ → Bool) (xs : List ℕ) → ((x : ℕ) → has x xs ≡ true → p x ≡ q x)
     → filter p xs ≡ filter q xs
 filter_same p q [] k = refl
 filter_same p q (x ∷ xs) k =

@@ -84,7 +84,7 @@ pub same_mode_test : (test : Mode → Bool) (t : ℕ) (g h : List Event) → IsA
     → has_mode test t g ≡ has_mode test t h
 same_mode_test test t g h a = rw a.mode refl
 
-not_joined : (t : ℕ) (e : WorldEvent) → touches t e ≡ false → joined_by t e ≡ None
+pub not_joined : (t : ℕ) (e : WorldEvent) → touches t e ≡ false → joined_by t e ≡ None
 not_joined t (Phaser n (Make u m terms)) k = rw k refl
 not_joined t (Phaser n (Reg q u m)) k = rw k refl
 not_joined t e k = refl

@@ -1,4 +1,4 @@
--- The histories of which the laws speak: those in which tasks go by a body, and nobody is refused.
+-- The histories of which laws on bodies speak: those in which tasks go by a body, and nobody is refused.
 use Rattle.std.specs.Prelude.{ℕ, ◌≡◌, true, List, None}
 use Rattle.phase_modes.specs.declared.limits.Limits.{Limits}
 use Rattle.job_script.specs.declared.act.Answer.{Answer}

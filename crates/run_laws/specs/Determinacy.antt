@@ -1,0 +1,90 @@
+-- Whatever the order in which tasks go on: what each of them does, and what a whole run comes to.
+use Rattle.std.specs.Prelude.{ℕ, ◌≡◌, Bool, true, not, ◌||◌, ◌==◌, List, ◌∷◌, ◌++◌, None}
+use Rattle.phase_modes.specs.declared.limits.Limits.{Limits}
+use Rattle.job_script.specs.declared.act.Answer.{Answer}
+use Rattle.world_model.specs.declared.event.WorldEvent.{WorldEvent}
+use Rattle.world_model.specs.declared.event.Tried.{Tried}
+use Rattle.world_model.specs.declared.event.WorldEvent.TheVariants.{Refuse, Fail}
+use Rattle.std.specs.List.{list_all}
+use Rattle.world_model.specs.Replies.{is_legal_world}
+use Rattle.world_model.specs.Tasks.{is_ended}
+use Rattle.world_model.specs.Report.{report_of, refused_by}
+use Rattle.body_follows.specs.Going.{Does, goes_by}
+use Rattle.schedule_model.specs.Scripts.{Numbers}
+use Rattle.body_follows.specs.Whole.{IsSmooth, IsWhole}
+use Rattle.run_laws.specs.Telling.{Told, told, draws_by}
+
+-- a whole run of these bodies: nobody is refused or gives up, the root has ended, and numbers are drawn by this rule
+pub record IsRun {B : Type 0} (next : Answer → B → Does B) (root : B) (names : ℕ → List Told → Numbers)
+    (l : Limits) (w : List WorldEvent) : Type 0 where
+  pub whole : IsWhole next root l w
+  pub draws : draws_by names w ≡ true
+
+-- P holds of each two such runs of the same bodies, under the same limits and by the same rule
+abbrev pub OfEachTwoRuns : {B : Type 0} → (Answer → B → Does B)
+    → (Limits → List WorldEvent → List WorldEvent → Type 0) → Type 0
+OfEachTwoRuns {B = B} next P =
+    (root : B) (names : ℕ → List Told → Numbers) (l : Limits) (v w : List WorldEvent)
+    → IsRun next root names l v → IsRun next root names l w → P l v w
+
+-- each task does the same in both: the same events in the same order, in the same phases, and it hears and sees the
+-- same; but for who runs a single
+abbrev pub TasksDoTheSame : {B : Type 0} → (Answer → B → Does B) → Type 0
+TasksDoTheSame next = OfEachTwoRuns next (λ l v w. (t : ℕ) → told t v ≡ told t w)
+
+-- both come to the same report
+abbrev pub RunsComeToTheSame : {B : Type 0} → (Answer → B → Does B) → Type 0
+RunsComeToTheSame next = OfEachTwoRuns next (λ l v w. report_of l v ≡ report_of l w)
+
+-- xs is what came first of ys, both being told newest first
+abbrev pub IsBeginning : List Told → List Told → Type 0
+IsBeginning xs ys = (more : List Told) × (ys ≡ more ++ xs)
+
+-- beside one such run v: in each history w of the same bodies, by the same rule, in which nobody was refused up to now,
+-- whole or not, each task has done a first part of what it does in v
+abbrev pub HistoriesAreBeginnings : {B : Type 0} → (Answer → B → Does B) → Type 0
+HistoriesAreBeginnings {B = B} next =
+    (root : B) (names : ℕ → List Told → Numbers) (l : Limits) (v w : List WorldEvent)
+    → IsRun next root names l v → IsSmooth next root l w → draws_by names w ≡ true
+    → (t : ℕ) → IsBeginning (told t w) (told t v)
+
+-- beside one such run: where an act is the first thing to be refused in another history, it is refused by 15, since a
+-- phaser's history is full, and by no other number
+abbrev pub RefusalsAreOfRoom : {B : Type 0} → (Answer → B → Does B) → Type 0
+RefusalsAreOfRoom {B = B} next =
+    (root : B) (names : ℕ → List Told → Numbers) (l : Limits) (v w : List WorldEvent) (t n : ℕ) (a : Tried)
+    → IsRun next root names l v
+    → is_legal_world l (Refuse t a n ∷ w) ≡ true
+    → goes_by next root (Refuse t a n ∷ w) ≡ true
+    → draws_by names (Refuse t a n ∷ w) ≡ true
+    → ((u : ℕ) → refused_by u w ≡ None) → n ≡ 15
+
+-- the numbers of want of room or memory: 14 full registrations, 15 a full history, 23 memory
+abbrev pub is_of_room : ℕ → Bool
+is_of_room n = n == 14 || n == 15 || n == 23
+
+-- beside one such run: who is the first to give up in another history does so for want of room or memory, and not since
+-- its single has another number than that of others (7), the one other cause to give up
+abbrev pub FailuresAreOfRoom : {B : Type 0} → (Answer → B → Does B) → Type 0
+FailuresAreOfRoom {B = B} next =
+    (root : B) (names : ℕ → List Told → Numbers) (l : Limits) (v w : List WorldEvent) (t n : ℕ)
+    → IsRun next root names l v
+    → is_legal_world l (Fail t n ∷ w) ≡ true
+    → goes_by next root w ≡ true
+    → draws_by names w ≡ true
+    → ((u : ℕ) → refused_by u w ≡ None) → is_of_room n ≡ true
+
+-- the event isn't that an act is refused, or that a task gives up, for want of room or memory
+abbrev pub wants_no_room : WorldEvent → Bool
+wants_no_room (Refuse t a n) = not (is_of_room n)
+wants_no_room (Fail t n) = not (is_of_room n)
+wants_no_room _ = true
+
+-- so beside one such run room and memory are all that luck decides: in another history in which nobody is refused or
+-- gives up for want of them, nobody is refused or gives up at all; and if its root has ended, its report is the same
+abbrev pub RoomIsAllLuck : {B : Type 0} → (Answer → B → Does B) → Type 0
+RoomIsAllLuck {B = B} next =
+    (root : B) (names : ℕ → List Told → Numbers) (l : Limits) (v w : List WorldEvent)
+    → IsRun next root names l v
+    → is_legal_world l w ≡ true → goes_by next root w ≡ true → draws_by names w ≡ true → list_all wants_no_room w ≡ true
+    → ((t : ℕ) → refused_by t w ≡ None) × (is_ended 0 w ≡ true → report_of l v ≡ report_of l w)

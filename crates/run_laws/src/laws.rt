@@ -1,0 +1,85 @@
+//! What holds of each two whole runs of the same bodies in which nobody is refused or gives up, and
+//! numbers are drawn by the same rule. Each function does nothing: its contract is the law, and the
+//! check proves it.
+ghost use Rattle.run_laws.specs.Programs.{FollowersGoByScripts, ProgramsComeToTheSame, RootsDrawInOrder, TextsForetell, TextsTellWhoDraws};
+ghost use Rattle.run_laws.specs.Determinacy.{FailuresAreOfRoom, HistoriesAreBeginnings, RefusalsAreOfRoom, RoomIsAllLuck, RunsComeToTheSame, TasksDoTheSame};
+ghost use Rattle.run_laws.specs.Schedules.{SchedulesComeToTheSame, SchedulesWithRoomComeToTheSame};
+
+use body_follows::Goes;
+
+/// Each task does the same in both, and hears and sees the same; but for who runs a single.
+pub fn tasks_do_the_same<B: Goes>()
+    ensures { TasksDoTheSame B.next }
+{}
+
+/// Both come to the same report.
+pub fn runs_come_to_the_same<B: Goes>()
+    ensures { RunsComeToTheSame B.next }
+{}
+
+/// Beside one such run: in each history of the same bodies, by the same rule, in which nobody was
+/// refused up to now, whole or not, each task has done a first part of what it does in that run.
+pub fn histories_are_beginnings<B: Goes>()
+    ensures { HistoriesAreBeginnings B.next }
+{}
+
+/// Beside one such run: an act that is the first thing to be refused in another history of the same
+/// bodies, by the same rule, is refused because a phaser's history is full.
+pub fn refusals_are_of_room<B: Goes>()
+    ensures { RefusalsAreOfRoom B.next }
+{}
+
+/// Beside one such run: who is the first to give up in another history of the same bodies, by the
+/// same rule, does so for want of room or memory.
+pub fn failures_are_of_room<B: Goes>()
+    ensures { FailuresAreOfRoom B.next }
+{}
+
+/// Beside one such run: in another history of the same bodies, by the same rule, in which nobody is
+/// refused or gives up for want of room or memory, nobody is refused or gives up at all, and if its
+/// root has ended it comes to the same report.
+pub fn room_is_all_luck<B: Goes>()
+    ensures { RoomIsAllLuck B.next }
+{}
+
+/// A legal history that follows a program goes by the program's bodies.
+pub fn followers_go_by_scripts()
+    ensures { FollowersGoByScripts }
+{}
+
+/// In two such runs of a program each task does the same, and both come to the same report.
+pub fn programs_come_to_the_same()
+    ensures { ProgramsComeToTheSame }
+{}
+
+/// Where nobody is refused, and the root alone draws numbers, and always the least that aren't in
+/// use, each kind is drawn in order.
+pub fn roots_draw_in_order()
+    ensures { RootsDrawInOrder }
+{}
+
+/// Where nobody is refused in a history of a program whose text says that the root alone draws
+/// numbers, it does.
+pub fn texts_tell_who_draws()
+    ensures { TextsTellWhoDraws }
+{}
+
+/// Of a program whose text says that the root alone draws numbers: any two whole runs in which
+/// nobody is refused, and the least numbers are drawn, come to the same report, and each task does
+/// the same in both.
+pub fn texts_foretell()
+    ensures { TextsForetell }
+{}
+
+/// Of a program whose text says that the root alone draws numbers: any two runs by picks in which
+/// nobody is refused, and the root ends, come to the same report.
+pub fn schedules_come_to_the_same()
+    ensures { SchedulesComeToTheSame }
+{}
+
+/// Beside one such run by picks: in each other in which nobody is refused or gives up for want of
+/// room or memory, nobody is refused or gives up at all, and if its root ends it comes to the same
+/// report.
+pub fn schedules_with_room_come_to_the_same()
+    ensures { SchedulesWithRoomComeToTheSame }
+{}

@@ -1,0 +1,15 @@
+//! Whatever the order in which tasks go on, whole runs of the same bodies in which nobody is
+//! refused, and numbers are drawn by the same rule, come to the same. Laws over all legal histories
+//! of a world: it runs nothing.
+#![tactic(auto)]
+
+mod examples;
+mod laws;
+
+pub use examples::worked_runs;
+pub use laws::{
+    failures_are_of_room, followers_go_by_scripts, histories_are_beginnings,
+    programs_come_to_the_same, refusals_are_of_room, room_is_all_luck, roots_draw_in_order,
+    runs_come_to_the_same, schedules_come_to_the_same, schedules_with_room_come_to_the_same,
+    tasks_do_the_same, texts_foretell, texts_tell_who_draws,
+};
