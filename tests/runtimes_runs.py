@@ -49,6 +49,14 @@ def until(seconds, holds, often=1):
         time.sleep(0.01 if often > 1 else 0.001)
 
 
+def text_in(file):
+    """What stands in a file; None where there is none."""
+    try:
+        return file.read_bytes()
+    except OSError:
+        return None
+
+
 def heed():
     """A shell has a program in the background ignore these, and a drop-in leaves them ignored."""
     for number in (signal.SIGINT, signal.SIGQUIT):
@@ -70,8 +78,7 @@ def ran(judge, folder, words, stop=None, hangs=False, **settings):
     process = subprocess.Popen(list(map(str, words)), cwd=str(here), env=given, **pipes)
     try:
         if stop is not None:
-            old = YESTERDAY.read_bytes()
-            until(SECONDS, lambda: not first.exists() or first.read_bytes() != old)
+            until(SECONDS, lambda: text_in(first) != text_in(YESTERDAY))
             if hangs:
                 until(SECONDS, lambda: all_wait(process), 3)
                 time.sleep(3 * float(settings.get("PHASER_TRACE_AFTER", 0)))
