@@ -238,8 +238,9 @@ class Kinds {
             System.out.println("interrupted");
         }
         phaser.arrive();
-        System.out.println(phaser.awaitAdvanceInterruptibly(phase));
+        int next = phaser.awaitAdvanceInterruptibly(phase);
         join();
+        System.out.println(next);
     }
 
     /** One arrival too many throws what it throws, and all goes on. */
