@@ -9,7 +9,7 @@ use Rattle.phase_model.specs.declared.history.Event.{Event}
 use Rattle.phase_model.specs.Tasks.{is_registered}
 use Rattle.finish_core.specs.declared.event.FinishEvent.TheVariants.{Opened, Ended, Shut as Shutting}
 use Rattle.job_script.specs.declared.act.Answer.{Answer}
-use Rattle.world_model.specs.declared.event.Step.TheVariants.{Make, Reg, Claim, Did, Send, Look}
+use Rattle.world_model.specs.declared.event.Step.TheVariants.{Make, Claim, Did, Send, Look}
 use Rattle.world_model.specs.declared.event.WorldEvent.{WorldEvent}
 use Rattle.world_model.specs.declared.event.WorldEvent.TheVariants.{Phaser, Finish, Begin, Refuse}
 use Rattle.world_model.specs.Actors.{actor}
