@@ -31,7 +31,7 @@ fn found_under(rt: &HostRuntime, name: &str) -> Result<Found, Failure> {
         Ok(_) => Ok(Found::Other),
         Err(error) => match error.kind() {
             ErrorKind::OutOfMemory => Err(Failure::Refused(Refusal::Memory)),
-            ErrorKind::NotFound => Ok(Found::Nothing),
+            ErrorKind::NotFound | ErrorKind::NotADirectory => Ok(Found::Nothing),
             _ => Err(Failure::Write),
         },
     }
