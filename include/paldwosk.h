@@ -1,6 +1,6 @@
 /* Paldwosk for C: a checker of traces, and one phaser.
  *
- * Link crates/phaser_c/out/libphaser_c.a, which `cd crates/phaser_c && rt lib` proves and builds, and the
+ * Link crates/phaser_c/out/libphaser_c.a, which `tools/build_program phaser_c` proves and builds, and the
  * toolchain's liblibc_c.a, by which it calls malloc, realloc and free (docs/linked.md has the command).
  *
  * WHAT IS PROVED, AND WHAT YOU OWE. Each function here passes its arguments on to one function of the archive,

@@ -1,4 +1,4 @@
-//! Says where the archive is: `PALDWOSK_ARCHIVE`, or what `rt lib` makes in this checkout; and where the toolchain's
+//! Says where the archive is: `PALDWOSK_ARCHIVE`, or what `tools/build_program phaser_c` makes in this checkout; and where the toolchain's
 //! archive is, by which it calls malloc: `RATTLE_C`, or the folder `c` of the kit whose command `rt` is on the PATH.
 use std::env::{split_paths, var_os};
 use std::path::{Path, PathBuf};
@@ -31,7 +31,7 @@ fn main() {
     let (archive, toolchain) = (archive(), toolchain());
     let file = archive.join("libphaser_c.a");
     if !file.exists() {
-        panic!("there is no {}: make it by `cd crates/phaser_c && rt lib`", file.display());
+        panic!("there is no {}: make it by `tools/build_program phaser_c`", file.display());
     }
     println!("cargo:rerun-if-changed={}", file.display());
     println!("cargo:rerun-if-env-changed=PALDWOSK_ARCHIVE");
