@@ -47,10 +47,10 @@ abbrev pub all_told : List WorldEvent → List (ℕ × Told)
 all_told [] = []
 all_told (e ∷ w) = cond (is_of_single e) (all_told w) ((actor w e, told_of w e) ∷ all_told w)
 
-abbrev teller : ℕ × Told → ℕ
+abbrev pub teller : ℕ × Told → ℕ
 teller x = x.0
 
-abbrev with_teller : ℕ → List Told → List (ℕ × Told)
+abbrev pub with_teller : ℕ → List Told → List (ℕ × Told)
 with_teller u xs = map (λ (x : Told). (u, x)) xs
 
 one_told : (u v : ℕ) (x : Told) (xs : List (ℕ × Told)) (ys : List Told) (b : Bool)
@@ -70,31 +70,31 @@ one_told u v x xs ys false k =
       | inr e ↦ rw e k
     ]
 
-told_by : (u : ℕ) (w : List WorldEvent) → of_key teller u (all_told w) ≡ with_teller u (told u w)
+pub told_by : (u : ℕ) (w : List WorldEvent) → of_key teller u (all_told w) ≡ with_teller u (told u w)
 told_by u [] = refl
 told_by u (e ∷ w) = one_told u (actor w e) (told_of w e) (all_told w) (told u w) (is_of_single e) (told_by u w)
 
 -- ---- sums
 
-abbrev weigh : (WorldEvent → ℕ) → List (ℕ × Told) → ℕ
+pub swapped : (a b r : ℕ) → a + (b + r) ≡ b + (a + r)
+swapped a b r = omega arith
+
+abbrev pub weigh : (WorldEvent → ℕ) → List (ℕ × Told) → ℕ
 weigh f xs = total teller (λ x r. f x.1.event + r) (λ x y r. swapped (f x.1.event) (f y.1.event) r) 0 xs
-  where
-    swapped : (a b r : ℕ) → a + (b + r) ≡ b + (a + r)
-    swapped a b r = omega arith
 
 plus_none : (x : ℕ) → x ≡ 0 + x
 plus_none x = omega arith
 
-abbrev on_weight : ℕ → (Step → ℕ) → WorldEvent → ℕ
+abbrev pub on_weight : ℕ → (Step → ℕ) → WorldEvent → ℕ
 on_weight n by (Phaser m s) = cond (m == n) (by s) 0
 on_weight n by _ = 0
 
 -- a sum over a phaser's events, where the weight of each is its step's
-record IsSum (sum : List Event → ℕ) (weight : Event → ℕ) (by : Step → ℕ) : Type 0 where
-  none : sum [] ≡ 0
-  more : (e : Event) (h : List Event) → sum (e ∷ h) ≡ weight e + sum h
-  agrees : (terms : Terms) (h : List Event) (s : Step) → weight (event_for terms h s) ≡ by s
-  singles : (m : ℕ) (s : Step) → is_of_single (Phaser m s) ≡ true → by s ≡ 0
+pub record IsSum (sum : List Event → ℕ) (weight : Event → ℕ) (by : Step → ℕ) : Type 0 where
+  pub none : sum [] ≡ 0
+  pub more : (e : Event) (h : List Event) → sum (e ∷ h) ≡ weight e + sum h
+  pub agrees : (terms : Terms) (h : List Event) (s : Step) → weight (event_for terms h s) ≡ by s
+  pub singles : (m : ℕ) (s : Step) → is_of_single (Phaser m s) ≡ true → by s ≡ 0
 
 module _ (sum : List Event → ℕ) (weight : Event → ℕ) (by : Step → ℕ) (k : IsSum sum weight by) (n : ℕ) where
   here_or_not : (b : Bool) (terms : Terms) (h : List Event) (s : Step)
@@ -106,7 +106,7 @@ module _ (sum : List Event → ℕ) (weight : Event → ℕ) (by : Step → ℕ)
   no_weight true i x e = ap (λ j. j + x) e ∙ sym (plus_none x)
   no_weight false i x e = sym (plus_none x)
 
-  sum_told : (w : List WorldEvent) → sum (phaser_past n w) ≡ weigh (on_weight n by) (all_told w)
+  pub sum_told : (w : List WorldEvent) → sum (phaser_past n w) ≡ weigh (on_weight n by) (all_told w)
   sum_told [] = k.none
   sum_told (Phaser m s ∷ w) =
       let rest = sum_told w in
@@ -257,12 +257,12 @@ empty_by_length (x ∷ g) [] e = absurd (none (length g) e)
 
 -- ---- the sums of a report
 
-abbrev by_registered : Step → ℕ
+abbrev pub by_registered : Step → ℕ
 by_registered (Make t m o) = 1
 by_registered (Reg q t m) = 1
 by_registered _ = 0
 
-registered_sum : IsSum (count_by (λ e. is_some (registered_by e))) (λ e. cond (is_some (registered_by e)) 1 0) by_registered
+pub registered_sum : IsSum (count_by (λ e. is_some (registered_by e))) (λ e. cond (is_some (registered_by e)) 1 0) by_registered
 registered_sum =
     record {
       none = refl;

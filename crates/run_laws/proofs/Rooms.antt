@@ -22,7 +22,7 @@ use Rattle.run_laws.proofs.Failures.{failures_are_of_room}
 use Rattle.run_laws.proofs.Reports.{runs_come_to_the_same}
 
 -- who isn't in a refusal isn't refused
-calm_unrefused : (w : List WorldEvent) → is_calm w ≡ true → (t : ℕ) → refused_by t w ≡ None
+pub calm_unrefused : (w : List WorldEvent) → is_calm w ≡ true → (t : ℕ) → refused_by t w ≡ None
 calm_unrefused [] c t = refl
 calm_unrefused (Refuse u a x ∷ w) c t = absurd (false≢true (and_parts false (is_calm w) c).0)
 calm_unrefused (Fail u x ∷ w) c t = absurd (false≢true (and_parts false (is_calm w) c).0)

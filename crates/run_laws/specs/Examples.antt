@@ -1,5 +1,5 @@
 -- Worked examples: two whole runs of the same bodies, in two orders; and what happens where a premise is left out.
-use Rattle.std.specs.Prelude.{ℕ, pos, ◌≡◌, true, List, [], ◌∷◌, reverse, Some, None}
+use Rattle.std.specs.Prelude.{ℕ, pos, ◌≡◌, true, false, List, [], ◌∷◌, reverse, Some, None}
 use Rattle.phase_modes.specs.declared.limits.Limits.{Limits}
 use Rattle.phase_modes.specs.declared.reg.Mode.TheVariants.{Sig as OnlySig, SigWait}
 use Rattle.phase_modes.specs.Limits.{default_limits}
@@ -21,6 +21,7 @@ use Rattle.body_follows.specs.Going.{Does, goes_by}
 use Rattle.body_follows.specs.Whole.{IsWhole}
 use Rattle.run_laws.specs.Telling.{in_order}
 use Rattle.run_laws.specs.Determinacy.{IsRun}
+use Rattle.run_laws.specs.Memory.{has_memory, is_roomy}
 
 -- ---- two tasks on a phaser: each sends a value, takes a turn and looks; the child then sends what it saw
 
@@ -234,3 +235,12 @@ RefusedByLuck =
     × (goes_by crowd_next crowd_begins too_late ≡ true)
     × (is_ended 0 too_late ≡ true)
     × (refused_by 0 too_late ≡ Some 14)
+
+-- so where somebody has to leave in time, want of memory isn't all that luck decides: the calm one of the two isn't roomy,
+-- since three tasks were on the phaser in all; in the other the root gives up where registrations are full. The two runs of
+-- a pair are roomy
+abbrev pub NotRoomy : Type 0
+NotRoomy =
+    (is_roomy few in_time ≡ false)
+    × (has_memory few too_late ≡ true)
+    × (is_roomy default_limits root_first ≡ true)

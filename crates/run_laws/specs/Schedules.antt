@@ -3,10 +3,13 @@ use Rattle.std.specs.Prelude.{ℕ, ◌≡◌, true, List, None}
 use Rattle.std.specs.List.{list_all}
 use Rattle.phase_modes.specs.Limits.{limits_fit}
 use Rattle.job_script.specs.Program.{Program}
+use Rattle.world_model.specs.declared.event.WorldEvent.{WorldEvent}
 use Rattle.world_model.specs.Report.{report_of, refused_by}
 use Rattle.world_model.specs.Tasks.{is_ended}
 use Rattle.schedule_model.specs.Picks.{run_within}
 use Rattle.run_laws.specs.Determinacy.{wants_no_room}
+use Rattle.run_laws.specs.Memory.{is_roomy}
+use Rattle.run_laws.specs.Telling.{draws_by, in_order}
 use Rattle.run_laws.specs.Texts.{root_draws_alone}
 
 -- in the run by these picks, and at most so many rounds after them, nobody is refused or gives up, and the root ends
@@ -30,3 +33,25 @@ SchedulesWithRoomComeToTheSame =
     → ((t : ℕ) → refused_by t (run_within more p others) ≡ None)
     × (is_ended 0 (run_within more p others) ≡ true
     → report_of p.limits (run_within most p picks) ≡ report_of p.limits (run_within more p others))
+
+-- what another run by picks comes to, as far as it goes: nobody is refused or gives up, and if its root ends its report is
+-- that of v
+pub record IsForetold (p : Program) (v : List WorldEvent) (others : List ℕ) (more : ℕ) : Type 0 where
+  pub unrefused : (t : ℕ) → refused_by t (run_within more p others) ≡ None
+  pub report : is_ended 0 (run_within more p others) ≡ true
+      → report_of p.limits v ≡ report_of p.limits (run_within more p others)
+
+-- of any program: one run by picks in which nobody is refused and the root ends, each kind of number is drawn by one task
+-- alone, in order, and no phaser has more registrations in all than may stand at a time, foretells each other one
+abbrev pub OrderlySchedulesForetell : Type 0
+OrderlySchedulesForetell =
+    (p : Program) (picks others : List ℕ) (most more : ℕ) → IsCalm p picks most
+    → draws_by in_order (run_within most p picks) ≡ true → is_roomy p.limits (run_within most p picks) ≡ true
+    → IsForetold p (run_within most p picks) others more
+
+-- of a program whose text says that the root alone draws the order needn't be asked
+abbrev pub RoomySchedulesForetell : Type 0
+RoomySchedulesForetell =
+    (p : Program) (picks others : List ℕ) (most more : ℕ) → root_draws_alone p ≡ true → IsCalm p picks most
+    → is_roomy p.limits (run_within most p picks) ≡ true
+    → IsForetold p (run_within most p picks) others more

@@ -3,7 +3,9 @@
 //! check proves it.
 ghost use Rattle.run_laws.specs.Programs.{FollowersGoByScripts, ProgramsComeToTheSame, RootsDrawInOrder, TextsForetell, TextsTellWhoDraws};
 ghost use Rattle.run_laws.specs.Determinacy.{FailuresAreOfRoom, HistoriesAreBeginnings, RefusalsAreOfRoom, RoomIsAllLuck, RunsComeToTheSame, TasksDoTheSame};
-ghost use Rattle.run_laws.specs.Schedules.{SchedulesComeToTheSame, SchedulesWithRoomComeToTheSame};
+ghost use Rattle.run_laws.specs.Least.{LeastHangsOnMemoryAlone, LeastIsInOrder};
+ghost use Rattle.run_laws.specs.Memory.{HistoriesAlwaysFit, MemoryIsAllLuck};
+ghost use Rattle.run_laws.specs.Schedules.{OrderlySchedulesForetell, RoomySchedulesForetell, SchedulesComeToTheSame, SchedulesWithRoomComeToTheSame};
 
 use body_follows::Goes;
 
@@ -40,6 +42,34 @@ pub fn failures_are_of_room<B: Goes>()
 /// root has ended it comes to the same report.
 pub fn room_is_all_luck<B: Goes>()
     ensures { RoomIsAllLuck B.next }
+{}
+
+/// Beside one such run: the first event of another history of the same bodies, by the same rule, by
+/// which somebody is refused or gives up refuses no act, and isn't for want of room in a phaser's
+/// history.
+pub fn histories_always_fit<B: Goes>()
+    ensures { HistoriesAlwaysFit B.next }
+{}
+
+/// Beside one such run with no more registrations on a phaser in all than may stand at a time: in
+/// another history of the same bodies, by the same rule, in which nobody gives up for want of
+/// memory, or for full registrations where they aren't full, nobody is refused or gives up at all,
+/// and if its root has ended it comes to the same report.
+pub fn memory_is_all_luck<B: Goes>()
+    ensures { MemoryIsAllLuck B.next }
+{}
+
+/// Beside one such run in which each kind of number is drawn by one task alone, in order: in
+/// another history of the same bodies in which nobody was refused up to now, and the least numbers
+/// were drawn, they were drawn in order too.
+pub fn least_is_in_order<B: Goes>()
+    ensures { LeastIsInOrder B.next }
+{}
+
+/// So the law that memory is all that luck decides holds of histories in which the least numbers
+/// are drawn, and no rule needs to be named.
+pub fn least_hangs_on_memory_alone<B: Goes>()
+    ensures { LeastHangsOnMemoryAlone B.next }
 {}
 
 /// A legal history that follows a program goes by the program's bodies.
@@ -82,4 +112,18 @@ pub fn schedules_come_to_the_same()
 /// report.
 pub fn schedules_with_room_come_to_the_same()
     ensures { SchedulesWithRoomComeToTheSame }
+{}
+
+/// Of any program: one run by picks in which nobody is refused and the root ends, each kind of
+/// number is drawn by one task alone, in order, and no phaser has more registrations in all than
+/// may stand at a time, foretells each other one: nobody is refused or gives up in it, and if its
+/// root ends it comes to the same report.
+pub fn orderly_schedules_foretell()
+    ensures { OrderlySchedulesForetell }
+{}
+
+/// So it does of a program whose text says that the root alone draws numbers, whose order needn't
+/// be asked.
+pub fn roomy_schedules_foretell()
+    ensures { RoomySchedulesForetell }
 {}
