@@ -1,5 +1,5 @@
--- A history, and the event that one of its tasks is about to make in a whole run, are told in that run: so what is added up
--- over them is no more there than in the run, and each phase with a single has one in the run.
+-- A history, and the event that one of its tasks is about to make in a whole run, are told in that run: so what is
+-- added up over them is no more there than in the run, and each phase with a single has one in the run.
 use Rattle.std.proofs.Common.{◌≡◌, ℕ, suc, ◌+◌, ◌≤◌, Bool, true, false, ◌==◌, not, cond, List, [], ◌∷◌, ◌++◌, refl, sym, subst, ap, ◌∙◌, inl, inr, arith}
 use Rattle.std.specs.List.{list_any}
 use Rattle.std.proofs.lemmas.Bool.{and_parts, or_left, or_right, cases_Bool, eqb-true, eq-eqb, false≢true, or_cases, false_from_ne_true}
@@ -23,16 +23,18 @@ use Rattle.run_laws.proofs.NextEvents.{IsGoing}
 use Rattle.run_laws.proofs.Reports.{all_told, teller, with_teller, told_by, weigh, swapped}
 use Rattle.run_laws.proofs.Shuffles.{of_key}
 
-with_both : (u : ℕ) (xs ys : List Told) → with_teller u (xs ++ ys) ≡ with_teller u xs ++ with_teller u ys
+pub with_both : (u : ℕ) (xs ys : List Told) → with_teller u (xs ++ ys) ≡ with_teller u xs ++ with_teller u ys
 with_both u [] ys = refl
 with_both u (x ∷ xs) ys = ap (λ zs. (u, x) ∷ zs) (with_both u xs ys)
 
-some_proposed : (p k : ℕ) (xs : List Proposal) → list_any (other p k) xs ≡ true → list_any (λ x. x.phase == p) xs ≡ true
+some_proposed : (p k : ℕ) (xs : List Proposal) → list_any (other p k) xs ≡ true
+    → list_any (λ x. x.phase == p) xs ≡ true
 some_proposed p k [] h = absurd (false≢true h)
 some_proposed p k (x ∷ xs) h =
     elim (or_cases (other p k x) (list_any (other p k) xs) h) [
       | inl e ↦
-          or_left (x.phase == p) (list_any (λ y. y.phase == p) xs) (and_parts (x.phase == p) (not (x.number == k)) e).0
+          or_left (x.phase == p) (list_any (λ y. y.phase == p) xs)
+          (and_parts (x.phase == p) (not (x.number == k)) e).0
       | inr e ↦ or_right (x.phase == p) (list_any (λ y. y.phase == p) xs) (some_proposed p k xs e)
     ]
 
@@ -40,7 +42,8 @@ module _ {B : Type 0} (next : Answer → B → Does B) (root : B) (names : ℕ �
     (v : List WorldEvent) (going_v : IsGoing next root names l v) (over : is_ended 0 v ≡ true)
     (w : List WorldEvent) (going_w : IsGoing next root names l w) where
   -- what is proposed in the history is so in the run
-  pub proposed_there : (n p : ℕ) → is_proposed p (phaser_past n w) ≡ true → is_proposed p (phaser_past n v) ≡ true
+  pub proposed_there : (n p : ℕ) → is_proposed p (phaser_past n w) ≡ true
+      → is_proposed p (phaser_past n v) ≡ true
   proposed_there n p k =
       let h = phaser_past n w in
       let j = has_number h p k in
@@ -65,7 +68,8 @@ module _ {B : Type 0} (next : Answer → B → Does B) (root : B) (names : ℕ �
     first_with : (u : ℕ) → IsBeginning (told_with u) (told u v)
     first_with u =
         elim (cases_Bool (t == u)) [
-          | inl e ↦ rw e (subst (λ x. IsBeginning (told_of f.before f.event ∷ told x w) (told x v)) (eqb-true t u e) own)
+          | inl e ↦
+              rw e (subst (λ x. IsBeginning (told_of f.before f.event ∷ told x w) (told x v)) (eqb-true t u e) own)
           | inr e ↦ rw e (beginning_of next root names l v w going_v over going_w u)
         ]
       where
@@ -77,13 +81,15 @@ module _ {B : Type 0} (next : Answer → B → Does B) (root : B) (names : ℕ �
             rw (mine, f.plain) refl in (
               part.0,
               ap (λ x. told t x) f.is
-                  ∙ (part.1 ∙ ap (λ xs. part.0 ++ xs) (last ∙ ap (λ xs. told_of f.before f.event ∷ xs) (sym f.twin.own.said))),
+                  ∙ (part.1 ∙ ap (λ xs. part.0 ++ xs)
+                  (last ∙ ap (λ xs. told_of f.before f.event ∷ xs) (sym f.twin.own.said))),
             )
 
     have_more : HaveMore teller ((t, told_of f.before f.event) ∷ all_told w) (all_told v)
     have_more u =
         let first = first_with u in
-        let here : of_key teller u ((t, told_of f.before f.event) ∷ all_told w) ≡ with_teller u (told_with u) =
+        let here : of_key teller u ((t, told_of f.before f.event) ∷ all_told w)
+        ≡ with_teller u (told_with u) =
         by_test (t == u) refl in (
           with_teller u first.0,
           told_by u v
@@ -92,7 +98,8 @@ module _ {B : Type 0} (next : Answer → B → Does B) (root : B) (names : ℕ �
         )
       where
         by_test : (b : Bool) → (t == u) ≡ b
-            → cond b ((t, told_of f.before f.event) ∷ of_key teller u (all_told w)) (of_key teller u (all_told w))
+            → cond b ((t, told_of f.before f.event) ∷ of_key teller u (all_told w))
+            (of_key teller u (all_told w))
             ≡ with_teller u (cond b (told_of f.before f.event ∷ told u w) (told u w))
         by_test true e =
             ap (λ zs. (t, told_of f.before f.event) ∷ zs) (told_by u w)

@@ -1,5 +1,5 @@
--- Beside a whole run: what a task is about to make there has room in its phaser's history here, and its registration
--- does where the run has no more of them in all than may stand at a time.
+-- Beside a whole run: what a task is about to make there has room in its phaser's history here, and its
+-- registration does where the run has no more of them in all than may stand at a time.
 use Rattle.std.proofs.Common.{◌≡◌, ℕ, zero, suc, ◌+◌, ◌≤◌, ◌<◌, Bool, true, false, ◌==◌, not, nat_le, nat_lt, cond, List, [], ◌∷◌, ◌++◌, length, Option, Some, None, refl, sym, subst, ap, ◌∙◌, inl, inr, arith}
 use Rattle.std.specs.Prelude.{is_some}
 use Rattle.std.specs.List.{count_by, list_all, filter, range_with_len}
@@ -41,7 +41,7 @@ use Rattle.run_laws.proofs.Reports.{all_told, weigh, on_weight, IsSum, sum_told,
 
 -- ---- what is added up
 
-abbrev by_need : Step → ℕ
+abbrev pub by_need : Step → ℕ
 by_need (Make t m terms) = 2
 by_need (Reg q t m) = 2
 by_need (Claim t) = 0
@@ -60,7 +60,7 @@ need_agrees terms h (Send t a x) = refl
 need_agrees terms h (Look t a) = refl
 need_agrees terms h (Drop t) = refl
 
-need_sum : IsSum needs event_need by_need
+pub need_sum : IsSum needs event_need by_need
 need_sum = record { none = refl; more = λ e h. refl; agrees = need_agrees; singles = singles }
   where
     singles : (m : ℕ) (s : Step) → is_of_single (Phaser m s) ≡ true → by_need s ≡ 0
@@ -68,11 +68,13 @@ need_sum = record { none = refl; more = λ e h. refl; agrees = need_agrees; sing
     singles m (Did t) e = refl
     singles m s e = absurd (false≢true e)
 
-registered_count : (h : List Event) → count_by (λ e. is_some (registered_by e)) h ≡ length (registered_tasks h)
+registered_count : (h : List Event)
+    → count_by (λ e. is_some (registered_by e)) h ≡ length (registered_tasks h)
 registered_count [] = refl
 registered_count (e ∷ h) =
     sum_by-cons (λ d. cond (is_some (registered_by d)) 1 0) e h
-    ∙ (ap (λ i. cond (is_some (registered_by e)) 1 0 + i) (registered_count h) ∙ by_task (registered_by e) refl)
+    ∙ (ap (λ i. cond (is_some (registered_by e)) 1 0 + i) (registered_count h)
+    ∙ by_task (registered_by e) refl)
   where
     by_task : (o : Option ℕ) → registered_by e ≡ o
         → cond (is_some o) 1 0 + length (registered_tasks h) ≡ length (registered_tasks (e ∷ h))
@@ -88,7 +90,8 @@ filter_less p (t ∷ ts) =
     ]
 
 -- what holds of all numbers below m holds of each
-all_below : (p : ℕ → Bool) (a m n : ℕ) → list_all p (range_with_len a m) ≡ true → a ≤ n → n < a + m → p n ≡ true
+all_below : (p : ℕ → Bool) (a m n : ℕ) → list_all p (range_with_len a m) ≡ true → a ≤ n → n < a + m
+    → p n ≡ true
 all_below p a zero n k from to = absurd (omega (arith, from, to))
 all_below p a (suc m) n k from to =
     let both = and_parts (p a) (list_all p (range_with_len (a + 1) m)) k in
@@ -100,8 +103,8 @@ all_below p a (suc m) n k from to =
 
 module _ {B : Type 0} (next : Answer → B → Does B) (root : B) (names : ℕ → List Told → Numbers) (l : Limits)
     (v : List WorldEvent) (going_v : IsGoing next root names l v) (over : is_ended 0 v ≡ true)
-    (w : List WorldEvent) (going_w : IsGoing next root names l w) (t : ℕ) (f : IsNextOf next root names l t w v)
-    (n : ℕ) (s : Step) (event : f.event ≡ Phaser n s) where
+    (w : List WorldEvent) (going_w : IsGoing next root names l w) (t : ℕ)
+    (f : IsNextOf next root names l t w v) (n : ℕ) (s : Step) (event : f.event ≡ Phaser n s) where
   -- what the event weighs, and all that the history's phaser does, is no more than what the run's phaser does
   sum_less : (sum : List Event → ℕ) (weight : Event → ℕ) (by : Step → ℕ) → IsSum sum weight by
       → by s + sum (phaser_past n w) ≤ sum (phaser_past n v)
@@ -109,12 +112,14 @@ module _ {B : Type 0} (next : Answer → B → Does B) (root : B) (names : ℕ �
       let here : on_weight n by f.event ≡ by s =
       ap (λ e. on_weight n by e) event ∙ ap (λ b. cond b (by s) 0) (eq-eqb n n refl) in
       let mine : sum (phaser_past n w) ≡ weigh (on_weight n by) (all_told w) = sum_told sum weight by k n w in
-      let theirs : sum (phaser_past n v) ≡ weigh (on_weight n by) (all_told v) = sum_told sum weight by k n v in
+      let theirs : sum (phaser_past n v) ≡ weigh (on_weight n by) (all_told v) =
+      sum_told sum weight by k n v in
       let less = weighs_less next root names l v going_v over w going_w t f (on_weight n by) in
       omega (arith, here, mine, theirs, less)
 
   -- a phase that is proposed for, or is now to be, is so in the run
-  proposed_then : (p : ℕ) → is_proposed p (event_for (terms_of n w) (phaser_past n w) s ∷ phaser_past n w) ≡ true
+  proposed_then : (p : ℕ)
+      → is_proposed p (event_for (terms_of n w) (phaser_past n w) s ∷ phaser_past n w) ≡ true
       → is_proposed p (phaser_past n v) ≡ true
   proposed_then p = by_step s event
     where
@@ -134,7 +139,8 @@ module _ {B : Type 0} (next : Answer → B → Does B) (root : B) (names : ℕ �
           let part = past_part n f.after (Phaser n (Sig u (Some j)) ∷ f.before) in
           let whole : phaser_past n v ≡ part.more ++ events.Sig u (Some j) ∷ phaser_past n f.before =
           ap (λ x. phaser_past n x) (f.is ∙ ap (λ e. f.after ++ e ∷ f.before) is)
-          ∙ (part.is ∙ ap (λ b. part.more ++ cond b (events.Sig u (Some j) ∷ phaser_past n f.before) (phaser_past n f.before)) (eq-eqb n n refl)) in
+          ∙ (part.is ∙ ap (λ b. part.more
+          ++ cond b (events.Sig u (Some j) ∷ phaser_past n f.before) (phaser_past n f.before)) (eq-eqb n n refl)) in
           subst (λ (g : List Event). is_proposed p g ≡ true) (sym whole)
           (all_later (λ x. x.phase == p) part.more (events.Sig u (Some j) ∷ phaser_past n f.before)
           (or_left (signals u (phaser_past n f.before) == p) (is_proposed p (phaser_past n f.before))
@@ -187,22 +193,26 @@ module _ {B : Type 0} (next : Answer → B → Does B) (root : B) (names : ℕ �
       le-leb (used (e ∷ h)) l.history (omega (arith, now, whole, fewer, own, less, sum, room))
 
   -- and there is room for one registration more, where the run is roomy
-  pub registers_fit : by_registered s ≡ 1 → is_roomy l v ≡ true → nat_lt (live_count (phaser_past n w)) l.regs ≡ true
+  pub registers_fit : by_registered s ≡ 1 → is_roomy l v ≡ true
+      → nat_lt (live_count (phaser_past n w)) l.regs ≡ true
   registers_fit one roomy =
       let h = phaser_past n w in
       let g = phaser_past n v in
-      let less : by_registered s + count_by (λ e. is_some (registered_by e)) h ≤ count_by (λ e. is_some (registered_by e)) g =
-      sum_less (count_by (λ e. is_some (registered_by e))) (λ e. cond (is_some (registered_by e)) 1 0) by_registered
-      registered_sum in
-      let here : count_by (λ e. is_some (registered_by e)) h ≡ length (registered_tasks h) = registered_count h in
-      let there : count_by (λ e. is_some (registered_by e)) g ≡ registrations n v = registered_count g in
-      let live : live_count h ≤ length (registered_tasks h) = filter_less (λ u. is_live u h) (registered_tasks h) in
+      let count : List Event → ℕ = count_by (λ e. is_some (registered_by e)) in
+      let less : by_registered s + count h ≤ count g =
+      sum_less (count_by (λ e. is_some (registered_by e))) (λ e. cond (is_some (registered_by e)) 1 0)
+      by_registered registered_sum in
+      let here : count h ≡ length (registered_tasks h) = registered_count h in
+      let there : count g ≡ registrations n v = registered_count g in
+      let live : live_count h ≤ length (registered_tasks h) =
+      filter_less (λ u. is_live u h) (registered_tasks h) in
       let more : 0 < registrations n v = omega (arith, less, one, there) in
       let made : is_phaser n v ≡ true = ap (λ b. not b) (some g more) in
       let low : n < l.phasers = phaser_below l n v going_v.legal made in
       let few : registrations n v ≤ l.regs =
       leb-true (registrations n v) l.regs
-      (all_below (λ i. nat_le (registrations i v) l.regs) 0 l.phasers n roomy (omega arith) (omega (arith, low))) in
+      (all_below (λ i. nat_le (registrations i v) l.regs) 0 l.phasers n roomy (omega arith)
+      (omega (arith, low))) in
       lt-ltb (live_count h) l.regs (omega (arith, less, one, here, there, live, few))
     where
       some : (g : List Event) → 0 < length (registered_tasks g) → is_empty g ≡ false

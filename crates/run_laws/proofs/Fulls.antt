@@ -1,4 +1,5 @@
--- What a phaser refuses by 15 is allowed but for room; and by 14 it refuses a registration where there is none for it.
+-- What a phaser refuses by 15 is allowed but for room; and by 14 it refuses a registration where there is none for
+-- it.
 use Rattle.std.proofs.Common.{◌≡◌, ℕ, Bool, true, false, ◌&&◌, ◌||◌, ◌==◌, not, nat_lt, cond, List, [], ◌∷◌, Option, Some, None, refl, sym, subst, ◌∙◌, inl, inr}
 use Rattle.std.specs.List.{list_all}
 use Rattle.std.proofs.lemmas.Bool.Decides.{Decides-int_eq}
@@ -45,7 +46,8 @@ not_full : (cs : List (Refusal × Bool)) (r : Refusal) → keep_room cs ≡ true
     → (number_of r == 15) ≡ false
 not_full cs r a k = not-true (number_of r == 15) (refused_in (λ x. not (number_of x == 15)) cs r a k)
 
-done_is_no_refusal : (k : ℕ) (h : List Event) (e : Event) → is_refused_by k (returned h (phaser.done e)) ≡ false
+done_is_no_refusal : (k : ℕ) (h : List Event) (e : Event)
+    → is_refused_by k (returned h (phaser.done e)) ≡ false
 done_is_no_refusal k h (events.Pass t) = refl
 done_is_no_refusal k h (events.Look t a x) = refl
 done_is_no_refusal k h e = refl
@@ -86,7 +88,8 @@ permitted : (l : Limits) (terms : Terms) (h : List Event) (c : Call) → are_met
 permitted l terms h (calls.Make t m) k w = k
 permitted l terms h (calls.Register q t m) k w = k
 permitted l terms h (calls.Signal t x) k w =
-    and_from (are_met (conditions l terms h (calls.Signal t x))) (is_within_bound terms.bound (signals t h) h) k
+    and_from (are_met (conditions l terms h (calls.Signal t x)))
+    (is_within_bound terms.bound (signals t h) h) k
     (unnot (is_within_bound terms.bound (signals t h) h) w)
 permitted l terms h (calls.Pass t) k w =
     elim (cases_Bool (is_permitted l terms h (events.Claim t))) [
@@ -94,7 +97,8 @@ permitted l terms h (calls.Pass t) k w =
       | inr e ↦
           subst (λ b. is_permitted l terms h (cond b (events.Claim t) (events.Pass t)) ≡ true) (sym e)
           (goes_on (are_met (conditions l terms h (calls.Pass t))) (has_mode can_wait t h)
-          (is_closed (waits t h) h && is_settled (waits t h) h) (is_permitted l terms h (events.Claim t)) k w e)
+          (is_closed (waits t h) h && is_settled (waits t h) h) (is_permitted l terms h (events.Claim t))
+          k w e)
     ]
 permitted l terms h (calls.SingleDone t) k w = k
 permitted l terms h (calls.Send t a v) k w = k
@@ -126,7 +130,8 @@ phaser_full l n w c a k =
 
 -- ---- an act that is refused by 15
 
-pairs_keep : (w : List WorldEvent) (t : ℕ) (named : List ℕ) (ps : List Pair) → keep_room (pair_conditions w t named ps) ≡ true
+pairs_keep : (w : List WorldEvent) (t : ℕ) (named : List ℕ) (ps : List Pair)
+    → keep_room (pair_conditions w t named ps) ≡ true
 pairs_keep w t named [] = refl
 pairs_keep w t named (p ∷ ps) = pairs_keep w t (p.phaser ∷ named) ps
 
@@ -144,7 +149,8 @@ own_keep l w t (Beginning Shut) = refl
 own_keep l w t (Beginning End) = refl
 
 -- is so by its phaser or its finish
-pub act_full : (l : Limits) (w : List WorldEvent) (t : ℕ) (a : Tried) → is_refused_by 15 (act_reply l w t a) ≡ true
+pub act_full : (l : Limits) (w : List WorldEvent) (t : ℕ) (a : Tried)
+    → is_refused_by 15 (act_reply l w t a) ≡ true
     → is_refused_by 15 (act_done l w t a) ≡ true
 act_full l w t a k = by_first (first_refusal (act_conditions l w t a)) refl k
   where
@@ -161,7 +167,8 @@ by_fourteen (Some r) = number_of r == 14
 by_fourteen None = false
 
 five : (a b c d e : Bool)
-    → by_fourteen (first_refusal ((NotRegistered, a) ∷ (MoreThanParent, b) ∷ (TasksFull, c) ∷ (RegisteredTwice, d) ∷ (RegsFull, e) ∷ [])) ≡ true
+    → by_fourteen (first_refusal ((NotRegistered, a) ∷ (MoreThanParent, b) ∷ (TasksFull, c)
+    ∷ (RegisteredTwice, d) ∷ (RegsFull, e) ∷ [])) ≡ true
     → e ≡ false
 five false b c d e k = absurd (false≢true k)
 five true false c d e k = absurd (false≢true k)
@@ -176,7 +183,8 @@ pub regs_full : (l : Limits) (w : List WorldEvent) (n q c : ℕ) (m : Mode)
 regs_full l w n q c m k =
     let h = phaser_past n w in
     let cs = conditions l (terms_of n w) h (calls.Register q c m) in
-    five (is_live q h) (is_within_task m q h) (nat_lt c l.tasks) (not (is_registered c h)) (nat_lt (live_count h) l.regs)
+    five (is_live q h) (is_within_task m q h) (nat_lt c l.tasks) (not (is_registered c h))
+    (nat_lt (live_count h) l.regs)
     (by_first (first_refusal cs) (has_room l (events.Reg q c m ∷ h)) k)
   where
     by_first : (o : Option Refusal) (room : Bool)

@@ -1,5 +1,5 @@
--- Beside one whole run in which each kind of number is drawn by one task alone, in order: the least number that isn't in
--- use is the next in order, in whatever other history.
+-- Beside one whole run in which each kind of number is drawn by one task alone, in order: the least number that
+-- isn't in use is the next in order, in whatever other history.
 use Rattle.std.proofs.Common.{◌≡◌, ◌⊎◌, ℕ, ◌+◌, ◌<◌, ◌≤◌, Bool, true, false, ◌&&◌, ◌==◌, not, cond, List, [], ◌∷◌, ◌++◌, Some, refl, sym, ap, ◌∙◌, inl, inr, arith}
 use Rattle.std.specs.List.{count_by}
 use Rattle.std.proofs.lemmas.Bool.{and_parts, and_from, cases_Bool, eqb-true, eq-eqb, true≢false, false≢true}
@@ -58,7 +58,8 @@ count_front q (x ∷ xs) ys =
 module _ {B : Type 0} (next : Answer → B → Does B) (root : B) (l : Limits)
     (v : List WorldEvent) (going_v : IsGoing next root in_order l v) (over : is_ended 0 v ≡ true)
     (w : List WorldEvent) (going_w : IsGoing next root in_order l w)
-    (t : ℕ) (a : Tried) (idle : is_idle t w ≡ true) (goes : is_next next root w (Some (record { task = t; act = a })) ≡ true) where
+    (t : ℕ) (a : Tried) (idle : is_idle t w ≡ true)
+    (goes : is_next next root w (Some (record { task = t; act = a })) ≡ true) where
   -- whatever number the act of a task draws, its next event in the run draws one of that kind
   like_next : (q : WorldEvent → Bool)
       → ((own mine : List Pair) (new given : Numbers) (d : Act B)
@@ -89,8 +90,8 @@ module _ {B : Type 0} (next : Answer → B → Does B) (root : B) (l : Limits)
           full e ds xs h k = false≢true (sym (ap (λ ys. is_empty ys) h) ∙ k)
 
   -- so where it draws the least one, it draws the next in order
-  next_of_kind : (q : WorldEvent → Bool) (number : WorldEvent → ℕ) (used : ℕ → List WorldEvent → Bool) (base limit : ℕ)
-      → IsKind l q number used base
+  next_of_kind : (q : WorldEvent → Bool) (number : WorldEvent → ℕ) (used : ℕ → List WorldEvent → Bool)
+      (base limit : ℕ) → IsKind l q number used base
       → ((own mine : List Pair) (new given : Numbers) (d : Act B)
       → q (event_by t (tried_of own new d)) ≡ q (event_by t (tried_of mine given d)))
       → q (event_by t a) ≡ true → (number (event_by t a) == least_unused (λ i. used i w) limit) ≡ true
@@ -98,10 +99,12 @@ module _ {B : Type 0} (next : Answer → B → Does B) (root : B) (l : Limits)
   next_of_kind q number used base limit kind alike draws least free =
       let f = like_next q alike in
       let mine : (q f.0.event && actor f.0.before f.0.event == t) ≡ true =
-      and_from (q f.0.event) (actor f.0.before f.0.event == t) (f.1 ∙ draws) (eq-eqb (actor f.0.before f.0.event) t f.0.mine) in
+      and_from (q f.0.event) (actor f.0.before f.0.event == t) (f.1 ∙ draws)
+      (eq-eqb (actor f.0.before f.0.event) t f.0.mine) in
       let now = drawn_now l q number used base kind t f.0.event f.0.before mine in
       let part = drawn_later l q number used base kind t f.0.after (f.0.event ∷ f.0.before) in
-      let whole : drawn_by q t v ≡ drawn_by q t (f.0.after ++ f.0.event ∷ f.0.before) = ap (λ x. drawn_by q t x) f.0.is in
+      let whole : drawn_by q t v ≡ drawn_by q t (f.0.after ++ f.0.event ∷ f.0.before) =
+      ap (λ x. drawn_by q t x) f.0.is in
       let some : 0 < drawn_by q t v = omega (arith, now, part, whole) in
       drawn_is (λ i. used i w) limit (number (event_by t a)) (base + drawn_by q t w)
       (in_use l q number used base kind t w going_w.legal going_w.draws (λ u other.
@@ -124,18 +127,19 @@ draws_it : {B : Type 0} (next : Answer → B → Does B) (root : B) (l : Limits)
     → draws_next in_order w (Some (record { task = t; act = a })) ≡ true
 draws_it {B = B} next root l v going_v over w going_w t (New n m terms) idle goes free least =
     let is : n ≡ 0 + drawn_by makes t w =
-    next_of_kind next root l v going_v over w going_w t (New n m terms) idle goes makes phaser_number is_phaser 0 l.phasers
-    (phasers_kind l) (λ own mine new given d. makes_alike {B = B} t own mine new given d) refl least free in
+    next_of_kind next root l v going_v over w going_w t (New n m terms) idle goes makes phaser_number is_phaser 0
+    l.phasers (phasers_kind l) (λ own mine new given d. makes_alike {B = B} t own mine new given d) refl least free in
     eq-eqb n (drawn_by makes t w) (omega (arith, is))
 draws_it {B = B} next root l v going_v over w going_w t (Open f) idle goes free least =
     let is : f ≡ 1 + drawn_by opens t w =
-    next_of_kind next root l v going_v over w going_w t (Open f) idle goes opens finish_number is_finish 1 l.finishes
-    (finishes_kind l) (λ own mine new given d. opens_alike {B = B} t own mine new given d) refl least free in
+    next_of_kind next root l v going_v over w going_w t (Open f) idle goes opens finish_number is_finish 1
+    l.finishes (finishes_kind l) (λ own mine new given d. opens_alike {B = B} t own mine new given d) refl least free in
     eq-eqb f (drawn_by opens t w + 1) (omega (arith, is))
 draws_it {B = B} next root l v going_v over w going_w t (Beginning (Async c ps)) idle goes free least =
     let is : c ≡ 1 + drawn_by begins_child t w =
-    next_of_kind next root l v going_v over w going_w t (Beginning (Async c ps)) idle goes begins_child child_number
-    is_named 1 l.tasks (tasks_kind l) (λ own mine new given d. spawns_alike {B = B} t own mine new given d) refl least free in
+    next_of_kind next root l v going_v over w going_w t (Beginning (Async c ps)) idle goes begins_child
+    child_number is_named 1 l.tasks (tasks_kind l)
+    (λ own mine new given d. spawns_alike {B = B} t own mine new given d) refl least free in
     eq-eqb c (drawn_by begins_child t w + 1) (omega (arith, is))
 draws_it next root l v going_v over w going_w t a idle goes free least = refl
 
@@ -177,8 +181,9 @@ module _ {B : Type 0} (next : Answer → B → Does B) (root : B) (l : Limits)
 -- ---- the laws
 
 smooth_in_order : {B : Type 0} (next : Answer → B → Does B) (root : B) (l : Limits)
-    (v : List WorldEvent) (going_v : IsGoing next root in_order l v) (over : is_ended 0 v ≡ true) (w : List WorldEvent)
-    → is_legal_world l w ≡ true → goes_by next root w ≡ true → is_calm w ≡ true → draws_least l w ≡ true
+    (v : List WorldEvent) (going_v : IsGoing next root in_order l v) (over : is_ended 0 v ≡ true)
+    (w : List WorldEvent) → is_legal_world l w ≡ true → goes_by next root w ≡ true → is_calm w ≡ true
+    → draws_least l w ≡ true
     → draws_by in_order w ≡ true
 smooth_in_order next root l v going_v over [] k i c d = refl
 smooth_in_order next root l v going_v over (e ∷ w) k i c d =
@@ -188,39 +193,43 @@ smooth_in_order next root l v going_v over (e ∷ w) k i c d =
     let least = and_parts (draws_least_next l w (act_of e)) (draws_least l w) d in
     let before = smooth_in_order next root l v going_v over w a.1 b.1 calm.1 least.1 in
     and_from (draws_next in_order w (act_of e)) (draws_by in_order w)
-    (event_draws next root l v going_v over w (record { legal = a.1; goes = b.1; draws = before; calm = calm.1 }) e a.0 b.0
-    least.0) before
+    (event_draws next root l v going_v over w
+    (record { legal = a.1; goes = b.1; draws = before; calm = calm.1 }) e a.0 b.0 least.0) before
 
 pub least_is_in_order : {B : Type 0} (next : Answer → B → Does B) → LeastIsInOrder next
 least_is_in_order next root l v w run smooth d =
-    smooth_in_order next root l v (going next root in_order l v run.whole.smooth run.draws) run.whole.ended w smooth.legal
-    smooth.goes (none_refused w smooth.unrefused) d
+    smooth_in_order next root l v (going next root in_order l v run.whole.smooth run.draws) run.whole.ended w
+    smooth.legal smooth.goes (none_refused w smooth.unrefused) d
 
-all_calm : {B : Type 0} (next : Answer → B → Does B) (root : B) (l : Limits)
+pub all_calm : {B : Type 0} (next : Answer → B → Does B) (root : B) (l : Limits)
     (v : List WorldEvent) (going_v : IsGoing next root in_order l v) (over : is_ended 0 v ≡ true)
     (roomy : is_roomy l v ≡ true) (w : List WorldEvent)
     → is_legal_world l w ≡ true → goes_by next root w ≡ true → draws_least l w ≡ true → has_memory l w ≡ true
     → IsGoing next root in_order l w
-all_calm next root l v going_v over roomy [] k i d r = record { legal = k; goes = i; draws = refl; calm = refl }
+all_calm next root l v going_v over roomy [] k i d r =
+    record { legal = k; goes = i; draws = refl; calm = refl }
 all_calm next root l v going_v over roomy (e ∷ w) k i d r =
     let a = last_accepted l e w k in
     let b = and_parts (is_next next root w (act_of e)) (goes_by next root w) i in
     let least = and_parts (draws_least_next l w (act_of e)) (draws_least l w) d in
     let q = and_parts (is_forced l w e) (has_memory l w) r in
     let g = all_calm next root l v going_v over roomy w a.1 b.1 least.1 q.1 in
-    let now : draws_next in_order w (act_of e) ≡ true = event_draws next root l v going_v over w g e a.0 b.0 least.0 in
+    let now : draws_next in_order w (act_of e) ≡ true =
+    event_draws next root l v going_v over w g e a.0 b.0 least.0 in
     record {
       legal = k;
       goes = i;
       draws = and_from (draws_next in_order w (act_of e)) (draws_by in_order w) now g.draws;
       calm = and_from (not (is_refusal e)) (is_calm w)
-          (ap (λ x. not x) (no_refusal_now next root in_order l v going_v over roomy e w g a.0 b.0 now q.0)) g.calm;
+          (ap (λ x. not x) (no_refusal_now next root in_order l v going_v over roomy e w g a.0 b.0 now q.0))
+          g.calm;
     }
 
 pub least_hangs_on_memory_alone : {B : Type 0} (next : Answer → B → Does B) → LeastHangsOnMemoryAlone next
 least_hangs_on_memory_alone next root l v w run roomy k i d r =
     let g =
-    all_calm next root l v (going next root in_order l v run.whole.smooth run.draws) run.whole.ended roomy w k i d r in
+    all_calm next root l v (going next root in_order l v run.whole.smooth run.draws) run.whole.ended roomy w
+    k i d r in
     let none = calm_unrefused w g.calm in (
       none,
       λ ended. runs_come_to_the_same next root in_order l v w run

@@ -12,13 +12,15 @@ module _ {X : Type 0} (key : X → ℕ) where
     newer : of_key key u before ≡ more
     older : of_key key u after ≡ rest
 
-  split_with : (u : ℕ) (x : X) (more rest ys : List X) → of_key key u ys ≡ more ++ x ∷ rest → IsSplit u x more rest ys
+  split_with : (u : ℕ) (x : X) (more rest ys : List X) → of_key key u ys ≡ more ++ x ∷ rest
+      → IsSplit u x more rest ys
   split_with u x more rest [] e = absurd (none more e)
     where
       none : (more : List X) → [] ≡ more ++ x ∷ rest → ⊥
       none [] h = cc
       none (m ∷ more) h = cc
-  split_with u x more rest (y ∷ ys) e = by_test (λ more h. split_with u x more rest ys h) more (key y == u) refl e
+  split_with u x more rest (y ∷ ys) e =
+      by_test (λ more h. split_with u x more rest ys h) more (key y == u) refl e
     where
       parts : {a b : X} {cs ds : List X} → a ∷ cs ≡ b ∷ ds → (a ≡ b) × (cs ≡ ds)
       parts h = (cc, cc)
@@ -53,7 +55,8 @@ module _ {X : Type 0} (key : X → ℕ) where
   abbrev pub HaveMore : List X → List X → Type 0
   HaveMore xs ys = (u : ℕ) → (more : List X) × (of_key key u ys ≡ more ++ of_key key u xs)
 
-  module _ (weight : X → ℕ) (swaps : (x y : X) (r : ℕ) → weight x + (weight y + r) ≡ weight y + (weight x + r)) where
+  module _ (weight : X → ℕ)
+      (swaps : (x y : X) (r : ℕ) → weight x + (weight y + r) ≡ weight y + (weight x + r)) where
     abbrev sum : List X → ℕ
     sum xs = total key (λ x r. weight x + r) swaps 0 xs
 
@@ -85,9 +88,11 @@ module _ {X : Type 0} (key : X → ℕ) where
     at_most [] ys have = omega arith
     at_most (x ∷ xs) ys have =
         let h = have (key x) in
-        let here : of_key key (key x) (x ∷ xs) ≡ x ∷ of_key key (key x) xs = rw (eq-eqb (key x) (key x) refl) refl in
+        let here : of_key key (key x) (x ∷ xs) ≡ x ∷ of_key key (key x) xs =
+        rw (eq-eqb (key x) (key x) refl) refl in
         let s = split_with (key x) x h.0 (of_key key (key x) xs) ys (h.1 ∙ ap (λ zs. h.0 ++ zs) here) in
-        let rest : sum xs ≤ sum (s.before ++ s.after) = at_most xs (s.before ++ s.after) (rest_have x xs ys have h.0 s) in
+        let rest : sum xs ≤ sum (s.before ++ s.after) =
+        at_most xs (s.before ++ s.after) (rest_have x xs ys have h.0 s) in
         let is : sum ys ≡ weight x + sum (s.before ++ s.after) =
         ap (λ zs. sum zs) s.is ∙ moved key (λ x r. weight x + r) swaps 0 x s.before s.after in
         omega (arith, rest, is)

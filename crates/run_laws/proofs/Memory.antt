@@ -1,5 +1,5 @@
--- Beside one whole run in which nobody is refused: no history of a phaser is ever full, and where the run is roomy want of
--- memory is all that luck decides.
+-- Beside one whole run in which nobody is refused: no history of a phaser is ever full, and where the run is roomy
+-- want of memory is all that luck decides.
 use Rattle.std.proofs.Common.{◌≡◌, ℕ, Bool, true, false, ◌&&◌, ◌||◌, ◌==◌, not, cond, List, [], ◌∷◌, Some, refl, sym, subst, ap, ◌∙◌, inl, inr}
 use Rattle.std.specs.Prelude.{Result, Err}
 use Rattle.std.specs.Option.{option_map_or}
@@ -68,8 +68,10 @@ module _ {B : Type 0} (next : Answer → B → Does B) (root : B) (names : ℕ �
   act_fits f (Open g) is k = false≢true (sym (finish_never_fails l w g (Opened t) 15 refl) ∙ k)
   act_fits f (New n m terms) is k =
       never_full f n (Make t m terms) is (phaser_full l n w (call_for (Make t m terms)) refl k)
-  act_fits f (Sending n a x) is k = never_full f n (Send t a x) is (phaser_full l n w (call_for (Send t a x)) refl k)
-  act_fits f (Looking n a) is k = never_full f n (Look t a) is (phaser_full l n w (call_for (Look t a)) refl k)
+  act_fits f (Sending n a x) is k =
+      never_full f n (Send t a x) is (phaser_full l n w (call_for (Send t a x)) refl k)
+  act_fits f (Looking n a) is k =
+      never_full f n (Look t a) is (phaser_full l n w (call_for (Look t a)) refl k)
 
   -- so no act is refused
   pub no_act_refused : (a : Tried) (n : ℕ) → is_accepted l w (Refuse t a n) ≡ true
@@ -89,25 +91,29 @@ module _ {B : Type 0} (next : Answer → B → Does B) (root : B) (names : ℕ �
   -- a pass, or the claim or the report that comes first
   pass_fits : (f : IsNextOf next root names l t w v) (n u : ℕ) → f.event ≡ Phaser n (Pass u)
       → (a b : Bool) → is_permitted l (terms_of n w) (phaser_past n w) (events.Claim u) ≡ a
-      → is_refused_by 15 (next_done l w (cond a (Phaser n (Claim u)) (cond b (Phaser n (Did u)) (Phaser n (Pass u))))) ≡ true
+      → is_refused_by 15
+      (next_done l w (cond a (Phaser n (Claim u)) (cond b (Phaser n (Did u)) (Phaser n (Pass u))))) ≡ true
       → ⊥
   pass_fits f n u is true b e k =
       let h = phaser_past n w in
       let full : IsFull l (terms_of n w) h (events.Claim u) =
       subst (λ c. IsFull l (terms_of n w) h (cond c (events.Claim u) (events.Pass u))) e
       (phaser_full l n w (call_for (Claim u)) refl k) in
-      true≢false (sym (claim_has_room l (terms_of n w) h (phasers_legal l w going_w.legal n) u full.permitted) ∙ full.full)
+      true≢false (sym (claim_has_room l (terms_of n w) h (phasers_legal l w going_w.legal n) u full.permitted)
+      ∙ full.full)
   pass_fits f n u is false true e k =
       let h = phaser_past n w in
       let full = phaser_full l n w (call_for (Did u)) refl k in
-      true≢false (sym (did_has_room l (terms_of n w) h (phasers_legal l w going_w.legal n) u full.permitted) ∙ full.full)
+      true≢false (sym (did_has_room l (terms_of n w) h (phasers_legal l w going_w.legal n) u full.permitted)
+      ∙ full.full)
   pass_fits f n u is false false e k =
       let h = phaser_past n w in
       never_full f n (Pass u) is
       (subst (λ c. IsFull l (terms_of n w) h (cond c (events.Claim u) (events.Pass u))) e
       (phaser_full l n w (call_for (Pass u)) refl k))
 
-  single_is_not : (f : IsNextOf next root names l t w v) (d : WorldEvent) → f.event ≡ d → is_of_single d ≡ true → ⊥
+  single_is_not : (f : IsNextOf next root names l t w v) (d : WorldEvent) → f.event ≡ d
+      → is_of_single d ≡ true → ⊥
   single_is_not f d is k = true≢false (sym k ∙ (ap (λ e. is_of_single e) (sym is) ∙ f.plain))
 
   first_fits : (f : IsNextOf next root names l t w v) (x : WorldEvent) → f.event ≡ x
@@ -119,11 +125,16 @@ module _ {B : Type 0} (next : Answer → B → Does B) (root : B) (names : ℕ �
   first_fits f (Phaser n (Did u)) is k = single_is_not f (Phaser n (Did u)) is refl
   first_fits f (Phaser n (Make u m terms)) is k =
       never_full f n (Make u m terms) is (phaser_full l n w (call_for (Make u m terms)) refl k)
-  first_fits f (Phaser n (Reg q u m)) is k = never_full f n (Reg q u m) is (phaser_full l n w (call_for (Reg q u m)) refl k)
-  first_fits f (Phaser n (Sig u x)) is k = never_full f n (Sig u x) is (phaser_full l n w (call_for (Sig u x)) refl k)
-  first_fits f (Phaser n (Send u a x)) is k = never_full f n (Send u a x) is (phaser_full l n w (call_for (Send u a x)) refl k)
-  first_fits f (Phaser n (Look u a)) is k = never_full f n (Look u a) is (phaser_full l n w (call_for (Look u a)) refl k)
-  first_fits f (Phaser n (Drop u)) is k = never_full f n (Drop u) is (phaser_full l n w (call_for (Drop u)) refl k)
+  first_fits f (Phaser n (Reg q u m)) is k =
+      never_full f n (Reg q u m) is (phaser_full l n w (call_for (Reg q u m)) refl k)
+  first_fits f (Phaser n (Sig u x)) is k =
+      never_full f n (Sig u x) is (phaser_full l n w (call_for (Sig u x)) refl k)
+  first_fits f (Phaser n (Send u a x)) is k =
+      never_full f n (Send u a x) is (phaser_full l n w (call_for (Send u a x)) refl k)
+  first_fits f (Phaser n (Look u a)) is k =
+      never_full f n (Look u a) is (phaser_full l n w (call_for (Look u a)) refl k)
+  first_fits f (Phaser n (Drop u)) is k =
+      never_full f n (Drop u) is (phaser_full l n w (call_for (Drop u)) refl k)
   first_fits f (Finish g e) is k = false≢true (sym (finish_never_fails l w g e 15 refl) ∙ k)
   first_fits f (Begin u b) is k = false≢true k
   first_fits f (Refuse u b n) is k = false≢true k
@@ -155,14 +166,17 @@ module _ {B : Type 0} (next : Answer → B → Does B) (root : B) (names : ℕ �
   reg_fits roomy f (Phaser n (Reg q c m)) is r k =
       let e = Phaser n (Reg q c m) in
       let refused : is_refused_by 14 (phaser_reply l w n (Reg q c m)) ≡ true =
-      refused_where 14 (option_map_or (λ d. same_event d e) (next_event l (actor w e) w) false) (next_done l w e) refl k in
-      true≢false (sym (registers_fit next root names l v going_v over w going_w t f n (Reg q c m) is refl roomy)
+      refused_where 14 (option_map_or (λ d. same_event d e) (next_event l (actor w e) w) false)
+      (next_done l w e) refl k in
+      true≢false
+      (sym (registers_fit next root names l v going_v over w going_w t f n (Reg q c m) is refl roomy)
       ∙ regs_full l w n q c m refused)
   reg_fits roomy f (Phaser n (Pass u)) is r k =
       no_reg (is_permitted l (terms_of n w) (phaser_past n w) (events.Claim u))
       (is_permitted l (terms_of n w) (phaser_past n w) (events.Did u)) r
     where
-      no_reg : (a b : Bool) → is_reg (cond a (Phaser n (Claim u)) (cond b (Phaser n (Did u)) (Phaser n (Pass u)))) ≡ true → ⊥
+      no_reg : (a b : Bool)
+          → is_reg (cond a (Phaser n (Claim u)) (cond b (Phaser n (Did u)) (Phaser n (Pass u)))) ≡ true → ⊥
       no_reg true b h = false≢true h
       no_reg false true h = false≢true h
       no_reg false false h = false≢true h
@@ -179,7 +193,8 @@ module _ {B : Type 0} (next : Answer → B → Does B) (root : B) (names : ℕ �
   reg_fits roomy f (Fail u n) is r k = false≢true r
 
   -- so where the run is roomy nobody is forced to give up since registrations are full
-  no_full_regs : is_roomy l v ≡ true → is_accepted l w (Fail t 14) ≡ true → is_next_refused l w t 14 ≡ true → ⊥
+  no_full_regs : is_roomy l v ≡ true → is_accepted l w (Fail t 14) ≡ true
+      → is_next_refused l w t 14 ≡ true → ⊥
   no_full_regs roomy m refused =
       let may : may_fail l w t 14 ≡ true = made_done_where (may_fail l w t 14) m in
       let reg = option_map_or is_reg (next_event l t w) false in
@@ -203,7 +218,8 @@ module _ {B : Type 0} (next : Answer → B → Does B) (root : B) (names : ℕ �
             elim (or_cases (n == 14) (n == 15) x) [
               | inl y ↦ or_left (n == 14) (n == 23) y
               | inr y ↦
-                  absurd (no_full_history (subst (λ i. is_accepted l w (Fail t i) ≡ true) (eqb-true n 15 y) m))
+                  absurd
+                  (no_full_history (subst (λ i. is_accepted l w (Fail t i) ≡ true) (eqb-true n 15 y) m))
             ]
         | inr x ↦ or_right (n == 14) (n == 23) x
       ]
@@ -224,7 +240,8 @@ module _ {B : Type 0} (next : Answer → B → Does B) (root : B) (names : ℕ �
 
 pub histories_always_fit : {B : Type 0} (next : Answer → B → Does B) → HistoriesAlwaysFit next
 histories_always_fit next root names l v w e run legal goes draws none =
-    by_event e (last_accepted l e w legal).0 (and_parts (is_next next root w (act_of e)) (goes_by next root w) goes).0
+    by_event e (last_accepted l e w legal).0
+    (and_parts (is_next next root w (act_of e)) (goes_by next root w) goes).0
     (and_parts (draws_next names w (act_of e)) (draws_by names w) draws).0
   where
     going_v : IsGoing next root names l v
@@ -251,17 +268,20 @@ histories_always_fit next root names l v w e run legal goes draws none =
 module _ {B : Type 0} (next : Answer → B → Does B) (root : B) (names : ℕ → List Told → Numbers) (l : Limits)
     (v : List WorldEvent) (going_v : IsGoing next root names l v) (over : is_ended 0 v ≡ true)
     (roomy : is_roomy l v ≡ true) where
-  pub no_refusal_now : (e : WorldEvent) (w : List WorldEvent) → IsGoing next root names l w → is_accepted l w e ≡ true
-      → is_next next root w (act_of e) ≡ true → draws_next names w (act_of e) ≡ true → is_forced l w e ≡ true
+  pub no_refusal_now : (e : WorldEvent) (w : List WorldEvent) → IsGoing next root names l w
+      → is_accepted l w e ≡ true → is_next next root w (act_of e) ≡ true
+      → draws_next names w (act_of e) ≡ true → is_forced l w e ≡ true
       → is_refusal e ≡ false
-  no_refusal_now (Refuse t a n) w g m i d r = absurd (no_act_refused next root names l v going_v over w g t a n m i d)
-  no_refusal_now (Fail t n) w g m i d r = absurd (no_one_gives_up next root names l v going_v over w g t roomy n m r)
+  no_refusal_now (Refuse t a n) w g m i d r =
+      absurd (no_act_refused next root names l v going_v over w g t a n m i d)
+  no_refusal_now (Fail t n) w g m i d r =
+      absurd (no_one_gives_up next root names l v going_v over w g t roomy n m r)
   no_refusal_now (Phaser n s) w g m i d r = refl
   no_refusal_now (Finish n s) w g m i d r = refl
   no_refusal_now (Begin n s) w g m i d r = refl
 
-  pub all_calm : (w : List WorldEvent) → is_legal_world l w ≡ true → goes_by next root w ≡ true → draws_by names w ≡ true
-      → has_memory l w ≡ true → IsGoing next root names l w
+  all_calm : (w : List WorldEvent) → is_legal_world l w ≡ true → goes_by next root w ≡ true
+      → draws_by names w ≡ true → has_memory l w ≡ true → IsGoing next root names l w
   all_calm [] k i d r = record { legal = k; goes = i; draws = d; calm = refl }
   all_calm (e ∷ w) k i d r =
       let a = last_accepted l e w k in
@@ -280,9 +300,13 @@ module _ {B : Type 0} (next : Answer → B → Does B) (root : B) (names : ℕ �
 pub memory_is_all_luck : {B : Type 0} (next : Answer → B → Does B) → MemoryIsAllLuck next
 memory_is_all_luck next root names l v w run roomy k i d r =
     let g =
-    all_calm next root names l v (going next root names l v run.whole.smooth run.draws) run.whole.ended roomy w k i d r in
+    all_calm next root names l v (going next root names l v run.whole.smooth run.draws) run.whole.ended roomy w
+    k i d r in
     let none = calm_unrefused w g.calm in (
       none,
       λ ended. runs_come_to_the_same next root names l v w run
-          (record { whole = record { smooth = record { legal = k; goes = i; unrefused = none }; ended = ended }; draws = d }),
+          (record {
+            whole = record { smooth = record { legal = k; goes = i; unrefused = none }; ended = ended };
+            draws = d;
+          }),
     )

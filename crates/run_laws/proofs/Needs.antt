@@ -1,5 +1,5 @@
--- How much of its room a phaser's history has used or keeps back: what each event needs, with its drop to come, and two for
--- each phase that has a single.
+-- How much of its room a phaser's history has used or keeps back: what each event needs, with its drop to come, and
+-- two for each phase that has a single.
 use Rattle.std.proofs.Common.{◌≡◌, ◌⊎◌, ℕ, zero, suc, ◌+◌, ◌<◌, ◌≤◌, Bool, true, false, ◌||◌, ◌==◌, not, nat_lt, cond, List, [], ◌∷◌, length, Some, None, refl, sym, subst, ap, ◌∙◌, inl, inr, arith}
 use Rattle.std.specs.List.{list_any, filter}
 use Rattle.std.proofs.lemmas.Bool.{and_parts, or_cases, or_parts, or_from, or_left, or_right, cases_Bool, cases_order, eqb-true, eq-eqb, ne_eqb, true≢false, false≢true, false_from_ne_true}
@@ -51,7 +51,8 @@ passing_same f g (suc m) k =
     ap (λ b. cond b 1 0 + passing f m) (k m (omega arith))
     ∙ ap (λ i. cond (g m) 1 0 + i) (passing_same f g m (λ p less. k p (omega (arith, less))))
 
-pub passing_within : (f g : ℕ → Bool) (m : ℕ) → ((p : ℕ) → f p ≡ true → g p ≡ true) → passing f m ≤ passing g m
+pub passing_within : (f g : ℕ → Bool) (m : ℕ) → ((p : ℕ) → f p ≡ true → g p ≡ true)
+    → passing f m ≤ passing g m
 passing_within f g zero k = omega arith
 passing_within f g (suc m) k =
     let rest = passing_within f g m k in
@@ -187,7 +188,8 @@ module _ (l : Limits) (terms : Terms) (m : ℕ) where
   abbrev pub IsNeed : List Event → Type 0
   IsNeed h = used h ≡ needs h + (singles h + singles h)
 
-  all_done : (h : List Event) (t n : ℕ) → is_legal l terms h ≡ true → is_permitted l terms h (Sig t (Some n)) ≡ true
+  all_done : (h : List Event) (t n : ℕ) → is_legal l terms h ≡ true
+      → is_permitted l terms h (Sig t (Some n)) ≡ true
       → is_proposed (signals t h) h ≡ false → reserve h ≡ 0
   all_done h t n k a fresh =
       let s = sig_follows l terms h t (Some n) a in
@@ -207,7 +209,8 @@ module _ (l : Limits) (terms : Terms) (m : ℕ) where
             | inr (inr over) ↦ absurd (omega (arith, within, over))
           ]
 
-  signal_need : (h : List Event) (t n : ℕ) → is_legal l terms h ≡ true → is_permitted l terms h (Sig t (Some n)) ≡ true
+  signal_need : (h : List Event) (t n : ℕ) → is_legal l terms h ≡ true
+      → is_permitted l terms h (Sig t (Some n)) ≡ true
       → signals t h < m → IsNeed h → IsNeed (Sig t (Some n) ∷ h)
   signal_need h t n k a less need =
       let s = sig_follows l terms h t (Some n) a in
@@ -247,7 +250,8 @@ module _ (l : Limits) (terms : Terms) (m : ℕ) where
       let p = waits t h in
       let s : is_proposed p h ≡ true = proposer_proposes t p h f.proposed in
       let d : is_done p h ≡ false =
-      false_from_ne_true (is_done p h) (λ e. false≢true (sym f.unclaimed ∙ done_is_claimed l terms h k p e)) in
+      false_from_ne_true (is_done p h)
+      (λ e. false≢true (sym f.unclaimed ∙ done_is_claimed l terms h k p e)) in
       let two : reserve h ≡ 2 = rw (unclaimed_reserve p h h (proposals h) s f.unclaimed) refl in
       let claimed : has_unclaimed (Claim t ∷ h) (proposals h) ≡ false =
       none_unclaimed l terms h (Claim t ∷ h) k p s d (or_left (p == p) (is_claimed p h) (eq-eqb p p refl))
@@ -274,7 +278,8 @@ module _ (l : Limits) (terms : Terms) (m : ℕ) where
       let same : singles (Did t ∷ h) ≡ singles h = refl in
       omega (arith, need, one, none, live, same)
     where
-      by_order : (q : ℕ) → is_proposed q h ≡ true → is_proposed (waits t h) h ≡ true → is_done (waits t h) h ≡ false
+      by_order : (q : ℕ) → is_proposed q h ≡ true → is_proposed (waits t h) h ≡ true
+          → is_done (waits t h) h ≡ false
           → (waits t h ≡ q) ⊎ ((waits t h < q) ⊎ (q < waits t h)) → is_done q (Did t ∷ h) ≡ true
       by_order q e s d (inl same) = or_left (waits t h == q) (is_done q h) (eq-eqb (waits t h) q same)
       by_order q e s d (inr (inl less)) =
@@ -339,7 +344,8 @@ module _ (l : Limits) (terms : Terms) (m : ℕ) where
       omega (arith, need, live, kept, same)
   step_need h (Drop t) k a below need = drop_need h t k a need
 
-  later_proposed : (p : ℕ) (e : Event) (h : List Event) → is_proposed p h ≡ true → is_proposed p (e ∷ h) ≡ true
+  later_proposed : (p : ℕ) (e : Event) (h : List Event) → is_proposed p h ≡ true
+      → is_proposed p (e ∷ h) ≡ true
   later_proposed p (Sig t (Some n)) h k = or_right (signals t h == p) (is_proposed p h) k
   later_proposed p e h k = k
 

@@ -1,4 +1,5 @@
--- Where each kind of number is drawn in order, one task alone draws it; and the numbers in use are those that it has drawn.
+-- Where each kind of number is drawn in order, one task alone draws it; and the numbers in use are those that it has
+-- drawn.
 use Rattle.std.proofs.Common.{◌≡◌, ℕ, ◌+◌, ◌<◌, ◌≤◌, Bool, true, false, ◌&&◌, ◌||◌, ◌==◌, nat_lt, cond, List, [], ◌∷◌, ◌++◌, refl, sym, subst, ap, ◌∙◌, inl, inr, arith}
 use Rattle.std.specs.List.{count_by}
 use Rattle.std.proofs.lemmas.Bool.{and_parts, and_from, or_left, or_right, cases_Bool, eqb-true, eq-eqb, ltb-true, ltb-false, true≢false, false≢true}
@@ -32,13 +33,14 @@ abbrev pub drawn_by : (WorldEvent → Bool) → ℕ → List WorldEvent → ℕ
 drawn_by q t w = count_by (λ (x : Told). q x.event) (told t w)
 
 -- a kind of number: which events draw it, which number they draw, which are in use, and which is the first
-pub record IsKind (l : Limits) (q : WorldEvent → Bool) (number : WorldEvent → ℕ) (used : ℕ → List WorldEvent → Bool)
-    (base : ℕ) : Type 0 where
+pub record IsKind (l : Limits) (q : WorldEvent → Bool) (number : WorldEvent → ℕ)
+    (used : ℕ → List WorldEvent → Bool) (base : ℕ) : Type 0 where
   pub plain : (e : WorldEvent) → q e ≡ true → is_of_single e ≡ false
   pub none : (n : ℕ) → used n [] ≡ nat_lt n base
   pub more : (n : ℕ) (e : WorldEvent) (w : List WorldEvent) → is_accepted l w e ≡ true
       → used n (e ∷ w) ≡ ((q e && number e == n) || used n w)
-  pub free : (e : WorldEvent) (w : List WorldEvent) → is_accepted l w e ≡ true → q e ≡ true → used (number e) w ≡ false
+  pub free : (e : WorldEvent) (w : List WorldEvent) → is_accepted l w e ≡ true → q e ≡ true
+      → used (number e) w ≡ false
   pub ordered : (e : WorldEvent) (w : List WorldEvent) → draws_next in_order w (act_of e) ≡ true → q e ≡ true
       → number e ≡ base + drawn_by q (actor w e) w
 
@@ -95,9 +97,10 @@ phasers_kind l =
     free (Phaser n (Make t m terms)) w a k = (act_now l w t (New n m terms) a).1
     free e w a k = absurd (false≢true k)
 
-    ordered : (e : WorldEvent) (w : List WorldEvent) → draws_next in_order w (act_of e) ≡ true → makes e ≡ true
-        → phaser_number e ≡ 0 + drawn_by makes (actor w e) w
-    ordered (Phaser n (Make t m terms)) w d k = eqb-true n (drawn_by makes t w) d ∙ plus_none (drawn_by makes t w)
+    ordered : (e : WorldEvent) (w : List WorldEvent) → draws_next in_order w (act_of e) ≡ true
+        → makes e ≡ true → phaser_number e ≡ 0 + drawn_by makes (actor w e) w
+    ordered (Phaser n (Make t m terms)) w d k =
+        eqb-true n (drawn_by makes t w) d ∙ plus_none (drawn_by makes t w)
     ordered e w d k = absurd (false≢true k)
 
 one_more : (x y : ℕ) → x ≡ y + 1 → x ≡ 1 + y
@@ -127,8 +130,8 @@ tasks_kind l =
     free (Begin t (Async c ps)) w a k = (act_now l w t (Beginning (Async c ps)) a).1
     free e w a k = absurd (false≢true k)
 
-    ordered : (e : WorldEvent) (w : List WorldEvent) → draws_next in_order w (act_of e) ≡ true → begins_child e ≡ true
-        → child_number e ≡ 1 + drawn_by begins_child (actor w e) w
+    ordered : (e : WorldEvent) (w : List WorldEvent) → draws_next in_order w (act_of e) ≡ true
+        → begins_child e ≡ true → child_number e ≡ 1 + drawn_by begins_child (actor w e) w
     ordered (Begin t (Async c ps)) w d k =
         one_more c (drawn_by begins_child t w) (eqb-true c (drawn_by begins_child t w + 1) d)
     ordered e w d k = absurd (false≢true k)
@@ -161,9 +164,10 @@ finishes_kind l =
     free (Finish f (Opened t)) w a k = (act_now l w t (Open f) a).1
     free e w a k = absurd (false≢true k)
 
-    ordered : (e : WorldEvent) (w : List WorldEvent) → draws_next in_order w (act_of e) ≡ true → opens e ≡ true
-        → finish_number e ≡ 1 + drawn_by opens (actor w e) w
-    ordered (Finish f (Opened t)) w d k = one_more f (drawn_by opens t w) (eqb-true f (drawn_by opens t w + 1) d)
+    ordered : (e : WorldEvent) (w : List WorldEvent) → draws_next in_order w (act_of e) ≡ true
+        → opens e ≡ true → finish_number e ≡ 1 + drawn_by opens (actor w e) w
+    ordered (Finish f (Opened t)) w d k =
+        one_more f (drawn_by opens t w) (eqb-true f (drawn_by opens t w + 1) d)
     ordered e w d k = absurd (false≢true k)
 
 -- whether an act draws one hangs on no number, nor on its task's phasers
@@ -184,14 +188,15 @@ opens_alike t own mine new given d = refl
 
 -- ---- of each kind
 
-module _ (l : Limits) (q : WorldEvent → Bool) (number : WorldEvent → ℕ) (used : ℕ → List WorldEvent → Bool) (base : ℕ)
-    (kind : IsKind l q number used base) where
+module _ (l : Limits) (q : WorldEvent → Bool) (number : WorldEvent → ℕ) (used : ℕ → List WorldEvent → Bool)
+    (base : ℕ) (kind : IsKind l q number used base) where
   pub drawn_step : (t : ℕ) (e : WorldEvent) (w : List WorldEvent)
       → drawn_by q t (e ∷ w) ≡ cond (q e && actor w e == t) 1 0 + drawn_by q t w
   drawn_step t e w = by_test (q e) refl
     where
       one : (x : Told) (xs : List Told)
-          → count_by (λ (y : Told). q y.event) (x ∷ xs) ≡ cond (q x.event) 1 0 + count_by (λ (y : Told). q y.event) xs
+          → count_by (λ (y : Told). q y.event) (x ∷ xs)
+          ≡ cond (q x.event) 1 0 + count_by (λ (y : Told). q y.event) xs
       one x xs = sum_by-cons (λ (y : Told). cond (q y.event) 1 0) x xs
 
       by_test : (b : Bool) → q e ≡ b → drawn_by q t (e ∷ w) ≡ cond (b && actor w e == t) 1 0 + drawn_by q t w
@@ -204,7 +209,8 @@ module _ (l : Limits) (q : WorldEvent → Bool) (number : WorldEvent → ℕ) (u
           ]
       by_test false k =
           elim (tells t w e)
-          as (λ c. count_by (λ (y : Told). q y.event) (cond c (told_of w e ∷ told t w) (told t w)) ≡ 0 + drawn_by q t w) [
+          as (λ c. count_by (λ (y : Told). q y.event) (cond c (told_of w e ∷ told t w) (told t w))
+          ≡ 0 + drawn_by q t w) [
             | true ↦ one (told_of w e) (told t w) ∙ ap (λ b. cond b 1 0 + drawn_by q t w) k
             | false ↦ plus_none (drawn_by q t w)
           ]
@@ -246,7 +252,8 @@ module _ (l : Limits) (q : WorldEvent → Bool) (number : WorldEvent → ℕ) (u
               | inl m ↦
                   let p = and_parts (q e) (actor w e == t) m in
                   let is : number e ≡ base + drawn_by q t w =
-                  subst (λ u. number e ≡ base + drawn_by q u w) (eqb-true (actor w e) t p.1) (kind.ordered e w o.0 p.0) in
+                  subst (λ u. number e ≡ base + drawn_by q u w) (eqb-true (actor w e) t p.1)
+                  (kind.ordered e w o.0 p.0) in
                   or_left (q e && number e == base) (used base w)
                   (and_from (q e) (number e == base) p.0 (eq-eqb (number e) base (omega (arith, is, none))))
               | inr m ↦ absurd (omega (arith, some, none, drawn_not t e w m))
@@ -254,8 +261,9 @@ module _ (l : Limits) (q : WorldEvent → Bool) (number : WorldEvent → ℕ) (u
       ])
 
   -- so nobody draws where another has
-  no_newcomer : (t u : ℕ) (e : WorldEvent) (w : List WorldEvent) → is_legal_world l w ≡ true → draws_by in_order w ≡ true
-      → is_accepted l w e ≡ true → draws_next in_order w (act_of e) ≡ true → (q e && actor w e == t) ≡ true
+  no_newcomer : (t u : ℕ) (e : WorldEvent) (w : List WorldEvent) → is_legal_world l w ≡ true
+      → draws_by in_order w ≡ true → is_accepted l w e ≡ true → draws_next in_order w (act_of e) ≡ true
+      → (q e && actor w e == t) ≡ true
       → 0 < drawn_by q u w → 0 < drawn_by q t w
   no_newcomer t u e w k d a o m some =
       elim (cases_Bool (nat_lt 0 (drawn_by q t w))) [
@@ -264,7 +272,8 @@ module _ (l : Limits) (q : WorldEvent → Bool) (number : WorldEvent → ℕ) (u
             let none : drawn_by q t w ≤ 0 = ltb-false 0 (drawn_by q t w) y in
             let p = and_parts (q e) (actor w e == t) m in
             let is : number e ≡ base + drawn_by q t w =
-            subst (λ u. number e ≡ base + drawn_by q u w) (eqb-true (actor w e) t p.1) (kind.ordered e w o p.0) in
+            subst (λ u. number e ≡ base + drawn_by q u w) (eqb-true (actor w e) t p.1)
+            (kind.ordered e w o p.0) in
             let first : number e ≡ base = omega (arith, is, none) in
             absurd (true≢false (sym (first_used u w k d some)
             ∙ subst (λ n. used n w ≡ false) first (kind.free e w a p.0)))

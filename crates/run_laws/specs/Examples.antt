@@ -17,9 +17,15 @@ use Rattle.world_model.specs.declared.event.WorldEvent.TheVariants.{Phaser, Fini
 use Rattle.world_model.specs.Replies.{is_legal_world}
 use Rattle.world_model.specs.Report.{report_of, refused_by}
 use Rattle.world_model.specs.Tasks.{is_ended}
+use Rattle.job_script.specs.Program.{Program}
+use Rattle.job_script.specs.declared.head.Head.TheVariants.{Async as AsyncHead, New as NewHead, Next as NextHead}
+use Rattle.schedule_model.specs.ExampleWords.{plain as plain_act, program, within}
+use Rattle.schedule_model.specs.RunExamples.{two_senders}
 use Rattle.body_follows.specs.Going.{Does, goes_by}
 use Rattle.body_follows.specs.Whole.{IsWhole}
 use Rattle.run_laws.specs.Telling.{in_order}
+use Rattle.run_laws.specs.Texts.{root_draws_alone}
+use Rattle.run_laws.specs.Schedules.{IsOrderly}
 use Rattle.run_laws.specs.Determinacy.{IsRun}
 use Rattle.run_laws.specs.Memory.{has_memory, is_roomy}
 
@@ -236,11 +242,26 @@ RefusedByLuck =
     × (is_ended 0 too_late ≡ true)
     × (refused_by 0 too_late ≡ Some 14)
 
--- so where somebody has to leave in time, want of memory isn't all that luck decides: the calm one of the two isn't roomy,
--- since three tasks were on the phaser in all; in the other the root gives up where registrations are full. The two runs of
--- a pair are roomy
+-- so where somebody has to leave in time, want of memory isn't all that luck decides: the calm one of the two isn't
+-- roomy, since three tasks were on the phaser in all; in the other the root gives up where registrations are full.
+-- The run of a pair is roomy
 abbrev pub NotRoomy : Type 0
 NotRoomy =
     (is_roomy few in_time ≡ false)
     × (has_memory few too_late ≡ true)
     × (is_roomy default_limits root_first ≡ true)
+
+-- ---- runs by picks that foretell each other one
+
+-- the root spawns a child, and this makes a phaser and takes a turn on it
+abbrev pub child_makes : Program
+child_makes = program (
+    within (AsyncHead []) (plain_act (NewHead 0 SigWait (unbounded [])) ∷ plain_act NextHead ∷ [])
+    ∷ [])
+
+-- two tasks send for two phases, and no child draws a number; or a child makes the phaser. Sixty rounds are enough
+abbrev pub OrderlyRuns : Type 0
+OrderlyRuns =
+    IsOrderly two_senders [] 60
+    × IsOrderly child_makes [] 60
+    × (root_draws_alone child_makes ≡ false)

@@ -1,9 +1,8 @@
 -- What any two schedules of a program come to.
-use Rattle.std.specs.Prelude.{ℕ, ◌≡◌, true, List, None}
+use Rattle.std.specs.Prelude.{ℕ, ◌≡◌, ◌≤◌, true, List, length, None}
 use Rattle.std.specs.List.{list_all}
 use Rattle.phase_modes.specs.Limits.{limits_fit}
 use Rattle.job_script.specs.Program.{Program}
-use Rattle.world_model.specs.declared.event.WorldEvent.{WorldEvent}
 use Rattle.world_model.specs.Report.{report_of, refused_by}
 use Rattle.world_model.specs.Tasks.{is_ended}
 use Rattle.schedule_model.specs.Picks.{run_within}
@@ -34,24 +33,30 @@ SchedulesWithRoomComeToTheSame =
     × (is_ended 0 (run_within more p others) ≡ true
     → report_of p.limits (run_within most p picks) ≡ report_of p.limits (run_within more p others))
 
--- what another run by picks comes to, as far as it goes: nobody is refused or gives up, and if its root ends its report is
--- that of v
-pub record IsForetold (p : Program) (v : List WorldEvent) (others : List ℕ) (more : ℕ) : Type 0 where
-  pub unrefused : (t : ℕ) → refused_by t (run_within more p others) ≡ None
-  pub report : is_ended 0 (run_within more p others) ≡ true
-      → report_of p.limits v ≡ report_of p.limits (run_within more p others)
+-- one run by picks that foretells each other one: nobody is refused and the root ends, each kind of number is drawn by
+-- one task alone, in order, and no phaser has more registrations in all than may stand at a time
+pub record IsOrderly (p : Program) (picks : List ℕ) (most : ℕ) : Type 0 where
+  pub calm : IsCalm p picks most
+  pub order : draws_by in_order (run_within most p picks) ≡ true
+  pub roomy : is_roomy p.limits (run_within most p picks) ≡ true
 
--- of any program: one run by picks in which nobody is refused and the root ends, each kind of number is drawn by one task
--- alone, in order, and no phaser has more registrations in all than may stand at a time, foretells each other one
+-- beside it nobody is refused or gives up in any other, by whatever picks and as far as it goes, and if the root ends
+-- the report is the same
 abbrev pub OrderlySchedulesForetell : Type 0
 OrderlySchedulesForetell =
-    (p : Program) (picks others : List ℕ) (most more : ℕ) → IsCalm p picks most
-    → draws_by in_order (run_within most p picks) ≡ true → is_roomy p.limits (run_within most p picks) ≡ true
-    → IsForetold p (run_within most p picks) others more
+    (p : Program) (picks others : List ℕ) (most more : ℕ) → IsOrderly p picks most
+    → ((t : ℕ) → refused_by t (run_within more p others) ≡ None)
+    × (is_ended 0 (run_within more p others) ≡ true
+    → report_of p.limits (run_within most p picks) ≡ report_of p.limits (run_within more p others))
 
--- of a program whose text says that the root alone draws the order needn't be asked
-abbrev pub RoomySchedulesForetell : Type 0
-RoomySchedulesForetell =
-    (p : Program) (picks others : List ℕ) (most more : ℕ) → root_draws_alone p ≡ true → IsCalm p picks most
-    → is_roomy p.limits (run_within most p picks) ≡ true
-    → IsForetold p (run_within most p picks) others more
+-- and under limits that fit the root of each other ends within as many rounds as this one has events
+abbrev pub OrderlySchedulesEnd : Type 0
+OrderlySchedulesEnd =
+    (p : Program) (picks others : List ℕ) (most more : ℕ) → limits_fit p.limits ≡ true → IsOrderly p picks most
+    → length (run_within most p picks) ≤ more → is_ended 0 (run_within more p others) ≡ true
+
+-- where the text says that the root alone draws, the order needn't be asked
+abbrev pub RoomyTextsAreOrderly : Type 0
+RoomyTextsAreOrderly =
+    (p : Program) (picks : List ℕ) (most : ℕ) → root_draws_alone p ≡ true → IsCalm p picks most
+    → is_roomy p.limits (run_within most p picks) ≡ true → IsOrderly p picks most

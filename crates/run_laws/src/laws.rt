@@ -4,8 +4,8 @@
 ghost use Rattle.run_laws.specs.Programs.{FollowersGoByScripts, ProgramsComeToTheSame, RootsDrawInOrder, TextsForetell, TextsTellWhoDraws};
 ghost use Rattle.run_laws.specs.Determinacy.{FailuresAreOfRoom, HistoriesAreBeginnings, RefusalsAreOfRoom, RoomIsAllLuck, RunsComeToTheSame, TasksDoTheSame};
 ghost use Rattle.run_laws.specs.Least.{LeastHangsOnMemoryAlone, LeastIsInOrder};
-ghost use Rattle.run_laws.specs.Memory.{HistoriesAlwaysFit, MemoryIsAllLuck};
-ghost use Rattle.run_laws.specs.Schedules.{OrderlySchedulesForetell, RoomySchedulesForetell, SchedulesComeToTheSame, SchedulesWithRoomComeToTheSame};
+ghost use Rattle.run_laws.specs.Memory.{HistoriesAlwaysFit, HistoriesAreNoLonger, MemoryIsAllLuck};
+ghost use Rattle.run_laws.specs.Schedules.{OrderlySchedulesEnd, OrderlySchedulesForetell, RoomyTextsAreOrderly, SchedulesComeToTheSame, SchedulesWithRoomComeToTheSame};
 
 use body_follows::Goes;
 
@@ -49,6 +49,12 @@ pub fn room_is_all_luck<B: Goes>()
 /// history.
 pub fn histories_always_fit<B: Goes>()
     ensures { HistoriesAlwaysFit B.next }
+{}
+
+/// Beside one such run: no other history of the same bodies, by the same rule, in which nobody was
+/// refused up to now, has more events.
+pub fn histories_are_no_longer<B: Goes>()
+    ensures { HistoriesAreNoLonger B.next }
 {}
 
 /// Beside one such run with no more registrations on a phaser in all than may stand at a time: in
@@ -122,8 +128,12 @@ pub fn orderly_schedules_foretell()
     ensures { OrderlySchedulesForetell }
 {}
 
-/// So it does of a program whose text says that the root alone draws numbers, whose order needn't
-/// be asked.
-pub fn roomy_schedules_foretell()
-    ensures { RoomySchedulesForetell }
+/// And under limits that fit its root ends, within as many rounds as the one run has events.
+pub fn orderly_schedules_end()
+    ensures { OrderlySchedulesEnd }
+{}
+
+/// Where the text says that the root alone draws numbers, the order needn't be asked.
+pub fn roomy_texts_are_orderly()
+    ensures { RoomyTextsAreOrderly }
 {}
