@@ -12,6 +12,7 @@ COMMANDS = {
     "run": ("FILE [--workers N] [--trace OUT]", "runs a program on threads, and prints its report"),
     "schedule": ("FILE [--picks LIST] [--trace OUT]", "runs a program without threads, the same each time"),
     "replay": ("FILE [--upgrade OUT]", "replays a trace, and prints its report"),
+    "certify": ("FILE", "says what each run of a program comes to, where one run tells it"),
     "stencil": ("--first LIST --steps S [--workers N]", "runs a stencil on threads, and prints its cells"),
     "pipeline": ("--stages K --items N [--workers N]", "runs a pipeline on threads, and prints its items"),
     "events": ("FILE", "answers the calls of an events file"),

@@ -4,7 +4,7 @@ use Rattle.std.specs.Str.{bytes_eq}
 use Rattle.clap.specs.Words.{App, Row, Text, AddsSubcommand, app_of, first_of, shape_of, with_subcommand}
 use Rattle.clap.specs.declared.builder.command.Command.{Command}
 use Rattle.clap.specs.declared.builder.command.Command.TheViews.{out-Command as fields_of}
-use Rattle.command_words.specs.CommandLine.{Asked, asked_among, events, filed_among, of_both, pipeline, pipeline_among, stencil, stencil_among, to_replay, to_run, to_schedule}
+use Rattle.command_words.specs.CommandLine.{Asked, asked_among, certify, events, filed_among, of_both, pipeline, pipeline_among, stencil, stencil_among, to_replay, to_run, to_schedule}
 
 pub grown : (old sub new : Command) (a s : App) → AddsSubcommand old sub new → app_of old ≡ a → app_of sub ≡ s
     → (fields_of sub).has_globals ≡ false → app_of new ≡ with_subcommand a s.top
@@ -36,21 +36,27 @@ pub among_replay : (name : Text) (rows : List Row) (file : Option Text) → name
     → file ≡ first_of (codes "file") rows → option_map (to_replay rows) file ≡ filed_among name rows
 among_replay name rows file named is = rw (named, is) refl
 
+pub among_certify : (name : Text) (rows : List Row) (file : Option Text) → name ≡ codes "certify"
+    → file ≡ first_of (codes "file") rows → option_map certify file ≡ filed_among name rows
+among_certify name rows file named is = rw (named, is) refl
+
 -- where FILE isn't there no such command is asked for anything
-nothing : (a b c d : Bool) → ◌≡◌ {A = Option Asked} None
-    (if a then None else (if b then None else (if c then None else (if d then None else None))))
-nothing true b c d = refl
-nothing false true c d = refl
-nothing false false true d = refl
-nothing false false false true = refl
-nothing false false false false = refl
+nothing : (a b c d e : Bool) → ◌≡◌ {A = Option Asked} None
+    (if a then None else (if b then None else (if c then None else (if d then None
+    else (if e then None else None)))))
+nothing true b c d e = refl
+nothing false true c d e = refl
+nothing false false true d e = refl
+nothing false false false true e = refl
+nothing false false false false true = refl
+nothing false false false false false = refl
 
 pub among_none : (name : Text) (rows : List Row) (file : Option Text) → first_of (codes "file") rows ≡ file
     → file ≡ None → None ≡ filed_among name rows
 among_none name rows file is none =
     rw (is ∙ none)
     (nothing (bytes_eq name (codes "events")) (bytes_eq name (codes "schedule")) (bytes_eq name (codes "run"))
-    (bytes_eq name (codes "replay")))
+    (bytes_eq name (codes "replay")) (bytes_eq name (codes "certify")))
 
 -- what a kernel is asked for, by what it needs
 pub both_there : (kernel : Text → Text → Option Text → Asked) (a x b y workers w : Option Text)

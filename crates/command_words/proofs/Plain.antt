@@ -4,7 +4,7 @@ use Rattle.std.proofs.lemmas.Bool.{eqb-true}
 use Rattle.clap.specs.Words.{Text}
 use Rattle.clap.proofs.OnLiterals.{clap_on_literals}
 use Rattle.phase_modes.specs.Lists.{is_empty}
-use Rattle.command_words.specs.CommandLine.{asked_in, asked_of, events, is_plain}
+use Rattle.command_words.specs.CommandLine.{asked_in, asked_of, certify, events, is_plain}
 
 -- a word is empty, or a hyphen alone, or begins with another byte
 cases : (P : Text → Type 0) (c : ℕ) (cs : Text) (hyphen : Bool) → (c == 45) ≡ hyphen
@@ -37,3 +37,23 @@ pub events_plain : (p file : Text) → is_plain file ≡ true
 events_plain p file plain =
     by_word (λ f. asked_in (p ∷ codes "events" ∷ f ∷ []) ≡ Some (events f)) file plain (events_none p)
     (events_hyphen p) (events_other p)
+
+-- `certify FILE`
+certify_none : (p : Text) → asked_in (p ∷ codes "certify" ∷ [] ∷ []) ≡ Some (certify [])
+unfolding asked_in asked_of clap_on_literals
+certify_none p = refl
+
+certify_hyphen : (p : Text) → asked_in (p ∷ codes "certify" ∷ (45 ∷ []) ∷ []) ≡ Some (certify (45 ∷ []))
+unfolding asked_in asked_of clap_on_literals
+certify_hyphen p = refl
+
+certify_other : (p : Text) (c : ℕ) (cs : Text) → (c == 45) ≡ false
+    → asked_in (p ∷ codes "certify" ∷ (c ∷ cs) ∷ []) ≡ Some (certify (c ∷ cs))
+unfolding asked_in asked_of clap_on_literals
+certify_other p c cs h = simp h
+
+pub certify_plain : (p file : Text) → is_plain file ≡ true
+    → asked_in (p ∷ codes "certify" ∷ file ∷ []) ≡ Some (certify file)
+certify_plain p file plain =
+    by_word (λ f. asked_in (p ∷ codes "certify" ∷ f ∷ []) ≡ Some (certify f)) file plain (certify_none p)
+    (certify_hyphen p) (certify_other p)

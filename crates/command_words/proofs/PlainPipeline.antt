@@ -17,7 +17,7 @@ at_place zero s (a ∷ rest) = a
 at_place (suc n) s (a ∷ rest) = at_place n s rest
 
 abbrev built_pipeline : Shape
-built_pipeline = at_place 5 pipeline_app.top (built program_app).subs
+built_pipeline = at_place 6 pipeline_app.top (built program_app).subs
 
 abbrev rules : List Rule
 rules = built_pipeline.rules

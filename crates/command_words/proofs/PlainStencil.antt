@@ -17,7 +17,7 @@ at_place zero s (a ∷ rest) = a
 at_place (suc n) s (a ∷ rest) = at_place n s rest
 
 abbrev built_stencil : Shape
-built_stencil = at_place 4 stencil_app.top (built program_app).subs
+built_stencil = at_place 5 stencil_app.top (built program_app).subs
 
 abbrev rules : List Rule
 rules = built_stencil.rules

@@ -3,8 +3,8 @@ use Rattle.std.proofs.Common.{◌≡◌, ◌&&◌, true, List, Some, None, ap, �
 use Rattle.std.specs.Prelude.{option_and_then}
 use Rattle.std.proofs.lemmas.Bool.{and_parts}
 use Rattle.clap.specs.Words.{Text}
-use Rattle.command_words.specs.CommandLine.{Asked, Work, asked_in, events, is_plain, is_plainly_asked, pipeline, plain_words, replay, run, schedule, stencil, work_for, work_in}
-use Rattle.command_words.proofs.Plain.{events_plain}
+use Rattle.command_words.specs.CommandLine.{Asked, Work, asked_in, certify, events, is_plain, is_plainly_asked, pipeline, plain_words, replay, run, schedule, stencil, work_for, work_in}
+use Rattle.command_words.proofs.Plain.{certify_plain, events_plain}
 use Rattle.command_words.proofs.PlainSchedule.{schedule_alone, word}
 use Rattle.command_words.proofs.PlainOptions.{schedule_both, schedule_picks, schedule_trace}
 use Rattle.command_words.proofs.PlainRun.{run_alone, run_both, run_workers, run_trace}
@@ -15,6 +15,7 @@ use Rattle.command_words.proofs.PlainPipeline.{pipeline_alone, pipeline_workers}
 pub plainly : (p : Text) (asked : Asked) → is_plainly_asked asked ≡ true
     → asked_in (plain_words p asked) ≡ Some asked
 plainly p (events file) plain = events_plain p file plain
+plainly p (certify file) plain = certify_plain p file plain
 plainly p (replay file None) plain =
     replay_alone p file (word file (and_parts (is_plain file) true plain).0)
 plainly p (replay file (Some out)) plain =

@@ -50,6 +50,10 @@ run_app =
 abbrev pub replay_app : App
 replay_app = with_rule (with_rule (new_app (codes "replay")) file_rule) (option_rule (codes "upgrade"))
 
+-- `certify FILE`
+abbrev pub certify_app : App
+certify_app = with_rule (new_app (codes "certify")) file_rule
+
 -- `stencil --first LIST --steps S [--workers N]`
 abbrev pub stencil_app : App
 stencil_app =
@@ -79,7 +83,7 @@ running_app =
 
 -- the commands of a file
 abbrev pub filed_app : App
-filed_app = with_subcommand running_app replay_app.top
+filed_app = with_subcommand (with_subcommand running_app replay_app.top) certify_app.top
 
 abbrev pub program_app : App
 program_app = with_subcommand (with_subcommand filed_app stencil_app.top) pipeline_app.top
@@ -92,6 +96,7 @@ pub data Asked : Type 0 where
   schedule : Text → Option Text → Option Text → Asked
   run : Text → Option Text → Option Text → Asked
   replay : Text → Option Text → Asked
+  certify : Text → Asked
   stencil : Text → Text → Option Text → Asked
   pipeline : Text → Text → Option Text → Asked
 
@@ -104,6 +109,7 @@ pub data Work : Type 0 where
   works : Text → ℕ → Option Text → Work
   -- FILE, OUT
   replays : Text → Option Text → Work
+  certifies : Text → Work
   -- the first values, the steps, the workers
   cells : List ℕ → ℕ → ℕ → Work
   -- the stages, the items, the workers
@@ -126,7 +132,8 @@ filed_among name rows =
     else (if bytes_eq name (codes "schedule") then option_map (to_schedule rows) (first_of (codes "file") rows)
     else (if bytes_eq name (codes "run") then option_map (to_run rows) (first_of (codes "file") rows)
     else (if bytes_eq name (codes "replay") then option_map (to_replay rows) (first_of (codes "file") rows)
-    else None)))
+    else (if bytes_eq name (codes "certify") then option_map certify (first_of (codes "file") rows)
+    else None))))
 
 -- what a kernel is asked for, by what it needs
 abbrev pub of_both : (Text → Text → Option Text → Asked) → Option Text → Option Text → Option Text → Option Asked
@@ -172,6 +179,7 @@ work_for (events file) = Some (answers file)
 work_for (schedule file list trace) = option_map (λ picks. runs file picks trace) (listed_in list)
 work_for (run file workers trace) = option_map (λ n. works file n trace) (workers_in workers)
 work_for (replay file upgrade) = Some (replays file upgrade)
+work_for (certify file) = Some (certifies file)
 work_for (stencil first steps workers) =
     stencil_of (first_in first) (number_within 0 100 steps) (workers_in workers)
 work_for (pipeline k items workers) =
@@ -192,6 +200,7 @@ first_bad (events file) = None
 first_bad (schedule file list trace) = unless Picks (listed_in list)
 first_bad (run file workers trace) = unless Workers (workers_in workers)
 first_bad (replay file upgrade) = None
+first_bad (certify file) = None
 first_bad (stencil first steps workers) =
     earlier (unless First (first_in first))
     (earlier (unless Steps (number_within 0 100 steps)) (unless Workers (workers_in workers)))
@@ -205,6 +214,7 @@ IsInRange (answers file) = ⊤
 IsInRange (runs file picks trace) = ⊤
 IsInRange (works file workers trace) = (0 < workers) × (workers ≤ 16)
 IsInRange (replays file upgrade) = ⊤
+IsInRange (certifies file) = ⊤
 IsInRange (cells first steps workers) =
     (length first ≤ 16) × (steps ≤ 100) × (0 < workers) × (workers ≤ 16)
 IsInRange (stages k items workers) =
@@ -216,6 +226,7 @@ file_of (answers file) = Some file
 file_of (runs file picks trace) = Some file
 file_of (works file workers trace) = Some file
 file_of (replays file upgrade) = Some file
+file_of (certifies file) = Some file
 file_of (cells first steps workers) = None
 file_of (stages k items workers) = None
 
@@ -232,6 +243,7 @@ asked_by (words.Schedule file picks trace) =
 asked_by (words.Run file workers trace) =
     run file.now (option_map (λ t. t.now) workers) (option_map (λ t. t.now) trace)
 asked_by (words.Replay file upgrade) = replay file.now (option_map (λ t. t.now) upgrade)
+asked_by (words.Certify file) = certify file.now
 asked_by (words.Stencil first steps workers) =
     stencil first.now steps.now (option_map (λ t. t.now) workers)
 asked_by (words.Pipeline k items workers) = pipeline k.now items.now (option_map (λ t. t.now) workers)
@@ -241,6 +253,7 @@ work_of (jobs.Events file) = answers file.now
 work_of (jobs.Schedule file picks trace) = runs file.now picks.items (option_map (λ t. t.now) trace)
 work_of (jobs.Run file workers trace) = works file.now workers (option_map (λ t. t.now) trace)
 work_of (jobs.Replay file upgrade) = replays file.now (option_map (λ t. t.now) upgrade)
+work_of (jobs.Certify file) = certifies file.now
 work_of (jobs.Stencil first steps workers) = cells first.items steps workers
 work_of (jobs.Pipeline k items workers) = stages k items workers
 
@@ -291,6 +304,7 @@ plain_words program (run file workers out) =
     ∷ (option_words (codes "--workers") workers ++ option_words (codes "--trace") out)
 plain_words program (replay file out) =
     program ∷ codes "replay" ∷ file ∷ option_words (codes "--upgrade") out
+plain_words program (certify file) = program ∷ codes "certify" ∷ file ∷ []
 plain_words program (stencil first steps workers) =
     program ∷ codes "stencil" ∷ codes "--first" ∷ first ∷ codes "--steps" ∷ steps
     ∷ option_words (codes "--workers") workers
@@ -306,6 +320,7 @@ is_plainly_asked (schedule file list out) =
 is_plainly_asked (run file workers out) =
     is_plain file && (option_map_or is_plain workers true && option_map_or is_plain out true)
 is_plainly_asked (replay file out) = is_plain file && option_map_or is_plain out true
+is_plainly_asked (certify file) = is_plain file
 is_plainly_asked (stencil first steps workers) =
     is_plain first && (is_plain steps && option_map_or is_plain workers true)
 is_plainly_asked (pipeline k items workers) =

@@ -33,6 +33,10 @@ pub enum Job<'a> {
         file: &'a str,
         upgrade: Option<&'a str>,
     },
+    /// Says of the program what each of its runs comes to.
+    Certify {
+        file: &'a str,
+    },
     /// Runs the stencil over these first values for so many steps.
     Stencil {
         first: Vec<u32>,
@@ -56,7 +60,8 @@ impl<'a> Job<'a> {
             Job::Events { file }
             | Job::Schedule { file, .. }
             | Job::Run { file, .. }
-            | Job::Replay { file, .. } => Some(file),
+            | Job::Replay { file, .. }
+            | Job::Certify { file } => Some(file),
             Job::Stencil { .. } | Job::Pipeline { .. } => None,
         }
     }
@@ -213,6 +218,7 @@ fn job_for<'a>(alloc: Global, words: Words<'a>) -> Result<Job<'a>, NoJob>
             })
         }
         Words::Replay { file, upgrade } => Ok(Job::Replay { file, upgrade }),
+        Words::Certify { file } => Ok(Job::Certify { file }),
         Words::Stencil {
             first,
             steps,

@@ -2,7 +2,7 @@
 ghost use Rattle.std.specs.Prelude.{◌≡◌, ◌≢◌, List, Some, map, false, option_map, codes, IfErr, IfOk, MatchResult};
 ghost use Rattle.clap.specs.Words.{app_of, found_of, kind_of, new_app, rows_of, rule_of, with_rule, with_subcommand};
 ghost use Rattle.clap.specs.declared.builder.command.Command.TheViews.{out-Command as fields_of};
-ghost use Rattle.command_words.specs.CommandLine.{Asked, asked_among, asked_by, asked_in, bare_app, events_app, file_rule, filed_among, filed_app, needed_rule, option_rule, pipeline_among, pipeline_app, program_app, replay_app, run_app, running_app, schedule_app, stencil_among, stencil_app};
+ghost use Rattle.command_words.specs.CommandLine.{Asked, asked_among, asked_by, asked_in, bare_app, certify_app, events_app, file_rule, filed_among, filed_app, needed_rule, option_rule, pipeline_among, pipeline_app, program_app, replay_app, run_app, running_app, schedule_app, stencil_among, stencil_app};
 
 use crate::command_line::{NoJob, Value};
 use clap::error::ErrorKind;
@@ -28,6 +28,9 @@ pub(crate) enum Words<'a> {
     Replay {
         file: &'a str,
         upgrade: Option<&'a str>,
+    },
+    Certify {
+        file: &'a str,
     },
     Stencil {
         first: &'a str,
@@ -131,10 +134,22 @@ Exit status: 0 done, 1 refused, 2 bad words or this help, 3 a read or a write fa
 const UPGRADE_HELP: &str =
     "Writes the trace as version 2 into this file, which may be FILE, before the report";
 
+/// What `certify --help` says of the file and of the lines.
+const CERTIFY_HELP: &str = "\
+The file is a program, as schedule --help says it. It is run once, without threads. Where luck has no
+part in that run, each run of the program that has memory comes to the same report, by any number of
+workers and in any order. Luck has a part in a refusal, in a number of a kind that several tasks draw,
+and in a registration on a phaser that has ever had as many tasks as it may have at a time.
+Lines: those of the report, and then: certain. Else nothing, and on standard error the first event in
+which luck has a part, by its place in the trace that schedule writes: luck at PLACE: task T refused
+NUMBER NAME, task T draws phaser N, or task T registers task C on phaser N.
+A file that isn't a program is refused whole: refused 24 BadText at PLACE.
+Exit status: 0 certain, 1 refused or not certain, 2 bad words or this help, 3 a read or a write failed.";
+
 /// What `--help` says of the exit status.
 const PROGRAM_HELP: &str = "\
-Exit status: 0 done, 1 refused (a bad text, a trace that no run makes, or memory ran out),
-2 bad words, help or version, 3 a read or a write failed.";
+Exit status: 0 done, 1 refused (a bad text, a trace that no run makes, a program that isn't certain,
+or memory ran out), 2 bad words, help or version, 3 a read or a write failed.";
 
 /// FILE, which has to be there.
 fn file_argument<'a>(alloc: Global, help: &'a str) -> Arg<'a>
@@ -341,6 +356,20 @@ fn replay_command<'a>(alloc: Global) -> Result<Command<'a>, AllocError>
     command.arg(option(alloc, "upgrade", "OUT", UPGRADE_HELP))
 }
 
+/// `certify FILE`.
+fn certify_command<'a>(alloc: Global) -> Result<Command<'a>, AllocError>
+    ensures app { IfOk result (λ c. app_of c ≡ certify_app) }
+    ensures local { IfOk result (λ c. (fields_of c).has_globals ≡ false) }
+{
+    file_command(
+        alloc,
+        "certify",
+        "Says what each run of a program comes to, where one run tells it",
+        "The program; - reads standard input",
+        CERTIFY_HELP,
+    )
+}
+
 /// The program, without its subcommands.
 fn bare_command<'a>(alloc: Global) -> Command<'a>
     ensures { app_of result ≡ bare_app }
@@ -378,12 +407,20 @@ fn command_with_run<'a>(alloc: Global) -> Result<Command<'a>, AllocError>
     command_with_schedule(alloc)?.subcommand(run)
 }
 
-/// The program with the commands of a file.
+/// The program with `replay` too.
 fn command_with_replay<'a>(alloc: Global) -> Result<Command<'a>, AllocError>
-    ensures app { IfOk result (λ c. app_of c ≡ filed_app) }
+    ensures app { IfOk result (λ c. app_of c ≡ with_subcommand running_app replay_app.top) }
 {
     let replay = replay_command(alloc)?;
     command_with_run(alloc)?.subcommand(replay)
+}
+
+/// The program with the commands of a file.
+fn command_with_certify<'a>(alloc: Global) -> Result<Command<'a>, AllocError>
+    ensures app { IfOk result (λ c. app_of c ≡ filed_app) }
+{
+    let certify = certify_command(alloc)?;
+    command_with_replay(alloc)?.subcommand(certify)
 }
 
 /// The program with `stencil` too.
@@ -391,7 +428,7 @@ fn command_with_stencil<'a>(alloc: Global) -> Result<Command<'a>, AllocError>
     ensures app { IfOk result (λ c. app_of c ≡ with_subcommand filed_app stencil_app.top) }
 {
     let stencil = stencil_command(alloc)?;
-    command_with_replay(alloc)?.subcommand(stencil)
+    command_with_certify(alloc)?.subcommand(stencil)
 }
 
 /// The whole command line.
@@ -423,6 +460,7 @@ fn filed_among<'a>(name: &str, found: &ArgMatches<'a>) -> Option<Words<'a>>
             file,
             upgrade: found.get_str("upgrade"),
         }),
+        "certify" => Some(Words::Certify { file }),
         _ => None,
     }
 }

@@ -15,6 +15,7 @@ ghost use Rattle.replay_job.specs.Replayed.{Explains};
 
 use crate::trace_file::make_out;
 use crate::upgrade_file::Upgraded;
+use certify_job::certify_on;
 use command_words::{Job, NoJob, job_of};
 use events_job::events_from;
 use job_ends::{Failure, Reads, Status, bytes_of, write_text};
@@ -134,6 +135,7 @@ fn do_on<H: Threads + Wait + Sync, R: Read>(
             trace,
         } => run_program(rt, threads, *workers, file, *trace, reader),
         Job::Replay { upgrade, .. } => replay(rt, *upgrade, reader),
+        Job::Certify { .. } => certify(rt, reader),
         Job::Stencil {
             first,
             steps,
@@ -250,6 +252,23 @@ fn run_into<H: Threads + Wait + Sync, R: Read>(
                 &mut faults,
                 trace_out,
             )
+        }
+        Err(failure) => failed(rt, failure),
+    }
+}
+
+/// Certifies the program that the reader gives, and prints the report of each of its runs on standard
+/// output.
+fn certify<R: Read>(rt: &HostRuntime, reader: &mut R) -> Status
+    ensures done { result ≡ Status.Done → IfSome (R.remaining reader.old) (λ all.
+        (p : Program) × (program_spelled all ≡ Ok p)) }
+    ensures usage { result ≢ Status.Usage }
+{
+    let (alloc, mut reads) = (rt.alloc(), Reads::none());
+    match bytes_of(alloc, reader, &mut reads, program_texts::MOST_BYTES) {
+        Ok(bytes) => {
+            let (mut out, mut faults) = (rt.stdout(), rt.stderr());
+            certify_on(alloc, &bytes, &mut out, &mut faults)
         }
         Err(failure) => failed(rt, failure),
     }

@@ -5,6 +5,7 @@ ghost use Rattle.run_laws.specs.Programs.{FollowersGoByScripts, ProgramsComeToTh
 ghost use Rattle.run_laws.specs.Determinacy.{FailuresAreOfRoom, HistoriesAreBeginnings, RefusalsAreOfRoom, RoomIsAllLuck, RunsComeToTheSame, TasksDoTheSame};
 ghost use Rattle.run_laws.specs.Least.{LeastHangsOnMemoryAlone, LeastIsInOrder};
 ghost use Rattle.run_laws.specs.Memory.{HistoriesAlwaysFit, HistoriesAreNoLonger, MemoryIsAllLuck};
+ghost use Rattle.run_laws.specs.OneRun.{OneRunTellsAll};
 ghost use Rattle.run_laws.specs.Schedules.{OrderlySchedulesEnd, OrderlySchedulesForetell, RoomyTextsAreOrderly, SchedulesComeToTheSame, SchedulesWithRoomComeToTheSame};
 
 use body_follows::Goes;
@@ -105,6 +106,14 @@ pub fn texts_tell_who_draws()
 /// the same in both.
 pub fn texts_foretell()
     ensures { TextsForetell }
+{}
+
+/// One whole run of a program, in which nobody is refused, each kind of number is drawn by one task
+/// alone, in order, and no phaser has more registrations in all than may stand at a time, tells all:
+/// in each run that has memory nobody is refused or gives up, and if its root ends it comes to the
+/// same report.
+pub fn one_run_tells_all()
+    ensures { OneRunTellsAll }
 {}
 
 /// Of a program whose text says that the root alone draws numbers: any two runs by picks in which

@@ -1,7 +1,7 @@
 use Rattle.std.proofs.Common.{rules, codes, sym, ◌∙◌}
 use Rattle.clap.specs.Words.{found_of, rows_of}
 use Rattle.clap.proofs.WalkLemmas.{first_value-rows}
-use Rattle.command_words.proofs.Commands.{among_events, among_none, among_replay, among_run, among_schedule}
+use Rattle.command_words.proofs.Commands.{among_certify, among_events, among_none, among_replay, among_run, among_schedule}
 use Rattle.command_words.proofs.words.filed_among.Goals as goal
 
 pub returns-in_err-file : goal.returns-in_err-file
@@ -43,3 +43,9 @@ returns-in-replay c =
     let upgrade =
     c.get_str-in-replay.ensures ∙ first_value-rows (found_of c.args.found.now) _ in
     search (rules, is, upgrade)
+
+pub returns-in-certify : goal.returns-in-certify
+returns-in-certify c =
+    let file = c.get_str.ensures ∙ first_value-rows (found_of c.args.found.now) (codes "file") in
+    let is = among_certify c.args.name.now (rows_of (found_of c.args.found.now)) _ c.in-certify.is file in
+    search (rules, is)

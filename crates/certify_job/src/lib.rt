@@ -1,0 +1,8 @@
+//! Says of a program's text what each of its runs comes to, where one run tells it.
+#![tactic(auto)]
+
+mod certifying;
+mod ending;
+
+pub use certifying::{certify_bytes, certify_on, ending_on};
+pub use ending::NoCertificate;

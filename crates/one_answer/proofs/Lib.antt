@@ -1,0 +1,4 @@
+mod Counts
+mod Drawn
+mod Passing
+mod Steady
