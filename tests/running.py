@@ -4,6 +4,7 @@ import collections
 import concurrent.futures
 import os
 import pathlib
+import shutil
 import subprocess
 import tempfile
 
@@ -74,3 +75,13 @@ def each(jobs, judge, cases):
 
 class Missing(Exception):
     """The tools that a part of a test needs and that aren't here."""
+
+
+def preload(name, folder):
+    """The preload of tests/NAME.c, compiled into the folder. Where that fails cc has said why."""
+    if not shutil.which("cc"):
+        raise Missing("C compiler (cc)")
+    made = pathlib.Path(folder, name + ".so")
+    words = ["cc", "-shared", "-fPIC", "-O1", "-o", str(made), str(TOP / "tests" / (name + ".c")), "-ldl", "-pthread"]
+    subprocess.run(words, check=True)
+    return made

@@ -33,9 +33,6 @@ phaser_run isn't built from these sources yet, and this help doesn't build it. O
 FIRST_CALL = """
 The first call proves and builds the program, which takes {first_time}; later calls take milliseconds.
 Try: ./phaser_run events examples/events/two_tasks_turn.json
-Before the command these words may stand, in any order:
-  --try     builds the sources unproved, with run-time checks, in a minute or two; later calls with it take less than a second
-  --strict  ends with status 1, not 0, where the report of run, schedule or replay has a task that was refused
 ./program_check FILE says where and why a text is refused.
 """
 

@@ -148,11 +148,30 @@ class Picture:
             self.acts(task, y)
             if task.spawner is not None and self.span.has(task.born):
                 x, y1 = self.x(task.born), self.rows[task.spawner] + self.sunk()
-                self.add(line(x, y1, x, y + self.sunk(), "#5a9e4b", 1, stroke_dasharray="2 2"))
+                y2 = self.spawn_end(task, y, y1 > y)
+                self.add(line(x, y1, x, y2, "#5a9e4b", 1, stroke_dasharray="2 2"))
             x1, x2 = self.x_from(task.born), self.x_to(task.ended)
             self.add(line(x1, y + self.sunk(), x2, y + self.sunk(), "#888888", 0.8))
             self.stubs(task.born, task.ended, y + self.sunk(), "#888888", 0.8)
             self.marks(task, y)
+
+    def spawn_end(self, task, y, is_from_below):
+        """Where the line of a task's spawn ends: at the task's line, or before the number of a refusal that stands there."""
+        x1, x2, top, bottom = self.number_room(task, y)
+        if not x1 <= self.x(task.born) <= x2:
+            return y + self.sunk()
+        return bottom + 2 if is_from_below else top - 2
+
+    def number_size(self):
+        return min(12, self.row - 2)
+
+    def number_room(self, task, y):
+        """The room of the number of a task's refusal: its sides, its top and its bottom; none where it isn't drawn."""
+        if not task.refused or not self.span.has(task.refused[0]):
+            return 0, 0, y, y
+        place, number, _ = task.refused
+        size, right, bottom = self.number_size(), self.x(place) + self.radius, y + self.sunk() + 4
+        return right - 0.7 * size * len(f"{number} ✗"), right, bottom - 0.75 * size, bottom
 
     def stubs(self, begun, ended, y, colour, width):
         """Dashed ends of the line of what goes on past what is drawn."""
@@ -201,11 +220,10 @@ class Picture:
                 self.add(mark(x, y + self.sunk(), r, shape, colour, title))
         if task.refused and self.span.has(task.refused[0]):
             place, number, words = task.refused
-            x = self.x(place)
+            _, x, _, bottom = self.number_room(task, y)
             title = f"<title>{escape(f'{self.stamp(place)}: task {task.number}: {words}')}</title>"
-            size = min(12, self.row - 2)
             self.add(
-                f'<text x="{x + self.radius:.1f}" y="{y + self.sunk() + 4:.1f}" font-size="{size}" fill="{RED}" '
+                f'<text x="{x:.1f}" y="{bottom:.1f}" font-size="{self.number_size()}" fill="{RED}" '
                 f'font-weight="bold" text-anchor="end">{number} ✗{title}</text>'
             )
 
