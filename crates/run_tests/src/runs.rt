@@ -12,6 +12,7 @@ use std::thread::Threads;
 
 mod gates;
 mod queues;
+mod roots;
 mod singles;
 
 fn is_written(rt: &impl Abort, bytes: &[u8], text: &str) {

@@ -5,7 +5,7 @@ use Rattle.phased_rt.proofs.Totalled.{told_totals}
 use Rattle.phased_rt.proofs.told.told_of.Goals as goal
 
 pub returns-clause-told : goal.returns-clause-told
-returns-clause-told c =
+returns-clause-told g c =
     let left = c.requires.remains in
     let remains = c.args.remains in
     let together = c.deref.ensures.value ∙ c.in_ok-parts.ensures.parts in
@@ -25,5 +25,5 @@ returns-clause-told c =
     }
 
 pub returns-clause-totals : goal.returns-clause-totals
-returns-clause-totals c =
-    told_totals c.args.limits c.in_ok-world.trace.events c.args.remains.totals c.in_ok-world.world (returns-clause-told c) c.in_ok-world.ensures.world
+returns-clause-totals g c =
+    told_totals c.args.limits c.in_ok-world.trace.events c.args.remains.totals c.in_ok-world.world (returns-clause-told g c) c.in_ok-world.ensures.world
