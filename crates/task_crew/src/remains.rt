@@ -1,5 +1,6 @@
 //! What a run leaves once its workers are done: its tables and logs as parts of a trace.
-ghost use Rattle.std.specs.Prelude.{◌≡◌, map, length, vec_len, All, IfOk, IfErr};
+ghost use Rattle.std.specs.Prelude.{◌≡◌, ◌+◌, map, length, vec_len, All, IfOk, IfErr};
+ghost use Rattle.std.specs.List.{sum as total};
 ghost use Rattle.share_book.specs.Opening.{AreAllParts};
 ghost use Rattle.scope_locks.specs.Telling.{ArePhaserParts, AreFinishParts};
 ghost use Rattle.task_crew.specs.Refused.{IsRunRefused};
@@ -30,6 +31,7 @@ pub struct Remains<B> {
 fn add_logs(parts: &mut Vec<Part>, logs: Vec<Diary>) -> Result<(), Refusal>
     requires { All (λ p. IsTaskLog p) parts.old.items }
     ensures own { IfOk result (λ _. All (λ p. IsTaskLog p) parts.new.items) }
+    ensures number { IfOk result (λ _. length parts.new.items ≡ length parts.old.items + length logs.items) }
     ensures memory { IfErr result (λ e. e ≡ Refusal.Memory) }
 {
     for log in logs {
@@ -41,6 +43,7 @@ fn add_logs(parts: &mut Vec<Part>, logs: Vec<Diary>) -> Result<(), Refusal>
 /// The parts of all logs.
 fn logs_of(alloc: Global, logs: Vec<Vec<Diary>>, root: Diary) -> Result<Vec<Part>, Refusal>
     ensures own { IfOk result (λ parts. All (λ p. IsTaskLog p) parts.items) }
+    ensures number { IfOk result (λ parts. length parts.items ≡ total (map (λ l. length l.items) logs.items) + 1) }
     ensures memory { IfErr result (λ e. e ≡ Refusal.Memory) }
 {
     let mut parts = Vec::new(alloc);
