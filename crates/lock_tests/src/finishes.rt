@@ -26,13 +26,13 @@ fn answer_of(answer: ShutAnswer<u32>) -> Shutting {
     }
 }
 
-/// A table of two finishes, for four tasks.
-fn two_finishes(alloc: Global) -> Result<FinishTable<u32, u32>, Refusal>
-    ensures { IfOk result (λ t. t.finishes ≡ 2) }
+/// A table of so many finishes, for so many tasks.
+fn table_for(alloc: Global, finishes: u32, tasks: u32) -> Result<FinishTable<u32, u32>, Refusal>
+    ensures { IfOk result (λ t. t.finishes ≡ finishes) }
 {
     let limits = Limits {
-        finishes: 2,
-        tasks: 4,
+        finishes,
+        tasks,
         ..Limits::default()
     };
     if !limits.fits() {
@@ -67,8 +67,38 @@ fn root_is_open<R: Abort + Wait>(rt: &R, table: &FinishTable<u32, u32>, tickets:
 /// The root's finish is open from the start; before the other is opened it can't be shut.
 #[test]
 fn finishes_at_first(rt: HostRuntime) -> Result<(), Fail> {
-    let table = two_finishes(rt.alloc())?;
+    let table = table_for(rt.alloc(), 2, 4)?;
     root_is_open(&rt, &table, &Tickets::new());
+    Ok(())
+}
+
+/// In each of the three finishes task 1 may be spawned, and number 2 is past the limit.
+fn take_two_tasks<R: Abort + Wait>(rt: &R, table: &FinishTable<u32, u32>, tickets: &Tickets)
+    requires { table.now.finishes ≡ 3 }
+{
+    const PAST: Result<(), Refusal> = Err(Refusal::TasksFull);
+    assert_eq!(rt; table.opened(rt, 1, tickets, 0), Ok(()));
+    assert_eq!(rt; table.opened(rt, 2, tickets, 0), Ok(()));
+    for finish in 0..3 {
+        assert_eq!(rt;
+            table.spawned(rt, finish, tickets, 2),
+            PAST,
+            "finish {finish}"
+        );
+        assert_eq!(rt;
+            table.spawned(rt, finish, tickets, 1),
+            Ok(()),
+            "finish {finish}"
+        );
+    }
+}
+
+/// Of its limits a table takes how many finishes there are, and each finish the limit of task numbers.
+#[test]
+fn finishes_have_the_limits(rt: HostRuntime) -> Result<(), Fail> {
+    let table = table_for(rt.alloc(), 3, 2)?;
+    take_two_tasks(&rt, &table, &Tickets::new());
+    assert_eq!(rt; table.into_parts().parts.len(), 3);
     Ok(())
 }
 
@@ -160,7 +190,7 @@ fn parked_owner(rt: HostRuntime) -> Result<(), Fail> {
         (2, 22, (None, None)),
         (1, 11, (None, Some(100))),
     ];
-    let table = two_finishes(rt.alloc())?;
+    let table = table_for(rt.alloc(), 2, 4)?;
     let tickets = Tickets::new();
     opens_with_two(&rt, &table, &tickets);
     parks_its_owner(&rt, &table, &tickets);

@@ -8,7 +8,8 @@ use phase_model::{Look, Op, Ops};
 use phase_modes::{Limits, Mode, Refusal};
 use phased_rt::{Act, Answer, Body, OpenGate, run};
 
-/// What a task does next. The root makes the phaser, which is number 0, and spawns the others.
+/// What a task does next. The root makes the phaser, which is number 0, spawns the others, and looks
+/// once.
 #[derive(Clone, Copy)]
 enum Next {
     Makes,
@@ -18,8 +19,8 @@ enum Next {
     Looks,
 }
 
-/// A task: the root, with the number that it spawns a task for next, down to 1, or a task with the
-/// number that it sends next, and how often it still sends.
+/// A task, with its number and how often it still sends. The root's number is that of the task that
+/// it spawns next, down to 1, and then the sum that it saw; the others' is what they send next.
 #[derive(Clone, Copy)]
 struct Adder {
     next: Next,
@@ -38,9 +39,9 @@ impl Body for Adder {
             Next::Makes => (Act::New(Mode::SigWait, one_sum(), None), Next::Spawns),
             Next::Spawns if self.number > 0 => (self.spawn(), Next::Spawns),
             Next::Sends if self.rounds > 0 => (self.send(), Next::Turns),
-            Next::Turns => (Act::Next, Next::Looks),
+            Next::Spawns | Next::Turns => (Act::Next, Next::Looks),
             Next::Looks => (Act::Look(0, 0), Next::Sends),
-            Next::Spawns | Next::Sends => (Act::End, Next::Sends),
+            Next::Sends => (Act::End, Next::Sends),
         };
         self.next = next;
         Ok(act)
@@ -52,8 +53,11 @@ impl Body for Adder {
 impl Adder {
     /// It spawns a task for its number, on the phaser that it made.
     fn spawn(&mut self) -> Act<Adder> {
-        let next = Next::Sends;
-        let child = Adder { next, ..*self };
+        let child = Adder {
+            next: Next::Sends,
+            number: self.number,
+            rounds: 3,
+        };
         self.number = self.number.saturating_sub(1);
         Act::AsyncAll(child)
     }
@@ -76,9 +80,10 @@ fn main(rt: HostRuntime) -> anyhow::Result<()> {
     let root = Adder {
         next: Next::Makes,
         number: 3,
-        rounds: 3,
+        rounds: 0,
     };
     let report = run(&rt, rt.alloc(), root, Limits::default(), 2, &OpenGate)?;
     print!(&rt; "{}", report.world)?;
+    println!(&rt; "the root saw {}", report.root.number)?;
     Ok(())
 }

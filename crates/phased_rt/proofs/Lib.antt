@@ -1,5 +1,7 @@
 pub mod Adding
 pub mod Emptied
+pub mod FinishesLimited
+pub mod Limited
 pub mod Owned
 pub mod Refusals
 pub mod Sums

@@ -3,12 +3,14 @@ use Rattle.std.proofs.Common.{◌≡◌, ◌≢◌, ℕ, ◌+◌, ◌≤◌, Lis
 use Rattle.std.specs.List.{All, range_with_len}
 use Rattle.std.proofs.lemmas.List.Elements.{All-nil, All-cons, All-append, All-push, All-weaker}
 use Rattle.phase_modes.specs.declared.limits.Limits.{Limits}
+use Rattle.phase_model.specs.Amounts.{Amount}
 use Rattle.share_book.specs.declared.gathering.Totals.{Totals}
 use Rattle.world_model.specs.Report.{below}
 use Rattle.trace_model.specs.Run.{Entry}
 use Rattle.trace_model.specs.Parts.{IsTraceOf}
 use Rattle.trace_model.specs.Projections.{Whose, phaser, finish, log, whose, projection, AreOf, AreNotOf}
 use Rattle.trace_model.proofs.Owners.{projection_is_part}
+use Rattle.scope_locks.specs.Telling.{ArePhaserParts, AreFinishParts}
 use Rattle.task_crew.specs.Remaining.{IsTaskLog}
 use Rattle.phased_rt.specs.Told.{IsToldBy}
 use Rattle.phased_rt.proofs.Owned.{AreOfEach, phasers_owned, finishes_owned}
@@ -77,31 +79,46 @@ log_no_finish t f same = cc
 
 -- ---- of a run
 
+-- by the parts alone
+pub phasers_from : (phasers finishes logs : List (List Entry)) (sums : List Amount) (ended : List ℕ) (es : List Entry)
+    → IsTraceOf ((phasers ++ finishes) ++ logs) es → ArePhaserParts 0 phasers sums → AreFinishParts 0 finishes ended
+    → All (λ p. IsTaskLog p) logs
+    → map (λ n. projection (phaser n) es) (range_with_len 0 (length phasers)) ≡ phasers
+phasers_from phasers finishes logs sums ended es merged of_phasers of_finishes of_tasks =
+    let parted : IsTraceOf ([] ++ (phasers ++ (finishes ++ logs))) es =
+    subst (λ (ps : List (List Entry)). IsTraceOf ps es) (append_assoc phasers finishes logs) merged in
+    each_traced phaser one_phaser 0 [] phasers (finishes ++ logs) es parted
+    (phasers_owned 0 phasers sums of_phasers) (λ m above. All-nil (AreNotOf (phaser m)))
+    (λ m. All-append (AreNotOf (phaser m)) finishes logs
+    (of_others finish (phaser m) 0 finishes (λ f above. finish_no_phaser f m)
+    (finishes_owned 0 finishes ended of_finishes))
+    (of_logs (phaser m) (λ t. log_no_phaser t m) logs of_tasks))
+
+pub finishes_from : (phasers finishes logs : List (List Entry)) (sums : List Amount) (ended : List ℕ) (es : List Entry)
+    → IsTraceOf ((phasers ++ finishes) ++ logs) es → ArePhaserParts 0 phasers sums → AreFinishParts 0 finishes ended
+    → All (λ p. IsTaskLog p) logs
+    → map (λ f. projection (finish f) es) (range_with_len 0 (length finishes)) ≡ finishes
+finishes_from phasers finishes logs sums ended es merged of_phasers of_finishes of_tasks =
+    let parted : IsTraceOf (phasers ++ (finishes ++ logs)) es =
+    subst (λ (ps : List (List Entry)). IsTraceOf ps es) (append_assoc phasers finishes logs) merged in
+    each_traced finish one_finish 0 phasers finishes logs es parted
+    (finishes_owned 0 finishes ended of_finishes)
+    (λ m above. of_others phaser (finish m) 0 phasers (λ n from. phaser_no_finish n m)
+    (phasers_owned 0 phasers sums of_phasers))
+    (λ m. of_logs (finish m) (λ t. log_no_finish t m) logs of_tasks)
+
 pub phasers_traced : (l : Limits) (es : List Entry) (t : Totals) (told : IsToldBy l es t)
     → map (λ n. projection (phaser n) es) (below l.phasers) ≡ told.phasers
 phasers_traced l es t told =
-    let merged : IsTraceOf ([] ++ (told.phasers ++ (told.finishes ++ told.logs))) es =
-    subst (λ (ps : List (List Entry)). IsTraceOf ps es) (append_assoc told.phasers told.finishes told.logs)
-    told.merged in
-    let finishes = finishes_owned 0 told.finishes told.ended told.of_finishes in
     subst (λ (k : ℕ). map (λ n. projection (phaser n) es) (range_with_len 0 k) ≡ told.phasers)
     told.all_phasers
-    (each_traced phaser one_phaser 0 [] told.phasers (told.finishes ++ told.logs) es merged
-    (phasers_owned 0 told.phasers told.sums told.of_phasers) (λ m above. All-nil (AreNotOf (phaser m)))
-    (λ m. All-append (AreNotOf (phaser m)) told.finishes told.logs
-    (of_others finish (phaser m) 0 told.finishes (λ f above. finish_no_phaser f m) finishes)
-    (of_logs (phaser m) (λ t. log_no_phaser t m) told.logs told.of_tasks)))
+    (phasers_from told.phasers told.finishes told.logs told.sums told.ended es told.merged
+    told.of_phasers told.of_finishes told.of_tasks)
 
 pub finishes_traced : (l : Limits) (es : List Entry) (t : Totals) (told : IsToldBy l es t)
     → map (λ f. projection (finish f) es) (below l.finishes) ≡ told.finishes
 finishes_traced l es t told =
-    let merged : IsTraceOf (told.phasers ++ (told.finishes ++ told.logs)) es =
-    subst (λ (ps : List (List Entry)). IsTraceOf ps es) (append_assoc told.phasers told.finishes told.logs)
-    told.merged in
-    let phasers = phasers_owned 0 told.phasers told.sums told.of_phasers in
     subst (λ (k : ℕ). map (λ f. projection (finish f) es) (range_with_len 0 k) ≡ told.finishes)
     told.all_finishes
-    (each_traced finish one_finish 0 told.phasers told.finishes told.logs es merged
-    (finishes_owned 0 told.finishes told.ended told.of_finishes)
-    (λ m above. of_others phaser (finish m) 0 told.phasers (λ n from. phaser_no_finish n m) phasers)
-    (λ m. of_logs (finish m) (λ t. log_no_finish t m) told.logs told.of_tasks))
+    (finishes_from told.phasers told.finishes told.logs told.sums told.ended es told.merged
+    told.of_phasers told.of_finishes told.of_tasks)

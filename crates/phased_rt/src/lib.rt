@@ -2,7 +2,8 @@
 //!
 //! # A caller
 //!
-//! A task is a `Body`: it hears what its last act came to, and gives its next one.
+//! A task is a `Body`: it hears what its last act came to, and gives its next one. The root's comes
+//! back in the report, with what it kept.
 //!
 //! ```rust
 //! let report = run(rt, alloc, root, Limits::default(), 4, &OpenGate)?;

@@ -16,12 +16,14 @@ use world_model::WorldReport;
 
 /// What a run made.
 #[derive(Drop)]
-pub struct Report {
+pub struct Report<B> {
     /// The report of the history that the trace is.
     pub world: WorldReport,
     /// What all phasers together add up to.
     pub totals: Totals,
     pub trace: Trace,
+    /// The root's body as it stood after its last `step` or `single`.
+    pub root: B,
 }
 
 #[tactic(auto, using(trace_model::proofs::Faults::faultless, crate::proofs::Refusals::merge_refused, crate::proofs::Refusals::replay_refused))]

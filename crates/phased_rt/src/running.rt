@@ -31,7 +31,7 @@ pub fn run<B: Body + Send, G: Gate + Sync, R: Threads + Wait + Sync>(
     limits: Limits,
     workers: u32,
     gate: &G,
-) -> Result<Report, Refusal>
+) -> Result<Report<B>, Refusal>
     requires limits { limits_fit limits ≡ true }
     requires workers { (0 < workers) × (workers ≤ 16) }
     ensures limits { IfOk result (λ r. r.trace.limits ≡ limits) }

@@ -30,7 +30,11 @@ fn joined(phasers: Vec<Part>, finishes: Vec<Part>, logs: Vec<Part>) -> Result<Ve
 
 /// What a run made, by what it leaves. `NotExplained` where the parts merge to no trace that a world
 /// explains.
-pub(crate) fn told_of(alloc: Global, limits: Limits, remains: Remains) -> Result<Report, Refusal>
+pub(crate) fn told_of<B: Drop>(
+    alloc: Global,
+    limits: Limits,
+    remains: Remains<B>,
+) -> Result<Report<B>, Refusal>
     requires limits { limits_fit limits ≡ true }
     requires remains { AreRemains limits remains.phasers.items remains.finishes.items remains.logs.items remains.totals }
     ensures limits { IfOk result (λ r. r.trace.limits ≡ limits) }
@@ -46,6 +50,7 @@ pub(crate) fn told_of(alloc: Global, limits: Limits, remains: Remains) -> Result
         finishes,
         logs,
         totals,
+        root,
     } = remains;
     let parts = joined(phasers, finishes, logs)?;
     let (world, trace) = reported(alloc, limits, &parts)?;
@@ -53,5 +58,6 @@ pub(crate) fn told_of(alloc: Global, limits: Limits, remains: Remains) -> Result
         world,
         totals,
         trace,
+        root,
     })
 }

@@ -12,7 +12,9 @@ use std::thread::Threads;
 
 mod gates;
 mod queues;
+mod roots;
 mod singles;
+mod unlocked;
 
 fn is_written(rt: &impl Abort, bytes: &[u8], text: &str) {
     assert_eq!(rt; bytes, text.as_bytes());

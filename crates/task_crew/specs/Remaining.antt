@@ -1,5 +1,6 @@
 -- What a run leaves.
-use Rattle.std.specs.Prelude.{◌≡◌, ℕ, List, length, All}
+use Rattle.std.specs.Prelude.{◌≡◌, ℕ, ◌+◌, List, length, All}
+use Rattle.std.specs.List.{sum as total}
 use Rattle.phase_modes.specs.declared.limits.Limits.{Limits}
 use Rattle.phase_model.specs.Amounts.{Amount}
 use Rattle.share_book.specs.declared.gathering.Totals.{Totals}
@@ -13,7 +14,8 @@ abbrev pub IsTaskLog : List Entry → Type 0
 IsTaskLog es = (t : ℕ) × AreOf (log t) es
 
 -- there is a part for each phaser and each finish, which tells a legal history as locks do, and logs, each of one
--- task; the totals are what the phasers' histories add up to
+-- task: as many as tasks have ended in the finishes, and the root's; the totals are what the phasers' histories add
+-- up to
 pub record AreRemains (l : Limits) (phasers finishes logs : List (List Entry)) (t : Totals) : Type 0 where
   pub sums : List Amount
   pub ended : List ℕ
@@ -22,4 +24,5 @@ pub record AreRemains (l : Limits) (phasers finishes logs : List (List Entry)) (
   pub of_tasks : All (λ p. IsTaskLog p) logs
   pub all_phasers : length phasers ≡ l.phasers
   pub all_finishes : length finishes ≡ l.finishes
+  pub all_logs : length logs ≡ total ended + 1
   pub added : amount_of t ≡ sum sums

@@ -5,7 +5,7 @@ ghost use Rattle.task_queue.specs.Accounts.{IsSeatOf};
 
 use crate::body::{Body, Gate};
 use crate::crew::Crew;
-use crate::task::{Item, Task};
+use crate::task::{Item, RootLeft, Task};
 use crate::worker::{Shared, Worker};
 use phase_modes::{Pair, Refusal};
 use scope_locks::{PassAnswer, ShutAnswer, SignalAnswer};
@@ -216,7 +216,7 @@ impl<B: Body, K: Ledgers> Shared<B, K> {
         Ok(None)
     }
 
-    /// The root shuts finish 0: the run is over, and the root's log is its worker's.
+    /// The root shuts finish 0: the run is over, and the root's log and body are its worker's.
     fn close<R: Wait>(
         &self,
         rt: &R,
@@ -228,8 +228,8 @@ impl<B: Body, K: Ledgers> Shared<B, K> {
         match self.shut_on(rt, item, 0) {
             ShutAnswer::Done(item) => {
                 let Item { task, unborn: _ } = item;
-                let Task { log, .. } = Box::into_inner(task);
-                worker.root = Some(log);
+                let Task { body, log, .. } = Box::into_inner(task);
+                worker.root = Some(RootLeft { log, body });
                 self.queue.close(rt);
                 Ok(None)
             }

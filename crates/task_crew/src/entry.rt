@@ -28,7 +28,7 @@ fn run_in<K: Ledgers + Send + Sync, B: Body + Send, G: Gate + Sync, R: Threads +
     limits: Limits,
     blanks: Blanks,
     gate: &G,
-) -> Result<Remains, Refusal>
+) -> Result<Remains<B>, Refusal>
 where
     K::EventsByPhaser: Send + Sync,
     K::EventsByWorker: Send + Sync,
@@ -86,7 +86,7 @@ fn run_over<
     limits: Limits,
     blanks: Blanks,
     gate: &G,
-) -> Result<Remains, Refusal>
+) -> Result<Remains<B>, Refusal>
     requires names { IsNamed blanks EP.name EW.name UP.name UW.name DP.name DW.name RM.name }
     requires parts { IsParted blanks EP.parts EW.parts UP.parts UW.parts DP.parts DW.parts RM.parts }
     requires blanks { blanks.phasers ≡ limits.phasers }
@@ -111,7 +111,7 @@ pub fn run_tasks<B: Body + Send, G: Gate + Sync, R: Threads + Wait + Sync>(
     limits: Limits,
     workers: u32,
     gate: &G,
-) -> Result<Remains, Refusal>
+) -> Result<Remains<B>, Refusal>
     requires limits { limits_fit limits ≡ true }
     requires workers { (0 < workers) × (workers ≤ 16) }
     ensures remains { IfOk result (λ r. AreRemains limits r.phasers.items r.finishes.items r.logs.items r.totals) }

@@ -1,5 +1,6 @@
 //! What a run leaves once its workers are done: its tables and logs as parts of a trace.
-ghost use Rattle.std.specs.Prelude.{◌≡◌, map, length, vec_len, All, IfOk, IfErr};
+ghost use Rattle.std.specs.Prelude.{◌≡◌, ◌+◌, map, length, vec_len, All, IfOk, IfErr};
+ghost use Rattle.std.specs.List.{sum as total};
 ghost use Rattle.share_book.specs.Opening.{AreAllParts};
 ghost use Rattle.scope_locks.specs.Telling.{ArePhaserParts, AreFinishParts};
 ghost use Rattle.task_crew.specs.Refused.{IsRunRefused};
@@ -7,7 +8,7 @@ ghost use Rattle.task_crew.specs.Remaining.{IsTaskLog, AreRemains};
 
 use crate::body::Body;
 use crate::diary::Diary;
-use crate::task::Item;
+use crate::task::{Item, RootLeft};
 use phase_modes::{Limits, Refusal};
 use scope_locks::{FinishParts, FinishTable, PhaserParts, PhaserTable};
 use share_book::{Ledgers, Shares, Totals, gather};
@@ -15,19 +16,22 @@ use std::alloc::Global;
 use trace_model::Part;
 
 /// What a run leaves: the histories of its phasers and finishes with their tickets, each kind in
-/// order, the tasks' logs, and what all phasers together add up to.
+/// order, the tasks' logs, what all phasers together add up to, and the root's body as it stood after
+/// its last `step` or `single`.
 #[derive(Drop)]
-pub struct Remains {
+pub struct Remains<B> {
     pub phasers: Vec<Part>,
     pub finishes: Vec<Part>,
     pub logs: Vec<Part>,
     pub totals: Totals,
+    pub root: B,
 }
 
 /// Adds the parts of these logs.
 fn add_logs(parts: &mut Vec<Part>, logs: Vec<Diary>) -> Result<(), Refusal>
     requires { All (λ p. IsTaskLog p) parts.old.items }
     ensures own { IfOk result (λ _. All (λ p. IsTaskLog p) parts.new.items) }
+    ensures number { IfOk result (λ _. length parts.new.items ≡ length parts.old.items + length logs.items) }
     ensures memory { IfErr result (λ e. e ≡ Refusal.Memory) }
 {
     for log in logs {
@@ -39,6 +43,7 @@ fn add_logs(parts: &mut Vec<Part>, logs: Vec<Diary>) -> Result<(), Refusal>
 /// The parts of all logs.
 fn logs_of(alloc: Global, logs: Vec<Vec<Diary>>, root: Diary) -> Result<Vec<Part>, Refusal>
     ensures own { IfOk result (λ parts. All (λ p. IsTaskLog p) parts.items) }
+    ensures number { IfOk result (λ parts. length parts.items ≡ total (map (λ l. length l.items) logs.items) + 1) }
     ensures memory { IfErr result (λ e. e ≡ Refusal.Memory) }
 {
     let mut parts = Vec::new(alloc);
@@ -50,14 +55,14 @@ fn logs_of(alloc: Global, logs: Vec<Vec<Diary>>, root: Diary) -> Result<Vec<Part
 }
 
 /// What a run leaves, by what its tables and its workers leave.
-fn gathered<K: Ledgers>(
+fn gathered<K: Ledgers, B: Body>(
     alloc: Global,
     limits: Limits,
     phasers: PhaserParts<K>,
     finishes: FinishParts<Diary>,
     shares: Vec<Shares<K>>,
-    root: Diary,
-) -> Result<Remains, Refusal>
+    root: RootLeft<B>,
+) -> Result<Remains<B>, Refusal>
     requires phasers { vec_len phasers.parts ≡ limits.phasers }
     requires finishes { vec_len finishes.parts ≡ limits.finishes }
     requires told_phasers { ArePhaserParts 0 phasers.parts.items (map (λ b. b.totals) phasers.phasers.items) }
@@ -79,24 +84,26 @@ fn gathered<K: Ledgers>(
     let Ok(totals) = gather(shares, held, books) else {
         unreachable!()
     };
-    let of_logs = logs_of(alloc, logs, root)?;
+    let RootLeft { log, body } = root;
+    let of_logs = logs_of(alloc, logs, log)?;
     Ok(Remains {
         phasers: of_phasers,
         finishes: of_finishes,
         logs: of_logs,
         totals,
+        root: body,
     })
 }
 
-/// The same, where the tables are still whole. `NotExplained` where the root has left no log.
+/// The same, where the tables are still whole. `NotExplained` where the root has left nothing.
 pub(crate) fn remains_of<K: Ledgers, B: Body>(
     alloc: Global,
     limits: Limits,
     phasers: PhaserTable<Item<B>, K>,
     finishes: FinishTable<Item<B>, Diary>,
     shares: Vec<Shares<K>>,
-    root: Option<Diary>,
-) -> Result<Remains, Refusal>
+    root: Option<RootLeft<B>>,
+) -> Result<Remains<B>, Refusal>
     requires phasers { phasers.phasers ≡ limits.phasers }
     requires finishes { finishes.finishes ≡ limits.finishes }
     requires workers { AreAllParts (vec_len shares) K.EventsByWorker.parts K.UpByWorker.parts K.DownByWorker.parts }

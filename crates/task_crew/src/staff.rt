@@ -8,10 +8,9 @@ ghost use Rattle.task_crew.specs.Remaining.{AreRemains};
 
 use crate::body::{Body, Gate};
 use crate::crew::in_threads;
-use crate::diary::Diary;
 use crate::driver::Team;
 use crate::remains::{Remains, remains_of};
-use crate::task::Item;
+use crate::task::{Item, RootLeft};
 use crate::worker::{Shared, Worker};
 use phase_modes::{Limits, Refusal};
 use scope_locks::Out;
@@ -22,12 +21,12 @@ use std::sync::Wait;
 use std::thread::Threads;
 use task_queue::{RunQueue, Seat};
 
-/// What the workers hand back: their seats and shares, and the root's log.
+/// What the workers hand back: their seats and shares, and what the root leaves.
 #[derive(Drop)]
 struct Left<B: Body, K: Ledgers> {
     seats: Vec<Seat<Item<B>>>,
     shares: Vec<Shares<K>>,
-    root: Option<Diary>,
+    root: Option<RootLeft<B>>,
 }
 
 /// A worker at each seat, with a share each.
@@ -95,8 +94,8 @@ fn take_back<B: Body, K: Ledgers>(
     } = worker;
     left.seats.push(seat)?;
     left.shares.push(shares)?;
-    if let Some(log) = root {
-        left.root = Some(log);
+    if let Some(root) = root {
+        left.root = Some(root);
     }
     Ok(())
 }
@@ -185,7 +184,7 @@ pub(crate) fn run_staff<
     B: Body + Send,
     G: Gate + Sync,
     R: Threads + Wait + Sync,
->(rt: &R, shared: Shared<B, K>, staff: Vec<Worker<B, K>>, gate: &G) -> Result<Remains, Refusal>
+>(rt: &R, shared: Shared<B, K>, staff: Vec<Worker<B, K>>, gate: &G) -> Result<Remains<B>, Refusal>
 where
     K::EventsByPhaser: Send + Sync,
     K::EventsByWorker: Send + Sync,

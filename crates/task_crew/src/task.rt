@@ -27,6 +27,13 @@ pub(crate) struct Item<B: Body> {
     pub(crate) unborn: Option<Box<Task<B>>>,
 }
 
+/// What the root leaves where the run is over: its log, and its body as it stands then.
+#[derive(Drop)]
+pub(crate) struct RootLeft<B> {
+    pub(crate) log: Diary,
+    pub(crate) body: B,
+}
+
 impl<B: Body> Task<B> {
     /// A task before its first act. All memory that it needs to be run is taken here, but for the
     /// finishes that it opens; `Memory` where that is refused.

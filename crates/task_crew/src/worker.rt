@@ -4,7 +4,7 @@ ghost use Rattle.task_queue.specs.Accounts.{IsSeatOf};
 
 use crate::body::Body;
 use crate::diary::Diary;
-use crate::task::Item;
+use crate::task::{Item, RootLeft};
 use crossbeam_utils::CachePadded;
 use phase_modes::{Limits, Refusal};
 use scope_locks::{FinishTable, Out, PhaserTable, Tickets};
@@ -72,8 +72,8 @@ pub(crate) struct Worker<B: Body, K: Ledgers> {
     pub(crate) out: Out<Item<B>>,
     /// Tasks that the queue had no memory for.
     pub(crate) kept: VecDeque<Item<B>>,
-    /// The root's log, once the root has ended.
-    pub(crate) root: Option<Diary>,
+    /// What the root leaves, once it has ended.
+    pub(crate) root: Option<RootLeft<B>>,
     ghost empty: { out ≡ [] },
 }
 

@@ -13,6 +13,7 @@ returns-clause-remains g c =
       of_finishes = c.requires.told_finishes;
       of_tasks = c.in_ok-of_logs.ensures.own;
       all_phasers = omega (arith, c.requires.phasers, c.args.phasers.parts.ok);
+      all_logs = c.in_ok-of_logs.ensures.number;
       all_finishes = omega (arith, c.requires.finishes, c.args.finishes.parts.ok);
       added = c.in-Ok.ensures.totals ∙ (sym right.1 ∙ books_sum books);
     }
