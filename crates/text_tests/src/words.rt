@@ -50,6 +50,21 @@ fn events_words(rt: HostRuntime) {
     }
 }
 
+#[test]
+fn certify_words(rt: HostRuntime) {
+    const ROWS: [Row; 3] = [
+        (&["phaser_run", "certify", "-"], "-"),
+        (&["phaser_run", "certify", "x.json"], "x.json"),
+        (&["phaser_run", "certify", "--", "--help"], "--help"),
+    ];
+    for (arguments, wanted) in ROWS {
+        match job_of(rt.alloc(), arguments) {
+            Ok(Job::Certify { file }) => assert_eq!(&rt; file, wanted),
+            _ => panic!(&rt; "no certificate: {arguments:?}"),
+        }
+    }
+}
+
 /// Words of `replay`, with the file and OUT that they name.
 type Replayed = (&'static [&'static str], &'static str, Option<&'static str>);
 
