@@ -215,15 +215,18 @@ legal_under l n s tickets es legal_world is drawn legal = by s.past refl
   where
     w : List WorldEvent
     w = past (reverse es)
+
     own : past (projection (phaser n) (reverse es)) ≡ told n s.terms s.past
     own =
         ap (λ (p : List Entry). past p) (filter_reverse (λ (e : Entry). is_same (phaser n) (whose e.1)) es
         ∙ ap (λ (p : List Entry). reverse p) is)
         ∙ past_told n s tickets drawn
+
     events : phaser_past n w ≡ s.past
     events =
         (alike n (reverse es)).events
         ∙ (ap (λ (v : List WorldEvent). phaser_past n v) own ∙ past_back n s.limits s.terms s.past legal)
+
     terms : (e : Event) (h : List Event) → s.past ≡ e ∷ h → terms_of n w ≡ s.terms
     terms e h so =
         (alike n (reverse es)).terms
@@ -231,6 +234,7 @@ legal_under l n s tickets es legal_world is drawn legal = by s.past refl
         ∙ (ap (λ (g : List Event). terms_of n (told n s.terms g)) so
         ∙ terms_back n s.limits s.terms e h
         (subst (λ (g : List Event). is_legal s.limits s.terms g ≡ true) so legal)))
+
     by : (h : List Event) → s.past ≡ h → is_legal l s.terms s.past ≡ true
     by [] so = subst (λ (g : List Event). is_legal l s.terms g ≡ true) (sym so) refl
     by (e ∷ h) so =
