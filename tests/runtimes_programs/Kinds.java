@@ -299,7 +299,10 @@ class Kinds {
                 Thread.sleep(1_000_000);
             });
         }
-        Thread.sleep(200);
+        // By the fourth phase a fourth thread has taken a turn: so there is something that can't be told.
+        for (int looks = 0; looks < 2_000 && phaser.getPhase() < 4; looks++) {
+            Thread.sleep(10);
+        }
         System.exit(0);
     }
 
