@@ -21,7 +21,7 @@ use Rattle.certify_job.specs.declared.ending.NoCertificate.TheVariants.{Failure,
 abbrev pub certificate_text : Report → List ℕ
 certificate_text r = report_text r ++ codes "certain\n"
 
--- the bytes spell a program, of which each run with room comes to a report, and this is known of that report
+-- the bytes spell a program, each run of which that has memory comes to a report, and this is known of it
 abbrev pub Certifies : List ℕ → (Report → Type 0) → Type 0
 Certifies bytes P = (p : Program) × (r : Report) × (program_spelled bytes ≡ Ok p) × IsCertified p r × P r
 
