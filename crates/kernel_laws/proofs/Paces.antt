@@ -1,6 +1,6 @@
 -- Where each task stands on its phasers, between its turns and in the middle of one: it has ended as many
 -- turns as it has begun, and signalled as many phases, but for the passes and signals that are due.
-use Rattle.std.proofs.Common.{◌≡◌, ℕ, ◌+◌, Bool, true, false, ◌&&◌, ◌||◌, ◌==◌, not, cond, List, [], ◌∷◌, ◌++◌, Option, Some, None, refl, sym, subst, ap, ◌∙◌, inl, inr, arith}
+use Rattle.std.proofs.Common.{◌≡◌, ℕ, ◌+◌, Bool, true, false, ◌||◌, ◌==◌, not, cond, List, [], ◌∷◌, ◌++◌, Option, Some, None, refl, sym, subst, ap, ◌∙◌, inl, inr, arith}
 use Rattle.std.specs.Prelude.{filter}
 use Rattle.std.specs.List.{list_any}
 use Rattle.std.specs.Option.{option_map_or}
@@ -11,7 +11,7 @@ use Rattle.phase_modes.specs.Mode.{can_signal}
 use Rattle.phase_model.specs.declared.history.Event.{Event}
 use Rattle.phase_model.specs.declared.history.Event.TheVariants.{Make as Made, Reg as Registered, Sig as Signalled, Claim as Claimed, Did as Done, Pass as Passed, Send as Sent, Drop as Dropped}
 use Rattle.phase_model.specs.declared.terms.Terms.{Terms}
-use Rattle.phase_model.specs.Tasks.{is_live, has_mode, mode_of, is_registered}
+use Rattle.phase_model.specs.Tasks.{is_live, has_mode, mode_of, is_registered, is_dropped}
 use Rattle.phase_model.specs.Phases.{waits, signals}
 use Rattle.phase_model.specs.Rules.{is_permitted, has_room}
 use Rattle.phase_model.proofs.Legal.{RegFollows, reg_follows, parent_signals}
@@ -45,7 +45,8 @@ use Rattle.world_model.proofs.AgentOfTask.{touches, unborn_idle, reg_unborn}
 use Rattle.world_model.proofs.SignalsComeFirst.{passes_of, sigs_of, moves_act}
 use Rattle.world_model.proofs.TurnsStand.{is_sig_on, how_many}
 use Rattle.world_model.proofs.UntouchedStays.{IsAlike, alike, alike_same}
-use Rattle.kernel_laws.proofs.Plain.{IsPlain, last_of_plain, turns, is_plain, count_kept, due_next, spawner_is_root, root_turns}
+use Rattle.kernel_laws.proofs.Plain.{IsPlain, last_of_plain, turns, is_plain, count_kept, due_next, ends_never_idle, spawner_is_root, root_turns}
+use Rattle.kernel_laws.proofs.Endings.{dropped_ends}
 
 -- a task in a history, with so many passes and signals due, and so many turns begun
 pub record PacedAt (t : ℕ) (h : List Event) (passes sigs k : ℕ) : Type 0 where
@@ -57,8 +58,9 @@ Paced t n w =
     PacedAt t (phaser_past n w) (how_many (is_pass_on n) (due t w)) (how_many (is_sig_on n) (due t w))
     (turns t w)
 
-abbrev pub PacedWhereLive : List WorldEvent → Type 0
-PacedWhereLive w = (t n : ℕ) → is_live t (phaser_past n w) ≡ true → Paced t n w
+-- also where it has left since
+abbrev pub PacedWhereRegistered : List WorldEvent → Type 0
+PacedWhereRegistered w = (t n : ℕ) → is_registered t (phaser_past n w) ≡ true → Paced t n w
 
 carried : (t : ℕ) (g h : List Event) (a b c d k j : ℕ) → IsAlike t g h → a ≡ b → c ≡ d → k ≡ j
     → PacedAt t h b d j → PacedAt t g a c k
@@ -150,23 +152,23 @@ elsewhere n m s o = (refl, refl)
 
 -- ---- event by event
 
-module _ (l : Limits) (w : List WorldEvent) (k : IsPlain l w) (all : PacedWhereLive w) (t n : ℕ) where
+module _ (l : Limits) (w : List WorldEvent) (k : IsPlain l w) (all : PacedWhereRegistered w) (t n : ℕ) where
   -- an event that makes none of the moves that are counted
   still : (e : WorldEvent) → is_accepted l w e ≡ true → is_entry t e ≡ false → is_pass_on n e ≡ false
       → is_sig_on n e ≡ false → turns t (e ∷ w) ≡ turns t w
       → IsAlike t (phaser_past n (e ∷ w)) (phaser_past n w)
-      → is_live t (phaser_past n (e ∷ w)) ≡ true → Paced t n (e ∷ w)
+      → is_registered t (phaser_past n (e ∷ w)) ≡ true → Paced t n (e ∷ w)
   still e a o p s same alike v =
       carried t (phaser_past n (e ∷ w)) (phaser_past n w)
       (how_many (is_pass_on n) (due t (e ∷ w))) (how_many (is_pass_on n) (due t w))
       (how_many (is_sig_on n) (due t (e ∷ w))) (how_many (is_sig_on n) (due t w))
       (turns t (e ∷ w)) (turns t w) alike
       (count_kept l w e t (is_pass_on n) a o p) (count_kept l w e t (is_sig_on n) a o s) same
-      (all t n (sym alike.live ∙ v))
+      (all t n (sym alike.registered ∙ v))
 
   -- an event of another task that isn't about t
   foreign : (e : WorldEvent) → (actor w e == t) ≡ false → turns t (e ∷ w) ≡ turns t w → touches t e ≡ false
-      → is_live t (phaser_past n (e ∷ w)) ≡ true → Paced t n (e ∷ w)
+      → is_registered t (phaser_past n (e ∷ w)) ≡ true → Paced t n (e ∷ w)
   foreign e o same none v =
       let kept : due t (e ∷ w) ≡ due t w = due_other t e w o in
       let a = alike t n e w none in
@@ -175,12 +177,12 @@ module _ (l : Limits) (w : List WorldEvent) (k : IsPlain l w) (all : PacedWhereL
       (how_many (is_sig_on n) (due t (e ∷ w))) (how_many (is_sig_on n) (due t w))
       (turns t (e ∷ w)) (turns t w) a
       (ap (λ ds. how_many (is_pass_on n) ds) kept) (ap (λ ds. how_many (is_sig_on n) ds) kept) same
-      (all t n (sym a.live ∙ v))
+      (all t n (sym a.registered ∙ v))
 
   -- a step on another phaser
   other_phaser : (m : ℕ) (s : Step) → is_accepted l w (Phaser m s) ≡ true
       → turns t (Phaser m s ∷ w) ≡ turns t w
-      → (m == n) ≡ false → is_live t (phaser_past n (Phaser m s ∷ w)) ≡ true → Paced t n (Phaser m s ∷ w)
+      → (m == n) ≡ false → is_registered t (phaser_past n (Phaser m s ∷ w)) ≡ true → Paced t n (Phaser m s ∷ w)
   other_phaser m s a same o v =
       let past : phaser_past n (Phaser m s ∷ w) ≡ phaser_past n w = rw o refl in
       let none = elsewhere n m s o in
@@ -248,7 +250,8 @@ module _ (l : Limits) (w : List WorldEvent) (k : IsPlain l w) (all : PacedWhereL
       (reg_follows l (terms_of m w) (phaser_past m w) q u mode
       (and_parts (is_permitted l (terms_of m w) (phaser_past m w) (Registered q u mode))
       (has_room l (Registered q u mode ∷ phaser_past m w)) (step_allowed l w m (Reg q u mode) a)).0) in
-      let parent : Paced q n w = all q n f.parent_live in
+      let parent : Paced q n w =
+      all q n (and_parts (is_registered q h) (not (is_dropped q h)) f.parent_live).0 in
       let past : phaser_past n (d ∷ w) ≡ Registered q u mode ∷ h = rw o refl in
       let waited : waits q h ≡ 0 =
       zero_part (waits q h) (how_many (is_pass_on n) (due q w)) (turns q w) parent.waited still_root in
@@ -273,7 +276,7 @@ module _ (l : Limits) (w : List WorldEvent) (k : IsPlain l w) (all : PacedWhereL
   -- t signals on phaser n
   signals_own : (m u : ℕ) (x : Option ℕ) → is_accepted l w (Phaser m (Sig u x)) ≡ true
       → (u == t) ≡ true → (m == n) ≡ true
-      → is_live t (phaser_past n w) ≡ true → Paced t n (Phaser m (Sig u x) ∷ w)
+      → is_registered t (phaser_past n w) ≡ true → Paced t n (Phaser m (Sig u x) ∷ w)
   signals_own m u x a e o v =
       let d = Phaser m (Sig u x) in
       let h = phaser_past n w in
@@ -299,7 +302,7 @@ module _ (l : Limits) (w : List WorldEvent) (k : IsPlain l w) (all : PacedWhereL
   -- t passes phaser n
   passes_own : (m u : ℕ) → is_accepted l w (Phaser m (Pass u)) ≡ true
       → (u == t) ≡ true → (m == n) ≡ true
-      → is_live t (phaser_past n w) ≡ true → Paced t n (Phaser m (Pass u) ∷ w)
+      → is_registered t (phaser_past n w) ≡ true → Paced t n (Phaser m (Pass u) ∷ w)
   passes_own m u a e o v =
       let d = Phaser m (Pass u) in
       let h = phaser_past n w in
@@ -322,6 +325,32 @@ module _ (l : Limits) (w : List WorldEvent) (k : IsPlain l w) (all : PacedWhereL
         signalled = λ m. ap (λ y. signals t h + y) sigs ∙ p.signalled m;
       })
 
+  -- a task leaves phaser n
+  drops_own : (m u : ℕ) → is_accepted l w (Phaser m (Drop u)) ≡ true → (m == n) ≡ true
+      → is_registered t (phaser_past n w) ≡ true → Paced t n (Phaser m (Drop u) ∷ w)
+  drops_own m u a o v =
+      let d = Phaser m (Drop u) in
+      let h = phaser_past n w in
+      let p : Paced t n w = all t n v in
+      let past : phaser_past n (d ∷ w) ≡ Dropped u ∷ h = rw o refl in
+      subst (λ g. PacedAt t g (how_many (is_pass_on n) (due t (d ∷ w))) (how_many (is_sig_on n) (due t (d ∷ w)))
+      (turns t w)) (sym past)
+      (record {
+        waited = ap (λ y. waits t h + y) (count_kept l w d t (is_pass_on n) a refl refl) ∙ p.waited;
+        signalled = λ s. ap (λ y. signals t h + y) (count_kept l w d t (is_sig_on n) a refl refl) ∙ p.signalled s;
+      })
+
+  -- who begins a turn has left nothing
+  live_in_act : is_accepted l w (Begin t Next) ≡ true → is_registered t (phaser_past n w) ≡ true
+      → is_live t (phaser_past n w) ≡ true
+  live_in_act a v =
+      elim (cases_Bool (is_dropped t (phaser_past n w))) [
+        | inl d ↦
+            absurd (true≢false (sym (idle_in_act l w t (Beginning Next) a)
+            ∙ ends_never_idle l t w k.legal (dropped_ends l t n w k d)))
+        | inr d ↦ rw (v, d) refl
+      ]
+
   next_sum : (x y c j i : ℕ) → x + y ≡ j → y ≡ 0 → c ≡ 1 → i ≡ j + 1 → x + c ≡ i
   next_sum x y c j i h z one more = omega arith
 
@@ -329,7 +358,7 @@ module _ (l : Limits) (w : List WorldEvent) (k : IsPlain l w) (all : PacedWhereL
   same_sum x y z b c j h g p q = omega arith
 
   -- t begins a next
-  begins_next : is_accepted l w (Begin t Next) ≡ true → is_live t (phaser_past n w) ≡ true
+  begins_next : is_accepted l w (Begin t Next) ≡ true → is_registered t (phaser_past n w) ≡ true
       → Paced t n (Begin t Next ∷ w)
   begins_next a v =
       let h = phaser_past n w in
@@ -338,6 +367,7 @@ module _ (l : Limits) (w : List WorldEvent) (k : IsPlain l w) (all : PacedWhereL
       let gone : due t w ≡ [] =
       empty_is (due t w) (nothing_due t w (idle_in_act l w t (Beginning Next) a)).0 in
       let p : Paced t n w = all t n v in
+      let live : is_live t h ≡ true = live_in_act a v in
       let no_pass : how_many (is_pass_on n) (due t w) ≡ 0 = ap (λ ds. how_many (is_pass_on n) ds) gone in
       let no_sig : how_many (is_sig_on n) (due t w) ≡ 0 = ap (λ ds. how_many (is_sig_on n) ds) gone in
       let now : due t (d ∷ w) ≡ fixed_by t Next w = rw self refl in
@@ -346,7 +376,7 @@ module _ (l : Limits) (w : List WorldEvent) (k : IsPlain l w) (all : PacedWhereL
         waited = next_sum (waits t h) (how_many (is_pass_on n) (due t w))
             (how_many (is_pass_on n) (due t (d ∷ w)))
             (turns t w) (turns t (d ∷ w)) p.waited no_pass
-            (ap (λ ds. how_many (is_pass_on n) ds) now ∙ pass_of_next l w k.legal t n v) turned;
+            (ap (λ ds. how_many (is_pass_on n) ds) now ∙ pass_of_next l w k.legal t n live) turned;
         signalled = λ m.
             let equal : signals t h ≡ waits t h =
             same_sum (signals t h) (waits t h) 0 (how_many (is_sig_on n) (due t w))
@@ -356,13 +386,13 @@ module _ (l : Limits) (w : List WorldEvent) (k : IsPlain l w) (all : PacedWhereL
             (eq-eqb (signals t h) (waits t h) equal) in
             next_sum (signals t h) (how_many (is_sig_on n) (due t w)) (how_many (is_sig_on n) (due t (d ∷ w)))
             (turns t w) (turns t (d ∷ w)) (p.signalled m) no_sig
-            (ap (λ ds. how_many (is_sig_on n) ds) now ∙ sig_of_next l w k.legal t n v behind) turned;
+            (ap (λ ds. how_many (is_sig_on n) ds) now ∙ sig_of_next l w k.legal t n live behind) turned;
       }
 
   -- t begins an act in which it neither signals nor passes
   begins_other : (b : Begun) → is_accepted l w (Begin t b) ≡ true → not (moves_act (Some (Begin t b))) ≡ true
       → turns t (Begin t b ∷ w) ≡ turns t w
-      → is_live t (phaser_past n w) ≡ true → Paced t n (Begin t b ∷ w)
+      → is_registered t (phaser_past n w) ≡ true → Paced t n (Begin t b ∷ w)
   begins_other b a q same v =
       let h = phaser_past n w in
       let d = Begin t b in
@@ -380,7 +410,7 @@ module _ (l : Limits) (w : List WorldEvent) (k : IsPlain l w) (all : PacedWhereL
       (none.1 ∙ sym (ap (λ ds. how_many (is_sig_on n) ds) gone)) same (all t n v)
 
   begins_own : (b : Begun) → is_accepted l w (Begin t b) ≡ true → is_plain (Begin t b) ≡ true
-      → is_live t (phaser_past n w) ≡ true → Paced t n (Begin t b ∷ w)
+      → is_registered t (phaser_past n w) ≡ true → Paced t n (Begin t b ∷ w)
   begins_own Next a p v = begins_next a v
   begins_own End a p v = begins_other End a refl refl v
   begins_own (Async c ps) a p v = begins_other (Async c ps) a refl refl v
@@ -391,7 +421,7 @@ module _ (l : Limits) (w : List WorldEvent) (k : IsPlain l w) (all : PacedWhereL
   turns_same u b o = refl
 
   by_event : (e : WorldEvent) → is_accepted l w e ≡ true → is_plain e ≡ true
-      → is_live t (phaser_past n (e ∷ w)) ≡ true → Paced t n (e ∷ w)
+      → is_registered t (phaser_past n (e ∷ w)) ≡ true → Paced t n (e ∷ w)
   by_event (Phaser m (Send u c x)) a p v =
       still (Phaser m (Send u c x)) a refl refl refl refl
       (alike_either (m == n) (Sent u c x)
@@ -414,18 +444,10 @@ module _ (l : Limits) (w : List WorldEvent) (k : IsPlain l w) (all : PacedWhereL
         | inl e ↦ elim (cases_Bool (m == n)) [
           | inr o ↦ other_phaser m (Drop u) a refl o v
           | inl o ↦
-              let past : phaser_past n (Phaser m (Drop u) ∷ w) ≡ Dropped u ∷ phaser_past n w = rw o refl in
-              absurd (true≢false (sym (subst (λ g. is_live t g ≡ true) past v)
-              ∙ gone_now u e))
+              drops_own m u a o
+              (subst (λ b. is_registered t (cond b (Dropped u ∷ phaser_past n w) (phaser_past n w)) ≡ true) o v)
         ]
       ]
-    where
-      gone_now : (u : ℕ) → (u == t) ≡ true → is_live t (Dropped u ∷ phaser_past n w) ≡ false
-      gone_now u e = rw e (nothing (is_registered t (phaser_past n w)))
-        where
-          nothing : (b : Bool) → (b && false) ≡ false
-          nothing true = refl
-          nothing false = refl
   by_event (Phaser m (Make u mode terms)) a p v =
       let d = Phaser m (Make u mode terms) in
       elim (cases_Bool (u == t)) [
@@ -452,7 +474,7 @@ module _ (l : Limits) (w : List WorldEvent) (k : IsPlain l w) (all : PacedWhereL
           | inr o ↦ other_phaser m (Sig u x) a refl o v
           | inl o ↦
               signals_own m u x a e o
-              (subst (λ b. is_live t (cond b (Signalled u x ∷ phaser_past n w) (phaser_past n w)) ≡ true) o v)
+              (subst (λ b. is_registered t (cond b (Signalled u x ∷ phaser_past n w) (phaser_past n w)) ≡ true) o v)
         ]
       ]
   by_event (Phaser m (Pass u)) a p v =
@@ -463,7 +485,7 @@ module _ (l : Limits) (w : List WorldEvent) (k : IsPlain l w) (all : PacedWhereL
           | inr o ↦ other_phaser m (Pass u) a refl o v
           | inl o ↦
               passes_own m u a e o
-              (subst (λ b. is_live t (cond b (Passed u ∷ phaser_past n w) (phaser_past n w)) ≡ true) o v)
+              (subst (λ b. is_registered t (cond b (Passed u ∷ phaser_past n w) (phaser_past n w)) ≡ true) o v)
         ]
       ]
   by_event (Finish f s) a p v = still (Finish f s) a refl refl refl refl (alike_same t (phaser_past n w)) v
@@ -479,9 +501,15 @@ module _ (l : Limits) (w : List WorldEvent) (k : IsPlain l w) (all : PacedWhereL
   by_event (Refuse u b x) a p v = absurd (false≢true p)
   by_event (Fail u x) a p v = absurd (false≢true p)
 
--- each task where it is registered
-pub paces : (l : Limits) (w : List WorldEvent) → IsPlain l w → PacedWhereLive w
-paces l [] k t n v = absurd (false≢true v)
-paces l (e ∷ w) k t n v =
+-- each task where it was registered
+pub paced : (l : Limits) (w : List WorldEvent) → IsPlain l w → PacedWhereRegistered w
+paced l [] k t n v = absurd (false≢true v)
+paced l (e ∷ w) k t n v =
     let f = last_of_plain l e w k in
-    by_event l w f.before (paces l w f.before) t n e f.accepted f.plain v
+    by_event l w f.before (paced l w f.before) t n e f.accepted f.plain v
+
+-- and so where it is registered now
+pub paces : (l : Limits) (w : List WorldEvent) → IsPlain l w → (t n : ℕ) → is_live t (phaser_past n w) ≡ true
+    → Paced t n w
+paces l w k t n v =
+    paced l w k t n (and_parts (is_registered t (phaser_past n w)) (not (is_dropped t (phaser_past n w))) v).0

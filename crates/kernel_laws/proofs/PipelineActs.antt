@@ -84,7 +84,7 @@ module _ (l : Limits) (stages items : ℕ) (w : List WorldEvent) (st : Standing 
         → TaskAt stages items i (turns t w + 1) (st.tasks i t h).done
         (pipeline_next Done (pipeline_does stages items w t).1) → Act t a
     ending : (i : ℕ) (z : (t == 0) ≡ false) (h : child_at i w ≡ Some t) → a ≡ Beginning End
-        → items + i ≤ (st.tasks i t h).done → Act t a
+        → items + i ≤ (st.tasks i t h).done → turns t w ≡ total items i → Act t a
 
   by_next : (t : ℕ) (a : Tried) (b : TaskAct PipelineBody)
       → a ≡ tried_as w t (drawn a) (pipeline_does stages items w t).0
@@ -110,7 +110,7 @@ module _ (l : Limits) (stages items : ℕ) (w : List WorldEvent) (st : Standing 
       Act.looking i j p n z h (by_next t a (acts.Look j 0) is e) place turned few least most so next
   child_act t i a is z h (TaskStep.to_turn e few ahead next) =
       Act.turning i z h (by_next t a acts.Next is e) few ahead next
-  child_act t i a is z h (TaskStep.to_end e over) = Act.ending i z h (by_next t a acts.End is e) over
+  child_act t i a is z h (TaskStep.to_end e over all) = Act.ending i z h (by_next t a acts.End is e) over all
 
   not_ending : (t : ℕ) → is_idle t w ≡ true → ends_act (last_entry t w) ≡ false
   not_ending t idle =
@@ -174,9 +174,9 @@ module _ (l : Limits) (stages items : ℕ) (w : List WorldEvent) (st : Standing 
     after_act t a ok idle sees (Act.turning i z h e few ahead next) =
         subst (λ b. Standing stages items (event_by t b ∷ w)) (sym e)
         (stand_turns l stages items w st k t i z h (not_ending t idle) few ahead next)
-    after_act t a ok idle sees (Act.ending i z h e over) =
+    after_act t a ok idle sees (Act.ending i z h e over all) =
         subst (λ b. Standing stages items (event_by t b ∷ w)) (sym e)
-        (stand_child_ends l stages items w st k t i z h (not_ending t idle) over)
+        (stand_child_ends l stages items w st k t i z h (not_ending t idle) over all)
 
 -- ---- each history
 

@@ -68,6 +68,7 @@ pub record TaskStands (stages items i c : ℕ) (w : List WorldEvent) : Type 0 wh
   pub goes : ends_act (last_entry c w) ≡ false
       → TaskAt stages items i (turns c w) done (pipeline_does stages items w c)
   pub over : ends_act (last_entry c w) ≡ true → items + i ≤ done
+  pub turned : ends_act (last_entry c w) ≡ true → turns c w ≡ total items i
   pub few : turns c w ≤ total items i
   pub ahead : turns c w ≤ done
   pub most : done ≤ items + i
@@ -100,6 +101,7 @@ task_kept stages items i c e w s v p =
           (pipeline_does stages items (e ∷ w) c) (pipeline_does stages items w c) s.turned s.does_same
           (p.goes (subst (λ o. ends_act o ≡ false) s.last n));
       over = λ n. p.over (subst (λ o. ends_act o ≡ true) s.last n);
+      turned = λ n. s.turned ∙ p.turned (subst (λ o. ends_act o ≡ true) s.last n);
       few = subst (λ x. x ≤ total items i) (sym s.turned) p.few;
       ahead = subst (λ x. x ≤ p.done) (sym s.turned) p.ahead;
       most = p.most;
@@ -309,6 +311,7 @@ module _ (l : Limits) (stages items : ℕ) (w : List WorldEvent) (st : Standing 
             (pipeline_does stages items (e ∷ w) x)
             (pipeline_next Started (task_of stages items (spawned w))) turned begins s.at;
         over = λ n. absurd (false≢true (subst (λ o. ends_act o ≡ true) last n));
+        turned = λ n. absurd (false≢true (subst (λ o. ends_act o ≡ true) last n));
         few = subst (λ v. v ≤ total items (spawned w)) (sym turned) (least (total items (spawned w)));
         ahead = subst (λ v. v ≤ s.done) (sym turned) (least s.done);
         most = s.most;
@@ -401,6 +404,7 @@ module _ (l : Limits) (stages items : ℕ) (w : List WorldEvent) (st : Standing 
                 refl now
                 next;
             over = λ n. absurd (true≢false (sym n ∙ going));
+            turned = λ n. absurd (true≢false (sym n ∙ going));
             few = before.few;
             ahead = one_above (turns t w);
             most = room;
@@ -443,6 +447,7 @@ module _ (l : Limits) (stages items : ℕ) (w : List WorldEvent) (st : Standing 
                 (pipeline_does stages items (e ∷ w) t) (pipeline_next y (pipeline_does stages items w t).1)
                 refl now after;
             over = λ n. absurd (true≢false (sym n ∙ going));
+            turned = λ n. absurd (true≢false (sym n ∙ going));
             few = before.few;
             ahead = least;
             most = most;
@@ -484,14 +489,16 @@ module _ (l : Limits) (stages items : ℕ) (w : List WorldEvent) (st : Standing 
                 turned now
                 next;
             over = λ n. absurd (false≢true (subst (λ o. ends_act o ≡ true) last n));
+            turned = λ n. absurd (false≢true (subst (λ o. ends_act o ≡ true) last n));
             few = subst (λ y. y ≤ total items x) (sym turned) few;
             ahead = subst (λ y. y ≤ before.done) (sym turned) ahead;
             most = before.most;
             values = before.values;
           })
 
-      pub stand_child_ends : items + x ≤ before.done → Standing stages items (Begin t End ∷ w)
-      stand_child_ends over =
+      pub stand_child_ends : items + x ≤ before.done → turns t w ≡ total items x
+          → Standing stages items (Begin t End ∷ w)
+      stand_child_ends over all =
           let e = Begin t End in
           let last : last_entry t (e ∷ w) ≡ Some e = rw self refl in
           by_child e t refl refl (λ c. refl) (λ c. refl) refl (λ j. refl) st.pairs st.made x z here
@@ -500,6 +507,7 @@ module _ (l : Limits) (stages items : ℕ) (w : List WorldEvent) (st : Standing 
             done = before.done;
             goes = λ n. absurd (true≢false (subst (λ o. ends_act o ≡ false) last n));
             over = λ n. over;
+            turned = λ n. all;
             few = before.few;
             ahead = before.ahead;
             most = before.most;

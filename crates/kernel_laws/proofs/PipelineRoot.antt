@@ -70,7 +70,7 @@ module _ (stages items : ℕ) where
       )
   spawns_next x m s h g = rw (h, g) refl
 
-  ends_next : (x : Answer) (m s : ℕ) → nat_le m stages ≡ false → nat_le s (stages + 1) ≡ false
+  pub ends_next : (x : Answer) (m s : ℕ) → nat_le m stages ≡ false → nat_le s (stages + 1) ≡ false
       → pipeline_next x (root_body stages items m s) ≡ (End, root_body stages items m s)
   ends_next x m s h g = rw (h, g) refl
 

@@ -107,7 +107,7 @@ module _ (l : Limits) (stages items : ℕ) (w : List WorldEvent) (st : Standing 
     by_act (Act.root_ends z e full root) = absurd cc
     by_act (Act.sending i v z h e le value count room next) = absurd cc
     by_act (Act.turning i z h e few ahead next) = absurd cc
-    by_act (Act.ending i z h e over) = absurd cc
+    by_act (Act.ending i z h e over all) = absurd cc
 
     look_is : is_accepted l w (Phaser j (Look t a)) ≡ true
         → Looking j a ≡ tried_as w t (drawn (Looking j a)) (pipeline_does stages items w t).0

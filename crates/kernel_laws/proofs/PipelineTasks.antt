@@ -86,7 +86,7 @@ pub data TaskStep (stages items i k done : ℕ) (d : Does PipelineBody) : Type 0
       → TaskStep stages items i k done d
   to_turn : d.0 ≡ acts.Next → k + 1 ≤ total items i → k + 1 ≤ done
       → TaskAt stages items i (k + 1) done (pipeline_next Done d.1) → TaskStep stages items i k done d
-  to_end : d.0 ≡ acts.End → items + i ≤ done → TaskStep stages items i k done d
+  to_end : d.0 ≡ acts.End → items + i ≤ done → k ≡ total items i → TaskStep stages items i k done d
 
 -- ---- from one line to the next
 
@@ -210,7 +210,7 @@ module _ (stages items : ℕ) where
       on : (k r n : ℕ) → k + suc r ≡ n → (k + 1) + r ≡ n
       on k r n h = omega arith
   step_of i k done d (TaskAt.source_ends z e c goes) =
-      TaskStep.to_end goes (covers i k done z e c)
+      TaskStep.to_end goes (covers i k done z e c) (e ∙ ap (λ x. total items x) (sym z))
     where
       covers : (i k done : ℕ) → i ≡ 0 → k ≡ items → done ≡ k → items + i ≤ done
       covers i k done a b c = omega arith
@@ -264,7 +264,8 @@ module _ (stages items : ℕ) where
     where
       room : (k r j : ℕ) → k + r ≡ items + j → k + 1 ≤ items + suc j
       room k r j h = omega arith
-  step_of i k done d (TaskAt.ends j z e c goes) = TaskStep.to_end goes (covers i j k done z e c)
+  step_of i k done d (TaskAt.ends j z e c goes) =
+      TaskStep.to_end goes (covers i j k done z e c) (e ∙ ap (λ x. total items x) (sym z))
     where
       covers : (i j k done : ℕ) → i ≡ suc j → k ≡ items + j → done ≡ k + 1 → items + i ≤ done
       covers i j k done a b c = omega arith

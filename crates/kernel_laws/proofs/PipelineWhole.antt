@@ -1,13 +1,12 @@
 -- A whole run of a pipeline comes to its items, in order.
-use Rattle.std.proofs.Common.{ℕ, ℤ, zero, suc, pos, ◌+◌, ◌≡◌, ◌≤◌, ◌<◌, ◌∙◌, Bool, true, false, ◌&&◌, not, nat_lt, cond, List, [], ◌∷◌, ◌++◌, map, flat_map, None, refl, sym, ap, subst, inr, arith}
+use Rattle.std.proofs.Common.{ℕ, ℤ, zero, suc, pos, ◌+◌, ◌≡◌, ◌≤◌, ◌<◌, ◌∙◌, Bool, true, false, not, nat_lt, cond, List, [], ◌∷◌, ◌++◌, map, flat_map, None, refl, sym, ap, subst, inr, arith}
 use Rattle.std.specs.List.{range_with_len}
-use Rattle.std.proofs.lemmas.Bool.{eq-eqb, le-leb, lt-ltb, le-ltb, ltb-true, ltb-false, true≢false, false≢true}
+use Rattle.std.proofs.lemmas.Bool.{eq-eqb, le-leb, lt-ltb, le-ltb, ltb-true, ltb-false, false≢true}
 use Rattle.phase_modes.specs.Lists.{is_empty}
 use Rattle.phase_modes.specs.declared.limits.Limits.{Limits}
 use Rattle.phase_model.specs.declared.op.Look.{Look as Seen}
 use Rattle.phase_model.specs.declared.op.Look.TheVariants.{Value, Nothing}
 use Rattle.phase_model.specs.declared.op.Op.TheVariants.{Least}
-use Rattle.phase_model.specs.Tasks.{is_registered, is_dropped}
 use Rattle.phase_model.specs.Values.{sent, fold}
 use Rattle.job_script.specs.declared.act.Answer.TheVariants.{Started}
 use Rattle.world_model.specs.declared.event.Step.TheVariants.{Make, Reg, Sig, Claim, Did, Pass, Send, Look, Drop}
@@ -20,7 +19,6 @@ use Rattle.world_model.specs.Report.{folds_from, phase_count, phaser_lines, repo
 use Rattle.world_model.specs.Replies.{is_legal_world, is_accepted}
 use Rattle.world_model.proofs.MadeMeans.{last_accepted}
 use Rattle.world_model.proofs.PairsAsked.{some_registered}
-use Rattle.world_model.proofs.RootEndsLast.{ended_roots_leave_nobody}
 use Rattle.job_kernels.specs.Pipeline.{pipeline_item, pipeline}
 use Rattle.job_kernels.specs.Results.{value_seen, values_of, items_of}
 use Rattle.job_kernels.specs.PipelineLines.{number_at, items_at}
@@ -31,6 +29,7 @@ use Rattle.kernel_laws.proofs.Goes.{GoesSmoothly, smoothly}
 use Rattle.kernel_laws.specs.Pipelines.{RunsComeToPipeline}
 use Rattle.kernel_laws.proofs.Plain.{IsPlain}
 use Rattle.kernel_laws.proofs.Children.{none_or_some}
+use Rattle.kernel_laws.proofs.EndedSums.{has_left}
 use Rattle.kernel_laws.proofs.Endings.{dropped_ends, ended_ends}
 use Rattle.kernel_laws.proofs.Making.{made, phaser_fits}
 use Rattle.kernel_laws.proofs.Reports.{sent_counts, one_read, map_twice}
@@ -116,7 +115,7 @@ module _ (s items : ℕ) where
   abbrev pub values_in : ℕ → List ℤ
   values_in p = cond (nat_lt p (items + s)) (value_seen (items_at s p)) []
 
-  abbrev item : ℕ → ℤ
+  abbrev pub item : ℕ → ℤ
   item i = pos (pipeline_item s i)
 
   late_values : (a m : ℕ) → items + s ≤ a → flat_map values_in (range_with_len a m) ≡ []
@@ -163,7 +162,7 @@ module _ (s items : ℕ) where
       by_test true = rw (early s p lt) refl
       by_test false = refl
 
-  all_values : (a e m : ℕ) → a + e ≡ s → e + items ≤ m
+  pub all_values : (a e m : ℕ) → a + e ≡ s → e + items ≤ m
       → flat_map values_in (range_with_len a m) ≡ map item (range_with_len (0 + 1) items)
   all_values a zero m h le = item_values 0 items a m (from a h) (none_before items) (room m le)
     where
@@ -227,39 +226,28 @@ module _ (l : Limits) (stages items : ℕ) (few_items : items ≤ 100) (few_stag
   self : (n : ℕ) → n ≤ n
   self n = omega arith
 
-  there : IsThere l stages items w h.stands k stages
-  there = all_there l stages items w h.stands k (ended_ends l 0 w plain whole.ended) stages (self stages)
+  there : (i : ℕ) → i ≤ stages → IsThere l stages items w h.stands k i
+  there i le = all_there l stages items w h.stands k (ended_ends l 0 w plain whole.ended) i le
 
-  task : TaskStands stages items stages there.task w
-  task = h.stands.tasks stages there.task there.child
-
-  must_drop : (a b : Bool) → (a && not b) ≡ false → a ≡ true → b ≡ true
-  must_drop true true e r = refl
-  must_drop true false e r = absurd (true≢false e)
-  must_drop false b e r = absurd (false≢true r)
-
-  all_done : task.done ≡ items + stages
-  all_done =
-      let gone : is_dropped there.task (phaser_past stages w) ≡ true =
-      must_drop (is_registered there.task (phaser_past stages w))
-      (is_dropped there.task (phaser_past stages w))
-      ((ended_roots_leave_nobody l w k whole.ended).1 there.task stages) there.registered in
-      both task.done (items + stages) task.most (task.over (dropped_ends l there.task stages w plain gone))
+  -- the values of each phaser are the items behind as many stages
+  pub values : (i p : ℕ) → i ≤ stages → sent 0 p (phaser_past i w) ≡ values_in i items p
+  values i p le =
+      let t = there i le in
+      let task : TaskStands stages items i t.task w = h.stands.tasks i t.task t.child in
+      let gone = has_left l w plain whole.ended t.task i t.registered in
+      let done : task.done ≡ items + i =
+      both task.done (items + i) task.most (task.over (dropped_ends l t.task i w plain gone)) in
+      task.values p ∙ (ap (λ m. out_if stages i m p) done
+      ∙ ap (λ b. cond (nat_lt p (items + i)) (cond b (value_seen (items_at i p)) []) []) (le-leb i stages le))
     where
       both : (a b : ℕ) → a ≤ b → b ≤ a → a ≡ b
       both a b h g = omega arith
 
-  values : (p : ℕ) → sent 0 p (phaser_past stages w) ≡ values_in stages items p
-  values p =
-      task.values p ∙ (ap (λ m. out_if stages stages m p) all_done
-      ∙ ap (λ b. cond (nat_lt p (items + stages)) (cond b (value_seen (items_at stages p)) []) [])
-      (le-leb stages stages (self stages)))
+  some : (i : ℕ) → i ≤ stages → is_empty (phaser_past i w) ≡ false
+  some i le = let t = there i le in some_registered t.task (phaser_past i w) t.registered
 
-  some : is_empty (phaser_past stages w) ≡ false
-  some = some_registered there.task (phaser_past stages w) there.registered
-
-  is_made : is_phaser stages w ≡ true
-  is_made = ap (λ b. not b) some
+  pub is_made : (i : ℕ) → i ≤ stages → is_phaser i w ≡ true
+  is_made i le = ap (λ b. not b) (some i le)
 
   -- the folds of the last phaser
   folded : (ns : List ℕ)
@@ -269,7 +257,7 @@ module _ (l : Limits) (stages items : ℕ) (few_items : items ≤ 100) (few_stag
   folded [] = refl
   folded (p ∷ ns) =
       ap (λ xs. value_seen (fold Least xs) ++ flat_map (λ (f : FoldLine). value_seen f.value)
-      (flat_map (λ p. folds_from p 0 (Least ∷ []) (phaser_past stages w)) ns)) (values p)
+      (flat_map (λ p. folds_from p 0 (Least ∷ []) (phaser_past stages w)) ns)) (values stages p (self stages))
       ∙ (ap (λ xs. xs ++ flat_map (λ (f : FoldLine). value_seen f.value)
       (flat_map (λ p. folds_from p 0 (Least ∷ []) (phaser_past stages w)) ns))
       (kept (nat_lt p (items + stages)) p)
@@ -295,7 +283,7 @@ module _ (l : Limits) (stages items : ℕ) (few_items : items ≤ 100) (few_stag
       ∙ ap (λ x. value_seen x) (items_in_order stages n) in
       let long : stages + n < phase_count (phaser_past stages w) =
       sent_counts (stages + n) (pos (pipeline_item stages (n + 1))) (phaser_past stages w)
-      (values (stages + n) ∙ last) in
+      (values stages (stages + n) (self stages) ∙ last) in
       all_values stages items 0 stages (phase_count (phaser_past stages w)) (none_before stages)
       (room n (phase_count (phaser_past stages w)) e long)
     where
@@ -312,7 +300,7 @@ module _ (l : Limits) (stages items : ℕ) (few_items : items ≤ 100) (few_stag
       (range_with_len (0 + 1) items)
   line =
       let past = phaser_past stages w in
-      let ops : ops_of stages w ≡ Least ∷ [] = (made l Least stages w plain h.stands.made some).ops in
+      let ops : ops_of stages w ≡ Least ∷ [] = (made l Least stages w plain h.stands.made (some stages (self stages))).ops in
       ap (λ b. cond b (flat_map (λ (f : FoldLine). value_seen f.value) (phaser_lines w stages).folds) [])
       (eq-eqb stages stages refl)
       ∙ (ap (λ os. flat_map (λ (f : FoldLine). value_seen f.value)
@@ -322,10 +310,10 @@ module _ (l : Limits) (stages items : ℕ) (few_items : items ≤ 100) (few_stag
   comes_to : items_of stages (report_of l w) ≡ map pos (pipeline stages items)
   comes_to =
       one_read (phaser_lines w) (values_of stages) (λ j. is_phaser j w) stages
-      (map (λ i. pos (pipeline_item stages i)) (range_with_len (0 + 1) items)) is_made line
+      (map (λ i. pos (pipeline_item stages i)) (range_with_len (0 + 1) items)) (is_made stages (self stages)) line
       (λ j e. ap (λ b. cond b (flat_map (λ (f : FoldLine). value_seen f.value) (phaser_lines w j).folds) [])
       e)
-      0 l.phasers (zero_least stages) (below stages l.phasers (phaser_fits l stages w k is_made))
+      0 l.phasers (zero_least stages) (below stages l.phasers (phaser_fits l stages w k (is_made stages (self stages))))
       ∙ (ap (λ a. map (λ i. pos (pipeline_item stages i)) (range_with_len a items)) one
       ∙ sym (map_twice (λ x. pos x) (pipeline_item stages) (range_with_len 1 items)))
     where

@@ -75,7 +75,7 @@ pub data Act (first : List ℕ) (steps : ℕ) (w : List WorldEvent) (t : ℕ) (a
       → CellAt first steps i (turns t w + 1) (sends t w) (stencil_next Done (stencil_does first steps w t).1)
       → Act first steps w t a
   ending : (i : ℕ) → (t == 0) ≡ false → child_at i w ≡ Some t → a ≡ Beginning End → sends t w ≡ steps + 1
-      → Act first steps w t a
+      → turns t w ≡ steps → Act first steps w t a
 
 module _ (l : Limits) (first : List ℕ) (steps : ℕ) (w : List WorldEvent) (st : Standing first steps w)
     (k : is_legal_world l w ≡ true) where
@@ -102,7 +102,7 @@ module _ (l : Limits) (first : List ℕ) (steps : ℕ) (w : List WorldEvent) (st
   cell_act t i a is z h (CellStep.looks j p e among turned next) =
       Act.looking i j p z h (by_next t a (acts.Look j 0) is e) among turned next
   cell_act t i a is z h (CellStep.turns e next) = Act.turning i z h (by_next t a acts.Next is e) next
-  cell_act t i a is z h (CellStep.ends e over) = Act.ending i z h (by_next t a acts.End is e) over
+  cell_act t i a is z h (CellStep.ends e over all) = Act.ending i z h (by_next t a acts.End is e) over all
 
   pub not_ending : (t : ℕ) → is_idle t w ≡ true → ends_act (last_entry t w) ≡ false
   not_ending t idle =
@@ -169,9 +169,9 @@ module _ (l : Limits) (first : List ℕ) (steps : ℕ) (w : List WorldEvent) (st
         (stand_turns l first steps w st k t z idle
         (λ j g. subst (λ x. CellAt first steps x (turns t w + 1) (sends t w)
         (stencil_next Done (stencil_does first steps w t).1)) (one_place l i j t w k h g) next))
-    after_act t a ok idle sees (Act.ending i z h e over) =
+    after_act t a ok idle sees (Act.ending i z h e over all) =
         subst (λ b. Standing first steps (event_by t b ∷ w)) (sym e)
-        (stand_cell_ends l first steps w st k t z idle over (λ x g. st.cells x t g))
+        (stand_cell_ends l first steps w st k t z idle over all (λ x g. st.cells x t g))
 
 -- ---- each history
 

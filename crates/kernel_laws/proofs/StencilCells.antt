@@ -41,7 +41,7 @@ pub data CellStep (first : List ℕ) (steps i k made : ℕ) (d : Does StencilBod
       → CellStep first steps i k made d
   turns : d.0 ≡ Next → CellAt first steps i (k + 1) made (stencil_next Done d.1)
       → CellStep first steps i k made d
-  ends : d.0 ≡ End → made ≡ steps + 1 → CellStep first steps i k made d
+  ends : d.0 ≡ End → made ≡ steps + 1 → k ≡ steps → CellStep first steps i k made d
 
 module _ (first : List ℕ) (steps i k made : ℕ) (d : Does StencilBody) where
   not_first : (j : ℕ) (js : List ℕ) → (k ≡ 0 → j ∷ js ≡ []) → k ≡ (k - 1) + 1
@@ -84,7 +84,8 @@ module _ (first : List ℕ) (steps i k made : ℕ) (d : Does StencilBody) where
     where
       not_zero : (x : ℕ) → x + 1 ≡ 0 → ⊥
       not_zero x h = omega arith
-  step_of true zero js sum count goes among none = ends goes (count ∙ ap (λ x. x + 1) (last k steps sum))
+  step_of true zero js sum count goes among none =
+      ends goes (count ∙ ap (λ x. x + 1) (last k steps sum)) (last k steps sum)
     where
       last : (k s : ℕ) → k + 0 ≡ s → k ≡ s
       last k s h = omega arith

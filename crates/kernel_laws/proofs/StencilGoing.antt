@@ -59,6 +59,7 @@ pub record CellStands (first : List ℕ) (steps i c : ℕ) (w : List WorldEvent)
   pub goes : ends_act (last_entry c w) ≡ false
       → CellAt first steps i (turns c w) (sends c w) (stencil_does first steps w c)
   pub over : ends_act (last_entry c w) ≡ true → sends c w ≡ steps + 1
+  pub turned : ends_act (last_entry c w) ≡ true → turns c w ≡ steps
   pub few : turns c w ≤ steps
   pub ahead : turns c w ≤ sends c w
 
@@ -87,6 +88,7 @@ cell_kept first steps i c e w s p =
           (stencil_does first steps (e ∷ w) c) (stencil_does first steps w c) s.turned s.sent s.does_same
           (p.goes (subst (λ o. ends_act o ≡ false) s.last n));
       over = λ n. s.sent ∙ p.over (subst (λ o. ends_act o ≡ true) s.last n);
+      turned = λ n. s.turned ∙ p.turned (subst (λ o. ends_act o ≡ true) s.last n);
       few = subst (λ x. x ≤ steps) (sym s.turned) p.few;
       ahead = subst (λ x. x ≤ sends c (e ∷ w)) (sym s.turned)
           (subst (λ x. turns c w ≤ x) (sym s.sent) p.ahead);
@@ -206,6 +208,7 @@ module _ (l : Limits) (first : List ℕ) (steps : ℕ) (w : List WorldEvent) (st
             (stencil_next Started (cell_task first (length first) steps (spawned w))) turned sent begins
             (cell_starts first steps (spawned w) small lt);
         over = λ n. absurd (false≢true (subst (λ o. ends_act o ≡ true) last n));
+        turned = λ n. absurd (false≢true (subst (λ o. ends_act o ≡ true) last n));
         few = subst (λ v. v ≤ steps) (sym turned) (least steps);
         ahead = subst (λ v. v ≤ sends x (e ∷ w)) (sym turned) (least (sends x (e ∷ w)));
       }
@@ -275,6 +278,7 @@ module _ (l : Limits) (first : List ℕ) (steps : ℕ) (w : List WorldEvent) (st
               sent now
               (next j h);
           over = λ n. absurd (true≢false (sym n ∙ going));
+          turned = λ n. absurd (true≢false (sym n ∙ going));
           few = few j h;
           ahead = subst (λ y. turns t w ≤ y) (sym sent) (one_above (turns t w) (sends t w) count);
         })
@@ -300,6 +304,7 @@ module _ (l : Limits) (first : List ℕ) (steps : ℕ) (w : List WorldEvent) (st
               now
               (next j h);
           over = λ n. absurd (true≢false (sym n ∙ going));
+          turned = λ n. absurd (true≢false (sym n ∙ going));
           few = (before j h).few;
           ahead = (before j h).ahead;
         })
@@ -322,6 +327,7 @@ module _ (l : Limits) (first : List ℕ) (steps : ℕ) (w : List WorldEvent) (st
               (stencil_does first steps (e ∷ w) t) (stencil_next Done (stencil_does first steps w t).1) turned
               refl now c;
           over = λ n. absurd (false≢true (subst (λ o. ends_act o ≡ true) last n));
+          turned = λ n. absurd (false≢true (subst (λ o. ends_act o ≡ true) last n));
           few = subst (λ y. y ≤ steps) (sym turned) (part (turns t w + 1) c.rest steps c.sum);
           ahead = subst (λ y. y ≤ sends t w) (sym turned)
               (at_least (turns t w + 1) (sends t w) c.is_sent c.count);
@@ -334,16 +340,17 @@ module _ (l : Limits) (first : List ℕ) (steps : ℕ) (w : List WorldEvent) (st
         at_least a b true h = omega arith
         at_least a b false h = omega arith
 
-    pub stand_cell_ends : sends t w ≡ steps + 1
+    pub stand_cell_ends : sends t w ≡ steps + 1 → turns t w ≡ steps
         → ((j : ℕ) → child_at j w ≡ Some t → CellStands first steps j t w)
         → Standing first steps (Begin t End ∷ w)
-    stand_cell_ends over before =
+    stand_cell_ends over all before =
         let e = Begin t End in
         by_cell e t refl refl (λ c. refl) (λ c. refl) refl (λ j. refl) st.pairs st.sums z (λ j h.
         let last : last_entry t (e ∷ w) ≡ Some e = rw self refl in
         record {
           goes = λ n. absurd (true≢false (subst (λ o. ends_act o ≡ false) last n));
           over = λ n. over;
+          turned = λ n. all;
           few = (before j h).few;
           ahead = (before j h).ahead;
         })

@@ -59,7 +59,7 @@ module _ (first : List ℕ) (steps : ℕ) where
       )
   spawns_next x m s h g = rw (h, g) refl
 
-  ends_next : (x : Answer) (m s : ℕ) → nat_lt m (length first) ≡ false → nat_lt s (length first) ≡ false
+  pub ends_next : (x : Answer) (m s : ℕ) → nat_lt m (length first) ≡ false → nat_lt s (length first) ≡ false
       → stencil_next x (root_body first steps m s) ≡ (End, root_body first steps m s)
   ends_next x m s h g = rw (h, g) refl
 

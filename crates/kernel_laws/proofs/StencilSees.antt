@@ -153,7 +153,7 @@ module _ (l : Limits) (first : List ℕ) (steps : ℕ) (w : List WorldEvent) (st
     by_act (Act.root_ends z e full root) = absurd cc
     by_act (Act.sending i z h e count next) = absurd cc
     by_act (Act.turning i z h e next) = absurd cc
-    by_act (Act.ending i z h e over) = absurd cc
+    by_act (Act.ending i z h e over all) = absurd cc
 
     pub look_is : is_accepted l w (Phaser j (Look t a)) ≡ true
         → Looking j a ≡ tried_as w t (drawn (Looking j a)) (stencil_does first steps w t).0

@@ -79,7 +79,7 @@ module _ (l : Limits) (first : List ℕ) (steps : ℕ) (w : List WorldEvent) (st
   by_act (Act.root_ends z e full root) = absurd cc
   by_act (Act.looking i j p z h e among turned next) = absurd cc
   by_act (Act.turning i z h e next) = absurd cc
-  by_act (Act.ending i z h e over) = absurd cc
+  by_act (Act.ending i z h e over all) = absurd cc
 
   pub send_is : is_accepted l w (Phaser n (Send t a v)) ≡ true
       → Sending n a v ≡ tried_as w t (drawn (Sending n a v)) (stencil_does first steps w t).0

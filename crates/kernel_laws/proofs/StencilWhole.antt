@@ -1,8 +1,8 @@
 -- A whole run of a stencil comes to the cells after its last step.
-use Rattle.std.proofs.Common.{ℕ, zero, suc, pos, ◌+◌, ◌≡◌, ◌≤◌, ◌<◌, ◌∙◌, Bool, true, false, ◌&&◌, ◌==◌, not, nat_lt, cond, List, [], ◌∷◌, length, map, flat_map, Some, refl, sym, ap, subst, inl, inr, arith}
+use Rattle.std.proofs.Common.{ℕ, zero, suc, pos, ◌+◌, ◌≡◌, ◌≤◌, ◌<◌, ◌∙◌, Bool, true, false, ◌==◌, not, nat_lt, cond, List, [], ◌∷◌, length, map, flat_map, refl, sym, ap, subst, inl, inr, arith}
 use Rattle.std.specs.List.{list_any, list_all, range_with_len}
 use Rattle.std.proofs.Math.IntN.{+ℤ_idl}
-use Rattle.std.proofs.lemmas.Bool.{and_parts, and_from, or_cases, or_parts, or_left, or_right, cases_Bool, eqb-true, eq-eqb, lt-ltb, ltb-true, not-true, true≢false, false≢true, false_from_ne_true}
+use Rattle.std.proofs.lemmas.Bool.{and_parts, and_from, or_cases, or_parts, or_left, or_right, cases_Bool, eqb-true, eq-eqb, lt-ltb, ltb-true, true≢false, false≢true, false_from_ne_true}
 use Rattle.phase_modes.specs.Lists.{is_empty}
 use Rattle.phase_modes.specs.declared.limits.Limits.{Limits}
 use Rattle.phase_modes.specs.declared.reg.Mode.{Mode}
@@ -18,7 +18,7 @@ use Rattle.finish_core.specs.declared.event.FinishEvent.TheVariants.{Spawned}
 use Rattle.world_model.specs.declared.event.Step.{Step}
 use Rattle.world_model.specs.declared.event.Step.TheVariants.{Make, Reg, Sig, Claim, Did, Pass, Send, Look, Drop}
 use Rattle.world_model.specs.declared.event.Begun.{Begun}
-use Rattle.world_model.specs.declared.event.Begun.TheVariants.{Async, Next, End}
+use Rattle.world_model.specs.declared.event.Begun.TheVariants.{Async, End}
 use Rattle.world_model.specs.declared.event.WorldEvent.{WorldEvent}
 use Rattle.world_model.specs.declared.event.WorldEvent.TheVariants.{Phaser, Finish, Begin, Refuse, Fail}
 use Rattle.world_model.specs.Parts.{ops_of, phaser_past, terms_of}
@@ -33,7 +33,6 @@ use Rattle.world_model.proofs.OthersLeave.{due_other}
 use Rattle.world_model.proofs.MovesInTurns.{is_any_move, move_act}
 use Rattle.world_model.proofs.PhasersLegal.{step_allowed, event_of}
 use Rattle.world_model.proofs.PairsAsked.{some_registered}
-use Rattle.world_model.proofs.RootEndsLast.{ended_roots_leave_nobody}
 use Rattle.world_model.proofs.SpawnUnderWay.{named_by_spawn}
 use Rattle.world_model.proofs.BornWhereNamed.{registering}
 use Rattle.world_model.proofs.LeavesAtEnds.{is_leave, none_in_both}
@@ -49,6 +48,7 @@ use Rattle.body_follows.specs.Whole.{IsWhole}
 use Rattle.kernel_laws.proofs.Goes.{smoothly}
 use Rattle.kernel_laws.specs.Stencils.{RunsComeToStencil}
 use Rattle.kernel_laws.proofs.Plain.{IsPlain, is_plain, any_kept, due_next, spawned, spawner_is_root}
+use Rattle.kernel_laws.proofs.EndedSums.{has_left}
 use Rattle.kernel_laws.proofs.Endings.{dropped_ends, ended_ends}
 use Rattle.kernel_laws.proofs.Children.{at_below}
 use Rattle.kernel_laws.proofs.Joining.{SpawnsBy, regs_of}
@@ -57,6 +57,7 @@ use Rattle.kernel_laws.proofs.Telling.{smooth_before}
 use Rattle.kernel_laws.proofs.StencilValues.{cell_if, made_of, made_at, SendIs}
 use Rattle.kernel_laws.proofs.StencilSees.{neighbours_below, IsThere, all_there}
 use Rattle.kernel_laws.proofs.Making.{made, phaser_fits}
+use Rattle.kernel_laws.proofs.Weights.{root_still}
 use Rattle.kernel_laws.proofs.StencilLaws.{Goes, Holds, holds, sent_last}
 
 -- ---- nobody but the root comes to a phaser outside the row
@@ -196,29 +197,6 @@ module _ (l : Limits) (n : ℕ) (w : List WorldEvent) (k : IsPlain l w) where
   near_step (Refuse u b x) a p s le q = absurd (false≢true p)
   near_step (Fail u x) a p s le q = absurd (false≢true p)
 
--- the root signals and passes nothing
-pub root_still : (w : List WorldEvent) → list_all is_plain w ≡ true → moves_act (last_entry 0 w) ≡ false
-root_still [] k = refl
-root_still (Begin u b ∷ w) k =
-    let p = and_parts (is_plain (Begin u b)) (list_all is_plain w) k in
-    by_begun u b p.0 (root_still w p.1)
-  where
-    by_begun : (u : ℕ) (b : Begun) → is_plain (Begin u b) ≡ true → moves_act (last_entry 0 w) ≡ false
-        → moves_act (last_entry 0 (Begin u b ∷ w)) ≡ false
-    by_begun u Next p q = rw (not-true (u == 0) p) q
-    by_begun u End p q = at_end (u == 0) u q
-      where
-        at_end : (c : Bool) (u : ℕ) → moves_act (last_entry 0 w) ≡ false
-            → moves_act (cond c (Some (Begin u End)) (last_entry 0 w)) ≡ false
-        at_end true u q = refl
-        at_end false u q = q
-    by_begun u (Async c ps) p q = rw p refl
-    by_begun u b p q = absurd (false≢true p)
-root_still (Refuse u a x ∷ w) k = absurd (false≢true k)
-root_still (Fail u x ∷ w) k = absurd (false≢true k)
-root_still (Phaser m s ∷ w) k = root_still w (and_parts (is_plain (Phaser m s)) (list_all is_plain w) k).1
-root_still (Finish f s ∷ w) k = root_still w (and_parts (is_plain (Finish f s)) (list_all is_plain w) k).1
-
 -- ---- phasers outside the row have no phase
 
 module _ (l : Limits) (first : List ℕ) (steps : ℕ) (small : AtMost greatest first) where
@@ -311,7 +289,7 @@ module _ (l : Limits) (first : List ℕ) (steps : ℕ) (small : AtMost greatest 
 
 -- ---- the whole run
 
-all_below : (n p : ℕ) → ((j : ℕ) → j < n → j < p) → n ≤ p
+pub all_below : (n p : ℕ) → ((j : ℕ) → j < n → j < p) → n ≤ p
 all_below zero p f = omega arith
 all_below (suc n) p f = next n p (f n (self n))
   where
@@ -335,17 +313,10 @@ module _ (l : Limits) (first : List ℕ) (steps : ℕ) (small : AtMost greatest 
   there : (j : ℕ) → j < length first → IsThere l first steps w h.stands k j
   there j lt = all_there l first steps w h.stands k (ended_ends l 0 w plain whole.ended) j lt
 
-  must_drop : (a b : Bool) → (a && not b) ≡ false → a ≡ true → b ≡ true
-  must_drop true true e r = refl
-  must_drop true false e r = absurd (true≢false e)
-  must_drop false b e r = absurd (false≢true r)
-
-  all_made : (j : ℕ) → j < length first → made_at j w ≡ steps + 1
+  pub all_made : (j : ℕ) → j < length first → made_at j w ≡ steps + 1
   all_made j lt =
       let t = there j lt in
-      let gone : is_dropped t.task (phaser_past j w) ≡ true =
-      must_drop (is_registered t.task (phaser_past j w)) (is_dropped t.task (phaser_past j w))
-      ((ended_roots_leave_nobody l w k whole.ended).1 t.task j) t.registered in
+      let gone = has_left l w plain whole.ended t.task j t.registered in
       ap (λ o. made_of o w) t.child
       ∙ (h.stands.cells j t.task t.child).over (dropped_ends l t.task j w plain gone)
 
@@ -383,7 +354,7 @@ module _ (l : Limits) (first : List ℕ) (steps : ℕ) (small : AtMost greatest 
       (flat_map (λ p. folds_from p 0 (ops_of j w) past) (range_with_len 0 m)))
       (no_phase l first steps small w (smoothly stencil_next (root_task first steps) l w whole.smooth) j far)
 
-  is_made : (j : ℕ) → j < length first → is_phaser j w ≡ true
+  pub is_made : (j : ℕ) → j < length first → is_phaser j w ≡ true
   is_made j lt = ap (λ b. not b) (some j lt)
 
   comes_to : cells_of steps (report_of l w) ≡ map pos (stencil steps first)

@@ -1,5 +1,5 @@
 -- Two whole runs, event by event, oldest first: so there are histories of which the laws speak.
-use Rattle.std.specs.Prelude.{pos, List, [], ◌∷◌, reverse, None}
+use Rattle.std.specs.Prelude.{◌≡◌, pos, List, [], ◌∷◌, reverse, None}
 use Rattle.phase_modes.specs.declared.reg.Mode.TheVariants.{Sig as OnlySig, Wait, SigWait}
 use Rattle.phase_modes.specs.Limits.{default_limits}
 use Rattle.phase_model.specs.declared.op.Op.TheVariants.{Sum, Least}
@@ -13,6 +13,7 @@ use Rattle.job_kernels.specs.Tasks.{pair_on}
 use Rattle.job_kernels.specs.StencilTasks as stencils
 use Rattle.job_kernels.specs.PipelineTasks as pipelines
 use Rattle.body_follows.specs.Whole.{IsWhole}
+use Rattle.kernel_laws.specs.Totals.{pipeline_totals, stencil_totals}
 
 -- a step of two cells, 4 and 8, which come to 4 and 5
 abbrev pub step_of_two : List WorldEvent
@@ -58,6 +59,18 @@ step_of_two = reverse (
 abbrev pub StepOfTwoIsWhole : Type 0
 StepOfTwoIsWhole =
     IsWhole stencils.stencil_next (stencils.root_task (4 ∷ 8 ∷ []) 1) default_limits step_of_two
+
+-- its events, counted one by one, and what was sent: 4, 8, 4 and 5
+abbrev pub StepOfTwoIsCounted : Type 0
+StepOfTwoIsCounted = stencil_totals (4 ∷ 8 ∷ []) 1 ≡ record {
+  registered = 6;
+  signals = 2;
+  passes = 4;
+  drops = 6;
+  sends = 4;
+  up = 21;
+  down = 0;
+}
 
 -- an item behind one stage, which comes to 2
 abbrev pub one_item : List WorldEvent
@@ -108,3 +121,15 @@ one_item = reverse (
 
 abbrev pub OneItemIsWhole : Type 0
 OneItemIsWhole = IsWhole pipelines.pipeline_next (pipelines.root_task 1 1) default_limits one_item
+
+-- its events, counted one by one, and what was sent: 1 and 2
+abbrev pub OneItemIsCounted : Type 0
+OneItemIsCounted = pipeline_totals 1 1 ≡ record {
+  registered = 6;
+  signals = 2;
+  passes = 5;
+  drops = 6;
+  sends = 2;
+  up = 3;
+  down = 0;
+}

@@ -2,6 +2,7 @@
 //! contract is the law, and the check proves it.
 ghost use Rattle.kernel_laws.specs.Pipelines.{RunsComeToPipeline};
 ghost use Rattle.kernel_laws.specs.Stencils.{LooksSeeCells, RunsComeToStencil, ValuesAreCells};
+ghost use Rattle.kernel_laws.specs.Totals.{RunsTotalPipeline, RunsTotalStencil};
 
 /// Whatever the tasks of a stencil send, in whatever order they go on, are its cells: for each phase
 /// that cell of the row after as many steps.
@@ -23,4 +24,16 @@ pub fn stencil_runs_come_to_it()
 /// order.
 pub fn pipeline_runs_come_to_it()
     ensures { RunsComeToPipeline }
+{}
+
+/// The report of a whole run of a stencil in which no task was refused has the totals that the first
+/// cells and the steps say.
+pub fn stencil_runs_total_it()
+    ensures { RunsTotalStencil }
+{}
+
+/// The report of a whole run of a pipeline in which no task was refused has the totals that the
+/// stages and the items say.
+pub fn pipeline_runs_total_it()
+    ensures { RunsTotalPipeline }
 {}

@@ -11,10 +11,12 @@ use Rattle.job_kernels.specs.Results.{cells_of, items_of, refusal_of}
 use Rattle.job_kernels.specs.Stencil.{stencil, AtMost}
 use Rattle.job_kernels.specs.StencilTasks as cells
 use Rattle.kernel_laws.proofs.StencilWhole.{runs_come_to_stencil}
+use Rattle.kernel_laws.proofs.StencilTotals.{runs_total_stencil}
 use Rattle.kernel_laws.proofs.PipelineWhole.{runs_come_to_pipeline}
+use Rattle.kernel_laws.proofs.PipelineTotals.{runs_total_pipeline}
 use Rattle.kernels_job.specs.declared.printing.Kernel.TheVariants.{Stencil, Pipeline}
 use Rattle.kernels_job.specs.Printed.{kernel_text, value_text}
-use Rattle.kernels_job.specs.Worked.{IsKernelRun, values_text}
+use Rattle.kernels_job.specs.Worked.{IsKernelRun, values_text, stencil_text, pipeline_text}
 use Rattle.kernels_job.proofs.Whole.{reported}
 
 -- the text of these values
@@ -23,18 +25,23 @@ text word totals values = word ++ flat_map value_text values ++ (codes "\n" ++ t
 
 pub stencil_printed : (first : List ℕ) (steps : ℕ) (r : Report) → length first ≤ 16 → AtMost cells.greatest first
     → IsKernelRun cells.stencil_next (cells.root_task first steps) (Ok r) → refusal_of r ≡ None
-    → kernel_text (Stencil steps) r ≡ values_text (codes "cells") (stencil steps first) r.totals
+    → kernel_text (Stencil steps) r ≡ stencil_text first steps
 stencil_printed first steps r few small run none =
     let whole = reported cells.stencil_next (cells.root_task first steps) r run none in
     ap (λ vs. text (codes "cells") r.totals vs)
     (ap (λ x. cells_of steps x) whole.is
     ∙ runs_come_to_stencil default_limits first steps whole.history few small whole.whole)
+    ∙ ap (λ totals. values_text (codes "cells") (stencil steps first) totals)
+    (ap (λ (x : Report). x.totals) whole.is ∙ runs_total_stencil default_limits first steps whole.history few small whole.whole)
 
 pub pipeline_printed : (stages items : ℕ) (r : Report) → stages ≤ 15 → items ≤ 100
     → IsKernelRun piping.pipeline_next (piping.root_task stages items) (Ok r) → refusal_of r ≡ None
-    → kernel_text (Pipeline stages) r ≡ values_text (codes "items") (pipeline stages items) r.totals
+    → kernel_text (Pipeline stages) r ≡ pipeline_text stages items
 pipeline_printed stages items r few_stages few_items run none =
     let whole = reported piping.pipeline_next (piping.root_task stages items) r run none in
     ap (λ vs. text (codes "items") r.totals vs)
     (ap (λ x. items_of stages x) whole.is
     ∙ runs_come_to_pipeline default_limits stages items whole.history few_stages few_items whole.whole)
+    ∙ ap (λ totals. values_text (codes "items") (pipeline stages items) totals)
+    (ap (λ (x : Report). x.totals) whole.is
+    ∙ runs_total_pipeline default_limits stages items whole.history few_stages few_items whole.whole)

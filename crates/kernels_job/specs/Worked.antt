@@ -10,6 +10,9 @@ use Rattle.trace_model.specs.Run.{Run}
 use Rattle.trace_model.specs.Explained.{past, is_explained}
 use Rattle.body_follows.specs.Going.{Does, goes_by}
 use Rattle.task_crew.specs.Refused.{IsRunRefused}
+use Rattle.job_kernels.specs.Pipeline.{pipeline}
+use Rattle.job_kernels.specs.Stencil.{stencil}
+use Rattle.kernel_laws.specs.Totals.{pipeline_totals, stencil_totals}
 use Rattle.kernels_job.specs.Printed.{value_text}
 
 -- the report is that of a trace under the default limits that a world explains, and in which each task goes by its body;
@@ -25,3 +28,11 @@ IsKernelRun next root (Err e) = IsRunRefused e
 abbrev pub values_text : List ℕ → List ℕ → TotalsLine → List ℕ
 values_text word values totals =
     word ++ flat_map value_text (map (λ n. pos n) values) ++ (codes "\n" ++ totals_row totals)
+
+-- the cells of the stencil and its totals, by the first cells and the steps alone
+abbrev pub stencil_text : List ℕ → ℕ → List ℕ
+stencil_text first steps = values_text (codes "cells") (stencil steps first) (stencil_totals first steps)
+
+-- the items of the pipeline and its totals, by the stages and the items alone
+abbrev pub pipeline_text : ℕ → ℕ → List ℕ
+pipeline_text stages items = values_text (codes "items") (pipeline stages items) (pipeline_totals stages items)

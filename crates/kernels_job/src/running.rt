@@ -1,17 +1,15 @@
 //! Runs a kernel by workers, and prints what it came to.
-ghost use Rattle.std.specs.Prelude.{◌≡◌, ◌≢◌, ◌<◌, ◌≤◌, Result, Ok, None, codes, length};
+ghost use Rattle.std.specs.Prelude.{◌≡◌, ◌≢◌, ◌<◌, ◌≤◌, Result, Ok, None, length};
 ghost use Rattle.std.specs.Io.KnownBytes.{Appends, Keeps};
 ghost use Rattle.phase_modes.specs.declared.refusal.Refusal.{Refusal as Refusals};
 ghost use Rattle.world_model.specs.Report.{Report};
-ghost use Rattle.world_model.specs.declared.report.TotalsLine.{TotalsLine};
-ghost use Rattle.job_kernels.specs.Pipeline.{pipeline};
 ghost use Rattle.job_kernels.specs.PipelineTasks as piping;
-ghost use Rattle.job_kernels.specs.Stencil.{stencil, AtMost};
+ghost use Rattle.job_kernels.specs.Stencil.{AtMost};
 ghost use Rattle.job_kernels.specs.StencilTasks as cells;
 ghost use Rattle.job_kernels.specs.Results.{refusal_of};
 ghost use Rattle.job_ends.specs.Ends.{ReportsStatus};
 ghost use Rattle.kernels_job.specs.Printed.{kernel_text, IsOfEnd};
-ghost use Rattle.kernels_job.specs.Worked.{IsKernelRun, values_text};
+ghost use Rattle.kernels_job.specs.Worked.{IsKernelRun, stencil_text, pipeline_text};
 
 use crate::printing::{Kernel, ending_on};
 use body_follows::{Goes, goes_by};
@@ -83,10 +81,9 @@ pub fn stencil_on<R: Threads + Wait + Sync, W: Write, F: Write>(
     // Exactly the cells and the totals of one run, in which no task was refused.
     ensures done { result ≡ Status.Done → (r : Report) × IsKernelRun cells.stencil_next (cells.root_task first.now steps) (Ok r) × (refusal_of r ≡ None)
         × Appends (W.contents out.old) (W.contents out.new) (kernel_text (Kernel.Stencil steps) r) }
-    // They are the cells of the stencil.
+    // They are the cells of the stencil, and its totals: so the arguments alone say what is written.
     ensures cells { result ≡ Status.Done → AtMost cells.greatest first.now
-        → (t : TotalsLine) × Appends (W.contents out.old) (W.contents out.new)
-        (values_text (codes "cells") (stencil steps first.now) t) }
+        → Appends (W.contents out.old) (W.contents out.new) (stencil_text first.now steps) }
     ensures quiet { result ≡ Status.Done → Keeps (F.contents faults.old) (F.contents faults.new) }
     ensures refused { result ≡ Status.Refused → Keeps (W.contents out.old) (W.contents out.new) }
     // What is reported is the line of a failure of one run with this status.
@@ -124,10 +121,10 @@ pub fn pipeline_on<R: Threads + Wait + Sync, W: Write, F: Write>(
     // Exactly the items and the totals of one run, in which no task was refused.
     ensures done { result ≡ Status.Done → (r : Report) × IsKernelRun piping.pipeline_next (piping.root_task stages items) (Ok r) × (refusal_of r ≡ None)
         × Appends (W.contents out.old) (W.contents out.new) (kernel_text (Kernel.Pipeline stages) r) }
-    // They are the items of the pipeline, in order.
+    // They are the items of the pipeline, in order, and its totals: so the arguments alone say what is
+    // written.
     ensures items { result ≡ Status.Done
-        → (t : TotalsLine) × Appends (W.contents out.old) (W.contents out.new)
-        (values_text (codes "items") (pipeline stages items) t) }
+        → Appends (W.contents out.old) (W.contents out.new) (pipeline_text stages items) }
     ensures quiet { result ≡ Status.Done → Keeps (F.contents faults.old) (F.contents faults.new) }
     ensures refused { result ≡ Status.Refused → Keeps (W.contents out.old) (W.contents out.new) }
     // What is reported is the line of a failure of one run with this status.

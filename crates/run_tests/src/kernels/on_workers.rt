@@ -4,7 +4,7 @@ ghost use Rattle.std.specs.Prelude.{◌≤◌, ◌<◌, length};
 use super::ends;
 use job_ends::Status;
 use job_kernels::{PipelineBody, StencilBody, cells_of, items_of, pipeline_plain, stencil_plain};
-use kernels_job::Kernel;
+use kernels_job::{Kernel, pipeline_on, stencil_on};
 use phase_modes::{Limits, Refusal};
 use phased_rt::{Body, OpenGate, run};
 use std::alloc::Global;
@@ -32,7 +32,8 @@ fn are_same(plain: &[u32], seen: &[i64]) -> bool {
     plain.iter().map(|x| i64::from(*x)).eq(seen.iter().copied())
 }
 
-/// The stencil by so many workers comes to these lines, and to what one thread comes to.
+/// The stencil by so many workers comes to these lines, and to what one thread comes to; so its
+/// command writes them.
 fn stencil_prints<R: Threads + Wait + Sync + Abort>(
     rt: &R,
     alloc: Global,
@@ -56,11 +57,17 @@ fn stencil_prints<R: Threads + Wait + Sync + Abort>(
             lines,
             "",
         );
+        let mut out = Vec::new(alloc);
+        let mut faults = Vec::new(alloc);
+        let status = stencil_on(rt, alloc, first, steps, workers, &mut out, &mut faults);
+        assert!(rt; status == Status::Done, "{workers} workers");
+        assert!(rt; out.as_slice() == lines.as_bytes(), "{workers} workers");
     }
     Ok(())
 }
 
-/// The pipeline by so many workers comes to these lines, and to what one thread comes to.
+/// The pipeline by so many workers comes to these lines, and to what one thread comes to; so its
+/// command writes them.
 fn pipeline_prints<R: Threads + Wait + Sync + Abort>(
     rt: &R,
     alloc: Global,
@@ -85,6 +92,11 @@ fn pipeline_prints<R: Threads + Wait + Sync + Abort>(
             lines,
             "",
         );
+        let mut out = Vec::new(alloc);
+        let mut faults = Vec::new(alloc);
+        let status = pipeline_on(rt, alloc, stages, items, workers, &mut out, &mut faults);
+        assert!(rt; status == Status::Done, "{workers} workers");
+        assert!(rt; out.as_slice() == lines.as_bytes(), "{workers} workers");
     }
     Ok(())
 }
@@ -119,6 +131,23 @@ fn stencil_one_cell(rt: HostRuntime) -> Result<(), Fail> {
     )
 }
 
+// In two steps the cells 8 4 0 come to 5 4 1, since 20, 16 and 4 are divided by 4, and then to 3 3
+// 1, since 14, 14 and 6 are. The root makes 3 phasers, and the tasks are on 2, 3 and 2 of them: 10
+// registrations, and as many drops. In each step each of the 3 tasks signals on its own phaser, and
+// passes all of its own: 3 * 2 signals, and 7 * 2 passes. Each sends 3 values, together 12 at
+// first, then 10, then 7.
+#[test]
+fn stencil_three_cells(rt: HostRuntime) -> Result<(), Fail> {
+    stencil_prints(
+        &rt,
+        rt.alloc(),
+        &[8, 4, 0],
+        2,
+        "cells 3 3 1\n\
+         totals registered 10 signals 6 passes 14 drops 10 sends 9 up 29 down 0\n",
+    )
+}
+
 #[test]
 fn pipeline_two_stages(rt: HostRuntime) -> Result<(), Fail> {
     pipeline_prints(
@@ -127,6 +156,23 @@ fn pipeline_two_stages(rt: HostRuntime) -> Result<(), Fail> {
         2,
         3,
         "items 4 5 6\ntotals registered 9 signals 10 passes 22 drops 9 sends 9 up 30 down 0\n",
+    )
+}
+
+// The items 1 and 2 come to 2 and 3 behind the first stage, to 4 and 5, and to 7 and 8: with those
+// of the source 3, 5, 9 and 15, in 4 * 2 sends. The root makes 4 phasers, the source is on one, the
+// 3 stages on two each, and the sink on one: 12 registrations, and as many drops. The source takes
+// 2 turns, the stages 2, 3 and 4, since each waits for a phase more, and the sink 5. Source and
+// stages signal once in each: 2 + 9 signals. The source and the sink pass one phaser in each, the
+// stages two: 2 + 2 * 9 + 5 passes.
+#[test]
+fn pipeline_three_stages(rt: HostRuntime) -> Result<(), Fail> {
+    pipeline_prints(
+        &rt,
+        rt.alloc(),
+        3,
+        2,
+        "items 7 8\ntotals registered 12 signals 11 passes 25 drops 12 sends 8 up 32 down 0\n",
     )
 }
 

@@ -7,11 +7,10 @@ use Rattle.kernels_job.proofs.running.stencil_on.Goals as goal
 
 pub returns-clause-cells : goal.returns-clause-cells
 returns-clause-cells g c = λ done small.
-    let (r, run, none, printed) = c.kernel_on.ensures.done done in (
-      r.totals,
-      subst (λ (text : List ℕ). Appends (g.W.Write.contents c.args.out.now) (g.W.Write.contents c.kernel_on.new.out) text)
-          (stencil_printed c.args.first.now c.args.steps r c.requires.few small (subst (λ b. IsKernelRun stencil_next b (Ok r)) c.root-root.ensures run) none) printed,
-    )
+    let (r, run, none, printed) = c.kernel_on.ensures.done done in
+    subst (λ (text : List ℕ). Appends (g.W.Write.contents c.args.out.now) (g.W.Write.contents c.kernel_on.new.out) text)
+    (stencil_printed c.args.first.now c.args.steps r c.requires.few small
+    (subst (λ b. IsKernelRun stencil_next b (Ok r)) c.root-root.ensures run) none) printed
 
 pub returns-clause-done : goal.returns-clause-done
 returns-clause-done g c = λ done.
