@@ -50,6 +50,7 @@ def jobs():
         yield Job(["replay", file], stored("traces/two_senders.json"), report, None, None)
         yield Job(["replay", file, "--upgrade", OUT], older, older_report, smallest[2], "mine\n")
         yield Job(["certify", file], senders, report + "certain\n", None, None)
+        yield Job(["run", file, "--certain", "--trace", OUT], senders, report + "certain\n", ANY, None)
     yield Job(["replay", FILE, "--upgrade", OUT], older, older_report, smallest[2], None)
     yield Job(["replay", OUT, "--upgrade", OUT], older, older_report, smallest[2], older)
     yield Job(["run", FILE, "--workers", "1", "--trace", OUT], senders, report, ANY, "mine\n")

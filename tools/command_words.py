@@ -9,7 +9,7 @@ HELP = TOP / "tools/help.txt"  # what the built program prints on --help, and af
 
 # By command, its words and what it does.
 COMMANDS = {
-    "run": ("FILE [--workers N] [--trace OUT]", "runs a program on threads, and prints its report"),
+    "run": ("FILE [--workers N] [--trace OUT] [--certain]", "runs a program on threads, and prints its report"),
     "schedule": ("FILE [--picks LIST] [--trace OUT]", "runs a program without threads, the same each time"),
     "replay": ("FILE [--upgrade OUT]", "replays a trace, and prints its report"),
     "certify": ("FILE", "says what each run of a program comes to, where one run tells it"),
@@ -17,6 +17,7 @@ COMMANDS = {
     "pipeline": ("--stages K --items N [--workers N]", "runs a pipeline on threads, and prints its items"),
     "events": ("FILE", "answers the calls of an events file"),
 }
+FLAG = re.compile(r"\[--(\w+)\]")  # an option that has no value
 # By option, how many numbers its value may have, their range, and what is said of another value. OUT is any text.
 VALUES = {
     "picks": (10000, 0, 4294967295, "LIST is 1 to 10,000 numbers of 0 to 4294967295 with commas between them"),
@@ -46,7 +47,7 @@ class NoJob(Exception):
 
 def usage():
     """The lines of all commands."""
-    lines = ["%s %s" % (PROGRAM, ("%s %s" % (name, words)).ljust(46) + does) for name, (words, does) in COMMANDS.items()]
+    lines = ["%s %s" % (PROGRAM, ("%s %s" % (name, words)).ljust(50) + does) for name, (words, does) in COMMANDS.items()]
     return "Usage: " + "\n       ".join(lines)
 
 
@@ -91,7 +92,7 @@ def command_of(words):
 def read_words(words):
     """The command, the place of FILE among the words if there is one, and the values of the options."""
     command = command_of(words)
-    takes = re.findall(r"--(\w+)", COMMANDS[command][0])
+    takes, flags = re.findall(r"--(\w+)", COMMANDS[command][0]), FLAG.findall(COMMANDS[command][0])
     place, values, waiting, are_over = None, {}, None, False
     for at, word in enumerate(words[1:], 1):
         is_plain = are_over or not word.startswith("-") or word == "-"
@@ -110,7 +111,9 @@ def read_words(words):
             raise bad("unexpected argument '%s'" % word, command)
         elif option in values:
             raise bad("--%s stands there twice" % option, command)
-        elif "=" in word:
+        elif option in flags and "=" in word:
+            raise bad("--%s has no value" % option, command)
+        elif option in flags or "=" in word:
             values[option] = value
         else:
             waiting = option

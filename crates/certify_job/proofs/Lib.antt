@@ -1,1 +1,1 @@
-mod Reasons
+pub mod Reasons

@@ -13,6 +13,7 @@ use Rattle.job_ends.specs.Ends.{AppendsFront, failure_line}
 use Rattle.program_texts.specs.Texts.{program_spelled}
 use Rattle.one_answer.specs.Certified.{IsCertified, IsOfCertifying}
 use Rattle.one_answer.specs.Luck.{luck_at_text}
+use Rattle.one_answer.specs.declared.certificate.NoAnswer.{NoAnswer}
 use Rattle.one_answer.specs.declared.certificate.NoAnswer.TheVariants as answers
 use Rattle.certify_job.specs.declared.ending.NoCertificate.{NoCertificate}
 use Rattle.certify_job.specs.declared.ending.NoCertificate.TheVariants.{Failure, Luck}
@@ -35,6 +36,11 @@ IsOfCertificate bytes (Failure Read) = ⊥
 IsOfCertificate bytes (Failure Write) = (p : Program) × (program_spelled bytes ≡ Ok p)
 IsOfCertificate bytes (Luck at) =
     (p : Program) × (program_spelled bytes ≡ Ok p) × IsOfCertifying p (answers.Luck at)
+
+-- without an answer there is no certificate
+abbrev pub without_answer : NoAnswer → NoCertificate
+without_answer (answers.Luck at) = Luck at
+without_answer answers.Memory = Failure (Refused Memory)
 
 -- the line that says why, with its newline
 abbrev pub line_of : NoCertificate → List ℕ

@@ -7,8 +7,8 @@ ghost use Rattle.program_texts.specs.Texts.{program_spelled};
 ghost use Rattle.certify_job.specs.Certificate.{Certifies, IsOfCertificate, Reports, ReportsStatus, certificate_text, status_of};
 
 use crate::ending::NoCertificate;
-use job_ends::{Ending, Failure, Status, put_text};
-use one_answer::{NoAnswer, certify};
+use job_ends::{Ending, Status, put_text};
+use one_answer::certify;
 use phase_modes::Refusal;
 use program_texts::program_of;
 use std::alloc::Global;
@@ -16,7 +16,7 @@ use std::io::Write;
 use world_model::WorldReport;
 
 /// The lines of the report, and the one that says that each run comes to them.
-fn text_of(alloc: Global, report: &WorldReport) -> Result<String, Refusal>
+pub fn certificate_of(alloc: Global, report: &WorldReport) -> Result<String, Refusal>
     ensures text { IfOk result (λ text. string_bytes text ≡ certificate_text report.now) }
     ensures memory { IfErr result (λ e. e ≡ Refusal.Memory) }
 {
@@ -46,14 +46,8 @@ pub fn certify_bytes<W: Write>(
     ensures no_certificate { IfErr result (IsOfCertificate input.now) }
 {
     let program = program_of(alloc, input)?;
-    let report = match certify(alloc, &program) {
-        Ok(report) => report,
-        Err(NoAnswer::Luck(at)) => return Err(NoCertificate::Luck(at)),
-        Err(NoAnswer::Memory) => return Err(NoCertificate::Failure(Failure::Refused(
-            Refusal::Memory,
-        ))),
-    };
-    let text = text_of(alloc, &report)?;
+    let report = certify(alloc, &program)?;
+    let text = certificate_of(alloc, &report)?;
     put_text(out, text.as_str())?;
     Ok(())
 }

@@ -4,7 +4,7 @@ ghost use Rattle.job_ends.specs.Ends.{AppendsFront};
 ghost use Rattle.certify_job.specs.Certificate.{Reports, line_of, status_of};
 
 use job_ends::{Ending, Failure, Status, write_text};
-use one_answer::LuckAt;
+use one_answer::{LuckAt, NoAnswer};
 use phase_modes::Refusal;
 use std::alloc::Global;
 use std::io::Write;
@@ -41,10 +41,24 @@ impl From<Refusal> for NoCertificate {
     }
 }
 
+impl From<NoAnswer> for NoCertificate {
+    ghost use Rattle.std.specs.Prelude.{◌≡◌};
+    ghost use Rattle.certify_job.specs.Certificate.{without_answer};
+
+    ghost from_gives = { λ answer why. why ≡ without_answer answer };
+
+    fn from(answer: NoAnswer) -> NoCertificate {
+        match answer {
+            NoAnswer::Luck(at) => NoCertificate::Luck(at),
+            NoAnswer::Memory => NoCertificate::Failure(Failure::Refused(Refusal::Memory)),
+        }
+    }
+}
+
 impl NoCertificate {
     /// Ends the job for this reason, and writes its line: `luck at 12: task 3 refused 14 RegsFull`,
     /// or a failure's. Where the line can't be written, the status stays what it is.
-    pub(crate) fn end<F: Write>(self, alloc: Global, faults: &mut F) -> Ending
+    pub fn end<F: Write>(self, alloc: Global, faults: &mut F) -> Ending
         ensures status { result.status ≡ status_of self }
         // Luck whose line gets no memory is reported as want of memory.
         ensures reported { Reports (λ n. (n ≡ self) ⊎ (n ≡ NoCertificate.Failure (Failure.Refused Refusal.Memory)))

@@ -4,5 +4,5 @@
 mod certifying;
 mod ending;
 
-pub use certifying::{certify_bytes, certify_on, ending_on};
+pub use certifying::{certificate_of, certify_bytes, certify_on, ending_on};
 pub use ending::NoCertificate;

@@ -1,10 +1,11 @@
 -- A command with one more subcommand, and what a subcommand is asked for.
 use Rattle.std.proofs.Common.{◌≡◌, Bool, true, false, if◌then◌else◌, List, Option, None, Some, Result, Ok, Err, IfOk, option_map, codes, refl, ap, ◌∙◌}
+use Rattle.std.specs.Option.{option_map_or}
 use Rattle.std.specs.Str.{bytes_eq}
 use Rattle.clap.specs.Words.{App, Row, Text, AddsSubcommand, app_of, first_of, shape_of, with_subcommand}
 use Rattle.clap.specs.declared.builder.command.Command.{Command}
 use Rattle.clap.specs.declared.builder.command.Command.TheViews.{out-Command as fields_of}
-use Rattle.command_words.specs.CommandLine.{Asked, asked_among, certify, events, filed_among, of_both, pipeline, pipeline_among, stencil, stencil_among, to_replay, to_run, to_schedule}
+use Rattle.command_words.specs.CommandLine.{Asked, certify, events, filed_among, has_flag, of_both, to_replay, to_run, to_schedule}
 
 pub grown : (old sub new : Command) (a s : App) → AddsSubcommand old sub new → app_of old ≡ a → app_of sub ≡ s
     → (fields_of sub).has_globals ≡ false → app_of new ≡ with_subcommand a s.top
@@ -39,6 +40,11 @@ among_replay name rows file named is = rw (named, is) refl
 pub among_certify : (name : Text) (rows : List Row) (file : Option Text) → name ≡ codes "certify"
     → file ≡ first_of (codes "file") rows → option_map certify file ≡ filed_among name rows
 among_certify name rows file named is = rw (named, is) refl
+
+-- a flag, by its value
+pub flag_by : (name : Text) (rows : List Row) (value : Option Text) → value ≡ first_of name rows
+    → option_map_or (λ v. bytes_eq v (codes "true")) value false ≡ has_flag name rows
+flag_by name rows value is = ap (λ o. option_map_or (λ v. bytes_eq v (codes "true")) o false) is
 
 -- where FILE isn't there no such command is asked for anything
 nothing : (a b c d e : Bool) → ◌≡◌ {A = Option Asked} None

@@ -1,13 +1,15 @@
 -- A run whose options stand after FILE.
-use Rattle.std.proofs.Common.{◌≡◌, ℕ, List, [], ◌∷◌, false, Option, Some, None, if◌then◌else◌, codes, refl, ap, ◌∙◌}
+use Rattle.std.proofs.Common.{◌≡◌, List, [], ◌∷◌, ◌++◌, Bool, true, false, Option, Some, None, if◌then◌else◌, codes, refl, ap, ◌∙◌}
+use Rattle.std.specs.Prelude.{fold, ⊤}
+use Rattle.std.specs.Option.{option_map_or}
 use Rattle.phase_modes.specs.Lists.{is_empty}
 use Rattle.clap.specs.Words.{Rule, Text, Kinds, Shape, built}
-use Rattle.clap.specs.Walk.{Held, Waiting, Walk, arg_by_id, arg_by_index, finished, idle, nothing_held, option, option_word, settled, to_positional, value, walk, walk_from, walked}
+use Rattle.clap.specs.Walk.{Held, Walk, arg_by_index, finished, idle, nothing_held, option, settled, to_positional, walk_from, walked}
 use Rattle.clap.specs.Kinds.{or_else}
-use Rattle.clap.specs.Faults.{check_fault, defaults_fault, settle_fault, step_fault, turn_fault, walk_fault}
+use Rattle.clap.specs.Faults.{check_fault, defaults_fault, settle_fault, turn_fault, walk_fault}
 use Rattle.clap.proofs.OnLiterals.{clap_on_literals}
-use Rattle.command_words.specs.CommandLine.{Asked, asked_among, asked_in, asked_of, program_app, run, run_app}
-use Rattle.command_words.proofs.PlainSchedule.{IsWord}
+use Rattle.command_words.specs.CommandLine.{Asked, asked_among, asked_in, asked_of, flag_words, is_plain, option_words, program_app, run, run_app}
+use Rattle.command_words.proofs.PlainSchedule.{IsWord, word}
 use Rattle.command_words.proofs.PlainOptions.{after_option, at, idle_step, idle_turn, option_step, option_turn}
 
 -- `run`, as it is built
@@ -20,6 +22,9 @@ third s (a ∷ b ∷ c ∷ rest) = c
 abbrev built_run : Shape
 built_run = third run_app.top (built program_app).subs
 
+abbrev rules : List Rule
+rules = built_run.rules
+
 -- what a run is asked for, by the faults of its walk and by where that ends
 abbrev asked_at : Kinds → Walk → Option Asked
 asked_at faults end =
@@ -29,18 +34,48 @@ asked_at faults end =
     (check_fault built_run (finished built_run.rules end.held) false)))) [])
     then asked_among (codes "run", finished built_run.rules end.held) else None
 
-three_words : (p a b c : Text) → asked_in (p ∷ codes "run" ∷ a ∷ b ∷ c ∷ [])
-    ≡ asked_at (walk_fault built_run [] (walk_from nothing_held) (a ∷ b ∷ c ∷ []))
-    (walk built_run.rules [] nothing_held (a ∷ b ∷ c ∷ []))
-unfolding asked_in asked_of clap_on_literals
-three_words p a b c = refl
+-- the same by where the walk stands, and the words that are left
+abbrev asked_from : Walk → List Text → Option Asked
+asked_from w words = asked_at (walk_fault built_run [] w words) (fold (walked rules []) w words)
 
-abbrev rules : List Rule
-rules = built_run.rules
+-- the options after FILE
+abbrev options : Option Text → Option Text → Bool → List Text
+options workers out certain =
+    option_words (codes "--workers") workers
+    ++ (option_words (codes "--trace") out ++ flag_words (codes "--certain") certain)
+
+all_words : (p file : Text) (workers out : Option Text) (certain : Bool)
+    → asked_in (p ∷ codes "run" ∷ file ∷ options workers out certain)
+    ≡ asked_from (walk_from nothing_held) (file ∷ options workers out certain)
+unfolding asked_in asked_of clap_on_literals
+all_words p file None None true = refl
+all_words p file None None false = refl
+all_words p file (Some workers) None true = refl
+all_words p file (Some workers) None false = refl
+all_words p file None (Some out) true = refl
+all_words p file None (Some out) false = refl
+all_words p file (Some workers) (Some out) true = refl
+all_words p file (Some workers) (Some out) false = refl
+
+-- a word that is no fault
+one_word : (w after : Walk) (word : Text) (rest : List Text) → turn_fault built_run [] w word ≡ []
+    → walked rules [] w word ≡ after → asked_from w (word ∷ rest) ≡ asked_from after rest
+unfolding walk_fault
+one_word w after word rest faultless is =
+    ap (λ faults. asked_at (or_else faults (walk_fault built_run [] (walked rules [] w word) rest))
+    (fold (walked rules []) (walked rules [] w word) rest)) faultless
+    ∙ ap (λ v. asked_from v rest) is
 
 -- the walk after FILE
 abbrev after_file : Text → Walk
 after_file file = to_positional rules (arg_by_index rules 1) file (at idle nothing_held 1) nothing_held
+
+file_word : (file : Text) (rest : List Text) → IsWord file
+    → asked_from (walk_from nothing_held) (file ∷ rest) ≡ asked_from (after_file file) rest
+unfolding clap_on_literals
+file_word file rest f =
+    one_word (walk_from nothing_held) (after_file file) file rest (idle_turn built_run nothing_held 1 file f)
+    (idle_step rules nothing_held 1 file f)
 
 -- what is held once an option's name has followed
 abbrev held_at : Walk → Text → Held
@@ -51,127 +86,102 @@ abbrev after_workers : Text → Text → Walk
 after_workers file workers =
     after_option rules (codes "workers") (held_at (after_file file) (codes "--workers")) 2 workers
 
-workers_walk : (file workers : Text) → IsWord file → IsWord workers
-    → walk rules [] nothing_held (file ∷ codes "--workers" ∷ workers ∷ []) ≡ after_workers file workers
+workers_words : (file workers : Text) (rest : List Text) → IsWord workers
+    → asked_from (after_file file) (codes "--workers" ∷ workers ∷ rest) ≡ asked_from (after_workers file workers) rest
 unfolding clap_on_literals
-workers_walk file workers f l =
-    ap (λ w. walked rules [] (walked rules [] w (codes "--workers")) workers)
-    (idle_step rules nothing_held 1 file f)
-    ∙ option_step rules (codes "workers") (held_at (after_file file) (codes "--workers")) 2 workers l
-
-workers_faults : (file workers : Text) (rest : List Text) → IsWord file → IsWord workers
-    → walk_fault built_run [] (walk_from nothing_held) (file ∷ codes "--workers" ∷ workers ∷ rest)
-    ≡ walk_fault built_run [] (after_workers file workers) rest
-unfolding clap_on_literals
-workers_faults file workers rest f l =
-    ap (λ k. or_else k (walk_fault built_run [] (walked rules [] (walk_from nothing_held) file)
-    (codes "--workers" ∷ workers ∷ rest))) (idle_turn built_run nothing_held 1 file f)
-    ∙ ap (λ w. walk_fault built_run [] w (codes "--workers" ∷ workers ∷ rest))
-    (idle_step rules nothing_held 1 file f)
-    ∙ ap (λ k. or_else k (walk_fault built_run [] (walked rules []
-    (at (option (codes "workers")) (held_at (after_file file) (codes "--workers")) 2) workers) rest))
-    (option_turn built_run (codes "workers") (held_at (after_file file) (codes "--workers")) 2 workers l)
-    ∙ ap (λ w. walk_fault built_run [] w rest)
-    (option_step rules (codes "workers") (held_at (after_file file) (codes "--workers")) 2 workers l)
-
-workers_asked : (file workers : Text) → asked_at [] (after_workers file workers) ≡ Some (run file (Some workers) None)
-unfolding clap_on_literals
-workers_asked file workers = refl
-
-no_words : (w : Walk) → walk_fault built_run [] w [] ≡ []
-unfolding clap_on_literals
-no_words w = refl
-
-pub run_workers : (p file workers : Text) → IsWord file → IsWord workers
-    → asked_in (p ∷ codes "run" ∷ file ∷ codes "--workers" ∷ workers ∷ [])
-    ≡ Some (run file (Some workers) None)
-run_workers p file workers f l =
-    three_words p file (codes "--workers") workers
-    ∙ ap (λ k. asked_at k (walk rules [] nothing_held (file ∷ codes "--workers" ∷ workers ∷ [])))
-    (workers_faults file workers [] f l ∙ no_words (after_workers file workers))
-    ∙ ap (λ w. asked_at [] w) (workers_walk file workers f l)
-    ∙ workers_asked file workers
+workers_words file workers rest n =
+    one_word (after_file file) (walked rules [] (after_file file) (codes "--workers")) (codes "--workers")
+    (workers ∷ rest) refl refl
+    ∙ one_word (at (option (codes "workers")) (held_at (after_file file) (codes "--workers")) 2)
+    (after_workers file workers) workers rest
+    (option_turn built_run (codes "workers") (held_at (after_file file) (codes "--workers")) 2 workers n)
+    (option_step rules (codes "workers") (held_at (after_file file) (codes "--workers")) 2 workers n)
 
 -- the same with `--trace`
 abbrev after_trace : Text → Text → Walk
 after_trace file out = after_option rules (codes "trace") (held_at (after_file file) (codes "--trace")) 2 out
 
-trace_walk : (file out : Text) → IsWord file → IsWord out
-    → walk rules [] nothing_held (file ∷ codes "--trace" ∷ out ∷ []) ≡ after_trace file out
+trace_words : (file out : Text) (rest : List Text) → IsWord out
+    → asked_from (after_file file) (codes "--trace" ∷ out ∷ rest) ≡ asked_from (after_trace file out) rest
 unfolding clap_on_literals
-trace_walk file out f o =
-    ap (λ w. walked rules [] (walked rules [] w (codes "--trace")) out)
-    (idle_step rules nothing_held 1 file f)
-    ∙ option_step rules (codes "trace") (held_at (after_file file) (codes "--trace")) 2 out o
-
-trace_faults : (file out : Text) → IsWord file → IsWord out
-    → walk_fault built_run [] (walk_from nothing_held) (file ∷ codes "--trace" ∷ out ∷ []) ≡ []
-unfolding clap_on_literals
-trace_faults file out f o =
-    ap (λ k. or_else k (walk_fault built_run [] (walked rules [] (walk_from nothing_held) file)
-    (codes "--trace" ∷ out ∷ []))) (idle_turn built_run nothing_held 1 file f)
-    ∙ ap (λ w. walk_fault built_run [] w (codes "--trace" ∷ out ∷ []))
-    (idle_step rules nothing_held 1 file f)
-    ∙ ap (λ k. or_else k [])
+trace_words file out rest o =
+    one_word (after_file file) (walked rules [] (after_file file) (codes "--trace")) (codes "--trace")
+    (out ∷ rest) refl refl
+    ∙ one_word (at (option (codes "trace")) (held_at (after_file file) (codes "--trace")) 2)
+    (after_trace file out) out rest
     (option_turn built_run (codes "trace") (held_at (after_file file) (codes "--trace")) 2 out o)
-
-trace_asked : (file out : Text) → asked_at [] (after_trace file out) ≡ Some (run file None (Some out))
-unfolding clap_on_literals
-trace_asked file out = refl
-
-pub run_trace : (p file out : Text) → IsWord file → IsWord out
-    → asked_in (p ∷ codes "run" ∷ file ∷ codes "--trace" ∷ out ∷ [])
-    ≡ Some (run file None (Some out))
-run_trace p file out f o =
-    three_words p file (codes "--trace") out
-    ∙ ap (λ k. asked_at k (walk rules [] nothing_held (file ∷ codes "--trace" ∷ out ∷ [])))
-    (trace_faults file out f o)
-    ∙ ap (λ w. asked_at [] w) (trace_walk file out f o)
-    ∙ trace_asked file out
+    (option_step rules (codes "trace") (held_at (after_file file) (codes "--trace")) 2 out o)
 
 -- both
-five_words : (p a b c d e : Text) → asked_in (p ∷ codes "run" ∷ a ∷ b ∷ c ∷ d ∷ e ∷ [])
-    ≡ asked_at (walk_fault built_run [] (walk_from nothing_held) (a ∷ b ∷ c ∷ d ∷ e ∷ []))
-    (walk rules [] nothing_held (a ∷ b ∷ c ∷ d ∷ e ∷ []))
-unfolding asked_in asked_of clap_on_literals
-five_words p a b c d e = refl
-
 abbrev after_both : Text → Text → Text → Walk
 after_both file workers out =
     after_option rules (codes "trace") (held_at (after_workers file workers) (codes "--trace")) 2 out
 
-both_walk : (file workers out : Text) → IsWord file → IsWord workers → IsWord out
-    → walk rules [] nothing_held (file ∷ codes "--workers" ∷ workers ∷ codes "--trace" ∷ out ∷ [])
-    ≡ after_both file workers out
+both_words : (file workers out : Text) (rest : List Text) → IsWord out
+    → asked_from (after_workers file workers) (codes "--trace" ∷ out ∷ rest)
+    ≡ asked_from (after_both file workers out) rest
 unfolding clap_on_literals
-both_walk file workers out f l o =
-    ap (λ w. walked rules [] (walked rules [] w (codes "--trace")) out) (workers_walk file workers f l)
-    ∙ option_step rules (codes "trace") (held_at (after_workers file workers) (codes "--trace")) 2 out o
-
-both_faults : (file workers out : Text) → IsWord file → IsWord workers → IsWord out
-    → walk_fault built_run [] (walk_from nothing_held)
-    (file ∷ codes "--workers" ∷ workers ∷ codes "--trace" ∷ out ∷ []) ≡ []
-unfolding clap_on_literals
-both_faults file workers out f l o =
-    workers_faults file workers (codes "--trace" ∷ out ∷ []) f l
-    ∙ ap (λ k. or_else k [])
+both_words file workers out rest o =
+    one_word (after_workers file workers) (walked rules [] (after_workers file workers) (codes "--trace"))
+    (codes "--trace") (out ∷ rest) refl refl
+    ∙ one_word (at (option (codes "trace")) (held_at (after_workers file workers) (codes "--trace")) 2)
+    (after_both file workers out) out rest
     (option_turn built_run (codes "trace") (held_at (after_workers file workers) (codes "--trace")) 2 out o)
+    (option_step rules (codes "trace") (held_at (after_workers file workers) (codes "--trace")) 2 out o)
 
-both_asked : (file workers out : Text)
-    → asked_at [] (after_both file workers out) ≡ Some (run file (Some workers) (Some out))
+-- after them the flag, where it is wanted
+alone_asked : (file : Text) (certain : Bool)
+    → asked_from (after_file file) (flag_words (codes "--certain") certain) ≡ Some (run file None None certain)
 unfolding clap_on_literals
-both_asked file workers out = refl
+alone_asked file true = refl
+alone_asked file false = refl
 
-pub run_both : (p file workers out : Text) → IsWord file → IsWord workers → IsWord out
-    → asked_in (p ∷ codes "run" ∷ file ∷ codes "--workers" ∷ workers ∷ codes "--trace" ∷ out ∷ [])
-    ≡ Some (run file (Some workers) (Some out))
-run_both p file workers out f l o =
-    five_words p file (codes "--workers") workers (codes "--trace") out
-    ∙ ap (λ k. asked_at k (walk rules [] nothing_held
-    (file ∷ codes "--workers" ∷ workers ∷ codes "--trace" ∷ out ∷ []))) (both_faults file workers out f l o)
-    ∙ ap (λ w. asked_at [] w) (both_walk file workers out f l o)
-    ∙ both_asked file workers out
+workers_asked : (file workers : Text) (certain : Bool)
+    → asked_from (after_workers file workers) (flag_words (codes "--certain") certain)
+    ≡ Some (run file (Some workers) None certain)
+unfolding clap_on_literals
+workers_asked file workers true = refl
+workers_asked file workers false = refl
 
-pub run_alone : (p file : Text) → IsWord file → asked_in (p ∷ codes "run" ∷ file ∷ []) ≡ Some (run file None None)
-unfolding asked_in asked_of clap_on_literals
-run_alone p file h = simp (h.0, h.1, h.2)
+trace_asked : (file out : Text) (certain : Bool)
+    → asked_from (after_trace file out) (flag_words (codes "--certain") certain)
+    ≡ Some (run file None (Some out) certain)
+unfolding clap_on_literals
+trace_asked file out true = refl
+trace_asked file out false = refl
+
+both_asked : (file workers out : Text) (certain : Bool)
+    → asked_from (after_both file workers out) (flag_words (codes "--certain") certain)
+    ≡ Some (run file (Some workers) (Some out) certain)
+unfolding clap_on_literals
+both_asked file workers out true = refl
+both_asked file workers out false = refl
+
+-- an option's value is a word, where it is there
+abbrev pub IsOptionWord : Option Text → Type 0
+IsOptionWord None = ⊤
+IsOptionWord (Some word) = IsWord word
+
+pub option_word : (o : Option Text) → option_map_or is_plain o true ≡ true → IsOptionWord o
+option_word None plain = tt
+option_word (Some value) plain = word value plain
+
+asked_after : (file : Text) (workers out : Option Text) (certain : Bool) → IsOptionWord workers → IsOptionWord out
+    → asked_from (after_file file) (options workers out certain) ≡ Some (run file workers out certain)
+asked_after file None None certain n o = alone_asked file certain
+asked_after file (Some workers) None certain n o =
+    workers_words file workers (flag_words (codes "--certain") certain) n ∙ workers_asked file workers certain
+asked_after file None (Some out) certain n o =
+    trace_words file out (flag_words (codes "--certain") certain) o ∙ trace_asked file out certain
+asked_after file (Some workers) (Some out) certain n o =
+    workers_words file workers (options None (Some out) certain) n
+    ∙ both_words file workers out (flag_words (codes "--certain") certain) o
+    ∙ both_asked file workers out certain
+
+pub run_plain : (p file : Text) (workers out : Option Text) (certain : Bool) → IsWord file
+    → IsOptionWord workers → IsOptionWord out
+    → asked_in (p ∷ codes "run" ∷ file ∷ options workers out certain) ≡ Some (run file workers out certain)
+run_plain p file workers out certain f n o =
+    all_words p file workers out certain
+    ∙ file_word file (options workers out certain) f
+    ∙ asked_after file workers out certain n o

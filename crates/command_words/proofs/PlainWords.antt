@@ -1,13 +1,14 @@
 -- Plain words ask for what they say.
 use Rattle.std.proofs.Common.{◌≡◌, ◌&&◌, true, List, Some, None, ap, ◌∙◌}
 use Rattle.std.specs.Prelude.{option_and_then}
+use Rattle.std.specs.Option.{option_map_or}
 use Rattle.std.proofs.lemmas.Bool.{and_parts}
 use Rattle.clap.specs.Words.{Text}
 use Rattle.command_words.specs.CommandLine.{Asked, Work, asked_in, certify, events, is_plain, is_plainly_asked, pipeline, plain_words, replay, run, schedule, stencil, work_for, work_in}
 use Rattle.command_words.proofs.Plain.{certify_plain, events_plain}
 use Rattle.command_words.proofs.PlainSchedule.{schedule_alone, word}
 use Rattle.command_words.proofs.PlainOptions.{schedule_both, schedule_picks, schedule_trace}
-use Rattle.command_words.proofs.PlainRun.{run_alone, run_both, run_workers, run_trace}
+use Rattle.command_words.proofs.PlainRun.{option_word, run_plain}
 use Rattle.command_words.proofs.PlainReplay.{replay_alone, replay_upgrade}
 use Rattle.command_words.proofs.PlainStencil.{stencil_alone, stencil_workers}
 use Rattle.command_words.proofs.PlainPipeline.{pipeline_alone, pipeline_workers}
@@ -33,18 +34,10 @@ plainly p (schedule file (Some list) (Some out)) plain =
     let parts = and_parts (is_plain file) (is_plain list && is_plain out) plain in
     let values = and_parts (is_plain list) (is_plain out) parts.1 in
     schedule_both p file list out (word file parts.0) (word list values.0) (word out values.1)
-plainly p (run file None None) plain =
-    run_alone p file (word file (and_parts (is_plain file) true plain).0)
-plainly p (run file (Some workers) None) plain =
-    let parts = and_parts (is_plain file) (is_plain workers && true) plain in
-    run_workers p file workers (word file parts.0) (word workers (and_parts (is_plain workers) true parts.1).0)
-plainly p (run file None (Some out)) plain =
-    let parts = and_parts (is_plain file) (is_plain out) plain in
-    run_trace p file out (word file parts.0) (word out parts.1)
-plainly p (run file (Some workers) (Some out)) plain =
-    let parts = and_parts (is_plain file) (is_plain workers && is_plain out) plain in
-    let values = and_parts (is_plain workers) (is_plain out) parts.1 in
-    run_both p file workers out (word file parts.0) (word workers values.0) (word out values.1)
+plainly p (run file workers out certain) plain =
+    let parts = and_parts (is_plain file) (option_map_or is_plain workers true && option_map_or is_plain out true) plain in
+    let values = and_parts (option_map_or is_plain workers true) (option_map_or is_plain out true) parts.1 in
+    run_plain p file workers out certain (word file parts.0) (option_word workers values.0) (option_word out values.1)
 plainly p (stencil first steps None) plain =
     let parts = and_parts (is_plain first) (is_plain steps && true) plain in
     stencil_alone p first steps (word first parts.0) (word steps (and_parts (is_plain steps) true parts.1).0)

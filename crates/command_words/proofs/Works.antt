@@ -1,5 +1,5 @@
 -- The work that words name.
-use Rattle.std.proofs.Common.{◌≡◌, ◌⊎◌, ℕ, List, option_map, Option, Some, None, Result, Ok, Err, IfOk, IfErr, MatchResult, refl, sym, ap, ◌∙◌, inl, inr}
+use Rattle.std.proofs.Common.{◌≡◌, ℕ, List, option_map, Option, Some, None, Result, Ok, Err, IfOk, IfErr, MatchResult, refl, sym, ap, ◌∙◌, inl, inr}
 use Rattle.std.specs.Prelude.{option_and_then}
 use Rattle.command_words.specs.CommandLine.{Asked, IsNoJobFor, Work, certify, earlier, events, first_bad, pipeline, pipeline_of, replay, run, schedule, stencil, stencil_of, unless, work_for, work_of}
 use Rattle.command_words.specs.declared.command_line.Job.{Job}
@@ -35,7 +35,7 @@ none_of_stages p q r v (Some x) (Some y) (Some z) e = cc
 pub bad_works : (asked : Asked) (v : Value) → first_bad asked ≡ Some v → work_for asked ≡ None
 bad_works (events file) v e = cc
 bad_works (schedule file list trace) v e = none_of _ _ v _ e
-bad_works (run file workers trace) v e = none_of _ _ v _ e
+bad_works (run file workers trace certain) v e = none_of _ _ v _ e
 bad_works (replay file upgrade) v e = cc
 bad_works (certify file) v e = cc
 bad_works (stencil first steps workers) v e = none_of_cells _ _ _ v _ _ _ e

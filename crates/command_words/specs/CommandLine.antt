@@ -1,8 +1,9 @@
 -- The words that the program takes, by what `clap` says of a command and of its arguments.
-use Rattle.std.specs.Prelude.{◌≡◌, ◌⊎◌, ◌++◌, ◌<◌, ◌≤◌, ⊤, ℕ, List, length, [], ◌∷◌, Bool, true, not, ◌&&◌, ◌||◌, ◌==◌, if◌then◌else◌, Option, None, Some, option_and_then, option_map, codes}
+use Rattle.std.specs.Prelude.{◌≡◌, ◌⊎◌, ◌++◌, ◌<◌, ◌≤◌, ⊤, ℕ, List, length, [], ◌∷◌, Bool, true, false, not, ◌&&◌, ◌||◌, ◌==◌, if◌then◌else◌, Option, None, Some, option_and_then, option_map, codes}
 use Rattle.std.specs.Option.{option_map_or}
 use Rattle.std.specs.Str.{bytes_eq}
 use Rattle.phase_modes.specs.Lists.{is_empty}
+use Rattle.clap.specs.declared.builder.action.ArgAction.TheVariants.{SetTrue}
 use Rattle.clap.specs.Words.{App, Row, Rule, Text, fault_of, first_of, new_app, new_rule, subcommand_of, with_rule, with_subcommand}
 use Rattle.job_ends.specs.declared.failure.Status.{Status}
 use Rattle.job_ends.specs.declared.failure.Status.TheVariants as statuses
@@ -30,6 +31,10 @@ option_rule name = record (new_rule name) { long = Some name; value_names = 1 }
 abbrev pub needed_rule : Text → Rule
 needed_rule name = record (option_rule name) { required = true }
 
+-- `--NAME`, which needn't be there
+abbrev pub flag_rule : Text → Rule
+flag_rule name = record (new_rule name) { long = Some name; action = Some SetTrue }
+
 -- `events FILE`
 abbrev pub events_app : App
 events_app = with_rule (new_app (codes "events")) file_rule
@@ -40,11 +45,11 @@ schedule_app =
     with_rule (with_rule (with_rule (new_app (codes "schedule")) file_rule) (option_rule (codes "picks")))
     (option_rule (codes "trace"))
 
--- `run FILE [--workers N] [--trace OUT]`
+-- `run FILE [--workers N] [--trace OUT] [--certain]`
 abbrev pub run_app : App
 run_app =
-    with_rule (with_rule (with_rule (new_app (codes "run")) file_rule) (option_rule (codes "workers")))
-    (option_rule (codes "trace"))
+    with_rule (with_rule (with_rule (with_rule (new_app (codes "run")) file_rule)
+    (option_rule (codes "workers"))) (option_rule (codes "trace"))) (flag_rule (codes "certain"))
 
 -- `replay FILE [--upgrade OUT]`
 abbrev pub replay_app : App
@@ -94,7 +99,7 @@ program_app = with_subcommand (with_subcommand filed_app stencil_app.top) pipeli
 pub data Asked : Type 0 where
   events : Text → Asked
   schedule : Text → Option Text → Option Text → Asked
-  run : Text → Option Text → Option Text → Asked
+  run : Text → Option Text → Option Text → Bool → Asked
   replay : Text → Option Text → Asked
   certify : Text → Asked
   stencil : Text → Text → Option Text → Asked
@@ -105,8 +110,8 @@ pub data Work : Type 0 where
   answers : Text → Work
   -- without a list there are no picks
   runs : Text → List ℕ → Option Text → Work
-  -- FILE, the workers, OUT
-  works : Text → ℕ → Option Text → Work
+  -- FILE, the workers, OUT, and whether FILE has to be certain
+  works : Text → ℕ → Option Text → Bool → Work
   -- FILE, OUT
   replays : Text → Option Text → Work
   certifies : Text → Work
@@ -119,8 +124,13 @@ pub data Work : Type 0 where
 abbrev pub to_schedule : List Row → Text → Asked
 to_schedule rows file = schedule file (first_of (codes "picks") rows) (first_of (codes "trace") rows)
 
+-- a flag that stands among the words has the value `true`
+abbrev pub has_flag : Text → List Row → Bool
+has_flag name rows = option_map_or (λ value. bytes_eq value (codes "true")) (first_of name rows) false
+
 abbrev pub to_run : List Row → Text → Asked
-to_run rows file = run file (first_of (codes "workers") rows) (first_of (codes "trace") rows)
+to_run rows file =
+    run file (first_of (codes "workers") rows) (first_of (codes "trace") rows) (has_flag (codes "certain") rows)
 
 abbrev pub to_replay : List Row → Text → Asked
 to_replay rows file = replay file (first_of (codes "upgrade") rows)
@@ -177,7 +187,7 @@ pipeline_of _ _ _ = None
 abbrev pub work_for : Asked → Option Work
 work_for (events file) = Some (answers file)
 work_for (schedule file list trace) = option_map (λ picks. runs file picks trace) (listed_in list)
-work_for (run file workers trace) = option_map (λ n. works file n trace) (workers_in workers)
+work_for (run file workers trace certain) = option_map (λ n. works file n trace certain) (workers_in workers)
 work_for (replay file upgrade) = Some (replays file upgrade)
 work_for (certify file) = Some (certifies file)
 work_for (stencil first steps workers) =
@@ -198,7 +208,7 @@ earlier None o = o
 abbrev pub first_bad : Asked → Option Value
 first_bad (events file) = None
 first_bad (schedule file list trace) = unless Picks (listed_in list)
-first_bad (run file workers trace) = unless Workers (workers_in workers)
+first_bad (run file workers trace certain) = unless Workers (workers_in workers)
 first_bad (replay file upgrade) = None
 first_bad (certify file) = None
 first_bad (stencil first steps workers) =
@@ -212,7 +222,7 @@ first_bad (pipeline k items workers) =
 abbrev pub IsInRange : Work → Type 0
 IsInRange (answers file) = ⊤
 IsInRange (runs file picks trace) = ⊤
-IsInRange (works file workers trace) = (0 < workers) × (workers ≤ 16)
+IsInRange (works file workers trace certain) = (0 < workers) × (workers ≤ 16)
 IsInRange (replays file upgrade) = ⊤
 IsInRange (certifies file) = ⊤
 IsInRange (cells first steps workers) =
@@ -224,7 +234,7 @@ IsInRange (stages k items workers) =
 abbrev pub file_of : Work → Option Text
 file_of (answers file) = Some file
 file_of (runs file picks trace) = Some file
-file_of (works file workers trace) = Some file
+file_of (works file workers trace certain) = Some file
 file_of (replays file upgrade) = Some file
 file_of (certifies file) = Some file
 file_of (cells first steps workers) = None
@@ -240,8 +250,8 @@ abbrev pub asked_by : Words → Asked
 asked_by (words.Events file) = events file.now
 asked_by (words.Schedule file picks trace) =
     schedule file.now (option_map (λ t. t.now) picks) (option_map (λ t. t.now) trace)
-asked_by (words.Run file workers trace) =
-    run file.now (option_map (λ t. t.now) workers) (option_map (λ t. t.now) trace)
+asked_by (words.Run file workers trace certain) =
+    run file.now (option_map (λ t. t.now) workers) (option_map (λ t. t.now) trace) certain
 asked_by (words.Replay file upgrade) = replay file.now (option_map (λ t. t.now) upgrade)
 asked_by (words.Certify file) = certify file.now
 asked_by (words.Stencil first steps workers) =
@@ -251,7 +261,7 @@ asked_by (words.Pipeline k items workers) = pipeline k.now items.now (option_map
 abbrev pub work_of : Job → Work
 work_of (jobs.Events file) = answers file.now
 work_of (jobs.Schedule file picks trace) = runs file.now picks.items (option_map (λ t. t.now) trace)
-work_of (jobs.Run file workers trace) = works file.now workers (option_map (λ t. t.now) trace)
+work_of (jobs.Run file workers trace certain) = works file.now workers (option_map (λ t. t.now) trace) certain
 work_of (jobs.Replay file upgrade) = replays file.now (option_map (λ t. t.now) upgrade)
 work_of (jobs.Certify file) = certifies file.now
 work_of (jobs.Stencil first steps workers) = cells first.items steps workers
@@ -293,15 +303,20 @@ abbrev pub option_words : Text → Option Text → List Text
 option_words name None = []
 option_words name (Some value) = name ∷ value ∷ []
 
+-- a flag, where it is wanted
+abbrev pub flag_words : Text → Bool → List Text
+flag_words name is_wanted = if is_wanted then name ∷ [] else []
+
 -- the program's name, the command's, FILE, and then the options
 abbrev pub plain_words : Text → Asked → List Text
 plain_words program (events file) = program ∷ codes "events" ∷ file ∷ []
 plain_words program (schedule file list out) =
     program ∷ codes "schedule" ∷ file
     ∷ (option_words (codes "--picks") list ++ option_words (codes "--trace") out)
-plain_words program (run file workers out) =
+plain_words program (run file workers out certain) =
     program ∷ codes "run" ∷ file
-    ∷ (option_words (codes "--workers") workers ++ option_words (codes "--trace") out)
+    ∷ (option_words (codes "--workers") workers
+    ++ (option_words (codes "--trace") out ++ flag_words (codes "--certain") certain))
 plain_words program (replay file out) =
     program ∷ codes "replay" ∷ file ∷ option_words (codes "--upgrade") out
 plain_words program (certify file) = program ∷ codes "certify" ∷ file ∷ []
@@ -317,7 +332,7 @@ abbrev pub is_plainly_asked : Asked → Bool
 is_plainly_asked (events file) = is_plain file
 is_plainly_asked (schedule file list out) =
     is_plain file && (option_map_or is_plain list true && option_map_or is_plain out true)
-is_plainly_asked (run file workers out) =
+is_plainly_asked (run file workers out certain) =
     is_plain file && (option_map_or is_plain workers true && option_map_or is_plain out true)
 is_plainly_asked (replay file out) = is_plain file && option_map_or is_plain out true
 is_plainly_asked (certify file) = is_plain file

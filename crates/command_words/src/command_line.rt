@@ -22,11 +22,13 @@ pub enum Job<'a> {
         picks: Vec<u32>,
         trace: Option<&'a str>,
     },
-    /// Runs the program by so many workers, and writes the trace into a file of the name `trace`.
+    /// Runs the program by so many workers, and writes the trace into a file of the name `trace`;
+    /// where it has to be `certain`, only if one run of it tells what each comes to.
     Run {
         file: &'a str,
         workers: u32,
         trace: Option<&'a str>,
+        certain: bool,
     },
     /// Replays the trace, and writes it in the newest version into a file of the name `upgrade`.
     Replay {
@@ -209,12 +211,14 @@ fn job_for<'a>(alloc: Global, words: Words<'a>) -> Result<Job<'a>, NoJob>
             file,
             workers,
             trace,
+            certain,
         } => {
             let workers = workers_of(workers)?;
             Ok(Job::Run {
                 file,
                 workers,
                 trace,
+                certain,
             })
         }
         Words::Replay { file, upgrade } => Ok(Job::Replay { file, upgrade }),

@@ -2,11 +2,11 @@
 ghost use Rattle.std.specs.Prelude.{◌≡◌, ◌≢◌, List, Some, map, false, option_map, codes, IfErr, IfOk, MatchResult};
 ghost use Rattle.clap.specs.Words.{app_of, found_of, kind_of, new_app, rows_of, rule_of, with_rule, with_subcommand};
 ghost use Rattle.clap.specs.declared.builder.command.Command.TheViews.{out-Command as fields_of};
-ghost use Rattle.command_words.specs.CommandLine.{Asked, asked_among, asked_by, asked_in, bare_app, certify_app, events_app, file_rule, filed_among, filed_app, needed_rule, option_rule, pipeline_among, pipeline_app, program_app, replay_app, run_app, running_app, schedule_app, stencil_among, stencil_app};
+ghost use Rattle.command_words.specs.CommandLine.{Asked, asked_among, asked_by, asked_in, bare_app, certify_app, events_app, file_rule, filed_among, filed_app, flag_rule, has_flag, needed_rule, option_rule, pipeline_among, pipeline_app, program_app, replay_app, run_app, running_app, schedule_app, stencil_among, stencil_app};
 
 use crate::command_line::{NoJob, Value};
 use clap::error::ErrorKind;
-use clap::{Arg, ArgMatches, Command};
+use clap::{Arg, ArgAction, ArgMatches, Command};
 use std::alloc::{AllocError, Global};
 
 /// A command, with its words.
@@ -24,6 +24,7 @@ pub(crate) enum Words<'a> {
         file: &'a str,
         workers: Option<&'a str>,
         trace: Option<&'a str>,
+        certain: bool,
     },
     Replay {
         file: &'a str,
@@ -96,9 +97,15 @@ const RUN_HELP: &str = "\
 The file is a program, as schedule --help says it. Its tasks are run by N workers, each a thread;
 then the trace of the run is replayed, and the report is that of the replay.
 Lines: phaser N phases K, its folds, task T ended or refused, finish F tasks N, totals.
+With --certain the program is certified before it is run, as certify --help says it. The line certain
+comes last then; a program that isn't certain isn't run.
 A file that isn't a program is refused whole: refused 24 BadText at PLACE, with the number of the
 first bad act, or 0.
-Exit status: 0 done, 1 refused, 2 bad words or this help, 3 a read or a write failed.";
+Exit status: 0 done, 1 refused or not certain, 2 bad words or this help, 3 a read or a write failed.";
+
+/// What `run --help` says of its flag.
+const CERTAIN_HELP: &str =
+    "Runs FILE only if each of its runs that has memory comes to the same report, as certify says it";
 
 /// What the options `--trace` say of OUT.
 const TRACE_HELP: &str =
@@ -254,12 +261,33 @@ fn threads_command<'a>(alloc: Global) -> Result<Command<'a>, AllocError>
 }
 
 /// `run FILE [--workers N] [--trace OUT]`.
-fn run_command<'a>(alloc: Global) -> Result<Command<'a>, AllocError>
-    ensures app { IfOk result (λ c. app_of c ≡ run_app) }
+fn traced_command<'a>(alloc: Global) -> Result<Command<'a>, AllocError>
+    ensures app { IfOk result (λ c. app_of c ≡ with_rule (with_rule (with_rule (new_app (codes "run")) file_rule)
+        (option_rule (codes "workers"))) (option_rule (codes "trace"))) }
     ensures local { IfOk result (λ c. (fields_of c).has_globals ≡ false) }
 {
     let trace = option(alloc, "trace", "OUT", TRACE_HELP);
     threads_command(alloc)?.arg(trace)
+}
+
+/// `--NAME`, which needn't be there.
+fn flag<'a>(alloc: Global, name: &'a str, help: &'a str) -> Arg<'a>
+    ensures rule { rule_of result ≡ flag_rule name.now }
+    ensures local { result.global ≡ false }
+{
+    Arg::new(alloc, name)
+        .long(name)
+        .action(ArgAction::SetTrue)
+        .help(help)
+}
+
+/// `run FILE [--workers N] [--trace OUT] [--certain]`.
+fn run_command<'a>(alloc: Global) -> Result<Command<'a>, AllocError>
+    ensures app { IfOk result (λ c. app_of c ≡ run_app) }
+    ensures local { IfOk result (λ c. (fields_of c).has_globals ≡ false) }
+{
+    let certain = flag(alloc, "certain", CERTAIN_HELP);
+    traced_command(alloc)?.arg(certain)
 }
 
 /// `--NAME VALUE`, which has to be there.
@@ -439,6 +467,17 @@ fn command<'a>(alloc: Global) -> Result<Command<'a>, AllocError>
     command_with_stencil(alloc)?.subcommand(pipeline)
 }
 
+/// Whether the flag of this name stands among the words. `get_flag` answers the same, but its contract
+/// leaves open what it makes of a value that is no truth value.
+fn has_flag(found: &ArgMatches<'_>, name: &str) -> bool
+    ensures { result ≡ has_flag name.now (rows_of (found_of found.now)) }
+{
+    match found.get_str(name) {
+        Some(value) => value == "true",
+        None => false,
+    }
+}
+
 /// What a command of a file is asked for.
 fn filed_among<'a>(name: &str, found: &ArgMatches<'a>) -> Option<Words<'a>>
     ensures { option_map asked_by result ≡ filed_among name.now (rows_of (found_of found.now)) }
@@ -455,6 +494,7 @@ fn filed_among<'a>(name: &str, found: &ArgMatches<'a>) -> Option<Words<'a>>
             file,
             workers: found.get_str("workers"),
             trace: found.get_str("trace"),
+            certain: has_flag(found, "certain"),
         }),
         "replay" => Some(Words::Replay {
             file,

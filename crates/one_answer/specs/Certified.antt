@@ -23,6 +23,10 @@ pub record IsCertified (p : Program) (r : Report) : Type 0 where
   pub roomy : is_roomy p.limits (run_within rounds p []) ≡ true
   pub report : report_of p.limits (run_within rounds p []) ≡ r
 
+-- a program is certified to come to one report alone
+abbrev pub CertificateIsOne : Type 0
+CertificateIsOne = (p : Program) (r s : Report) → IsCertified p r → IsCertified p s → r ≡ s
+
 -- the trace is one of the program's run by rounds
 pub record IsByRounds (p : Program) (t : Run) : Type 0 where
   pub rounds : ℕ

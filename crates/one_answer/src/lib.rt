@@ -3,10 +3,12 @@
 #![tactic(auto)]
 
 mod certificate;
+mod laws;
 mod luck;
 mod trace_luck;
 mod watch;
 
 pub use certificate::{NoAnswer, certify};
+pub use laws::certificate_is_one;
 pub use luck::{Luck, LuckAt};
 pub use trace_luck::first_luck;

@@ -4,17 +4,19 @@
 mod trace_file;
 mod upgrade_file;
 
-ghost use Rattle.std.specs.Prelude.{◌≡◌, ◌≢◌, ◌⊎◌, ◌<◌, ◌≤◌, length, IfSome, Ok, ⊤};
+ghost use Rattle.std.specs.Prelude.{◌≡◌, ◌≢◌, ◌⊎◌, ◌<◌, ◌≤◌, length, true, IfSome, Ok, ⊤};
 ghost use Rattle.events_text.specs.Form.{Form};
 ghost use Rattle.job_script.specs.Program.{Program};
 ghost use Rattle.job_ends.specs.Ends.{status_of};
 ghost use Rattle.command_words.specs.CommandLine.{IsInRange, no_job_status, work_of};
 ghost use Rattle.events_job.specs.File.{file_spelled};
 ghost use Rattle.program_texts.specs.Texts.{program_spelled};
+ghost use Rattle.certify_job.specs.Certificate.{Certifies};
 ghost use Rattle.replay_job.specs.Replayed.{Explains};
 
 use crate::trace_file::make_out;
 use crate::upgrade_file::Upgraded;
+use certain_job::certain_on;
 use certify_job::certify_on;
 use command_words::{Job, NoJob, job_of};
 use events_job::events_from;
@@ -133,7 +135,8 @@ fn do_on<H: Threads + Wait + Sync, R: Read>(
             file,
             workers,
             trace,
-        } => run_program(rt, threads, *workers, file, *trace, reader),
+            certain,
+        } => run_program(rt, threads, *workers, *certain, file, *trace, reader),
         Job::Replay { upgrade, .. } => replay(rt, *upgrade, reader),
         Job::Certify { .. } => certify(rt, reader),
         Job::Stencil {
@@ -203,11 +206,13 @@ fn schedule_into<R: Read>(
     }
 }
 
-/// Makes or empties OUT, where it is named, and runs the program that the reader gives by workers.
+/// Makes or empties OUT, where it is named, and runs the program that the reader gives by workers,
+/// where it has to be certain only if it is certified.
 fn run_program<H: Threads + Wait + Sync, R: Read>(
     rt: &HostRuntime,
     threads: &H,
     workers: u32,
+    certain: bool,
     file: &str,
     out_name: Option<&str>,
     reader: &mut R,
@@ -215,13 +220,16 @@ fn run_program<H: Threads + Wait + Sync, R: Read>(
     requires { (0 < workers) × (workers ≤ 16) }
     ensures done { result ≡ Status.Done → IfSome (R.remaining reader.old) (λ all.
         (p : Program) × (program_spelled all ≡ Ok p)) }
+    // Where it has to be certain, it is.
+    ensures certain { certain ≡ true → result ≡ Status.Done → IfSome (R.remaining reader.old) (λ all.
+        Certifies all (λ r. ⊤)) }
     ensures usage { result ≢ Status.Usage }
 {
     let Some(name) = out_name else {
-        return run_into(rt, threads, workers, &mut None::<File>, reader);
+        return run_into(rt, threads, workers, certain, &mut None::<File>, reader);
     };
     match make_out(rt, file, name) {
-        Ok(out) => run_into(rt, threads, workers, &mut Some(out), reader),
+        Ok(out) => run_into(rt, threads, workers, certain, &mut Some(out), reader),
         Err(failure) => failed(rt, failure),
     }
 }
@@ -231,29 +239,59 @@ fn run_into<H: Threads + Wait + Sync, R: Read>(
     rt: &HostRuntime,
     threads: &H,
     workers: u32,
+    certain: bool,
     trace_out: &mut Option<File>,
     reader: &mut R,
 ) -> Status
     requires { (0 < workers) × (workers ≤ 16) }
     ensures done { result ≡ Status.Done → IfSome (R.remaining reader.old) (λ all.
         (p : Program) × (program_spelled all ≡ Ok p)) }
+    ensures certain { certain ≡ true → result ≡ Status.Done → IfSome (R.remaining reader.old) (λ all.
+        Certifies all (λ r. ⊤)) }
     ensures usage { result ≢ Status.Usage }
 {
     let (alloc, mut reads) = (rt.alloc(), Reads::none());
     match bytes_of(alloc, reader, &mut reads, program_texts::MOST_BYTES) {
-        Ok(bytes) => {
-            let (mut out, mut faults) = (rt.stdout(), rt.stderr());
-            run_on(
-                threads,
-                alloc,
-                &bytes,
-                workers,
-                &mut out,
-                &mut faults,
-                trace_out,
-            )
-        }
+        Ok(bytes) => run_bytes(rt, threads, workers, certain, trace_out, &bytes),
         Err(failure) => failed(rt, failure),
+    }
+}
+
+/// Runs the program of these bytes by workers, and prints the report on standard output.
+fn run_bytes<H: Threads + Wait + Sync>(
+    rt: &HostRuntime,
+    threads: &H,
+    workers: u32,
+    certain: bool,
+    trace_out: &mut Option<File>,
+    bytes: &[u8],
+) -> Status
+    requires { (0 < workers) × (workers ≤ 16) }
+    ensures done { result ≡ Status.Done → (p : Program) × (program_spelled bytes.now ≡ Ok p) }
+    ensures certain { certain ≡ true → result ≡ Status.Done → Certifies bytes.now (λ r. ⊤) }
+    ensures usage { result ≢ Status.Usage }
+{
+    let (alloc, mut out, mut faults) = (rt.alloc(), rt.stdout(), rt.stderr());
+    if certain {
+        certain_on(
+            threads,
+            alloc,
+            bytes,
+            workers,
+            &mut out,
+            &mut faults,
+            trace_out,
+        )
+    } else {
+        run_on(
+            threads,
+            alloc,
+            bytes,
+            workers,
+            &mut out,
+            &mut faults,
+            trace_out,
+        )
     }
 }
 

@@ -6,4 +6,4 @@ mod reading;
 mod writing;
 
 pub use reading::{MOST_BYTES, program_of};
-pub use writing::put_run;
+pub use writing::{put_run, put_trace};

@@ -38,8 +38,10 @@ fn text_of(alloc: Global, trace: &Trace) -> Result<String, Failure>
     }
 }
 
-/// Writes the text of the trace to OUT, where there is an OUT.
-fn put_trace<T: Write>(
+/// Writes the text of the trace to OUT, where there is an OUT. Nothing is written before the text is
+/// there. `Memory` where there is too little for it; `Write` where it can't be written, and then there
+/// may be a part of it.
+pub fn put_trace<T: Write>(
     alloc: Global,
     trace: &Trace,
     trace_out: &mut Option<T>,

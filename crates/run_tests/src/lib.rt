@@ -1,11 +1,13 @@
 //! Tests of what runs on workers, and of what each run comes to, which call what these crates export: the
-//! jobs `run_job`, `kernels_job` and `certify_job`, and below them `phased_rt`, `task_queue`, `job_kernels`,
+//! jobs `run_job`, `kernels_job`, `certify_job` and `certain_job`, and below them `phased_rt`, `task_queue`, `job_kernels`,
 //! `body_follows` and `one_answer`.
 //!
 //! A library of tests alone: where they stood in the crates themselves, these would be proved once
 //! more with each change of a test.
 #![tactic(auto)]
 
+#[cfg(test)]
+mod certain_runs;
 #[cfg(test)]
 mod certificates;
 #[cfg(test)]

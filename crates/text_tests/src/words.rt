@@ -152,16 +152,18 @@ fn schedule_words(rt: HostRuntime) {
     }
 }
 
-/// Words of `run p`, with the workers and OUT that they name.
-type Ran = (&'static [&'static str], u32, Option<&'static str>);
+/// Words of `run p`, with the workers and OUT that they name, and whether `p` has to be certain.
+type Ran = (&'static [&'static str], u32, Option<&'static str>, bool);
 
-/// The words name the run of `p` by so many workers, with this OUT.
+/// The words name the run of `p` by so many workers, with this OUT, of a `p` that has to be certain
+/// or not.
 fn runs<'a>(
     rt: &impl Abort,
     alloc: Global,
     arguments: &'a [&'a str],
     wanted: u32,
     out: Option<&str>,
+    has_to_be_certain: bool,
 ) {
     match job_of(alloc, arguments) {
         Ok(
@@ -169,11 +171,13 @@ fn runs<'a>(
                 file,
                 workers,
                 trace,
+                certain,
             },
         ) => {
             assert_eq!(rt; file, "p");
             assert_eq!(rt; workers, wanted);
             assert_eq!(rt; trace, out);
+            assert_eq!(rt; certain, has_to_be_certain);
         }
         _ => panic!(rt; "no run: {arguments:?}"),
     }
@@ -181,19 +185,43 @@ fn runs<'a>(
 
 #[test]
 fn run_words(rt: HostRuntime) {
-    const ROWS: [Ran; 5] = [
-        (&["phaser_run", "run", "p"], 2, None),
-        (&["phaser_run", "run", "p", "--workers", "1"], 1, None),
-        (&["phaser_run", "run", "--workers=16", "p"], 16, None),
-        (&["phaser_run", "run", "--trace", "t", "p"], 2, Some("t")),
+    const ROWS: [Ran; 8] = [
+        (&["phaser_run", "run", "p"], 2, None, false),
+        (
+            &["phaser_run", "run", "p", "--workers", "1"],
+            1,
+            None,
+            false,
+        ),
+        (&["phaser_run", "run", "--workers=16", "p"], 16, None, false),
+        (
+            &["phaser_run", "run", "--trace", "t", "p"],
+            2,
+            Some("t"),
+            false,
+        ),
         (
             &["phaser_run", "run", "p", "--trace", "t", "--workers", "007"],
             7,
             Some("t"),
+            false,
+        ),
+        (&["phaser_run", "run", "p", "--certain"], 2, None, true),
+        (
+            &["phaser_run", "run", "--certain", "--workers", "3", "p"],
+            3,
+            None,
+            true,
+        ),
+        (
+            &["phaser_run", "run", "p", "--trace", "t", "--certain"],
+            2,
+            Some("t"),
+            true,
         ),
     ];
-    for (arguments, workers, out) in ROWS {
-        runs(&rt, rt.alloc(), arguments, workers, out);
+    for (arguments, workers, out, certain) in ROWS {
+        runs(&rt, rt.alloc(), arguments, workers, out, certain);
     }
 }
 

@@ -141,7 +141,7 @@ fn bad_replays(rt: HostRuntime) -> Result<(), Fail> {
 #[test]
 fn bad_runs(rt: HostRuntime) -> Result<(), Fail> {
     const WORKERS: &str = "error: the workers are a number of 1 to 16\n";
-    const ROWS: [Row; 9] = [
+    const ROWS: [Row; 14] = [
         (&["phaser_run", "run"], "<FILE>"),
         (&["phaser_run", "run", "a", "--workers"], "--workers <N>"),
         (&["phaser_run", "run", "a", "--workers", "0"], WORKERS),
@@ -156,6 +156,23 @@ fn bad_runs(rt: HostRuntime) -> Result<(), Fail> {
         (
             &["phaser_run", "run", "a", "--picks", "1"],
             "unexpected argument '--picks'",
+        ),
+        (&["phaser_run", "run", "--certain"], "<FILE>"),
+        (
+            &["phaser_run", "run", "a", "--certain", "--certain"],
+            "cannot be used multiple times",
+        ),
+        (
+            &["phaser_run", "run", "a", "--certain=yes"],
+            "unexpected value 'yes'",
+        ),
+        (
+            &["phaser_run", "schedule", "a", "--certain"],
+            "unexpected argument '--certain'",
+        ),
+        (
+            &["phaser_run", "certify", "a", "--certain"],
+            "unexpected argument '--certain'",
         ),
     ];
     all_bad(&rt, rt.alloc(), ROWS.as_slice())
@@ -230,9 +247,13 @@ fn bad_kernels(rt: HostRuntime) -> Result<(), Fail> {
 
 #[test]
 fn help(rt: HostRuntime) -> Result<(), Fail> {
-    const ROWS: [Row; 9] = [
+    const ROWS: [Row; 10] = [
         (&["phaser_run", "--help"], "Exit status: 0 done"),
         (&["phaser_run", "run", "--help"], "--workers <N>"),
+        (
+            &["phaser_run", "run", "--help"],
+            "With --certain the program is certified",
+        ),
         (&["phaser_run", "stencil", "--help"], "--first <LIST>"),
         (&["phaser_run", "pipeline", "--help"], "--stages <K>"),
         (&["phaser_run", "-h"], "Applies the calls of an events file"),

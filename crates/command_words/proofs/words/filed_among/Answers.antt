@@ -34,7 +34,7 @@ returns-in-run c =
     c.get_str-in-run.ensures ∙ first_value-rows (found_of c.args.found.now) _ in
     let trace =
     c.get_str-in-run-2.ensures ∙ first_value-rows (found_of c.args.found.now) _ in
-    search (rules, is, workers, trace)
+    search (rules, is, workers, trace, c.has_flag.ensures)
 
 pub returns-in-replay : goal.returns-in-replay
 returns-in-replay c =

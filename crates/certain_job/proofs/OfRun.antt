@@ -1,0 +1,40 @@
+-- A run of a certified program in which luck has no part has the certified report; and why its texts aren't written.
+use Rattle.std.proofs.Common.{◌≡◌, ℕ, List, Ok, true, inl, inr, ap, sym, subst, ◌∙◌}
+use Rattle.job_script.specs.Program.{Program}
+use Rattle.job_ends.specs.declared.failure.Failure as failures
+use Rattle.world_model.specs.Report.{Report, report_of}
+use Rattle.trace_model.specs.Run.{Run}
+use Rattle.trace_model.specs.Explained.{is_explained}
+use Rattle.schedule_model.specs.Follows.{follows}
+use Rattle.schedule_run.specs.Following as following
+use Rattle.program_texts.specs.Texts.{IsOfTexts, history, program_spelled}
+use Rattle.one_answer.specs.Certified.{IsCertified}
+use Rattle.one_answer.specs.Luck.{is_all_steady}
+use Rattle.one_answer.proofs.Whole.{has_certified_report, program_run}
+use Rattle.run_job.specs.Worked.{IsOfRun, IsRunOf}
+use Rattle.run_job.proofs.Turned.{turned}
+
+pub is_run : (p : Program) (t : Run) → t.limits ≡ p.limits → is_explained t ≡ true
+    → follows p (following.history t.events) ≡ true → IsRunOf p t
+is_run p t limits explained follows_it = record {
+  limits = limits;
+  explained = explained;
+  follows_it = ap (λ w. follows p w) (turned t.events) ∙ follows_it;
+}
+
+pub of_run : (p : Program) (t : Run) (r : Report) → IsCertified p r → IsRunOf p t
+    → is_all_steady t.limits (following.history t.events) ≡ true → IsCertified p (report_of p.limits (history t))
+of_run p t r certified ran steady =
+    subst (λ s. IsCertified p s)
+    (sym (has_certified_report p r (history t) certified (program_run p t (record {
+      limits = ran.limits;
+      explained = ran.explained;
+      follows_it = ran.follows_it;
+      steady = steady;
+    })))) certified
+
+-- a run fails by its texts for want of memory, or by a write
+pub of_texts : (bytes : List ℕ) (p : Program) → program_spelled bytes ≡ Ok p → (f : failures.Failure) → IsOfTexts f
+    → IsOfRun bytes f
+of_texts bytes p spelled f (inl e) = subst (λ f. IsOfRun bytes f) (sym e) tt
+of_texts bytes p spelled f (inr e) = subst (λ f. IsOfRun bytes f) (sym e) (p, spelled)

@@ -1,0 +1,57 @@
+-- The report that was written is the certified one, since luck has no part in the run.
+use Rattle.std.proofs.Common.{rules, ◌≡◌, true, inr, ap, ◌∙◌}
+use Rattle.std.proofs.lemmas.Result.{err_from_is_err_and}
+use Rattle.world_model.specs.Report.{Report, report_of}
+use Rattle.schedule_run.specs.Following as following
+use Rattle.program_texts.specs.Texts.{history}
+use Rattle.one_answer.specs.Certified.{IsCertified}
+use Rattle.one_answer.specs.Luck.{is_all_steady}
+use Rattle.certify_job.specs.Certificate.{certificate_text}
+use Rattle.certain_job.proofs.OfRun.{is_run, of_run, of_texts}
+use Rattle.certain_job.proofs.working.certain_bytes.Goals as goal
+
+pub returns-in-Some-clause-no_certificate : goal.returns-in-Some-clause-no_certificate
+returns-in-Some-clause-no_certificate g c =
+    let program = c.in_ok-program.program in
+    let trace = c.in_ok-report.report.trace in
+    let made = c.in_ok-report.ensures in
+    inr (
+      program,
+      trace,
+      search rules,
+      is_run program trace (made.limits ∙ c.limits.ensures.limits) made.explained (search rules),
+      (search rules, search rules),
+    )
+
+pub returns-in_err-put_certain-clause-refused : goal.returns-in_err-put_certain-clause-refused
+returns-in_err-put_certain-clause-refused g c =
+    let p = err_from_is_err_and c.from_residual-in_err-put_certain.result
+    c.from_residual-in_err-put_certain.ensures.1 in
+    rw (p.1, p.2) c.in_err-put_certain.ensures.refused
+
+pub returns-in_err-put_certain-clause-no_certificate :
+    goal.returns-in_err-put_certain-clause-no_certificate
+returns-in_err-put_certain-clause-no_certificate g c =
+    let p = err_from_is_err_and c.from_residual-in_err-put_certain.result
+    c.from_residual-in_err-put_certain.ensures.1 in
+    rw (p.1, p.2) (of_texts _ c.in_ok-program.program (search rules) _ c.in_err-put_certain.ensures.failure)
+
+pub returns-clause-done : goal.returns-clause-done
+returns-clause-done g c =
+    let program = c.in_ok-program.program in
+    let trace = c.in_ok-report.report.trace in
+    let made = c.in_ok-report.ensures in
+    let limits = c.limits.ensures.limits in
+    let ran = is_run program trace (made.limits ∙ limits) made.explained (search rules) in
+    let certified : (r : Report) × IsCertified program r = search rules in
+    let steady : is_all_steady trace.limits (following.history trace.events) ≡ true = search rules in
+    let lines = ap certificate_text (made.world ∙ ap (λ l. report_of l (history trace)) limits) in (
+      program,
+      trace,
+      search rules,
+      ran,
+      (
+        of_run program trace certified.0 certified.1 ran steady,
+        (search (rules, lines), search rules),
+      ),
+    )

@@ -1,0 +1,7 @@
+//! Runs a program's text by workers where it is certified, and writes the trace of the run and the
+//! certificate.
+#![tactic(auto)]
+
+mod working;
+
+pub use working::{certain_bytes, certain_on, ending_on};

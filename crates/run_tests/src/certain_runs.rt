@@ -1,0 +1,121 @@
+//! Runs of programs that have to be certain: the lines are the certificate's, by any number of workers.
+ghost use Rattle.std.specs.Prelude.{◌<◌, ◌≤◌};
+
+use crate::certificates::{CROWD, TWO_MAKERS, TWO_SENDERS, TWO_SENDERS_CERTIFICATE};
+use certain_job::{certain_bytes, certain_on, ending_on};
+use certify_job::NoCertificate;
+use job_ends::Status;
+use one_answer::{Luck, LuckAt};
+use std::alloc::Global;
+use std::process::Abort;
+use std::sync::Wait;
+use std::thread::Threads;
+
+/// How a run that has to be certain ends, with its lines and what is reported.
+#[derive(Clone, Copy)]
+struct Ended {
+    status: Status,
+    lines: &'static str,
+    faults: &'static str,
+}
+
+/// Runs the text by as many workers, and compares how that ends. A trace is written where there are
+/// lines, and else none.
+fn check_by<R: Abort + Threads + Wait + Sync>(
+    rt: &R,
+    alloc: Global,
+    text: &str,
+    workers: u32,
+    wanted: &Ended,
+)
+    requires { (0 < workers) × (workers ≤ 16) }
+{
+    let mut out = Vec::new(alloc);
+    let mut reported = Vec::new(alloc);
+    let mut trace: Option<Vec<u8>> = Some(Vec::new(alloc));
+    let ended = certain_on(
+        rt,
+        alloc,
+        text.as_bytes(),
+        workers,
+        &mut out,
+        &mut reported,
+        &mut trace,
+    );
+    assert_eq!(rt; ended, wanted.status, "{text}");
+    assert_eq!(rt; out.as_slice(), wanted.lines.as_bytes(), "{text}");
+    assert_eq!(rt; reported.as_slice(), wanted.faults.as_bytes(), "{text}");
+    let is_traced = trace.is_some_and(|written| !written.is_empty());
+    assert_eq!(rt; is_traced, wanted.status == Status::Done, "{text}");
+}
+
+/// By 1, 2 and 16 workers the text's run ends so.
+fn check<R: Abort + Threads + Wait + Sync>(rt: &R, alloc: Global, text: &str, wanted: &Ended) {
+    check_by(rt, alloc, text, 1, wanted);
+    check_by(rt, alloc, text, 2, wanted);
+    check_by(rt, alloc, text, 16, wanted);
+}
+
+#[test]
+fn certain_runs(rt: HostRuntime) {
+    let wanted = Ended {
+        status: Status::Done,
+        lines: TWO_SENDERS_CERTIFICATE,
+        faults: "",
+    };
+    check(&rt, rt.alloc(), TWO_SENDERS, &wanted);
+}
+
+/// Texts whose program isn't certain, and what is said of each.
+const UNCERTAIN: [(&str, &str); 3] = [
+    (TWO_MAKERS, "luck at 8: task 2 draws phaser 1\n"),
+    (CROWD, "luck at 8: task 0 registers task 2 on phaser 0\n"),
+    (
+        r#"{"main":[["next"],["jump"]]}"#,
+        "refused 24 BadText at 2\n",
+    ),
+];
+
+#[test]
+fn uncertain_programs_are_not_run(rt: HostRuntime) {
+    for (text, faults) in UNCERTAIN {
+        let wanted = Ended {
+            status: Status::Refused,
+            lines: "",
+            faults,
+        };
+        check(&rt, rt.alloc(), text, &wanted);
+    }
+}
+
+#[test]
+fn why_a_program_is_not_run(rt: HostRuntime) {
+    let mut out = Vec::new(rt.alloc());
+    let mut nowhere: Option<Vec<u8>> = None;
+    let answer = certain_bytes(&rt, rt.alloc(), CROWD.as_bytes(), 2, &mut out, &mut nowhere);
+    let at = LuckAt {
+        place: 8,
+        luck: Luck::Registered(0, 2, 0),
+    };
+    assert_eq!(&rt; answer, Err(NoCertificate::Luck(at)));
+    assert_eq!(&rt; out.len(), 0);
+}
+
+// Lines that can't be written are a fault.
+#[test]
+fn a_certain_run_that_cannot_be_written(rt: HostRuntime) {
+    let mut full = [0u8; 20];
+    let mut faults = Vec::new(rt.alloc());
+    let mut nowhere: Option<Vec<u8>> = None;
+    let ended = ending_on(
+        &rt,
+        rt.alloc(),
+        TWO_SENDERS.as_bytes(),
+        2,
+        &mut &mut full[..],
+        &mut faults,
+        &mut nowhere,
+    );
+    assert_eq!(&rt; ended.status, Status::Fault);
+    assert_eq!(&rt; faults.as_slice(), b"fault write\n".as_slice());
+}
