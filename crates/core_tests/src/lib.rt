@@ -10,8 +10,6 @@ mod cells;
 #[cfg(test)]
 mod finishes;
 #[cfg(test)]
-mod fronts;
-#[cfg(test)]
 mod histories;
 #[cfg(test)]
 mod lines;

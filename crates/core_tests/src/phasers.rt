@@ -15,6 +15,7 @@ mod blank;
 mod comparing;
 mod examples;
 mod generator;
+mod hindmost;
 mod peer;
 mod side_by_side;
 mod waiting;

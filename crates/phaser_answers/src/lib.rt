@@ -1,7 +1,10 @@
-//! What a phaser's calls return that have an answer of their own, and how a task is registered, both
-//! by the history alone. It runs nothing: a phaser keeps to it, and a world's steps are told by it.
+//! What a phaser's calls return that have an answer of their own, the same as replies, and how a
+//! task is registered, all by the history alone: a phaser keeps to it, and a world's steps are told
+//! by it.
 #![tactic(auto)]
 
 mod answer;
+mod replies;
 
 pub use answer::{Passing, Signalling};
+pub use replies::{done_reply, look_reply, pass_reply, signal_reply};

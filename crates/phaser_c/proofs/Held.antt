@@ -22,7 +22,7 @@ use Rattle.std.specs.contracts.impls.GlobalAllocator.TheImpl.{ghosts}
 use Rattle.std.specs.Box.Ownership.{box_owns}
 use Rattle.std.specs.declared.alloc.Global.{Global}
 use Rattle.std.proofs.GlobalToken.{dealloc_token-Testable}
-use Rattle.phaser_core.specs.Phaser.{Phaser}
+use Rattle.phaser_engine.specs.Phaser.{Phaser}
 use Rattle.phaser_core.specs.contracts.state.PhaserState.{the_row as R}
 use Rattle.phaser_c.specs.contracts.handle.Handle as handle
 use Rattle.phaser_c.specs.Held.{chunk, held}

@@ -4,8 +4,8 @@ use Rattle.std.specs.Option.{option_map}
 use Rattle.phase_model.specs.declared.op.Look.{Look}
 use Rattle.phase_model.specs.Phases.{is_closed}
 use Rattle.phase_model.specs.Values.{fold, sent}
-use Rattle.phaser_core.specs.Phaser.{Phaser}
-use Rattle.phaser_core.specs.Window.{is_needed}
+use Rattle.phaser_engine.specs.Phaser.{Phaser}
+use Rattle.phaser_engine.specs.Window.{is_needed}
 use Rattle.phaser_c.specs.Answers.{number_of_answer, number_of_fold, value_of_fold}
 use Rattle.phaser_c.specs.declared.answer.Answer.TheVariants.{Closed}
 

@@ -6,7 +6,7 @@ use Rattle.phase_model.specs.declared.call.Call.{Call}
 use Rattle.phase_model.specs.declared.call.Reply.{Reply}
 use Rattle.phase_model.specs.Replies.{reply, returned, after}
 use Rattle.phase_modes.specs.declared.refusal.Refusal.TheVariants.{Memory}
-use Rattle.phaser_core.specs.Phaser.{Phaser}
+use Rattle.phaser_engine.specs.Phaser.{Phaser}
 use Rattle.phaser_c.specs.declared.answer.Answer.{Answer}
 use Rattle.phaser_c.specs.declared.answer.Answer.TheVariants.{Done, Open, Refused}
 

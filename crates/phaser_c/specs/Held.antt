@@ -7,7 +7,7 @@ use denote.RawPtr.{Ptr, block_ptr, null_ptr}
 use Rattle.std.specs.Box.Ownership.{box_owns}
 use Rattle.std.specs.declared.alloc.Global.{Global}
 use Rattle.std.specs.contracts.impls.GlobalAllocator.TheImpl.{ghosts}
-use Rattle.phaser_core.specs.Phaser.{Phaser}
+use Rattle.phaser_engine.specs.Phaser.{Phaser}
 use Rattle.phaser_core.specs.contracts.state.PhaserState.{the_row}
 
 -- the C library's heap

@@ -4,7 +4,7 @@ use Rattle.phase_modes.specs.declared.refusal.Refusal.TheVariants.{Memory}
 use Rattle.phase_model.specs.Rules.{Story}
 use Rattle.trace_model.specs.Told.{phaser_told}
 use Rattle.trace_text.specs.Text.{trace_text}
-use Rattle.phaser_core.specs.Phaser.{Phaser}
+use Rattle.phaser_engine.specs.Phaser.{Phaser}
 use Rattle.phaser_c.specs.Answers.{number_of_answer}
 use Rattle.phaser_c.specs.Told.{IsTold}
 use Rattle.phaser_c.specs.declared.answer.Answer.{Answer}

@@ -1,6 +1,6 @@
 //! The numbers by which C is answered. The enum `paldwosk_answer` of the header has each by name.
 ghost use Rattle.std.specs.Prelude.{◌≡◌};
-ghost use Rattle.phaser_core.specs.Outcomes.{signal_reply, pass_reply};
+ghost use Rattle.phaser_answers.specs.Outcomes.{signal_reply, pass_reply};
 ghost use Rattle.phaser_c.specs.Answers.{number_of_answer, answer_for};
 
 use phase_model::{Look, Reply};

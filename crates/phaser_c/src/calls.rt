@@ -1,7 +1,7 @@
 //! The calls on a phaser.
 ghost use Rattle.std.specs.Prelude.{◌≡◌, ◌≤◌, None, Some, IfSome, MatchOption};
 ghost use Rattle.phase_model.specs.declared.call.Call.TheVariants.{Make as make, Register as register, Signal as signal, Pass as pass, SingleDone as single_done, Send as send, Look as look, Drop as drop_task};
-ghost use Rattle.phaser_core.specs.Outcomes.{pass_reply};
+ghost use Rattle.phaser_answers.specs.Outcomes.{pass_reply};
 ghost use Rattle.phaser_c.specs.Answers.{number_of_answer, number_given, value_given, number_for};
 ghost use Rattle.phaser_c.specs.Calls.{story, answered, gone_on};
 ghost use Rattle.phaser_c.specs.Given.{mode_of};

@@ -2,7 +2,7 @@
 ghost use Rattle.std.specs.Prelude.{◌≡◌, None, Some, MatchOption};
 ghost use Rattle.std.specs.declared.option.Option.{Option};
 ghost use Rattle.std.specs.Coded.{coded_option};
-ghost use Rattle.phaser_core.specs.Phaser.{Phaser};
+ghost use Rattle.phaser_engine.specs.Phaser.{Phaser};
 ghost use Rattle.phaser_core.specs.contracts.state.PhaserState.{the_row as phaser_row};
 ghost use Rattle.phaser_c.specs.Held.{held};
 

@@ -24,7 +24,7 @@ use Rattle.phase_model.specs.Waiting.{can_free, can_free_signal}
 use Rattle.phase_model.proofs.OrderingLaw.{legal_is_ordered}
 use Rattle.phase_model.proofs.Replied.{settled_done, done_is_allowed, legal_after}
 use Rattle.phaser_answers.specs.Answers.{signal_result, pass_result, look_result}
-use Rattle.phaser_core.proofs.Reading.{history_fits}
+use Rattle.phaser_core.proofs.Limits.{history_fits}
 use Rattle.share_book.specs.Accounts.{Entry}
 use Rattle.scope_locks.specs.declared.parked.Parked.{Parked}
 use Rattle.scope_locks.specs.Amounts.{weight, amount_if, plus_nothing}

@@ -18,7 +18,7 @@ use denote.Triple.Walked.{Stays, walk_of}
 use Rattle.std.specs.declared.option.Option.{Option}
 use Rattle.std.specs.declared.option.Option.TheVariants.{None}
 use Rattle.std.proofs.raw_atomic.Walks.{proved_at, leaves}
-use Rattle.phaser_core.specs.Phaser.{Phaser}
+use Rattle.phaser_engine.specs.Phaser.{Phaser}
 use Rattle.phaser_c.proofs.Held.{word, word_good, handle_in}
 use Rattle.phaser_c.specs.contracts.handle.Handle.closed.{ended, clauses}
 use Rattle.phaser_c.specs.contracts.handle.Handle.closed.Key.{name as #self}

@@ -1,8 +1,0 @@
--- What contracts see of a phaser.
-use Rattle.std.specs.Prelude.{ℕ}
-use Rattle.phase_model.specs.Rules.{Story}
-
--- its limits, operators, bound and past events, and how many comparisons of task numbers its last call made
-pub record Phaser : Type 0 where
-  pub story : Story
-  pub compared : ℕ

@@ -1,0 +1,9 @@
+pub mod Lazy
+pub mod Line
+pub mod Making
+pub mod Outcomes
+pub mod Phaser
+pub mod Rears
+pub mod Table
+pub mod Turns
+pub mod Window

@@ -1,0 +1,43 @@
+//! Questions on one task of a phaser. They change nothing.
+ghost use Rattle.std.specs.Prelude.{◌≡◌};
+ghost use Rattle.phase_model.specs.Rules.{is_permitted};
+ghost use Rattle.phaser_answers.specs.Registration.{registration};
+
+use crate::state::Engine;
+use crate::view::{View, view_of};
+use phase_model::Event;
+use phase_modes::Reg;
+use reg_table::Comparisons;
+
+impl Engine {
+    /// How the task is registered now.
+    pub fn registration(&self, task: u32) -> Option<Reg>
+        ensures { result ≡ registration task self.now.story.past }
+    {
+        let mut comparisons = Comparisons::none();
+        match self.table.find(task, &mut comparisons) {
+            Some((_, entry)) => Some(entry.reg),
+            None => None,
+        }
+    }
+
+    /// Whether the task may claim the single of its phase: its next `pass` then claims it.
+    pub fn may_claim(&self, task: u32) -> bool
+        ensures { result
+            ≡ is_permitted self.now.story.limits self.now.story.terms self.now.story.past (Event.Claim task) }
+    {
+        let mut comparisons = Comparisons::none();
+        let view = view_of!(self);
+        view.is_claimer(task, &mut comparisons)
+    }
+
+    /// Whether the task may report the single done that it claimed.
+    pub fn may_report(&self, task: u32) -> bool
+        ensures { result
+            ≡ is_permitted self.now.story.limits self.now.story.terms self.now.story.past (Event.Did task) }
+    {
+        let mut comparisons = Comparisons::none();
+        let view = view_of!(self);
+        view.is_reporter(task, &mut comparisons)
+    }
+}

@@ -1,0 +1,7 @@
+//! A phaser's history that only proofs read: its limits, what it was made with, and how many events
+//! there were. No event is stored.
+#![tactic(auto)]
+
+mod told;
+
+pub use told::Told;
