@@ -1,5 +1,6 @@
 //! A phaser called from outside: each call is a row of a table beside its reply, and the state that
 //! the calls leave is compared with the plain functions over its history.
+use crate::drawn::Dice;
 use phase_model::{
     Bound, Call, Event, History, Look, Ops, Reply, Terms, allowed, claimed, closed, did, explain,
     fold, live, proposed, signals, waits,

@@ -1,7 +1,8 @@
 //! The state and the slow phaser side by side, over many calls.
-use super::generator::Dice;
+use super::generator::call;
 use super::peer::expected;
 use super::*;
+use crate::drawn::without_number;
 
 /// Which call it is. A signal with a number proposes.
 #[derive(Clone, Copy, Debug, PartialEq, Eq)]
@@ -83,16 +84,6 @@ fn verb_of(call: Call) -> Verb {
     }
 }
 
-/// The reply with its number made 0.
-fn without_number(reply: Reply) -> Reply {
-    match reply {
-        Reply::Phase(_) => Reply::Phase(0),
-        Reply::Claim(_) => Reply::Claim(0),
-        Reply::Saw(Look::Value(_)) => Reply::Saw(Look::Value(0)),
-        other => other,
-    }
-}
-
 /// How often each kind came.
 #[derive(Drop)]
 struct Tally {
@@ -168,7 +159,7 @@ fn call_both(
     tally: &mut Tally,
 ) {
     for _ in 0..120 {
-        let call = dice.call(peer);
+        let call = call(dice, peer);
         let reply = step(rt, state, peer, call);
         tally.add(call, reply);
     }

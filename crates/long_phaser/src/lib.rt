@@ -1,0 +1,9 @@
+//! A phaser that lives as long as its program: its memory hangs on its bound, and on nothing that
+//! was ever done on it.
+#![tactic(auto)]
+
+mod laws;
+mod phaser;
+
+pub use laws::long_has_room;
+pub use phaser::LongPhaser;
