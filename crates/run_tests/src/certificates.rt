@@ -17,16 +17,19 @@ const TWO_SENDERS_REPORT: &str = "phaser 0 phases 2\nphaser 0 phase 0 acc 0 valu
     phaser 0 phase 1 acc 0 value 30\ntask 0 ended\ntask 1 ended\ntask 2 ended\nfinish 0 tasks 2\n\
     totals registered 3 signals 4 passes 4 drops 3 sends 4 up 33 down 0\n";
 
-pub(crate) const TWO_SENDERS_CERTIFICATE: &str = "phaser 0 phases 2\nphaser 0 phase 0 acc 0 value 3\n\
+pub(crate) const TWO_SENDERS_CERTIFICATE: &str =
+    "phaser 0 phases 2\nphaser 0 phase 0 acc 0 value 3\n\
     phaser 0 phase 1 acc 0 value 30\ntask 0 ended\ntask 1 ended\ntask 2 ended\nfinish 0 tasks 2\n\
     totals registered 3 signals 4 passes 4 drops 3 sends 4 up 33 down 0\ncertain\n";
 
 // Two children make a phaser each: who comes first gets number 0.
-pub(crate) const TWO_MAKERS: &str = r#"{"main":[["async",[],[["new","a","SIG",["sum"]],["send","a",0,1],
+pub(crate) const TWO_MAKERS: &str =
+    r#"{"main":[["async",[],[["new","a","SIG",["sum"]],["send","a",0,1],
     ["next"]]],["async",[],[["new","b","SIG",[]]]]]}"#;
 
 // The second child finds room where the first has left.
-pub(crate) const CROWD: &str = r#"{"limits":{"regs":2},"main":[["new","p","SIG_WAIT",[]],["async_all",[]],
+pub(crate) const CROWD: &str =
+    r#"{"limits":{"regs":2},"main":[["new","p","SIG_WAIT",[]],["async_all",[]],
     ["async_all",[]]]}"#;
 
 /// Programs with the first event in which luck has a part: its place, what it decides, and how that
