@@ -1,14 +1,17 @@
 -- What the cells stand for once more values were folded.
 use Rattle.std.proofs.Common.{◌≡◌, ◌≢◌, ℕ, ◌==◌, true, false, cond, max, ◌+◌, ◌-◌, ◌%◌, ◌<◌, ◌≤◌, List, ◌++◌, length, Some, slice_get, ℤ, inl, inr, refl, ap, sym, ◌∙◌, subst, arith}
 use Rattle.std.specs.Option.{option_map}
+use Rattle.std.proofs.lemmas.Int.{ints}
 use Rattle.std.proofs.lemmas.Bool.{cases_Bool, eq-eqb, eqb-true, false≢true}
 use Rattle.std.proofs.lemmas.Option.{slice_get_within}
 use Rattle.phase_model.specs.declared.op.Op.{Op}
+use Rattle.phase_model.specs.declared.op.Look.{Look}
+use Rattle.phase_model.specs.declared.op.Look.TheVariants.{Value, Nothing}
 use Rattle.phase_model.specs.Values.{fold}
 use Rattle.acc_cells.specs.declared.cell.Cell.{Cell}
 use Rattle.acc_cells.specs.declared.ring.Row.{Row}
 use Rattle.acc_cells.specs.declared.sums.Sums.{Sums}
-use Rattle.acc_cells.specs.Cells.{Kept, StandsFor, Holds, IsKept, IsAmong, IsInRange, AreSumsInRange, tally, held, cell_in, cell_for, cell_of, cell_joined, row_at, fold_of_cell, with_taken, from_after, most_values}
+use Rattle.acc_cells.specs.Cells.{Kept, StandsFor, Holds, IsKept, IsAmong, IsInRange, IsInReach, AreSumsInRange, tally, held, cell_in, cell_for, cell_of, cell_joined, row_at, fold_of_cell, with_taken, from_after, most_values}
 use Rattle.acc_cells.proofs.Tallies.{fold_of_cell-tally, tally-append}
 use Rattle.acc_cells.proofs.Taking.{cell_held, count_within}
 use Rattle.acc_cells.proofs.Rings.{apart, cell_for-own, cell_for-other}
@@ -96,6 +99,19 @@ cell_among k a p near is_kept =
           (sym (cell_for-other (row_at k.rows (p % k.room)) a p e))
           (omega arith, record { count = omega arith; up = omega arith; down = omega arith })
     ]
+
+-- more values reach further
+pub reach_more : (m n : ℕ) (x : Look ℤ) → m ≤ n → IsInReach m x → IsInReach n x
+reach_more m n (Value v) more near = (omega (arith, ints, more, near.0), omega (arith, ints, more, near.1))
+reach_more m n Nothing more near = tt
+
+-- what is seen of a cell is in reach of all values
+pub in_reach : (k : Kept) (a p : ℕ) (cell : Cell) (x : Look ℤ) → a < 4 → IsKept k.ops k.room k.from k.rows k.sums
+    → cell ≡ cell_of k a p → IsInReach cell.count x → IsInReach k.sums.values x
+in_reach k a p cell x near is_kept is reach =
+    let few : cell.count ≤ k.sums.values =
+    omega (arith, ap (λ (c : Cell). c.count) is, (cell_among k a p near is_kept).0) in
+    reach_more cell.count k.sums.values x few reach
 
 -- the rows stay in the window, and the cells in range
 pub kept_folded : (k n : Kept) (p : ℕ) (cells : List Cell)

@@ -1,5 +1,5 @@
 -- What an event of an explained trace tells its task is what the world's history says that it hears.
-use Rattle.std.proofs.Common.{ℕ, ◌≡◌, true, false, List, ◌∷◌, Option, Some, None, refl, ap, sym}
+use Rattle.std.proofs.Common.{ℕ, ◌≡◌, true, false, List, ◌∷◌, Option, Some, None, refl, ap, sym, ℤ}
 use Rattle.std.proofs.lemmas.Bool.{false≢true}
 use Rattle.std.proofs.lemmas.Bool.Decides.{Decides-int_eq}
 use Rattle.phase_modes.specs.declared.limits.Limits.{Limits}
@@ -27,14 +27,14 @@ use Rattle.trace_model.specs.declared.event.TracedEvent.TheVariants.{Phaser, Fin
 use Rattle.trace_model.specs.declared.event.TracedStep.TheVariants.{Make, Reg, Sig, Claim, Did, Pass, Send, Look as Seen, Drop}
 use Rattle.body_follows.specs.Going.{heard, told_by}
 
-same_looks : (x y : Look) → same_look x y ≡ true → x ≡ y
+same_looks : (x y : Look ℤ) → same_look x y ≡ true → x ≡ y
 same_looks (looks.Value v) (looks.Value w) k = ap (λ z. looks.Value z) ((Decides-int_eq v w).0 k)
 same_looks looks.Nothing looks.Nothing k = refl
 same_looks (looks.Value v) looks.Nothing k = absurd (false≢true k)
 same_looks looks.Nothing (looks.Value w) k = absurd (false≢true k)
 
 -- a look that was answered with what it saw
-look_told : (l : Limits) (w : List WorldEvent) (n t a : ℕ) (x : Look)
+look_told : (l : Limits) (w : List WorldEvent) (n t a : ℕ) (x : Look ℤ)
     → is_answered (Phaser n (Seen t a x)) (reply l w (event_of (Phaser n (Seen t a x)))) ≡ true
     → told_by (Phaser n (Seen t a x)) ≡ heard w (event_of (Phaser n (Seen t a x)))
 look_told l w n t a x k =
@@ -42,7 +42,7 @@ look_told l w n t a x k =
     (first_refusal (conditions l (terms_of n w) (phaser_past n w) (look t a)))
     (has_room l (Looked t a seen ∷ phaser_past n w)) k)
   where
-    seen : Look
+    seen : Look ℤ
     seen = look_of (ops_of n w) a (waits t (phaser_past n w)) (phaser_past n w)
 
     by : (o c : Option Refusal) (room : _)

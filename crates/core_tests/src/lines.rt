@@ -1,19 +1,21 @@
 //! Lines that come and go in any order stand by rising task number, and are found.
 ghost use Rattle.std.specs.Prelude.{◌≡◌, ◌≤◌};
+ghost use Rattle.reg_table.specs.Lines.{HasNext};
 
-use phase_modes::{Mode, Refusal, Reg};
+use phase_modes::{LongReg, Mode, Refusal};
 use reg_table::{Comparisons, Entry, Table, TaskNumber};
 use std::alloc::Global;
 use std::test::Fail;
 
-fn line(task: u32) -> Entry
-    ensures { result.task ≡ task }
+fn line(task: u64) -> Entry
+    ensures task { result.task ≡ task }
+    ensures next { HasNext result.reg }
 {
     Entry {
         task: TaskNumber::of(task),
-        reg: Reg {
+        reg: LongReg {
             mode: Mode::SigWait,
-            phase: task,
+            phase: task % 1_000,
             ahead: false,
         },
         proposed: false,
@@ -21,7 +23,7 @@ fn line(task: u32) -> Entry
 }
 
 /// Puts the task's line into the table, where it has none yet and there is room.
-fn put(table: &mut Table, task: u32) {
+fn put(table: &mut Table, task: u64) {
     let mut comparisons = Comparisons::none();
     if table.len() >= 256 {
         return;
@@ -36,7 +38,7 @@ fn put(table: &mut Table, task: u32) {
 }
 
 /// A table with the lines of the tasks from the first on, put in in no order.
-fn filled(alloc: Global, first: u32) -> Result<Table, Refusal>
+fn filled(alloc: Global, first: u64) -> Result<Table, Refusal>
     requires { first ≤ 1 }
 {
     let mut table = Table::new(alloc)?;
@@ -47,7 +49,7 @@ fn filled(alloc: Global, first: u32) -> Result<Table, Refusal>
 }
 
 /// Where the task's line stands and its phase, and how many comparisons it took to find it.
-fn found(table: &Table, task: u32) -> (Option<(usize, u32)>, u32) {
+fn found(table: &Table, task: u64) -> (Option<(usize, u64)>, u32) {
     let mut comparisons = Comparisons::none();
     let found = table
         .find(task, &mut comparisons)
@@ -100,7 +102,7 @@ fn a_line_is_written_in_place(rt: HostRuntime) -> Result<(), Fail> {
 
 /// Puts the task's line behind all others, where it comes last. Returns how many comparisons that
 /// took.
-fn put_last(table: &mut Table, task: u32) -> u32 {
+fn put_last(table: &mut Table, task: u64) -> u32 {
     let mut comparisons = Comparisons::none();
     if table.len() < 256 && table.comes_last(task, &mut comparisons) {
         table.push(line(task));

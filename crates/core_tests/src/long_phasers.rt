@@ -2,8 +2,9 @@
 //! drawn calls beside a stored phaser, and through lives of thousands of phases.
 use crate::drawn::{Dice, without_number};
 use long_phaser::LongPhaser;
-use phase_model::{Bound, Call, Look, Ops, Reply};
-use phase_modes::{Limits, Mode, Refusal, Reg};
+use phase_model::{Bound, Call, LongLook, Look, Ops, Reply};
+use phase_modes::{Limits, LongReg, Mode, Refusal, Reg};
+use phaser_answers::LongPassing;
 use phaser_core::{Passing, PhaserState, Signalling};
 use std::alloc::Global;
 use std::process::Abort;
@@ -30,11 +31,16 @@ fn made(alloc: Global, operators: usize, bound: u32) -> Result<LongPhaser, Refus
     Ok(phaser)
 }
 
+/// A number of 64 bits as one of 32; the greatest where they have no room for it.
+fn short(number: u64) -> u32 {
+    u32::try_from(number).unwrap_or(u32::MAX)
+}
+
 /// The reply to a registration, which has to give out this number.
-fn given(rt: &impl Abort, number: u32, answer: Result<u32, Refusal>) -> Reply {
+fn given(rt: &impl Abort, number: u32, answer: Result<u64, Refusal>) -> Reply {
     match answer {
         Ok(task) => {
-            assert_eq!(rt; task, number);
+            assert_eq!(rt; task, u64::from(number));
             Reply::Done
         }
         Err(refusal) => Reply::Refused(refusal),
@@ -56,18 +62,19 @@ fn signalled(answer: Result<Signalling, Refusal>) -> Reply {
     }
 }
 
-fn passed(answer: Result<Passing, Refusal>) -> Reply {
+fn passed(answer: Result<LongPassing, Refusal>) -> Reply {
     match answer {
-        Ok(Passing::Passed(phase)) => Reply::Phase(phase),
+        Ok(Passing::Passed(phase)) => Reply::Phase(short(phase)),
         Ok(Passing::Claimed(number)) => Reply::Claim(number),
         Ok(Passing::NotYet) => Reply::NotYet,
         Err(refusal) => Reply::Refused(refusal),
     }
 }
 
-fn looked(answer: Result<Look, Refusal>) -> Reply {
+fn looked(answer: Result<LongLook, Refusal>) -> Reply {
     match answer {
-        Ok(seen) => Reply::Saw(seen),
+        Ok(Look::Value(sum)) => Reply::Saw(Look::Value(i64::try_from(sum).unwrap_or(i64::MAX))),
+        Ok(Look::Nothing) => Reply::Saw(Look::Nothing),
         Err(refusal) => Reply::Refused(refusal),
     }
 }
@@ -77,13 +84,21 @@ fn looked(answer: Result<Look, Refusal>) -> Reply {
 fn reply_of(rt: &impl Abort, phaser: &mut LongPhaser, call: Call) -> Reply {
     match call {
         Call::Make(task, mode) => given(rt, task, phaser.make(mode)),
-        Call::Register(parent, child, mode) => given(rt, child, phaser.register(parent, mode)),
-        Call::Signal(task, number) => signalled(phaser.signal(task, number)),
-        Call::Pass(task) => passed(phaser.pass(task)),
-        Call::SingleDone(task) => done(phaser.single_done(task)),
-        Call::Send(task, accumulator, value) => done(phaser.send(task, accumulator, value)),
-        Call::Look(task, accumulator) => looked(phaser.look(task, accumulator)),
-        Call::Drop(task) => done(phaser.leave(task)),
+        Call::Register(parent, child, mode) => given(
+            rt,
+            child,
+            phaser.register(u64::from(parent), mode),
+        ),
+        Call::Signal(task, number) => signalled(phaser.signal(u64::from(task), number)),
+        Call::Pass(task) => passed(phaser.pass(u64::from(task))),
+        Call::SingleDone(task) => done(phaser.single_done(u64::from(task))),
+        Call::Send(task, accumulator, value) => done(phaser.send(
+            u64::from(task),
+            accumulator,
+            value,
+        )),
+        Call::Look(task, accumulator) => looked(phaser.look(u64::from(task), accumulator)),
+        Call::Drop(task) => done(phaser.leave(u64::from(task))),
     }
 }
 

@@ -86,7 +86,7 @@ fn waiting_child_has_not_signalled(rt: HostRuntime) -> Result<(), Fail> {
 
 #[test]
 fn registration_goes_step_by_step(rt: HostRuntime) -> Result<(), Fail> {
-    let maker = Reg::maker(Mode::SigWait);
+    let maker = Reg::<u32>::maker(Mode::SigWait);
     stands(&rt, maker, 0, 0);
     let ahead = maker.signalled();
     stands(&rt, ahead, 1, 0);

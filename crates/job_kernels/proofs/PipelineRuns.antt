@@ -1,5 +1,5 @@
 -- The tasks of a pipeline go by it.
-use Rattle.std.proofs.Common.{ℕ, zero, suc, pos, ◌+◌, ◌*◌, ◌≡◌, ◌≤◌, ◌<◌, Bool, true, false, List, [], ◌∷◌, ◌++◌, map, flat_map, Option, Some, None, refl, sym, ap, subst, arith}
+use Rattle.std.proofs.Common.{ℕ, zero, suc, pos, ◌+◌, ◌*◌, ◌≡◌, ◌≤◌, ◌<◌, Bool, true, false, List, [], ◌∷◌, ◌++◌, map, flat_map, Option, Some, None, refl, sym, ap, subst, arith, ℤ}
 use Rattle.std.specs.List.{range_with_len}
 use Rattle.std.proofs.lemmas.Bool.{le-leb, lt-leb, lt-ltb, le-ltb}
 use Rattle.phase_modes.specs.declared.reg.Mode.TheVariants.{SigWait}
@@ -148,12 +148,12 @@ sink k turns looks = record {
   });
 }
 
-sink_goes : (sent : ℕ → ℕ → Look) (k c p : ℕ) (heard : Answer) →
+sink_goes : (sent : ℕ → ℕ → Look ℤ) (k c p : ℕ) (heard : Answer) →
     Goes (pipeline_next heard (sink k c false)) (flat_map (sink_lines sent k) (range_with_len p c))
 sink_goes sent k zero p heard = refl
 sink_goes sent k (suc c) p heard = (refl, (refl, sink_goes sent k c (p + 1) (Saw (sent k p))))
 
-pub sink_sees_all : (items stages : ℕ) (sent : ℕ → ℕ → Look) → SinkGoesBy sent items stages
+pub sink_sees_all : (items stages : ℕ) (sent : ℕ → ℕ → Look ℤ) → SinkGoesBy sent items stages
 sink_sees_all items stages sent = sink_goes sent stages (items + stages) 0 Started
 
 -- ---- the root

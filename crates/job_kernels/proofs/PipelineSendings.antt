@@ -18,11 +18,11 @@ use Rattle.job_kernels.proofs.PipelineRuns.{Goes, source, source_sends, stage, s
 -- ---- the source
 
 -- the source sent what comes next
-record SourceSent (items p : ℕ) (x : Look) (lines : List (Line PipelineBody)) : Type 0 where
+record SourceSent (items p : ℕ) (x : Look ℤ) (lines : List (Line PipelineBody)) : Type 0 where
   sends : x ≡ Value (pos (p + 1))
   goes : Goes (pipeline_next Done (source items (p + 1) true)) lines
 
-source_sent : (items p : ℕ) (x : Look) (lines : List (Line PipelineBody)) →
+source_sent : (items p : ℕ) (x : Look ℤ) (lines : List (Line PipelineBody)) →
     Goes (Send 0 0 (pos (p + 1)), source items (p + 1) false) ((sending 0 x ++ (Next, Done) ∷ []) ++ lines) →
     SourceSent items p x lines
 source_sent items p Nothing lines goes = absurd (cc goes.0)
@@ -30,7 +30,7 @@ source_sent items p (Value v) lines goes =
     let value : v ≡ pos (p + 1) = cc goes.0 in
     record { sends = ap Value value; goes = goes.1.1 }
 
-source_step : (items : ℕ) (sent : ℕ → ℕ → Look) (c p : ℕ) (heard : Answer) → p + suc c ≡ items →
+source_step : (items : ℕ) (sent : ℕ → ℕ → Look ℤ) (c p : ℕ) (heard : Answer) → p + suc c ≡ items →
     Goes (pipeline_next heard (source items p true)) (flat_map (source_lines sent) (range_with_len p (suc c))) →
     SourceSent items p (sent 0 p) (flat_map (source_lines sent) (range_with_len (p + 1) c))
 source_step items sent c p heard e goes =
@@ -38,7 +38,7 @@ source_step items sent c p heard e goes =
     let P : Does PipelineBody → Type 0 = λ does. Goes does (source_lines sent p ++ lines) in
     source_sent items p (sent 0 p) lines (subst P (source_sends heard items p (omega (arith, e))) goes)
 
-source_sends_items : (items : ℕ) (sent : ℕ → ℕ → Look) (c p : ℕ) (heard : Answer) → p + c ≡ items →
+source_sends_items : (items : ℕ) (sent : ℕ → ℕ → Look ℤ) (c p : ℕ) (heard : Answer) → p + c ≡ items →
     Goes (pipeline_next heard (source items p true)) (flat_map (source_lines sent) (range_with_len p c)) →
     (d : ℕ) → d < c → sent 0 (p + d) ≡ items_at 0 (p + d)
 source_sends_items items sent zero p heard e goes d lt = absurd (omega arith)
@@ -54,16 +54,16 @@ source_sends_items items sent (suc c) p heard e goes (suc d) lt =
 -- ---- a stage
 
 -- a stage that heard of item o sent it on, if there is one
-record StageSent (k c : ℕ) (o : Option ℕ) (x : Look) (lines : List (Line PipelineBody)) : Type 0 where
+record StageSent (k c : ℕ) (o : Option ℕ) (x : Look ℤ) (lines : List (Line PipelineBody)) : Type 0 where
   sends : x ≡ shown (suc k) o
   moment : Moment
   goes : Goes (stage_does k c moment) lines
 
 -- where the next line is that of a turn, or the end, no value was sent
-abbrev later : (ℕ → ℕ → Look) → ℕ → ℕ → ℕ → List (Line PipelineBody)
+abbrev later : (ℕ → ℕ → Look ℤ) → ℕ → ℕ → ℕ → List (Line PipelineBody)
 later sent k p c = flat_map (stage_lines sent k) (range_with_len p c)
 
-no_send : (sent : ℕ → ℕ → Look) (k p c ph : ℕ) (v : ℤ) (task : PipelineBody) → Goes (Send ph 0 v, task) (later sent k p c) → ⊥
+no_send : (sent : ℕ → ℕ → Look ℤ) (k p c ph : ℕ) (v : ℤ) (task : PipelineBody) → Goes (Send ph 0 v, task) (later sent k p c) → ⊥
 no_send sent k p zero ph v task goes = cc goes
 no_send sent k p (suc c) ph v task goes = cc goes.0
 
@@ -71,7 +71,7 @@ no_turn : (k c ph : ℕ) (m : Moment) (v : ℤ) (lines : List (Line PipelineBody
 no_turn k zero ph m v lines goes = cc goes.0
 no_turn k (suc c) ph m v lines goes = cc goes.0
 
-stage_sent : (sent : ℕ → ℕ → Look) (k c p : ℕ) (o : Option ℕ) (x : Look) →
+stage_sent : (sent : ℕ → ℕ → Look ℤ) (k c p : ℕ) (o : Option ℕ) (x : Look ℤ) →
     ((i : ℕ) → o ≡ Some i → i ≤ 100) → k < 15 →
     Goes (pipeline_next (Saw (shown k o)) (stage k c Hears)) (sending (k + 1) x ++ later sent k p c) →
     StageSent k c o x (later sent k p c)
@@ -91,16 +91,16 @@ stage_sent sent k c p (Some i) (Value v) few small goes =
     let value : v ≡ pos (x + (k + 1)) = cc heard.0 in
     record { sends = ap Value value; moment = Turns; goes = heard.1 }
 
-stage_step : (sent : ℕ → ℕ → Look) (k c p : ℕ) (m : Moment) → p + suc c ≤ 100 + k → k < 15 →
+stage_step : (sent : ℕ → ℕ → Look ℤ) (k c p : ℕ) (m : Moment) → p + suc c ≤ 100 + k → k < 15 →
     sent k p ≡ items_at k p → Goes (stage_does k (suc c) m) (later sent k p (suc c)) →
     StageSent k c (number_at k p) (sent (suc k) (suc p)) (later sent k (p + 1) c)
 stage_step sent k c p m few small seen goes =
     let lines : List (Line PipelineBody) = sending (k + 1) (sent (suc k) (suc p)) ++ later sent k (p + 1) c in
-    let P : Look → Type 0 = λ x. Goes (pipeline_next (Saw x) (stage k c Hears)) lines in
+    let P : Look ℤ → Type 0 = λ x. Goes (pipeline_next (Saw x) (stage k c Hears)) lines in
     stage_sent sent k c (p + 1) (number_at k p) (sent (suc k) (suc p)) (λ i e. few_items k p c i few e) small
     (subst P seen goes.1.1)
 
-stage_sends_items : (sent : ℕ → ℕ → Look) (k c p : ℕ) (m : Moment) → p + c ≤ 100 + k → k < 15 →
+stage_sends_items : (sent : ℕ → ℕ → Look ℤ) (k c p : ℕ) (m : Moment) → p + c ≤ 100 + k → k < 15 →
     ((q : ℕ) → q < p + c → sent k q ≡ items_at k q) → Goes (stage_does k c m) (later sent k p c) →
     (d : ℕ) → d < c → sent (suc k) (suc (p + d)) ≡ items_at (suc k) (suc (p + d))
 stage_sends_items sent k zero p m few small seen goes d lt = absurd (omega arith)
@@ -118,7 +118,7 @@ stage_sends_items sent k (suc c) p m few small seen goes (suc d) lt =
 
 -- ---- all of them
 
-pub tasks_send_pipeline : (items stages : ℕ) (sent : ℕ → ℕ → Look) → items ≤ 100 → stages ≤ 15 →
+pub tasks_send_pipeline : (items stages : ℕ) (sent : ℕ → ℕ → Look ℤ) → items ≤ 100 → stages ≤ 15 →
     SourceGoesBy sent items → ((k : ℕ) → k < stages → StageGoesBy sent items k) →
     (k p : ℕ) → k ≤ stages → p < items + k → sent k p ≡ items_at k p
 tasks_send_pipeline items stages sent few small begun all zero p le lt =

@@ -1,5 +1,5 @@
 -- What the tasks of a pipeline go by: the laws that tie them to the pipeline.
-use Rattle.std.specs.Prelude.{ℕ, zero, suc, pos, ◌≡◌, ◌+◌, ◌≤◌, ◌<◌, List, [], ◌∷◌, ◌++◌, map, flat_map, Option, Some, None}
+use Rattle.std.specs.Prelude.{ℕ, zero, suc, pos, ◌≡◌, ◌+◌, ◌≤◌, ◌<◌, List, [], ◌∷◌, ◌++◌, map, flat_map, Option, Some, None, ℤ}
 use Rattle.std.specs.List.{range_with_len}
 use Rattle.phase_modes.specs.declared.reg.Mode.TheVariants.{SigWait}
 use Rattle.phase_model.specs.declared.op.Look.{Look}
@@ -21,12 +21,12 @@ number_at (suc k) zero = None
 number_at (suc k) (suc p) = number_at k p
 
 -- what is seen of it behind k stages
-abbrev pub shown : ℕ → Option ℕ → Look
+abbrev pub shown : ℕ → Option ℕ → Look ℤ
 shown k None = Nothing
 shown k (Some i) = Value (pos (pipeline_item k i))
 
 -- the items of the pipeline
-abbrev pub items_at : ℕ → ℕ → Look
+abbrev pub items_at : ℕ → ℕ → Look ℤ
 items_at k p = shown k (number_at k p)
 
 -- a law: behind k stages the items come in order, from phase k on
@@ -36,36 +36,36 @@ ItemsInOrder = (k p : ℕ) → items_at k (k + p) ≡ Value (pos (pipeline_item 
 -- ---- the tasks, where `sent k p` is what comes to phaser k for phase p
 
 -- a value is sent, if there is one
-abbrev pub sending : ℕ → Look → List (Line PipelineBody)
+abbrev pub sending : ℕ → Look ℤ → List (Line PipelineBody)
 sending k Nothing = []
 sending k (Value v) = (acts.Send k 0 v, Done) ∷ []
 
 -- the source sends its value of a phase, and ends its turn
-abbrev pub source_lines : (ℕ → ℕ → Look) → ℕ → List (Line PipelineBody)
+abbrev pub source_lines : (ℕ → ℕ → Look ℤ) → ℕ → List (Line PipelineBody)
 source_lines sent p = sending 0 (sent 0 p) ++ (acts.Next, Done) ∷ []
 
 -- a task ends its turn, looks at phaser k, and sees what came there for the phase that has ended
-abbrev pub sink_lines : (ℕ → ℕ → Look) → ℕ → ℕ → List (Line PipelineBody)
+abbrev pub sink_lines : (ℕ → ℕ → Look ℤ) → ℕ → ℕ → List (Line PipelineBody)
 sink_lines sent k p = (acts.Next, Done) ∷ (acts.Look k 0, Saw (sent k p)) ∷ []
 
 -- and a stage sends its value of the next phase
-abbrev pub stage_lines : (ℕ → ℕ → Look) → ℕ → ℕ → List (Line PipelineBody)
+abbrev pub stage_lines : (ℕ → ℕ → Look ℤ) → ℕ → ℕ → List (Line PipelineBody)
 stage_lines sent k p = sink_lines sent k p ++ sending (k + 1) (sent (suc k) (suc p))
 
 -- the source goes by that
-abbrev pub SourceGoesBy : (ℕ → ℕ → Look) → ℕ → Type 0
+abbrev pub SourceGoesBy : (ℕ → ℕ → Look ℤ) → ℕ → Type 0
 SourceGoesBy sent items =
     GoesBy pipeline_next (pipeline_next Started (source_task items))
     (flat_map (source_lines sent) (range_with_len 0 items))
 
 -- the stage behind phaser k does, and sends nothing for phase 0
-abbrev pub StageGoesBy : (ℕ → ℕ → Look) → ℕ → ℕ → Type 0
+abbrev pub StageGoesBy : (ℕ → ℕ → Look ℤ) → ℕ → ℕ → Type 0
 StageGoesBy sent items k = (sent (suc k) 0 ≡ Nothing)
     × GoesBy pipeline_next (pipeline_next Started (stage_task items k))
     (flat_map (stage_lines sent k) (range_with_len 0 (items + k)))
 
 -- the sink does
-abbrev pub SinkGoesBy : (ℕ → ℕ → Look) → ℕ → ℕ → Type 0
+abbrev pub SinkGoesBy : (ℕ → ℕ → Look ℤ) → ℕ → ℕ → Type 0
 SinkGoesBy sent items stages =
     GoesBy pipeline_next (pipeline_next Started (sink_task items stages))
     (flat_map (sink_lines sent stages) (range_with_len 0 (items + stages)))
@@ -81,12 +81,12 @@ StagesGoByPipeline = (items k : ℕ) → items ≤ 100 → k < 15 → StageGoesB
 
 -- a law: the sink looks at each phase behind the last stage, until the last item has come
 abbrev pub SinkSeesAll : Type 0
-SinkSeesAll = (items stages : ℕ) (sent : ℕ → ℕ → Look) → SinkGoesBy sent items stages
+SinkSeesAll = (items stages : ℕ) (sent : ℕ → ℕ → Look ℤ) → SinkGoesBy sent items stages
 
 -- a law: whatever the source and the stages send, where each stage sees what came to the phaser before it
 -- for the phase that has ended, they send the items of the pipeline
 abbrev pub TasksSendPipeline : Type 0
-TasksSendPipeline = (items stages : ℕ) (sent : ℕ → ℕ → Look) → items ≤ 100 → stages ≤ 15 →
+TasksSendPipeline = (items stages : ℕ) (sent : ℕ → ℕ → Look ℤ) → items ≤ 100 → stages ≤ 15 →
     SourceGoesBy sent items → ((k : ℕ) → k < stages → StageGoesBy sent items k) →
     (k p : ℕ) → k ≤ stages → p < items + k → sent k p ≡ items_at k p
 

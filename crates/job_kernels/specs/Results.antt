@@ -10,7 +10,7 @@ use Rattle.world_model.specs.Report.{PhaserReport, Report}
 use Rattle.world_model.specs.ReportLines.{refusal_with}
 
 -- what was seen, if it is a value
-abbrev pub value_seen : Look → List ℤ
+abbrev pub value_seen : Look ℤ → List ℤ
 value_seen (Value v) = v ∷ []
 value_seen Nothing = []
 

@@ -22,7 +22,7 @@ abbrev pub number_in : ℕ → ℤ → Option ℕ
 number_in most (pos n) = if nat_le n most then Some n else None
 number_in most (negsuc n) = None
 
-abbrev pub look_in : ℕ → Look → Option ℕ
+abbrev pub look_in : ℕ → Look ℤ → Option ℕ
 look_in most (Value v) = number_in most v
 look_in most Nothing = None
 

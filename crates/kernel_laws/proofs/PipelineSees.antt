@@ -1,5 +1,5 @@
 -- Each look of a pipeline's task sees the item of the phase that has ended, if there is one.
-use Rattle.std.proofs.Common.{ℕ, zero, suc, ◌+◌, ◌-◌, ◌≡◌, ◌≤◌, ◌<◌, ◌∙◌, true, false, ◌==◌, nat_lt, cond, List, [], ◌∷◌, ◌++◌, Some, refl, sym, ap, subst, add-one, inl, inr, arith}
+use Rattle.std.proofs.Common.{ℕ, zero, suc, ◌+◌, ◌-◌, ◌≡◌, ◌≤◌, ◌<◌, ◌∙◌, true, false, ◌==◌, nat_lt, cond, List, [], ◌∷◌, ◌++◌, Some, refl, sym, ap, subst, add-one, inl, inr, arith, ℤ}
 use Rattle.std.specs.List.{list_any}
 use Rattle.std.proofs.lemmas.Bool.{and_from, or_cases, or_left, cases_Bool, eq-eqb, ne_eqb, le-leb, lt-ltb, true≢false}
 use Rattle.phase_modes.specs.Lists.{is_empty}
@@ -76,7 +76,7 @@ pub record LookIs (stages items j t a : ℕ) (w : List WorldEvent) : Type 0 wher
   pub turned : turns t w ≡ step + 1
   pub few : turns t w ≤ items + j
 
-least_seen : (x : Seen) → fold Least (value_seen x) ≡ x
+least_seen : (x : Seen ℤ) → fold Least (value_seen x) ≡ x
 least_seen (Value v) = refl
 least_seen Nothing = refl
 

@@ -117,7 +117,7 @@ module _ (stages items : ℕ) where
     so : (next ≡ k) ⊎ ((next ≡ k + 1) × (out stages (suc j) k ≡ []))
     at : TaskAt stages items (suc j) k next d
 
-  seen_by : (j p r : ℕ) (d : Does PipelineBody) (b : Bool) (x : Looked) → nat_lt j stages ≡ b
+  seen_by : (j p r : ℕ) (d : Does PipelineBody) (b : Bool) (x : Looked ℤ) → nat_lt j stages ≡ b
       → items_at (suc j) (suc p) ≡ x → (p + 1) + r ≡ items + j
       → Goes d (cond b (sending (j + 1) x) [] ++ reader_left stages j (p + 1) r) → Seen j (p + 1) d
   seen_by j p r d true (Value v) lt is e goes =

@@ -205,7 +205,7 @@ no_values s a (suc m) =
     by_place false h = rw (le-ltb a (0 + s) (over a s (ltb-false a s h))) refl
 
 -- the folds of the least, phase by phase
-least_kept : (x : Seen) → value_seen (fold Least (value_seen x)) ≡ value_seen x
+least_kept : (x : Seen ℤ) → value_seen (fold Least (value_seen x)) ≡ value_seen x
 least_kept (Value v) = refl
 least_kept Nothing = refl
 

@@ -14,13 +14,13 @@ use std::env;
 const TASKS: usize = 4;
 
 /// How many phases there are where no argument says it.
-const PHASES: u32 = 1_000_000;
+const PHASES: u64 = 1_000_000;
 
 /// A phaser as a barrier, and the numbers of the tasks that meet there.
 #[derive(Drop)]
 struct Barrier {
     phaser: LongPhaser,
-    tasks: [u32; TASKS],
+    tasks: [u64; TASKS],
 }
 
 /// A barrier of the tasks, with one sum.
@@ -39,14 +39,14 @@ fn make_barrier(alloc: Global) -> Result<Barrier, Refusal> {
 }
 
 /// What the tasks change in the phase.
-fn changes(phase: u32) -> [i32; TASKS] {
+fn changes(phase: u64) -> [i32; TASKS] {
     let change = (phase % 1_000) as i32;
     [change, -2 * change, 4 * change, 7]
 }
 
 /// The sum of what they change.
-fn sum_of(phase: u32) -> i64 {
-    3 * i64::from(phase % 1_000) + 7
+fn sum_of(phase: u64) -> i128 {
+    3 * i128::from(phase % 1_000) + 7
 }
 
 /// Each task sends its change, and signals.
@@ -62,7 +62,7 @@ fn all_arrive(barrier: &mut Barrier, changes: [i32; TASKS]) -> anyhow::Result<()
 }
 
 /// Each task ends its turn, and sees this sum.
-fn all_go_on(barrier: &mut Barrier, sum: i64) -> anyhow::Result<()> {
+fn all_go_on(barrier: &mut Barrier, sum: i128) -> anyhow::Result<()> {
     for task in barrier.tasks.iter() {
         match barrier.phaser.pass(*task)? {
             Passing::Passed(_) => {}
@@ -77,9 +77,9 @@ fn all_go_on(barrier: &mut Barrier, sum: i64) -> anyhow::Result<()> {
 }
 
 /// So many phases. The last sum.
-fn play(alloc: Global, phases: u32) -> anyhow::Result<i64> {
+fn play(alloc: Global, phases: u64) -> anyhow::Result<i128> {
     let mut barrier = make_barrier(alloc)?;
-    let mut sum: i64 = 0;
+    let mut sum: i128 = 0;
     for phase in 0..phases {
         sum = sum_of(phase);
         all_arrive(&mut barrier, changes(phase))?;
@@ -88,12 +88,12 @@ fn play(alloc: Global, phases: u32) -> anyhow::Result<i64> {
     Ok(sum)
 }
 
-/// How many phases the argument says, if there is one. The phaser has room for some 268 million: a
-/// phase takes 16 events here.
-fn phases(rt: &HostRuntime) -> anyhow::Result<u32> {
+/// How many phases the argument says, if there is one. A phase takes 16 events here, so the phaser
+/// would have room for 2^58.
+fn phases(rt: &HostRuntime) -> anyhow::Result<u64> {
     // The first argument is the program's own name.
     match env::args(rt)?.nth(1) {
-        Some(argument) => Ok(argument.parse::<u32>()?),
+        Some(argument) => Ok(argument.parse::<u64>()?),
         None => Ok(PHASES),
     }
 }

@@ -9,10 +9,16 @@ use Rattle.phase_model.specs.Replies.{reply, refused}
 use Rattle.phase_model.specs.Rules.{Story, is_legal}
 use Rattle.phase_model.specs.Tasks.{is_registered}
 
--- room for 4,294,967,295 events and as many task numbers, and for 256 registrations at once
+-- room for 2 ^ 62 events and one task number more, and for 256 registrations at once
 abbrev pub long_limits : Limits
-long_limits =
-    record { acts = 1; finishes = 1; history = 4294967295; phasers = 1; regs = 256; tasks = 4294967295 }
+long_limits = record {
+  acts = 1;
+  finishes = 1;
+  history = 4611686018427387904;
+  phasers = 1;
+  regs = 256;
+  tasks = 4611686018427387905;
+}
 
 -- its story, and the number that it gives out next
 pub record Numbered : Type 0 where
@@ -23,10 +29,12 @@ pub record Numbered : Type 0 where
 abbrev pub AreBelow : ℕ → List Event → Type 0
 AreBelow n h = (t : ℕ) → is_registered t h ≡ true → t < n
 
--- the limits are those of a long life, and no number is given out twice
+-- the limits are those of a long life, no number is given out twice, and as there is an event for each, none is too
+-- great
 pub record IsNumbered (next : ℕ) (s : Story) : Type 0 where
   pub limits : s.limits ≡ long_limits
   pub below : AreBelow next s.past
+  pub few : next ≤ length s.past
 
 -- while there is room for 260 events more, no call is refused for want of room in the history
 abbrev pub LongHasRoom : Type 0

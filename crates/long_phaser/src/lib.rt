@@ -6,4 +6,4 @@ mod laws;
 mod phaser;
 
 pub use laws::long_has_room;
-pub use phaser::LongPhaser;
+pub use phaser::{LongPhaser, Phase, Task};

@@ -1,30 +1,41 @@
 //! The phaser. Each call is the engine's, and each new task gets the next number.
-ghost use Rattle.std.specs.Prelude.{◌≡◌, ◌+◌, [], true, Some, IfOk, IfErr, Ok, Err};
+ghost use Rattle.std.specs.Prelude.{◌≡◌, ◌≢◌, ◌+◌, [], true, Some, IfOk, IfErr, Ok, Err};
 ghost use Rattle.phase_model.specs.Ordering.{IsOrdered};
 ghost use Rattle.phase_model.specs.Phases.{is_closed};
 ghost use Rattle.phase_model.specs.Rules.{is_legal};
 ghost use Rattle.phase_model.specs.declared.call.Call.TheVariants.{Make as make, Register as register, Signal as signal, Pass as pass, SingleDone as single_done, Send as send, Look as look, Drop as drop_task};
 ghost use Rattle.phase_model.specs.Replies.{reply, after, done_result};
+ghost use Rattle.phase_model.specs.Waiting.{would_wait, signal_would_wait, is_in_open_phase};
 ghost use Rattle.phaser_answers.specs.Answers.{signal_result, pass_result, look_result};
 ghost use Rattle.phaser_answers.specs.Registration.{registration};
+ghost use Rattle.told_history.specs.Wide.{limits_of};
 ghost use Rattle.long_phaser.specs.Numbered.{long_limits};
 
-use phase_model::{Bound, Look, Ops};
-use phase_modes::{Limits, Mode, Refusal, Reg};
-use phaser_answers::{Passing, Signalling};
+use phase_model::{Bound, LongLook, Ops};
+use phase_modes::{LongReg, Mode, Refusal};
+use phaser_answers::{LongPassing, Signalling};
 use phaser_engine::Engine;
 use std::alloc::Global;
 use std::marker::Model;
-use told_history::Told;
+use told_history::{LongLimits, Told};
 
-/// A phaser with room for 4,294,967,295 events and for 256 registrations at once, whose memory is
+/// The number of a task.
+pub type Task = u64;
+
+/// The number of a phase.
+pub type Phase = u64;
+
+/// How many events there is room for: with one each nanosecond, for 146 years.
+const MOST_EVENTS: u64 = 1 << 62;
+
+/// A phaser with room for 2^62 events and for 256 registrations at once, whose memory is
 /// all taken by `new`. Contracts see all that was ever done on it, which nothing stores, and the
 /// number that it gives out next.
 #[derive(Drop)]
 pub struct LongPhaser {
     engine: Engine,
     /// Each number that was ever registered is below it.
-    next: u32,
+    next: Task,
 }
 
 impl Model for LongPhaser {
@@ -56,7 +67,7 @@ impl LongPhaser {
     /// Makes the phaser, and registers its maker at phase 0, under the number that is returned.
     ///
     /// Refused: `NotNow` where it is made already.
-    pub fn make(&mut self, mode: Mode) -> Result<u32, Refusal>
+    pub fn make(&mut self, mode: Mode) -> Result<Task, Refusal>
         ensures number { IfOk result (λ t. t ≡ self.old.next) }
         ensures done { IfOk result (λ _. done_result (reply self.old.story (make self.old.next mode)) ≡ Ok tt) }
         ensures refused { IfErr result (λ r. done_result (reply self.old.story (make self.old.next mode)) ≡ Err r) }
@@ -73,19 +84,22 @@ impl LongPhaser {
     /// Registers a child where its parent stands, under the number that is returned. Nobody ever had
     /// that number.
     ///
-    /// Refused, in this order: `NotRegistered` (the parent), `MoreThanParent`, `TasksFull` where
-    /// 4,294,967,295 numbers were given out, `RegsFull`, `HistoryFull`.
-    pub fn register(&mut self, parent: u32, mode: Mode) -> Result<u32, Refusal>
+    /// Refused, in this order: `NotRegistered` (the parent), `MoreThanParent`, `RegsFull`,
+    /// `HistoryFull`.
+    pub fn register(&mut self, parent: Task, mode: Mode) -> Result<Task, Refusal>
         ensures number { IfOk result (λ t. t ≡ self.old.next) }
         ensures done { IfOk result (λ _. done_result (reply self.old.story (register parent self.old.next mode)) ≡ Ok tt) }
         ensures refused { IfErr result (λ r.
             done_result (reply self.old.story (register parent self.old.next mode)) ≡ Err r) }
+        ensures numbered { (result ≢ Err Refusal.RegisteredTwice) × (result ≢ Err Refusal.TasksFull) }
         ensures history { self.new.story
             ≡ after self.old.story (reply self.old.story (register parent self.old.next mode)) }
         ensures next { IfOk result (λ t. self.new.next ≡ t + 1) }
         ensures kept { IfErr result (λ _. self.new.next ≡ self.old.next) }
     {
         let child = self.next;
+        // There were as many events as numbers, so there is one more.
+        let _ = self.engine.history();
         self.engine.register(parent, child, mode, false)?;
         self.next = child + 1;
         Ok(child)
@@ -98,7 +112,7 @@ impl LongPhaser {
     /// `AlreadySignalled`, `SingleMismatch`, then the reply is not yet (`NotYet`), then
     /// `HistoryFull`.
     #[inline(always)]
-    pub fn signal(&mut self, task: u32, number: Option<u32>) -> Result<Signalling, Refusal>
+    pub fn signal(&mut self, task: Task, number: Option<u32>) -> Result<Signalling, Refusal>
         ensures reply { result ≡ signal_result (reply self.old.story (signal task number)) }
         ensures history { self.new.story ≡ after self.old.story (reply self.old.story (signal task number)) }
         ensures next { self.new.next ≡ self.old.next }
@@ -113,7 +127,7 @@ impl LongPhaser {
     /// Refused, in this order: `NotRegistered`, `NotSignalled`, then the reply is not yet
     /// (`NotYet`), then `HistoryFull`.
     #[inline(always)]
-    pub fn pass(&mut self, task: u32) -> Result<Passing, Refusal>
+    pub fn pass(&mut self, task: Task) -> Result<LongPassing, Refusal>
         ensures reply { result ≡ pass_result self.old.story.past (reply self.old.story (pass task)) }
         ensures history { self.new.story ≡ after self.old.story (reply self.old.story (pass task)) }
         ensures next { self.new.next ≡ self.old.next }
@@ -124,7 +138,7 @@ impl LongPhaser {
     /// Reports the single done that the task had claimed.
     ///
     /// Refused, in this order: `NotRegistered`, `NotNow` where the task isn't the claimer.
-    pub fn single_done(&mut self, task: u32) -> Result<(), Refusal>
+    pub fn single_done(&mut self, task: Task) -> Result<(), Refusal>
         ensures reply { result ≡ done_result (reply self.old.story (single_done task)) }
         ensures history { self.new.story ≡ after self.old.story (reply self.old.story (single_done task)) }
         ensures next { self.new.next ≡ self.old.next }
@@ -135,7 +149,7 @@ impl LongPhaser {
     /// Sends a value to an accumulator. It counts for the phase that the task hasn't signalled yet.
     ///
     /// Refused, in this order: `NotRegistered`, `NoSignal`, `NoAccumulator`, `HistoryFull`.
-    pub fn send(&mut self, task: u32, accumulator: u8, value: i32) -> Result<(), Refusal>
+    pub fn send(&mut self, task: Task, accumulator: u8, value: i32) -> Result<(), Refusal>
         ensures reply { result ≡ done_result (reply self.old.story (send task accumulator value)) }
         ensures history { self.new.story
             ≡ after self.old.story (reply self.old.story (send task accumulator value)) }
@@ -148,7 +162,7 @@ impl LongPhaser {
     ///
     /// Refused, in this order: `NotRegistered`, `NoWait`, `NoAccumulator`, `NoPhaseYet`,
     /// `HistoryFull`.
-    pub fn look(&mut self, task: u32, accumulator: u8) -> Result<Look, Refusal>
+    pub fn look(&mut self, task: Task, accumulator: u8) -> Result<LongLook, Refusal>
         ensures reply { result ≡ look_result (reply self.old.story (look task accumulator)) }
         ensures history { self.new.story
             ≡ after self.old.story (reply self.old.story (look task accumulator)) }
@@ -162,7 +176,7 @@ impl LongPhaser {
     ///
     /// Refused, in this order: `NotRegistered`, `NotNow` where the task proposed a single that
     /// isn't done.
-    pub fn leave(&mut self, task: u32) -> Result<(), Refusal>
+    pub fn leave(&mut self, task: Task) -> Result<(), Refusal>
         ensures reply { result ≡ done_result (reply self.old.story (drop_task task)) }
         ensures history { self.new.story ≡ after self.old.story (reply self.old.story (drop_task task)) }
         ensures next { self.new.next ≡ self.old.next }
@@ -171,17 +185,38 @@ impl LongPhaser {
     }
 
     /// Whether each task that is registered now and can signal has signalled the phase.
-    pub fn closed(&self, phase: u32) -> bool
+    pub fn closed(&self, phase: Phase) -> bool
         ensures { result ≡ is_closed phase self.now.story.past }
     {
         self.engine.closed(phase)
     }
 
     /// How the task is registered now.
-    pub fn registration(&self, task: u32) -> Option<Reg>
+    pub fn registration(&self, task: Task) -> Option<LongReg>
         ensures { result ≡ registration task self.now.story.past }
     {
         self.engine.registration(task)
+    }
+
+    /// Whether a pass of the task would be answered `NotYet`.
+    pub fn would_wait(&self, task: Task) -> bool
+        ensures { result ≡ would_wait self.now.story task }
+    {
+        self.engine.would_wait(task)
+    }
+
+    /// Whether a signal of the task would be answered `NotYet`.
+    pub fn signal_would_wait(&self, task: Task, number: Option<u32>) -> bool
+        ensures { result ≡ signal_would_wait self.now.story task number }
+    {
+        self.engine.signal_would_wait(task, number)
+    }
+
+    /// Whether the task is registered and the phase at which it stands isn't closed.
+    pub fn is_in_open_phase(&self, task: Task) -> bool
+        ensures { result ≡ is_in_open_phase self.now.story task }
+    {
+        self.engine.is_in_open_phase(task)
     }
 
     /// All that was done on the phaser, of which the proofs alone know more than how much it was. It
@@ -197,15 +232,15 @@ impl LongPhaser {
 }
 
 /// The limits of a long life.
-fn limits() -> Limits
-    ensures { result ≡ long_limits }
+fn limits() -> LongLimits
+    ensures { limits_of result ≡ long_limits }
 {
-    Limits {
+    LongLimits {
         acts: 1,
         finishes: 1,
-        history: u32::MAX,
+        history: MOST_EVENTS,
         phasers: 1,
         regs: 256,
-        tasks: u32::MAX,
+        tasks: MOST_EVENTS + 1,
     }
 }

@@ -1,5 +1,5 @@
 -- A call is done only where its event may follow.
-use Rattle.std.proofs.Common.{◌≡◌, ℕ, Bool, true, false, ◌||◌, ◌&&◌, not, cond, List, [], ◌∷◌, Option, Some, None, refl, ap, sym, ◌∙◌, subst, inl, inr}
+use Rattle.std.proofs.Common.{◌≡◌, ℕ, Bool, true, false, ◌||◌, ◌&&◌, not, cond, List, [], ◌∷◌, Option, Some, None, refl, ap, sym, ◌∙◌, subst, inl, inr, ℤ}
 use Rattle.std.proofs.lemmas.Bool.Decides.{Decides-int_eq}
 use Rattle.std.proofs.lemmas.Bool.{and_from, cases_Bool}
 use Rattle.phase_model.specs.declared.op.Look.{Look}
@@ -54,7 +54,7 @@ going true true false true k n e = absurd cc
 going true true false false k n e = absurd cc
 going false w x c k n e = absurd cc
 
-same_as_itself : (x : Look) → same_look x x ≡ true
+same_as_itself : (x : Look ℤ) → same_look x x ≡ true
 same_as_itself (Value v) = (Decides-int_eq v v).1 refl
 same_as_itself Nothing = refl
 

@@ -1,5 +1,5 @@
 -- The line that a reply is printed as.
-use Rattle.std.specs.Prelude.{ℕ, List, ◌++◌, codes, decimal}
+use Rattle.std.specs.Prelude.{ℕ, List, ◌++◌, codes, decimal, ℤ}
 use Rattle.std.specs.Fmt.{signed_decimal}
 use Rattle.phase_modes.specs.Refusal.{refusal_text}
 use Rattle.phase_model.specs.declared.op.Look.{Look}
@@ -8,7 +8,7 @@ use Rattle.phase_model.specs.declared.call.Reply.{Reply}
 use Rattle.phase_model.specs.declared.call.Reply.TheVariants.{Done, Phase, Claim, Saw, NotYet, Refused}
 
 -- what was seen of an accumulator
-abbrev pub look_text : Look → List ℕ
+abbrev pub look_text : Look ℤ → List ℕ
 look_text (Value v) = codes "value " ++ signed_decimal v
 look_text Nothing = codes "none"
 

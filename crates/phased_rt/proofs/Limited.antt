@@ -1,5 +1,5 @@
 -- Each phaser's part of an explained trace tells a history that is legal under the trace's limits.
-use Rattle.std.proofs.Common.{◌≡◌, ℕ, ◌+◌, Bool, true, false, ◌==◌, List, [], ◌∷◌, ◌++◌, length, map, reverse, refl, ap, ap₂, sym, subst, ◌∙◌, append-nil, get_or, drop, inl, inr, arith}
+use Rattle.std.proofs.Common.{◌≡◌, ℕ, ◌+◌, Bool, true, false, ◌==◌, List, [], ◌∷◌, ◌++◌, length, map, reverse, refl, ap, ap₂, sym, subst, ◌∙◌, append-nil, get_or, drop, inl, inr, arith, ℤ}
 use Rattle.std.specs.Prelude.{if◌then◌else◌}
 use Rattle.std.specs.List.{filter, range_with_len, zip}
 use Rattle.std.proofs.lemmas.Bool.{cases_Bool, and_parts, eq-eqb, eqb-false, ne_eqb, false≢true}
@@ -162,14 +162,14 @@ terms_back n l terms e (d ∷ h) k = before e (terms_back n l terms d h (last_fo
     before (plain.Look t a x) same = same
     before (plain.Drop t) same = same
 
-same_looks : (x y : Look) → same_look x y ≡ true → x ≡ y
+same_looks : (x y : Look ℤ) → same_look x y ≡ true → x ≡ y
 same_looks (looks.Value v) (looks.Value w) k = ap (λ z. looks.Value z) ((Decides-int_eq v w).0 k)
 same_looks looks.Nothing looks.Nothing k = refl
 same_looks (looks.Value v) looks.Nothing k = absurd (false≢true k)
 same_looks looks.Nothing (looks.Value w) k = absurd (false≢true k)
 
 -- a look saw what it would see there
-look_back : (n : ℕ) (l : Limits) (terms : Terms) (t a : ℕ) (x : Look) (h : List Event)
+look_back : (n : ℕ) (l : Limits) (terms : Terms) (t a : ℕ) (x : Look ℤ) (h : List Event)
     → is_legal l terms (plain.Look t a x ∷ h) ≡ true → phaser_past n (told n terms h) ≡ h
     → look_of (terms_of n (told n terms h)).ops a (waits t (phaser_past n (told n terms h))) (phaser_past n (told n terms h)) ≡ x
 look_back n l terms t a x [] k same =
@@ -194,7 +194,7 @@ event_back n l terms (plain.Did t) h k same = refl
 event_back n l terms (plain.Pass t) h k same = refl
 event_back n l terms (plain.Send t a v) h k same = refl
 event_back n l terms (plain.Look t a x) h k same =
-    ap (λ (y : Look). plain.Look t a y) (look_back n l terms t a x h k same)
+    ap (λ (y : Look ℤ). plain.Look t a y) (look_back n l terms t a x h k same)
 event_back n l terms (plain.Drop t) h k same = refl
 
 past_back : (n : ℕ) (l : Limits) (terms : Terms) (h : List Event) → is_legal l terms h ≡ true

@@ -1,5 +1,5 @@
 -- What the methods of a phaser return, as a reply, is what the caller gets of the definition's reply.
-use Rattle.std.proofs.Common.{◌≡◌, ℕ, List, Bool, true, false, Option, None, Some, if◌then◌else◌, refl, sym}
+use Rattle.std.proofs.Common.{◌≡◌, ℕ, List, Bool, true, false, Option, None, Some, if◌then◌else◌, refl, sym, ℤ}
 use Rattle.phase_modes.specs.declared.refusal.Refusal.{Refusal}
 use Rattle.phase_model.specs.declared.history.Event.{Event}
 use Rattle.phase_model.specs.declared.history.Event.TheVariants.{Sig, Claim, Pass, Look as Looked}
@@ -36,7 +36,7 @@ pass_returned h None false true true t = refl
 pass_returned h None false true false t = refl
 
 -- a `look`, which never waits
-pub look_returned : (h : List Event) (o : Option Refusal) (room : Bool) (t a : ℕ) (x : Look)
+pub look_returned : (h : List Event) (o : Option Refusal) (room : Bool) (t a : ℕ) (x : Look ℤ)
     → look_reply (look_result (decided o false room (Looked t a x)))
     ≡ returned h (decided o false room (Looked t a x))
 look_returned h (Some r) room t a x = refl

@@ -2,3 +2,4 @@
 pub mod Answers
 pub mod Outcomes
 pub mod Registration
+pub mod Short

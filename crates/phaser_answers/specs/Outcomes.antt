@@ -1,5 +1,5 @@
 -- What the calls of a phaser return, as replies.
-use Rattle.std.specs.Prelude.{Result, Ok, Err}
+use Rattle.std.specs.Prelude.{Result, Ok, Err, ℤ, ℕ}
 use Rattle.phase_modes.specs.declared.refusal.Refusal.{Refusal}
 use Rattle.phase_model.specs.declared.op.Look.{Look}
 use Rattle.phase_model.specs.declared.call.Reply.{Reply}
@@ -23,13 +23,13 @@ signal_reply (Ok signallings.NotYet) = NotYet
 signal_reply (Err r) = Refused r
 
 -- of a `pass`
-abbrev pub pass_reply : Result Passing Refusal → Reply
+abbrev pub pass_reply : Result (Passing ℕ) Refusal → Reply
 pass_reply (Ok (Passed p)) = Phase p
 pass_reply (Ok (Claimed n)) = Claim n
 pass_reply (Ok passings.NotYet) = NotYet
 pass_reply (Err r) = Refused r
 
 -- of a `look`
-abbrev pub look_reply : Result Look Refusal → Reply
+abbrev pub look_reply : Result (Look ℤ) Refusal → Reply
 look_reply (Ok x) = Saw x
 look_reply (Err r) = Refused r

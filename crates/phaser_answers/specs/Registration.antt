@@ -8,7 +8,7 @@ use Rattle.phase_model.specs.Tasks.{has_mode, mode_of, is_live}
 use Rattle.phase_model.specs.Phases.{waits, signals}
 
 -- the registration of a live task
-abbrev pub reg_of : ℕ → List Event → Reg
+abbrev pub reg_of : ℕ → List Event → Reg ℕ
 reg_of t h = record {
   mode = unwrap_or (mode_of t h) Wait;
   phase = waits t h;
@@ -16,5 +16,5 @@ reg_of t h = record {
 }
 
 -- how t is registered now, if it is
-abbrev pub registration : ℕ → List Event → Option Reg
+abbrev pub registration : ℕ → List Event → Option (Reg ℕ)
 registration t h = if is_live t h then Some (reg_of t h) else None

@@ -9,14 +9,17 @@ pub enum Signalling {
     NotYet,
 }
 
-/// How a `pass` ended.
+/// How a `pass` ended. Phases are counted by 32 bits where nothing else is said.
 #[derive(Clone, Copy, Debug, PartialEq, Eq)]
-pub enum Passing {
+pub enum Passing<P = u32> {
     /// The turn of this phase is ended.
-    Passed(u32),
+    Passed(P),
     /// The task claimed the single of its phase: it runs the statement of this number, and reports
     /// it done before it asks to pass again.
     Claimed(u32),
     /// The phase isn't closed, or its single isn't done: the task asks again after another's call.
     NotYet,
 }
+
+/// How a `pass` ended on a phaser that lives long: phases are counted by 64 bits.
+pub type LongPassing = Passing<u64>;

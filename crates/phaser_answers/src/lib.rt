@@ -5,6 +5,8 @@
 
 mod answer;
 mod replies;
+mod short;
 
-pub use answer::{Passing, Signalling};
+pub use answer::{LongPassing, Passing, Signalling};
 pub use replies::{done_reply, look_reply, pass_reply, signal_reply};
+pub use short::{short_look, short_passing};

@@ -21,7 +21,7 @@ use worlds::steps_of;
 
 /// What is printed where the arguments are bad.
 const USAGE: &str = "usage: phaser_bench JOB, where JOB is one of
-core none|turn|send|look|drop TASKS PHASERS
+core none|turn|send|look|drop|long TASKS PHASERS
     (1 to 256 tasks, 1 to 1000 phasers)
 locks none|turn|ahead|follow|free TASKS PHASES PHASERS THREADS
     (1 to 256 tasks, 1 to 32768 phases, 1 to 32 phasers for each of 1 or 2 threads)

@@ -62,12 +62,12 @@ bit_for false = 0
 bit_for true = 1
 
 -- the number that answers for what is kept of a fold
-abbrev pub number_of_fold : Option Look → ℕ
+abbrev pub number_of_fold : Option (Look ℤ) → ℕ
 number_of_fold None = number_of_answer NotKept
 number_of_fold (Some (Value v)) = number_of_answer Done
 number_of_fold (Some Unseen) = number_of_answer Nothing
 
 -- the value of a fold; where it has none, what was there before
-abbrev pub value_of_fold : ℤ → Option Look → ℤ
+abbrev pub value_of_fold : ℤ → Option (Look ℤ) → ℤ
 value_of_fold old (Some (Value v)) = v
 value_of_fold old _ = old

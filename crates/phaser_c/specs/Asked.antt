@@ -15,7 +15,7 @@ asked None old f = old
 asked (Some p) old f = f p
 
 -- what `PhaserState::fold_at` promises of its answer
-abbrev pub IsFoldAt : Phaser → ℕ → ℕ → Option Look → Type 0
+abbrev pub IsFoldAt : Phaser → ℕ → ℕ → Option (Look ℤ) → Type 0
 IsFoldAt p accumulator phase r =
     IfSome r (λ x. accumulator < length p.story.terms.ops)
     × IfSome r (λ x. phase < p.story.limits.history)
@@ -28,4 +28,4 @@ IsFoldAt p accumulator phase r =
 abbrev pub IsFold : Option Phaser → ℕ → ℕ → ℤ → ℤ → ℕ → Type 0
 IsFold None accumulator phase old new number = (new ≡ old) × (number ≡ number_of_answer Closed)
 IsFold (Some p) accumulator phase old new number =
-    (r : Option Look) × IsFoldAt p accumulator phase r × (new ≡ value_of_fold old r) × (number ≡ number_of_fold r)
+    (r : Option (Look ℤ)) × IsFoldAt p accumulator phase r × (new ≡ value_of_fold old r) × (number ≡ number_of_fold r)

@@ -1,5 +1,5 @@
 -- A call that was not done adds nothing.
-use Rattle.std.proofs.Common.{◌≡◌, ℕ, Bool, true, false, List, ◌∷◌, Option, Some, None, Ok, Err, cond, refl}
+use Rattle.std.proofs.Common.{◌≡◌, ℕ, Bool, true, false, List, ◌∷◌, Option, Some, None, Ok, Err, cond, refl, ℤ}
 use Rattle.phase_modes.specs.declared.refusal.Refusal.{Refusal}
 use Rattle.phase_modes.specs.Refusal.{first_refusal}
 use Rattle.phase_model.specs.declared.history.Event.{Event}
@@ -37,7 +37,7 @@ pass_stays s h (done (Send t a v)) k = absurd cc
 pass_stays s h (done (Looked t a x)) k = absurd cc
 pass_stays s h (done (Drop t)) k = absurd cc
 
-look_by : (s : Story) (o : Option Refusal) (b : Bool) (t a : ℕ) (y : Look) (x : Refusal)
+look_by : (s : Story) (o : Option Refusal) (b : Bool) (t a : ℕ) (y : Look ℤ) (x : Refusal)
     → look_result (decided o false b (Looked t a y)) ≡ Err x → after s (decided o false b (Looked t a y)) ≡ s
 look_by s (Some r) b t a y x k = refl
 look_by s None true t a y x k = absurd cc

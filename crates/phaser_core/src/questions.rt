@@ -12,6 +12,7 @@ ghost use Rattle.phaser_engine.specs.Window.{is_needed};
 use crate::state::PhaserState;
 use phase_model::{Call, Event, Look, Reply};
 use phase_modes::Reg;
+use phaser_answers::short_look;
 
 impl PhaserState {
     /// What `apply` would reply to the call now.
@@ -22,6 +23,8 @@ impl PhaserState {
             Call::Register(_, child, _) => self.history.has_registered(child),
             _ => false,
         };
+        // So there is room for phases and sums.
+        let _ = self.history.history().limits();
         self.engine.reply_to(call, is_known)
     }
 
@@ -29,7 +32,7 @@ impl PhaserState {
     pub fn closed(&self, phase: u32) -> bool
         ensures { result ≡ is_closed phase self.now.story.past }
     {
-        self.engine.closed(phase)
+        self.engine.closed(phase as u64)
     }
 
     /// Whether an event that registers nobody and proposes nothing has no room in the history.
@@ -53,7 +56,12 @@ impl PhaserState {
             ≡ option_map (λ op. fold op (sent accumulator phase self.now.story.past))
             (slice_get self.now.story.terms.ops accumulator)) }
     {
-        self.engine.fold_at(accumulator, phase)
+        // So there is room for the sum.
+        let _ = self.history.history().limits();
+        match self.engine.fold_at(accumulator, phase as u64) {
+            Some(look) => Some(short_look(look)),
+            None => None,
+        }
     }
 
     /// How many comparisons of task numbers the last call made that changes the phaser: at most 9
@@ -68,7 +76,12 @@ impl PhaserState {
     pub fn registration(&self, task: u32) -> Option<Reg>
         ensures { result ≡ registration task self.now.story.past }
     {
-        self.engine.registration(task)
+        // So there is room for the phase.
+        let _ = self.history.history().limits();
+        match self.engine.registration(task as u64) {
+            Some(reg) => Some(reg.short()),
+            None => None,
+        }
     }
 
     /// Whether the task may claim the single of its phase: its next `pass` then claims it.
@@ -76,7 +89,7 @@ impl PhaserState {
         ensures { result
             ≡ is_permitted self.now.story.limits self.now.story.terms self.now.story.past (Event.Claim task) }
     {
-        self.engine.may_claim(task)
+        self.engine.may_claim(task as u64)
     }
 
     /// Whether the task may report the single done that it claimed.
@@ -84,27 +97,27 @@ impl PhaserState {
         ensures { result
             ≡ is_permitted self.now.story.limits self.now.story.terms self.now.story.past (Event.Did task) }
     {
-        self.engine.may_report(task)
+        self.engine.may_report(task as u64)
     }
 
     /// Whether a pass of the task would be answered `NotYet`.
     pub fn would_wait(&self, task: u32) -> bool
         ensures { result ≡ would_wait self.now.story task }
     {
-        self.engine.would_wait(task)
+        self.engine.would_wait(task as u64)
     }
 
     /// Whether a signal of the task would be answered `NotYet`.
     pub fn signal_would_wait(&self, task: u32, number: Option<u32>) -> bool
         ensures { result ≡ signal_would_wait self.now.story task number }
     {
-        self.engine.signal_would_wait(task, number)
+        self.engine.signal_would_wait(task as u64, number)
     }
 
     /// Whether the task is registered and the phase at which it stands isn't closed.
     pub fn is_in_open_phase(&self, task: u32) -> bool
         ensures { result ≡ is_in_open_phase self.now.story task }
     {
-        self.engine.is_in_open_phase(task)
+        self.engine.is_in_open_phase(task as u64)
     }
 }

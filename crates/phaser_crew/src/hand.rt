@@ -1,5 +1,5 @@
 //! A worker's hand, as a crew sees it: its calls on all phasers, and whom they wake.
-ghost use Rattle.std.specs.Prelude.{◌≡◌, ◌≤◌, ◌∷◌, [], false, Err, OnErr, MatchOption, is_ok};
+ghost use Rattle.std.specs.Prelude.{◌≡◌, ◌≤◌, ◌∷◌, [], false, Err, OnErr, MatchOption, is_ok, ℤ};
 ghost use Rattle.phase_model.specs.Amounts.{plus};
 ghost use Rattle.scope_locks.specs.Amounts.{amount_if};
 ghost use Rattle.scope_locks.specs.Parking.{goes_on, IsBack, has_signalled, IsBackFromSignal};
@@ -76,7 +76,7 @@ pub trait Hand<T> {
 
     /// The task looks at the accumulator of this index.
     fn look(&mut self, phaser: u32, task: u32, accumulator: u8) -> Result<Look, Refusal>
-        ensures posted { (x : Look) → (shown self.new).posted
+        ensures posted { (x : Look ℤ) → (shown self.new).posted
             ≡ plus (amount_if (is_ok result) (Event.Look task accumulator x)) (shown self.old).posted }
         ensures unknown { (shown self.old).phasers ≤ phaser → result ≡ Err Refusal.NotRegistered }
         ensures same { IsSameHand (shown self.old) (shown self.new) }

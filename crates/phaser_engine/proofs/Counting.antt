@@ -21,15 +21,15 @@ is_below p None = true
 is_below p (Some l) = nat_lt p l
 
 -- a signaller stands where it stands
-stands_itself : (r : Reg) → can_signal r.mode ≡ true → stands_at (signals_of r) r ≡ 1
+stands_itself : (r : Reg ℕ) → can_signal r.mode ≡ true → stands_at (signals_of r) r ≡ 1
 stands_itself r k = rw (k, eq-eqb (signals_of r) (signals_of r) refl) refl
 
 -- and a waiter
-pub waits_itself : (r : Reg) → can_wait r.mode ≡ true → waits_at r.phase r ≡ 1
+pub waits_itself : (r : Reg ℕ) → can_wait r.mode ≡ true → waits_at r.phase r ≡ 1
 waits_itself r k = rw (k, eq-eqb r.phase r.phase refl) refl
 
 -- a line that counts is that of a signaller that stands there
-stands_there : (n : ℕ) (r : Reg) → 0 < stands_at n r → (can_signal r.mode ≡ true) × (signals_of r ≡ n)
+stands_there : (n : ℕ) (r : Reg ℕ) → 0 < stands_at n r → (can_signal r.mode ≡ true) × (signals_of r ≡ n)
 stands_there n r some = split (can_signal r.mode && signals_of r == n) refl some
   where
     split : (b : Bool) → (can_signal r.mode && signals_of r == n) ≡ b → 0 < cond b 1 0
@@ -39,7 +39,7 @@ stands_there n r some = split (can_signal r.mode && signals_of r == n) refl some
     split false e k = absurd (omega arith)
 
 -- or of a waiter
-pub waits_there : (n : ℕ) (r : Reg) → 0 < waits_at n r → (can_wait r.mode ≡ true) × (r.phase ≡ n)
+pub waits_there : (n : ℕ) (r : Reg ℕ) → 0 < waits_at n r → (can_wait r.mode ≡ true) × (r.phase ≡ n)
 waits_there n r some = split (can_wait r.mode && r.phase == n) refl some
   where
     split : (b : Bool) → (can_wait r.mode && r.phase == n) ≡ b → 0 < cond b 1 0
@@ -151,8 +151,8 @@ one_passed (x ∷ xs) n l near some =
     ]
 
 -- each line is counted once at most
-abbrev pub AtMostOnce : (ℕ → Reg → ℕ) → Type 0
-AtMostOnce at = (n : ℕ) (r : Reg) → at n r ≤ 1
+abbrev pub AtMostOnce : (ℕ → Reg ℕ → ℕ) → Type 0
+AtMostOnce at = (n : ℕ) (r : Reg ℕ) → at n r ≤ 1
 
 one_or_none : (b : Bool) → cond b 1 0 ≤ 1
 one_or_none true = omega arith
@@ -165,7 +165,7 @@ pub waits_once : AtMostOnce waits_at
 waits_once n r = one_or_none (can_wait r.mode && r.phase == n)
 
 -- counts by any such test
-module _ (at : ℕ → Reg → ℕ) where
+module _ (at : ℕ → Reg ℕ → ℕ) where
   -- how many of the lines stand at n
   abbrev counted : List Entry → ℕ → ℕ
   counted xs n = sum_by (λ e. at n e.reg) xs
@@ -236,7 +236,7 @@ rear_same before after rear same is = record {
 }
 
 -- the registration counts at p alone
-pub record IsAt (at : ℕ → Reg → ℕ) (p : ℕ) (r : Reg) : Type 0 where
+pub record IsAt (at : ℕ → Reg ℕ → ℕ) (p : ℕ) (r : Reg ℕ) : Type 0 where
   pub here : at p r ≡ 1
   pub elsewhere : (n : ℕ) → n ≢ p → at n r ≡ 0
 
@@ -245,20 +245,20 @@ off_place : (b : Bool) (m n : ℕ) → n ≢ m → ◌≡◌ {A = ℕ} (cond (b 
 off_place true m n off = rw (ne_eqb m n (λ same. off (sym same))) refl
 off_place false m n off = refl
 
-pub signaller_at : (p : ℕ) (r : Reg) → can_signal r.mode ≡ true → signals_of r ≡ p → IsAt stands_at p r
+pub signaller_at : (p : ℕ) (r : Reg ℕ) → can_signal r.mode ≡ true → signals_of r ≡ p → IsAt stands_at p r
 signaller_at p r able is = record {
   here = rw (able, eq-eqb (signals_of r) p is) refl;
   elsewhere = λ n off. off_place (can_signal r.mode) (signals_of r) n (λ same. off (same ∙ is));
 }
 
-pub waiter_at : (p : ℕ) (r : Reg) → can_wait r.mode ≡ true → r.phase ≡ p → IsAt waits_at p r
+pub waiter_at : (p : ℕ) (r : Reg ℕ) → can_wait r.mode ≡ true → r.phase ≡ p → IsAt waits_at p r
 waiter_at p r able is = record {
   here = rw (able, eq-eqb r.phase p is) refl;
   elsewhere = λ n off. off_place (can_wait r.mode) r.phase n (λ same. off (same ∙ is));
 }
 
 -- whoever is counted too has entered there
-pub enters_there : (at : ℕ → Reg → ℕ) (p : ℕ) (r : Reg) (before after : ℕ → ℕ) → IsAt at p r
+pub enters_there : (at : ℕ → Reg ℕ → ℕ) (p : ℕ) (r : Reg ℕ) (before after : ℕ → ℕ) → IsAt at p r
     → ((n : ℕ) → after n ≡ before n + at n r) → HasEntered p before after
 enters_there at p r before after is more = record {
   more = omega (arith, more p, is.here);
@@ -266,7 +266,7 @@ enters_there at p r before after is more = record {
 }
 
 -- and whoever is counted no more has left there
-pub leaves_there : (at : ℕ → Reg → ℕ) (p : ℕ) (r : Reg) (before after : ℕ → ℕ) → IsAt at p r
+pub leaves_there : (at : ℕ → Reg ℕ → ℕ) (p : ℕ) (r : Reg ℕ) (before after : ℕ → ℕ) → IsAt at p r
     → ((n : ℕ) → after n + at n r ≡ before n) → HasLeft p before after
 leaves_there at p r before after is fewer = record {
   fewer = omega (arith, fewer p, is.here);
@@ -274,7 +274,7 @@ leaves_there at p r before after is fewer = record {
 }
 
 -- also where it is counted further on
-pub goes_on : (at : ℕ → Reg → ℕ) (lines : List Entry) (i p q : ℕ) (x old : Entry)
+pub goes_on : (at : ℕ → Reg ℕ → ℕ) (lines : List Entry) (i p q : ℕ) (x old : Entry)
     → slice_get lines i ≡ Some old → IsAt at p old.reg → IsAt at q x.reg → p < q
     → HasLeft p (counted at lines) (counted at (set lines i x))
 goes_on at lines i p q x old here from to later = record {

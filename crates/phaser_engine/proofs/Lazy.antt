@@ -272,7 +272,7 @@ folds_as_sent l terms h k p past a op =
     ∙ (ap (λ c. fold_of_cell op c) (sym (closed_tally l terms h k p past a))
     ∙ fold_of_cell-tally op (sent a p h))
 
-pub same_folds : (f g : Op → Look) (o : Option Op) → ((op : Op) → f op ≡ g op)
+pub same_folds : (f g : Op → Look ℤ) (o : Option Op) → ((op : Op) → f op ≡ g op)
     → option_map f o ≡ option_map g o
 same_folds f g None same = refl
 same_folds f g (Some op) same = ap (λ x. Some x) (same op)

@@ -9,6 +9,7 @@ pub mod Registers
 pub mod Reports
 pub mod Rooms
 pub mod Sends
+pub mod Short
 pub mod Signals
 pub mod SinglesKept
 pub mod SinglesMoved

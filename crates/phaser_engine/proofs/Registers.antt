@@ -28,26 +28,26 @@ use Rattle.phaser_engine.specs.Table.{entry_of}
 use Rattle.phaser_engine.proofs.Reading.{Found, found_phase}
 
 -- what a child's registration says
-pub record ChildOk (p : Reg) (m : Mode) (r : Reg) : Type 0 where
+pub record ChildOk (p : Reg ℕ) (m : Mode) (r : Reg ℕ) : Type 0 where
   pub within : is_within m p.mode ≡ true
   pub is_reg : r ≡ record { mode = m; phase = p.phase; ahead = p.ahead && can_signal m }
 
-pub child_ok : (p : Reg) (m : Mode) (r : Reg) → child_reg p m ≡ Ok r → ChildOk p m r
+pub child_ok : (p : Reg ℕ) (m : Mode) (r : Reg ℕ) → child_reg p m ≡ Ok r → ChildOk p m r
 child_ok p m r e =
-    let good : Result Reg Refusal =
+    let good : Result (Reg ℕ) Refusal =
     Ok (record { mode = m; phase = p.phase; ahead = p.ahead && can_signal m }) in
-    let bad : Result Reg Refusal = Err MoreThanParent in
+    let bad : Result (Reg ℕ) Refusal = Err MoreThanParent in
     (elim (is_within m p.mode) as (λ b. is_within m p.mode ≡ b → cond b good bad ≡ Ok r → ChildOk p m r) [
       | true ↦ λ w k. record { within = w; is_reg = cc }
       | false ↦ λ w k. absurd cc
     ]) refl e
 
-pub child_err : (p : Reg) (m : Mode) (r : Refusal) → child_reg p m ≡ Err r
+pub child_err : (p : Reg ℕ) (m : Mode) (r : Refusal) → child_reg p m ≡ Err r
     → (is_within m p.mode ≡ false) × (r ≡ MoreThanParent)
 child_err p m r e =
-    let good : Result Reg Refusal =
+    let good : Result (Reg ℕ) Refusal =
     Ok (record { mode = m; phase = p.phase; ahead = p.ahead && can_signal m }) in
-    let bad : Result Reg Refusal = Err MoreThanParent in
+    let bad : Result (Reg ℕ) Refusal = Err MoreThanParent in
     (elim (is_within m p.mode) as (λ b. is_within m p.mode ≡ b → cond b good bad ≡ Err r
     → (is_within m p.mode ≡ false) × (r ≡ MoreThanParent)) [
       | true ↦ λ w k. absurd cc
@@ -64,7 +64,7 @@ ahead_same false false x k = refl
 
 -- a child's line is that of its task after the event
 pub child_is : (l : Limits) (terms : Terms) (h : List Event) → is_legal l terms h ≡ true
-    → (q t : ℕ) (m : Mode) (p : Entry) (r : Reg) → is_registered t h ≡ false → Found h q p → ChildOk p.reg m r
+    → (q t : ℕ) (m : Mode) (p : Entry) (r : Reg ℕ) → is_registered t h ≡ false → Found h q p → ChildOk p.reg m r
     → ◌≡◌ {A = Entry} (record { task = t; reg = r; proposed = false }) (entry_of (Joined q t m ∷ h) t)
 child_is l terms h legal q t m p r fresh f k =
     let phase : p.reg.phase ≡ waits q h = found_phase h q p f in

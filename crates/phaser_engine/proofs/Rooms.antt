@@ -1,5 +1,5 @@
 -- Room for each event, as the table and the last single show it.
-use Rattle.std.proofs.Common.{◌≡◌, ℕ, suc, ◌+◌, ◌<◌, nat_le, true, false, List, ◌∷◌, length, Option, Ok, refl, ap, arith}
+use Rattle.std.proofs.Common.{◌≡◌, ℕ, suc, ◌+◌, ◌<◌, ◌≤◌, nat_le, true, false, List, ◌∷◌, length, Option, Ok, refl, ap, arith}
 use Rattle.phase_modes.specs.declared.reg.Mode.{Mode}
 use Rattle.phase_modes.specs.Mode.{can_signal}
 use Rattle.std.proofs.lemmas.Bool.{and_parts, leb-true}
@@ -8,11 +8,13 @@ use Rattle.phase_model.specs.declared.history.Event.TheVariants.{Sig, Reg as Joi
 use Rattle.phase_model.specs.Tasks.{is_live, has_mode, is_registered, live_count}
 use Rattle.phase_model.specs.Phases.{signals}
 use Rattle.phase_model.specs.Singles.{reserve}
-use Rattle.phase_model.specs.Rules.{Story, is_permitted, has_room}
+use Rattle.phase_modes.specs.declared.limits.Limits.{Limits}
+use Rattle.phase_model.specs.declared.terms.Terms.{Terms}
+use Rattle.phase_model.specs.Rules.{Story, is_permitted, is_legal, has_room}
 use Rattle.phase_model.specs.declared.call.Call.{Call}
 use Rattle.phase_model.specs.Replies.{reply, done}
 use Rattle.phase_model.proofs.Replied.{done_is_allowed}
-use Rattle.phase_model.proofs.LiveTasks.{live_tasks-reg}
+use Rattle.phase_model.proofs.LiveTasks.{live_tasks-reg, has_room_now}
 use Rattle.single_state.specs.declared.statement.Statement.{Statement}
 use Rattle.single_state.specs.Single.{reserve_of}
 use Rattle.reg_table.specs.declared.table.Entry.{Entry}
@@ -56,4 +58,11 @@ room_of_done s c e is =
     let room =
     leb-true (length (e ∷ s.past) + live_count (e ∷ s.past) + reserve (e ∷ s.past)) s.limits.history
     parts.1 in
+    omega (arith, room)
+
+-- a legal history is no longer than it may be
+pub past_within : (l : Limits) (terms : Terms) (h : List Event) → is_legal l terms h ≡ true
+    → length h ≤ l.history
+past_within l terms h k =
+    let room = leb-true (length h + live_count h + reserve h) l.history (has_room_now l terms h k) in
     omega (arith, room)

@@ -275,7 +275,7 @@ stands_send s table single t a v stands is = record {
   count = stands.count;
 }
 
-pub stands_look : (s : Story) (table : List Entry) (single : Option Statement) (t a : ℕ) (x : Look)
+pub stands_look : (s : Story) (table : List Entry) (single : Option Statement) (t a : ℕ) (x : Look ℤ)
     → Stands s table single → reply s (look t a) ≡ done (Looked t a x)
     → Stands (with_event s (Looked t a x)) table single
 stands_look s table single t a x stands is = record {

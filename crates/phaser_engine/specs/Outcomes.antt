@@ -1,5 +1,5 @@
 -- What a call would return that isn't made, as a reply.
-use Rattle.std.specs.Prelude.{Result, Ok, Err}
+use Rattle.std.specs.Prelude.{◌<◌, ◌^◌, Result, Ok, Err}
 use Rattle.phase_modes.specs.declared.refusal.Refusal.{Refusal}
 use Rattle.phase_model.specs.declared.call.Reply.{Reply}
 use Rattle.phase_model.specs.declared.call.Reply.TheVariants.{Phase, Claim, NotYet, Refused}
@@ -20,3 +20,9 @@ turn_reply (Ok (Passes i p)) = Phase p
 turn_reply (Ok (Claims o n)) = Claim n
 turn_reply (Ok Waits) = NotYet
 turn_reply (Err r) = Refused r
+
+-- a turn whose phase has 32 bits
+abbrev pub IsShortTurn : Turn → Type 0
+IsShortTurn (Passes i p) = p < 2 ^ 32
+IsShortTurn (Claims o n) = Unit {0}
+IsShortTurn Waits = Unit {0}

@@ -1,5 +1,5 @@
 -- How a turn goes on, and what it does to the last single.
-use Rattle.std.specs.Prelude.{ℕ, Bool, ◌≡◌, ◌∷◌, ◌&&◌, if◌then◌else◌, List, Option, Some, None, slice_get, unwrap_or, Result, Ok, Err}
+use Rattle.std.specs.Prelude.{ℕ, Bool, ◌≡◌, ◌≤◌, ◌∷◌, ◌&&◌, if◌then◌else◌, List, Option, Some, None, slice_get, unwrap_or, Result, Ok, Err}
 use Rattle.std.specs.List.{list_all}
 use Rattle.phase_modes.specs.declared.refusal.Refusal.{Refusal}
 use Rattle.phase_modes.specs.declared.refusal.Refusal.TheVariants.{SingleMismatch}
@@ -12,6 +12,8 @@ use Rattle.phase_model.specs.Replies.{Reply, reply, refused, not_yet, done}
 use Rattle.single_state.specs.declared.statement.Statement.{Statement}
 use Rattle.single_state.specs.Single.{is_mismatch, proposed, is_claimable, claimed}
 use Rattle.reg_table.specs.declared.table.Entry.{Entry}
+use Rattle.phaser_answers.specs.declared.answer.Passing.{Passing}
+use Rattle.phaser_answers.specs.declared.answer.Passing.TheVariants.{Passed, Claimed, NotYet}
 use Rattle.phaser_engine.specs.declared.turn.Unmade.{Unmade}
 use Rattle.phaser_engine.specs.declared.turn.Unmade.TheVariants.{Refused, Held}
 use Rattle.phaser_engine.specs.declared.turn.Turn.{Turn}
@@ -49,3 +51,9 @@ IsTurn s table t (Claims o n) =
     × IsLastSingle o (Claim t ∷ s.past)
     × (n ≡ unwrap_or (number_of (waits t s.past) s.past) 0)
 IsTurn s table t Waits = reply s (pass t) ≡ not_yet
+
+-- a phase that was passed is no later than so many events
+abbrev pub IsEarly : ℕ → Passing ℕ → Type 0
+IsEarly n (Passed p) = p ≤ n
+IsEarly n (Claimed m) = Unit {0}
+IsEarly n NotYet = Unit {0}

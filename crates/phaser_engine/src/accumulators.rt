@@ -1,5 +1,6 @@
 //! What `send` and `look` are answered, read off the table and the cells. Nothing is changed here.
 ghost use Rattle.std.specs.Prelude.{◌≡◌, length, ◌<◌, Some, slice_get, ◌≤◌, ◌+◌, ◌^◌, IfOk, IfErr};
+ghost use Rattle.acc_cells.specs.Cells.{IsInReach};
 ghost use Rattle.phase_model.specs.Rules.{look_of};
 ghost use Rattle.phase_model.specs.declared.call.Call.TheVariants.{Send as send, Look as look};
 ghost use Rattle.phase_model.specs.Replies.{reply, refused, done};
@@ -8,7 +9,7 @@ ghost use Rattle.phaser_engine.specs.Window.{IsWindow};
 
 use crate::view::{View, has_room};
 use acc_cells::Cells;
-use phase_model::{Event, Look};
+use phase_model::{Event, LongLook};
 use phase_modes::Refusal;
 use reg_table::Comparisons;
 
@@ -16,7 +17,7 @@ impl View<'_> {
     /// Where the line of a task stands that may send a value.
     pub(crate) fn may_send(
         &self,
-        task: u32,
+        task: u64,
         accumulator: u8,
         value: i32,
         comparisons: &mut Comparisons,
@@ -50,16 +51,17 @@ impl View<'_> {
     pub(crate) fn may_look(
         &self,
         cells: &Cells,
-        task: u32,
+        task: u64,
         accumulator: u8,
         comparisons: &mut Comparisons,
-    ) -> Result<Look, Refusal>
+    ) -> Result<LongLook, Refusal>
         requires folds { Folds self.now.history.now self.now.table.now.partials cells.now }
         requires window { IsWindow cells.now.from self.now.history.now.past }
         requires counted { comparisons.old + 9 < 2 ^ 32 }
         ensures refused { IfErr result (λ r. reply self.now.history.now (look task accumulator) ≡ refused r) }
         ensures done { IfOk result (λ x. reply self.now.history.now (look task accumulator)
             ≡ done (Event.Look task accumulator x)) }
+        ensures reach { IfOk result (λ x. IsInReach self.now.history.now.limits.history x) }
         ensures count { comparisons.new ≤ comparisons.old + 9 }
     {
         let Some((_, entry)) = self.table.find(task, comparisons) else {
@@ -77,6 +79,6 @@ impl View<'_> {
         if !has_room(self.history, self.table.len(), self.single.reserve()) {
             return Err(Refusal::HistoryFull);
         }
-        Ok(cells.look(accumulator, (entry.reg.phase - 1) as u64))
+        Ok(cells.look(accumulator, entry.reg.phase - 1))
     }
 }

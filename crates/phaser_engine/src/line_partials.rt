@@ -113,7 +113,7 @@ impl LinePartials {
     }
 
     /// Folds what the task of a line sent into the cells of a phase.
-    pub(crate) fn fold(&mut self, place: usize, phase: u32, cells: &mut Cells)
+    pub(crate) fn fold(&mut self, place: usize, phase: u64, cells: &mut Cells)
         requires place { place < length self.old }
         requires known { HoldsOnly (length cells.old.ops) (slice_index_or self.old place no_partial) }
         requires room { cells.old.sums.values + held (slice_index_or self.old place no_partial) ≤ most_values }
@@ -128,7 +128,7 @@ impl LinePartials {
             → StandsFor cells.new (with_taken phase mine values) }
     {
         let partial = &mut self.all[place];
-        cells.take_in(phase as u64, partial);
+        cells.take_in(phase, partial);
     }
 }
 

@@ -4,17 +4,17 @@ ghost use Rattle.std.specs.List.{list_any};
 ghost use Rattle.phase_model.specs.declared.call.Call.TheVariants.{Register as register, Drop as drop_task, Make as make};
 ghost use Rattle.phase_model.specs.Replies.{reply, refused, done};
 ghost use Rattle.phase_model.specs.Tasks.{is_registered};
-ghost use Rattle.reg_table.specs.Lines.{IsPlaceFor};
+ghost use Rattle.reg_table.specs.Lines.{IsPlaceFor, HasNext};
 ghost use Rattle.phaser_engine.specs.Table.{entry_of};
 
 use crate::view::{View, has_room, owes_single};
 use phase_model::Event;
-use phase_modes::{Mode, Refusal, Reg};
+use phase_modes::{LongReg, Mode, Refusal};
 use reg_table::{Comparisons, Entry, MOST_LINES};
 
 impl View<'_> {
     /// Whether the phaser may be made.
-    pub(crate) fn may_make(&self, task: u32, mode: Mode) -> Result<(), Refusal>
+    pub(crate) fn may_make(&self, task: u64, mode: Mode) -> Result<(), Refusal>
         ensures refused { IfErr result (λ r. reply self.now.history.now (make task mode) ≡ refused r) }
         ensures done { IfOk result (λ u. reply self.now.history.now (make task mode)
             ≡ done (Event.Make task mode)) }
@@ -35,10 +35,10 @@ impl View<'_> {
     pub(crate) fn may_join(
         &self,
         parent: Entry,
-        child: u32,
+        child: u64,
         mode: Mode,
         is_known: bool,
-    ) -> Result<Reg, Refusal>
+    ) -> Result<LongReg, Refusal>
         requires known { is_known ≡ is_registered child self.now.history.now.past }
         requires line { (i : ℕ) × (slice_get self.now.table.now.lines i ≡ Some parent) }
         ensures refused { IfErr result (λ r. reply self.now.history.now (register parent.task child mode)
@@ -47,6 +47,7 @@ impl View<'_> {
             ≡ done (Event.Reg parent.task child mode)) }
         ensures entry { IfOk result (λ r. record { task = child; reg = r; proposed = false }
             ≡ entry_of (Event.Reg parent.task child mode ∷ self.now.history.now.past) child) }
+        ensures next { IfOk result (λ r. HasNext r) }
         ensures room { OnOk result (length self.now.table.now.lines < self.now.history.now.limits.regs) }
         ensures absent { OnOk result (list_any (λ e. e.task == child) self.now.table.now.lines ≡ false) }
     {
@@ -74,18 +75,19 @@ impl View<'_> {
     #[inline(always)]
     pub(crate) fn may_register_last(
         &self,
-        parent: u32,
-        child: u32,
+        parent: u64,
+        child: u64,
         mode: Mode,
         is_known: bool,
         comparisons: &mut Comparisons,
-    ) -> Option<Reg>
+    ) -> Option<LongReg>
         requires known { is_known ≡ is_registered child self.now.history.now.past }
         requires counted { comparisons.old + 2 < 2 ^ 32 }
         ensures done { OnSome result (reply self.now.history.now (register parent child mode)
             ≡ done (Event.Reg parent child mode)) }
         ensures entry { IfSome result (λ r. record { task = child; reg = r; proposed = false }
             ≡ entry_of (Event.Reg parent child mode ∷ self.now.history.now.past) child) }
+        ensures next { IfSome result (λ r. HasNext r) }
         ensures room { OnSome result (length self.now.table.now.lines < self.now.history.now.limits.regs) }
         ensures absent { OnSome result (list_any (λ e. e.task == child) self.now.table.now.lines ≡ false) }
         ensures last { OnSome result
@@ -108,12 +110,12 @@ impl View<'_> {
     /// The registration of a child that may be registered.
     pub(crate) fn may_register(
         &self,
-        parent: u32,
-        child: u32,
+        parent: u64,
+        child: u64,
         mode: Mode,
         is_known: bool,
         comparisons: &mut Comparisons,
-    ) -> Result<Reg, Refusal>
+    ) -> Result<LongReg, Refusal>
         requires known { is_known ≡ is_registered child self.now.history.now.past }
         requires counted { comparisons.old + 9 < 2 ^ 32 }
         ensures refused { IfErr result (λ r. reply self.now.history.now (register parent child mode)
@@ -122,6 +124,7 @@ impl View<'_> {
             ≡ done (Event.Reg parent child mode)) }
         ensures entry { IfOk result (λ r. record { task = child; reg = r; proposed = false }
             ≡ entry_of (Event.Reg parent child mode ∷ self.now.history.now.past) child) }
+        ensures next { IfOk result (λ r. HasNext r) }
         ensures room { OnOk result (length self.now.table.now.lines < self.now.history.now.limits.regs) }
         ensures absent { OnOk result (list_any (λ e. e.task == child) self.now.table.now.lines ≡ false) }
         ensures count { comparisons.new ≤ comparisons.old + 9 }
@@ -137,7 +140,7 @@ impl View<'_> {
     /// Whether the task's line stands last and it may be dropped, seen by at most one comparison,
     /// and by none where the table is full: then `find` may need all nine. `false` says nothing.
     #[inline(always)]
-    pub(crate) fn may_drop_last(&self, task: u32, comparisons: &mut Comparisons) -> bool
+    pub(crate) fn may_drop_last(&self, task: u64, comparisons: &mut Comparisons) -> bool
         requires counted { comparisons.old + 1 < 2 ^ 32 }
         ensures done { result ≡ true → reply self.now.history.now (drop_task task)
             ≡ done (Event.Drop task) }
@@ -159,7 +162,7 @@ impl View<'_> {
     /// Where the line of a task stands that may be dropped.
     pub(crate) fn may_drop(
         &self,
-        task: u32,
+        task: u64,
         comparisons: &mut Comparisons,
     ) -> Result<usize, Refusal>
         requires counted { comparisons.old + 9 < 2 ^ 32 }

@@ -4,7 +4,7 @@
 //! last one leaves the least phase: in a barrier that is once a phase, a line for each call.
 ghost use Rattle.std.specs.Prelude.{◌≡◌, ◌+◌, ◌-◌, ◌==◌, ◌<◌, ◌≤◌, ◌^◌, ℕ, [], true, false, length, Some, IfNone, IfSome, IfOk, IfErr, slice_get, slice_set, slice_index_or, insert, remove, List, ℤ};
 ghost use Rattle.std.specs.List.{list_any, list_all};
-ghost use Rattle.reg_table.specs.Lines.{IsPlaceFor, line_signalled, line_passed};
+ghost use Rattle.reg_table.specs.Lines.{IsPlaceFor, HasNext, HaveNext, line_signalled, line_passed};
 ghost use Rattle.acc_cells.specs.Cells.{no_partial, held, HoldsOnly, Holds, StandsFor, sums_taken, with_taken, from_after, most_values};
 ghost use Rattle.phaser_engine.specs.Lazy.{partial_with};
 ghost use Rattle.phaser_engine.specs.Line.{has_signalled, has_passed, is_within, is_waiter_past, stands_at, waits_at, signallers_at, waiters_at, IsToSignal, IsToPass};
@@ -14,7 +14,7 @@ use crate::line_partials::LinePartials;
 use crate::rear::Rear;
 use acc_cells::Cells;
 use phase_model::Bound;
-use phase_modes::{Refusal, Reg};
+use phase_modes::{LongReg, Refusal};
 use reg_table::{Comparisons, Entry, Table};
 use std::alloc::Global;
 use std::marker::Model;
@@ -69,7 +69,7 @@ impl Roll {
     }
 
     /// Where the task's line stands, and what it is.
-    pub(crate) fn find(&self, task: u32, comparisons: &mut Comparisons) -> Option<(usize, Entry)>
+    pub(crate) fn find(&self, task: u64, comparisons: &mut Comparisons) -> Option<(usize, Entry)>
         requires { comparisons.old + 9 < 2 ^ 32 }
         ensures none { IfNone result (list_any (λ e. e.task == task) self.now.lines ≡ false) }
         ensures some { IfSome result (λ r. slice_get self.now.lines r.0 ≡ Some r.1) }
@@ -83,7 +83,7 @@ impl Roll {
     /// yet, else by halving alone, since what was compared was a guess.
     pub(crate) fn find_after_guess(
         &self,
-        task: u32,
+        task: u64,
         comparisons: &mut Comparisons,
     ) -> Option<(usize, Entry)>
         requires { comparisons.old + 9 < 2 ^ 32 }
@@ -103,7 +103,7 @@ impl Roll {
 
     /// The line where `find` looks first, where that is the task's.
     #[inline(always)]
-    pub(crate) fn guess(&self, task: u32, comparisons: &mut Comparisons) -> Option<(usize, Entry)>
+    pub(crate) fn guess(&self, task: u64, comparisons: &mut Comparisons) -> Option<(usize, Entry)>
         requires { comparisons.old + 1 < 2 ^ 32 }
         ensures some { IfSome result (λ r. slice_get self.now.lines r.0 ≡ Some r.1) }
         ensures task { IfSome result (λ r. r.1.task ≡ task) }
@@ -114,7 +114,7 @@ impl Roll {
 
     /// The last line, where it is the task's.
     #[inline(always)]
-    pub(crate) fn last_of(&self, task: u32, comparisons: &mut Comparisons) -> Option<Entry>
+    pub(crate) fn last_of(&self, task: u64, comparisons: &mut Comparisons) -> Option<Entry>
         requires { comparisons.old + 1 < 2 ^ 32 }
         ensures some { IfSome result (λ e. slice_get self.now.lines (length self.now.lines - 1) ≡ Some e) }
         ensures task { IfSome result (λ e. e.task ≡ task) }
@@ -125,7 +125,7 @@ impl Roll {
 
     /// Whether the line of a task would stand behind all others.
     #[inline(always)]
-    pub(crate) fn comes_last(&self, task: u32, comparisons: &mut Comparisons) -> bool
+    pub(crate) fn comes_last(&self, task: u64, comparisons: &mut Comparisons) -> bool
         requires { comparisons.old + 1 < 2 ^ 32 }
         ensures last { result ≡ true → IsPlaceFor task self.now.lines (length self.now.lines) }
         ensures count { comparisons.new ≤ comparisons.old + 1 }
@@ -134,7 +134,7 @@ impl Roll {
     }
 
     /// Where the line of a task would stand that has none.
-    pub(crate) fn place_for(&self, task: u32, comparisons: &mut Comparisons) -> usize
+    pub(crate) fn place_for(&self, task: u64, comparisons: &mut Comparisons) -> usize
         requires counted { comparisons.old + 9 < 2 ^ 32 }
         requires absent { list_any (λ e. e.task == task) self.now.lines ≡ false }
         ensures place { IsPlaceFor task self.now.lines result }
@@ -147,39 +147,40 @@ impl Roll {
     /// The line at a place.
     pub(crate) fn get(&self, place: usize) -> Entry
         requires { place < length self.now.lines }
-        ensures { slice_get self.now.lines place ≡ Some result }
+        ensures line { slice_get self.now.lines place ≡ Some result }
+        ensures next { HasNext result.reg }
     {
         self.table.get(place)
     }
 
     /// Whether each signaller has signalled the phase.
-    pub(crate) fn is_closed(&self, phase: u32) -> bool
+    pub(crate) fn is_closed(&self, phase: u64) -> bool
         ensures { result ≡ list_all (λ e. has_signalled phase e.reg) self.now.lines }
     {
         match self.signallers.least() {
-            Some(least) => u64::from(phase) < least,
+            Some(least) => phase < least,
             None => true,
         }
     }
 
     /// Whether each waiter is fewer phases behind this one than the bound says.
-    pub(crate) fn is_within(&self, bound: Bound, phase: u32) -> bool
+    pub(crate) fn is_within(&self, bound: Bound, phase: u64) -> bool
         ensures { result ≡ is_within (Some bound) phase self.now.lines }
     {
         match self.waiters.least() {
-            Some(least) => u64::from(phase).saturating_sub(least) < u64::from(bound.phases()),
+            Some(least) => phase.saturating_sub(least) < u64::from(bound.phases()),
             None => true,
         }
     }
 
     /// The first phase that a waiter may still look at, or an earlier one: each waiter has passed
     /// it, where it isn't 0.
-    pub(crate) fn needed_from(&self) -> u32
+    pub(crate) fn needed_from(&self) -> u64
         ensures each { 0 < result → list_all (λ e. has_passed result e.reg) self.now.lines ≡ true }
         ensures some { 0 < result → list_any (λ e. is_waiter_past result e.reg) self.now.lines ≡ true }
     {
         match self.waiters.least() {
-            Some(least) => least.saturating_sub(1).min(u64::from(u32::MAX)) as u32,
+            Some(least) => least.saturating_sub(1),
             None => 0,
         }
     }
@@ -189,6 +190,7 @@ impl Roll {
     pub(crate) fn push(&mut self, entry: Entry)
         requires room { length self.old.lines < 256 }
         requires place { IsPlaceFor entry.task self.old.lines (length self.old.lines) }
+        requires next { HasNext entry.reg }
         ensures lines { self.new.lines ≡ insert self.old.lines (length self.old.lines) entry }
         ensures partials { self.new.partials
             ≡ insert self.old.partials (length self.old.lines) no_partial }
@@ -235,6 +237,7 @@ impl Roll {
     pub(crate) fn insert(&mut self, place: usize, entry: Entry)
         requires room { length self.old.lines < 256 }
         requires place { IsPlaceFor entry.task self.old.lines place }
+        requires next { HasNext entry.reg }
         ensures lines { self.new.lines ≡ insert self.old.lines place entry }
         ensures partials { self.new.partials ≡ insert self.old.partials place no_partial }
     {
@@ -246,7 +249,7 @@ impl Roll {
     }
 
     /// Writes that the task of a line has signalled this phase, and whether it proposed.
-    pub(crate) fn signal(&mut self, place: usize, phase: u32, proposes: bool)
+    pub(crate) fn signal(&mut self, place: usize, phase: u64, proposes: bool)
         requires place { place < length self.old.lines }
         requires line { (line : Entry) → slice_get self.old.lines place ≡ Some line
             → IsToSignal phase line.reg }
@@ -255,7 +258,7 @@ impl Roll {
         ensures partials { self.new.partials ≡ self.old.partials }
     {
         self.table.signal(place, proposes);
-        let known = self.signallers.without(u64::from(phase));
+        let known = self.signallers.without(phase);
         self.signallers = hindmost_signallers(known, self.table.lines());
     }
 
@@ -279,7 +282,7 @@ impl Roll {
         if !reg.mode.can_wait() {
             return false;
         }
-        let known = self.waiters.without(u64::from(reg.phase));
+        let known = self.waiters.without(reg.phase);
         self.waiters = hindmost_waiters(known, self.table.lines());
         known.is_none()
     }
@@ -317,7 +320,7 @@ impl Roll {
 
     /// Folds what the task of a line sent into the cells of a phase.
     #[inline(always)]
-    pub(crate) fn fold(&mut self, place: usize, phase: u32, cells: &mut Cells)
+    pub(crate) fn fold(&mut self, place: usize, phase: u64, cells: &mut Cells)
         requires place { place < length self.old.lines }
         requires known { HoldsOnly (length cells.old.ops)
             (slice_index_or self.old.partials place no_partial) }
@@ -341,8 +344,9 @@ impl Roll {
 
 /// Where the hindmost signallers stand with one more registration, if it can signal.
 #[inline(always)]
-fn with_signaller(signallers: Rear, reg: Reg) -> Rear
-    requires { signallers.count + 1 < 2 ^ 32 }
+fn with_signaller(signallers: Rear, reg: LongReg) -> Rear
+    requires few { signallers.count + 1 < 2 ^ 32 }
+    requires next { HasNext reg }
     ensures { (before after : ℕ → ℕ) → IsRear before signallers
         → ((n : ℕ) → after n ≡ before n + stands_at n reg) → IsRear after result }
 {
@@ -356,7 +360,8 @@ fn with_signaller(signallers: Rear, reg: Reg) -> Rear
 /// Where they stand without it. None where it was the last there: whoever comes next has to be
 /// looked for.
 #[inline(always)]
-fn without_signaller(signallers: Rear, reg: Reg) -> Option<Rear>
+fn without_signaller(signallers: Rear, reg: LongReg) -> Option<Rear>
+    requires { HasNext reg }
     ensures { IfSome result (λ rear. (before after : ℕ → ℕ) → IsRear before signallers
         → ((n : ℕ) → after n + stands_at n reg ≡ before n) → IsRear after rear) }
 {
@@ -371,6 +376,7 @@ fn without_signaller(signallers: Rear, reg: Reg) -> Option<Rear>
 #[inline(always)]
 fn hindmost_signallers(known: Option<Rear>, lines: &[Entry]) -> Rear
     requires few { length lines.now ≤ 256 }
+    requires next { HaveNext lines.now }
     requires known { IfSome known (λ rear. IsRear (signallers_at lines.now) rear) }
     ensures { IsRear (signallers_at lines.now) result }
 {
@@ -384,7 +390,8 @@ fn hindmost_signallers(known: Option<Rear>, lines: &[Entry]) -> Rear
 #[cold]
 #[inline(never)]
 fn rear_of_signallers(lines: &[Entry]) -> Rear
-    requires { length lines.now ≤ 256 }
+    requires few { length lines.now ≤ 256 }
+    requires next { HaveNext lines.now }
     ensures { IsRear (signallers_at lines.now) result }
 {
     let mut rear = Rear::nobody();
@@ -396,13 +403,13 @@ fn rear_of_signallers(lines: &[Entry]) -> Rear
 
 /// Where the hindmost waiters stand with one more registration, if it can wait.
 #[inline(always)]
-fn with_waiter(waiters: Rear, reg: Reg) -> Rear
+fn with_waiter(waiters: Rear, reg: LongReg) -> Rear
     requires { waiters.count + 1 < 2 ^ 32 }
     ensures { (before after : ℕ → ℕ) → IsRear before waiters
         → ((n : ℕ) → after n ≡ before n + waits_at n reg) → IsRear after result }
 {
     if reg.mode.can_wait() {
-        waiters.with(u64::from(reg.phase))
+        waiters.with(reg.phase)
     } else {
         waiters
     }
@@ -411,12 +418,12 @@ fn with_waiter(waiters: Rear, reg: Reg) -> Rear
 /// Where they stand without it. None where it was the last there: whoever comes next has to be
 /// looked for.
 #[inline(always)]
-fn without_waiter(waiters: Rear, reg: Reg) -> Option<Rear>
+fn without_waiter(waiters: Rear, reg: LongReg) -> Option<Rear>
     ensures { IfSome result (λ rear. (before after : ℕ → ℕ) → IsRear before waiters
         → ((n : ℕ) → after n + waits_at n reg ≡ before n) → IsRear after rear) }
 {
     if reg.mode.can_wait() {
-        waiters.without(u64::from(reg.phase))
+        waiters.without(reg.phase)
     } else {
         Some(waiters)
     }

@@ -10,8 +10,11 @@ ghost use Rattle.phase_model.specs.Values.{fold, sent};
 ghost use Rattle.phase_model.specs.declared.call.Call.TheVariants.{Make as make, Register as register, Signal as signal, Pass as pass, SingleDone as single_done, Send as send, Look as look, Drop as drop_task};
 ghost use Rattle.phase_model.specs.Replies.{reply, after, done_result};
 ghost use Rattle.phaser_engine.specs.Table.{can_count, IsWideEnough};
+ghost use Rattle.acc_cells.specs.Cells.{IsInReach};
+ghost use Rattle.phaser_engine.specs.Turns.{IsEarly};
 ghost use Rattle.phaser_engine.specs.Window.{is_needed};
 ghost use Rattle.phaser_answers.specs.Answers.{signal_result, pass_result, look_result, made_with};
+ghost use Rattle.told_history.specs.Wide.{limits_of};
 
 mod answers;
 mod lines;
@@ -22,14 +25,14 @@ use crate::roll::Roll;
 use crate::turn::{Turn, Unmade};
 use crate::view::{View, has_room, view_of};
 use acc_cells::Cells;
-use phase_model::{Bound, Event, Look, Ops, Terms};
-use phase_modes::{Limits, Mode, Refusal, Reg};
-use phaser_answers::{Passing, Signalling};
+use phase_model::{Bound, LongLook, Ops, Terms};
+use phase_modes::{LongReg, Mode, Refusal};
+use phaser_answers::{LongPassing, Passing, Signalling};
 use reg_table::{Comparisons, Entry, TaskNumber};
 use single_state::Single;
 use std::alloc::Global;
 use std::marker::Model;
-use told_history::Told;
+use told_history::{LongEvent, LongLimits, Told};
 
 /// A phaser: who is registered on it, what was sent to it, its last single, and how much was done on
 /// it. Contracts see all that was done, how many comparisons of task numbers the last call made, and
@@ -65,15 +68,15 @@ impl Engine {
     /// that it will ever need is taken here; `Memory` where that is refused.
     pub fn new(
         alloc: Global,
-        limits: Limits,
+        limits: LongLimits,
         ops: Ops,
         bound: Option<Bound>,
         room: u32,
     ) -> Result<Engine, Refusal>
-        requires counts { can_count limits ≡ true }
+        requires counts { can_count (limits_of limits) ≡ true }
         requires some { 0 < room }
-        requires wide { IsWideEnough limits (record { ops = ops; bound = bound }) room }
-        ensures empty { IfOk result (λ p. p.story ≡ record { limits = limits; terms = record { ops = ops; bound = bound }; past = [] }) }
+        requires wide { IsWideEnough (limits_of limits) (record { ops = ops; bound = bound }) room }
+        ensures empty { IfOk result (λ p. p.story ≡ record { limits = limits_of limits; terms = record { ops = ops; bound = bound }; past = [] }) }
         ensures compared { IfOk result (λ p. p.compared ≡ 0) }
         ensures room { IfOk result (λ p. p.room ≡ room) }
         ensures memory { IfErr result (λ r. r ≡ Refusal.Memory) }
@@ -109,7 +112,7 @@ impl Engine {
     /// Refused, in this order: `NotNow` where it is made already, `TasksFull`.
     pub fn make_with(
         &mut self,
-        task: u32,
+        task: u64,
         mode: Mode,
         ops: Ops,
         bound: Option<Bound>,
@@ -132,7 +135,7 @@ impl Engine {
     /// Makes the phaser, and registers its maker at phase 0.
     ///
     /// Refused, in this order: `NotNow` where it is made already, `TasksFull`.
-    pub fn make(&mut self, task: u32, mode: Mode) -> Result<(), Refusal>
+    pub fn make(&mut self, task: u64, mode: Mode) -> Result<(), Refusal>
         ensures reply { result ≡ done_result (reply self.old.story (make task mode)) }
         ensures history { self.new.story ≡ after self.old.story (reply self.old.story (make task mode)) }
         ensures compared { self.new.compared ≡ 0 }
@@ -141,7 +144,7 @@ impl Engine {
         self.compared = Comparisons::none();
         let view = view_of!(self);
         view.may_make(task, mode)?;
-        self.history.add(Event::Make(task, mode));
+        self.history.add(LongEvent::Make(task, mode));
         self.table.insert(0, maker(task, mode));
         Ok(())
     }
@@ -153,8 +156,8 @@ impl Engine {
     /// `RegisteredTwice`, `RegsFull`, `HistoryFull`.
     pub fn register(
         &mut self,
-        parent: u32,
-        child: u32,
+        parent: u64,
+        child: u64,
         mode: Mode,
         is_known: bool,
     ) -> Result<(), Refusal>
@@ -178,7 +181,7 @@ impl Engine {
     /// `AlreadySignalled`, `SingleMismatch`, then the reply is not yet (`NotYet`), then
     /// `HistoryFull`.
     #[inline(always)]
-    pub fn signal(&mut self, task: u32, number: Option<u32>) -> Result<Signalling, Refusal>
+    pub fn signal(&mut self, task: u64, number: Option<u32>) -> Result<Signalling, Refusal>
         ensures reply { result ≡ signal_result (reply self.old.story (signal task number)) }
         ensures history { self.new.story ≡ after self.old.story (reply self.old.story (signal task number)) }
         ensures compared { self.new.compared ≤ 9 }
@@ -192,7 +195,7 @@ impl Engine {
             Err(Unmade::Refused(refusal)) => return Err(refusal),
             Err(Unmade::Held) => return Ok(Signalling::NotYet),
         };
-        self.history.add(Event::Sig(task, number));
+        self.history.add(LongEvent::Sig(task, number));
         self.table.fold(signal.place, signal.phase, &mut self.cells);
         let proposes = number.is_some();
         self.table.signal(signal.place, signal.phase, proposes);
@@ -209,8 +212,9 @@ impl Engine {
     /// Refused, in this order: `NotRegistered`, `NotSignalled`, then the reply is not yet
     /// (`NotYet`), then `HistoryFull`.
     #[inline(always)]
-    pub fn pass(&mut self, task: u32) -> Result<Passing, Refusal>
+    pub fn pass(&mut self, task: u64) -> Result<LongPassing, Refusal>
         ensures reply { result ≡ pass_result self.old.story.past (reply self.old.story (pass task)) }
+        ensures early { IfOk result (λ x. IsEarly self.old.story.limits.history x) }
         ensures history { self.new.story ≡ after self.old.story (reply self.old.story (pass task)) }
         ensures compared { self.new.compared ≤ 9 }
         ensures room { self.new.room ≡ self.old.room }
@@ -221,14 +225,14 @@ impl Engine {
         match answer? {
             Turn::Waits => Ok(Passing::NotYet),
             Turn::Claims(single, number) => {
-                self.history.add(Event::Claim(task));
+                self.history.add(LongEvent::Claim(task));
                 self.single = single;
                 Ok(Passing::Claimed(number))
             }
             Turn::Passes(place, phase) => {
-                self.history.add(Event::Pass(task));
+                self.history.add(LongEvent::Pass(task));
                 if self.table.pass(place) {
-                    self.cells.release_below(phase as u64);
+                    self.cells.release_below(phase);
                 }
                 Ok(Passing::Passed(phase))
             }
@@ -238,7 +242,7 @@ impl Engine {
     /// Reports the single done that the task had claimed.
     ///
     /// Refused, in this order: `NotRegistered`, `NotNow` where the task isn't the claimer.
-    pub fn single_done(&mut self, task: u32) -> Result<(), Refusal>
+    pub fn single_done(&mut self, task: u64) -> Result<(), Refusal>
         ensures reply { result ≡ done_result (reply self.old.story (single_done task)) }
         ensures history { self.new.story ≡ after self.old.story (reply self.old.story (single_done task)) }
         ensures compared { self.new.compared ≤ 9 }
@@ -248,7 +252,7 @@ impl Engine {
         let view = view_of!(self);
         let answer = view.may_report(task, &mut self.compared);
         let single = answer?;
-        self.history.add(Event::Did(task));
+        self.history.add(LongEvent::Did(task));
         self.single = single;
         Ok(())
     }
@@ -256,7 +260,7 @@ impl Engine {
     /// Sends a value to an accumulator. It counts for the phase that the task hasn't signalled yet.
     ///
     /// Refused, in this order: `NotRegistered`, `NoSignal`, `NoAccumulator`, `HistoryFull`.
-    pub fn send(&mut self, task: u32, accumulator: u8, value: i32) -> Result<(), Refusal>
+    pub fn send(&mut self, task: u64, accumulator: u8, value: i32) -> Result<(), Refusal>
         ensures reply { result ≡ done_result (reply self.old.story (send task accumulator value)) }
         ensures history { self.new.story
             ≡ after self.old.story (reply self.old.story (send task accumulator value)) }
@@ -267,7 +271,7 @@ impl Engine {
         let view = view_of!(self);
         let answer = view.may_send(task, accumulator, value, &mut self.compared);
         let i = answer?;
-        self.history.add(Event::Send(task, accumulator, value));
+        self.history.add(LongEvent::Send(task, accumulator, value));
         self.table.send(i, accumulator, value);
         Ok(())
     }
@@ -276,8 +280,9 @@ impl Engine {
     ///
     /// Refused, in this order: `NotRegistered`, `NoWait`, `NoAccumulator`, `NoPhaseYet`,
     /// `HistoryFull`.
-    pub fn look(&mut self, task: u32, accumulator: u8) -> Result<Look, Refusal>
+    pub fn look(&mut self, task: u64, accumulator: u8) -> Result<LongLook, Refusal>
         ensures reply { result ≡ look_result (reply self.old.story (look task accumulator)) }
+        ensures reach { IfOk result (λ x. IsInReach self.old.story.limits.history x) }
         ensures history { self.new.story
             ≡ after self.old.story (reply self.old.story (look task accumulator)) }
         ensures compared { self.new.compared ≤ 9 }
@@ -287,7 +292,7 @@ impl Engine {
         let view = view_of!(self);
         let answer = view.may_look(&self.cells, task, accumulator, &mut self.compared);
         let seen = answer?;
-        self.history.add(Event::Look(task, accumulator, seen));
+        self.history.add(LongEvent::Look(task, accumulator, seen));
         Ok(seen)
     }
 
@@ -295,7 +300,7 @@ impl Engine {
     ///
     /// Refused, in this order: `NotRegistered`, `NotNow` where the task proposed a single that
     /// isn't done.
-    pub fn drop_task(&mut self, task: u32) -> Result<(), Refusal>
+    pub fn drop_task(&mut self, task: u64) -> Result<(), Refusal>
         ensures reply { result ≡ done_result (reply self.old.story (drop_task task)) }
         ensures history { self.new.story ≡ after self.old.story (reply self.old.story (drop_task task)) }
         ensures compared { self.new.compared ≤ 9 }
@@ -308,7 +313,7 @@ impl Engine {
     }
 
     /// Whether each task that is registered now and can signal has signalled the phase.
-    pub fn closed(&self, phase: u32) -> bool
+    pub fn closed(&self, phase: u64) -> bool
         ensures { result ≡ is_closed phase self.now.story.past }
     {
         self.table.is_closed(phase)
@@ -326,7 +331,7 @@ impl Engine {
     /// is not below the limit of the history's events, so that no value can be sent for it, or it
     /// is given up. A phase is given up only once each live task that can wait has passed the phase
     /// after it.
-    pub fn fold_at(&self, accumulator: u8, phase: u32) -> Option<Look>
+    pub fn fold_at(&self, accumulator: u8, phase: u64) -> Option<LongLook>
         ensures accumulator { IfSome result (λ x. accumulator < length self.now.story.terms.ops) }
         ensures phase { IfSome result (λ x. phase < self.now.story.limits.history) }
         ensures kept { accumulator < length self.now.story.terms.ops → phase < self.now.story.limits.history
@@ -334,11 +339,12 @@ impl Engine {
         ensures fold { IfSome result (λ x. is_closed phase self.now.story.past ≡ true → Some x
             ≡ option_map (λ op. fold op (sent accumulator phase self.now.story.past))
             (slice_get self.now.story.terms.ops accumulator)) }
+        ensures reach { IfSome result (λ x. IsInReach self.now.story.limits.history x) }
     {
         if phase >= self.history.limits().history {
             return None;
         }
-        self.cells.fold_at(accumulator, phase as u64)
+        self.cells.fold_at(accumulator, phase)
     }
 
     /// How many comparisons of task numbers the last call made that changes the phaser: at most 9
@@ -361,12 +367,16 @@ impl Engine {
 }
 
 /// The maker's line.
-fn maker(task: u32, mode: Mode) -> Entry
+fn maker(task: u64, mode: Mode) -> Entry
     ensures { result ≡ record { task = task; reg = maker_reg mode; proposed = false } }
 {
     Entry {
         task: TaskNumber::of(task),
-        reg: Reg::maker(mode),
+        reg: LongReg {
+            mode,
+            phase: 0,
+            ahead: false,
+        },
         proposed: false,
     }
 }

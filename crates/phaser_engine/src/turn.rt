@@ -25,7 +25,7 @@ fn is_no_single(mode: Mode, number: Option<u32>) -> bool
 }
 
 /// The last single with the number proposed, if there is one.
-fn with_proposal(single: Single, phase: u32, number: Option<u32>) -> Result<Single, Refusal>
+fn with_proposal(single: Single, phase: u64, number: Option<u32>) -> Result<Single, Refusal>
     requires { IfSome number (λ n. MayPropose single phase) }
     ensures { result ≡ proposing single phase number }
 {
@@ -51,7 +51,7 @@ pub(crate) struct Signal {
     /// Where the task's line stands.
     pub(crate) place: usize,
     /// The phase that it signals.
-    pub(crate) phase: u32,
+    pub(crate) phase: u64,
     /// The last single after that.
     pub(crate) single: Single,
 }
@@ -62,7 +62,7 @@ impl View<'_> {
     #[inline(always)]
     pub(crate) fn may_signal(
         &self,
-        task: u32,
+        task: u64,
         number: Option<u32>,
         comparisons: &mut Comparisons,
     ) -> Result<Signal, Unmade>
@@ -112,7 +112,7 @@ impl View<'_> {
 #[derive(Clone, Copy)]
 pub(crate) enum Turn {
     /// It passes: where its line stands, and the phase.
-    Passes(usize, u32),
+    Passes(usize, u64),
     /// It claims the single with this number, and this is the last single after that.
     Claims(Single, u32),
     /// It may not pass yet.
@@ -120,7 +120,7 @@ pub(crate) enum Turn {
 }
 
 /// The last single with a claim of the task; none where it may claim nothing.
-fn with_claim(table: &Roll, single: Single, task: u32, entry: Entry) -> Option<Single>
+fn with_claim(table: &Roll, single: Single, task: u64, entry: Entry) -> Option<Single>
     requires { entry.task ≡ task }
     ensures { result ≡ claiming table.now.lines single entry }
 {
@@ -141,7 +141,7 @@ impl View<'_> {
     /// How the task's turn goes on.
     // Inlined, as `may_signal` is.
     #[inline(always)]
-    pub(crate) fn may_pass(&self, task: u32, comparisons: &mut Comparisons) -> Result<Turn, Refusal>
+    pub(crate) fn may_pass(&self, task: u64, comparisons: &mut Comparisons) -> Result<Turn, Refusal>
         requires counted { comparisons.old + 9 < 2 ^ 32 }
         ensures refused { IfErr result (λ r. reply self.now.history.now (pass task) ≡ refused r) }
         ensures turn { IfOk result (IsTurn self.now.history.now self.now.table.now.lines task) }
@@ -168,7 +168,7 @@ impl View<'_> {
     }
 
     /// Whether the task may claim the single of its phase.
-    pub(crate) fn is_claimer(&self, task: u32, comparisons: &mut Comparisons) -> bool
+    pub(crate) fn is_claimer(&self, task: u64, comparisons: &mut Comparisons) -> bool
         requires { comparisons.old + 9 < 2 ^ 32 }
         ensures claims { result
             ≡ is_permitted self.now.history.now.limits self.now.history.now.terms self.now.history.now.past
@@ -182,7 +182,7 @@ impl View<'_> {
     }
 
     /// Whether the task may report the single done that it claimed.
-    pub(crate) fn is_reporter(&self, task: u32, comparisons: &mut Comparisons) -> bool
+    pub(crate) fn is_reporter(&self, task: u64, comparisons: &mut Comparisons) -> bool
         requires { comparisons.old + 9 < 2 ^ 32 }
         ensures reports { result
             ≡ is_permitted self.now.history.now.limits self.now.history.now.terms self.now.history.now.past
@@ -198,7 +198,7 @@ impl View<'_> {
     /// The last single after a task's report that may report.
     pub(crate) fn may_report(
         &self,
-        task: u32,
+        task: u64,
         comparisons: &mut Comparisons,
     ) -> Result<Single, Refusal>
         requires counted { comparisons.old + 9 < 2 ^ 32 }

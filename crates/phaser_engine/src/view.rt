@@ -8,20 +8,20 @@ ghost use Rattle.phaser_engine.specs.Table.{Stands, Stands-prop};
 
 use crate::roll::Roll;
 use phase_model::Bound;
-use phase_modes::Reg;
+use phase_modes::LongReg;
 use reg_table::Entry;
 use single_state::Single;
 use told_history::Told;
 
 /// Whether a signaller has still to signal in this turn.
-pub(crate) fn owes_signal(reg: Reg) -> bool
+pub(crate) fn owes_signal(reg: LongReg) -> bool
     ensures { result ≡ (can_signal reg.mode && not reg.ahead) }
 {
     reg.mode.can_signal() && !reg.ahead
 }
 
 /// Whether a signal of the phase keeps within the bound, if there is one.
-pub(crate) fn keeps_within(table: &Roll, bound: Option<Bound>, phase: u32) -> bool
+pub(crate) fn keeps_within(table: &Roll, bound: Option<Bound>, phase: u64) -> bool
     ensures { result ≡ is_within bound phase table.now.lines }
 {
     match bound {
@@ -31,7 +31,7 @@ pub(crate) fn keeps_within(table: &Roll, bound: Option<Bound>, phase: u32) -> bo
 }
 
 /// Whether a waiter's phase is open, or its single is.
-pub(crate) fn has_to_wait(table: &Roll, single: Single, reg: Reg) -> bool
+pub(crate) fn has_to_wait(table: &Roll, single: Single, reg: LongReg) -> bool
     ensures { result ≡ (can_wait reg.mode
         && not (list_all (λ e. has_signalled reg.phase e.reg) table.now.lines && may_pass single reg.phase)) }
 {

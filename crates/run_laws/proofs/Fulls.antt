@@ -1,6 +1,6 @@
 -- What a phaser refuses by 15 is allowed but for room; and by 14 it refuses a registration where there is none for
 -- it.
-use Rattle.std.proofs.Common.{◌≡◌, ℕ, Bool, true, false, ◌&&◌, ◌||◌, ◌==◌, not, nat_lt, cond, List, [], ◌∷◌, Option, Some, None, refl, sym, subst, ◌∙◌, inl, inr}
+use Rattle.std.proofs.Common.{◌≡◌, ℕ, Bool, true, false, ◌&&◌, ◌||◌, ◌==◌, not, nat_lt, cond, List, [], ◌∷◌, Option, Some, None, refl, sym, subst, ◌∙◌, inl, inr, ℤ}
 use Rattle.std.specs.List.{list_all}
 use Rattle.std.proofs.lemmas.Bool.Decides.{Decides-int_eq}
 use Rattle.std.proofs.lemmas.Bool.{and_from, cases_Bool, not-true, true≢false, false≢true}
@@ -66,7 +66,7 @@ by_room h None true room e never k = absurd (false≢true k)
 by_room h None false true e never k = absurd (false≢true (sym (done_is_no_refusal 15 h e) ∙ k))
 by_room h None false false e never k = record { met = refl; free = refl; full = refl }
 
-same_as_itself : (x : Seen) → same_look x x ≡ true
+same_as_itself : (x : Seen ℤ) → same_look x x ≡ true
 same_as_itself (Value v) = (Decides-int_eq v v).1 refl
 same_as_itself Nothing = refl
 

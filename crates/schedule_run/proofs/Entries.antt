@@ -1,5 +1,5 @@
 -- The record of a run after each event.
-use Rattle.std.proofs.Common.{ℕ, suc, ◌+◌, ◌≡◌, Bool, true, false, if◌then◌else◌, List, [], ◌∷◌, reverse, length, Option, Some, None, Result, Ok, refl, sym, subst, ap, ◌∙◌, arith}
+use Rattle.std.proofs.Common.{ℕ, suc, ◌+◌, ◌≡◌, Bool, true, false, if◌then◌else◌, List, [], ◌∷◌, reverse, length, Option, Some, None, Result, Ok, refl, sym, subst, ap, ◌∙◌, arith, ℤ}
 use Rattle.std.proofs.lemmas.Bool.{and_from, lt-ltb}
 use Rattle.std.proofs.lemmas.Cmp.{int_eq_equiv}
 use Rattle.std.proofs.lemmas.List.{reverse-append, length-reverse}
@@ -50,7 +50,7 @@ back (Begin t b) x = refl
 back (Refuse t a n) x = refl
 back (Fail t n) x = refl
 
-look_self : (x : Look) → same_look x x ≡ true
+look_self : (x : Look ℤ) → same_look x x ≡ true
 look_self (looks.Value v) = int_eq_equiv.refl v
 look_self looks.Nothing = refl
 
@@ -58,7 +58,7 @@ look_self looks.Nothing = refl
 look_seen : (l : Limits) (w : List WorldEvent) (n t a : ℕ) (x : Reply) → reply l w (Phaser n (Looking t a)) ≡ Ok x → is_made (Ok x) ≡ true → explained.is_seen (seen x) (Ok x) ≡ true
 look_seen l w n t a x is made = by (first_refusal (act_conditions l w t (TriedLook n a))) (first_refusal (conditions l (terms_of n w) (phaser_past n w) (look t a))) (has_room l (Looked t a (look_of (terms_of n w).ops a (waits t (phaser_past n w)) (phaser_past n w)) ∷ phaser_past n w)) is
   where
-    of_value : (y : Look) → ◌≡◌ {A = Result Reply Refusal} (Ok (Value y)) (Ok x) → explained.is_seen (seen x) (Ok x) ≡ true
+    of_value : (y : Look ℤ) → ◌≡◌ {A = Result Reply Refusal} (Ok (Value y)) (Ok x) → explained.is_seen (seen x) (Ok x) ≡ true
     of_value y h = subst (λ (z : Reply). explained.is_seen (seen z) (Ok z) ≡ true) (got (Value y) x h) (look_self y)
       where
         got : (a b : Reply) → ◌≡◌ {A = Result Reply Refusal} (Ok a) (Ok b) → a ≡ b

@@ -99,7 +99,7 @@ pub parking_same : {T : Type 0} (waits : Bool) (p : Parked T) (ps qs : List (Par
 parking_same true p ps qs k = ap (λ (l : List (Parked _)). parking true (is_parked p.task l) p qs) (k refl)
 parking_same false p ps qs k = refl
 
-pub pass_same : {T : Type 0} (a : Result Passing Refusal) (t : ℕ) (x : T) (ps qs : List (Parked T)) → (has_to_wait a ≡ true → qs ≡ ps) → locked_pass a (is_parked t qs) x ≡ locked_pass a (is_parked t ps) x
+pub pass_same : {T : Type 0} (a : Result (Passing ℕ) Refusal) (t : ℕ) (x : T) (ps qs : List (Parked T)) → (has_to_wait a ≡ true → qs ≡ ps) → locked_pass a (is_parked t qs) x ≡ locked_pass a (is_parked t ps) x
 pass_same (Ok (Passed n)) t x ps qs k = refl
 pass_same (Ok (Claimed n)) t x ps qs k = refl
 pass_same (Ok NotYet) t x ps qs k = ap (λ (l : List (Parked _)). locked_pass (Ok NotYet) (is_parked t l) x) (k refl)

@@ -1,5 +1,5 @@
 -- What a call leaves of the fact that a cell keeps: one step for all calls.
-use Rattle.std.proofs.Common.{◌≡◌, ℕ, ◌+◌, ◌<◌, ◌≤◌, Bool, true, false, List, [], ◌∷◌, length, Option, Result, Ok, Err, cond, refl, ap, sym, ◌∙◌, subst, arith}
+use Rattle.std.proofs.Common.{◌≡◌, ℕ, ◌+◌, ◌<◌, ◌≤◌, Bool, true, false, List, [], ◌∷◌, length, Option, Result, Ok, Err, cond, refl, ap, sym, ◌∙◌, subst, arith, ℤ}
 use Rattle.std.specs.Prelude.{OnErr}
 use Rattle.std.specs.Result.{is_ok}
 use Rattle.std.proofs.lemmas.Bool.{leb-true, and_parts, and_from}
@@ -103,10 +103,10 @@ matches_signal s t x added k = subst (λ b. Matches s (signal t x) b (Sig t x)) 
         record { weighs = ap weight q; is_done = λ n. q }
 
 -- by what a look saw, which its event records too
-pub matches_look : (s : Story) (t a : ℕ) (x : Seen) (added : Bool) → added ≡ is_ok (look_result (reply s (look t a))) → Matches s (look t a) added (Look t a x)
+pub matches_look : (s : Story) (t a : ℕ) (x : Seen ℤ) (added : Bool) → added ≡ is_ok (look_result (reply s (look t a))) → Matches s (look t a) added (Look t a x)
 matches_look s t a x added k = subst (λ b. Matches s (look t a) b (Look t a x)) (sym k) (go (reply s (look t a)) refl)
   where
-    v : Seen
+    v : Seen ℤ
     v = look_of s.terms.ops a (waits t s.past) s.past
 
     go : (r : Reply) → reply s (look t a) ≡ r → Matches s (look t a) (is_ok (look_result r)) (Look t a x)

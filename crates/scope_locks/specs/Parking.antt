@@ -47,7 +47,7 @@ abbrev pub freed : {T : Type 0} → Story → List (Parked T) → List T
 freed s ps = map (λ p. p.item) (filter (λ p. not (would_park s p.task p.call)) ps)
 
 -- what a pass with an item answers, by what the phaser answers and whether the task is parked already
-abbrev pub locked_pass : {T : Type 0} → Result Passing Refusal → Bool → T → PassAnswer T
+abbrev pub locked_pass : {T : Type 0} → Result (Passing ℕ) Refusal → Bool → T → PassAnswer T
 locked_pass (Ok (Over p)) again x = Passed x p
 locked_pass (Ok (Run n)) again x = Claimed x n
 locked_pass (Ok NotYet) true x = Refused x NotNow
@@ -75,14 +75,14 @@ parking true true p ps = ps
 parking false again p ps = ps
 
 -- it has to wait
-abbrev pub has_to_wait : Result Passing Refusal → Bool
+abbrev pub has_to_wait : Result (Passing ℕ) Refusal → Bool
 has_to_wait (Ok (Over p)) = false
 has_to_wait (Ok (Run n)) = false
 has_to_wait (Ok NotYet) = true
 has_to_wait (Err r) = false
 
 -- what the phaser answers to a pass; no abbreviation, so that a search leaves it shut
-pub answered : Story → ℕ → Result Passing Refusal
+pub answered : Story → ℕ → Result (Passing ℕ) Refusal
 answered s t = pass_result s.past (reply s (pass t))
 
 pub answered_is : (s : Story) (t : ℕ) → pass_result s.past (reply s (pass t)) ≡ answered s t

@@ -1,5 +1,5 @@
 //! What stands behind a phaser's lock.
-ghost use Rattle.std.specs.Prelude.{◌≡◌, ◌+◌, ◌&&◌, ◌||◌, not, [], length, vec_len, vec_capacity, ◌<◌, ◌≤◌, true, false, IfOk, IfErr, OnErr, is_ok, is_some};
+ghost use Rattle.std.specs.Prelude.{◌≡◌, ◌+◌, ◌&&◌, ◌||◌, not, [], length, vec_len, vec_capacity, ◌<◌, ◌≤◌, true, false, IfOk, IfErr, OnErr, is_ok, is_some, ℤ};
 ghost use Rattle.std.specs.VecDeque.{deque_len, deque_capacity};
 ghost use Rattle.phase_modes.specs.Limits.{limits_fit};
 ghost use Rattle.phase_model.specs.Amounts.{plus};
@@ -210,9 +210,9 @@ impl<T, K: Ledgers> PhaserCell<T, K> {
         ensures reply { result ≡ look_result (reply self.old.state.story (look task accumulator)) }
         ensures history { self.new.state.story
             ≡ after self.old.state.story (reply self.old.state.story (look task accumulator)) }
-        ensures mine { (x : Look)
+        ensures mine { (x : Look ℤ)
             → mine.new ≡ plus (amount_if (is_ok result) (Event.Look task accumulator x)) mine.old }
-        ensures books { (x : Look)
+        ensures books { (x : Look ℤ)
             → B.rose books.old books.new (amount_if (is_ok result) (Event.Look task accumulator x)) }
         ensures tickets { IsDrawn (is_ok result) self.old.drawn.items self.new.drawn.items }
         ensures parked { self.new.parked ≡ self.old.parked }

@@ -2,7 +2,7 @@
 //!
 //! Each call takes its phaser's lock, and inside it the books' lock for the one post that it makes.
 //! No call takes the locks of two phasers, and none takes a phaser's lock while it has the books.
-ghost use Rattle.std.specs.Prelude.{◌≡◌, ◌+◌, ◌++◌, ◌∷◌, [], ◌<◌, ◌≤◌, true, false, All, IfOk, IfErr, OnErr, is_ok, map, vec_len, vec_capacity};
+ghost use Rattle.std.specs.Prelude.{◌≡◌, ◌+◌, ◌++◌, ◌∷◌, [], ◌<◌, ◌≤◌, true, false, All, IfOk, IfErr, OnErr, is_ok, map, vec_len, vec_capacity, ℤ};
 ghost use Rattle.phase_modes.specs.Limits.{limits_fit};
 ghost use Rattle.phase_model.specs.Amounts.{plus};
 ghost use Rattle.share_book.specs.Accounts.{nothing, IsWithin, amount_of};
@@ -265,7 +265,7 @@ impl<T, K: Ledgers> PhaserTable<T, K> {
         accumulator: u8,
     ) -> Result<Look, Refusal>
         requires { phaser < self.now.phasers }
-        ensures mine { (x : Look) → mine.new
+        ensures mine { (x : Look ℤ) → mine.new
             ≡ plus (amount_if (is_ok result) (Event.Look task accumulator x)) mine.old }
     {
         let mut cell = self.cells[phaser].lock(rt);

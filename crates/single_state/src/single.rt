@@ -35,7 +35,7 @@ impl Single {
 
     /// Proposes a number for a phase. To propose the same once more changes nothing.
     /// `SingleMismatch` where another number stands for the phase.
-    pub fn propose(&mut self, phase: u32, number: u32) -> Result<(), Refusal>
+    pub fn propose(&mut self, phase: u64, number: u32) -> Result<(), Refusal>
         requires { MayPropose self.old phase }
         ensures result { result
             ≡ (if is_mismatch self.old phase number then Err Refusal.SingleMismatch else Ok tt) }
@@ -61,7 +61,7 @@ impl Single {
 
     /// Lets the task run the single of the phase, which no other task does then. `NotNow` where the
     /// phase has no number, or a task has claimed it.
-    pub fn claim(&mut self, phase: u32, task: u32) -> Result<(), Refusal>
+    pub fn claim(&mut self, phase: u64, task: u64) -> Result<(), Refusal>
         ensures result { result ≡ (if is_claimable self.old phase then Ok tt else Err Refusal.NotNow) }
         ensures state { self.new ≡ (if is_claimable self.old phase then claimed self.old task else self.old) }
     {
@@ -86,7 +86,7 @@ impl Single {
 
     /// The task reports that it has run the single. `NotNow` where it claimed none, or has reported
     /// it already.
-    pub fn done(&mut self, task: u32) -> Result<(), Refusal>
+    pub fn done(&mut self, task: u64) -> Result<(), Refusal>
         ensures result { result ≡ (if is_claimed_by self.old task then Ok tt else Err Refusal.NotNow) }
         ensures state { self.new ≡ (if is_claimed_by self.old task then done self.old task else self.old) }
     {
@@ -110,7 +110,7 @@ impl Single {
     }
 
     /// Whether no single keeps anybody in the phase: it has no number, or its single is done.
-    pub fn may_pass(&self, phase: u32) -> bool
+    pub fn may_pass(&self, phase: u64) -> bool
         ensures { result ≡ may_pass self.now phase }
     {
         match self.last {
@@ -121,7 +121,7 @@ impl Single {
 
     /// The number that stands for the phase; none where there is none, or where a later phase has
     /// one.
-    pub fn number(&self, phase: u32) -> Option<u32>
+    pub fn number(&self, phase: u64) -> Option<u32>
         ensures { result ≡ number_for self.now phase }
     {
         match self.last {

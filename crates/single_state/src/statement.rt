@@ -6,16 +6,16 @@ pub enum Stage {
     /// No task has claimed it.
     Proposed,
     /// This task runs it.
-    Claimed(u32),
+    Claimed(u64),
     /// This task has run it.
-    Done(u32),
+    Done(u64),
 }
 
 /// The statement that was proposed for a phase.
 #[derive(Clone, Copy, Debug, PartialEq, Eq)]
 pub struct Statement {
     /// The phase after which it runs.
-    pub phase: u32,
+    pub phase: u64,
     /// The number by which all proposers name it.
     pub number: u32,
     /// How far it has come.

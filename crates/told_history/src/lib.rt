@@ -3,5 +3,7 @@
 #![tactic(auto)]
 
 mod told;
+mod wide;
 
 pub use told::Told;
+pub use wide::{LongEvent, LongLimits};

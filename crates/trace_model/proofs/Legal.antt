@@ -1,5 +1,5 @@
 -- The events of an explained trace are a legal history.
-use Rattle.std.proofs.Common.{◌≡◌, true, List, [], ◌∷◌, reverse, Result, Ok, Err, refl}
+use Rattle.std.proofs.Common.{◌≡◌, true, List, [], ◌∷◌, reverse, Result, Ok, Err, refl, ℤ}
 use Rattle.std.proofs.lemmas.Bool.{and_parts, false≢true}
 use Rattle.phase_modes.specs.declared.limits.Limits.{Limits}
 use Rattle.phase_modes.specs.declared.refusal.Refusal.{Refusal}
@@ -14,7 +14,7 @@ use Rattle.trace_model.specs.Run.{Entry, Run}
 use Rattle.trace_model.specs.Explained.{event_of, past, is_seen, is_answered, is_later, may_follow, all_follow, is_over, is_explained}
 
 -- what a look saw was answered, so it was made
-seen_made : (x : Look) (r : Result Reply Refusal) → is_seen x r ≡ true → is_made r ≡ true
+seen_made : (x : Look ℤ) (r : Result Reply Refusal) → is_seen x r ≡ true → is_made r ≡ true
 seen_made x (Err e) h = absurd (false≢true h)
 seen_made x (Ok Done) h = absurd (false≢true h)
 seen_made x (Ok (Phase p)) h = absurd (false≢true h)

@@ -1,5 +1,5 @@
 -- Which traces a world explains, and where a trace is first at fault.
-use Rattle.std.specs.Prelude.{ℕ, ◌+◌, Bool, true, false, ◌&&◌, ◌==◌, nat_lt, if◌then◌else◌, List, [], ◌∷◌, map, reverse, length, Option, Some, None, Result, Ok}
+use Rattle.std.specs.Prelude.{ℕ, ◌+◌, Bool, true, false, ◌&&◌, ◌==◌, nat_lt, if◌then◌else◌, List, [], ◌∷◌, map, reverse, length, Option, Some, None, Result, Ok, ℤ}
 use Rattle.std.specs.List.{list_any}
 use Rattle.phase_modes.specs.declared.limits.Limits.{Limits}
 use Rattle.phase_modes.specs.declared.refusal.Refusal.{Refusal}
@@ -44,7 +44,7 @@ abbrev pub past : List Entry → List WorldEvent
 past es = map (λ e. event_of e.1) es
 
 -- the reply to a look is what it saw
-abbrev pub is_seen : Look → Result Reply Refusal → Bool
+abbrev pub is_seen : Look ℤ → Result Reply Refusal → Bool
 is_seen x (Ok (Value y)) = same_look y x
 is_seen x _ = false
 

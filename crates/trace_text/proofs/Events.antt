@@ -71,7 +71,7 @@ value_is_wide (negsuc n) h = lt-ltb n (2 ^ 63) (grind (arith, h))
 value_back : (z : ℤ) → is_value z ≡ true → value_in (signed z) ≡ Some z
 value_back z h = rw (wide_back z (value_is_wide z h), not-true _ h) refl
 
-seen_back : (x : Look) → seen_has_form x ≡ true → seen_in (seen_data x) ≡ Some x
+seen_back : (x : Look ℤ) → seen_has_form x ≡ true → seen_in (seen_data x) ≡ Some x
 seen_back Nothing h = refl
 seen_back (Value z) h = ap (option_map Value) (wide_back z h)
 

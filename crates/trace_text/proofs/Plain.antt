@@ -102,7 +102,7 @@ terms_fit k v m terms h =
     let p = and_parts (nat_le (length terms.ops) 4) (bound_has_form terms.bound) h in
     (mode_fits (suc k) m, (ops_fit k terms.ops, bounds_fit (suc k) v terms.bound p.1))
 
-seen_fits : (k : ℕ) (x : Look) → seen_has_form x ≡ true → Fits k (seen_data x)
+seen_fits : (k : ℕ) (x : Look ℤ) → seen_has_form x ≡ true → Fits k (seen_data x)
 seen_fits k (Value z) h = wide_fits k z h
 seen_fits k Nothing h = (tt, omega arith)
 

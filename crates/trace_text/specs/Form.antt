@@ -1,5 +1,5 @@
 -- The trace that a JSON value spells, or the place of its first fault.
-use Rattle.std.specs.Prelude.{ℕ, ◌+◌, ◌==◌, ◌&&◌, not, List, [], ◌∷◌, Bool, nat_le, if◌then◌else◌, Option, Some, None, option_map, Result, Ok, Err, codes}
+use Rattle.std.specs.Prelude.{ℕ, ◌+◌, ◌==◌, ◌&&◌, not, List, [], ◌∷◌, Bool, nat_le, if◌then◌else◌, Option, Some, None, option_map, Result, Ok, Err, codes, ℤ}
 use Rattle.std.specs.Str.{bytes_eq}
 use Rattle.serde_json.specs.Data.{Data, null, boolean, number, string, array, object, Items}
 use Rattle.serde_json.specs.Find.{get, at, as_array}
@@ -72,7 +72,7 @@ send_in d =
     else (number_at 4 d >>= λ t. accumulator_at 5 d >>= λ a. value_at 6 d >>= λ v. Some (step.Send t a v))
 
 -- what was seen: a number, or null for nothing
-abbrev pub seen_in : Data → Option Look
+abbrev pub seen_in : Data → Option (Look ℤ)
 seen_in null = Some Nothing
 seen_in (boolean b) = None
 seen_in (number n) = option_map Value (signed_in (number n))

@@ -60,7 +60,7 @@ abbrev pub ops_data : List Op → Data
 ops_data ops = list (map op_data ops)
 
 -- what a look saw: a number, or null for nothing
-abbrev pub seen_data : Look → Data
+abbrev pub seen_data : Look ℤ → Data
 seen_data (Value z) = signed z
 seen_data Nothing = null
 
@@ -200,7 +200,7 @@ is_wide (pos n) = nat_lt n (2 ^ 63)
 is_wide (negsuc n) = nat_lt n (2 ^ 63)
 
 -- a sum may be wider than a value
-abbrev pub seen_has_form : Look → Bool
+abbrev pub seen_has_form : Look ℤ → Bool
 seen_has_form (Value z) = is_wide z
 seen_has_form Nothing = true
 

@@ -61,19 +61,19 @@ closed_stays l terms (e ∷ later) before p a k some s =
       sent_stays l terms p a e (later ++ before) k r.0 ∙ r.1,
     )
 
-same_looks : (x y : Look) → same_look x y ≡ true → x ≡ y
+same_looks : (x y : Look ℤ) → same_look x y ≡ true → x ≡ y
 same_looks (Value v) (Value w) k = ap (λ z. Value z) ((Decides-int_eq v w).0 k)
 same_looks Nothing Nothing k = refl
 same_looks x y k = absurd cc
 
 -- what a look was allowed to see
-record Saw (terms : Terms) (h : List Event) (t a : ℕ) (x : Look) : Type 0 where
+record Saw (terms : Terms) (h : List Event) (t a : ℕ) (x : Look ℤ) : Type 0 where
   pub waiter : has_mode can_wait t h ≡ true
   pub some : is_empty h ≡ false
   pub turned : 0 < waits t h
   pub value : x ≡ look_of terms.ops a (waits t h) h
 
-saw : (l : Limits) (terms : Terms) (h : List Event) (t a : ℕ) (x : Look)
+saw : (l : Limits) (terms : Terms) (h : List Event) (t a : ℕ) (x : Look ℤ)
     → is_legal l terms (Looked t a x ∷ h) ≡ true → Saw terms h t a x
 saw l terms h t a x k =
     let f = (last_follows l terms h (Looked t a x) k).permitted in

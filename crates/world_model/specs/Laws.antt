@@ -1,5 +1,5 @@
 -- What holds of the phasers and finishes of each legal world, one by one.
-use Rattle.std.specs.Prelude.{ℕ, ◌-◌, ◌≡◌, true, false, List, ◌∷◌, ◌++◌}
+use Rattle.std.specs.Prelude.{ℕ, ◌-◌, ◌≡◌, true, false, List, ◌∷◌, ◌++◌, ℤ}
 use Rattle.phase_modes.specs.declared.limits.Limits.{Limits}
 use Rattle.phase_modes.specs.Lists.{is_empty}
 use Rattle.phase_model.specs.declared.history.Event.{Event}
@@ -32,7 +32,7 @@ PhasersAreOrdered = OfEachWorld (λ l w. (n : ℕ) → IsOrdered (phaser_past n 
 pub record IsFolded (ops : List Op) (h : List Event) : Type 0 where
   pub stays : (later before : List Event) (p a : ℕ) → h ≡ later ++ before
       → is_empty before ≡ false → IsClosed p before → IsClosed p h × (sent a p h ≡ sent a p before)
-  pub seen : (later before : List Event) (t a : ℕ) (x : Look) → h ≡ later ++ Looked t a x ∷ before
+  pub seen : (later before : List Event) (t a : ℕ) (x : Look ℤ) → h ≡ later ++ Looked t a x ∷ before
       → IsClosed (waits t before - 1) before × (x ≡ look_of ops a (waits t before) h)
 
 -- the history of each phaser is so

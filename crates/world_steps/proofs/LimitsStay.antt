@@ -1,5 +1,5 @@
 -- No step changes the limits: whatever it is answered, the state after it has those of the state before.
-use Rattle.std.proofs.Common.{◌≡◌, ℕ, Bool, true, false, Option, Some, None, Result, Ok, Err, refl}
+use Rattle.std.proofs.Common.{◌≡◌, ℕ, Bool, true, false, Option, Some, None, Result, Ok, Err, refl, ℤ}
 use Rattle.phase_modes.specs.declared.refusal.Refusal.{Refusal}
 use Rattle.phase_model.specs.declared.op.Look.{Look as Seen}
 use Rattle.phaser_answers.specs.declared.answer.Passing.{Passing}
@@ -16,11 +16,11 @@ pub limits_by : (u : Result (Unit {0}) Refusal) (s new : WorldState) → new.lim
 limits_by (Ok u) s new e = e
 limits_by (Err r) s new e = refl
 
-pub limits_by_look : (u : Result Seen Refusal) (s new : WorldState) → new.limits ≡ s.limits → (state_by_look u s new).limits ≡ s.limits
+pub limits_by_look : (u : Result (Seen ℤ) Refusal) (s new : WorldState) → new.limits ≡ s.limits → (state_by_look u s new).limits ≡ s.limits
 limits_by_look (Ok x) s new e = e
 limits_by_look (Err r) s new e = refl
 
-pub limits_by_pass : (u : Result Passing Refusal) (s called noted : WorldState)
+pub limits_by_pass : (u : Result (Passing ℕ) Refusal) (s called noted : WorldState)
     → called.limits ≡ s.limits → noted.limits ≡ s.limits → (state_by_pass u s called noted).limits ≡ s.limits
 limits_by_pass (Ok (Passed p)) s called noted c n = n
 limits_by_pass (Ok (Claims i)) s called noted c n = c

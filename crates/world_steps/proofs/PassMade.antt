@@ -82,7 +82,7 @@ pass_returned h None false false b t = refl
 pass_returned h None false true true t = refl
 pass_returned h None false true false t = refl
 
-pub answer_by : (b c : Bool) (u : Result Passing Refusal) (r : Result Reply Refusal) → b ≡ c → reply_by_pass u ≡ r → reply_by_pass (cond b u (Err NotNow)) ≡ cond c r (Err NotNow)
+pub answer_by : (b c : Bool) (u : Result (Passing ℕ) Refusal) (r : Result Reply Refusal) → b ≡ c → reply_by_pass u ≡ r → reply_by_pass (cond b u (Err NotNow)) ≡ cond c r (Err NotNow)
 answer_by true true u r e k = k
 answer_by true false u r e k = absurd cc
 answer_by false true u r e k = absurd cc
@@ -156,7 +156,7 @@ module _ (outers : List (Option ℕ)) (w : List WorldEvent) (n t : ℕ) (k : Tas
       (own_line plan.Turning (i ∷ is) k.clock (ap (λ ds. drop 1 ds) d) refl (ap (λ q. fits_plan q (last_entry t w)) (sym e) ∙ st.plan) refl (st.clock ∙ ap (λ v. min v 4294967295) (sym c)))
 
 -- what follows from a pass that is made
-pub asked_made : (b : Bool) (u : Result Passing Refusal) → is_made (reply_by_pass (cond b u (Err NotNow))) ≡ true → (b ≡ true) × (is_made (reply_by_pass u) ≡ true)
+pub asked_made : (b : Bool) (u : Result (Passing ℕ) Refusal) → is_made (reply_by_pass (cond b u (Err NotNow))) ≡ true → (b ≡ true) × (is_made (reply_by_pass u) ≡ true)
 asked_made true u e = (refl, e)
 asked_made false u e = absurd cc
 
@@ -182,7 +182,7 @@ wanted_within [] t n e = absurd cc
 wanted_within (k ∷ ks) zero n e = omega arith
 wanted_within (k ∷ ks) (suc t) n e = omega (arith, wanted_within ks t n e)
 
-pub pass_unchanged : (u : Result Passing Refusal) (s called noted : WorldState) → is_made (reply_by_pass u) ≡ false → state_by_pass u s called noted ≡ s
+pub pass_unchanged : (u : Result (Passing ℕ) Refusal) (s called noted : WorldState) → is_made (reply_by_pass u) ≡ false → state_by_pass u s called noted ≡ s
 pass_unchanged (Ok (Passed p)) s called noted e = absurd cc
 pass_unchanged (Ok (Claims i)) s called noted e = absurd cc
 pass_unchanged (Ok Waits) s called noted e = refl

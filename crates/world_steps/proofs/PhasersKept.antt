@@ -36,7 +36,7 @@ make_kept xs n old new terms r e k moved read =
 pub register_kept : (xs : List Story) (n : ℕ) (old new : Story) (q c : ℕ) (m : Mode) (e : Refusal) → Err e ≡ done_result (reply old (register q c m)) → new ≡ after old (reply old (register q c m)) → old ≡ get_or xs n old → set xs n new ≡ xs
 register_kept xs n old new q c m e k moved read = kept xs n old new (reply old (register q c m)) e k moved read
 
-look_by : (s : Story) (o : Option Refusal) (room : Bool) (t a : ℕ) (x : Look) (e : Refusal)
+look_by : (s : Story) (o : Option Refusal) (room : Bool) (t a : ℕ) (x : Look ℤ) (e : Refusal)
     → Err e ≡ look_result (decided o false room (Looked t a x)) → after s (decided o false room (Looked t a x)) ≡ s
 look_by s (Some r) room t a x e k = refl
 look_by s None false t a x e k = refl

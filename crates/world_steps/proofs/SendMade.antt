@@ -121,12 +121,12 @@ send_is_step s n t a v = record {
 }
 
 -- the reply to a look is what the phaser returns
-look_returned : (h : List Event) (o : Option Refusal) (room : Bool) (t a : ℕ) (x : Seen) → reply_by_look (look_result (decided o false room (Looked t a x))) ≡ returned h (decided o false room (Looked t a x))
+look_returned : (h : List Event) (o : Option Refusal) (room : Bool) (t a : ℕ) (x : Seen ℤ) → reply_by_look (look_result (decided o false room (Looked t a x))) ≡ returned h (decided o false room (Looked t a x))
 look_returned h (Some r) room t a x = refl
 look_returned h None true t a x = refl
 look_returned h None false t a x = refl
 
-looked_by : (o p : Option Refusal) (u : Result Seen Refusal) (r : Result Reply Refusal) → o ≡ p → reply_by_look u ≡ r → reply_by_look (unless_before o u) ≡ unless p r
+looked_by : (o p : Option Refusal) (u : Result (Seen ℤ) Refusal) (r : Result Reply Refusal) → o ≡ p → reply_by_look u ≡ r → reply_by_look (unless_before o u) ≡ unless p r
 looked_by None None u r e k = k
 looked_by None (Some p) u r e k = absurd cc
 looked_by (Some o) None u r e k = absurd cc
@@ -139,7 +139,7 @@ look_answers s w n t a st =
     in
     looked_by (act_refusal s t) (first_refusal (act_conditions s.limits w t (Looking n a))) (look_result (phaser.reply (story_at s n) (look t a))) (phaser_reply s.limits w n (Look t a)) (conditions_are s w n t a st) answer
 
-look_ok : (o p : Option Refusal) (room : Bool) (t a : ℕ) (x : Seen) → is_made (reply_by_look (unless_before o (look_result (decided p false room (Looked t a x))))) ≡ true
+look_ok : (o p : Option Refusal) (room : Bool) (t a : ℕ) (x : Seen ℤ) → is_made (reply_by_look (unless_before o (look_result (decided p false room (Looked t a x))))) ≡ true
     → (o ≡ None) × (decided p false room (Looked t a x) ≡ done (Looked t a x))
 look_ok None None true t a x e = (refl, refl)
 look_ok None None false t a x e = absurd cc
@@ -154,7 +154,7 @@ look_within s n t a e k = within s.phasers n k
     within (y ∷ ys) zero k = omega arith
     within (y ∷ ys) (suc m) k = omega (arith, within ys m k)
 
-look_unchanged : (u : Result Seen Refusal) (s new : WorldState) → is_made (reply_by_look u) ≡ false → state_by_look u s new ≡ s
+look_unchanged : (u : Result (Seen ℤ) Refusal) (s new : WorldState) → is_made (reply_by_look u) ≡ false → state_by_look u s new ≡ s
 look_unchanged (Ok x) s new e = absurd cc
 look_unchanged (Err r) s new e = refl
 

@@ -34,7 +34,7 @@ impl Seats {
     fn actor(&self, dice: &mut Dice, phaser: &LongPhaser) -> u32 {
         for _ in 0..4 {
             let task = self.task(dice);
-            if phaser.registration(task).is_some() {
+            if phaser.registration(u64::from(task)).is_some() {
                 return task;
             }
         }
@@ -45,7 +45,7 @@ impl Seats {
     fn has_free(&self, phaser: &LongPhaser) -> bool {
         self.tasks
             .iter()
-            .any(|task| phaser.registration(*task).is_none())
+            .any(|task| phaser.registration(u64::from(*task)).is_none())
     }
 
     /// A call that makes the phaser, in a mode that allows its children much.
@@ -86,7 +86,7 @@ impl Seats {
     /// The task that was registered sits down on the first seat that is free.
     pub(super) fn seat(&mut self, phaser: &LongPhaser) {
         for task in self.tasks.iter_mut() {
-            if phaser.registration(*task).is_none() {
+            if phaser.registration(u64::from(*task)).is_none() {
                 *task = self.next;
                 break;
             }

@@ -72,8 +72,8 @@ fn a_slow_waiter_holds_the_others(rt: HostRuntime) -> Result<(), Fail> {
 }
 
 /// How a task is registered that has ended 10,000 turns.
-fn after_ten_thousand(mode: Mode) -> Reg {
-    Reg {
+fn after_ten_thousand(mode: Mode) -> LongReg {
+    LongReg {
         mode,
         phase: 10_000,
         ahead: false,

@@ -81,18 +81,27 @@ impl Pair {
     fn agree(&self, rt: &impl Abort, tasks: u32) {
         for task in 0..tasks {
             assert_eq!(rt;
-                self.long.registration(task),
-                self.stored.registration(task),
+                self.long.registration(u64::from(task)),
+                self.stored.registration(task).map(widened),
                 "task {task}"
             );
         }
         for phase in 0..64 {
             assert_eq!(rt;
-                self.long.closed(phase),
+                self.long.closed(u64::from(phase)),
                 self.stored.closed(phase),
                 "phase {phase}"
             );
         }
+    }
+}
+
+/// The same registration with a phase of 64 bits.
+fn widened(reg: Reg) -> LongReg {
+    LongReg {
+        mode: reg.mode,
+        phase: u64::from(reg.phase),
+        ahead: reg.ahead,
     }
 }
 

@@ -2,6 +2,7 @@
 
 use super::job::CoreJob;
 use super::kind::Kind;
+use super::long::calls_on_long;
 use phase_model::{Op, Ops};
 use phase_modes::{Limits, Mode, Refusal};
 use phaser_core::PhaserState;
@@ -86,24 +87,33 @@ fn fill(state: &mut PhaserState, kind: Kind, tasks: u32) {
             Kind::Send => send(state, tasks),
             Kind::Look => look(state, tasks),
             Kind::Drop => return register_and_drop(state, tasks),
+            Kind::Long => return,
         }
     }
 }
 
+/// Makes the calls of the job on one phaser.
+fn calls_on_one(alloc: Global, job: CoreJob) -> Result<u64, Refusal> {
+    match job.kind {
+        Kind::Long => calls_on_long(alloc, job),
+        _ => calls_on_stored(alloc, job),
+    }
+}
+
 /// Fills a phaser, and returns how many calls of the kind were done. Each is one event.
-fn calls_on_one(alloc: Global, job: CoreJob) -> Result<u32, Refusal> {
+fn calls_on_stored(alloc: Global, job: CoreJob) -> Result<u64, Refusal> {
     let mut state = ready(alloc, job.tasks)?;
     let before = state.history().len();
     fill(&mut state, job.kind, job.tasks);
-    Ok(state.history().len().saturating_sub(before))
+    Ok(u64::from(state.history().len().saturating_sub(before)))
 }
 
-/// Fills the job's phasers one after the other, and returns how many calls of the kind were done in
+/// Makes the job's calls on its phasers one after the other, and returns how many were done in
 /// all. An error is `Memory`, where a phaser got none.
 pub fn calls_on_all(alloc: Global, job: CoreJob) -> Result<u64, Refusal> {
     let mut calls: u64 = 0;
     for _ in 0..job.phasers {
-        calls = calls.saturating_add(calls_on_one(alloc, job)? as u64);
+        calls = calls.saturating_add(calls_on_one(alloc, job)?);
     }
     Ok(calls)
 }

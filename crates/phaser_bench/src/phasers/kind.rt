@@ -15,6 +15,8 @@ pub enum Kind {
     Look,
     /// Registrations of a child, each followed by its drop.
     Drop,
+    /// The rounds of `Turn` on a phaser that lives long.
+    Long,
 }
 
 impl Kind {
@@ -28,6 +30,7 @@ impl Kind {
             "send" => Some(Kind::Send),
             "look" => Some(Kind::Look),
             "drop" => Some(Kind::Drop),
+            "long" => Some(Kind::Long),
             _ => None,
         }
     }

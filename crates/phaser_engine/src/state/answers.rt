@@ -1,58 +1,64 @@
 //! What a call would be answered, for whoever has to know before it is made. Nothing is changed
 //! here.
-ghost use Rattle.std.specs.Prelude.{◌≡◌, IfOk, IfErr};
+ghost use Rattle.std.specs.Prelude.{◌≡◌, ◌≤◌, IfOk, IfErr};
 ghost use Rattle.phase_model.specs.Replies.{reply, returned};
 ghost use Rattle.phase_model.specs.Tasks.{is_registered};
 ghost use Rattle.phase_model.specs.declared.call.Call.TheVariants.{Register as register};
-ghost use Rattle.phaser_engine.specs.Outcomes.{unmade_reply, turn_reply};
+ghost use Rattle.phaser_answers.specs.Outcomes.{look_reply};
+ghost use Rattle.phaser_answers.specs.Short.{IsShortLook};
+ghost use Rattle.phaser_engine.specs.Outcomes.{unmade_reply, turn_reply, IsShortTurn};
 
 use crate::state::Engine;
 use crate::turn::{Signal, Turn, Unmade};
 use crate::view::{View, view_of};
-use phase_model::{Call, Reply};
+use phase_model::{Call, LongLook, Reply};
 use phase_modes::Refusal;
-use phaser_answers::look_reply;
+use phaser_answers::short_look;
 use reg_table::Comparisons;
 
 impl Engine {
-    /// What would be replied to the call now. Of a child that would be registered whoever calls
-    /// knows whether its number ever was.
+    /// What would be replied to the call now, on a phaser whose phases and sums have room in a
+    /// reply. Of a child that would be registered whoever calls knows whether its number ever was.
     pub fn reply_to(&self, call: Call, is_known: bool) -> Reply
-        requires { (parent child : _) → (mode : _) → call ≡ register parent child mode
+        requires known { (parent child : _) → (mode : _) → call ≡ register parent child mode
             → is_known ≡ is_registered child self.now.story.past }
+        requires short { self.now.story.limits.history ≤ 65536 }
         ensures { result ≡ returned self.now.story.past (reply self.now.story call) }
     {
         let mut comparisons = Comparisons::none();
         let view = view_of!(self);
         match call {
-            Call::Make(task, mode) => done_or_refused(view.may_make(task, mode)),
+            Call::Make(task, mode) => done_or_refused(view.may_make(task as u64, mode)),
             Call::Register(parent, child, mode) => done_or_refused(view.may_register(
-                parent,
-                child,
+                parent as u64,
+                child as u64,
                 mode,
                 is_known,
                 &mut comparisons,
             )),
             Call::Signal(task, number) => signal_answer(view.may_signal(
-                task,
+                task as u64,
                 number,
                 &mut comparisons,
             )),
-            Call::Pass(task) => turn_reply(view.may_pass(task, &mut comparisons)),
-            Call::SingleDone(task) => done_or_refused(view.may_report(task, &mut comparisons)),
+            Call::Pass(task) => turn_reply(view.may_pass(task as u64, &mut comparisons)),
+            Call::SingleDone(task) => done_or_refused(view.may_report(
+                task as u64,
+                &mut comparisons,
+            )),
             Call::Send(task, accumulator, value) => done_or_refused(view.may_send(
-                task,
+                task as u64,
                 accumulator,
                 value,
                 &mut comparisons,
             )),
-            Call::Look(task, accumulator) => look_reply(view.may_look(
+            Call::Look(task, accumulator) => seen_reply(view.may_look(
                 &self.cells,
-                task,
+                task as u64,
                 accumulator,
                 &mut comparisons,
             )),
-            Call::Drop(task) => done_or_refused(view.may_drop(task, &mut comparisons)),
+            Call::Drop(task) => done_or_refused(view.may_drop(task as u64, &mut comparisons)),
         }
     }
 }
@@ -80,12 +86,24 @@ fn signal_answer(outcome: Result<Signal, Unmade>) -> Reply
     }
 }
 
+/// The reply of a look that sees this.
+fn seen_reply(outcome: Result<LongLook, Refusal>) -> Reply
+    requires { IfOk outcome (λ x. IsShortLook x) }
+    ensures { result ≡ look_reply outcome }
+{
+    match outcome {
+        Ok(seen) => Reply::Saw(short_look(seen)),
+        Err(refusal) => Reply::Refused(refusal),
+    }
+}
+
 /// The reply of a pass that goes on like this.
 fn turn_reply(outcome: Result<Turn, Refusal>) -> Reply
+    requires { IfOk outcome (λ turn. IsShortTurn turn) }
     ensures { result ≡ turn_reply outcome }
 {
     match outcome {
-        Ok(Turn::Passes(_, phase)) => Reply::Phase(phase),
+        Ok(Turn::Passes(_, phase)) => Reply::Phase(phase as u32),
         Ok(Turn::Claims(_, number)) => Reply::Claim(number),
         Ok(Turn::Waits) => Reply::NotYet,
         Err(refusal) => Reply::Refused(refusal),

@@ -11,6 +11,7 @@ use crate::view::{View, view_of};
 use phase_model::Event;
 use phase_modes::{Mode, Refusal};
 use reg_table::{Comparisons, Entry, TaskNumber};
+use told_history::LongEvent;
 
 impl Engine {
     /// Registers a child whose line comes last, if that is allowed and the parent's line is where
@@ -21,8 +22,8 @@ impl Engine {
     #[inline(never)]
     pub(super) fn register_last(
         &mut self,
-        parent: u32,
-        child: u32,
+        parent: u64,
+        child: u64,
         mode: Mode,
         is_known: bool,
     ) -> bool
@@ -47,7 +48,7 @@ impl Engine {
             reg,
             proposed: false,
         });
-        self.history.add(Event::Reg(parent, child, mode));
+        self.history.add(LongEvent::Reg(parent, child, mode));
         true
     }
 
@@ -56,8 +57,8 @@ impl Engine {
     #[inline(never)]
     pub(super) fn register_anywhere(
         &mut self,
-        parent: u32,
-        child: u32,
+        parent: u64,
+        child: u64,
         mode: Mode,
         is_known: bool,
     ) -> Result<(), Refusal>
@@ -73,7 +74,7 @@ impl Engine {
         let answer = view.may_register(parent, child, mode, is_known, &mut self.compared);
         let reg = answer?;
         let place = self.table.place_for(child, &mut self.compared);
-        self.history.add(Event::Reg(parent, child, mode));
+        self.history.add(LongEvent::Reg(parent, child, mode));
         self.table.insert(
             place,
             Entry {
@@ -89,7 +90,7 @@ impl Engine {
     /// alone the hindmost, so that no phase closes by it. Returns whether it did; else nothing has
     /// changed but the count.
     #[inline(never)]
-    pub(super) fn drop_last(&mut self, task: u32) -> bool
+    pub(super) fn drop_last(&mut self, task: u64) -> bool
         ensures done { result ≡ true → reply self.old.story (drop_task task) ≡ done (Event.Drop task) }
         ensures history { result ≡ true → self.new.story ≡ with_event self.old.story (Event.Drop task) }
         ensures stays { result ≡ false → self.new.story ≡ self.old.story }
@@ -106,7 +107,7 @@ impl Engine {
         if !leaves || !self.table.pop() {
             return false;
         }
-        self.history.add(Event::Drop(task));
+        self.history.add(LongEvent::Drop(task));
         true
     }
 
@@ -114,7 +115,7 @@ impl Engine {
     /// full table that is nothing, since `find` may need all nine comparisons there.
     #[cold]
     #[inline(never)]
-    pub(super) fn drop_anywhere(&mut self, task: u32) -> Result<(), Refusal>
+    pub(super) fn drop_anywhere(&mut self, task: u64) -> Result<(), Refusal>
         requires compared { self.old.compared ≤ 1 }
         requires full { 256 ≤ live_count self.old.story.past → self.old.compared ≡ 0 }
         ensures reply { result ≡ done_result (reply self.old.story (drop_task task)) }
@@ -125,11 +126,11 @@ impl Engine {
         let view = view_of!(self);
         let answer = view.may_drop(task, &mut self.compared);
         let i = answer?;
-        self.history.add(Event::Drop(task));
+        self.history.add(LongEvent::Drop(task));
         let reg = self.table.get(i).reg;
-        self.table.fold(i, reg.signals() as u32, &mut self.cells);
+        self.table.fold(i, reg.signals(), &mut self.cells);
         if self.table.remove(i) {
-            self.cells.release_below(self.table.needed_from() as u64);
+            self.cells.release_below(self.table.needed_from());
         }
         Ok(())
     }

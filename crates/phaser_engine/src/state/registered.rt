@@ -1,18 +1,19 @@
 //! Questions on one task of a phaser. They change nothing.
-ghost use Rattle.std.specs.Prelude.{◌≡◌};
+ghost use Rattle.std.specs.Prelude.{◌≡◌, ◌≤◌, IfSome};
 ghost use Rattle.phase_model.specs.Rules.{is_permitted};
 ghost use Rattle.phaser_answers.specs.Registration.{registration};
 
 use crate::state::Engine;
 use crate::view::{View, view_of};
 use phase_model::Event;
-use phase_modes::Reg;
+use phase_modes::LongReg;
 use reg_table::Comparisons;
 
 impl Engine {
     /// How the task is registered now.
-    pub fn registration(&self, task: u32) -> Option<Reg>
-        ensures { result ≡ registration task self.now.story.past }
+    pub fn registration(&self, task: u64) -> Option<LongReg>
+        ensures registration { result ≡ registration task self.now.story.past }
+        ensures early { IfSome result (λ r. r.phase ≤ self.now.story.limits.history) }
     {
         let mut comparisons = Comparisons::none();
         match self.table.find(task, &mut comparisons) {
@@ -22,7 +23,7 @@ impl Engine {
     }
 
     /// Whether the task may claim the single of its phase: its next `pass` then claims it.
-    pub fn may_claim(&self, task: u32) -> bool
+    pub fn may_claim(&self, task: u64) -> bool
         ensures { result
             ≡ is_permitted self.now.story.limits self.now.story.terms self.now.story.past (Event.Claim task) }
     {
@@ -32,7 +33,7 @@ impl Engine {
     }
 
     /// Whether the task may report the single done that it claimed.
-    pub fn may_report(&self, task: u32) -> bool
+    pub fn may_report(&self, task: u64) -> bool
         ensures { result
             ≡ is_permitted self.now.story.limits self.now.story.terms self.now.story.past (Event.Did task) }
     {

@@ -9,7 +9,7 @@ use reg_table::Comparisons;
 
 impl Engine {
     /// Whether a pass of the task would be answered `NotYet`.
-    pub fn would_wait(&self, task: u32) -> bool
+    pub fn would_wait(&self, task: u64) -> bool
         ensures { result ≡ would_wait self.now.story task }
     {
         let mut comparisons = Comparisons::none();
@@ -21,7 +21,7 @@ impl Engine {
     }
 
     /// Whether a signal of the task would be answered `NotYet`.
-    pub fn signal_would_wait(&self, task: u32, number: Option<u32>) -> bool
+    pub fn signal_would_wait(&self, task: u64, number: Option<u32>) -> bool
         ensures { result ≡ signal_would_wait self.now.story task number }
     {
         let mut comparisons = Comparisons::none();
@@ -33,7 +33,7 @@ impl Engine {
     }
 
     /// Whether the task is registered and the phase at which it stands isn't closed.
-    pub fn is_in_open_phase(&self, task: u32) -> bool
+    pub fn is_in_open_phase(&self, task: u64) -> bool
         ensures { result ≡ is_in_open_phase self.now.story task }
     {
         let mut comparisons = Comparisons::none();

@@ -22,18 +22,18 @@ abbrev pub blank_line : FoldLine
 blank_line = record { phase = 0; acc = 0; value = Nothing }
 
 -- a sum with one value more
-abbrev pub sum_with : ℤ → Look → Look
+abbrev pub sum_with : ℤ → Look ℤ → Look ℤ
 sum_with v Nothing = Value v
 sum_with v (Value w) = Value (w +ℤ v)
 
 -- what there is to see with one value more
-abbrev pub fold_with : Op → ℤ → Look → Look
+abbrev pub fold_with : Op → ℤ → Look ℤ → Look ℤ
 fold_with Sum v l = sum_with v l
 fold_with Least v l = chosen_with int_min v l
 fold_with Greatest v l = chosen_with int_max v l
 
 -- a sum has room for one value more: those of 65,536 values of 32 bits are below 10 ^ 15
-abbrev pub HasRoom : Op → Look → Type 0
+abbrev pub HasRoom : Op → Look ℤ → Type 0
 HasRoom Sum (Value v) = (negsuc 1000000000000000 ≤ℤ v) × (v ≤ℤ pos 1000000000000000)
 HasRoom _ _ = ⊤
 

@@ -1,4 +1,5 @@
 -- What a trace has of an event, and of what it was answered.
+use Rattle.std.specs.Prelude.{ℤ}
 use Rattle.phase_model.specs.declared.op.Look.{Look}
 use Rattle.phase_model.specs.declared.op.Look.TheVariants.{Nothing}
 use Rattle.world_model.specs.declared.event.Step.{Step}
@@ -13,7 +14,7 @@ use Rattle.trace_model.specs.declared.event.TracedEvent.{TracedEvent}
 use Rattle.trace_model.specs.declared.event.TracedEvent.TheVariants.{Phaser, Finish, Begin, Refuse, Fail}
 
 -- what a look saw, by its answer
-abbrev pub seen : Reply → Look
+abbrev pub seen : Reply → Look ℤ
 seen (Value x) = x
 seen _ = Nothing
 

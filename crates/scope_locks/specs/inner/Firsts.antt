@@ -1,5 +1,5 @@
 -- Of whom the code asks first: who of the parked ones stands first, and whether a call has added an event.
-use Rattle.std.specs.Prelude.{Bool, true, false, List, Option, Some, None, Result, not}
+use Rattle.std.specs.Prelude.{Bool, true, false, List, Option, Some, None, Result, not, ℕ}
 use Rattle.std.specs.List.{find}
 use Rattle.phase_modes.specs.declared.refusal.Refusal.{Refusal}
 use Rattle.phase_model.specs.Rules.{Story}
@@ -43,7 +43,7 @@ abbrev pub is_first_held : {T : Type 0} → Story → List (Parked T) → Bool
 is_first_held s ps = is_held_for s (first_to_signal ps)
 
 -- a pass has added an event: whoever asked goes on
-abbrev pub has_gone_on : Result Passing Refusal → Bool
+abbrev pub has_gone_on : Result (Passing ℕ) Refusal → Bool
 has_gone_on a = goes_on (locked_pass a true (tt {0}))
 
 -- a signal has added an event: whoever asked has signalled

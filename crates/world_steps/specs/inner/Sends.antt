@@ -36,15 +36,15 @@ send_state s n t a v = state_by (send_result s n t a v) s
     (with_task (phaser_called s n (send t a v)) t (counted (task_at s t)))
 
 -- the reply of the world to a look of which the phaser says this
-abbrev pub reply_by_look : Result Look Refusal → Result Reply Refusal
+abbrev pub reply_by_look : Result (Look ℤ) Refusal → Result Reply Refusal
 reply_by_look (Ok x) = Ok (Value x)
 reply_by_look (Err r) = Err r
 
-abbrev pub state_by_look : Result Look Refusal → WorldState → WorldState → WorldState
+abbrev pub state_by_look : Result (Look ℤ) Refusal → WorldState → WorldState → WorldState
 state_by_look (Ok x) old new = new
 state_by_look (Err r) old new = old
 
-abbrev pub looked : WorldState → ℕ → ℕ → ℕ → Result Look Refusal
+abbrev pub looked : WorldState → ℕ → ℕ → ℕ → Result (Look ℤ) Refusal
 looked s n t a = unless_before (act_refusal s t) (look_result (phaser.reply (story_at s n) (look t a)))
 
 abbrev pub look_answer : WorldState → ℕ → ℕ → ℕ → Result Reply Refusal

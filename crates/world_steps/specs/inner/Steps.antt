@@ -178,11 +178,11 @@ report_asked s n t =
     is_to_pass (task_at s t) n && not (may_claim (story_at s n) t) && may_report (story_at s n) t
 
 -- what the phaser says to a pass
-abbrev pub passed_on : WorldState → ℕ → ℕ → Result Passing Refusal
+abbrev pub passed_on : WorldState → ℕ → ℕ → Result (Passing ℕ) Refusal
 passed_on s n t = pass_result (story_at s n).past (phaser.reply (story_at s n) (pass t))
 
 -- the reply of the world to a pass or a claim of which the phaser says this
-abbrev pub reply_by_pass : Result Passing Refusal → Result Reply Refusal
+abbrev pub reply_by_pass : Result (Passing ℕ) Refusal → Result Reply Refusal
 reply_by_pass (Ok (Passed p)) = Ok (Phase p)
 reply_by_pass (Ok (Claims i)) = Ok Done
 reply_by_pass (Ok Waits) = Ok NotYet
@@ -198,13 +198,13 @@ abbrev pub pass_noted : TaskState → TaskState
 pass_noted k = note_pass k.left k
 
 -- the state after a pass of which the phaser says this: old, with the call alone, and with the turn noted too
-abbrev pub state_by_pass : Result Passing Refusal → WorldState → WorldState → WorldState → WorldState
+abbrev pub state_by_pass : Result (Passing ℕ) Refusal → WorldState → WorldState → WorldState → WorldState
 state_by_pass (Ok (Passed p)) old called noted = noted
 state_by_pass (Ok (Claims i)) old called noted = called
 state_by_pass (Ok Waits) old called noted = old
 state_by_pass (Err r) old called noted = old
 
-abbrev pub pass_outcome : WorldState → ℕ → ℕ → Result Passing Refusal
+abbrev pub pass_outcome : WorldState → ℕ → ℕ → Result (Passing ℕ) Refusal
 pass_outcome s n t = if pass_asked s n t then passed_on s n t else Err NotNow
 
 abbrev pub pass_answer : WorldState → ℕ → ℕ → Result Reply Refusal
@@ -215,7 +215,7 @@ pass_state s n t = state_by_pass (pass_outcome s n t) s (phaser_called s n (pass
     (with_task (phaser_called s n (pass t)) t (pass_noted (task_at s t)))
 
 -- a claim: the phaser is asked to pass, and the line stays
-abbrev pub claim_outcome : WorldState → ℕ → ℕ → Result Passing Refusal
+abbrev pub claim_outcome : WorldState → ℕ → ℕ → Result (Passing ℕ) Refusal
 claim_outcome s n t = if claim_asked s n t then passed_on s n t else Err NotNow
 
 abbrev pub claim_answer : WorldState → ℕ → ℕ → Result Reply Refusal

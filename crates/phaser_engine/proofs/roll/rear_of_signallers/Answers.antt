@@ -5,11 +5,11 @@ use Rattle.phaser_engine.specs.Line.{stands_at, signallers_at}
 use Rattle.phaser_engine.proofs.Counting.{rear_few, signals_once, counted_more}
 use Rattle.phaser_engine.proofs.roll.rear_of_signallers.Goals as goal
 
-pub with_signaller-rear-requires : goal.with_signaller-rear-requires
-with_signaller-rear-requires c =
+pub with_signaller-rear-requires-clause-few : goal.with_signaller-rear-requires-clause-few
+with_signaller-rear-requires-clause-few c =
     let i = c.loop-line.line-index in
     rear_few stands_at signals_once (take i c.args.lines.now) c.loop-line.rear c.loop-line.invariant
-    (omega (arith, c.requires, length-take-le i c.args.lines.now, c.loop-line-test.true))
+    (omega (arith, c.requires.few, length-take-le i c.args.lines.now, c.loop-line-test.true))
 
 pub loop-line-preserved : goal.loop-line-preserved
 loop-line-preserved c =

@@ -8,10 +8,10 @@ returns-in-Some c =
     let r = c.self.inside in
     rw (← c.self.view_is)
     (within_from r.table c.args.bound c.args.phase c.in-Some.least c.saturating_sub.result
-    c.from-in-Some.result (c.in-Some.ensures (waiters_at r.table) c.self.invariant.0.passed)
-    (omega (arith, c.saturating_sub.ensures, c.from.ensures))
-    (omega (arith, c.from-in-Some.ensures, c.phases.ensures.phases))
-    (omega (arith, c.from-in-Some.ensures, c.phases.ensures.least)))
+    c.from.result (c.in-Some.ensures (waiters_at r.table) c.self.invariant.0.passed)
+    (omega (arith, c.saturating_sub.ensures))
+    (omega (arith, c.from.ensures, c.phases.ensures.phases))
+    (omega (arith, c.from.ensures, c.phases.ensures.least)))
 
 pub returns-in-None : goal.returns-in-None
 returns-in-None c =

@@ -8,13 +8,13 @@ returns-in-Some-clause-each c = λ some.
     let r = c.self.inside in
     let least = c.in-Some.ensures (waiters_at r.table) c.self.invariant.0.passed in
     rw (← c.self.view_is)
-    (all_passed r.table c.min.result
-    (λ k near. least.1 k (omega (arith, near, some, c.min.ensures, c.saturating_sub.ensures))))
+    (all_passed r.table c.saturating_sub.result
+    (λ k near. least.1 k (omega (arith, near, some, c.saturating_sub.ensures))))
 
 pub returns-in-Some-clause-some : goal.returns-in-Some-clause-some
 returns-in-Some-clause-some c = λ some.
     let r = c.self.inside in
     let least = c.in-Some.ensures (waiters_at r.table) c.self.invariant.0.passed in
     rw (← c.self.view_is)
-    (one_passed r.table c.min.result c.in-Some.least
-    (omega (arith, some, c.min.ensures, c.saturating_sub.ensures)) least.0)
+    (one_passed r.table c.saturating_sub.result c.in-Some.least
+    (omega (arith, some, c.saturating_sub.ensures)) least.0)

@@ -15,15 +15,15 @@ invariant_of-self c =
     let end = c.len-last.result - 1 in
     let x = c.get.result in
     let at_end : end ≡ length r.table - 1 = omega (arith, c.len-last.ensures.length) in
-    let inside : end < length r.table = slice_get_within r.table end x c.get.ensures in
+    let inside : end < length r.table = slice_get_within r.table end x c.get.ensures.line in
     let size = length-remove r.table end inside in (
       rw (c.pop.ensures, ← at_end)
           (record {
             few = omega (arith, i.few, size);
             signalled = c.in-Some.ensures (signallers_at r.table) (signallers_at (remove r.table end))
-                i.signalled (counted_remove stands_at r.table end x c.get.ensures);
+                i.signalled (counted_remove stands_at r.table end x c.get.ensures.line);
             passed = c.in-Some-without_waiter.ensures (waiters_at r.table) (waiters_at (remove r.table end))
-                i.passed (counted_remove waits_at r.table end x c.get.ensures);
+                i.passed (counted_remove waits_at r.table end x c.get.ensures.line);
           }),
       omega (
         arith,

@@ -7,8 +7,8 @@ use Rattle.phaser_engine.specs.Line.{stands_at, waits_at}
 use Rattle.phaser_engine.proofs.Counting.{rear_few, signals_once, waits_once, roll_insert}
 use Rattle.phaser_engine.proofs.roll.Roll.push.Goals as goal
 
-pub with_signaller-self-inside-requires : goal.with_signaller-self-inside-requires
-with_signaller-self-inside-requires c =
+pub with_signaller-self-inside-requires-clause-few : goal.with_signaller-self-inside-requires-clause-few
+with_signaller-self-inside-requires-clause-few c =
     let i = c.self.invariant.0 in
     rear_few stands_at signals_once c.self.inside.table c.self.inside.signallers i.signalled i.few
 

@@ -16,7 +16,7 @@ hindmost_signallers-self-inside-requires-clause-known c =
     rw lines
     (IfSome_then c.without_signaller-signallers.result c.without_signaller-signallers.ensures
     (λ rear left. left (signallers_at r.table) (signallers_at (remove r.table k)) c.self.invariant.0.signalled
-    (counted_remove stands_at r.table k c.get.result c.get.ensures)))
+    (counted_remove stands_at r.table k c.get.result c.get.ensures.line)))
 
 pub hindmost_waiters-self-inside-requires-clause-known : goal.hindmost_waiters-self-inside-requires-clause-known
 hindmost_waiters-self-inside-requires-clause-known c =
@@ -26,13 +26,13 @@ hindmost_waiters-self-inside-requires-clause-known c =
     rw lines
     (IfSome_then c.without_waiter-waiters.result c.without_waiter-waiters.ensures
     (λ rear left. left (waiters_at r.table) (waiters_at (remove r.table k)) c.self.invariant.0.passed
-    (counted_remove waits_at r.table k c.get.result c.get.ensures)))
+    (counted_remove waits_at r.table k c.get.result c.get.ensures.line)))
 
 pub invariant_of-self : goal.invariant_of-self
 invariant_of-self c =
     let r = c.self.inside in
     let place = c.args.place in
-    let inside : place < length r.table = slice_get_within r.table place c.get.result c.get.ensures in
+    let inside : place < length r.table = slice_get_within r.table place c.get.result c.get.ensures.line in
     let size = length-remove r.table place inside in (
       record {
         few = omega (

@@ -1,8 +1,8 @@
-use Rattle.std.proofs.Common.{◌≡◌, Some, List, length, set, slice_get, ap, ◌∙◌, arith}
+use Rattle.std.proofs.Common.{◌≡◌, Some, List, length, set, slice_get, ap, sym, subst, ◌∙◌, arith}
 use Rattle.std.proofs.lemmas.List.{length-set}
 use Rattle.std.proofs.lemmas.Option.{IfSome_then}
 use Rattle.reg_table.specs.declared.table.Entry.{Entry}
-use Rattle.reg_table.specs.Lines.{line_signalled}
+use Rattle.reg_table.specs.Lines.{HaveNext, line_signalled}
 use Rattle.phaser_engine.specs.Line.{signallers_at, waiters_at, IsToSignal}
 use Rattle.phaser_engine.specs.Rears.{HasLeft}
 use Rattle.phaser_engine.proofs.Counting.{signal_leaves, signal_keeps, rear_same, at_place}
@@ -33,8 +33,8 @@ hindmost_signallers-self-inside-requires c =
     let h = has_signalled (goal.at.hindmost_signallers-self-inside-requires c).After-signal in
     let after = set r.table k (line_signalled h.line b) in
     let lines : c.lines.result.now ≡ after = c.lines.ensures.lines ∙ h.lines in
-    let leaves : HasLeft c.from.result (signallers_at r.table) (signallers_at after) =
-    rw c.from.ensures (signal_leaves r.table k c.args.phase h.line b h.here h.is) in
+    let leaves : HasLeft c.args.phase (signallers_at r.table) (signallers_at after) =
+    signal_leaves r.table k c.args.phase h.line b h.here h.is in
     record {
       few = omega (
         arith,
@@ -42,6 +42,7 @@ hindmost_signallers-self-inside-requires c =
         ap (λ (xs : List Entry). length xs) lines,
         length-set r.table k (line_signalled h.line b),
       );
+      next = subst (λ (xs : List Entry). HaveNext xs) (sym c.lines.ensures.lines) c.lines.ensures.next;
       known = rw lines
           (IfSome_then c.without-known.result c.without-known.ensures.some
           (λ rear left. left (signallers_at r.table) (signallers_at after) i.signalled leaves));

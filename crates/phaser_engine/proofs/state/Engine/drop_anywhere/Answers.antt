@@ -58,7 +58,7 @@ the_leaver c =
     let mine = entry_of s.past t in
     let place = place_of p.table.lines s.past t k c.in_ok-i.ensures.place in
     let read : c.get.result ≡ mine =
-    same_Some c.get.result mine (sym c.get.ensures ∙ c.in_ok-i.ensures.place) in
+    same_Some c.get.result mine (sym c.get.ensures.line ∙ c.in_ok-i.ensures.place) in
     let f : Found s.past t mine =
     found_in s p.table.lines p.single i.stands t k mine c.in_ok-i.ensures.place refl in
     let reg : c.signals.result ≡ signals_of mine.reg =
@@ -88,17 +88,6 @@ the_leaver c =
             )
       ];
     }
-
-pub overflow_cast-signals : goal.overflow_cast-signals
-overflow_cast-signals c =
-    let s = c.self.inside.history in
-    let h = the_leaver (goal.at.overflow_cast-signals c).After-signals in
-    omega (
-      arith,
-      h.low,
-      room_of_done s (drop_task c.args.task) (Drop c.args.task) c.in_ok-i.ensures.done,
-      history_fits s.limits c.self.invariant.stands.fit,
-    )
 
 pub fold-requires-clause-place : goal.fold-requires-clause-place
 fold-requires-clause-place c =

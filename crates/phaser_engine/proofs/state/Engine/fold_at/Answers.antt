@@ -1,4 +1,4 @@
-use Rattle.std.proofs.Common.{◌≡◌, ℕ, ◌<◌, ◌≤◌, nat_lt, nat_le, ◌&&◌, true, List, Option, Some, None, is_some, IfSome, length, slice_get, refl, ap, ◌∙◌, sym, subst}
+use Rattle.std.proofs.Common.{◌≡◌, ℕ, ◌<◌, ◌≤◌, nat_lt, nat_le, ◌&&◌, true, List, Option, Some, None, is_some, IfSome, length, slice_get, refl, ap, ◌∙◌, sym, subst, ℤ, arith}
 use Rattle.std.specs.Option.{option_map}
 use Rattle.std.proofs.lemmas.Bool.{and_parts, and_from, ltb-true, leb-true, lt-ltb, le-leb}
 use Rattle.phase_model.specs.declared.op.Op.{Op}
@@ -6,15 +6,22 @@ use Rattle.phase_model.specs.declared.op.Look.{Look}
 use Rattle.phase_model.specs.Phases.{is_closed}
 use Rattle.phase_model.specs.Values.{sent, fold}
 use Rattle.phase_model.proofs.Closing.{signalled_from_closed}
-use Rattle.acc_cells.specs.Cells.{Kept}
+use Rattle.acc_cells.specs.Cells.{Kept, IsInReach}
+use Rattle.acc_cells.proofs.Standing.{reach_more}
 use Rattle.phaser_engine.specs.Lazy.{folded}
 use Rattle.phaser_engine.specs.Phaser.{Working}
 use Rattle.phaser_engine.specs.Window.{is_needed}
 use Rattle.phaser_engine.proofs.Lazy.{same_folds, folds_as_sent}
+use Rattle.phaser_engine.proofs.Rooms.{past_within}
 use Rattle.phaser_engine.proofs.Window.{needed_kept}
 use Rattle.phaser_engine.proofs.state.Engine.fold_at.Goals as goal
 
-if_some : (o : Option Look) (P : Look → Type 0) → ((x : Look) → o ≡ Some x → P x) → IfSome o P
+-- more values reach further
+reach_all : (o : Option (Look ℤ)) (m n : ℕ) → m ≤ n → IfSome o (λ x. IsInReach m x) → IfSome o (λ x. IsInReach n x)
+reach_all None m n more near = tt
+reach_all (Some x) m n more near = reach_more m n x more near
+
+if_some : (o : Option (Look ℤ)) (P : Look ℤ → Type 0) → ((x : Look ℤ) → o ≡ Some x → P x) → IfSome o P
 if_some None P k = tt
 if_some (Some x) P k = k x refl
 
@@ -23,7 +30,7 @@ record IsCell (k : Kept) (a p : ℕ) : Type 0 where
   accumulator : a < length k.ops
   kept : k.from ≤ p
 
-cell_of : (k : Kept) (a p : ℕ) (o : Option Look) (x : Look)
+cell_of : (k : Kept) (a p : ℕ) (o : Option (Look ℤ)) (x : Look ℤ)
     → is_some o ≡ (nat_lt a (length k.ops) && nat_le k.from p) → o ≡ Some x
     → IsCell k a p
 cell_of k a p o x within is =
@@ -82,3 +89,13 @@ returns-clause-fold c =
     ∙ same_folds (λ op. fold op (folded a n s.past)) (λ op. fold op (sent a n s.past)) (slice_get s.terms.ops a)
     (folds_as_sent s.limits s.terms s.past c.self.invariant.stands.legal n
     (signalled_from_closed n s.past closed) a)))))
+
+pub returns-clause-reach : goal.returns-clause-reach
+returns-clause-reach c =
+    let s = c.self.inside.history in
+    let k = c.self.inside.cells in
+    let f = c.self.invariant.folds in
+    subst (λ (v : Working). IfSome c.fold_at.result (λ x. IsInReach v.story.limits.history x)) c.self.view_is
+    (reach_all c.fold_at.result k.sums.values s.limits.history
+    (omega (arith, f.few, past_within s.limits s.terms s.past c.self.invariant.stands.legal))
+    c.fold_at.ensures.near)

@@ -9,10 +9,11 @@ use Rattle.phase_model.specs.Rules.{Story}
 use Rattle.reg_table.specs.declared.table.Entry.{Entry}
 use Rattle.phaser_engine.specs.Lazy.{partial_of}
 use Rattle.phaser_engine.specs.Table.{tasks_of}
+use Rattle.told_history.specs.Wide.{limits_of}
 
 pub invariant_of-result : goal.invariant_of-result
 invariant_of-result c =
-    let l = c.args.limits in
+    let l = limits_of c.args.limits in
     let terms : Terms = record { ops = c.args.ops; bound = c.args.bound } in
     rw (c.new-history.ensures, c.new-3.ensures) (record {
       stands = rw c.in_ok-table.ensures.lines (stands_new l terms c.requires.counts);

@@ -6,7 +6,7 @@ use Rattle.phase_model.specs.Rules.{with_event}
 use Rattle.phase_model.proofs.Legal.{last_follows, pass_follows}
 use Rattle.reg_table.specs.Lines.{line_passed}
 use Rattle.phaser_engine.proofs.Reading.{history_fits, found_in}
-use Rattle.std.proofs.Common.{◌≡◌, ◌==◌, ◌<◌, ◌∷◌, true, not, set, List, map, refl, ap, sym, ◌∙◌, arith}
+use Rattle.std.proofs.Common.{◌≡◌, ◌==◌, ◌<◌, ◌≤◌, ◌∷◌, true, not, set, List, map, refl, ap, sym, ◌∙◌, subst, arith}
 use Rattle.phase_model.specs.declared.history.Event.TheVariants.{Pass, Claim}
 use Rattle.phase_model.specs.Phases.{waits, signals}
 use Rattle.phase_model.specs.declared.call.Call.TheVariants.{Pass as pass}
@@ -23,6 +23,7 @@ use Rattle.phaser_engine.proofs.Window.{window_stays, window_released}
 use Rattle.phaser_engine.proofs.Writing.{stands_claim, stands_pass, still_legal, tasks_set, place_of}
 use Rattle.acc_cells.specs.declared.cell.Cell.{Cell}
 use Rattle.phaser_engine.specs.Lazy.{partial_of}
+use Rattle.phaser_engine.specs.Phaser.{Working}
 use Rattle.phaser_engine.proofs.Holding.{all_held}
 use Rattle.phaser_engine.proofs.state.Engine.pass.Goals as goal
 use Rattle.phaser_engine.proofs.state.Engine.pass.Goals.{After-pass}
@@ -152,3 +153,18 @@ pub invariant_of-self-else-pass : goal.invariant_of-self-else-pass
 invariant_of-self-else-pass c =
     let a = (goal.at.invariant_of-self-else-pass c).After-pass in
     rw c.add-in-Passes.ensures (the_state a c.self.inside.cells (λ folds. folds) (λ window. window))
+
+-- the phase that is passed is no later than there may be events
+early : (c : After-pass) → c.in-Passes.phase ≤ c.args.self.now.story.limits.history
+early c =
+    let s = c.self.inside.history in
+    let t = c.args.task in
+    let turn = rw c.in-Passes.is at c.in_ok-answer.ensures.turn in
+    subst (λ (v : Working). c.in-Passes.phase ≤ v.story.limits.history) c.self.view_is
+    (omega (arith, turn.2, waits_within t s.past, room_of_done s (pass t) (Pass t) turn.0))
+
+pub returns-then-pass-clause-early : goal.returns-then-pass-clause-early
+returns-then-pass-clause-early c = early ((goal.at.returns-then-pass-clause-early c).After-pass)
+
+pub returns-else-pass-clause-early : goal.returns-else-pass-clause-early
+returns-else-pass-clause-early c = early ((goal.at.returns-else-pass-clause-early c).After-pass)

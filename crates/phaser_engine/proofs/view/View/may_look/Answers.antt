@@ -1,4 +1,4 @@
-use Rattle.std.proofs.Common.{◌≡◌, ◌-◌, false, None, Some, Option, length, slice_get, unwrap_or, refl, arith, ap, sym, ◌∙◌, inl, inr}
+use Rattle.std.proofs.Common.{◌≡◌, ◌-◌, false, None, Some, Option, length, slice_get, unwrap_or, refl, arith, ap, sym, ◌∙◌, inl, inr, ℤ}
 use Rattle.std.specs.Option.{option_map, option_map_or}
 use Rattle.std.proofs.lemmas.Bool.{lt-ltb, le-ltb, cases_lt}
 use Rattle.phase_modes.specs.Mode.{can_wait}
@@ -11,9 +11,11 @@ use Rattle.phase_model.specs.Rules.{look_of}
 use Rattle.phase_model.specs.Replies.{done, decided}
 use Rattle.phase_model.specs.Values.{sent, fold}
 use Rattle.phase_model.proofs.Closing.{over_behind}
+use Rattle.acc_cells.proofs.Standing.{reach_more}
 use Rattle.phaser_engine.specs.Lazy.{folded}
 use Rattle.phaser_engine.proofs.Lazy.{same_folds, folds_as_sent}
 use Rattle.phaser_engine.proofs.Reading.{Found, not_live, found_in, found_phase, room_now}
+use Rattle.phaser_engine.proofs.Rooms.{past_within}
 use Rattle.phaser_engine.proofs.Sends as sends
 use Rattle.phaser_engine.proofs.view.View.may_look.Goals as goal
 use Rattle.phaser_engine.proofs.view.View.may_look.Goals.{In-Some}
@@ -24,10 +26,10 @@ the_found c =
     c.args.self.now.stands c.args.task c.in-Some.field-0-0 c.in-Some.entry c.in-Some.ensures.some
     c.in-Some.ensures.task
 
-unwrap_some : (x : Look) {o : Option Look} → Some x ≡ o → x ≡ unwrap_or o Nothing
+unwrap_some : (x : Look ℤ) {o : Option (Look ℤ)} → Some x ≡ o → x ≡ unwrap_or o Nothing
 unwrap_some x e = ap (λ o. unwrap_or o Nothing) e
 
-unwrap_map : (f : Op → Look) (o : Option Op) → unwrap_or (option_map f o) Nothing ≡ option_map_or f o Nothing
+unwrap_map : (f : Op → Look ℤ) (o : Option Op) → unwrap_or (option_map f o) Nothing ≡ option_map_or f o Nothing
 unwrap_map f None = refl
 unwrap_map f (Some op) = refl
 
@@ -94,7 +96,7 @@ returns-clause-done c =
     (omega (arith, phase, c.if-entry-eq0.false)) in
     let seen : c.look.result ≡ look_of s.terms.ops a (waits t s.past) s.past =
     unwrap_some (c.look.result)
-    (c.look.ensures (λ b q. folded b q s.past) c.requires.folds.cells
+    (c.look.ensures.value (λ b q. folded b q s.past) c.requires.folds.cells
     ∙ same_folds (λ op. fold op (folded a n s.past)) (λ op. fold op (sent a n s.past)) (slice_get kept.ops a)
     (folds_as_sent s.limits s.terms s.past c.args.self.now.stands.legal n over.closed a))
     ∙ (unwrap_map (λ op. fold op (sent a (c.in-Some.entry.reg.phase - 1) s.past)) (slice_get kept.ops a)
@@ -129,3 +131,11 @@ look-requires-clause-kept c =
           ))
       | inr kept ↦ kept
     ]
+
+pub returns-clause-reach : goal.returns-clause-reach
+returns-clause-reach c =
+    let s = c.args.self.now.history.now in
+    let k = c.args.cells.now in
+    reach_more k.sums.values s.limits.history c.look.result
+    (omega (arith, c.requires.folds.few, past_within s.limits s.terms s.past c.args.self.now.stands.legal))
+    c.look.ensures.near

@@ -24,4 +24,4 @@ pub returns-clause-done : goal.returns-clause-done
 returns-clause-done c =
     let s = c.args.self.now.history.now in
     made s.limits s.terms s.past c.args.task c.args.mode (omega (arith, c.len.ensures.length, c.if-len-gt0.false))
-    (omega (arith, ap (λ (l : Limits). l.tasks) c.limits.ensures, c.if-task-limits.false)) (makes_fit s.limits c.args.self.now.stands.fit)
+    (omega (arith, c.limits.ensures.tasks, c.if-task-limits.false)) (makes_fit s.limits c.args.self.now.stands.fit)

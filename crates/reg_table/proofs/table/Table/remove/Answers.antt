@@ -3,7 +3,7 @@ use Rattle.std.specs.List.{remove}
 use Rattle.std.proofs.lemmas.List.Edits.{length-remove}
 use Rattle.reg_table.specs.declared.table.Entry.{Entry}
 use Rattle.reg_table.specs.Lines.{IsTable}
-use Rattle.reg_table.proofs.Edits.{remove_ascends}
+use Rattle.reg_table.proofs.Edits.{remove_ascends, remove_next}
 use Rattle.reg_table.proofs.table.Table.remove.Goals as goal
 
 -- what is left of a table once a line went
@@ -12,6 +12,7 @@ left : (xs ys : List Entry) (i m n : ℕ) → IsTable xs m → ys ≡ remove xs 
 left xs ys i m n was is inside same = rw (is, same) (record {
   ascending = remove_ascends xs i was.ascending;
   few = omega (arith, length-remove xs i inside, was.few);
+  next = remove_next xs i was.next;
   room = was.room;
 })
 
