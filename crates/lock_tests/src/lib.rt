@@ -1,4 +1,4 @@
-//! Tests of `share_book` and `scope_locks`, which call what these export.
+//! Tests of `share_book`, `scope_locks` and `long_locks`, which call what these export.
 //!
 //! A library of tests alone: where they stood in the crates themselves, these would be proved once
 //! more with each change of a test.
@@ -8,6 +8,8 @@
 mod books;
 #[cfg(test)]
 mod finishes;
+#[cfg(test)]
+mod long_waiters;
 #[cfg(test)]
 mod tables;
 #[cfg(test)]

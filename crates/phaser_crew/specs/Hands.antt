@@ -17,3 +17,8 @@ BeginsWith {T} first all = (more : List T) × (all ≡ first ++ more)
 -- the hand of the same worker, on as many phasers
 abbrev pub IsSameHand : {T : Type 0} → InHand T → InHand T → Type 0
 IsSameHand old new = (new.worker ≡ old.worker) × (new.phasers ≡ old.phasers)
+
+-- at a phaser that lives long: the worker's number, and the items of those whom its calls have woken
+pub record InLongHand (T : Type 0) : Type 0 where
+  pub worker : ℕ
+  pub freed : List T

@@ -2,7 +2,7 @@
 ghost use Rattle.std.specs.Prelude.{◌≡◌, ◌≤◌, ◌∷◌, [], false, Err, OnErr, MatchOption, is_ok, ℤ};
 ghost use Rattle.phase_model.specs.Amounts.{plus};
 ghost use Rattle.scope_locks.specs.Amounts.{amount_if};
-ghost use Rattle.scope_locks.specs.Parking.{goes_on, IsBack, has_signalled, IsBackFromSignal};
+ghost use Rattle.parked_tasks.specs.Parking.{goes_on, IsBack, has_signalled, IsBackFromSignal};
 ghost use Rattle.phaser_crew.specs.Hands.{BeginsWith, IsSameHand};
 
 use phase_model::{Bound, Event, Look, Ops};

@@ -45,7 +45,7 @@ fn place<T, K: Ledgers>(
 
 /// Puts the items of the out-list behind those that are ready; `Memory` where there is none for
 /// them.
-fn pour<T>(ready: &mut VecDeque<T>, out: &mut Out<T>) -> Result<(), Refusal>
+pub(crate) fn pour<T>(ready: &mut VecDeque<T>, out: &mut Out<T>) -> Result<(), Refusal>
     ensures empty { OnOk result (out.new ≡ []) }
     ensures same { ready.new.items ++ out.new ≡ ready.old.items ++ out.old }
 {

@@ -1,10 +1,4 @@
 pub mod Ends
-pub mod Freeing
-pub mod HeldPhase
-pub mod Lists
 pub mod Made
-pub mod Parks
 pub mod Parts
-pub mod Passing
-pub mod Turns
 pub mod Written

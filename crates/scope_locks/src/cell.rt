@@ -6,26 +6,23 @@ ghost use Rattle.phase_model.specs.Amounts.{plus};
 ghost use Rattle.phase_model.specs.declared.call.Call.TheVariants.{Make as make, Register as register, Signal as signal, Pass as pass, SingleDone as single_done, Send as send, Look as look, Drop as drop_task};
 ghost use Rattle.phase_model.specs.Replies.{reply, after, done_result};
 ghost use Rattle.phase_model.specs.Rules.{no_terms};
-ghost use Rattle.phase_model.specs.Waiting.{would_wait};
 ghost use Rattle.phaser_answers.specs.Answers.{look_result, made_with};
 ghost use Rattle.share_book.specs.Accounts.{nothing};
 ghost use Rattle.scope_locks.specs.Amounts.{amount_if};
 ghost use Rattle.scope_locks.specs.Cells.{IsKept};
 ghost use Rattle.scope_locks.specs.Drawn.{IsDrawn};
-ghost use Rattle.scope_locks.specs.Parking.{is_parked, waiting, freed, locked_pass, parking, has_to_wait, goes_on, answered, IsBack, locked_signal, has_signalled, is_held, signal_answered, IsBackFromSignal};
-ghost use Rattle.scope_locks.specs.inner.Firsts.{is_first_held, has_gone_on, is_made};
+ghost use Rattle.parked_tasks.specs.Parking.{is_parked, waiting, freed, locked_pass, parking, has_to_wait, goes_on, answered, IsBack, locked_signal, has_signalled, is_held, signal_answered, IsBackFromSignal};
 
-use crate::answer::{PassAnswer, SignalAnswer};
-use crate::out::Out;
-use crate::parked::{
-    Parked, ParkedCall, is_first_held, is_phase_open, may_leave, release_if, settle_pass,
-    settle_signal,
-};
 use crate::posts::{Post, post_if};
 use crate::tickets::Tickets;
+use parked_tasks::{
+    Asked, Out, Parked, ParkedCall, PassAnswer, SignalAnswer, has_gone_on, is_made, is_phase_open,
+    may_be_parked, may_come_near, may_leave, may_part_proposers, release_if, settle_pass,
+    settle_signal,
+};
 use phase_model::{Bound, Event, Look, Ops};
 use phase_modes::{Limits, Mode, Refusal};
-use phaser_core::{Passing, PhaserState, Signalling};
+use phaser_core::PhaserState;
 use share_book::{Ledgers, PhaserBook, Shares};
 use std::alloc::Global;
 use std::collections::VecDeque;
@@ -46,60 +43,6 @@ pub struct PhaserCell<T, K: Ledgers> {
     ghost room_for_tickets: { state.story.limits.history ≤ vec_capacity drawn },
     ghost seats: { 256 ≤ deque_capacity parked },
     ghost seated: { deque_len parked ≤ 256 },
-}
-
-/// Whether a pass has added an event. What it amounts to is the same for a turn's end and a claim.
-fn has_gone_on(answer: Result<Passing, Refusal>) -> bool
-    ensures { result ≡ has_gone_on answer }
-{
-    match answer {
-        Ok(Passing::Passed(_)) | Ok(Passing::Claimed(_)) => true,
-        Ok(Passing::NotYet) | Err(_) => false,
-    }
-}
-
-/// Whether a signal has added an event.
-fn is_made(answer: Result<Signalling, Refusal>) -> bool
-    ensures { result ≡ is_made answer }
-{
-    match answer {
-        Ok(Signalling::Signalled) => true,
-        Ok(Signalling::NotYet) | Err(_) => false,
-    }
-}
-
-/// Whether a task may have to wait for its signal.
-fn is_bounded(state: &PhaserState) -> bool
-    ensures { result ≡ is_some state.now.story.terms.bound }
-{
-    state.history().bound().is_some()
-}
-
-/// Whether a signal may wake a task that waits to signal: by a proposal, after which one that
-/// waits to propose another number is refused.
-fn may_part_proposers(state: &PhaserState, number: Option<u32>) -> bool
-    ensures { result ≡ (is_some number && is_some state.now.story.terms.bound) }
-{
-    number.is_some() && is_bounded(state)
-}
-
-/// Whether the task itself may be parked. Without a bound, one that doesn't wait to pass isn't.
-fn may_be_parked(state: &PhaserState, task: u32) -> bool
-    ensures { result ≡ (is_some state.now.story.terms.bound || would_wait state.now.story task) }
-{
-    is_bounded(state) || state.would_wait(task)
-}
-
-/// Whether a pass may have woken somebody: the first who waited to signal for the bound.
-fn may_come_near<T>(
-    bounded: bool,
-    gone_on: bool,
-    state: &PhaserState,
-    parked: &VecDeque<Parked<T>>,
-) -> bool
-    ensures { result ≡ (bounded && gone_on && not (is_first_held state.now.story parked.now.items)) }
-{
-    bounded && gone_on && !is_first_held(state, parked)
 }
 
 impl<T, K: Ledgers> PhaserCell<T, K> {
@@ -274,7 +217,7 @@ impl<T, K: Ledgers> PhaserCell<T, K> {
         post_if(is_made(answer), tickets, drawn, book, books, mine, event);
         let is_open = is_phase_open(state, parked);
         release_if(may_leave(others, was_open, is_open), state, parked, out);
-        settle_signal(answer, parked, task, number, item)
+        settle_signal(answer, parked, task as u64, number, item)
     }
 
     /// The phaser's `drop_task`, with its refusals. The items of all whom it wakes are put
@@ -304,7 +247,7 @@ impl<T, K: Ledgers> PhaserCell<T, K> {
             book,
             parked,
         } = self;
-        let own = may_be_parked(state, task);
+        let own = may_be_parked(state, task as u64);
         let was_open = is_phase_open(state, parked);
         let answer = state.drop_task(task);
         let event = Event::Drop(task);
@@ -382,14 +325,14 @@ impl<T, K: Ledgers> PhaserCell<T, K> {
             book,
             parked,
         } = self;
-        let bounded = is_bounded(state);
+        let bounded = state.is_bounded();
         let answer = state.pass(task);
         let gone_on = has_gone_on(answer);
         let event = Event::Pass(task);
         post_if(gone_on, tickets, drawn, book, books, mine, event);
         let is_near = may_come_near(bounded, gone_on, state, parked);
         release_if(is_near, state, parked, out);
-        settle_pass(answer, parked, task, item)
+        settle_pass(answer, parked, task as u64, item)
     }
 }
 

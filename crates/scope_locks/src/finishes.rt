@@ -7,8 +7,8 @@ ghost use Rattle.trace_model.specs.Told.{finish_told};
 
 use crate::answer::ShutAnswer;
 use crate::finish::FinishCell;
-use crate::out::Out;
 use crate::tickets::Tickets;
+use parked_tasks::Out;
 use phase_modes::{Limits, Refusal};
 use std::alloc::Global;
 use std::sync::{Mutex, MutexGuard, Wait};

@@ -3,10 +3,11 @@ use Rattle.std.specs.Result.{is_ok}
 use Rattle.std.proofs.lemmas.Bool.{false≢true}
 use Rattle.phase_model.specs.declared.call.Call.TheVariants.{Drop as drop_task}
 use Rattle.phase_model.specs.Waiting.{would_wait}
-use Rattle.scope_locks.specs.inner.Firsts.{is_phase_open}
-use Rattle.scope_locks.proofs.Freeing.{neither_leaves, drop_frees_nobody}
-use Rattle.scope_locks.proofs.Parks.{all_waiting, once_waiting}
-use Rattle.scope_locks.proofs.Written.{matches_result, kept, ticketed, ticket_fits, none_where_refused}
+use Rattle.parked_tasks.specs.Firsts.{is_phase_open}
+use Rattle.parked_tasks.proofs.Freeing.{neither_leaves, drop_frees_nobody}
+use Rattle.parked_tasks.proofs.Parks.{all_waiting, once_waiting}
+use Rattle.parked_tasks.proofs.Steps.{none_where_refused}
+use Rattle.scope_locks.proofs.Written.{matches_result, kept, ticketed, ticket_fits, settled_of}
 use Rattle.scope_locks.specs.Drawn.{IsDrawn}
 use Rattle.scope_locks.proofs.cell.PhaserCell.drop_task.Goals as goal
 
@@ -16,7 +17,7 @@ release_if-requires-clause-nobody g c = λ n.
     let s = cell.state.story in
     let s' = c.drop_task-answer.new.self.story in
     let ps = cell.parked.items in
-    drop_frees_nobody s s' cell.book ps c.args.task cell.kept c.drop_task-answer.ensures.history
+    drop_frees_nobody s s' ps c.args.task (settled_of cell.state.story cell.book cell.parked.items cell.kept) c.drop_task-answer.ensures.history
     (neither_leaves (is_some s.terms.bound || would_wait s c.args.task) (is_phase_open s ps) (is_phase_open s' ps) (λ own. false≢true (sym n ∙ c.may_leave.ensures.otherwise (c.may_be_parked-own.ensures ∙ own))) (λ was now. false≢true (sym n ∙ c.may_leave.ensures.closed (cc) (cc))))
 
 pub post_if-requires-clause-room_for_ticket : goal.post_if-requires-clause-room_for_ticket
@@ -46,7 +47,7 @@ invariant_of-self g c =
 pub returns-clause-refused : goal.returns-clause-refused
 returns-clause-refused g c =
     let cell = c.args.self.now in
-    none_where_refused cell.state.story _ cell.book cell.parked.items (drop_task c.args.task) _ _ cell.kept c.drop_task-answer.ensures.history c.drop_task-answer.ensures.reply c.release_if.ensures.out
+    none_where_refused cell.state.story _ cell.parked.items (drop_task c.args.task) _ _ (settled_of cell.state.story cell.book cell.parked.items cell.kept) c.drop_task-answer.ensures.history c.drop_task-answer.ensures.reply c.release_if.ensures.out
 
 pub returns-clause-tickets : goal.returns-clause-tickets
 returns-clause-tickets g c = subst (λ b. IsDrawn b c.args.self.now.drawn.items c.post_if.new.drawn.items) c.is_ok.ensures.value c.post_if.ensures.tickets

@@ -3,14 +3,15 @@ use Rattle.phase_modes.specs.declared.refusal.Refusal.{Refusal}
 use Rattle.phase_model.specs.declared.call.Call.TheVariants.{Pass as pass}
 use Rattle.phase_model.specs.declared.history.Event.TheVariants.{Pass}
 use Rattle.phaser_answers.specs.declared.answer.Passing.{Passing}
-use Rattle.scope_locks.specs.declared.parked.Parked.{Parked}
-use Rattle.scope_locks.specs.declared.parked.ParkedCall.TheVariants.{Pass as ToPass}
-use Rattle.scope_locks.specs.Parking.{is_parked, locked_pass, parking, has_to_wait, answered, answered_is}
-use Rattle.scope_locks.specs.inner.Firsts.{is_first_held, has_gone_on}
-use Rattle.scope_locks.proofs.Freeing.{pass_frees_no_signaller}
-use Rattle.scope_locks.proofs.Parks.{all_waiting, once_waiting}
-use Rattle.scope_locks.proofs.Passing.{pass_waits, kept_where_same, place_where_same, parking_same, pass_same, parking_waits, parking_once}
-use Rattle.scope_locks.proofs.Written.{matches_pass, unadded, none_where_unchanged, kept, ticketed, ticket_fits}
+use Rattle.parked_tasks.specs.declared.parked.Parked.{Parked}
+use Rattle.parked_tasks.specs.declared.parked.ParkedCall.TheVariants.{Pass as ToPass}
+use Rattle.parked_tasks.specs.Parking.{is_parked, locked_pass, parking, has_to_wait, answered, answered_is}
+use Rattle.parked_tasks.specs.Firsts.{is_first_held, has_gone_on}
+use Rattle.parked_tasks.proofs.Freeing.{pass_frees_no_signaller}
+use Rattle.parked_tasks.proofs.Parks.{all_waiting, once_waiting}
+use Rattle.parked_tasks.proofs.Passing.{pass_waits, kept_where_same, place_where_same, parking_same, pass_same, parking_waits, parking_once}
+use Rattle.parked_tasks.proofs.Steps.{none_where_unchanged}
+use Rattle.scope_locks.proofs.Written.{matches_pass, unadded, kept, ticketed, ticket_fits, settled_of}
 use Rattle.scope_locks.specs.Drawn.{IsDrawn}
 use Rattle.scope_locks.proofs.cell.PhaserCell.pass.Goals as goal
 
@@ -21,7 +22,7 @@ release_if-requires-clause-nobody g c = λ n.
     let t = c.args.task in
     let is = c.pass-answer.ensures.history in
     let matches = matches_pass s t c.has_gone_on-gone_on.result (c.has_gone_on-gone_on.ensures ∙ ap (λ (a : Result (Passing ℕ) Refusal). has_gone_on a) c.pass-answer.ensures.reply) in
-    pass_frees_no_signaller s _ cell.book cell.parked.items t c.has_gone_on-gone_on.result cell.kept is
+    pass_frees_no_signaller s _ cell.parked.items t c.has_gone_on-gone_on.result (settled_of cell.state.story cell.book cell.parked.items cell.kept) is
     (λ m. is ∙ unadded s (pass t) c.has_gone_on-gone_on.result (Pass t) matches m)
     (ap (λ b. b && c.has_gone_on-gone_on.result && not (is_first_held c.pass-answer.new.self.story cell.parked.items)) (sym c.is_bounded-bounded.ensures) ∙ (sym c.may_come_near-is_near.ensures ∙ n))
 
@@ -39,7 +40,7 @@ settle_pass-requires-clause-place g c = λ a n.
     let s = cell.state.story in
     let p : Parked g.row.T.Denot = record { task = c.args.task; call = ToPass; item = c.args.item } in
     let w = pass_waits s c.pass-answer.new.self.story c.args.task c.pass-answer.ensures.history (ap (λ (r : Result (Passing ℕ) Refusal). has_to_wait r) (sym c.pass-answer.ensures.reply ∙ a)) in
-    let few : length c.release_if.new.parked.items < 256 = place_where_same s _ cell.book p cell.parked.items _ cell.kept w.0 w.1 (kept_where_same s _ cell.book cell.parked.items _ cell.kept w.0 c.release_if.ensures.parked) n in
+    let few : length c.release_if.new.parked.items < 256 = place_where_same s _ p cell.parked.items _ (settled_of cell.state.story cell.book cell.parked.items cell.kept) w.0 w.1 (kept_where_same s _ cell.parked.items _ (settled_of cell.state.story cell.book cell.parked.items cell.kept) w.0 c.release_if.ensures.parked) n in
     omega (arith, few)
 
 pub invariant_of-self : goal.invariant_of-self
@@ -72,7 +73,7 @@ returns-clause-answer g c =
     let held = ap (λ (a : Result (Passing ℕ) Refusal). has_to_wait a) (sym c.pass-answer.ensures.reply) in
     c.settle_pass.ensures.answer
     ∙ (pass_same c.pass-answer.result t c.args.item cell.parked.items c.release_if.new.parked.items
-    (λ w. kept_where_same s _ cell.book cell.parked.items _ cell.kept (pass_waits s _ t c.pass-answer.ensures.history (held ∙ w)).0 c.release_if.ensures.parked)
+    (λ w. kept_where_same s _ cell.parked.items _ (settled_of cell.state.story cell.book cell.parked.items cell.kept) (pass_waits s _ t c.pass-answer.ensures.history (held ∙ w)).0 c.release_if.ensures.parked)
     ∙ ap (λ (a : Result (Passing ℕ) Refusal). locked_pass a (is_parked t cell.parked.items) c.args.item) (c.pass-answer.ensures.reply ∙ answered_is s t))
 
 pub returns-clause-parked : goal.returns-clause-parked
@@ -84,7 +85,7 @@ returns-clause-parked g c =
     let held = ap (λ (a : Result (Passing ℕ) Refusal). has_to_wait a) (sym c.pass-answer.ensures.reply) in
     c.settle_pass.ensures.parked
     ∙ (parking_same (has_to_wait c.pass-answer.result) p cell.parked.items c.release_if.new.parked.items
-    (λ w. kept_where_same s _ cell.book cell.parked.items _ cell.kept (pass_waits s _ t c.pass-answer.ensures.history (held ∙ w)).0 c.release_if.ensures.parked)
+    (λ w. kept_where_same s _ cell.parked.items _ (settled_of cell.state.story cell.book cell.parked.items cell.kept) (pass_waits s _ t c.pass-answer.ensures.history (held ∙ w)).0 c.release_if.ensures.parked)
     ∙ (ap (λ (a : Result (Passing ℕ) Refusal). parking (has_to_wait a) (is_parked t cell.parked.items) p c.release_if.new.parked.items) (c.pass-answer.ensures.reply ∙ answered_is s t)
     ∙ ap (λ (l : List (Parked g.row.T.Denot)). parking (has_to_wait (answered s t)) (is_parked t cell.parked.items) p l) c.release_if.ensures.parked))
 
@@ -94,7 +95,7 @@ returns-clause-nobody g c = λ n.
     let s = cell.state.story in
     let t = c.args.task in
     let matches = matches_pass s t c.has_gone_on-gone_on.result (c.has_gone_on-gone_on.ensures ∙ ap (λ (a : Result (Passing ℕ) Refusal). has_gone_on a) c.pass-answer.ensures.reply) in
-    none_where_unchanged s _ cell.book cell.parked.items _ cell.kept
+    none_where_unchanged s _ cell.parked.items _ (settled_of cell.state.story cell.book cell.parked.items cell.kept)
     (c.pass-answer.ensures.history ∙ unadded s (pass t) c.has_gone_on-gone_on.result (Pass t) matches (c.has_gone_on-gone_on.ensures ∙ (sym c.settle_pass.ensures.goes_on ∙ n)))
     c.release_if.ensures.out
 

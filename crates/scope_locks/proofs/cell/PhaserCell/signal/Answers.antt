@@ -4,14 +4,15 @@ use Rattle.phase_modes.specs.declared.refusal.Refusal.{Refusal}
 use Rattle.phase_model.specs.declared.call.Call.TheVariants.{Signal as signal}
 use Rattle.phase_model.specs.declared.history.Event.TheVariants.{Sig}
 use Rattle.phaser_answers.specs.declared.answer.Signalling.{Signalling}
-use Rattle.scope_locks.specs.declared.parked.Parked.{Parked}
-use Rattle.scope_locks.specs.declared.parked.ParkedCall.TheVariants.{Signal as ToSignal}
-use Rattle.scope_locks.specs.Parking.{is_parked, locked_signal, parking, is_held, signal_answered, signal_answered_is}
-use Rattle.scope_locks.specs.inner.Firsts.{is_phase_open, is_made}
-use Rattle.scope_locks.proofs.Freeing.{neither_leaves, signal_frees_nobody}
-use Rattle.scope_locks.proofs.Parks.{all_waiting, once_waiting}
-use Rattle.scope_locks.proofs.Passing.{signal_waits, kept_where_same, place_where_same, parking_same, signal_same, parking_waits, parking_once}
-use Rattle.scope_locks.proofs.Written.{matches_signal, unadded, none_where_unchanged, kept, ticketed, ticket_fits}
+use Rattle.parked_tasks.specs.declared.parked.Parked.{Parked}
+use Rattle.parked_tasks.specs.declared.parked.ParkedCall.TheVariants.{Signal as ToSignal}
+use Rattle.parked_tasks.specs.Parking.{is_parked, locked_signal, parking, is_held, signal_answered, signal_answered_is}
+use Rattle.parked_tasks.specs.Firsts.{is_phase_open, is_made}
+use Rattle.parked_tasks.proofs.Freeing.{neither_leaves, signal_frees_nobody}
+use Rattle.parked_tasks.proofs.Parks.{all_waiting, once_waiting}
+use Rattle.parked_tasks.proofs.Passing.{signal_waits, kept_where_same, place_where_same, parking_same, signal_same, parking_waits, parking_once}
+use Rattle.parked_tasks.proofs.Steps.{none_where_unchanged}
+use Rattle.scope_locks.proofs.Written.{matches_signal, unadded, kept, ticketed, ticket_fits, settled_of}
 use Rattle.scope_locks.specs.Drawn.{IsDrawn}
 use Rattle.scope_locks.proofs.cell.PhaserCell.signal.Goals as goal
 
@@ -21,7 +22,7 @@ release_if-requires-clause-nobody g c = λ n.
     let s = cell.state.story in
     let s' = c.signal-answer.new.self.story in
     let ps = cell.parked.items in
-    signal_frees_nobody s s' cell.book ps c.args.task c.args.number cell.kept c.signal-answer.ensures.history
+    signal_frees_nobody s s' ps c.args.task c.args.number (settled_of cell.state.story cell.book cell.parked.items cell.kept) c.signal-answer.ensures.history
     (neither_leaves (is_some c.args.number && is_some s.terms.bound) (is_phase_open s ps) (is_phase_open s' ps) (λ own. false≢true (sym n ∙ c.may_leave.ensures.otherwise (c.may_part_proposers-others.ensures ∙ own))) (λ was now. false≢true (sym n ∙ c.may_leave.ensures.closed (cc) (cc))))
 
 pub post_if-requires-clause-room_for_ticket : goal.post_if-requires-clause-room_for_ticket
@@ -37,7 +38,7 @@ settle_signal-requires-clause-place g c = λ a n.
     let s = cell.state.story in
     let p : Parked g.row.T.Denot = record { task = c.args.task; call = ToSignal c.args.number; item = c.args.item } in
     let w = signal_waits s c.signal-answer.new.self.story c.args.task c.args.number c.signal-answer.ensures.history (ap (λ (r : Result Signalling Refusal). is_held r) (sym c.signal-answer.ensures.reply ∙ a)) in
-    let few : length c.release_if.new.parked.items < 256 = place_where_same s _ cell.book p cell.parked.items _ cell.kept w.0 w.1 (kept_where_same s _ cell.book cell.parked.items _ cell.kept w.0 c.release_if.ensures.parked) n in
+    let few : length c.release_if.new.parked.items < 256 = place_where_same s _ p cell.parked.items _ (settled_of cell.state.story cell.book cell.parked.items cell.kept) w.0 w.1 (kept_where_same s _ cell.parked.items _ (settled_of cell.state.story cell.book cell.parked.items cell.kept) w.0 c.release_if.ensures.parked) n in
     omega (arith, few)
 
 pub invariant_of-self : goal.invariant_of-self
@@ -71,7 +72,7 @@ returns-clause-answer g c =
     let held = ap (λ (a : Result Signalling Refusal). is_held a) (sym c.signal-answer.ensures.reply) in
     c.settle_signal.ensures.answer
     ∙ (signal_same c.signal-answer.result t c.args.item cell.parked.items c.release_if.new.parked.items
-    (λ w. kept_where_same s _ cell.book cell.parked.items _ cell.kept (signal_waits s _ t c.args.number c.signal-answer.ensures.history (held ∙ w)).0 c.release_if.ensures.parked)
+    (λ w. kept_where_same s _ cell.parked.items _ (settled_of cell.state.story cell.book cell.parked.items cell.kept) (signal_waits s _ t c.args.number c.signal-answer.ensures.history (held ∙ w)).0 c.release_if.ensures.parked)
     ∙ ap (λ (a : Result Signalling Refusal). locked_signal a (is_parked t cell.parked.items) c.args.item) (c.signal-answer.ensures.reply ∙ signal_answered_is s t c.args.number))
 
 pub returns-clause-parked : goal.returns-clause-parked
@@ -83,7 +84,7 @@ returns-clause-parked g c =
     let held = ap (λ (a : Result Signalling Refusal). is_held a) (sym c.signal-answer.ensures.reply) in
     c.settle_signal.ensures.parked
     ∙ (parking_same (is_held c.signal-answer.result) p cell.parked.items c.release_if.new.parked.items
-    (λ w. kept_where_same s _ cell.book cell.parked.items _ cell.kept (signal_waits s _ t c.args.number c.signal-answer.ensures.history (held ∙ w)).0 c.release_if.ensures.parked)
+    (λ w. kept_where_same s _ cell.parked.items _ (settled_of cell.state.story cell.book cell.parked.items cell.kept) (signal_waits s _ t c.args.number c.signal-answer.ensures.history (held ∙ w)).0 c.release_if.ensures.parked)
     ∙ (ap (λ (a : Result Signalling Refusal). parking (is_held a) (is_parked t cell.parked.items) p c.release_if.new.parked.items) (c.signal-answer.ensures.reply ∙ signal_answered_is s t c.args.number)
     ∙ ap (λ (l : List (Parked g.row.T.Denot)). parking (is_held (signal_answered s t c.args.number)) (is_parked t cell.parked.items) p l) c.release_if.ensures.parked))
 
@@ -92,7 +93,7 @@ returns-clause-nobody g c = λ n.
     let cell = c.args.self.now in
     let s = cell.state.story in
     let matches = matches_signal s c.args.task c.args.number c.is_made.result (c.is_made.ensures ∙ ap (λ (a : Result Signalling Refusal). is_made a) c.signal-answer.ensures.reply) in
-    none_where_unchanged s _ cell.book cell.parked.items _ cell.kept
+    none_where_unchanged s _ cell.parked.items _ (settled_of cell.state.story cell.book cell.parked.items cell.kept)
     (c.signal-answer.ensures.history ∙ unadded s (signal c.args.task c.args.number) c.is_made.result (Sig c.args.task c.args.number) matches (c.is_made.ensures ∙ (sym c.settle_signal.ensures.signalled ∙ n)))
     c.release_if.ensures.out
 

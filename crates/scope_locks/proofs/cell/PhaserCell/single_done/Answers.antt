@@ -1,9 +1,10 @@
 use Rattle.std.proofs.Common.{◌≡◌, false, ap, sym, ◌∙◌, subst}
 use Rattle.std.specs.Result.{is_ok}
 use Rattle.phase_model.specs.declared.call.Call.TheVariants.{SingleDone as single_done}
-use Rattle.scope_locks.proofs.Freeing.{refused_frees_nobody}
-use Rattle.scope_locks.proofs.Parks.{all_waiting, once_waiting}
-use Rattle.scope_locks.proofs.Written.{matches_result, kept, ticketed, ticket_fits, none_where_refused}
+use Rattle.parked_tasks.proofs.Freeing.{refused_frees_nobody}
+use Rattle.parked_tasks.proofs.Parks.{all_waiting, once_waiting}
+use Rattle.parked_tasks.proofs.Steps.{none_where_refused}
+use Rattle.scope_locks.proofs.Written.{matches_result, kept, ticketed, ticket_fits, settled_of}
 use Rattle.scope_locks.specs.Drawn.{IsDrawn}
 use Rattle.scope_locks.proofs.cell.PhaserCell.single_done.Goals as goal
 
@@ -14,7 +15,7 @@ release_if-requires-clause-nobody g c =
     let is = c.single_done-answer.ensures.history in
     λ n.
     let undone : c.is_ok-is_done.result ≡ false = cc in
-    refused_frees_nobody s _ cell.book cell.parked.items c.args.task cell.kept is
+    refused_frees_nobody s _ cell.parked.items c.args.task (settled_of cell.state.story cell.book cell.parked.items cell.kept) is
     (sym (ap (λ a. is_ok a) c.single_done-answer.ensures.reply) ∙ (sym c.is_ok-is_done.ensures.value ∙ undone))
 
 pub post_if-requires-clause-room_for_ticket : goal.post_if-requires-clause-room_for_ticket
@@ -44,7 +45,7 @@ invariant_of-self g c =
 pub returns-clause-refused : goal.returns-clause-refused
 returns-clause-refused g c =
     let cell = c.args.self.now in
-    none_where_refused cell.state.story _ cell.book cell.parked.items (single_done c.args.task) _ _ cell.kept c.single_done-answer.ensures.history c.single_done-answer.ensures.reply c.release_if.ensures.out
+    none_where_refused cell.state.story _ cell.parked.items (single_done c.args.task) _ _ (settled_of cell.state.story cell.book cell.parked.items cell.kept) c.single_done-answer.ensures.history c.single_done-answer.ensures.reply c.release_if.ensures.out
 
 pub returns-clause-tickets : goal.returns-clause-tickets
 returns-clause-tickets g c = subst (λ b. IsDrawn b c.args.self.now.drawn.items c.post_if.new.drawn.items) c.is_ok-is_done.ensures.value c.post_if.ensures.tickets

@@ -1,0 +1,152 @@
+//! Four tasks on four threads share a phaser that lives as long as the program. Each sends a
+//! number, and they end their turn together; each then looks whether the sum is the expected one.
+//! An argument says for how many phases, at least one; the memory is the same for all of them.
+#![tactic(auto)]
+
+use anyhow::bail;
+use long_locks::{PassAnswer, SignalAnswer};
+use long_phaser::{Phase, Task};
+use phase_model::{Bound, Look, Op, Ops};
+use phase_modes::{Mode, Refusal};
+use phaser_crew::{LongCrew, LongHand, with_long_phaser};
+use std::env;
+
+const TASKS: usize = 4;
+
+/// How many phases there are where no argument says it.
+const PHASES: Phase = 1_000_000;
+
+/// Four workers, of which each begins with the task of its own place.
+#[derive(Drop)]
+struct Barrier {
+    phases: Phase,
+}
+
+/// What the task sends in the phase.
+fn change(task: Task, phase: Phase) -> i32 {
+    (phase % 1_000) as i32 + (task % 4) as i32
+}
+
+/// The sum of what the tasks 0 to 3 send.
+fn sum_of(phase: Phase) -> i128 {
+    4 * i128::from(phase % 1_000) + 6
+}
+
+/// The task sends its change, and signals: at a barrier the bound never holds it.
+fn arrive<H: LongHand<Task>>(hand: &mut H, task: Task, phase: Phase) -> Result<(), Refusal> {
+    hand.send(task, 0, change(task, phase))?;
+    match hand.signal(task, None, task) {
+        SignalAnswer::Signalled(_) => Ok(()),
+        SignalAnswer::Parked => Err(Refusal::NotNow),
+        SignalAnswer::Refused(_, refusal) => Err(refusal),
+    }
+}
+
+/// The task ends its turn. The phase of the turn; none where the task is parked.
+fn pass<H: LongHand<Task>>(hand: &mut H, task: Task) -> Result<Option<Phase>, Refusal> {
+    match hand.pass(task, task) {
+        PassAnswer::Passed(_, phase) => Ok(Some(phase)),
+        PassAnswer::Parked => Ok(None),
+        PassAnswer::Claimed(_, _) => Err(Refusal::NotNow),
+        PassAnswer::Refused(_, refusal) => Err(refusal),
+    }
+}
+
+/// Whether the task sees the sum that is expected of the phase.
+fn sees_sum<H: LongHand<Task>>(hand: &mut H, task: Task, phase: Phase) -> Result<bool, Refusal> {
+    match hand.look(task, 0)? {
+        Look::Value(sum) => Ok(sum == sum_of(phase)),
+        _ => Ok(false),
+    }
+}
+
+/// After the phase the task arrives at the next, if there is one, or leaves. With whom the worker
+/// goes on.
+fn go_on<H: LongHand<Task>>(
+    hand: &mut H,
+    task: Task,
+    next: Phase,
+    phases: Phase,
+) -> Result<Option<Task>, Refusal> {
+    if next < phases {
+        arrive(hand, task, next)?;
+        Ok(Some(task))
+    } else {
+        hand.leave(task)?;
+        Ok(hand.next())
+    }
+}
+
+/// The worker plays the task, and then whomever its calls wake. How often one of them saw the
+/// expected sum.
+fn play<H: LongHand<Task>>(hand: &mut H, first: Task, phases: Phase) -> Result<u64, Refusal> {
+    let mut right = 0u64;
+    let mut next = Some(first);
+    for _ in 0..u64::MAX {
+        let Some(task) = next else {
+            break;
+        };
+        next = match pass(hand, task)? {
+            Some(phase) => {
+                if sees_sum(hand, task, phase)? {
+                    right = right.saturating_add(1);
+                }
+                go_on(hand, task, phase.saturating_add(1), phases)?
+            }
+            None => hand.next(),
+        };
+    }
+    Ok(right)
+}
+
+impl LongCrew<Task> for Barrier {
+    type Prepared = [Task; TASKS];
+
+    type Given = Result<u64, Refusal>;
+
+    fn prepare<H: LongHand<Task>>(&self, hand: &mut H) -> Result<[Task; TASKS], Refusal> {
+        let maker = hand.make(Mode::SigWait)?;
+        let mut tasks = [maker; TASKS];
+        for task in tasks.iter_mut().skip(1) {
+            *task = hand.register(maker, Mode::SigWait)?;
+        }
+        Ok(tasks)
+    }
+
+    fn work<H: LongHand<Task>>(&self, hand: &mut H, tasks: &[Task; TASKS]) -> Result<u64, Refusal> {
+        let place = hand.worker() as usize;
+        match tasks.get(place) {
+            Some(task) => {
+                arrive(hand, *task, 0)?;
+                play(hand, *task, self.phases)
+            }
+            None => Ok(0),
+        }
+    }
+}
+
+/// How many phases the argument says, if there is one.
+fn phases(rt: &HostRuntime) -> anyhow::Result<Phase> {
+    // The first argument is the program's own name.
+    match env::args(rt)?.nth(1) {
+        Some(argument) => Ok(argument.parse::<u64>()?),
+        None => Ok(PHASES),
+    }
+}
+
+fn main(rt: HostRuntime) -> anyhow::Result<()> {
+    let phases = phases(&rt)?;
+    let mut one_sum = Ops::none();
+    one_sum.push(Op::Sum);
+    // At a barrier nobody comes so far ahead that a bound of 2 would hold him.
+    let Some(bound) = Bound::of(2) else {
+        bail!("a bound is at least 2");
+    };
+    let crew = Barrier { phases };
+    let mut right = 0u64;
+    for sums in with_long_phaser(&rt, rt.alloc(), one_sum, bound, 4, &crew)? {
+        right = right.saturating_add(sums?);
+    }
+    println!(&rt; "{phases} phases, {right} sums as expected")?;
+    Ok(())
+}

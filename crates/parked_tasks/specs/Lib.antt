@@ -1,0 +1,3 @@
+pub mod Firsts
+pub mod Parking
+pub mod Settled

@@ -1,0 +1,105 @@
+//! The hand of a worker at a phaser that lives long: its way to the phaser's lock, and whom its
+//! calls wake.
+ghost use Rattle.std.specs.Prelude.{◌≡◌, IfErr};
+
+use crate::held::pour;
+use crate::long_hand::LongHand;
+use long_locks::{LongLock, Out, PassAnswer, SignalAnswer};
+use long_phaser::{Phase, Task};
+use phase_model::LongLook;
+use phase_modes::{Mode, Refusal};
+use std::alloc::Global;
+use std::collections::VecDeque;
+use std::sync::Wait;
+
+/// The hand of a worker at this phaser.
+#[derive(Drop)]
+pub(crate) struct LongHeld<'a, T, R> {
+    worker: u32,
+    rt: &'a R,
+    lock: &'a LongLock<T>,
+    /// Those whom the calls before the last one woke.
+    ready: VecDeque<T>,
+    /// Those whom the last call woke.
+    out: Out<T>,
+}
+
+impl<'a, T: Drop, R> LongHeld<'a, T, R> {
+    /// The hand of the worker of this number. `Memory` where its list gets none.
+    pub(crate) fn new(
+        alloc: Global,
+        worker: u32,
+        rt: &'a R,
+        lock: &'a LongLock<T>,
+    ) -> Result<LongHeld<'a, T, R>, Refusal>
+        ensures memory { IfErr result (λ e. e ≡ Refusal.Memory) }
+    {
+        Ok(LongHeld {
+            worker,
+            rt,
+            lock,
+            ready: VecDeque::new(alloc),
+            out: Out::new(alloc)?,
+        })
+    }
+}
+
+impl<'a, T, R: Wait> LongHand<T> for LongHeld<'a, T, R> {
+    type Runtime = R;
+
+    ghost use Rattle.std.specs.Prelude.{◌++◌};
+
+    ghost shown = { λ h. record { worker = h.worker; freed = h.ready.items ++ h.out } };
+
+    fn worker(&self) -> u32 {
+        self.worker
+    }
+
+    fn next(&mut self) -> Option<T> {
+        match self.ready.pop_front() {
+            Some(item) => Some(item),
+            None => self.out.take(),
+        }
+    }
+
+    fn make(&mut self, mode: Mode) -> Result<Task, Refusal> {
+        self.lock.make(self.rt, mode)
+    }
+
+    fn register(&mut self, parent: Task, mode: Mode) -> Result<Task, Refusal> {
+        self.lock.register(self.rt, parent, mode)
+    }
+
+    fn send(&mut self, task: Task, accumulator: u8, value: i32) -> Result<(), Refusal> {
+        self.lock.send(self.rt, task, accumulator, value)
+    }
+
+    fn look(&mut self, task: Task, accumulator: u8) -> Result<LongLook, Refusal> {
+        self.lock.look(self.rt, task, accumulator)
+    }
+
+    fn signal(&mut self, task: Task, proposed: Option<u32>, item: T) -> SignalAnswer<T> {
+        if let Err(refusal) = pour(&mut self.ready, &mut self.out) {
+            return SignalAnswer::Refused(item, refusal);
+        }
+        self.lock
+            .signal(self.rt, &mut self.out, task, proposed, item)
+    }
+
+    fn pass(&mut self, task: Task, item: T) -> PassAnswer<T, Phase> {
+        if let Err(refusal) = pour(&mut self.ready, &mut self.out) {
+            return PassAnswer::Refused(item, refusal);
+        }
+        self.lock.pass(self.rt, &mut self.out, task, item)
+    }
+
+    fn single_done(&mut self, task: Task) -> Result<(), Refusal> {
+        pour(&mut self.ready, &mut self.out)?;
+        self.lock.single_done(self.rt, &mut self.out, task)
+    }
+
+    fn leave(&mut self, task: Task) -> Result<(), Refusal> {
+        pour(&mut self.ready, &mut self.out)?;
+        self.lock.leave(self.rt, &mut self.out, task)
+    }
+}

@@ -1,2 +1,0 @@
--- What the code's own functions say: no public contract cites it.
-pub mod Firsts
