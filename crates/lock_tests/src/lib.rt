@@ -1,4 +1,5 @@
-//! Tests of `share_book`, `scope_locks` and `long_locks`, which call what these export.
+//! Tests of `share_book`, `scope_locks`, `long_locks` and `waiting_cell`, which call what these
+//! export.
 //!
 //! A library of tests alone: where they stood in the crates themselves, these would be proved once
 //! more with each change of a test.
@@ -14,3 +15,5 @@ mod long_waiters;
 mod tables;
 #[cfg(test)]
 mod waiter;
+#[cfg(test)]
+mod waiting;

@@ -234,6 +234,17 @@ places s ps fit legal w once =
     let r = regs_fit s.limits fit in
     omega (arith, r.1, few_live s.limits s.terms s.past r.0 legal, no_more (live_tasks s.past) ps (once_of ps once) (all_live s ps w))
 
+-- there is one for a live task that isn't parked yet
+pub place_for_live : {T : Type 0} (s : Story) (ps : List (Parked T)) (p : Parked T)
+    → is_between 1 s.limits.regs 256 ≡ true → is_legal s.limits s.terms s.past ≡ true → all_wait s ps ≡ true
+    → are_parked_once ps ≡ true → is_live p.task s.past ≡ true → is_parked p.task ps ≡ false → length ps < 256
+place_for_live s ps p fit legal w once live n =
+    let r = regs_fit s.limits fit in
+    let all =
+    and_from (has p.task (live_tasks s.past)) (all_in (live_tasks s.past) ps)
+    (has-live_tasks p.task s.past ∙ live) (all_live s ps w) in
+    omega (arith, r.1, few_live s.limits s.terms s.past r.0 legal, no_more (live_tasks s.past) (p ∷ ps) (n, once_of ps once) all)
+
 pub one_place_more : {T : Type 0} (s : Story) (ps : List (Parked T)) (p : Parked T) → is_between 1 s.limits.regs 256 ≡ true → is_legal s.limits s.terms s.past ≡ true → all_wait s ps ≡ true → are_parked_once ps ≡ true → would_park s p.task p.call ≡ true → is_parked p.task ps ≡ false → length ps < 256
 one_place_more s ps p fit legal w once k n =
     omega (arith, places s (p ∷ ps) fit legal (and_from (would_park s p.task p.call) (all_wait s ps) k w) (and_from (not (is_parked p.task ps)) (are_parked_once ps) (ap (λ b. not b) n) once))

@@ -1,0 +1,4 @@
+pub mod Steps
+pub mod Calling
+pub mod Going
+pub mod Leaving

@@ -1,0 +1,4 @@
+pub mod Calls
+pub mod Courses
+pub mod Firsts
+pub mod Turns
