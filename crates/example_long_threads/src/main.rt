@@ -1,6 +1,7 @@
-//! Four tasks on four threads share a phaser that lives as long as the program. Each sends a
-//! number, and they end their turn together; each then looks whether the sum is the expected one.
-//! An argument says for how many phases, at least one; the memory is the same for all of them.
+//! Four tasks share a phaser that lives as long as the program, and four workers on threads play
+//! them: one that has nobody to go on with ends, so soon few play all. Each task sends a number, and
+//! they end their turn together; each then looks whether the sum is the expected one. An argument
+//! says for how many phases, at least one; the memory is the same for all of them.
 #![tactic(auto)]
 
 use anyhow::bail;
@@ -140,7 +141,7 @@ fn main(rt: HostRuntime) -> anyhow::Result<()> {
     one_sum.push(Op::Sum);
     // At a barrier nobody comes so far ahead that a bound of 2 would hold him.
     let Some(bound) = Bound::of(2) else {
-        bail!("a bound is at least 2");
+        bail!("a bound is 1 to 65,536");
     };
     let crew = Barrier { phases };
     let mut right = 0u64;

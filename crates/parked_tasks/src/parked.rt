@@ -88,7 +88,8 @@ pub fn release_if<S: Asked, T>(
     }
 }
 
-fn is_parked<T>(parked: &VecDeque<Parked<T>>, task: u64) -> bool
+/// Whether the task is parked.
+pub fn is_parked<T>(parked: &VecDeque<Parked<T>>, task: u64) -> bool
     ensures { result ≡ is_parked task parked.now.items }
 {
     parked.iter().any(|p| p.task == task)

@@ -14,9 +14,9 @@ ghost use Rattle.waiting_cell.specs.Calls.{to_signal, to_go_on, called, answer_t
 use crate::answer::{Answer, Ended, FreedList};
 use crate::course::{Then, answer_of};
 use crate::own::{Way, advance, may_free, waiter_to_pass};
-use crate::settle::{is_parked, park, settle_if};
+use crate::settle::{park, settle_if};
 use long_phaser::{LongPhaser, Task};
-use parked_tasks::{Parked, ParkedCall, is_phase_open, may_be_parked, may_leave};
+use parked_tasks::{Parked, ParkedCall, is_parked, is_phase_open, may_be_parked, may_leave};
 use phase_model::{Bound, LongLook, Ops};
 use phase_modes::{Mode, Refusal};
 use std::alloc::Global;

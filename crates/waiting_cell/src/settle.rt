@@ -1,7 +1,7 @@
 //! Those who are parked make their calls again, until each of them has to wait.
 ghost use Rattle.std.specs.Prelude.{◌≡◌, ◌+◌, ◌<◌, ◌≤◌, ◌∷◌, [], true, false, length};
 ghost use Rattle.std.specs.VecDeque.{deque_len, deque_capacity};
-ghost use Rattle.parked_tasks.specs.Parking.{is_parked, all_wait};
+ghost use Rattle.parked_tasks.specs.Parking.{all_wait};
 ghost use Rattle.parked_tasks.specs.Settled.{IsSettled};
 ghost use Rattle.waiting_cell.specs.Courses.{is_over};
 ghost use Rattle.waiting_cell.specs.Turns.{standing, queue_after, gone_after, turn_of, IsTurned, IsSound};
@@ -9,16 +9,10 @@ ghost use Rattle.waiting_cell.specs.Firsts.{first_moves};
 
 use crate::answer::{Freed, FreedList};
 use crate::course::{Course, Then, has_moved, step};
+use crate::own::waiter_to_pass;
 use long_phaser::{LongPhaser, Task};
-use parked_tasks::{Parked, ParkedCall};
+use parked_tasks::Parked;
 use std::collections::VecDeque;
-
-/// Whether the task is parked.
-pub fn is_parked(parked: &VecDeque<Parked<Then>>, task: Task) -> bool
-    ensures { result ≡ is_parked task parked.now.items }
-{
-    parked.iter().any(|p| p.task == task)
-}
 
 /// Parks a task whose call came so far, unless it is over.
 pub fn park(course: Course, waiter: Parked<Then>, parked: &mut VecDeque<Parked<Then>>)
@@ -33,9 +27,7 @@ pub fn park(course: Course, waiter: Parked<Then>, parked: &mut VecDeque<Parked<T
     match course {
         Course::Over(_) => {}
         Course::HasSignalled => {
-            let call = ParkedCall::Pass;
-            let item = Then::Return;
-            parked.push_back_reserved(Parked { task, call, item });
+            parked.push_back_reserved(waiter_to_pass(task));
         }
         Course::Waits => parked.push_back_reserved(Parked { task, call, item }),
     }
