@@ -76,16 +76,17 @@ typedef enum paldwosk_answer {
   PALDWOSK_CLAIMED = 33,  /* the task runs the single, reports it done, and asks to pass again */
   PALDWOSK_NOTHING = 34,  /* there is no least and no greatest of no values */
   PALDWOSK_NOT_KEPT = 35, /* no such accumulator, or the phase is too great, or its fold is given up */
+  PALDWOSK_TOO_GREAT = 36, /* the fold isn't within an int64_t: it takes 2^32 values in one phase */
 
   /* What was passed is at fault. Nothing changed, but *written where the room is too small. */
   PALDWOSK_NULL = 64,          /* a pointer is NULL */
   PALDWOSK_CLOSED = 65,        /* the paldwosk_phaser holds no phaser */
   PALDWOSK_OPEN = 66,          /* the paldwosk_phaser holds a phaser already */
-  PALDWOSK_SHORT = 67,         /* the room is too small: *written says how many bytes the text has */
+  PALDWOSK_SHORT = 67,         /* the room is too small: *written says how many bytes the text has. For tasks: it has to be 256 */
   PALDWOSK_BAD_MODE = 68,      /* no mode has this number */
   PALDWOSK_BAD_LIMITS = 69,    /* a limit isn't between its least and its greatest */
   PALDWOSK_BAD_OPERATORS = 70, /* no operator has one of the numbers, or there are more than four */
-  PALDWOSK_BAD_BOUND = 71,     /* the bound is over 65,536 */
+  PALDWOSK_BAD_BOUND = 71,     /* the bound is over 65,536; for threads that wait also 0 */
   PALDWOSK_BAD_TICKETS = 72    /* there aren't as many tickets as events */
 } paldwosk_answer;
 
@@ -125,6 +126,24 @@ typedef struct paldwosk_phaser {
 
 #define PALDWOSK_NO_PHASER {NULL}
 
+/* A phaser for threads that wait, as C holds it, and those who wait: one pointer, NULL while there is no phaser. Its field
+ * is the library's. The calls that wait are those of paldwosk_barrier.h, over this. */
+typedef struct paldwosk_waiting {
+  void *held;
+} paldwosk_waiting;
+
+#define PALDWOSK_NOBODY_WAITING {NULL}
+
+/* A task whose call had to wait, and has ended now by another's call. */
+typedef struct paldwosk_freed {
+  uint64_t task;
+  uint64_t number; /* on DONE of a pass the phase, on CLAIMED the single's number; else 0 */
+  uint32_t answer; /* a paldwosk_answer: DONE, CLAIMED, or why the call was refused */
+} paldwosk_freed;
+
+/* How many tasks may wait at a phaser at once, and be freed by one call. */
+#define PALDWOSK_MOST_FREED 256
+
 /* How a check ended. Where the program phaser_run has an exit status for it, it is that. */
 typedef enum paldwosk_status {
   PALDWOSK_STATUS_DONE = 0,    /* the lines are written */
@@ -156,6 +175,27 @@ uint32_t phaser_c_compared(paldwosk_phaser *phaser, uint32_t *count);
 uint32_t phaser_c_event_count(paldwosk_phaser *phaser, uint32_t *count);
 uint32_t phaser_c_history_text(paldwosk_phaser *phaser, uint32_t number, const uint64_t *tickets, size_t count,
                                uint8_t *text, size_t room, size_t *written);
+
+uint32_t phaser_c_waiting_new(paldwosk_waiting *phaser, const uint32_t *operators, size_t count, uint32_t bound);
+void phaser_c_waiting_free(paldwosk_waiting *phaser);
+uint32_t phaser_c_waiting_make(paldwosk_waiting *phaser, uint32_t mode, uint64_t *task);
+uint32_t phaser_c_waiting_register(paldwosk_waiting *phaser, uint64_t parent, uint32_t mode, uint64_t *task);
+uint32_t phaser_c_waiting_send(paldwosk_waiting *phaser, uint64_t task, uint8_t accumulator, int32_t value);
+uint32_t phaser_c_waiting_look(paldwosk_waiting *phaser, uint64_t task, uint8_t accumulator, int64_t *value);
+uint32_t phaser_c_waiting_signal(paldwosk_waiting *phaser, uint64_t task, paldwosk_freed *freed, size_t room,
+                                 size_t *count);
+uint32_t phaser_c_waiting_signal_single(paldwosk_waiting *phaser, uint64_t task, uint32_t proposed, paldwosk_freed *freed,
+                                        size_t room, size_t *count);
+uint32_t phaser_c_waiting_pass(paldwosk_waiting *phaser, uint64_t task, uint64_t *number, paldwosk_freed *freed,
+                               size_t room, size_t *count);
+uint32_t phaser_c_waiting_next(paldwosk_waiting *phaser, uint64_t task, uint64_t *number, paldwosk_freed *freed,
+                               size_t room, size_t *count);
+uint32_t phaser_c_waiting_next_single(paldwosk_waiting *phaser, uint64_t task, uint32_t proposed, uint64_t *number,
+                                      paldwosk_freed *freed, size_t room, size_t *count);
+uint32_t phaser_c_waiting_single_done(paldwosk_waiting *phaser, uint64_t task, paldwosk_freed *freed, size_t room,
+                                      size_t *count);
+uint32_t phaser_c_waiting_leave(paldwosk_waiting *phaser, uint64_t task, paldwosk_freed *freed, size_t room,
+                                size_t *count);
 
 /* ---- The checker */
 

@@ -1,4 +1,7 @@
+mod GoneOn
 mod Held
 mod Parts
 mod Refusals
+mod Telling
 mod Values
+mod WaitingHeld

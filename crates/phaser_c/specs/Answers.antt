@@ -6,7 +6,7 @@ use Rattle.phase_model.specs.declared.op.Look.TheVariants.{Value, Nothing as Uns
 use Rattle.phase_model.specs.declared.call.Reply.{Reply}
 use Rattle.phase_model.specs.declared.call.Reply.TheVariants as replies
 use Rattle.phaser_c.specs.declared.answer.Answer.{Answer}
-use Rattle.phaser_c.specs.declared.answer.Answer.TheVariants.{Done, Refused, NotYet, Claimed, Nothing, NotKept, Closed, Open, Short, BadMode, BadLimits, BadOperators, BadBound, BadTickets}
+use Rattle.phaser_c.specs.declared.answer.Answer.TheVariants.{Done, Refused, NotYet, Claimed, Nothing, NotKept, TooGreat, Closed, Open, Short, BadMode, BadLimits, BadOperators, BadBound, BadTickets}
 
 -- the number of each answer; a refusal has its own, 1 to 26
 abbrev pub number_of_answer : Answer → ℕ
@@ -16,6 +16,7 @@ number_of_answer NotYet = 32
 number_of_answer Claimed = 33
 number_of_answer Nothing = 34
 number_of_answer NotKept = 35
+number_of_answer TooGreat = 36
 number_of_answer Closed = 65
 number_of_answer Open = 66
 number_of_answer Short = 67

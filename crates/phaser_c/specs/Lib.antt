@@ -3,7 +3,11 @@ pub mod Answers
 pub mod Asked
 pub mod Calls
 pub mod Checked
+pub mod Freed
 pub mod Given
 pub mod Held
 pub mod History
 pub mod Told
+pub mod Waiting
+pub mod WaitingGiven
+pub mod WaitingHeld

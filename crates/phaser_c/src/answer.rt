@@ -22,6 +22,8 @@ pub enum Answer {
     Nothing,
     /// The fold isn't kept: there is no such accumulator, or the phase is too great or given up.
     NotKept,
+    /// The fold isn't within 64 bits.
+    TooGreat,
     /// The handle holds no phaser.
     Closed,
     /// The handle holds a phaser already.
@@ -52,6 +54,7 @@ impl Answer {
             Answer::Claimed => 33,
             Answer::Nothing => 34,
             Answer::NotKept => 35,
+            Answer::TooGreat => 36,
             Answer::Closed => 65,
             Answer::Open => 66,
             Answer::Short => 67,

@@ -26,7 +26,7 @@ impl Model for Handle {
 }
 
 /// The value, of a type that may go from thread to thread: so may a handle, with what it leads to.
-fn movable<T: Send>(value: T) -> T
+pub(crate) fn movable<T: Send>(value: T) -> T
     ensures { result ≡ value }
 {
     value

@@ -1,11 +1,14 @@
 //! What C calls of the library: the exports of the static library, beside the header
 //! `include/paldwosk.h`. It is thin: what an export answers is what the library's call answers, as a
-//! number. C holds a phaser by a pointer, which is taken out for a call and put back after it.
+//! number. C holds a phaser by a pointer, which is taken out for a call and put back after it. The
+//! files `waiting*` have the exports for threads that wait, over a `waiting_cell::WaitingCell`.
 #![tactic(auto)]
 
 mod answer;
+mod asking;
 mod calls;
 mod checker;
+mod freed;
 mod given;
 mod handle;
 mod history;
@@ -13,6 +16,14 @@ mod loose;
 mod made;
 mod questions;
 mod room;
+mod waiting;
+mod waiting_calls;
+mod waiting_handle;
+mod waiting_made;
+mod waiting_tasks;
+mod waiting_values;
 
+pub use freed::GivenFreed;
 pub use given::GivenLimits;
 pub use handle::Handle;
+pub use waiting_handle::WaitingHandle;

@@ -1,5 +1,5 @@
 //! What stands behind the lock of a phaser for threads that wait: the phaser, and those who wait.
-ghost use Rattle.std.specs.Prelude.{Contains, ◌≡◌, ◌+◌, [], ◌≤◌, true, IfOk, IfErr, OnErr, Ok, Err, Some};
+ghost use Rattle.std.specs.Prelude.{Contains, ◌≡◌, ◌+◌, [], ◌≤◌, true, length, IfOk, IfErr, OnErr, Ok, Err, Some};
 ghost use Rattle.std.specs.VecDeque.{deque_len, deque_capacity};
 ghost use Rattle.long_phaser.specs.Numbered.{long_limits};
 ghost use Rattle.phase_model.specs.declared.call.Call.TheVariants.{Make as make, Register as register, SingleDone as single_done, Send as send, Look as look, Drop as drop_task};
@@ -120,6 +120,7 @@ impl WaitingCell {
             (course self.old.state.story task (ParkedCall.Signal number) Then.Return) ≡ true
             → standing self.new.state.story self.new.parked.items freed.new
             ≡ standing self.old.state.story self.old.parked.items [] }
+        ensures few { length freed.new ≤ 256 }
         ensures next { self.new.state.next ≡ self.old.state.next }
     {
         let call = ParkedCall::Signal(number);
@@ -141,6 +142,7 @@ impl WaitingCell {
             (course self.old.state.story task ParkedCall.Pass Then.Return) ≡ true
             → standing self.new.state.story self.new.parked.items freed.new
             ≡ standing self.old.state.story self.old.parked.items [] }
+        ensures few { length freed.new ≤ 256 }
         ensures next { self.new.state.next ≡ self.old.state.next }
     {
         self.call(freed, waiter_to_pass(task))
@@ -163,6 +165,7 @@ impl WaitingCell {
             (course self.old.state.story task (ParkedCall.Signal number) Then.Pass) ≡ true
             → standing self.new.state.story self.new.parked.items freed.new
             ≡ standing self.old.state.story self.old.parked.items [] }
+        ensures few { length freed.new ≤ 256 }
         ensures next { self.new.state.next ≡ self.old.state.next }
     {
         let call = ParkedCall::Signal(number);
@@ -181,6 +184,7 @@ impl WaitingCell {
         ensures refused { OnErr result
             (standing self.new.state.story self.new.parked.items freed.new
             ≡ standing self.old.state.story self.old.parked.items []) }
+        ensures few { length freed.new ≤ 256 }
         ensures next { self.new.state.next ≡ self.old.state.next }
     {
         let WaitingCell { state, parked } = self;
@@ -204,6 +208,7 @@ impl WaitingCell {
         // It was parked.
         ensures told { result ≡ Ok tt → is_parked task self.old.parked.items ≡ true
             → Contains freed.new (record { task = task; ended = Ended.Refused Refusal.NotRegistered }) }
+        ensures few { length freed.new ≤ 256 }
         ensures next { self.new.state.next ≡ self.old.state.next }
     {
         let WaitingCell { state, parked } = self;
@@ -229,6 +234,7 @@ impl WaitingCell {
             (course self.old.state.story waiter.task waiter.call waiter.item) ≡ true
             → standing self.new.state.story self.new.parked.items freed.new
             ≡ standing self.old.state.story self.old.parked.items [] }
+        ensures few { length freed.new ≤ 256 }
         ensures next { self.new.state.next ≡ self.old.state.next }
     {
         let WaitingCell { state, parked } = self;

@@ -73,6 +73,7 @@ fn settle(state: &mut LongPhaser, parked: &mut VecDeque<Parked<Then>>, freed: &m
     ensures turned { IsTurned (standing state.old.story parked.old.items freed.old)
         (standing state.new.story parked.new.items freed.new) }
     ensures kept { IsSettled state.new.story parked.new.items }
+    ensures few { length freed.new ≤ 256 }
     ensures next { state.new.next ≡ state.old.next }
     ensures seats { 256 ≤ deque_capacity parked.new }
     ensures seated { deque_len parked.new ≤ 256 }
@@ -101,6 +102,7 @@ pub fn settle_if(
     ensures still { may_go_on ≡ false → standing state.new.story parked.new.items freed.new
         ≡ standing state.old.story parked.old.items [] }
     ensures kept { IsSettled state.new.story parked.new.items }
+    ensures few { length freed.new ≤ 256 }
     ensures next { state.new.next ≡ state.old.next }
     ensures seats { 256 ≤ deque_capacity parked.new }
     ensures seated { deque_len parked.new ≤ 256 }

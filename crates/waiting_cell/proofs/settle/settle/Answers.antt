@@ -60,3 +60,9 @@ pub returns-clause-kept : goal.returns-clause-kept
 returns-clause-kept c =
     let w = standing c.loop-ahead.state.story c.loop-ahead.parked.items c.loop-ahead.freed in
     settled_where _ w c.loop-ahead.ahead c.loop-ahead.invariant.going c.loop-ahead-test.false
+
+pub returns-clause-few : goal.returns-clause-few
+returns-clause-few c =
+    let room : length c.loop-ahead.parked.items + length c.loop-ahead.freed ≤ 256 =
+    c.loop-ahead.invariant.going.room in
+    omega (arith, room)

@@ -1,0 +1,173 @@
+-- What a call comes to on a phaser for threads that wait, and on what a handle holds of one.
+use Rattle.std.specs.Prelude.{◌≡◌, ℕ, ℤ, pos, neg_ℤ, int_le, int_lt, Bool, true, false, ◌+◌, ◌&&◌, if◌then◌else◌, List, [], Contains, length, nat_le, OnErr, Option, None, Some, Result, Ok, Err}
+use Rattle.phase_modes.specs.declared.refusal.Refusal.{Refusal}
+use Rattle.phase_modes.specs.declared.refusal.Refusal.TheVariants.{NotRegistered}
+use Rattle.phase_model.specs.declared.op.Look.{Look}
+use Rattle.phase_model.specs.declared.op.Look.TheVariants.{Value, Nothing as Unseen}
+use Rattle.phase_model.specs.declared.call.Call.{Call}
+use Rattle.phase_model.specs.declared.call.Call.TheVariants.{Drop as drop_task}
+use Rattle.phase_model.specs.Replies.{reply, after, done_result}
+use Rattle.parked_tasks.specs.declared.parked.Parked.{Parked}
+use Rattle.parked_tasks.specs.Parking.{is_parked}
+use Rattle.waiting_cell.specs.declared.cell.WaitingCell.{WaitingCell}
+use Rattle.waiting_cell.specs.declared.answer.Answer as cells
+use Rattle.waiting_cell.specs.declared.answer.Answer.TheVariants.{Ended as HasEnded, Parked as IsParked}
+use Rattle.waiting_cell.specs.declared.answer.Ended.TheVariants as ends
+use Rattle.waiting_cell.specs.declared.answer.Freed.{Freed}
+use Rattle.waiting_cell.specs.declared.course.Then.{Then}
+use Rattle.waiting_cell.specs.Courses.{course}
+use Rattle.waiting_cell.specs.Turns.{Standing, standing, to_pass, IsTurned}
+use Rattle.waiting_cell.specs.Calls.{to_signal, to_go_on, called, answer_to, standing_after, is_turned_away}
+use Rattle.phaser_c.specs.Freed.{ended_answer, AreTold}
+use Rattle.phaser_c.specs.declared.answer.Answer.{Answer}
+use Rattle.phaser_c.specs.declared.answer.Answer.TheVariants.{Done, NotYet, Nothing, TooGreat, Closed, Short, Refused}
+use Rattle.phaser_c.specs.declared.freed.GivenFreed.{GivenFreed}
+use Rattle.phaser_c.specs.declared.asking.Asking.{Asking}
+use Rattle.phaser_c.specs.declared.asking.Asking.TheVariants.{Signal, Pass, Next}
+use Rattle.phaser_c.specs.declared.waiting.Waiting.{Waiting}
+
+-- the task as it waits while its call isn't over
+abbrev pub waiter : ℕ → Asking → Parked Then
+waiter t (Signal x) = to_signal t x
+waiter t Pass = to_pass t
+waiter t (Next x) = to_go_on t x
+
+-- how things stand, where those were freed
+abbrev pub stands : WaitingCell → List Freed → Standing
+stands c fs = standing c.state.story c.parked.items fs
+
+-- what a task is answered to its own call
+abbrev pub asked : WaitingCell → Parked Then → cells.Answer
+asked c p = answer_to (is_parked p.task c.parked.items) (called c.state.story p)
+
+-- how things stand after a task's own call, and those of all who went on by it; as before where it was turned away
+abbrev pub IsAsked : Parked Then → WaitingCell → Standing → Type 0
+IsAsked p c w =
+    let again = is_parked p.task c.parked.items in
+    IsTurned (standing_after again (called c.state.story p) c.state.story c.parked.items) w
+    × (is_turned_away again (course c.state.story p.task p.call p.item) ≡ true → w ≡ stands c [])
+
+-- how things stand after another call, and those of all who went on by it; as before where it was refused
+abbrev pub IsMade : Call → WaitingCell → Standing → Type 0
+IsMade call c w =
+    let r = reply c.state.story call in
+    IsTurned (standing (after c.state.story r) c.parked.items []) w × OnErr (done_result r) (w ≡ stands c [])
+
+-- the same of a leave: who was parked and has left is told so
+abbrev pub IsLeft : ℕ → WaitingCell → Standing → Type 0
+IsLeft t c w =
+    IsMade (drop_task t) c w
+    × (done_result (reply c.state.story (drop_task t)) ≡ Ok tt → is_parked t c.parked.items ≡ true
+    → Contains w.gone (record { task = t; ended = ends.Refused NotRegistered }))
+
+-- by a call that one cell became the other, and those were freed of whom the room tells
+abbrev pub IsGoneOn : (WaitingCell → Standing → Type 0) → WaitingCell → WaitingCell → List GivenFreed → List GivenFreed → ℕ → Type 0
+IsGoneOn How c d old new count =
+    (fs : List Freed) × AreTold fs old new count × How c (stands d fs) × (d.state.next ≡ c.state.next)
+
+-- whether the room has a place for each who may be freed
+abbrev pub is_wide : List GivenFreed → Bool
+is_wide room = nat_le 256 (length room)
+
+-- the same of what a handle holds; all is as before where the room is too small, or there is no phaser
+abbrev pub IsGoneOnAt : (WaitingCell → Standing → Type 0) → Option Waiting → Option Waiting → List GivenFreed
+    → List GivenFreed → ℕ → ℕ → Bool → Type 0
+IsGoneOnAt How old new room room' count count' false = (new ≡ old) × (room' ≡ room) × (count' ≡ count)
+IsGoneOnAt How None new room room' count count' true = (new ≡ None) × (room' ≡ room) × (count' ≡ count)
+IsGoneOnAt How (Some w) new room room' count count' true =
+    (v : Waiting) × (new ≡ Some v) × IsGoneOn How w.cell v.cell room room' count'
+
+-- what is asked of what a handle holds; the answer says where there is too little room, or no phaser
+abbrev pub told_at : {A : Type 0} → Bool → Option Waiting → (WaitingCell → A) → Result A Answer
+told_at false held f = Err Short
+told_at true None f = Err Closed
+told_at true (Some w) f = Ok (f w.cell)
+
+-- what is answered where a task was answered so by the cell
+abbrev pub answer_of_cell : cells.Answer → Answer
+answer_of_cell (HasEnded e) = ended_answer e
+answer_of_cell IsParked = NotYet
+
+abbrev pub answer_of_told : Result cells.Answer Answer → Answer
+answer_of_told (Ok a) = answer_of_cell a
+answer_of_told (Err why) = why
+
+-- the phase or the single's number that the answer gives; where it gives none, what was there before
+abbrev pub number_told : ℕ → Result cells.Answer Answer → ℕ
+number_told old (Ok (HasEnded (ends.Passed p))) = p
+number_told old (Ok (HasEnded (ends.Claimed n))) = n
+number_told old _ = old
+
+-- what is answered where a call was done or refused
+abbrev pub answer_done : Result (Unit {0}) Refusal → Answer
+answer_done (Ok u) = Done
+answer_done (Err r) = Refused r
+
+abbrev pub answer_of_done : Result (Result (Unit {0}) Refusal) Answer → Answer
+answer_of_done (Ok r) = answer_done r
+answer_of_done (Err why) = why
+
+-- the number is one of 64 bits with a sign
+abbrev pub is_short : ℤ → Bool
+is_short v = int_le (neg_ℤ (pos 9223372036854775808)) v && int_lt v (pos 9223372036854775808)
+
+-- what is answered where a look returned this, and the value that it gives; where it gives none, what was there before
+abbrev pub answer_seen : Result (Look ℤ) Refusal → Answer
+answer_seen (Ok (Value v)) = if is_short v then Done else TooGreat
+answer_seen (Ok Unseen) = Nothing
+answer_seen (Err r) = Refused r
+
+abbrev pub answer_of_seen : Result (Result (Look ℤ) Refusal) Answer → Answer
+answer_of_seen (Ok r) = answer_seen r
+answer_of_seen (Err why) = why
+
+abbrev pub value_seen : ℤ → Result (Look ℤ) Refusal → ℤ
+value_seen old (Ok (Value v)) = if is_short v then v else old
+value_seen old _ = old
+
+-- a call that frees nobody was made
+abbrev pub IsCalled : Call → WaitingCell → WaitingCell → Type 0
+IsCalled call c d =
+    (d.state.story ≡ after c.state.story (reply c.state.story call)) × (d.state.next ≡ c.state.next) × (d.parked ≡ c.parked)
+
+-- the number that is given out next, where the one before was given to a task, or refused
+abbrev pub next_after : ℕ → Result (Unit {0}) Refusal → ℕ
+next_after n (Ok u) = n + 1
+next_after n (Err r) = n
+
+-- a call was made that gives the next number to a task
+abbrev pub numbering : (ℕ → Call) → WaitingCell → Result (Unit {0}) Refusal
+numbering call c = done_result (reply c.state.story (call c.state.next))
+
+abbrev pub IsNumbering : (ℕ → Call) → WaitingCell → WaitingCell → Type 0
+IsNumbering call c d =
+    (d.state.story ≡ after c.state.story (reply c.state.story (call c.state.next)))
+    × (d.state.next ≡ next_after c.state.next (numbering call c)) × (d.parked ≡ c.parked)
+
+-- the same of what a handle holds
+abbrev pub IsHeldAfter : (WaitingCell → WaitingCell → Type 0) → Option Waiting → Option Waiting → Type 0
+IsHeldAfter How None new = new ≡ None
+IsHeldAfter How (Some w) new = (v : Waiting) × (new ≡ Some v) × How w.cell v.cell
+
+-- the number that a task was given; where it was given none, what was there before
+abbrev pub number_if : ℕ → ℕ → Result (Unit {0}) Refusal → ℕ
+number_if old next (Ok u) = next
+number_if old next (Err r) = old
+
+abbrev pub number_given_at : ℕ → (ℕ → Call) → Option Waiting → ℕ
+number_given_at old call None = old
+number_given_at old call (Some w) = number_if old w.cell.state.next (numbering call w.cell)
+
+-- the value that a look gives, of what a handle holds
+abbrev pub value_seen_at : ℤ → Option Waiting → (WaitingCell → Result (Look ℤ) Refusal) → ℤ
+value_seen_at old None f = old
+value_seen_at old (Some w) f = value_seen old (f w.cell)
+
+-- what is answered where a task was given this number, and the number; where it was given none, what was there before
+abbrev pub answer_given : Result ℕ Refusal → Answer
+answer_given (Ok t) = Done
+answer_given (Err r) = Refused r
+
+abbrev pub task_given : ℕ → Result ℕ Refusal → ℕ
+task_given old (Ok t) = t
+task_given old (Err r) = old
