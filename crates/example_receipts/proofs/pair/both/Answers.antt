@@ -1,0 +1,30 @@
+use Rattle.std.proofs.Common.{ap, ◌∙◌}
+use Rattle.example_receipts.proofs.Turns.{still_closed, sees_all, within}
+use Rattle.example_receipts.proofs.pair.both.Goals as goal
+
+pub returns-clause-closed : goal.returns-clause-closed
+returns-clause-closed g c =
+    let ops = g.J.Naming.terms.ops in
+    let whole = c.front-whole.ensures.all in
+    let at_4 = ap (λ w. w.state.story.past) c.includes-4.ensures.same.0 in
+    let at_3 = ap (λ w. w.state.story.past) c.includes-3.ensures.same.0 in
+    let at_2 = ap (λ w. w.state.story.past) c.includes-2.ensures.same.0 in
+    let at_1 = ap (λ w. w.state.story.past) c.includes.ensures.same.0 in (
+      still_closed ops c.in_ok-one.one.phase _ _ _ _ c.in_ok-one.ensures.0
+          (within _ _ _ c.includes.ensures.begins (whole ∙ (at_4 ∙ (at_3 ∙ (at_2 ∙ at_1))))) c.is_legal.ensures.folded,
+      still_closed ops c.in_ok-one.other.phase _ _ _ _ c.in_ok-one.ensures.1
+          (within _ _ _ c.includes-3.ensures.begins (whole ∙ (at_4 ∙ at_3))) c.is_legal.ensures.folded,
+    )
+
+pub returns-clause-saw : goal.returns-clause-saw
+returns-clause-saw g c =
+    let ops = g.J.Naming.terms.ops in
+    let whole = c.front-whole.ensures.all in
+    let at_4 = ap (λ w. w.state.story.past) c.includes-4.ensures.same.0 in
+    let at_3 = ap (λ w. w.state.story.past) c.includes-3.ensures.same.0 in
+    let at_2 = ap (λ w. w.state.story.past) c.includes-2.ensures.same.0 in (
+      sees_all ops c.in_ok-one.one.phase _ _ _ _ c.in_ok-one.ensures.0
+          (within _ _ _ c.includes-2.ensures.begins (whole ∙ (at_4 ∙ (at_3 ∙ at_2)))) c.is_legal.ensures.folded,
+      sees_all ops c.in_ok-one.other.phase _ _ _ _ c.in_ok-one.ensures.1
+          (within _ _ _ c.includes-4.ensures.begins (whole ∙ at_4)) c.is_legal.ensures.folded,
+    )

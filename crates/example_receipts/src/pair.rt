@@ -1,0 +1,150 @@
+//! Two tasks of one phaser, each in a thread of its own.
+ghost use Rattle.std.specs.Prelude.{◌≡◌, [], true, Some, IfOk};
+ghost use Rattle.phase_modes.specs.Mode.{can_wait};
+ghost use Rattle.phase_model.specs.Phases.{IsClosed};
+ghost use Rattle.phase_model.specs.Tasks.{has_mode};
+ghost use Rattle.seen_log.specs.Tails.{IsTail};
+ghost use Rattle.example_receipts.specs.Turns.{IsGood, IsFoldOfAll};
+
+use crate::turn::{Player, Turn};
+use ghost_log::Whole;
+use long_phaser::Task;
+use long_receipts::{Front, Naming, ReceiptLock};
+use phase_model::{Bound, LongLook, Op, Ops};
+use phase_modes::{Mode, Refusal};
+use std::alloc::Global;
+use std::marker::Brand;
+use std::sync::Wait;
+use std::thread;
+use std::thread::{Parker, Threads};
+use told_history::LongEvent;
+
+/// What came of both turns, and the whole history of the phaser that is left.
+#[derive(Drop)]
+pub struct Outcome<J: Naming> {
+    pub one: Turn<J>,
+    pub other: Turn<J>,
+    pub whole: Front<J>,
+}
+
+/// The phaser is made, with a maker that can wait.
+fn make<J: Naming, R: Wait>(
+    rt: &R,
+    lock: &ReceiptLock<J, &Parker>,
+    me: &mut Front<J>,
+) -> Result<Task, Refusal>
+    ensures { IfOk result (λ t. has_mode can_wait t me.new ≡ true) }
+{
+    lock.make(rt, me, Mode::SigWait)
+}
+
+/// A child is registered that can wait. Its parent still can.
+fn register<J: Naming, R: Wait>(
+    rt: &R,
+    lock: &ReceiptLock<J, &Parker>,
+    me: &mut Front<J>,
+    parent: Task,
+) -> Result<Task, Refusal>
+    ensures child { IfOk result (λ t. has_mode can_wait t me.new ≡ true) }
+    ensures parent { has_mode can_wait parent me.old ≡ true → has_mode can_wait parent me.new ≡ true }
+{
+    let answer = lock.register(rt, me, parent, Mode::SigWait);
+    me.is_legal();
+    answer
+}
+
+/// Two tasks of a new phaser, of which each knows that it can wait.
+fn ready<'a, 'p, J: Naming, R: Wait>(
+    rt: &'a R,
+    alloc: Global,
+    lock: &'a ReceiptLock<J, &'p Parker>,
+    parkers: &'p [Parker; 2],
+    front: Front<J>,
+) -> Result<(Player<'a, 'p, J, R>, Player<'a, 'p, J, R>), Refusal> {
+    let mut front = front;
+    let maker = make(rt, lock, &mut front)?;
+    let child = register(rt, lock, &mut front, maker)?;
+    let seen = front.again();
+    let one = Player::new(rt, alloc, lock, maker, &parkers[0], seen)?;
+    let other = Player::new(rt, alloc, lock, child, &parkers[1], front)?;
+    Ok((one, other))
+}
+
+/// Each takes its turn in a thread of its own.
+fn met<'p, J: Naming + Send + Sync, R: Threads + Wait + Sync>(
+    rt: &R,
+    alloc: Global,
+    lock: &ReceiptLock<J, &'p Parker>,
+    parkers: &'p [Parker; 2],
+    front: Front<J>,
+) -> Result<(Turn<J>, Turn<J>), Refusal>
+    ensures { IfOk result (λ turns. IsGood J.terms.ops turns.0.phase turns.0.front turns.0.later turns.0.seen × IsGood J.terms.ops turns.1.phase turns.1.front turns.1.later turns.1.seen) }
+{
+    let (one, other) = ready(rt, alloc, lock, parkers, front)?;
+    let (one, other) = thread::join(
+        rt,
+        move || -> Result<Turn<J>, Refusal>
+            ensures { IfOk result (λ turn. IsGood J.terms.ops turn.phase turn.front turn.later turn.seen) }
+        { one.take_turn(3) },
+        move || -> Result<Turn<J>, Refusal>
+            ensures { IfOk result (λ turn. IsGood J.terms.ops turn.phase turn.front turn.later turn.seen) }
+        { other.take_turn(4) },
+    );
+    Ok((one?, other?))
+}
+
+/// Two tasks of a new phaser meet. In the one history that is left, the phase that each has passed
+/// is closed, and what each saw is the fold of all values that were ever sent for a phase that was
+/// closed.
+pub fn both<'p, J: Naming + Send + Sync, R: Threads + Wait + Sync>(
+    rt: &R,
+    alloc: Global,
+    lock: ReceiptLock<J, &'p Parker>,
+    parkers: &'p [Parker; 2],
+    front: Front<J>,
+) -> Result<Outcome<J>, Refusal>
+    ensures stand { IfOk result (λ o. IsTail o.one.front o.whole × IsTail o.other.front o.whole) }
+    ensures closed { IfOk result (λ o. IsClosed o.one.phase o.whole × IsClosed o.other.phase o.whole) }
+    ensures saw { IfOk result (λ o. IsFoldOfAll J.terms.ops o.whole o.one.seen × IsFoldOfAll J.terms.ops o.whole o.other.seen) }
+{
+    let (one, other) = met(rt, alloc, &lock, parkers, front)?;
+    let mut one = one;
+    let mut other = other;
+    let mut cell = lock.into_cell();
+    cell.includes(&mut one.front);
+    cell.includes(&mut one.later);
+    cell.includes(&mut other.front);
+    cell.includes(&mut other.later);
+    let whole = cell.front();
+    whole.is_legal();
+    Ok(Outcome { one, other, whole })
+}
+
+/// What both saw of a phaser of this name.
+fn named<J: Naming + Send + Sync, R: Threads + Wait + Sync>(
+    rt: &R,
+    alloc: Global,
+    ops: Ops,
+    bound: Bound,
+    whole: Whole<LongEvent>,
+) -> Result<(LongLook, LongLook), Refusal>
+    requires name { whole.name ≡ J.log }
+    requires empty { whole.items ≡ [] }
+    requires terms { J.terms ≡ record { ops = ops; bound = Some bound } }
+{
+    let parkers = [Parker::new(), Parker::new()];
+    let (lock, front) = ReceiptLock::<J, &Parker>::new(alloc, ops, bound, whole)?;
+    let outcome = both(rt, alloc, lock, &parkers, front)?;
+    Ok((outcome.one.seen, outcome.other.seen))
+}
+
+/// What the two tasks see of a new phaser with one sum.
+pub fn run<R: Threads + Wait + Sync>(
+    rt: &R,
+    alloc: Global,
+    bound: Bound,
+) -> Result<(LongLook, LongLook), Refusal> {
+    let mut one_sum = Ops::none();
+    one_sum.push(Op::Sum);
+    named::<Brand, R>(rt, alloc, one_sum, bound, Whole::new())
+}

@@ -1,0 +1,177 @@
+//! What one thread does: its task takes a turn.
+ghost use Rattle.std.specs.Prelude.{◌≡◌, [], true, IfOk};
+ghost use Rattle.phase_modes.specs.Mode.{can_wait};
+ghost use Rattle.phase_model.specs.Phases.{IsClosed};
+ghost use Rattle.phase_model.specs.Tasks.{has_mode};
+ghost use Rattle.long_receipts.specs.Told.{IfPassed, HasLooked};
+ghost use Rattle.example_receipts.specs.Turns.{IsGood};
+
+use long_locks::{Out, PassAnswer, SignalAnswer};
+use long_phaser::{Phase, Task};
+use long_receipts::{Front, Naming, ReceiptLock};
+use phase_model::LongLook;
+use phase_modes::Refusal;
+use std::alloc::Global;
+use std::sync::Wait;
+use std::thread::Parker;
+
+/// A task that its thread keeps, and what it has seen of the phaser. While the task is parked, the
+/// thread's parker is the item that stands for it: whose call frees the task wakes the thread by it.
+pub struct Player<'a, 'p, J: Naming, R: Wait> {
+    rt: &'a R,
+    lock: &'a ReceiptLock<J, &'p Parker>,
+    pub task: Task,
+    parker: &'p Parker,
+    pub front: Front<J>,
+    out: Out<&'p Parker>,
+    ghost awake: { out ≡ [] },
+    ghost waiter: { has_mode can_wait task front ≡ true },
+}
+
+/// What came of a turn: the phase that was passed, and what was seen then, each with what the task
+/// had seen of the phaser.
+#[derive(Drop)]
+pub struct Turn<J: Naming> {
+    pub front: Front<J>,
+    pub phase: Phase,
+    pub later: Front<J>,
+    pub seen: LongLook,
+}
+
+/// Wakes the threads of those whom a call has freed.
+fn wake(out: &mut Out<&Parker>)
+    ensures { out.new ≡ [] }
+{
+    while let Some(parker) = out.take() {
+        parker.unpark();
+    }
+}
+
+impl<'a, 'p, J: Naming, R: Wait> Player<'a, 'p, J, R> {
+    /// A task that can wait, as its thread has seen.
+    pub fn new(
+        rt: &'a R,
+        alloc: Global,
+        lock: &'a ReceiptLock<J, &'p Parker>,
+        task: Task,
+        parker: &'p Parker,
+        front: Front<J>,
+    ) -> Result<Player<'a, 'p, J, R>, Refusal>
+        requires { has_mode can_wait task front ≡ true }
+        ensures { IfOk result (λ p. p.task ≡ task) }
+    {
+        let out = Out::new(alloc)?;
+        Ok(Player {
+            rt,
+            lock,
+            task,
+            parker,
+            front,
+            out,
+        })
+    }
+
+    /// The task sends its number.
+    fn send(&mut self, number: i32) -> Result<(), Refusal> {
+        let front = &mut self.front;
+        let answer = self.lock.send(self.rt, front, self.task, 0, number);
+        front.is_legal();
+        answer
+    }
+
+    /// The task signals: at a barrier the bound never holds it.
+    fn signal(&mut self) -> Result<(), Refusal> {
+        let answer = self.lock.signal(
+            self.rt,
+            &mut self.front,
+            &mut self.out,
+            self.task,
+            None,
+            self.parker,
+        );
+        self.front.is_legal();
+        wake(&mut self.out);
+        match answer {
+            SignalAnswer::Signalled(_) => Ok(()),
+            SignalAnswer::Parked => Err(Refusal::NotNow),
+            SignalAnswer::Refused(_, refusal) => Err(refusal),
+        }
+    }
+
+    /// The task asks to end its turn.
+    fn ask(&mut self) -> PassAnswer<&'p Parker, Phase>
+        ensures { IfPassed result (λ p. IsClosed p self.new.front) }
+    {
+        let answer = self.lock.pass(
+            self.rt,
+            &mut self.front,
+            &mut self.out,
+            self.task,
+            self.parker,
+        );
+        self.front.is_legal();
+        wake(&mut self.out);
+        answer
+    }
+
+    /// The task ends its turn: where it is parked the thread sleeps until the task is freed, and
+    /// then asks again. The phase of the turn, which is closed.
+    fn pass(&mut self) -> Result<Phase, Refusal>
+        ensures { IfOk result (λ p. IsClosed p self.new.front) }
+    {
+        for _ in self.rt.forever() {
+            match self.ask() {
+                PassAnswer::Passed(_, phase) => return Ok(phase),
+                PassAnswer::Parked => self.parker.park(self.rt),
+                PassAnswer::Claimed(_, _) => return Err(Refusal::NotNow),
+                PassAnswer::Refused(_, refusal) => return Err(refusal),
+            }
+        }
+        unreachable!()
+    }
+
+    /// The task looks.
+    fn look(&mut self) -> Result<LongLook, Refusal>
+        ensures { IfOk result (λ x. HasLooked J.terms.ops self.old.task 0 self.new.front x) }
+    {
+        let front = &mut self.front;
+        let answer = self.lock.look(self.rt, front, self.task, 0);
+        front.is_legal();
+        answer
+    }
+
+    /// The task sends its number, meets the other, looks, and leaves.
+    pub fn take_turn(self, number: i32) -> Result<Turn<J>, Refusal>
+        ensures { IfOk result (λ turn. IsGood J.terms.ops turn.phase turn.front turn.later turn.seen) }
+    {
+        let mut player = self;
+        player.send(number)?;
+        player.signal()?;
+        let phase = player.pass()?;
+        let front = player.front.again();
+        let seen = player.look()?;
+        let later = player.front.again();
+        Ok(Turn {
+            front,
+            phase,
+            later,
+            seen,
+        })
+    }
+}
+
+/// Whoever ends, as he should or by a refusal, leaves: nobody waits for him then.
+impl<'a, 'p, J: Naming, R: Wait> Drop for Player<'a, 'p, J, R> {
+    fn drop(self) {
+        let Player {
+            rt,
+            lock,
+            task,
+            parker: _,
+            mut front,
+            mut out,
+        } = self;
+        let _left = lock.leave(rt, &mut front, &mut out, task);
+        wake(&mut out);
+    }
+}
