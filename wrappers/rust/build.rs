@@ -1,6 +1,6 @@
 //! Says where the archive is: `PALDWOSK_ARCHIVE`, or what `tools/build_program phaser_c` makes in this checkout; and where the toolchain's
 //! archive is, by which it calls malloc: `RATTLE_C`, or the folder `c` of the kit whose command `rt` is on the PATH.
-use std::env::{split_paths, var_os};
+use std::env::{split_paths, var, var_os};
 use std::path::{Path, PathBuf};
 
 /// The folder with libphaser_c.a.
@@ -27,7 +27,19 @@ fn toolchain() -> PathBuf {
     }
 }
 
+/// Whether threads sleep by Linux's futex, whose call has one number here for each of these processors.
+fn has_futex() -> bool {
+    let target = |what| var(what).unwrap_or_default();
+    target("CARGO_CFG_TARGET_OS") == "linux"
+        && ["x86_64", "aarch64"].contains(&target("CARGO_CFG_TARGET_ARCH").as_str())
+        && var("CARGO_FEATURE_CONDITION_VARIABLE").is_err()
+}
+
 fn main() {
+    println!("cargo:rustc-check-cfg=cfg(has_futex)");
+    if has_futex() {
+        println!("cargo:rustc-cfg=has_futex");
+    }
     let (archive, toolchain) = (archive(), toolchain());
     let file = archive.join("libphaser_c.a");
     if !file.exists() {

@@ -26,7 +26,7 @@ pub enum Operator {
     Greatest = 2,
 }
 
-/// How a `signal` ended.
+/// How a `signal` of a `PhaserState` ended.
 #[derive(Clone, Copy, Debug, PartialEq, Eq)]
 pub enum Signalling {
     /// The task has signalled its phase.
@@ -35,7 +35,7 @@ pub enum Signalling {
     NotYet,
 }
 
-/// How a `pass` ended.
+/// How a `pass` of a `PhaserState` ended.
 #[derive(Clone, Copy, Debug, PartialEq, Eq)]
 pub enum Passing {
     /// The turn of this phase is ended.
@@ -91,6 +91,8 @@ pub enum Refusal {
     NotNow = 22,
     /// Memory was refused.
     Memory = 23,
+    /// The fold isn't within an `i64`: it takes 2^32 values in one phase.
+    TooGreat = 36,
     /// A limit isn't between its least and its greatest.
     BadLimits = 69,
     /// There are more than four operators.
@@ -101,7 +103,7 @@ pub enum Refusal {
     BadTickets = 72,
 }
 
-const REFUSALS: [Refusal; 20] = [
+const REFUSALS: [Refusal; 21] = [
     Refusal::NotRegistered,
     Refusal::NoSignal,
     Refusal::NoWait,
@@ -118,6 +120,7 @@ const REFUSALS: [Refusal; 20] = [
     Refusal::TasksFull,
     Refusal::NotNow,
     Refusal::Memory,
+    Refusal::TooGreat,
     Refusal::BadLimits,
     Refusal::BadOperators,
     Refusal::BadBound,

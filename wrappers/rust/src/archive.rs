@@ -19,6 +19,18 @@ pub(crate) struct GivenLimits {
     pub(crate) tasks: u32,
 }
 
+/// `paldwosk_freed`: a task whose call had to wait, and has ended now by another's call.
+#[repr(C)]
+#[derive(Clone, Copy)]
+pub(crate) struct Freed {
+    pub(crate) task: u64,
+    pub(crate) number: u64,
+    pub(crate) answer: u32,
+}
+
+/// `PALDWOSK_MOST_FREED`: how many tasks may wait at once, and be freed by one call.
+pub(crate) const MOST_FREED: usize = 256;
+
 unsafe extern "C" {
     pub(crate) fn phaser_c_replay(
         trace: *const u8,
@@ -64,5 +76,66 @@ unsafe extern "C" {
         text: *mut u8,
         room: usize,
         written: &mut usize,
+    ) -> u32;
+
+    pub(crate) fn phaser_c_waiting_new(phaser: &mut Handle, operators: *const u32, count: usize, bound: u32) -> u32;
+    pub(crate) fn phaser_c_waiting_free(phaser: &mut Handle);
+    pub(crate) fn phaser_c_waiting_make(phaser: &mut Handle, mode: u32, task: &mut u64) -> u32;
+    pub(crate) fn phaser_c_waiting_register(phaser: &mut Handle, parent: u64, mode: u32, task: &mut u64) -> u32;
+    pub(crate) fn phaser_c_waiting_send(phaser: &mut Handle, task: u64, accumulator: u8, value: i32) -> u32;
+    pub(crate) fn phaser_c_waiting_look(phaser: &mut Handle, task: u64, accumulator: u8, value: &mut i64) -> u32;
+    pub(crate) fn phaser_c_waiting_signal(
+        phaser: &mut Handle,
+        task: u64,
+        freed: *mut Freed,
+        room: usize,
+        count: &mut usize,
+    ) -> u32;
+    pub(crate) fn phaser_c_waiting_signal_single(
+        phaser: &mut Handle,
+        task: u64,
+        proposed: u32,
+        freed: *mut Freed,
+        room: usize,
+        count: &mut usize,
+    ) -> u32;
+    pub(crate) fn phaser_c_waiting_pass(
+        phaser: &mut Handle,
+        task: u64,
+        number: &mut u64,
+        freed: *mut Freed,
+        room: usize,
+        count: &mut usize,
+    ) -> u32;
+    pub(crate) fn phaser_c_waiting_next(
+        phaser: &mut Handle,
+        task: u64,
+        number: &mut u64,
+        freed: *mut Freed,
+        room: usize,
+        count: &mut usize,
+    ) -> u32;
+    pub(crate) fn phaser_c_waiting_next_single(
+        phaser: &mut Handle,
+        task: u64,
+        proposed: u32,
+        number: &mut u64,
+        freed: *mut Freed,
+        room: usize,
+        count: &mut usize,
+    ) -> u32;
+    pub(crate) fn phaser_c_waiting_single_done(
+        phaser: &mut Handle,
+        task: u64,
+        freed: *mut Freed,
+        room: usize,
+        count: &mut usize,
+    ) -> u32;
+    pub(crate) fn phaser_c_waiting_leave(
+        phaser: &mut Handle,
+        task: u64,
+        freed: *mut Freed,
+        room: usize,
+        count: &mut usize,
     ) -> u32;
 }

@@ -1,14 +1,40 @@
-//! The checked core of Paldwosk, from Rust: a checker of traces, and one phaser.
+//! The checked core of Paldwosk, from Rust: phasers and barriers for threads that wait, a phaser for one thread at a time, and a
+//! checker of traces.
 //!
-//! It links the archive of `crates/phaser_c`, whose exports are proved to answer what the library's calls answer. The
-//! `unsafe` code here only passes on what Rust's own types promise: slices, and places that nobody else has.
+//! - [`Phaser`] and its [`Task`]s: a barrier whose set of tasks may change, with modes, a bound, accumulators and single
+//!   statements. Its calls wait, and it lives as long as its program. It may leave a trace.
+//! - [`Barrier`]: the same in the form of `std::sync::Barrier`.
+//! - [`PhaserState`]: a phaser for one thread at a time, which keeps its history; no call waits.
+//! - [`replay`] and [`events`]: the checker.
+//!
+//! The rules stand in `docs/rules.md`, what is asked of `malloc` in `docs/linked.md`.
+//!
+//! # What is proved, and what isn't
+//!
+//! The crate links the archive of `crates/phaser_c`. Of its exports it is proved that they answer what the library's calls
+//! answer. For threads that wait that is: what a call is answered, which tasks it frees and with which answer, and that each
+//! task which stays parked has still to wait, so that nobody is forgotten.
+//!
+//! Of what stands in this crate nothing is proved. That is, for a [`Phaser`] and a [`Barrier`], the lock round each call, the
+//! sleeping, the waking of those whom a call freed, and the noting of a trace: they are tested. The `unsafe` code only passes
+//! on what Rust's own types promise, slices and places that nobody else has, and hands a word to Linux to sleep by.
 #![deny(unsafe_op_in_unsafe_fn)]
 
 mod answers;
 mod archive;
+mod barrier;
+mod bell;
 mod checker;
 mod phaser;
+mod phaser_state;
+mod seats;
+mod shared;
+mod spins;
+mod trace;
+mod waiting_cell;
 
 pub use answers::{Look, Mode, Operator, Passing, Refusal, Signalling};
+pub use barrier::{Barrier, BarrierWaitResult};
 pub use checker::{events, replay, Refused};
-pub use phaser::{Limits, Phaser};
+pub use phaser::{Phaser, Task};
+pub use phaser_state::{Limits, PhaserState};

@@ -1,192 +1,230 @@
-//! One phaser.
-use crate::answers::{Look, Mode, Operator, Passing, Refusal, Signalling};
-use crate::archive::*;
-use std::ptr::null_mut;
+//! A phaser for threads that wait.
+use crate::answers::{Look, Mode, Operator, Refusal};
+use crate::shared::{Call, Place, Shared};
+use crate::trace::Trace;
+use crate::waiting_cell::Ended;
+use std::fmt;
+use std::sync::Arc;
 
-/// How much a run may have of each thing. A phaser alone looks at `history`, `regs` and `tasks`.
-#[derive(Clone, Copy, Debug, PartialEq, Eq)]
-pub struct Limits {
-    /// Acts of a task: 1 to 65,536.
-    pub acts: u32,
-    /// Finishes of a run: 1 to 1,024.
-    pub finishes: u32,
-    /// Events in a phaser's history: 4 to 65,536.
-    pub history: u32,
-    /// Phasers of a run: 1 to 64.
-    pub phasers: u32,
-    /// Registrations on a phaser at once: 1 to 256.
-    pub regs: u32,
-    /// Tasks of a run, whose numbers are below it: 1 to 4,096.
-    pub tasks: u32,
-}
-
-impl Default for Limits {
-    fn default() -> Limits {
-        Limits { acts: 4_096, finishes: 64, history: 4_096, phasers: 64, regs: 256, tasks: 256 }
-    }
-}
-
-/// A phaser, for one thread at a time: threads share one behind a `Mutex`. No call waits; who is answered `NotYet` asks
-/// again after another's call.
+/// A barrier whose set of tasks may change, for threads that wait; it lives as long as its program.
+///
+/// Each thread takes part by a [`Task`] of its own. The first is made by [`make`](Phaser::make), any other by
+/// [`join`](Task::join) of one that is there: it begins where that one stands. A task goes on when all have signalled who are
+/// there and signal, and has left once it is dropped. So whoever makes the phaser takes part in it, or drops its task once
+/// the others have joined.
+///
+/// ```
+/// use paldwosk::{Look, Mode, Operator, Phaser, Refusal};
+/// use std::thread;
+///
+/// fn main() -> Result<(), Refusal> {
+///     let phaser = Phaser::new(2, &[Operator::Sum])?;
+///     let mut maker = phaser.make(Mode::SigWait)?;
+///     let threads: Vec<_> = (1..4)
+///         .map(|value| {
+///             let mut task = maker.join(Mode::SigWait)?;
+///             Ok(thread::spawn(move || {
+///                 task.send(0, value)?;
+///                 task.next()?; // waits for all four
+///                 task.look(0)
+///             }))
+///         })
+///         .collect::<Result<_, Refusal>>()?;
+///     maker.send(0, 4)?;
+///     assert_eq!(maker.next()?, 0);
+///     assert_eq!(maker.look(0)?, Look::Value(1 + 2 + 3 + 4));
+///     for thread in threads {
+///         assert_eq!(thread.join().unwrap()?, Look::Value(10));
+///     }
+///     Ok(())
+/// }
+/// ```
 pub struct Phaser {
-    handle: Handle,
+    shared: Arc<Shared>,
 }
 
-// SAFETY: what the handle leads to is this phaser's alone, and the library proves of it that it may go to another thread.
-unsafe impl Send for Phaser {}
-
-/// Done, or refused.
-fn done(number: u32) -> Result<(), Refusal> {
-    match number {
-        0 => Ok(()),
-        _ => Err(Refusal::of(number)),
-    }
-}
-
-// SAFETY of all calls here: the handle is this phaser's alone, and is lent to nobody else while a call has it; what a call
-// writes to are places of this function; the pointers and lengths are those of slices and lists.
 impl Phaser {
-    /// A phaser that nobody has made yet, with an accumulator for each of at most four operators, and its bound of 1 to
-    /// 65,536 phases, if it has one. `BadLimits`, `BadOperators`, `BadBound`, `Memory`.
-    pub fn new(limits: Limits, operators: &[Operator], bound: Option<u32>) -> Result<Phaser, Refusal> {
-        let Limits { acts, finishes, history, phasers, regs, tasks } = limits;
-        let limits = GivenLimits { acts, finishes, history, phasers, regs, tasks };
-        let numbers: Vec<u32> = operators.iter().map(|it| *it as u32).collect();
-        let bound = match bound {
-            None => 0,
-            Some(0) => u32::MAX,
-            Some(phases) => phases,
-        };
-        let mut phaser = Phaser { handle: Handle { held: null_mut() } };
-        done(unsafe { phaser_c_new(&mut phaser.handle, &limits, numbers.as_ptr(), numbers.len(), bound) })?;
-        Ok(phaser)
+    /// A phaser that nobody has made yet, with an accumulator for each of at most four operators, and a bound of 1 to 65,536
+    /// phases: a signal waits while some task that waits is so many phases behind. By 2 nobody waits who wouldn't wait anyway
+    /// where all tasks signal and wait; for producers and consumers it is the length of the queue. All memory that it will
+    /// ever need is taken here. `BadOperators`, `BadBound`, `Memory`.
+    pub fn new(bound: u32, operators: &[Operator]) -> Result<Phaser, Refusal> {
+        Ok(Phaser { shared: Arc::new(Shared::new(bound, operators, false)?) })
     }
 
-    /// The task makes the phaser, and is registered on it.
-    pub fn make(&mut self, task: u32, mode: Mode) -> Result<(), Refusal> {
-        done(unsafe { phaser_c_make(&mut self.handle, task, mode as u32) })
+    /// The same, and its run is traced: [`trace`](Phaser::trace) gives it as a text that [`replay`](crate::replay) judges.
+    /// Each call costs somewhat more by that, and each event some bytes.
+    ///
+    /// ```
+    /// # use paldwosk::{replay, Mode, Phaser, Refusal};
+    /// # fn main() -> Result<(), Refusal> {
+    /// let phaser = Phaser::traced(2, &[])?;
+    /// let mut maker = phaser.make(Mode::SigWait)?;
+    /// maker.next()?;
+    /// maker.leave();
+    /// let report = replay(phaser.trace().as_bytes()).unwrap();
+    /// assert!(report.starts_with("phaser 0 phases 1\ntask 0 ended\n"));
+    /// # Ok(())
+    /// # }
+    /// ```
+    pub fn traced(bound: u32, operators: &[Operator]) -> Result<Phaser, Refusal> {
+        Ok(Phaser { shared: Arc::new(Shared::new(bound, operators, true)?) })
     }
 
-    /// The parent registers the child where it stands itself.
-    pub fn register(&mut self, parent: u32, child: u32, mode: Mode) -> Result<(), Refusal> {
-        done(unsafe { phaser_c_register(&mut self.handle, parent, child, mode as u32) })
+    /// Makes the phaser: its first task, in this mode, in phase 0. `NotNow` where it was made before.
+    pub fn make(&self, mode: Mode) -> Result<Task, Refusal> {
+        let place = self.shared.make(mode)?;
+        Ok(Task { shared: self.shared.clone(), place })
     }
 
-    /// The task signals its phase; with a number it proposes the single of that number.
-    pub fn signal(&mut self, task: u32, single: Option<u32>) -> Result<Signalling, Refusal> {
-        let number = match single {
-            None => unsafe { phaser_c_signal(&mut self.handle, task) },
-            Some(number) => unsafe { phaser_c_signal_single(&mut self.handle, task, number) },
-        };
-        match number {
-            0 => Ok(Signalling::Signalled),
-            32 => Ok(Signalling::NotYet),
-            _ => Err(Refusal::of(number)),
-        }
+    /// The text of the run so far, as a whole run: the maker is task 0, the root, which makes phaser 0, and each task that
+    /// joins is a child of its parent. Of a phaser that isn't traced it is empty.
+    ///
+    /// A run has an end, and so has its text: the tasks that haven't left yet are told to do so now. A turn that is signalled
+    /// and not passed is told as a `signal`; a single that isn't done, as claimed, done and passed. These last events are
+    /// told by the text alone, and all before them are those that were made, each in its order.
+    pub fn trace(&self) -> String {
+        self.shared.trace().map_or(String::new(), Trace::text)
     }
 
-    /// The task asks to end its turn.
-    pub fn pass(&mut self, task: u32) -> Result<Passing, Refusal> {
-        let mut given = 0;
-        match unsafe { phaser_c_pass(&mut self.handle, task, &mut given) } {
-            0 => Ok(Passing::Passed(given)),
-            32 => Ok(Passing::NotYet),
-            33 => Ok(Passing::Claimed(given)),
-            number => Err(Refusal::of(number)),
-        }
+    /// Whether the trace has ended before the run, since it has room for 60,000 events of the phaser, and for tasks of numbers
+    /// below 4,096. The run goes on all the same; the text is that of the run up to there.
+    pub fn trace_has_ended(&self) -> bool {
+        self.shared.trace_has_ended()
+    }
+}
+
+impl fmt::Debug for Phaser {
+    fn fmt(&self, f: &mut fmt::Formatter<'_>) -> fmt::Result {
+        f.debug_struct("Phaser").finish_non_exhaustive()
+    }
+}
+
+/// What one thread has of a [`Phaser`]: a task that is registered on it, in a mode that says what it may do. It leaves when it
+/// is dropped, so a thread that panics holds nobody up; one that is forgotten ([`std::mem::forget`]) never leaves.
+///
+/// A task goes from thread to thread, and is in one call at a time: it can neither be copied nor be used by two threads.
+///
+/// ```compile_fail,E0599
+/// # use paldwosk::{Mode, Phaser};
+/// let task = Phaser::new(2, &[]).unwrap().make(Mode::SigWait).unwrap();
+/// let twin = task.clone();
+/// ```
+///
+/// ```compile_fail,E0499
+/// # use paldwosk::{Mode, Phaser};
+/// let mut task = Phaser::new(2, &[]).unwrap().make(Mode::SigWait).unwrap();
+/// std::thread::scope(|scope| {
+///     scope.spawn(|| task.next());
+///     scope.spawn(|| task.next());
+/// });
+/// ```
+///
+/// A call that is refused changes nothing. `HistoryFull` comes after 2^62 events.
+pub struct Task {
+    shared: Arc<Shared>,
+    place: Place,
+}
+
+/// The phase that was passed. Who proposed no single claims none.
+fn phase(ended: Ended) -> u64 {
+    match ended {
+        Ended::Done(phase) => phase,
+        Ended::Claimed => unreachable!("a task claims a single that it didn't propose"),
+    }
+}
+
+impl Task {
+    /// The number of the task. No other task of the phaser has it or had it.
+    pub fn number(&self) -> u64 {
+        self.place.task
     }
 
-    /// The task reports the single done that it claimed.
-    pub fn single_done(&mut self, task: u32) -> Result<(), Refusal> {
-        done(unsafe { phaser_c_single_done(&mut self.handle, task) })
+    /// A new task, in a mode within this one's, that begins where this one stands: in its phase, and with its signal if it has
+    /// signalled. `MoreThanParent`, `RegsFull` where 256 are there, `HistoryFull`.
+    pub fn join(&mut self, mode: Mode) -> Result<Task, Refusal> {
+        let place = self.shared.join(self.place, mode)?;
+        Ok(Task { shared: self.shared.clone(), place })
     }
 
-    /// The task sends a value to an accumulator.
-    pub fn send(&mut self, task: u32, accumulator: u8, value: i32) -> Result<(), Refusal> {
-        done(unsafe { phaser_c_send(&mut self.handle, task, accumulator, value) })
+    /// Signals, and waits until all have who are there and signal: the end of a turn, as at a barrier. The phase that is passed
+    /// by it. A task that only signals waits for the bound alone. `NoSignal`, `AlreadySignalled`, `HistoryFull`.
+    #[allow(clippy::should_implement_trait)] // a phaser's own word, and no iterator's
+    pub fn next(&mut self) -> Result<u64, Refusal> {
+        self.shared.turn(self.place, None).map(phase)
     }
 
-    /// What an accumulator holds of the phase before the task's own.
-    pub fn look(&mut self, task: u32, accumulator: u8) -> Result<Look, Refusal> {
-        let mut value = 0;
-        match unsafe { phaser_c_look(&mut self.handle, task, accumulator, &mut value) } {
-            0 => Ok(Look::Value(value)),
-            34 => Ok(Look::Nothing),
-            number => Err(Refusal::of(number)),
-        }
+    /// Signals its phase, and goes on. It waits for the bound alone. `NoSignal`, `AlreadySignalled`, `HistoryFull`.
+    pub fn signal(&mut self) -> Result<(), Refusal> {
+        self.shared.call(self.place, Call::Signal).map(|_| ())
     }
 
-    /// The task is dropped from the phaser.
-    pub fn drop_task(&mut self, task: u32) -> Result<(), Refusal> {
-        done(unsafe { phaser_c_drop(&mut self.handle, task) })
+    /// Waits until all have signalled the phase who are there and signal, itself before. The phase that is passed by it. A task
+    /// that only signals waits for nobody, and ends its turn. `NotSignalled`, `HistoryFull`.
+    pub fn wait(&mut self) -> Result<u64, Refusal> {
+        self.shared.call(self.place, Call::Pass).map(phase)
     }
 
-    /// Whether each task that is registered and can signal has signalled the phase.
-    pub fn is_closed(&mut self, phase: u32) -> bool {
-        let mut closed = 0;
-        unsafe { phaser_c_is_closed(&mut self.handle, phase, &mut closed) };
-        closed == 1
-    }
-
-    /// Whether an event that registers nobody and proposes nothing has no room in the history.
-    pub fn is_full(&mut self) -> bool {
-        let mut full = 0;
-        unsafe { phaser_c_is_full(&mut self.handle, &mut full) };
-        full == 1
-    }
-
-    /// What the values sent to an accumulator for a closed phase fold to; none where there is no such accumulator, or the
-    /// phase is too great, or its fold is given up.
-    pub fn fold_at(&mut self, accumulator: u8, phase: u32) -> Option<Look> {
-        let mut value = 0;
-        match unsafe { phaser_c_fold_at(&mut self.handle, accumulator, phase, &mut value) } {
-            0 => Some(Look::Value(value)),
-            34 => Some(Look::Nothing),
-            _ => None,
-        }
-    }
-
-    /// How many comparisons of task numbers the last call made that changes the phaser.
-    pub fn compared(&mut self) -> u32 {
-        let mut count = 0;
-        unsafe { phaser_c_compared(&mut self.handle, &mut count) };
-        count
-    }
-
-    /// How many events the history has.
-    pub fn event_count(&mut self) -> u32 {
-        let mut count = 0;
-        unsafe { phaser_c_event_count(&mut self.handle, &mut count) };
-        count
-    }
-
-    /// The history as the text of a trace that has this phaser's events alone, under this number, with these tickets, one
-    /// for each event. `BadTickets`, `Memory`.
-    pub fn history_text(&mut self, number: u32, tickets: &[u64]) -> Result<String, Refusal> {
-        let (mut room, mut written) = (vec![0; 256 + 64 * tickets.len()], 0);
-        loop {
-            let answer = unsafe {
-                phaser_c_history_text(
-                    &mut self.handle,
-                    number,
-                    tickets.as_ptr(),
-                    tickets.len(),
-                    room.as_mut_ptr(),
-                    room.len(),
-                    &mut written,
-                )
-            };
-            match answer {
-                0 => return Ok(String::from_utf8_lossy(&room[..written]).into_owned()),
-                67 => room.resize(written, 0),
-                _ => return Err(Refusal::of(answer)),
+    /// Signals, proposes that one task alone run the statement of this number before anybody goes on who waits, and waits. One
+    /// of those who propose it runs theirs. The phase that is passed by it. `NoSignal`, `NoSingle`, `AlreadySignalled`,
+    /// `SingleMismatch` where another number is proposed in this phase, `HistoryFull`.
+    ///
+    /// The statement runs without any lock held, and may use whatever else it likes, other phasers too. If it panics, the turn
+    /// ends as if it were done: the others go on, and aren't told.
+    pub fn single(&mut self, number: u32, statement: impl FnOnce()) -> Result<u64, Refusal> {
+        match self.shared.turn(self.place, Some(number))? {
+            Ended::Done(phase) => Ok(phase),
+            Ended::Claimed => {
+                let mut reported = Err(Refusal::NotNow);
+                {
+                    let _claim = Claim { task: self, reported: &mut reported };
+                    statement();
+                }
+                reported.map(phase)
             }
         }
     }
+
+    /// Sends a value to an accumulator. It counts for the phase that the task hasn't signalled yet. `NoSignal`,
+    /// `NoAccumulator`, `HistoryFull`.
+    pub fn send(&mut self, accumulator: u8, value: i32) -> Result<(), Refusal> {
+        self.shared.send(self.place, accumulator, value)
+    }
+
+    /// What an accumulator came to in the phase before the task's own. `NoWait`, `NoAccumulator`, `NoPhaseYet`, `HistoryFull`;
+    /// `TooGreat` where it isn't within an `i64`.
+    pub fn look(&mut self, accumulator: u8) -> Result<Look, Refusal> {
+        self.shared.look(self.place, accumulator)
+    }
+
+    /// Leaves: nobody waits for this task any more. What it sent still counts.
+    pub fn leave(self) {
+        drop(self);
+    }
 }
 
-impl Drop for Phaser {
+impl fmt::Debug for Task {
+    fn fmt(&self, f: &mut fmt::Formatter<'_>) -> fmt::Result {
+        f.debug_struct("Task").field("number", &self.place.task).finish_non_exhaustive()
+    }
+}
+
+impl Drop for Task {
     fn drop(&mut self) {
-        unsafe { phaser_c_free(&mut self.handle) }
+        // It is registered, is in no other call, and none of its singles is open: so it is never refused.
+        let left = self.shared.leave(self.place);
+        debug_assert!(left.is_ok(), "{left:?}");
+    }
+}
+
+/// A claimed single, whose statement runs. It is reported done by its end, also by a panic: else nobody would go on.
+struct Claim<'a> {
+    task: &'a mut Task,
+    reported: &'a mut Result<Ended, Refusal>,
+}
+
+impl Drop for Claim<'_> {
+    fn drop(&mut self) {
+        *self.reported = self.task.shared.report(self.task.place);
     }
 }

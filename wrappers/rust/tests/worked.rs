@@ -1,5 +1,5 @@
 //! The worked examples of one phaser and of traces, through the Rust crate.
-use paldwosk::{events, replay, Limits, Look, Mode, Operator, Passing, Phaser, Refusal, Refused, Signalling};
+use paldwosk::{events, replay, Limits, Look, Mode, Operator, Passing, PhaserState, Refusal, Refused, Signalling};
 use std::fs;
 use std::path::{Path, PathBuf};
 use std::sync::Mutex;
@@ -55,7 +55,7 @@ fn lines_may_be_longer_than_the_first_room() {
 /// `two_tasks_turn` of the worked examples.
 #[test]
 fn two_tasks_turn() -> Result<(), Refusal> {
-    let mut phaser = Phaser::new(Limits::default(), &[], None)?;
+    let mut phaser = PhaserState::new(Limits::default(), &[], None)?;
     phaser.make(0, Mode::SigWait)?;
     phaser.register(0, 1, Mode::SigWait)?;
     assert_eq!(phaser.signal(0, None)?, Signalling::Signalled);
@@ -72,7 +72,7 @@ fn two_tasks_turn() -> Result<(), Refusal> {
 /// `single_statement`, up to the first task's turn.
 #[test]
 fn single_statement() -> Result<(), Refusal> {
-    let mut phaser = Phaser::new(Limits::default(), &[], None)?;
+    let mut phaser = PhaserState::new(Limits::default(), &[], None)?;
     phaser.make(0, Mode::Single)?;
     phaser.register(0, 1, Mode::Single)?;
     phaser.register(0, 2, Mode::Single)?;
@@ -94,7 +94,7 @@ fn single_statement() -> Result<(), Refusal> {
 #[test]
 fn extreme_values() -> Result<(), Refusal> {
     let operators = [Operator::Sum, Operator::Least, Operator::Greatest];
-    let mut phaser = Phaser::new(Limits::default(), &operators, None)?;
+    let mut phaser = PhaserState::new(Limits::default(), &operators, None)?;
     phaser.make(0, Mode::SigWait)?;
     phaser.send(0, 0, i32::MIN)?;
     phaser.send(0, 0, i32::MIN)?;
@@ -114,7 +114,7 @@ fn extreme_values() -> Result<(), Refusal> {
 /// `bounded_signaller`: with the bound 1 the second signal waits for the waiter's turn.
 #[test]
 fn bounded_signaller() -> Result<(), Refusal> {
-    let mut phaser = Phaser::new(Limits::default(), &[], Some(1))?;
+    let mut phaser = PhaserState::new(Limits::default(), &[], Some(1))?;
     phaser.make(0, Mode::SigWait)?;
     phaser.register(0, 1, Mode::Sig)?;
     phaser.register(0, 2, Mode::Wait)?;
@@ -130,17 +130,17 @@ fn bounded_signaller() -> Result<(), Refusal> {
 #[test]
 fn what_is_wrong_is_refused() {
     let few = Limits { history: 3, ..Limits::default() };
-    assert_eq!(Phaser::new(few, &[], None).err(), Some(Refusal::BadLimits));
-    assert_eq!(Phaser::new(Limits::default(), &[Operator::Sum; 5], None).err(), Some(Refusal::BadOperators));
-    assert_eq!(Phaser::new(Limits::default(), &[], Some(0)).err(), Some(Refusal::BadBound));
-    assert_eq!(Phaser::new(Limits::default(), &[], Some(65_537)).err(), Some(Refusal::BadBound));
+    assert_eq!(PhaserState::new(few, &[], None).err(), Some(Refusal::BadLimits));
+    assert_eq!(PhaserState::new(Limits::default(), &[Operator::Sum; 5], None).err(), Some(Refusal::BadOperators));
+    assert_eq!(PhaserState::new(Limits::default(), &[], Some(0)).err(), Some(Refusal::BadBound));
+    assert_eq!(PhaserState::new(Limits::default(), &[], Some(65_537)).err(), Some(Refusal::BadBound));
     assert_eq!(Refusal::NoAccumulator.to_string(), "refused 9 NoAccumulator");
 }
 
 /// `history_full`, and the text of that history.
 #[test]
 fn history_is_told() -> Result<(), Refusal> {
-    let mut phaser = Phaser::new(Limits { history: 4, ..Limits::default() }, &[], None)?;
+    let mut phaser = PhaserState::new(Limits { history: 4, ..Limits::default() }, &[], None)?;
     phaser.make(0, Mode::SigWait)?;
     phaser.signal(0, None)?;
     assert_eq!(phaser.pass(0)?, Passing::Passed(0));
@@ -159,7 +159,7 @@ fn history_is_told() -> Result<(), Refusal> {
 /// Threads share a phaser behind a lock: 4 tasks send their number in each of 50 phases, and see the sum.
 #[test]
 fn threads_share_a_phaser_behind_a_lock() -> Result<(), Refusal> {
-    let mut phaser = Phaser::new(Limits::default(), &[Operator::Sum], None)?;
+    let mut phaser = PhaserState::new(Limits::default(), &[Operator::Sum], None)?;
     phaser.make(0, Mode::SigWait)?;
     for task in 1..4 {
         phaser.register(0, task, Mode::SigWait)?;

@@ -1,0 +1,1007 @@
+/* Paldwosk for C: a barrier for threads that wait, whose tasks may come and go. It is a phaser of paldwosk.h with a
+ * lock and a place to sleep: a call returns once its task may go on.
+ *
+ *     paldwosk_barrier barrier = PALDWOSK_NO_BARRIER;
+ *     paldwosk_task first, second;
+ *     paldwosk_barrier_new(&barrier, 2, NULL, 0);
+ *     paldwosk_barrier_make(&barrier, PALDWOSK_SIG_WAIT, &first);
+ *     paldwosk_barrier_join(&first, PALDWOSK_SIG_WAIT, &second);
+ *     .. and in the thread of each:  paldwosk_barrier_next(&task, NULL);  ..  paldwosk_barrier_leave(&task);
+ *     paldwosk_barrier_free(&barrier);
+ *
+ * WHAT IS PROVED. All that is decided stands in the archive's functions phaser_c_waiting_..: whom a call frees, with
+ * which answer, in which order, and that whoever still waits after it still has to wait. So no wait ends too early,
+ * and nobody is forgotten. NOT PROVED is what this header adds: a mutex round each of these calls, threads that
+ * sleep, and the waking of those who are freed. It is tested, by tests/waiting.
+ *
+ * WHAT IT NEEDS. gcc or clang, C11 or C++17, and the threads of POSIX. -std=c11 does: nothing has to be defined
+ * before it, and it defines nothing that changes what other headers declare. Link what paldwosk.h asks for, and
+ * -pthread where the C library has its threads apart. On Linux threads sleep by futex. Elsewhere, and where
+ * PALDWOSK_PORTABLE is defined, they sleep by a condition variable; files that share a barrier are all compiled with
+ * it, or all without.
+ *
+ * WHAT YOU OWE, beside what stands at the head of paldwosk.h:
+ *
+ *   - A paldwosk_barrier is zeroed before its first use, stays where it is, and is only passed to these functions.
+ *     paldwosk_barrier_new and paldwosk_barrier_free don't overlap with other calls on it.
+ *   - One thread at a time makes calls for a task. (While the task waits, a second thread is answered
+ *     PALDWOSK_NOT_NOW.)
+ *   - Who has a task goes on with it or leaves; else the others wait for it. A thread that ends doesn't leave by
+ *     itself.
+ *   - No call is made from a signal handler, or by a thread that may be cancelled asynchronously. A call takes up to
+ *     8 KB of stack.
+ *
+ * CANCELLATION AND FORK. No call is a cancellation point, also not while it waits. A thread that may be cancelled
+ * elsewhere leaves by a cleanup handler of its own (pthread_cleanup_push). In a forked child each call on a barrier
+ * of its parent is answered PALDWOSK_CLOSED, and touches no lock; the child may make barriers of its own.
+ *
+ * ANSWERS. Each call is answered, in this order, PALDWOSK_NULL where a pointer is NULL that may not be, or the task
+ * is zeroed; PALDWOSK_CLOSED where there is no barrier, or it was freed; and then as stands at the function, with the
+ * refusals of docs/rules.md. Where the answer isn't PALDWOSK_DONE nothing has changed, but where that is said. */
+#ifndef PALDWOSK_BARRIER_H
+#define PALDWOSK_BARRIER_H
+
+#include "paldwosk.h"
+
+#include <errno.h>
+#include <limits.h>
+#include <poll.h>
+#include <pthread.h>
+#include <sched.h>
+#include <stdlib.h>
+#include <unistd.h>
+
+#if defined __linux__ && !defined PALDWOSK_PORTABLE
+#include <sys/syscall.h>
+#ifdef SYS_futex
+#define PALDWOSK_BY_FUTEX
+#endif
+#endif
+
+#ifdef __cplusplus
+extern "C" {
+#endif
+
+#if defined PALDWOSK_BY_FUTEX && !defined __cplusplus
+long syscall(long number, ...); /* -std=c11 hides it */
+#endif
+
+struct paldwosk_sleeper;
+struct paldwosk_trace;
+
+/* A barrier. Its fields are the header's. */
+typedef struct paldwosk_barrier {
+  const uint32_t *forks; /* how many forks lie above this process, by the file that made it; NULL: there is none */
+  uint32_t forks_then;   /* the same when it was made */
+  uint32_t turn;         /* atomic: rises when sleepers are woken; it is on this word that they sleep */
+  pthread_mutex_t lock;  /* guards what isn't said to be atomic */
+#ifndef PALDWOSK_BY_FUTEX
+  pthread_cond_t turned; /* or on this */
+#endif
+  paldwosk_waiting phaser;
+  struct paldwosk_sleeper *first; /* those who wait; who came first is in front */
+  struct paldwosk_sleeper **last; /* the place of the next of them */
+  struct paldwosk_trace *trace;   /* NULL where none is kept */
+  uint32_t to_wake;               /* bits of sleepers who were freed, and are to be woken */
+  uint32_t coming;                /* how many run a single, and will be back */
+  uint32_t tasks, processors;     /* that are registered; that are online */
+  uint32_t waits, probe;          /* how many have waited; which of them spins for as long as it may */
+  uint8_t apart[64];              /* what threads write that were freed isn't in the line of what is under the lock */
+  uint32_t inside;                /* atomic: how many threads wait, or read the barrier still after they were freed */
+  uint32_t pauses, most_pauses;   /* atomic: for how many a thread spins, and may spin */
+  uint32_t probe_after;           /* atomic: how many don't from one that spins for as long as it may to the next */
+} paldwosk_barrier;
+
+/* A task of a barrier. It may be copied. */
+typedef struct paldwosk_task {
+  paldwosk_barrier *barrier;
+  uint64_t number; /* no other task of the barrier has it, or had it */
+} paldwosk_task;
+
+#ifdef __cplusplus
+#define PALDWOSK_NO_BARRIER {}
+#else
+#define PALDWOSK_NO_BARRIER {0}
+#endif
+#define PALDWOSK_NO_TASK {NULL, 0}
+
+/* For how many pauses of the processor a thread spins at most before it sleeps, where nothing else is said. */
+#define PALDWOSK_MOST_PAUSES 2000
+
+/* How often a thread tries to take the lock before it waits for it. */
+#define PALDWOSK_LOCK_TRIES 100
+
+/* Fewer pauses than this aren't worth while. */
+#define PALDWOSK_LEAST_PAUSES 16
+
+/* After so many others have waited one tries whether it is good to spin. */
+#define PALDWOSK_PROBE_AFTER 64
+
+/* ---- What stands here, down to the barrier itself, isn't to be called. First: the trace of a barrier. It has an
+ * event for each event of the phaser, in their order. What else the text needs, follows from these. */
+
+enum { PALDWOSK_TRACE_EVENTS = 60000, PALDWOSK_TRACE_TASKS = 4096 };
+
+enum {
+  PALDWOSK_EVENT_MAKE,
+  PALDWOSK_EVENT_JOIN,
+  PALDWOSK_EVENT_SIGNAL, /* a signal that is a whole act */
+  PALDWOSK_EVENT_NEXT,   /* a signal after which the act goes on with a pass */
+  PALDWOSK_EVENT_SINGLE, /* the same, and it proposes a single */
+  PALDWOSK_EVENT_CLAIM,
+  PALDWOSK_EVENT_DID,
+  PALDWOSK_EVENT_PASS, /* a pass with which an act goes on */
+  PALDWOSK_EVENT_WAIT, /* a pass that is a whole act */
+  PALDWOSK_EVENT_SEND,
+  PALDWOSK_EVENT_LOOK,
+  PALDWOSK_EVENT_LOOK_AT_NOTHING,
+  PALDWOSK_EVENT_LEAVE,
+  PALDWOSK_EVENT_SHUT /* the end of the root, which is the last of all */
+};
+
+/* Where a task stands in the trace. */
+enum {
+  PALDWOSK_TASK_ABSENT,
+  PALDWOSK_TASK_IDLE,
+  PALDWOSK_TASK_IN_NEXT,  /* it has signalled, and is to pass */
+  PALDWOSK_TASK_PROPOSED, /* the same, and the single that it proposed isn't done */
+  PALDWOSK_TASK_CLAIMED,  /* it runs that single */
+  PALDWOSK_TASK_REPORTED  /* that single is done, and it is to pass */
+};
+
+struct paldwosk_event {
+  uint8_t kind, mode;
+  uint16_t task;
+  uint32_t other; /* a child, the number of a single, or an accumulator */
+  int64_t value;
+};
+
+struct paldwosk_trace {
+  uint32_t bound, operators[4], operator_count;
+  uint32_t room, count; /* for how many events; how many there are */
+  uint32_t tasks;       /* task numbers are below it */
+  int has_ended;        /* a limit has come */
+  uint8_t stands[PALDWOSK_TRACE_TASKS];
+  uint32_t began[PALDWOSK_TRACE_TASKS]; /* with which event the task's last `next` began */
+  struct paldwosk_event events[PALDWOSK_TRACE_EVENTS];
+};
+
+/* Adds an event, after which the task stands so. */
+static inline void paldwosk_trace_add(struct paldwosk_trace *trace, uint8_t kind, uint64_t task, uint8_t stands,
+                                      uint32_t other, int64_t value) {
+  if (trace->count == trace->room) trace->has_ended = 1;
+  if (trace->has_ended) return;
+  struct paldwosk_event event = {kind, 0, (uint16_t)task, other, value};
+  if (kind == PALDWOSK_EVENT_NEXT) trace->began[task] = trace->count;
+  trace->stands[task] = stands;
+  trace->events[trace->count++] = event;
+}
+
+/* A task is about to do something of which no `next` and no single consists: a second thread calls for it, or the
+ * statement of a single does. A `next` is then told as the two acts `signal` and `wait`. With a single the trace
+ * ends: that can't be told. */
+static inline void paldwosk_trace_part(struct paldwosk_trace *trace, uint64_t task) {
+  if (trace->has_ended) return;
+  if (trace->stands[task] == PALDWOSK_TASK_IN_NEXT) {
+    trace->events[trace->began[task]].kind = PALDWOSK_EVENT_SIGNAL;
+    trace->stands[task] = PALDWOSK_TASK_IDLE;
+  }
+  trace->has_ended = trace->stands[task] != PALDWOSK_TASK_IDLE;
+}
+
+/* A new task, that `parent` joined; or the first, which is its own parent. */
+static inline void paldwosk_trace_new_task(struct paldwosk_trace *trace, uint64_t parent, uint32_t mode,
+                                           uint64_t task) {
+  uint8_t kind = task ? PALDWOSK_EVENT_JOIN : PALDWOSK_EVENT_MAKE;
+  if (task >= PALDWOSK_TRACE_TASKS) trace->has_ended = 1;
+  if (task) paldwosk_trace_part(trace, parent);
+  paldwosk_trace_add(trace, kind, parent, PALDWOSK_TASK_IDLE, (uint32_t)task, 0);
+  if (trace->has_ended) return;
+  trace->events[trace->count - 1].mode = (uint8_t)mode;
+  trace->stands[task] = PALDWOSK_TASK_IDLE;
+  trace->tasks = (uint32_t)task + 1;
+}
+
+static inline void paldwosk_trace_act(struct paldwosk_trace *trace, uint8_t kind, uint64_t task, uint32_t other,
+                                      int64_t value) {
+  paldwosk_trace_part(trace, task);
+  paldwosk_trace_add(trace, kind, task, PALDWOSK_TASK_IDLE, other, value);
+}
+
+static inline void paldwosk_trace_passed(struct paldwosk_trace *trace, uint64_t task) {
+  int is_whole = !trace->has_ended && trace->stands[task] == PALDWOSK_TASK_IDLE;
+  paldwosk_trace_add(trace, is_whole ? PALDWOSK_EVENT_WAIT : PALDWOSK_EVENT_PASS, task, PALDWOSK_TASK_IDLE, 0, 0);
+}
+
+/* The claimer reports, and so all who proposed the single may pass: there is one single at a time. */
+static inline void paldwosk_trace_did(struct paldwosk_trace *trace, uint64_t task) {
+  paldwosk_trace_add(trace, PALDWOSK_EVENT_DID, task, PALDWOSK_TASK_REPORTED, 0, 0);
+  for (uint32_t other = 0; other < trace->tasks && !trace->has_ended; other++)
+    if (trace->stands[other] == PALDWOSK_TASK_PROPOSED) trace->stands[other] = PALDWOSK_TASK_REPORTED;
+}
+
+static inline void paldwosk_trace_left(struct paldwosk_trace *trace, uint64_t task) {
+  paldwosk_trace_part(trace, task);
+  paldwosk_trace_add(trace, PALDWOSK_EVENT_LEAVE, task, PALDWOSK_TASK_ABSENT, 0, 0);
+}
+
+/* ---- The text of a trace (docs/formats.md) */
+
+struct paldwosk_text {
+  char *text; /* NULL where it is only measured */
+  size_t length;
+  uint64_t ticket;
+  const struct paldwosk_trace *trace;
+};
+
+static inline void paldwosk_text_word(struct paldwosk_text *out, const char *word) {
+  for (; *word; word++, out->length++)
+    if (out->text) out->text[out->length] = *word;
+}
+
+static inline void paldwosk_text_number(struct paldwosk_text *out, int64_t number) {
+  char digits[24], *digit = digits + 23;
+  uint64_t left = number < 0 ? 0 - (uint64_t)number : (uint64_t)number;
+  *digit = 0;
+  do *--digit = (char)('0' + left % 10);
+  while (left /= 10);
+  if (number < 0) *--digit = '-';
+  paldwosk_text_word(out, digit);
+}
+
+static inline void paldwosk_text_operators(struct paldwosk_text *out) {
+  static const char *const names[] = {"\"sum\"", "\"least\"", "\"greatest\""};
+  for (uint32_t at = 0; at < out->trace->operator_count; at++) {
+    paldwosk_text_word(out, at ? "," : "");
+    paldwosk_text_word(out, names[out->trace->operators[at]]);
+  }
+}
+
+/* What stands for a letter after a $ in a form. */
+static inline void paldwosk_text_field(struct paldwosk_text *out, const struct paldwosk_event *event, char letter) {
+  static const char *const modes[] = {"\"SIG\"", "\"WAIT\"", "\"SIG_WAIT\"", "\"SINGLE\""};
+  if (letter == 't') paldwosk_text_number(out, event->task);
+  else if (letter == 'o') paldwosk_text_number(out, event->other);
+  else if (letter == 'v') paldwosk_text_number(out, event->value);
+  else if (letter == 'm') paldwosk_text_word(out, modes[event->mode]);
+  else if (letter == 'b') paldwosk_text_number(out, out->trace->bound);
+  else paldwosk_text_operators(out);
+}
+
+/* One entry of the text. */
+static inline void paldwosk_text_entry(struct paldwosk_text *out, const struct paldwosk_event *event,
+                                       const char *form) {
+  paldwosk_text_word(out, out->ticket ? ",[" : "[");
+  paldwosk_text_number(out, (int64_t)++out->ticket);
+  for (char letter[2] = {0, 0}; *form; form++) {
+    letter[0] = *form;
+    if (*form == '$') paldwosk_text_field(out, event, *++form);
+    else paldwosk_text_word(out, letter);
+  }
+  paldwosk_text_word(out, "]");
+}
+
+/* The entries of an event. That of the root's end comes later, in place of its `ended`. */
+static inline void paldwosk_text_event(struct paldwosk_text *out, const struct paldwosk_event *event) {
+  static const char *const forms[][3] = {
+      {",\"p\",0,\"make\",$t,$m,[$a],$b", NULL, NULL},
+      {",\"t\",$t,\"begin\",[\"async\",$o,[[0,$m]]]", ",\"p\",0,\"reg\",$t,$o,$m", ",\"f\",0,\"spawned\",$o"},
+      {",\"t\",$t,\"begin\",[\"signal\"]", ",\"p\",0,\"sig\",$t", NULL},
+      {",\"t\",$t,\"begin\",[\"next\"]", ",\"p\",0,\"sig\",$t", NULL},
+      {",\"t\",$t,\"begin\",[\"single\",$o]", ",\"p\",0,\"sig\",$t,$o", NULL},
+      {",\"p\",0,\"claim\",$t", NULL, NULL},
+      {",\"p\",0,\"did\",$t", NULL, NULL},
+      {",\"p\",0,\"pass\",$t", NULL, NULL},
+      {",\"t\",$t,\"begin\",[\"wait\"]", ",\"p\",0,\"pass\",$t", NULL},
+      {",\"p\",0,\"send\",$t,$o,$v", NULL, NULL},
+      {",\"p\",0,\"look\",$t,$o,$v", NULL, NULL},
+      {",\"p\",0,\"look\",$t,$o,null", NULL, NULL},
+      {",\"t\",$t,\"begin\",[\"end\"]", ",\"p\",0,\"drop\",$t", ",\"f\",0,\"ended\",$t"},
+      {",\"f\",0,\"shut\"", NULL, NULL}};
+  int entries = event->kind == PALDWOSK_EVENT_LEAVE && event->task == 0 ? 2 : 3;
+  for (int at = 0; at < entries && forms[event->kind][at]; at++)
+    paldwosk_text_entry(out, event, forms[event->kind][at]);
+}
+
+/* All events that were made. A `next` whose pass isn't among them is told as the act `signal`. */
+static inline void paldwosk_text_made(struct paldwosk_text *out) {
+  for (uint32_t at = 0; at < out->trace->count; at++) {
+    struct paldwosk_event event = out->trace->events[at];
+    int is_open = out->trace->stands[event.task] == PALDWOSK_TASK_IN_NEXT && out->trace->began[event.task] == at;
+    if (event.kind == PALDWOSK_EVENT_NEXT && is_open) event.kind = PALDWOSK_EVENT_SIGNAL;
+    paldwosk_text_event(out, &event);
+  }
+}
+
+static inline void paldwosk_text_of_task(struct paldwosk_text *out, uint8_t kind, uint32_t task) {
+  struct paldwosk_event event = {kind, 0, (uint16_t)task, 0, 0};
+  paldwosk_text_event(out, &event);
+}
+
+/* The ends of all tasks that stand so, after their passes where these are due. */
+static inline void paldwosk_text_ends(struct paldwosk_text *out, uint8_t stands, int is_pass_due) {
+  for (uint32_t task = 0; task < out->trace->tasks; task++) {
+    if (out->trace->stands[task] != stands) continue;
+    if (is_pass_due) paldwosk_text_of_task(out, PALDWOSK_EVENT_PASS, task);
+    paldwosk_text_of_task(out, PALDWOSK_EVENT_LEAVE, task);
+  }
+}
+
+static inline uint32_t paldwosk_text_first(const struct paldwosk_trace *trace, uint8_t stands) {
+  uint32_t task = 0;
+  while (task < trace->tasks && trace->stands[task] != stands) task++;
+  return task;
+}
+
+/* Makes a run of the events: all tasks that are still there end. First those end who are about nothing, so that
+ * nobody holds up who has proposed a single. Then these pass and end, and before that the statement is told as done,
+ * if it isn't: no task of a run leaves a single behind. */
+static inline void paldwosk_text_closed(struct paldwosk_text *out) {
+  uint32_t tasks = out->trace->tasks, claimer = paldwosk_text_first(out->trace, PALDWOSK_TASK_CLAIMED);
+  uint32_t proposer = paldwosk_text_first(out->trace, PALDWOSK_TASK_PROPOSED);
+  paldwosk_text_ends(out, PALDWOSK_TASK_IDLE, 0);
+  paldwosk_text_ends(out, PALDWOSK_TASK_IN_NEXT, 0);
+  paldwosk_text_ends(out, PALDWOSK_TASK_REPORTED, 1);
+  if (claimer == tasks && proposer < tasks) paldwosk_text_of_task(out, PALDWOSK_EVENT_CLAIM, claimer = proposer);
+  if (claimer < tasks) paldwosk_text_of_task(out, PALDWOSK_EVENT_DID, claimer);
+  paldwosk_text_ends(out, PALDWOSK_TASK_CLAIMED, 1);
+  paldwosk_text_ends(out, PALDWOSK_TASK_PROPOSED, 1);
+  if (tasks == 0) paldwosk_text_entry(out, NULL, ",\"t\",0,\"begin\",[\"end\"]"); /* the phaser was never made */
+  paldwosk_text_of_task(out, PALDWOSK_EVENT_SHUT, 0);
+}
+
+static inline size_t paldwosk_text_whole(const struct paldwosk_trace *trace, char *text) {
+  struct paldwosk_text out = {text, 0, 0, trace};
+  paldwosk_text_word(&out, "{\"events\":[");
+  paldwosk_text_made(&out);
+  paldwosk_text_closed(&out);
+  paldwosk_text_word(&out, "],\"limits\":{\"acts\":65536,\"history\":65536,\"tasks\":4096},\"version\":2}");
+  return out.length;
+}
+
+/* ---- Those who wait */
+
+enum { PALDWOSK_CALL_SIGNAL, PALDWOSK_CALL_WAIT, PALDWOSK_CALL_NEXT, PALDWOSK_CALL_SINGLE };
+enum { PALDWOSK_SPINNING = 0, PALDWOSK_READY = 1, PALDWOSK_ASLEEP = 2 };
+
+/* A call that may have to wait, on the stack of the thread that makes it. Once it is READY it may be gone. */
+struct paldwosk_sleeper {
+  struct paldwosk_sleeper *next;
+  uint64_t task, number; /* the number is what the answer has besides */
+  uint32_t call, single, answer;
+  uint32_t state;     /* atomic where threads sleep by futex, else guarded by the lock */
+  uint32_t patience;  /* for how many pauses it spins */
+  uint8_t is_probe;   /* that is as long as it may */
+  uint8_t is_parked;  /* it has to wait: it was put into the list, and counted as inside */
+  uint8_t is_to_ask;  /* of a traced barrier: it makes its next call before the lock is given back */
+  uint8_t is_to_pass; /* of a traced barrier: that call is the pass */
+};
+
+static inline void paldwosk_put_last(paldwosk_barrier *barrier, struct paldwosk_sleeper *sleeper) {
+  sleeper->next = NULL;
+  *barrier->last = sleeper;
+  barrier->last = &sleeper->next;
+}
+
+static inline struct paldwosk_sleeper *paldwosk_take(paldwosk_barrier *barrier, struct paldwosk_sleeper **place) {
+  struct paldwosk_sleeper *sleeper = *place;
+  if (!sleeper) return NULL;
+  *place = sleeper->next;
+  if (!sleeper->next) barrier->last = place;
+  return sleeper;
+}
+
+/* Takes out who waits for this task. The phaser frees them nearly in their order, so it stands near the front. */
+static inline struct paldwosk_sleeper *paldwosk_take_task(paldwosk_barrier *barrier, uint64_t task) {
+  struct paldwosk_sleeper **place = &barrier->first;
+  while (*place && (*place)->task != task) place = &(*place)->next;
+  return paldwosk_take(barrier, place);
+}
+
+static inline struct paldwosk_sleeper *paldwosk_take_asking(paldwosk_barrier *barrier) {
+  struct paldwosk_sleeper **place = &barrier->first;
+  while (*place && !(*place)->is_to_ask) place = &(*place)->next;
+  return paldwosk_take(barrier, place);
+}
+
+/* With the lock: the call of a sleeper who isn't in the list any more is over. */
+static inline void paldwosk_set_answer(paldwosk_barrier *barrier, struct paldwosk_sleeper *sleeper, uint32_t answer,
+                                       uint64_t number) {
+  sleeper->answer = answer;
+  sleeper->number = number;
+  if (answer == PALDWOSK_CLAIMED) barrier->coming++;
+}
+
+#ifdef PALDWOSK_BY_FUTEX
+
+static inline void paldwosk_pause(void) {
+#if defined __x86_64__ || defined __i386__
+  __builtin_ia32_pause();
+#elif defined __aarch64__
+  __asm__ __volatile__("isb" ::: "memory");
+#else
+  __asm__ __volatile__("" ::: "memory");
+#endif
+}
+
+/* For how many pauses who waits now spins before it sleeps: as many as the barrier has learned to be good. Now and
+ * then it is as long as it may, to see whether it is good again. With more tasks than processors it would only keep
+ * others off. */
+static inline uint32_t paldwosk_patience(paldwosk_barrier *barrier, struct paldwosk_sleeper *me) {
+  if (barrier->tasks > barrier->processors) return 0;
+  me->is_probe = ++barrier->waits == barrier->probe;
+  if (!me->is_probe) return __atomic_load_n(&barrier->pauses, __ATOMIC_RELAXED);
+  barrier->probe += __atomic_load_n(&barrier->probe_after, __ATOMIC_RELAXED);
+  return __atomic_load_n(&barrier->most_pauses, __ATOMIC_RELAXED);
+}
+
+/* Who doesn't spin counts as asleep from the start; but not at a traced barrier, where its call may be over before
+ * the lock is given back. */
+static inline void paldwosk_prepare(paldwosk_barrier *barrier, struct paldwosk_sleeper *me) {
+  me->patience = paldwosk_patience(barrier, me);
+  me->state = me->patience || barrier->trace ? PALDWOSK_SPINNING : PALDWOSK_ASLEEP;
+}
+
+/* What a thread learns that has spun. If it was freed meanwhile, others spin longer, else half as long, and soon not
+ * at all: so a barrier at which it is in vain loses little by it. Where a probe was in vain the next comes later. */
+static inline void paldwosk_learn(paldwosk_barrier *barrier, const struct paldwosk_sleeper *me, int is_in_vain) {
+  uint32_t pauses = __atomic_load_n(&barrier->pauses, __ATOMIC_RELAXED);
+  uint32_t after = __atomic_load_n(&barrier->probe_after, __ATOMIC_RELAXED);
+  uint32_t most = __atomic_load_n(&barrier->most_pauses, __ATOMIC_RELAXED);
+  if (!is_in_vain) after = PALDWOSK_PROBE_AFTER;
+  else if (me->is_probe && after < 64 * PALDWOSK_PROBE_AFTER) after *= 2;
+  pauses = is_in_vain ? pauses / 2 : (pauses + most + 1) / 2;
+  __atomic_store_n(&barrier->probe_after, after, __ATOMIC_RELAXED);
+  __atomic_store_n(&barrier->pauses, pauses < PALDWOSK_LEAST_PAUSES ? 0 : pauses, __ATOMIC_RELAXED);
+}
+
+/* Sleeps while the word is as it was seen; or wakes all who sleep there and have one of the bits. */
+static inline void paldwosk_futex(uint32_t *word, int is_wake, uint32_t seen, uint32_t bits) {
+  enum { WAIT_BITSET = 9, WAKE_BITSET = 10, IS_PRIVATE = 128 };
+  int kept = errno;
+  (void)syscall(SYS_futex, word, (is_wake ? WAKE_BITSET : WAIT_BITSET) | IS_PRIVATE, seen, NULL, NULL, bits);
+  errno = kept;
+}
+
+static inline uint32_t paldwosk_bit(uint64_t task) { return (uint32_t)1 << task % 32; }
+
+/* With the lock. Who spins sees it by itself; who is asleep has to be woken. */
+static inline void paldwosk_set_ready(paldwosk_barrier *barrier, struct paldwosk_sleeper *sleeper) {
+  uint32_t bit = paldwosk_bit(sleeper->task);
+  uint32_t state = __atomic_exchange_n(&sleeper->state, PALDWOSK_READY, __ATOMIC_ACQ_REL);
+  if (state == PALDWOSK_ASLEEP) barrier->to_wake |= bit; /* by now a sleeper that wasn't may be gone */
+}
+
+/* The lock is held for a fraction of a microsecond: to wait for it in the kernel would take many times that. */
+static inline void paldwosk_lock(paldwosk_barrier *barrier) {
+  for (int tried = 0; tried < PALDWOSK_LOCK_TRIES; tried++) {
+    if (pthread_mutex_trylock(&barrier->lock) == 0) return;
+    paldwosk_pause();
+  }
+  pthread_mutex_lock(&barrier->lock);
+}
+
+static inline int paldwosk_is_ready(const struct paldwosk_sleeper *me) {
+  return __atomic_load_n(&me->state, __ATOMIC_ACQUIRE) == PALDWOSK_READY;
+}
+
+/* After it the sleeper is READY, or ASLEEP: then others have to wake it. */
+static inline void paldwosk_spin(paldwosk_barrier *barrier, struct paldwosk_sleeper *me) {
+  uint32_t spun = 0, state = PALDWOSK_SPINNING;
+  for (; spun < me->patience && !paldwosk_is_ready(me); spun++) paldwosk_pause();
+  if (me->patience) paldwosk_learn(barrier, me, spun == me->patience);
+  if (__atomic_load_n(&me->state, __ATOMIC_RELAXED) != PALDWOSK_SPINNING) return;
+  __atomic_compare_exchange_n(&me->state, &state, PALDWOSK_ASLEEP, 0, __ATOMIC_ACQUIRE, __ATOMIC_ACQUIRE);
+}
+
+/* The turn is read before the state. Who is freed after that finds that the turn isn't what it was, and doesn't
+ * sleep. */
+static inline void paldwosk_sleep(paldwosk_barrier *barrier, struct paldwosk_sleeper *me) {
+  while (!paldwosk_is_ready(me)) {
+    uint32_t seen = __atomic_load_n(&barrier->turn, __ATOMIC_ACQUIRE);
+    if (!paldwosk_is_ready(me)) paldwosk_futex(&barrier->turn, 0, seen, paldwosk_bit(me->task));
+  }
+}
+
+/* Gives the lock back, wakes those whom the call has freed, and waits until the call itself is over. From the
+ * unlocking on the barrier is only read by who is counted as inside; its last access is that it is so no more. */
+static inline void paldwosk_unlock(paldwosk_barrier *barrier, struct paldwosk_sleeper *me) {
+  uint32_t bits = barrier->to_wake, leaving = (uint32_t)(bits != 0) + me->is_parked;
+  barrier->to_wake = 0;
+  if (bits) __atomic_fetch_add(&barrier->inside, 1, __ATOMIC_RELAXED);
+  if (bits) __atomic_store_n(&barrier->turn, barrier->turn + 1, __ATOMIC_RELEASE);
+  pthread_mutex_unlock(&barrier->lock);
+  if (bits) paldwosk_futex(&barrier->turn, 1, INT_MAX, bits);
+  if (me->is_parked) paldwosk_spin(barrier, me);
+  if (me->is_parked) paldwosk_sleep(barrier, me);
+  if (leaving) __atomic_fetch_sub(&barrier->inside, leaving, __ATOMIC_RELEASE);
+}
+
+#else
+
+static inline void paldwosk_lock(paldwosk_barrier *barrier) { pthread_mutex_lock(&barrier->lock); }
+
+static inline void paldwosk_prepare(paldwosk_barrier *barrier, struct paldwosk_sleeper *me) {
+  (void)barrier;
+  (void)me;
+}
+
+static inline void paldwosk_set_ready(paldwosk_barrier *barrier, struct paldwosk_sleeper *sleeper) {
+  sleeper->state = PALDWOSK_READY;
+  barrier->to_wake = 1;
+}
+
+/* Sleeps until the call is over. The waiting for a condition variable would be a cancellation point. */
+static inline void paldwosk_sleep(paldwosk_barrier *barrier, struct paldwosk_sleeper *me) {
+  int old = 0;
+  pthread_setcancelstate(PTHREAD_CANCEL_DISABLE, &old);
+  while (me->state != PALDWOSK_READY) pthread_cond_wait(&barrier->turned, &barrier->lock);
+  pthread_setcancelstate(old, &old);
+}
+
+/* Wakes those whom the call has freed, waits until the call itself is over, and gives the lock back. */
+static inline void paldwosk_unlock(paldwosk_barrier *barrier, struct paldwosk_sleeper *me) {
+  if (barrier->to_wake) pthread_cond_broadcast(&barrier->turned);
+  barrier->to_wake = 0;
+  if (me->is_parked) paldwosk_sleep(barrier, me);
+  if (me->is_parked) __atomic_fetch_sub(&barrier->inside, 1, __ATOMIC_RELAXED);
+  pthread_mutex_unlock(&barrier->lock);
+}
+
+#endif
+
+static inline void paldwosk_park(paldwosk_barrier *barrier, struct paldwosk_sleeper *me) {
+  me->is_parked = 1;
+  paldwosk_prepare(barrier, me);
+  paldwosk_put_last(barrier, me);
+  __atomic_fetch_add(&barrier->inside, 1, __ATOMIC_RELAXED);
+}
+
+/* ---- The phaser's calls, all with the lock. A traced barrier makes one call for each event, so that it knows them
+ * all: in place of a signal with a pass a signal, and then, once that is made, a pass. Whoever is freed at its signal
+ * is put into the list again, and asks to pass before the lock is given back. */
+
+static inline uint32_t paldwosk_ask_whole(paldwosk_barrier *barrier, struct paldwosk_sleeper *me, paldwosk_freed *freed,
+                                          size_t *count) {
+  paldwosk_waiting *phaser = &barrier->phaser;
+  size_t room = PALDWOSK_MOST_FREED;
+  if (me->call == PALDWOSK_CALL_NEXT) return phaser_c_waiting_next(phaser, me->task, &me->number, freed, room, count);
+  if (me->call == PALDWOSK_CALL_WAIT) return phaser_c_waiting_pass(phaser, me->task, &me->number, freed, room, count);
+  if (me->call == PALDWOSK_CALL_SIGNAL) return phaser_c_waiting_signal(phaser, me->task, freed, room, count);
+  return phaser_c_waiting_next_single(phaser, me->task, me->single, &me->number, freed, room, count);
+}
+
+static inline uint32_t paldwosk_ask_once(paldwosk_barrier *barrier, struct paldwosk_sleeper *me, paldwosk_freed *freed,
+                                         size_t *count) {
+  paldwosk_waiting *phaser = &barrier->phaser;
+  size_t room = PALDWOSK_MOST_FREED;
+  if (me->is_to_pass) return phaser_c_waiting_pass(phaser, me->task, &me->number, freed, room, count);
+  if (me->call != PALDWOSK_CALL_SINGLE) return phaser_c_waiting_signal(phaser, me->task, freed, room, count);
+  return phaser_c_waiting_signal_single(phaser, me->task, me->single, freed, room, count);
+}
+
+/* The event of a traced call that was made. */
+static inline void paldwosk_trace_call(struct paldwosk_trace *trace, const struct paldwosk_sleeper *of,
+                                       uint32_t answer) {
+  static const uint8_t kinds[] = {PALDWOSK_EVENT_SIGNAL, 0, PALDWOSK_EVENT_NEXT, PALDWOSK_EVENT_SINGLE};
+  static const uint8_t stands[] = {PALDWOSK_TASK_IDLE, 0, PALDWOSK_TASK_IN_NEXT, PALDWOSK_TASK_PROPOSED};
+  uint64_t task = of->task;
+  if (answer == PALDWOSK_CLAIMED) paldwosk_trace_add(trace, PALDWOSK_EVENT_CLAIM, task, PALDWOSK_TASK_CLAIMED, 0, 0);
+  else if (answer != PALDWOSK_DONE) return;
+  else if (of->is_to_pass) paldwosk_trace_passed(trace, task);
+  else paldwosk_trace_add(trace, kinds[of->call], task, stands[of->call], of->single, 0);
+}
+
+/* A call of a sleeper who isn't in the list has ended so. */
+static inline void paldwosk_go_on(paldwosk_barrier *barrier, struct paldwosk_sleeper *sleeper, uint32_t answer,
+                                  uint64_t number) {
+  if (barrier->trace) paldwosk_trace_call(barrier->trace, sleeper, answer);
+  if (barrier->trace && answer == PALDWOSK_DONE && !sleeper->is_to_pass && sleeper->call != PALDWOSK_CALL_SIGNAL) {
+    sleeper->is_to_ask = sleeper->is_to_pass = 1;
+    paldwosk_put_last(barrier, sleeper);
+    return;
+  }
+  paldwosk_set_answer(barrier, sleeper, answer, number);
+  paldwosk_set_ready(barrier, sleeper);
+}
+
+static inline void paldwosk_free_those(paldwosk_barrier *barrier, const paldwosk_freed *freed, size_t count) {
+  for (size_t at = 0; at < count; at++) {
+    struct paldwosk_sleeper *sleeper = paldwosk_take_task(barrier, freed[at].task);
+    if (sleeper) paldwosk_go_on(barrier, sleeper, freed[at].answer, freed[at].number);
+  }
+}
+
+/* The places for those who are freed take 6 KB of stack. The functions that have them aren't inlined, so that no two
+ * have them at once. */
+#define PALDWOSK_APART static __attribute__((noinline, unused))
+
+PALDWOSK_APART void paldwosk_ask_and_free(paldwosk_barrier *barrier, struct paldwosk_sleeper *me) {
+  paldwosk_freed freed[PALDWOSK_MOST_FREED];
+  size_t count = 0;
+  uint32_t answer = paldwosk_ask_whole(barrier, me, freed, &count);
+  if (answer == PALDWOSK_NOT_YET) paldwosk_park(barrier, me);
+  else paldwosk_set_answer(barrier, me, answer, me->number);
+  paldwosk_free_those(barrier, freed, count);
+}
+
+PALDWOSK_APART void paldwosk_ask_traced(paldwosk_barrier *barrier, struct paldwosk_sleeper *sleeper) {
+  paldwosk_freed freed[PALDWOSK_MOST_FREED];
+  size_t count = 0;
+  sleeper->is_to_ask = 0;
+  uint32_t answer = paldwosk_ask_once(barrier, sleeper, freed, &count);
+  if (answer == PALDWOSK_NOT_YET) paldwosk_put_last(barrier, sleeper);
+  else paldwosk_go_on(barrier, sleeper, answer, sleeper->number);
+  paldwosk_free_those(barrier, freed, count);
+}
+
+PALDWOSK_APART void paldwosk_ask_to_leave(paldwosk_barrier *barrier, struct paldwosk_sleeper *me) {
+  paldwosk_freed freed[PALDWOSK_MOST_FREED];
+  size_t count = 0;
+  me->answer = phaser_c_waiting_leave(&barrier->phaser, me->task, freed, PALDWOSK_MOST_FREED, &count);
+  if (me->answer == PALDWOSK_DONE) barrier->tasks--;
+  if (me->answer == PALDWOSK_DONE && barrier->trace) paldwosk_trace_left(barrier->trace, me->task);
+  paldwosk_free_those(barrier, freed, count);
+}
+
+PALDWOSK_APART void paldwosk_report(paldwosk_barrier *barrier, struct paldwosk_sleeper *me) {
+  paldwosk_freed freed[PALDWOSK_MOST_FREED];
+  size_t count = 0;
+  me->answer = phaser_c_waiting_single_done(&barrier->phaser, me->task, freed, PALDWOSK_MOST_FREED, &count);
+  if (me->answer == PALDWOSK_DONE && barrier->trace) paldwosk_trace_did(barrier->trace, me->task);
+  paldwosk_free_those(barrier, freed, count);
+}
+
+/* The call's own part is done: those ask who are to ask still, the lock is given back, and it waits if it has to. */
+static inline void paldwosk_end_call(paldwosk_barrier *barrier, struct paldwosk_sleeper *me) {
+  struct paldwosk_sleeper *sleeper;
+  while (barrier->trace && (sleeper = paldwosk_take_asking(barrier))) paldwosk_ask_traced(barrier, sleeper);
+  paldwosk_unlock(barrier, me);
+}
+
+static inline void paldwosk_call(paldwosk_barrier *barrier, struct paldwosk_sleeper *me) {
+  me->is_to_ask = barrier->trace != NULL;
+  me->is_to_pass = me->call == PALDWOSK_CALL_WAIT;
+  if (barrier->trace) paldwosk_park(barrier, me);
+  else paldwosk_ask_and_free(barrier, me);
+  paldwosk_end_call(barrier, me);
+}
+
+static inline struct paldwosk_sleeper paldwosk_new_sleeper(uint64_t task, uint32_t call, uint32_t single) {
+  struct paldwosk_sleeper me = {NULL, task, 0, call, single, PALDWOSK_NOT_YET, PALDWOSK_SPINNING, 0, 0, 0, 0, 0};
+  return me;
+}
+
+/* ---- Who may enter */
+
+static uint32_t paldwosk_forks; /* atomic: how many forks lie above this process since this file was first used */
+static int paldwosk_are_forks_missed;
+static pthread_once_t paldwosk_forks_once = PTHREAD_ONCE_INIT;
+
+static inline void paldwosk_count_fork(void) { __atomic_fetch_add(&paldwosk_forks, 1, __ATOMIC_RELAXED); }
+
+static inline void paldwosk_watch_forks(void) {
+  paldwosk_are_forks_missed = pthread_atfork(NULL, NULL, paldwosk_count_fork) != 0;
+}
+
+static inline int paldwosk_is_inherited(const paldwosk_barrier *barrier) {
+  return __atomic_load_n(barrier->forks, __ATOMIC_RELAXED) != barrier->forks_then;
+}
+
+/* Takes the lock where it answers DONE. */
+static inline paldwosk_answer paldwosk_enter(paldwosk_barrier *barrier) {
+  if (!barrier) return PALDWOSK_NULL;
+  if (!barrier->forks || paldwosk_is_inherited(barrier)) return PALDWOSK_CLOSED;
+  paldwosk_lock(barrier);
+  return PALDWOSK_DONE;
+}
+
+static inline paldwosk_answer paldwosk_enter_by(const paldwosk_task *task) {
+  return task ? paldwosk_enter(task->barrier) : PALDWOSK_NULL;
+}
+
+/* The call of a task that may have to wait. */
+static inline paldwosk_answer paldwosk_call_by(const paldwosk_task *task, uint32_t call, uint32_t single,
+                                               uint64_t *phase) {
+  paldwosk_answer entered = paldwosk_enter_by(task);
+  if (entered != PALDWOSK_DONE) return entered;
+  struct paldwosk_sleeper me = paldwosk_new_sleeper(task->number, call, single);
+  paldwosk_call(task->barrier, &me);
+  if (me.answer == PALDWOSK_DONE && phase) *phase = me.number;
+  return (paldwosk_answer)me.answer;
+}
+
+/* The task that has run its single reports that, and passes. */
+static inline paldwosk_answer paldwosk_report_by(const paldwosk_task *task, uint64_t *phase) {
+  paldwosk_answer entered = paldwosk_enter_by(task);
+  if (entered != PALDWOSK_DONE) return entered;
+  struct paldwosk_sleeper me = paldwosk_new_sleeper(task->number, PALDWOSK_CALL_WAIT, 0);
+  task->barrier->coming--;
+  paldwosk_report(task->barrier, &me);
+  if (me.answer == PALDWOSK_DONE) paldwosk_call(task->barrier, &me);
+  else paldwosk_end_call(task->barrier, &me);
+  if (me.answer == PALDWOSK_DONE && phase) *phase = me.number;
+  return (paldwosk_answer)me.answer;
+}
+
+/* ---- Making and freeing */
+
+static inline struct paldwosk_trace *paldwosk_new_trace(uint32_t bound, const uint32_t *operators, size_t count) {
+  struct paldwosk_trace *trace = (struct paldwosk_trace *)calloc(1, sizeof *trace);
+  if (!trace) return NULL;
+  trace->bound = bound;
+  trace->room = PALDWOSK_TRACE_EVENTS;
+  trace->operator_count = (uint32_t)count;
+  for (size_t at = 0; at < count; at++) trace->operators[at] = operators[at];
+  return trace;
+}
+
+static inline int paldwosk_init_lock(paldwosk_barrier *barrier) {
+  if (pthread_mutex_init(&barrier->lock, NULL) != 0) return 0;
+#ifndef PALDWOSK_BY_FUTEX
+  if (pthread_cond_init(&barrier->turned, NULL) != 0) {
+    pthread_mutex_destroy(&barrier->lock);
+    return 0;
+  }
+#endif
+  return 1;
+}
+
+static inline void paldwosk_destroy_lock(paldwosk_barrier *barrier) {
+#ifndef PALDWOSK_BY_FUTEX
+  pthread_cond_destroy(&barrier->turned);
+#endif
+  pthread_mutex_destroy(&barrier->lock);
+}
+
+/* What a barrier has besides its phaser, its trace and its lock. */
+static inline void paldwosk_open(paldwosk_barrier *barrier) {
+  long processors = sysconf(_SC_NPROCESSORS_ONLN);
+  barrier->turn = barrier->to_wake = barrier->coming = barrier->tasks = barrier->waits = 0;
+  barrier->inside = barrier->pauses = 0;
+  barrier->probe = barrier->probe_after = PALDWOSK_PROBE_AFTER;
+  barrier->processors = processors > 0 ? (uint32_t)processors : 1;
+  barrier->most_pauses = PALDWOSK_MOST_PAUSES;
+  barrier->first = NULL;
+  barrier->last = &barrier->first;
+  barrier->forks_then = __atomic_load_n(&paldwosk_forks, __ATOMIC_RELAXED);
+  barrier->forks = &paldwosk_forks;
+}
+
+static inline paldwosk_answer paldwosk_new_barrier(paldwosk_barrier *barrier, uint32_t bound,
+                                                   const paldwosk_operator *operators, size_t count, int is_traced) {
+  uint32_t numbers[4] = {0, 0, 0, 0};
+  if (!barrier || (!operators && count)) return PALDWOSK_NULL;
+  if (barrier->forks) return paldwosk_is_inherited(barrier) ? PALDWOSK_CLOSED : PALDWOSK_OPEN;
+  for (size_t at = 0; at < count && at < 4; at++) numbers[at] = (uint32_t)operators[at];
+  if (count > 4) numbers[0] = 99; /* no operator's: refused in its turn */
+  if (pthread_once(&paldwosk_forks_once, paldwosk_watch_forks) || paldwosk_are_forks_missed) return PALDWOSK_MEMORY;
+  paldwosk_answer made = (paldwosk_answer)phaser_c_waiting_new(&barrier->phaser, numbers, count > 4 ? 4 : count, bound);
+  if (made != PALDWOSK_DONE) return made;
+  barrier->trace = is_traced ? paldwosk_new_trace(bound, numbers, count) : NULL;
+  if ((is_traced && !barrier->trace) || !paldwosk_init_lock(barrier)) {
+    free(barrier->trace);
+    phaser_c_waiting_free(&barrier->phaser);
+    return PALDWOSK_MEMORY;
+  }
+  paldwosk_open(barrier);
+  return PALDWOSK_DONE;
+}
+
+/* Those who are counted as inside have been woken, and need no more than a processor for a moment. If they don't get
+ * one by this thread's yielding, it sleeps: theirs may be of a lower priority. */
+static inline void paldwosk_let_others_run(uint32_t tried) {
+  int old = 0;
+  if (tried < 100) {
+    sched_yield();
+    return;
+  }
+  pthread_setcancelstate(PTHREAD_CANCEL_DISABLE, &old);
+  poll(NULL, 0, 1);
+  pthread_setcancelstate(old, &old);
+}
+
+/* ---- The barrier */
+
+/* Makes a barrier, for which paldwosk_barrier_make makes the first task. The bound is 1 to 65,536 phases: nobody
+ * signals a phase while one who waits hasn't passed the phase that is so many before it. At a barrier, where each
+ * task signals and waits, 2 makes nobody wait who wouldn't wait anyway; between producers and consumers it is the
+ * length of the queue. There is an accumulator for each of at most four operators. All memory is taken here. OPEN,
+ * BAD_OPERATORS, BAD_BOUND, MEMORY. On DONE it is to be freed by paldwosk_barrier_free. */
+static inline paldwosk_answer paldwosk_barrier_new(paldwosk_barrier *barrier, uint32_t bound,
+                                                   const paldwosk_operator *operators, size_t count) {
+  return paldwosk_new_barrier(barrier, bound, operators, count, 0);
+}
+
+/* The same, and it keeps a trace of what is done, for paldwosk_barrier_trace. That takes some 1 MB. */
+static inline paldwosk_answer paldwosk_barrier_new_traced(paldwosk_barrier *barrier, uint32_t bound,
+                                                          const paldwosk_operator *operators, size_t count) {
+  return paldwosk_new_barrier(barrier, bound, operators, count, 1);
+}
+
+/* Frees the barrier. NOT_NOW, where a task waits, or runs a single. Whoever has been freed by a call of another may
+ * still be on its way out of its own: for it this call waits, so the memory may be used for something else at once. */
+static inline paldwosk_answer paldwosk_barrier_free(paldwosk_barrier *barrier) {
+  for (uint32_t tried = 0;; tried++) {
+    paldwosk_answer entered = paldwosk_enter(barrier);
+    if (entered != PALDWOSK_DONE) return entered;
+    int is_busy = barrier->first || barrier->coming;
+    int is_left = __atomic_load_n(&barrier->inside, __ATOMIC_ACQUIRE) == 0;
+    if (!is_busy && is_left) break;
+    pthread_mutex_unlock(&barrier->lock);
+    if (is_busy) return PALDWOSK_NOT_NOW;
+    paldwosk_let_others_run(tried);
+  }
+  phaser_c_waiting_free(&barrier->phaser);
+  free(barrier->trace);
+  barrier->trace = NULL;
+  barrier->forks = NULL;
+  pthread_mutex_unlock(&barrier->lock);
+  paldwosk_destroy_lock(barrier);
+  return PALDWOSK_DONE;
+}
+
+/* Makes the first task, in any mode. BAD_MODE, NOT_NOW where it was made before. */
+static inline paldwosk_answer paldwosk_barrier_make(paldwosk_barrier *barrier, paldwosk_mode mode,
+                                                    paldwosk_task *task) {
+  paldwosk_answer answer = task ? paldwosk_enter(barrier) : PALDWOSK_NULL;
+  if (answer != PALDWOSK_DONE) return answer;
+  uint64_t number = 0;
+  answer = (paldwosk_answer)phaser_c_waiting_make(&barrier->phaser, (uint32_t)mode, &number);
+  if (answer == PALDWOSK_DONE) {
+    if (barrier->trace) paldwosk_trace_new_task(barrier->trace, number, (uint32_t)mode, number);
+    barrier->tasks++;
+    task->barrier = barrier;
+    task->number = number;
+  }
+  pthread_mutex_unlock(&barrier->lock);
+  return answer;
+}
+
+/* Makes a task for another thread, in a mode within the parent's, where the parent stands: in its phase, and ahead if
+ * the parent is ahead. BAD_MODE, NOT_REGISTERED, MORE_THAN_PARENT, REGS_FULL where there are 256 tasks, HISTORY_FULL
+ * after 2^62 events. */
+static inline paldwosk_answer paldwosk_barrier_join(const paldwosk_task *parent, paldwosk_mode mode,
+                                                    paldwosk_task *task) {
+  paldwosk_answer answer = task ? paldwosk_enter_by(parent) : PALDWOSK_NULL;
+  if (answer != PALDWOSK_DONE) return answer;
+  paldwosk_barrier *barrier = parent->barrier;
+  uint64_t number = 0;
+  answer = (paldwosk_answer)phaser_c_waiting_register(&barrier->phaser, parent->number, (uint32_t)mode, &number);
+  if (answer == PALDWOSK_DONE) {
+    if (barrier->trace) paldwosk_trace_new_task(barrier->trace, parent->number, (uint32_t)mode, number);
+    barrier->tasks++;
+    task->barrier = barrier;
+    task->number = number;
+  }
+  pthread_mutex_unlock(&barrier->lock);
+  return answer;
+}
+
+/* Signals, and waits until the phase is over: until each task that signals has signalled it, and its single is done.
+ * On DONE *phase is the phase, unless `phase` is NULL. NOT_REGISTERED, NO_SIGNAL, ALREADY_SIGNALLED, NOT_NOW,
+ * HISTORY_FULL. */
+static inline paldwosk_answer paldwosk_barrier_next(const paldwosk_task *task, uint64_t *phase) {
+  return paldwosk_call_by(task, PALDWOSK_CALL_NEXT, 0, phase);
+}
+
+/* Signals, and goes on. It waits only where the task would be ahead of one who waits by more than the bound.
+ * NOT_REGISTERED, NO_SIGNAL, ALREADY_SIGNALLED, NOT_NOW, HISTORY_FULL. */
+static inline paldwosk_answer paldwosk_barrier_signal(const paldwosk_task *task) {
+  return paldwosk_call_by(task, PALDWOSK_CALL_SIGNAL, 0, NULL);
+}
+
+/* Waits until the phase is over that the task has signalled, or, if it only waits, that it hasn't waited for yet. A
+ * task that only signals waits for nobody, and begins its next phase by this. On DONE *phase is the phase, unless
+ * `phase` is NULL. NOT_REGISTERED, NOT_SIGNALLED, NOT_NOW, HISTORY_FULL. */
+static inline paldwosk_answer paldwosk_barrier_wait(const paldwosk_task *task, uint64_t *phase) {
+  return paldwosk_call_by(task, PALDWOSK_CALL_WAIT, 0, phase);
+}
+
+/* Sends a value to an accumulator, for the phase that the task hasn't signalled yet. NOT_REGISTERED, NO_SIGNAL,
+ * NO_ACCUMULATOR, HISTORY_FULL. */
+static inline paldwosk_answer paldwosk_barrier_send(const paldwosk_task *task, uint32_t accumulator, int32_t value) {
+  paldwosk_answer answer = paldwosk_enter_by(task);
+  if (answer != PALDWOSK_DONE) return answer;
+  paldwosk_barrier *barrier = task->barrier;
+  uint8_t index = accumulator < 255 ? (uint8_t)accumulator : 255; /* there are four at most */
+  answer = (paldwosk_answer)phaser_c_waiting_send(&barrier->phaser, task->number, index, value);
+  if (answer == PALDWOSK_DONE && barrier->trace)
+    paldwosk_trace_act(barrier->trace, PALDWOSK_EVENT_SEND, task->number, index, value);
+  pthread_mutex_unlock(&barrier->lock);
+  return answer;
+}
+
+/* What an accumulator came to in the phase that the task passed last. On DONE *value is it. NOTHING where it is the
+ * least or the greatest, and nobody sent; TOO_GREAT where it isn't within an int64_t, which takes 2^32 values.
+ * NOT_REGISTERED, NO_WAIT, NO_ACCUMULATOR, NO_PHASE_YET, HISTORY_FULL. */
+static inline paldwosk_answer paldwosk_barrier_look(const paldwosk_task *task, uint32_t accumulator, int64_t *value) {
+  paldwosk_answer answer = value ? paldwosk_enter_by(task) : PALDWOSK_NULL;
+  if (answer != PALDWOSK_DONE) return answer;
+  paldwosk_barrier *barrier = task->barrier;
+  uint8_t index = accumulator < 255 ? (uint8_t)accumulator : 255;
+  int64_t seen = 0;
+  answer = (paldwosk_answer)phaser_c_waiting_look(&barrier->phaser, task->number, index, &seen);
+  if (answer == PALDWOSK_DONE) *value = seen;
+  if (barrier->trace && answer == PALDWOSK_DONE)
+    paldwosk_trace_act(barrier->trace, PALDWOSK_EVENT_LOOK, task->number, index, seen);
+  if (barrier->trace && answer == PALDWOSK_NOTHING)
+    paldwosk_trace_act(barrier->trace, PALDWOSK_EVENT_LOOK_AT_NOTHING, task->number, index, 0);
+  pthread_mutex_unlock(&barrier->lock);
+  return answer;
+}
+
+/* As paldwosk_barrier_next, and the statement of this number is run once between this phase and the next. Who calls
+ * so proposes it: when all have signalled, one of those calls run(data), without the lock, and not cancellable. All
+ * others who wait are held until it has returned; it has to, and neither throws nor jumps. In the statement its task
+ * can send, look and join, but not go on or leave. All are answered DONE. NOT_REGISTERED, NO_SIGNAL, NO_SINGLE,
+ * ALREADY_SIGNALLED, SINGLE_MISMATCH where another number is proposed in this phase, NOT_NOW, HISTORY_FULL. */
+static inline paldwosk_answer paldwosk_barrier_single(const paldwosk_task *task, uint32_t number,
+                                                      void (*run)(void *data), void *data, uint64_t *phase) {
+  int old = 0;
+  if (!task || !run) return PALDWOSK_NULL;
+  paldwosk_task mine = *task;
+  paldwosk_answer answer = paldwosk_call_by(&mine, PALDWOSK_CALL_SINGLE, number, phase);
+  if (answer != PALDWOSK_CLAIMED) return answer;
+  pthread_setcancelstate(PTHREAD_CANCEL_DISABLE, &old);
+  run(data);
+  pthread_setcancelstate(old, &old);
+  return paldwosk_report_by(&mine, phase);
+}
+
+/* The task leaves: nobody waits for it any more. What it has sent counts. NOT_REGISTERED, also where it has left
+ * before; NOT_NOW where it has proposed a single that isn't done. If another thread waits for this task, that call is
+ * answered NOT_REGISTERED. */
+static inline paldwosk_answer paldwosk_barrier_leave(const paldwosk_task *task) {
+  paldwosk_answer entered = paldwosk_enter_by(task);
+  if (entered != PALDWOSK_DONE) return entered;
+  struct paldwosk_sleeper me = paldwosk_new_sleeper(task->number, PALDWOSK_CALL_WAIT, 0);
+  paldwosk_ask_to_leave(task->barrier, &me);
+  paldwosk_end_call(task->barrier, &me);
+  return (paldwosk_answer)me.answer;
+}
+
+/* For how many pauses a thread spins at most before it sleeps; 0: it never spins. For how long it does, below this,
+ * the barrier finds out by itself. Where there are more tasks than processors none spins, nor where threads sleep by
+ * a condition variable. */
+static inline paldwosk_answer paldwosk_barrier_spin(paldwosk_barrier *barrier, uint32_t most) {
+  paldwosk_answer answer = paldwosk_enter(barrier);
+  if (answer != PALDWOSK_DONE) return answer;
+  if (most > UINT32_MAX / 4) most = UINT32_MAX / 4;
+  __atomic_store_n(&barrier->most_pauses, most, __ATOMIC_RELAXED);
+  __atomic_store_n(&barrier->pauses, 0, __ATOMIC_RELAXED);
+  pthread_mutex_unlock(&barrier->lock);
+  return PALDWOSK_DONE;
+}
+
+/* Writes the trace of what was done so far, as text (docs/formats.md). `./phaser_run replay` and paldwosk_replay
+ * judge it, ./trace_picture draws it. It is a whole run: tasks that haven't left yet are told as ending now, after
+ * what they are about, if that is a single. No NUL is added; *written is how many bytes the text has, also where the
+ * room is too small for it. The text may be NULL where the room is 0. NOT_KEPT where the barrier keeps no trace;
+ * SHORT. */
+static inline paldwosk_answer paldwosk_barrier_trace(paldwosk_barrier *barrier, char *text, size_t room,
+                                                     size_t *written) {
+  paldwosk_answer answer = written && (text || !room) ? paldwosk_enter(barrier) : PALDWOSK_NULL;
+  if (answer != PALDWOSK_DONE) return answer;
+  if (!barrier->trace) answer = PALDWOSK_NOT_KEPT;
+  else if ((*written = paldwosk_text_whole(barrier->trace, NULL)) > room) answer = PALDWOSK_SHORT;
+  else paldwosk_text_whole(barrier->trace, text);
+  pthread_mutex_unlock(&barrier->lock);
+  return answer;
+}
+
+/* Whether a limit of the trace has come, so that it tells of the run up to there: 60,000 events of the phaser, a task
+ * number over 4,095, or what no trace can tell: that a task sends, looks or joins another in the statement of its
+ * single. */
+static inline int paldwosk_barrier_trace_ended(paldwosk_barrier *barrier) {
+  if (paldwosk_enter(barrier) != PALDWOSK_DONE) return 0;
+  int has_ended = barrier->trace && barrier->trace->has_ended;
+  pthread_mutex_unlock(&barrier->lock);
+  return has_ended;
+}
+
+#ifdef __cplusplus
+}
+#endif
+
+#endif

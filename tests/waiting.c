@@ -1,0 +1,1373 @@
+/* The program by which tests/waiting calls the barrier for threads that wait.
+ *
+ * waiting wrong: pointers, numbers, tasks and moments that are wrong, each of which must be answered so, and change
+ *   nothing.
+ * waiting memory: barriers that are made, or not for want of memory.
+ * waiting freed TIMES: barriers that are freed, and their memory taken away, right after the call that freed all who
+ *   waited.
+ * waiting forked TIMES: calls in the child of a fork, while another thread has the lock now and then.
+ * waiting interrupted: a call that a signal interrupts while it waits.
+ * waiting cancelled: threads that are cancelled, in a call and out of one.
+ * waiting facts: what the tests of other people's barriers say of these, as far as it has to hold here.
+ * waiting stress THREADS PHASES MOST: turns of threads; who passes looks at all others, and at the sum of the phase.
+ *   MOST is for how many pauses a thread spins at most.
+ * waiting singles THREADS PHASES: a statement in each other phase, which one of the threads runs.
+ * waiting bounded ITEMS BOUND: a producer that is held back by the slower of two consumers.
+ * waiting traced THREADS PHASES: a traced run, whose trace is replayed, and has the report worked out by hand.
+ * waiting told: traces that are asked for in the midst of calls, that can't tell all, and that end at each of their
+ *   events.
+ * waiting crowd SECONDS SEED VISITORS: so many threads that join, leave, and make any calls, at barriers with and
+ *   without a trace.
+ * Status 4: something wasn't as it must be; it is named on standard error. Status 5: no thread was given, or no memory. */
+#include "../include/paldwosk_barrier.h"
+
+#include <inttypes.h>
+#include <signal.h>
+#include <stdio.h>
+#include <string.h>
+#include <sys/mman.h>
+#include <sys/wait.h>
+#include <time.h>
+
+enum { THREADS = 256, PHASES_KEPT = 1 << 16 };
+
+static int faults;
+
+static void fault(int line, const char *what) {
+  if (__atomic_fetch_add(&faults, 1, __ATOMIC_RELAXED) < 20) fprintf(stderr, "waiting: line %d: %s\n", line, what);
+}
+
+#define MUST(holds)                                                                                                    \
+  do {                                                                                                                 \
+    if (!(holds)) fault(__LINE__, #holds);                                                                             \
+  } while (0)
+
+#define DONE(call) MUST((call) == PALDWOSK_DONE)
+
+/* The program's own atomic variables. helgrind and drd don't know of atomics: what they judge is all the rest, which
+ * the barrier alone orders. */
+#ifdef UNDER_VALGRIND
+#include <valgrind/drd.h>
+#include <valgrind/helgrind.h>
+#define IS_UNDER_VALGRIND 1
+#define UNCHECKED(start, length)                                                                                       \
+  do {                                                                                                                 \
+    VALGRIND_HG_DISABLE_CHECKING(start, length);                                                                       \
+    ANNOTATE_BENIGN_RACE_SIZED(start, length, "atomic");                                                               \
+  } while (0)
+#else
+#define IS_UNDER_VALGRIND 0
+#define UNCHECKED(start, length) (void)0
+#endif
+
+static void nothing(void *data) { (void)data; }
+
+static void start(pthread_t *thread, void *(*body)(void *), void *given) {
+  if (pthread_create(thread, NULL, body, given) != 0) exit(5);
+}
+
+static void rest(int milliseconds) { poll(NULL, 0, milliseconds); }
+
+/* Whether as many threads as this sleep or spin in calls of the barrier, in time. */
+static int are_parked(paldwosk_barrier *barrier, unsigned count) {
+  for (int tried = 0; tried < 20000; tried++, rest(1)) {
+    unsigned found = 0;
+    pthread_mutex_lock(&barrier->lock);
+    for (struct paldwosk_sleeper *at = barrier->first; at; at = at->next) found++;
+    pthread_mutex_unlock(&barrier->lock);
+    if (found == count) return 1;
+  }
+  return 0;
+}
+
+/* ---- One call of another thread */
+
+typedef struct call {
+  paldwosk_task task;
+  int kind; /* 'n'ext, 's'ignal, 'w'ait, 1: the single of this number */
+  paldwosk_answer answer;
+  uint64_t phase;
+  pthread_t thread;
+} call;
+
+static void *make_call(void *given) {
+  call *it = (call *)given;
+  it->phase = 77;
+  errno = 77;
+  if (it->kind == 'n') it->answer = paldwosk_barrier_next(&it->task, &it->phase);
+  else if (it->kind == 's') it->answer = paldwosk_barrier_signal(&it->task);
+  else if (it->kind == 'w') it->answer = paldwosk_barrier_wait(&it->task, &it->phase);
+  else it->answer = paldwosk_barrier_single(&it->task, (uint32_t)it->kind, nothing, NULL, &it->phase);
+  MUST(errno == 77);
+  return NULL;
+}
+
+static void begin_call(call *it, paldwosk_task task, int kind) {
+  it->task = task;
+  it->kind = kind;
+  start(&it->thread, make_call, it);
+}
+
+static void end_call(call *it, paldwosk_answer answer, uint64_t phase) {
+  pthread_join(it->thread, NULL);
+  MUST(it->answer == answer && it->phase == phase);
+}
+
+/* A barrier of so many tasks that signal and wait, bound 2, with a sum. */
+static void make_party(paldwosk_barrier *barrier, paldwosk_task *tasks, int count) {
+  const paldwosk_operator sum = PALDWOSK_SUM;
+  memset(barrier, 0, sizeof *barrier);
+  DONE(paldwosk_barrier_new(barrier, 2, &sum, 1));
+  DONE(paldwosk_barrier_make(barrier, PALDWOSK_SINGLE, &tasks[0]));
+  for (int at = 1; at < count; at++) DONE(paldwosk_barrier_join(&tasks[0], PALDWOSK_SINGLE, &tasks[at]));
+}
+
+/* ---- What is wrong is answered so */
+
+static void wrong_pointers(void) {
+  paldwosk_barrier barrier = PALDWOSK_NO_BARRIER, other = PALDWOSK_NO_BARRIER;
+  paldwosk_task zeroed = PALDWOSK_NO_TASK, task = PALDWOSK_NO_TASK, child = {&other, 77};
+  int64_t value = 77;
+  uint64_t phase = 77;
+  size_t written = 77;
+  MUST(paldwosk_barrier_new(NULL, 2, NULL, 0) == PALDWOSK_NULL);
+  MUST(paldwosk_barrier_new(&barrier, 2, NULL, 1) == PALDWOSK_NULL);
+  MUST(paldwosk_barrier_new_traced(NULL, 2, NULL, 0) == PALDWOSK_NULL);
+  MUST(paldwosk_barrier_free(NULL) == PALDWOSK_NULL);
+  DONE(paldwosk_barrier_new(&barrier, 2, NULL, 0));
+  MUST(paldwosk_barrier_make(NULL, PALDWOSK_SIG, &task) == PALDWOSK_NULL);
+  MUST(paldwosk_barrier_make(&barrier, PALDWOSK_SIG, NULL) == PALDWOSK_NULL);
+  DONE(paldwosk_barrier_make(&barrier, PALDWOSK_SINGLE, &task));
+  MUST(task.barrier == &barrier && task.number == 0);
+  MUST(paldwosk_barrier_join(NULL, PALDWOSK_SIG, &child) == PALDWOSK_NULL);
+  MUST(paldwosk_barrier_join(&zeroed, PALDWOSK_SIG, &child) == PALDWOSK_NULL);
+  MUST(paldwosk_barrier_join(&task, PALDWOSK_SIG, NULL) == PALDWOSK_NULL);
+  MUST(child.barrier == &other && child.number == 77);
+  const paldwosk_task *none[] = {NULL, &zeroed};
+  for (int at = 0; at < 2; at++) {
+    MUST(paldwosk_barrier_next(none[at], &phase) == PALDWOSK_NULL);
+    MUST(paldwosk_barrier_signal(none[at]) == PALDWOSK_NULL);
+    MUST(paldwosk_barrier_wait(none[at], &phase) == PALDWOSK_NULL);
+    MUST(paldwosk_barrier_send(none[at], 0, 1) == PALDWOSK_NULL);
+    MUST(paldwosk_barrier_look(none[at], 0, &value) == PALDWOSK_NULL);
+    MUST(paldwosk_barrier_single(none[at], 1, nothing, NULL, &phase) == PALDWOSK_NULL);
+    MUST(paldwosk_barrier_leave(none[at]) == PALDWOSK_NULL);
+  }
+  MUST(paldwosk_barrier_look(&task, 0, NULL) == PALDWOSK_NULL);
+  MUST(paldwosk_barrier_single(&task, 1, NULL, NULL, &phase) == PALDWOSK_NULL);
+  MUST(paldwosk_barrier_spin(NULL, 1) == PALDWOSK_NULL);
+  MUST(paldwosk_barrier_trace(NULL, NULL, 0, &written) == PALDWOSK_NULL);
+  MUST(paldwosk_barrier_trace(&barrier, NULL, 1, &written) == PALDWOSK_NULL);
+  MUST(paldwosk_barrier_trace(&barrier, NULL, 0, NULL) == PALDWOSK_NULL);
+  MUST(paldwosk_barrier_trace(&barrier, NULL, 0, &written) == PALDWOSK_NOT_KEPT);
+  MUST(!paldwosk_barrier_trace_ended(NULL) && !paldwosk_barrier_trace_ended(&barrier));
+  MUST(value == 77 && phase == 77 && written == 77);
+  DONE(paldwosk_barrier_next(&task, NULL)); /* nothing was signalled; and the phase isn't wanted */
+  DONE(paldwosk_barrier_next(&task, &phase));
+  MUST(phase == 1);
+  DONE(paldwosk_barrier_free(&barrier));
+}
+
+static void wrong_numbers(void) {
+  const paldwosk_operator good[4] = {PALDWOSK_SUM, PALDWOSK_LEAST, PALDWOSK_GREATEST, PALDWOSK_SUM};
+  const paldwosk_operator bad[2] = {PALDWOSK_SUM, (paldwosk_operator)3};
+  const paldwosk_operator five[5] = {PALDWOSK_SUM, PALDWOSK_SUM, PALDWOSK_SUM, PALDWOSK_SUM, PALDWOSK_SUM};
+  paldwosk_barrier barrier = PALDWOSK_NO_BARRIER;
+  paldwosk_task task = PALDWOSK_NO_TASK, child = PALDWOSK_NO_TASK;
+  int64_t value = 77;
+  MUST(paldwosk_barrier_new(&barrier, 2, bad, 2) == PALDWOSK_BAD_OPERATORS);
+  MUST(paldwosk_barrier_new(&barrier, 2, five, 5) == PALDWOSK_BAD_OPERATORS);
+  MUST(paldwosk_barrier_new(&barrier, 0, bad, 2) == PALDWOSK_BAD_OPERATORS);
+  MUST(paldwosk_barrier_new(&barrier, 0, good, 4) == PALDWOSK_BAD_BOUND);
+  MUST(paldwosk_barrier_new_traced(&barrier, 65537, good, 4) == PALDWOSK_BAD_BOUND);
+  MUST(paldwosk_barrier_make(&barrier, PALDWOSK_SIG, &task) == PALDWOSK_CLOSED);
+  DONE(paldwosk_barrier_new(&barrier, 65536, good, 4));
+  MUST(paldwosk_barrier_new(&barrier, 2, NULL, 0) == PALDWOSK_OPEN);
+  MUST(paldwosk_barrier_make(&barrier, (paldwosk_mode)4, &task) == PALDWOSK_BAD_MODE);
+  MUST(task.barrier == NULL);
+  DONE(paldwosk_barrier_make(&barrier, PALDWOSK_SIG_WAIT, &task));
+  MUST(paldwosk_barrier_make(&barrier, PALDWOSK_SIG_WAIT, &child) == PALDWOSK_NOT_NOW);
+  MUST(paldwosk_barrier_join(&task, (paldwosk_mode)4, &child) == PALDWOSK_BAD_MODE);
+  MUST(paldwosk_barrier_join(&task, PALDWOSK_SINGLE, &child) == PALDWOSK_MORE_THAN_PARENT);
+  MUST(child.barrier == NULL);
+  MUST(paldwosk_barrier_send(&task, 4, 1) == PALDWOSK_NO_ACCUMULATOR);
+  MUST(paldwosk_barrier_send(&task, 256, 1) == PALDWOSK_NO_ACCUMULATOR);
+  MUST(paldwosk_barrier_look(&task, 4, &value) == PALDWOSK_NO_ACCUMULATOR);
+  MUST(paldwosk_barrier_look(&task, UINT32_MAX, &value) == PALDWOSK_NO_ACCUMULATOR);
+  MUST(paldwosk_barrier_look(&task, 3, &value) == PALDWOSK_NO_PHASE_YET);
+  DONE(paldwosk_barrier_send(&task, 3, INT32_MIN));
+  DONE(paldwosk_barrier_next(&task, NULL));
+  MUST(paldwosk_barrier_look(&task, 1, &value) == PALDWOSK_NOTHING && value == 77);
+  DONE(paldwosk_barrier_look(&task, 3, &value));
+  MUST(value == INT32_MIN);
+  DONE(paldwosk_barrier_look(&task, 0, &value));
+  MUST(value == 0);
+  DONE(paldwosk_barrier_free(&barrier));
+}
+
+static void wrong_modes(void) {
+  paldwosk_barrier barrier = PALDWOSK_NO_BARRIER;
+  paldwosk_task all = PALDWOSK_NO_TASK, signals = PALDWOSK_NO_TASK, waits = PALDWOSK_NO_TASK;
+  uint64_t phase = 77;
+  int64_t value = 77;
+  DONE(paldwosk_barrier_new(&barrier, 2, NULL, 0));
+  DONE(paldwosk_barrier_make(&barrier, PALDWOSK_SIG_WAIT, &all));
+  DONE(paldwosk_barrier_join(&all, PALDWOSK_SIG, &signals));
+  DONE(paldwosk_barrier_join(&all, PALDWOSK_WAIT, &waits));
+  MUST(paldwosk_barrier_next(&waits, &phase) == PALDWOSK_NO_SIGNAL);
+  MUST(paldwosk_barrier_signal(&waits) == PALDWOSK_NO_SIGNAL);
+  MUST(paldwosk_barrier_send(&waits, 0, 1) == PALDWOSK_NO_SIGNAL);
+  MUST(paldwosk_barrier_look(&signals, 0, &value) == PALDWOSK_NO_WAIT);
+  MUST(paldwosk_barrier_single(&all, 1, nothing, NULL, &phase) == PALDWOSK_NO_SINGLE);
+  MUST(paldwosk_barrier_wait(&all, &phase) == PALDWOSK_NOT_SIGNALLED);
+  DONE(paldwosk_barrier_signal(&all));
+  MUST(paldwosk_barrier_signal(&all) == PALDWOSK_ALREADY_SIGNALLED);
+  MUST(paldwosk_barrier_next(&all, &phase) == PALDWOSK_ALREADY_SIGNALLED && phase == 77);
+  DONE(paldwosk_barrier_next(&signals, &phase));
+  MUST(phase == 0);
+  DONE(paldwosk_barrier_wait(&waits, &phase));
+  DONE(paldwosk_barrier_wait(&all, &phase));
+  MUST(phase == 0);
+  DONE(paldwosk_barrier_free(&barrier));
+}
+
+static void wrong_tasks(void) {
+  paldwosk_barrier barrier;
+  paldwosk_task tasks[THREADS], more = PALDWOSK_NO_TASK;
+  int64_t value = 77;
+  size_t written = 77;
+  make_party(&barrier, tasks, THREADS);
+  MUST(paldwosk_barrier_join(&tasks[0], PALDWOSK_SIG, &more) == PALDWOSK_REGS_FULL);
+  DONE(paldwosk_barrier_leave(&tasks[255]));
+  MUST(paldwosk_barrier_leave(&tasks[255]) == PALDWOSK_NOT_REGISTERED);
+  MUST(paldwosk_barrier_next(&tasks[255], NULL) == PALDWOSK_NOT_REGISTERED);
+  MUST(paldwosk_barrier_signal(&tasks[255]) == PALDWOSK_NOT_REGISTERED);
+  MUST(paldwosk_barrier_wait(&tasks[255], NULL) == PALDWOSK_NOT_REGISTERED);
+  MUST(paldwosk_barrier_single(&tasks[255], 1, nothing, NULL, NULL) == PALDWOSK_NOT_REGISTERED);
+  MUST(paldwosk_barrier_send(&tasks[255], 0, 1) == PALDWOSK_NOT_REGISTERED);
+  MUST(paldwosk_barrier_join(&tasks[255], PALDWOSK_SIG, &more) == PALDWOSK_NOT_REGISTERED && !more.barrier);
+  DONE(paldwosk_barrier_join(&tasks[0], PALDWOSK_SIG, &more));
+  MUST(more.number == 256); /* no number is given out again */
+  DONE(paldwosk_barrier_free(&barrier));
+  MUST(paldwosk_barrier_free(&barrier) == PALDWOSK_CLOSED);
+  MUST(paldwosk_barrier_next(&tasks[0], NULL) == PALDWOSK_CLOSED);
+  MUST(paldwosk_barrier_signal(&tasks[0]) == PALDWOSK_CLOSED);
+  MUST(paldwosk_barrier_wait(&tasks[0], NULL) == PALDWOSK_CLOSED);
+  MUST(paldwosk_barrier_single(&tasks[0], 1, nothing, NULL, NULL) == PALDWOSK_CLOSED);
+  MUST(paldwosk_barrier_send(&tasks[0], 0, 1) == PALDWOSK_CLOSED);
+  MUST(paldwosk_barrier_look(&tasks[0], 0, &value) == PALDWOSK_CLOSED);
+  MUST(paldwosk_barrier_leave(&tasks[0]) == PALDWOSK_CLOSED);
+  MUST(paldwosk_barrier_join(&tasks[0], PALDWOSK_SIG, &more) == PALDWOSK_CLOSED);
+  MUST(paldwosk_barrier_make(&barrier, PALDWOSK_SIG, &more) == PALDWOSK_CLOSED);
+  MUST(paldwosk_barrier_spin(&barrier, 1) == PALDWOSK_CLOSED);
+  MUST(paldwosk_barrier_trace(&barrier, NULL, 0, &written) == PALDWOSK_CLOSED);
+  DONE(paldwosk_barrier_new(&barrier, 1, NULL, 0)); /* its struct may be used again */
+  DONE(paldwosk_barrier_free(&barrier));
+}
+
+/* While task 0 waits for the two others. */
+static void wrong_moments(void) {
+  paldwosk_barrier barrier;
+  paldwosk_task tasks[3];
+  call first, second, third;
+  make_party(&barrier, tasks, 3);
+  begin_call(&first, tasks[0], 'n');
+  MUST(are_parked(&barrier, 1));
+  MUST(paldwosk_barrier_free(&barrier) == PALDWOSK_NOT_NOW);
+  MUST(paldwosk_barrier_next(&tasks[0], NULL) == PALDWOSK_NOT_NOW);
+  MUST(paldwosk_barrier_wait(&tasks[0], NULL) == PALDWOSK_NOT_NOW);
+  MUST(paldwosk_barrier_signal(&tasks[0]) == PALDWOSK_NOT_NOW);
+  MUST(paldwosk_barrier_single(&tasks[0], 1, nothing, NULL, NULL) == PALDWOSK_NOT_NOW);
+  begin_call(&second, tasks[1], 5); /* it proposes single 5 */
+  MUST(are_parked(&barrier, 2));
+  MUST(paldwosk_barrier_single(&tasks[2], 6, nothing, NULL, NULL) == PALDWOSK_SINGLE_MISMATCH);
+  MUST(paldwosk_barrier_leave(&tasks[1]) == PALDWOSK_NOT_NOW);
+  begin_call(&third, tasks[2], 'n');
+  end_call(&first, PALDWOSK_DONE, 0);
+  end_call(&second, PALDWOSK_DONE, 0);
+  end_call(&third, PALDWOSK_DONE, 0);
+  begin_call(&first, tasks[0], 'n'); /* who waits, and is made to leave by another thread, is answered so */
+  MUST(are_parked(&barrier, 1));
+  DONE(paldwosk_barrier_leave(&tasks[0]));
+  end_call(&first, PALDWOSK_NOT_REGISTERED, 77);
+  DONE(paldwosk_barrier_leave(&tasks[1]));
+  DONE(paldwosk_barrier_next(&tasks[2], NULL));
+  DONE(paldwosk_barrier_free(&barrier));
+}
+
+/* Both signals are held by the bound, with two numbers. The first that is let go on fixes the number of the phase. */
+static void wrong_proposal(void) {
+  paldwosk_barrier barrier = PALDWOSK_NO_BARRIER;
+  paldwosk_task tasks[2], waits;
+  call first, second;
+  DONE(paldwosk_barrier_new(&barrier, 1, NULL, 0));
+  DONE(paldwosk_barrier_make(&barrier, PALDWOSK_SINGLE, &tasks[0]));
+  DONE(paldwosk_barrier_join(&tasks[0], PALDWOSK_WAIT, &waits));
+  DONE(paldwosk_barrier_next(&tasks[0], NULL));
+  DONE(paldwosk_barrier_join(&tasks[0], PALDWOSK_SINGLE, &tasks[1]));
+  begin_call(&first, tasks[0], 5);
+  MUST(are_parked(&barrier, 1));
+  begin_call(&second, tasks[1], 6);
+  MUST(are_parked(&barrier, 2));
+  MUST(paldwosk_barrier_free(&barrier) == PALDWOSK_NOT_NOW);
+  DONE(paldwosk_barrier_wait(&waits, NULL));
+  end_call(&second, PALDWOSK_SINGLE_MISMATCH, 77);
+  begin_call(&second, tasks[1], 'n');
+  end_call(&first, PALDWOSK_DONE, 1);
+  end_call(&second, PALDWOSK_DONE, 1);
+  DONE(paldwosk_barrier_free(&barrier));
+}
+
+typedef struct inside {
+  paldwosk_barrier *barrier;
+  paldwosk_task task;
+  int runs;
+} inside;
+
+/* What its task may do in a statement, and what not. */
+static void in_statement(void *given) {
+  inside *it = (inside *)given;
+  paldwosk_task child;
+  it->runs++;
+  MUST(paldwosk_barrier_free(it->barrier) == PALDWOSK_NOT_NOW);
+  MUST(paldwosk_barrier_leave(&it->task) == PALDWOSK_NOT_NOW);
+  MUST(paldwosk_barrier_signal(&it->task) == PALDWOSK_ALREADY_SIGNALLED);
+  DONE(paldwosk_barrier_send(&it->task, 0, 40)); /* for the next phase */
+  DONE(paldwosk_barrier_join(&it->task, PALDWOSK_SIG, &child));
+  DONE(paldwosk_barrier_leave(&child));
+}
+
+static void wrong_in_statement(void) {
+  paldwosk_barrier barrier;
+  inside it = {&barrier, PALDWOSK_NO_TASK, 0};
+  int64_t value = 77;
+  make_party(&barrier, &it.task, 1);
+  DONE(paldwosk_barrier_send(&it.task, 0, 2));
+  DONE(paldwosk_barrier_single(&it.task, 9, in_statement, &it, NULL));
+  DONE(paldwosk_barrier_look(&it.task, 0, &value));
+  MUST(it.runs == 1 && value == 2);
+  DONE(paldwosk_barrier_next(&it.task, NULL));
+  DONE(paldwosk_barrier_look(&it.task, 0, &value));
+  MUST(value == 40);
+  DONE(paldwosk_barrier_free(&barrier));
+}
+
+static void wrong(void) {
+  wrong_pointers();
+  wrong_numbers();
+  wrong_modes();
+  wrong_tasks();
+  wrong_moments();
+  wrong_proposal();
+  wrong_in_statement();
+}
+
+static void memory(void) {
+  for (int is_traced = 0; is_traced < 2; is_traced++) {
+    paldwosk_barrier barrier = PALDWOSK_NO_BARRIER;
+    paldwosk_task task;
+    const paldwosk_operator sum = PALDWOSK_SUM;
+    paldwosk_answer answer = is_traced ? paldwosk_barrier_new_traced(&barrier, 2, &sum, 1)
+                                       : paldwosk_barrier_new(&barrier, 2, &sum, 1);
+    MUST(answer == PALDWOSK_DONE || answer == PALDWOSK_MEMORY);
+    paldwosk_answer made = paldwosk_barrier_make(&barrier, PALDWOSK_SIG_WAIT, &task);
+    MUST(made == (answer == PALDWOSK_DONE ? PALDWOSK_DONE : PALDWOSK_CLOSED));
+    size_t written = 0;
+    if (made == PALDWOSK_DONE) { /* no call takes memory any more */
+      MUST(paldwosk_barrier_trace(&barrier, NULL, 0, &written) == (is_traced ? PALDWOSK_SHORT : PALDWOSK_NOT_KEPT));
+      DONE(paldwosk_barrier_send(&task, 0, 1));
+      DONE(paldwosk_barrier_next(&task, NULL));
+    }
+    MUST(paldwosk_barrier_free(&barrier) == made);
+  }
+}
+
+/* ---- A barrier that is freed at once */
+
+static void *pass_once(void *given) {
+  DONE(paldwosk_barrier_next((paldwosk_task *)given, NULL));
+  return NULL;
+}
+
+/* The last of four frees the barrier when its own call has returned; the others may not have come out of theirs yet.
+ * Then nobody may touch its memory any more: whoever still does is stopped. */
+static void freed(int times) {
+  const size_t page = 1 << 16;
+  paldwosk_barrier *barrier = (paldwosk_barrier *)aligned_alloc(page, page);
+  if (!barrier) exit(5);
+  for (int time = 0; time < times; time++) {
+    paldwosk_task tasks[4];
+    pthread_t threads[3];
+    make_party(barrier, tasks, 4);
+    DONE(paldwosk_barrier_spin(barrier, time % 2 ? 0 : 1 << 22));
+    barrier->pauses = 1 << 20; /* as if it had been good to spin for so long */
+    for (int at = 0; at < 3; at++) start(&threads[at], pass_once, &tasks[at + 1]);
+    if (time % 4 < 2) MUST(are_parked(barrier, 3)); /* else some may come first who haven't been waited for */
+    pass_once(&tasks[0]);
+    DONE(paldwosk_barrier_free(barrier));
+    MUST(barrier->inside == 0);
+    memset(barrier, 0xa5, sizeof *barrier); /* ThreadSanitizer tells who isn't done by then, also where it was quick */
+    MUST(mprotect(barrier, page, PROT_NONE) == 0);
+    for (int at = 0; at < 3; at++) pthread_join(threads[at], NULL);
+    MUST(mprotect(barrier, page, PROT_READ | PROT_WRITE) == 0);
+  }
+  free(barrier);
+}
+
+/* ---- Forks */
+
+static int is_over;
+
+static void *send_always(void *given) {
+  while (!__atomic_load_n(&is_over, __ATOMIC_RELAXED)) DONE(paldwosk_barrier_send((paldwosk_task *)given, 0, 1));
+  return NULL;
+}
+
+static void in_child(paldwosk_barrier *barrier, paldwosk_task *tasks) {
+  paldwosk_barrier own = PALDWOSK_NO_BARRIER;
+  paldwosk_task task, child;
+  uint64_t phase = 77;
+  int64_t value = 77;
+  size_t written = 77;
+  alarm(20); /* a call that took the lock might wait for ever */
+  MUST(paldwosk_barrier_next(&tasks[0], &phase) == PALDWOSK_CLOSED);
+  MUST(paldwosk_barrier_signal(&tasks[0]) == PALDWOSK_CLOSED);
+  MUST(paldwosk_barrier_wait(&tasks[0], &phase) == PALDWOSK_CLOSED);
+  MUST(paldwosk_barrier_single(&tasks[0], 1, nothing, NULL, &phase) == PALDWOSK_CLOSED);
+  MUST(paldwosk_barrier_send(&tasks[0], 0, 1) == PALDWOSK_CLOSED);
+  MUST(paldwosk_barrier_look(&tasks[0], 0, &value) == PALDWOSK_CLOSED);
+  MUST(paldwosk_barrier_leave(&tasks[0]) == PALDWOSK_CLOSED);
+  MUST(paldwosk_barrier_join(&tasks[0], PALDWOSK_SIG, &child) == PALDWOSK_CLOSED);
+  MUST(paldwosk_barrier_make(barrier, PALDWOSK_SIG, &child) == PALDWOSK_CLOSED);
+  MUST(paldwosk_barrier_spin(barrier, 1) == PALDWOSK_CLOSED);
+  MUST(paldwosk_barrier_trace(barrier, NULL, 0, &written) == PALDWOSK_CLOSED);
+  MUST(paldwosk_barrier_free(barrier) == PALDWOSK_CLOSED);
+  MUST(paldwosk_barrier_new(barrier, 2, NULL, 0) == PALDWOSK_CLOSED);
+  DONE(paldwosk_barrier_new(&own, 2, NULL, 0));
+  DONE(paldwosk_barrier_make(&own, PALDWOSK_SIG_WAIT, &task));
+  DONE(paldwosk_barrier_next(&task, &phase));
+  DONE(paldwosk_barrier_free(&own));
+  MUST(phase == 0);
+  _exit(faults ? 4 : 0);
+}
+
+/* Another thread has the lock about half of the time, and a third waits, while this one forks. */
+static void forked(int times) {
+  paldwosk_barrier barrier;
+  paldwosk_task tasks[3];
+  pthread_t sender;
+  call waiter;
+  UNCHECKED(&is_over, sizeof is_over);
+  make_party(&barrier, tasks, 3);
+  begin_call(&waiter, tasks[2], 'n');
+  MUST(are_parked(&barrier, 1));
+  start(&sender, send_always, &tasks[1]);
+  for (int time = 0; time < times; time++) {
+    int status = 0;
+    pid_t child = fork();
+    if (child < 0) exit(5);
+    if (child == 0) in_child(&barrier, tasks);
+    MUST(waitpid(child, &status, 0) == child && status == 0);
+  }
+  __atomic_store_n(&is_over, 1, __ATOMIC_RELAXED);
+  pthread_join(sender, NULL);
+  DONE(paldwosk_barrier_signal(&tasks[0])); /* in the parent all goes on */
+  DONE(paldwosk_barrier_next(&tasks[1], NULL));
+  end_call(&waiter, PALDWOSK_DONE, 0);
+  DONE(paldwosk_barrier_free(&barrier));
+}
+
+/* ---- Signals */
+
+static volatile sig_atomic_t was_signalled;
+
+static void on_signal(int number) { was_signalled = number; }
+
+static void *come_late(void *given) {
+  rest(2000);
+  MUST(was_signalled == SIGALRM);
+  DONE(paldwosk_barrier_next((paldwosk_task *)given, NULL));
+  return NULL;
+}
+
+/* The signal comes after a second, to the first thread, which waits until the other comes after two. */
+static void interrupted(void) {
+  paldwosk_barrier barrier;
+  paldwosk_task tasks[2];
+  pthread_t late;
+  uint64_t phase = 77;
+  make_party(&barrier, tasks, 2);
+  signal(SIGALRM, on_signal);
+  start(&late, come_late, &tasks[1]);
+  alarm(1);
+  errno = 77;
+  DONE(paldwosk_barrier_next(&tasks[0], &phase));
+  MUST(errno == 77 && phase == 0);
+  pthread_join(late, NULL);
+  DONE(paldwosk_barrier_free(&barrier));
+}
+
+/* ---- Cancellation */
+
+static int has_returned;
+
+static void leave(void *given) { DONE(paldwosk_barrier_leave((paldwosk_task *)given)); }
+
+/* It is cancelled outside of the barrier's calls. (ThreadSanitizer loses track of a thread that is cancelled in a
+ * call of the system, so it isn't cancelled in its rest.) */
+static void *is_cancelled_outside(void *given) {
+  int old;
+  pthread_cleanup_push(leave, given);
+  for (;;) {
+    pthread_testcancel();
+    pthread_setcancelstate(PTHREAD_CANCEL_DISABLE, &old);
+    rest(1);
+    pthread_setcancelstate(PTHREAD_CANCEL_ENABLE, &old);
+  }
+  pthread_cleanup_pop(0);
+  return NULL;
+}
+
+/* It is cancelled while it waits: the call goes on until it is over. */
+static void *is_cancelled_inside(void *given) {
+  pthread_cleanup_push(leave, given);
+  DONE(paldwosk_barrier_next((paldwosk_task *)given, NULL));
+  __atomic_store_n(&has_returned, 1, __ATOMIC_RELAXED);
+  pthread_testcancel();
+  MUST(0 && "it goes on after it was cancelled");
+  pthread_cleanup_pop(0);
+  return NULL;
+}
+
+static void cancelled(void) {
+  paldwosk_barrier barrier;
+  paldwosk_task tasks[3];
+  pthread_t outside, within;
+  void *result = NULL;
+  UNCHECKED(&has_returned, sizeof has_returned);
+  make_party(&barrier, tasks, 3);
+  start(&outside, is_cancelled_outside, &tasks[1]);
+  start(&within, is_cancelled_inside, &tasks[2]);
+  MUST(are_parked(&barrier, 1));
+  pthread_cancel(within);
+  rest(100);
+  MUST(!__atomic_load_n(&has_returned, __ATOMIC_RELAXED) && are_parked(&barrier, 1));
+  DONE(paldwosk_barrier_signal(&tasks[0])); /* so the phase waits for the first thread alone */
+  pthread_cancel(outside);
+  pthread_join(outside, &result);
+  MUST(result == PTHREAD_CANCELED);
+  pthread_join(within, &result);
+  MUST(result == PTHREAD_CANCELED && __atomic_load_n(&has_returned, __ATOMIC_RELAXED));
+  DONE(paldwosk_barrier_wait(&tasks[0], NULL));
+  DONE(paldwosk_barrier_next(&tasks[0], NULL)); /* both have left */
+  MUST(paldwosk_barrier_leave(&tasks[1]) == PALDWOSK_NOT_REGISTERED);
+  MUST(paldwosk_barrier_leave(&tasks[2]) == PALDWOSK_NOT_REGISTERED);
+  DONE(paldwosk_barrier_free(&barrier));
+}
+
+/* ---- Turns of threads */
+
+typedef struct party {
+  paldwosk_barrier barrier;
+  paldwosk_task tasks[THREADS];
+  int threads, phases;
+  int64_t arrived[THREADS]; /* atomic: how many phases each thread has come to the end of */
+  int64_t written[THREADS]; /* not atomic: the barrier alone orders who writes and who reads it */
+  int64_t ran;              /* not atomic either */
+} party;
+
+typedef struct member {
+  party *of;
+  int index;
+  pthread_t thread;
+} member;
+
+static party the_party;
+static member members[THREADS];
+
+static void run_members(void *(*body)(void *)) {
+  UNCHECKED(the_party.arrived, sizeof the_party.arrived);
+  for (int at = 0; at < the_party.threads; at++) {
+    members[at].of = &the_party;
+    members[at].index = at;
+    start(&members[at].thread, body, &members[at]);
+  }
+  for (int at = 0; at < the_party.threads; at++) pthread_join(members[at].thread, NULL);
+}
+
+/* Some end their turn by one call, and some by two. */
+static void end_turn(const paldwosk_task *task, int by_two, uint64_t *phase) {
+  if (!by_two) DONE(paldwosk_barrier_next(task, phase));
+  else {
+    DONE(paldwosk_barrier_signal(task));
+    DONE(paldwosk_barrier_wait(task, phase));
+  }
+}
+
+/* Thread t sends 7t + p in phase p: in all 7 T (T - 1) / 2 + T p. */
+static void *take_turns(void *given) {
+  member *me = (member *)given;
+  party *all = me->of;
+  int64_t threads = all->threads;
+  paldwosk_task *task = &all->tasks[me->index];
+  for (int64_t at = 0; at < all->phases; at++) {
+    uint64_t phase = 77;
+    int64_t sum = 0;
+    DONE(paldwosk_barrier_send(task, 0, (int32_t)(7 * me->index + at)));
+    if (at % 2 == 0) all->written[me->index] = at;
+    __atomic_store_n(&all->arrived[me->index], at + 1, __ATOMIC_RELEASE);
+    end_turn(task, (at + me->index) % 3 == 0, &phase);
+    MUST(phase == (uint64_t)at);
+    for (int other = 0; other < threads; other++) {
+      MUST(__atomic_load_n(&all->arrived[other], __ATOMIC_ACQUIRE) > at);
+      if (at % 2 == 0) MUST(all->written[other] == at);
+    }
+    DONE(paldwosk_barrier_look(task, 0, &sum));
+    MUST(sum == 7 * threads * (threads - 1) / 2 + threads * at);
+  }
+  DONE(paldwosk_barrier_leave(task));
+  return NULL;
+}
+
+static void stress(int threads, int phases, uint32_t most) {
+  the_party.threads = threads;
+  the_party.phases = phases;
+  make_party(&the_party.barrier, the_party.tasks, threads);
+  DONE(paldwosk_barrier_spin(&the_party.barrier, most));
+  run_members(take_turns);
+  MUST(the_party.barrier.tasks == 0);
+  DONE(paldwosk_barrier_free(&the_party.barrier));
+}
+
+/* ---- Singles */
+
+static void count_run(void *given) { ++*(int64_t *)given; }
+
+/* In phase 2r all propose single r; in each third of these phases the odd ones don't, and are held all the same. In
+ * phase 2r + 1 nobody does: so nobody writes `ran` while others look at it. */
+static void *run_singles(void *given) {
+  member *me = (member *)given;
+  party *all = me->of;
+  paldwosk_task *task = &all->tasks[me->index];
+  for (int64_t round = 0; round < all->phases; round++) {
+    uint64_t phase = 77;
+    if (round % 3 == 0 && me->index % 2) DONE(paldwosk_barrier_next(task, &phase));
+    else DONE(paldwosk_barrier_single(task, (uint32_t)round, count_run, &all->ran, &phase));
+    MUST(phase == (uint64_t)(2 * round) && all->ran == round + 1);
+    DONE(paldwosk_barrier_next(task, &phase));
+    MUST(phase == (uint64_t)(2 * round + 1));
+  }
+  DONE(paldwosk_barrier_leave(task));
+  return NULL;
+}
+
+static void singles(int threads, int phases) {
+  the_party.threads = threads;
+  the_party.phases = phases;
+  make_party(&the_party.barrier, the_party.tasks, threads);
+  run_members(run_singles);
+  MUST(the_party.ran == phases);
+  DONE(paldwosk_barrier_free(&the_party.barrier));
+}
+
+/* ---- A queue that its bound fixes */
+
+typedef struct queue {
+  paldwosk_barrier barrier;
+  paldwosk_task producer, consumers[2];
+  int64_t items, bound;
+  int64_t *slots;   /* bound + 2 of them, not atomic */
+  int64_t taken[2]; /* atomic: of each consumer */
+  int64_t sums[2];
+} queue;
+
+static queue the_queue;
+
+/* The signal of item n returns when each consumer has ended the wait for item n - bound. By its own count that may be
+ * one less, since it counts after its call. */
+static void *produce(void *given) {
+  queue *it = (queue *)given;
+  for (int64_t item = 0; item < it->items; item++) {
+    it->slots[item % (it->bound + 2)] = 3 * item + 1;
+    DONE(paldwosk_barrier_signal(&it->producer));
+    for (int at = 0; at < 2; at++)
+      MUST(__atomic_load_n(&it->taken[at], __ATOMIC_RELAXED) >= item - it->bound);
+    DONE(paldwosk_barrier_wait(&it->producer, NULL)); /* who only signals waits for nobody */
+  }
+  DONE(paldwosk_barrier_leave(&it->producer));
+  return NULL;
+}
+
+static void consume(queue *it, int which, int is_slow) {
+  for (int64_t item = 0; item < it->items; item++) {
+    uint64_t phase = 77;
+    DONE(paldwosk_barrier_wait(&it->consumers[which], &phase));
+    MUST(phase == (uint64_t)item && it->slots[item % (it->bound + 2)] == 3 * item + 1);
+    it->sums[which] += it->slots[item % (it->bound + 2)];
+    __atomic_store_n(&it->taken[which], item + 1, __ATOMIC_RELAXED);
+    if (is_slow && item % 64 == 0) rest(1);
+  }
+  DONE(paldwosk_barrier_leave(&it->consumers[which]));
+}
+
+static void *consume_quickly(void *given) {
+  consume((queue *)given, 0, 0);
+  return NULL;
+}
+
+static void bounded(int items, int bound) {
+  queue *it = &the_queue;
+  pthread_t producer, consumer;
+  it->items = items;
+  it->bound = bound;
+  it->slots = (int64_t *)calloc((size_t)bound + 2, sizeof *it->slots);
+  if (!it->slots) exit(5);
+  UNCHECKED(it->taken, sizeof it->taken);
+  DONE(paldwosk_barrier_new(&it->barrier, (uint32_t)bound, NULL, 0));
+  DONE(paldwosk_barrier_make(&it->barrier, PALDWOSK_SIG_WAIT, &it->producer));
+  paldwosk_task root = it->producer;
+  DONE(paldwosk_barrier_join(&root, PALDWOSK_SIG, &it->producer));
+  for (int at = 0; at < 2; at++) DONE(paldwosk_barrier_join(&root, PALDWOSK_WAIT, &it->consumers[at]));
+  DONE(paldwosk_barrier_leave(&root));
+  start(&producer, produce, it);
+  start(&consumer, consume_quickly, it);
+  consume(it, 1, 1);
+  pthread_join(producer, NULL);
+  pthread_join(consumer, NULL);
+  for (int at = 0; at < 2; at++) MUST(it->sums[at] == 3 * it->items * (it->items - 1) / 2 + it->items);
+  DONE(paldwosk_barrier_free(&it->barrier));
+  free(it->slots);
+}
+
+/* ---- Traces */
+
+/* The trace so far; the caller frees it. */
+static char *trace_of(paldwosk_barrier *barrier, size_t *length) {
+  size_t least = 0, written = 0;
+  for (;;) { /* others may add events between the two calls */
+    MUST(paldwosk_barrier_trace(barrier, NULL, 0, &least) == PALDWOSK_SHORT);
+    char *text = (char *)malloc(least + 1);
+    if (!text) exit(5);
+    text[0] = text[least] = '#';
+    MUST(paldwosk_barrier_trace(barrier, text, least - 1, &written) == PALDWOSK_SHORT && text[0] == '#');
+    paldwosk_answer answer = paldwosk_barrier_trace(barrier, text, least, &written);
+    MUST(text[least] == '#' && (answer == PALDWOSK_DONE || answer == PALDWOSK_SHORT));
+    *length = written;
+    if (answer != PALDWOSK_SHORT) return text;
+    MUST(written > least);
+    free(text);
+  }
+}
+
+/* Replays the trace so far, and leaves its report, or its refusal. */
+static void replay(paldwosk_barrier *barrier, char *report, size_t room) {
+  size_t length = 0, written = 0;
+  char *text = trace_of(barrier, &length);
+  paldwosk_status status = paldwosk_replay(text, length, report, room - 1, &written);
+  MUST(status == PALDWOSK_STATUS_DONE);
+  report[status == PALDWOSK_STATUS_SHORT ? 0 : written] = 0;
+  if (status != PALDWOSK_STATUS_DONE) fprintf(stderr, "waiting: %s%.*s\n", report, 100000, text);
+  free(text);
+}
+
+static void *take_traced_turns(void *given) {
+  member *me = (member *)given;
+  for (int64_t at = 0; at < me->of->phases; at++) DONE(paldwosk_barrier_next(&me->of->tasks[me->index], NULL));
+  DONE(paldwosk_barrier_leave(&me->of->tasks[me->index]));
+  return NULL;
+}
+
+/* What a replay has to say. The first events are the making, a joining for each thread and the leaving of the first
+ * task. Then each phase has a signal of each thread and then a pass of each, and phases don't overlap: when the last
+ * has signalled all pass, before the lock is given back. So it is clear what stands within the limit. */
+static void write_wanted(char *wanted, size_t room, int64_t threads, int64_t phases) {
+  int64_t left = PALDWOSK_TRACE_EVENTS - (threads + 2), whole = left / (2 * threads), more = left % (2 * threads);
+  if (whole >= phases) whole = phases, more = 0;
+  int64_t signals = threads * whole + (more < threads ? more : threads);
+  int64_t passes = threads * whole + (more < threads ? 0 : more - threads);
+  int at = snprintf(wanted, room, "phaser 0 phases %" PRId64 "\n", whole + (more > 0));
+  for (int task = 0; task <= threads; task++) at += snprintf(wanted + at, room - (size_t)at, "task %d ended\n", task);
+  at += snprintf(wanted + at, room - (size_t)at, "finish 0 tasks %" PRId64 "\n", threads);
+  at += snprintf(wanted + at, room - (size_t)at, "totals registered %" PRId64 " signals %" PRId64, threads + 1, signals);
+  at += snprintf(wanted + at, room - (size_t)at, " passes %" PRId64 " drops %" PRId64, passes, threads + 1);
+  snprintf(wanted + at, room - (size_t)at, " sends 0 up 0 down 0\n");
+}
+
+static void traced(int threads, int phases) {
+  static char report[1 << 16], wanted[1 << 16];
+  paldwosk_task root;
+  int is_long = 2 * (int64_t)threads * phases + 2 * threads + 2 > PALDWOSK_TRACE_EVENTS;
+  the_party.threads = threads;
+  the_party.phases = phases;
+  DONE(paldwosk_barrier_new_traced(&the_party.barrier, 2, NULL, 0));
+  replay(&the_party.barrier, report, sizeof report);
+  MUST(!strcmp(report, "task 0 ended\nfinish 0 tasks 0\n"
+                       "totals registered 0 signals 0 passes 0 drops 0 sends 0 up 0 down 0\n"));
+  DONE(paldwosk_barrier_make(&the_party.barrier, PALDWOSK_SIG_WAIT, &root));
+  for (int at = 0; at < threads; at++) DONE(paldwosk_barrier_join(&root, PALDWOSK_SIG_WAIT, &the_party.tasks[at]));
+  DONE(paldwosk_barrier_leave(&root));
+  run_members(take_traced_turns);
+  MUST(paldwosk_barrier_trace_ended(&the_party.barrier) == is_long);
+  replay(&the_party.barrier, report, sizeof report);
+  write_wanted(wanted, sizeof wanted, threads, phases);
+  MUST(!strcmp(report, wanted));
+  if (strcmp(report, wanted)) fprintf(stderr, "%s%s", report, wanted);
+  DONE(paldwosk_barrier_free(&the_party.barrier));
+}
+
+/* ---- What a trace tells */
+
+static const char *replayed(paldwosk_barrier *barrier) {
+  static char report[1 << 18];
+  replay(barrier, report, sizeof report);
+  return report;
+}
+
+static int tells(paldwosk_barrier *barrier, const char *words) {
+  int is_there = strstr(replayed(barrier), words) != NULL;
+  if (!is_there) fprintf(stderr, "waiting: not \"%s\" but\n%s", words, replayed(barrier));
+  return is_there;
+}
+
+static void make_traced(paldwosk_barrier *barrier, uint32_t bound, paldwosk_task *root) {
+  const paldwosk_operator sum = PALDWOSK_SUM;
+  memset(barrier, 0, sizeof *barrier);
+  DONE(paldwosk_barrier_new_traced(barrier, bound, &sum, 1));
+  DONE(paldwosk_barrier_make(barrier, PALDWOSK_SINGLE, root));
+}
+
+static void look_in_statement(void *given) {
+  MUST(tells((paldwosk_barrier *)given, "totals registered 4 signals 3 passes 1 drops 4 sends 0 up 0 down 0\n"));
+}
+
+static void *run_single(void *given) {
+  paldwosk_task *task = (paldwosk_task *)given;
+  DONE(paldwosk_barrier_single(task, 5, look_in_statement, task->barrier, NULL));
+  return NULL;
+}
+
+/* One has proposed a single, one is in a `next`, one only waits, and the root is about nothing. In a trace all end:
+ * the second as if it had only signalled, and the first once its statement is done, so that one pass is told which
+ * hasn't been made yet. */
+static void told_midway(void) {
+  paldwosk_barrier barrier;
+  paldwosk_task root, tasks[3];
+  pthread_t single;
+  call next, waits;
+  make_traced(&barrier, 2, &root);
+  DONE(paldwosk_barrier_join(&root, PALDWOSK_SINGLE, &tasks[0]));
+  DONE(paldwosk_barrier_join(&root, PALDWOSK_SIG_WAIT, &tasks[1]));
+  DONE(paldwosk_barrier_join(&root, PALDWOSK_WAIT, &tasks[2]));
+  start(&single, run_single, &tasks[0]);
+  MUST(are_parked(&barrier, 1));
+  begin_call(&next, tasks[1], 'n');
+  MUST(are_parked(&barrier, 2));
+  begin_call(&waits, tasks[2], 'w');
+  MUST(are_parked(&barrier, 3));
+  MUST(tells(&barrier, "phaser 0 phases 1\n"));
+  MUST(tells(&barrier, "totals registered 4 signals 2 passes 1 drops 4 sends 0 up 0 down 0\n"));
+  DONE(paldwosk_barrier_next(&root, NULL)); /* so the first runs its statement, and asks for the trace there */
+  pthread_join(single, NULL);
+  end_call(&next, PALDWOSK_DONE, 0);
+  end_call(&waits, PALDWOSK_DONE, 0);
+  MUST(tells(&barrier, "totals registered 4 signals 3 passes 4 drops 4 sends 0 up 0 down 0\n"));
+  MUST(!paldwosk_barrier_trace_ended(&barrier));
+  DONE(paldwosk_barrier_free(&barrier));
+}
+
+static int has_word(paldwosk_barrier *barrier, const char *word) {
+  size_t length = 0;
+  char *text = trace_of(barrier, &length);
+  text[length] = 0;
+  int is_there = strstr(text, word) != NULL;
+  free(text);
+  return is_there;
+}
+
+/* A second thread sends and joins for a task that waits: then its `next` is told as two acts. */
+static void told_in_parts(void) {
+  paldwosk_barrier barrier;
+  paldwosk_task root, child, late;
+  call next;
+  make_traced(&barrier, 2, &root);
+  DONE(paldwosk_barrier_join(&root, PALDWOSK_SIG_WAIT, &child));
+  begin_call(&next, child, 'n');
+  MUST(are_parked(&barrier, 1));
+  DONE(paldwosk_barrier_send(&child, 0, -9));
+  DONE(paldwosk_barrier_join(&child, PALDWOSK_SIG, &late));
+  DONE(paldwosk_barrier_next(&root, NULL));
+  end_call(&next, PALDWOSK_DONE, 0);
+  MUST(tells(&barrier, "totals registered 3 signals 2 passes 2 drops 3 sends 1 up 0 down 9\n"));
+  MUST(has_word(&barrier, "\"t\",1,\"begin\",[\"signal\"]]") && has_word(&barrier, "\"t\",1,\"begin\",[\"wait\"]]"));
+  MUST(has_word(&barrier, "\"t\",0,\"begin\",[\"next\"]]"));
+  MUST(!paldwosk_barrier_trace_ended(&barrier));
+  begin_call(&next, child, 'n'); /* and one that is made to leave while it waits */
+  MUST(are_parked(&barrier, 1));
+  DONE(paldwosk_barrier_leave(&child));
+  end_call(&next, PALDWOSK_NOT_REGISTERED, 77);
+  MUST(tells(&barrier, "totals registered 3 signals 3 passes 2 drops 3 sends 1 up 0 down 9\n"));
+  MUST(!paldwosk_barrier_trace_ended(&barrier));
+  DONE(paldwosk_barrier_free(&barrier));
+}
+
+static void send_in_statement(void *given) { DONE(paldwosk_barrier_send((paldwosk_task *)given, 0, 1)); }
+
+/* No trace tells what a task sends in the statement of its single. Up to there it is told. */
+static void told_to_a_statement(void) {
+  paldwosk_barrier barrier;
+  paldwosk_task root;
+  make_traced(&barrier, 2, &root);
+  DONE(paldwosk_barrier_next(&root, NULL));
+  DONE(paldwosk_barrier_single(&root, 1, send_in_statement, &root, NULL));
+  DONE(paldwosk_barrier_next(&root, NULL));
+  MUST(paldwosk_barrier_trace_ended(&barrier));
+  MUST(tells(&barrier, "totals registered 1 signals 2 passes 2 drops 1 sends 0 up 0 down 0\n"));
+  DONE(paldwosk_barrier_free(&barrier));
+}
+
+/* Of task 4,096 and all that comes after no trace tells. */
+static void told_to_a_number(void) {
+  paldwosk_barrier barrier;
+  paldwosk_task root, child;
+  make_traced(&barrier, 2, &root);
+  for (int at = 1; at < 4096; at++) {
+    DONE(paldwosk_barrier_join(&root, PALDWOSK_SIG, &child));
+    DONE(paldwosk_barrier_leave(&child));
+  }
+  MUST(!paldwosk_barrier_trace_ended(&barrier));
+  DONE(paldwosk_barrier_join(&root, PALDWOSK_SIG, &child));
+  MUST(paldwosk_barrier_trace_ended(&barrier) && child.number == 4096);
+  DONE(paldwosk_barrier_leave(&child));
+  MUST(tells(&barrier, "finish 0 tasks 4095\n"));
+  DONE(paldwosk_barrier_free(&barrier));
+}
+
+/* All kinds of events, 31 of them. Task 0 is the root, and leaves before the others do. */
+static void make_all_events(paldwosk_barrier *barrier, paldwosk_task root) {
+  paldwosk_task proposes, next, signals, waits;
+  call first, second, third;
+  int64_t value = 77;
+  DONE(paldwosk_barrier_join(&root, PALDWOSK_SINGLE, &proposes));
+  DONE(paldwosk_barrier_join(&root, PALDWOSK_SIG_WAIT, &next));
+  DONE(paldwosk_barrier_join(&root, PALDWOSK_SIG, &signals));
+  DONE(paldwosk_barrier_join(&root, PALDWOSK_WAIT, &waits));
+  DONE(paldwosk_barrier_send(&root, 0, INT32_MAX));
+  DONE(paldwosk_barrier_next(&signals, NULL));
+  begin_call(&first, proposes, 7);
+  MUST(are_parked(barrier, 1));
+  begin_call(&second, root, 7);
+  MUST(are_parked(barrier, 2));
+  DONE(paldwosk_barrier_next(&next, NULL));
+  end_call(&first, PALDWOSK_DONE, 0);
+  end_call(&second, PALDWOSK_DONE, 0);
+  begin_call(&third, signals, 'n'); /* the bound is 1, and there is one who waits and hasn't passed phase 0 */
+  MUST(are_parked(barrier, 1));
+  DONE(paldwosk_barrier_wait(&waits, NULL));
+  end_call(&third, PALDWOSK_DONE, 1);
+  DONE(paldwosk_barrier_look(&root, 0, &value));
+  MUST(value == INT32_MAX);
+  MUST(paldwosk_barrier_look(&root, 1, &value) == PALDWOSK_NOTHING);
+  DONE(paldwosk_barrier_signal(&root));
+  DONE(paldwosk_barrier_leave(&root));
+  DONE(paldwosk_barrier_signal(&proposes));
+  DONE(paldwosk_barrier_next(&next, NULL));
+  DONE(paldwosk_barrier_wait(&proposes, NULL));
+  DONE(paldwosk_barrier_leave(&waits));
+  DONE(paldwosk_barrier_leave(&next));
+  DONE(paldwosk_barrier_leave(&signals));
+  DONE(paldwosk_barrier_leave(&proposes));
+}
+
+/* Whatever the event is at which a trace has to end, it is one of a run. */
+static void told_to_each_event(void) {
+  uint32_t events = 1000;
+  for (uint32_t room = 0; room <= events; room++) {
+    paldwosk_barrier barrier = PALDWOSK_NO_BARRIER;
+    const paldwosk_operator operators[2] = {PALDWOSK_SUM, PALDWOSK_LEAST};
+    paldwosk_task root;
+    DONE(paldwosk_barrier_new_traced(&barrier, 1, operators, 2));
+    if (events < 1000) barrier.trace->room = room;
+    DONE(paldwosk_barrier_make(&barrier, PALDWOSK_SINGLE, &root));
+    make_all_events(&barrier, root);
+    if (events == 1000) events = barrier.trace->count;
+    MUST(paldwosk_barrier_trace_ended(&barrier) == (barrier.trace->room < events));
+    MUST(replayed(&barrier)[0]);
+    DONE(paldwosk_barrier_free(&barrier));
+  }
+  MUST(events == 31);
+}
+
+static void told(void) {
+  told_midway();
+  told_in_parts();
+  told_to_a_statement();
+  told_to_a_number();
+  told_to_each_event();
+}
+
+/* ---- A crowd. Each thread counts for itself what it did, and so knows which phase it passes next. */
+
+typedef struct visitor {
+  paldwosk_task task;
+  paldwosk_mode mode;
+  int64_t signals;     /* atomic: counted before the call */
+  int64_t made, passes; /* signals that were made, and passes; of its own thread alone */
+  int is_there;        /* atomic: it is registered, and hasn't begun to leave */
+  uint64_t luck;
+  pthread_t thread;
+} visitor;
+
+enum { VISITORS = 200 };
+
+static struct crowd {
+  paldwosk_barrier barrier;
+  int is_traced, most;
+  int count; /* atomic: of visitors so far; from here on others may read what a visitor has */
+  visitor all[VISITORS];
+  int64_t sums[PHASES_KEPT], least[PHASES_KEPT], runs[PHASES_KEPT]; /* atomic: of each phase */
+} crowd;
+
+static uint32_t drawn(visitor *me, uint32_t below) {
+  me->luck ^= me->luck << 13;
+  me->luck ^= me->luck >> 7;
+  me->luck ^= me->luck << 17;
+  return (uint32_t)(me->luck >> 33) % below;
+}
+
+static int can_signal(const visitor *it) { return it->mode != PALDWOSK_WAIT; }
+static int can_wait(const visitor *it) { return it->mode != PALDWOSK_SIG; }
+
+static void *visit(void *given);
+
+static void bring_child(visitor *me) {
+  static const paldwosk_mode within[4][4] = {
+      {PALDWOSK_SIG, PALDWOSK_SIG, PALDWOSK_SIG, PALDWOSK_SIG},
+      {PALDWOSK_WAIT, PALDWOSK_WAIT, PALDWOSK_WAIT, PALDWOSK_WAIT},
+      {PALDWOSK_SIG, PALDWOSK_WAIT, PALDWOSK_SIG_WAIT, PALDWOSK_SIG_WAIT},
+      {PALDWOSK_SIG, PALDWOSK_WAIT, PALDWOSK_SIG_WAIT, PALDWOSK_SINGLE}};
+  int index = __atomic_load_n(&crowd.count, __ATOMIC_RELAXED);
+  if (index >= crowd.most) return;
+  index = __atomic_fetch_add(&crowd.count, 1, __ATOMIC_RELAXED);
+  if (index >= crowd.most) return;
+  visitor *child = &crowd.all[index];
+  child->mode = within[me->mode][drawn(me, 4)];
+  child->luck = me->luck + (uint64_t)index * 0x9e3779b97f4a7c15u;
+  child->passes = me->passes;
+  child->made = can_signal(child) && can_signal(me) ? me->made : me->passes;
+  __atomic_store_n(&child->signals, child->made, __ATOMIC_RELAXED);
+  DONE(paldwosk_barrier_join(&me->task, child->mode, &child->task));
+  __atomic_store_n(&child->is_there, 1, __ATOMIC_RELEASE);
+  start(&child->thread, visit, child);
+}
+
+/* The phase is over: all who signal have signalled it, the fold has what was sent for it, and its single was run
+ * once. */
+static void look_round(visitor *me, uint64_t phase, int has_proposed) {
+  int64_t value = 77, least = __atomic_load_n(&crowd.least[phase], __ATOMIC_RELAXED);
+  int count = __atomic_load_n(&crowd.count, __ATOMIC_ACQUIRE);
+  for (int at = 0; at < count && at < crowd.most; at++)
+    if (__atomic_load_n(&crowd.all[at].is_there, __ATOMIC_ACQUIRE) && can_signal(&crowd.all[at]))
+      MUST(__atomic_load_n(&crowd.all[at].signals, __ATOMIC_RELAXED) > (int64_t)phase);
+  int64_t runs = __atomic_load_n(&crowd.runs[phase], __ATOMIC_RELAXED);
+  MUST(has_proposed ? runs == 1 : runs <= 1);
+  if (drawn(me, 2)) return;
+  DONE(paldwosk_barrier_look(&me->task, 0, &value));
+  MUST(value == __atomic_load_n(&crowd.sums[phase], __ATOMIC_RELAXED));
+  paldwosk_answer answer = paldwosk_barrier_look(&me->task, 1, &value);
+  MUST(least == INT64_MAX ? answer == PALDWOSK_NOTHING : answer == PALDWOSK_DONE && value == least);
+}
+
+static void has_passed(visitor *me, uint64_t phase, int has_proposed) {
+  MUST(phase == (uint64_t)me->passes);
+  me->passes++;
+  if (can_wait(me)) look_round(me, phase, has_proposed);
+}
+
+/* It sends for the phase that it hasn't signalled yet. */
+static void send_value(visitor *me) {
+  int32_t value = (int32_t)drawn(me, 2001) - 1000;
+  int64_t *least = &crowd.least[me->made], old = __atomic_load_n(least, __ATOMIC_RELAXED);
+  while (value < old && !__atomic_compare_exchange_n(least, &old, value, 0, __ATOMIC_RELAXED, __ATOMIC_RELAXED))
+    ;
+  __atomic_fetch_add(&crowd.sums[me->made], value, __ATOMIC_RELAXED);
+  DONE(paldwosk_barrier_send(&me->task, 0, value));
+  DONE(paldwosk_barrier_send(&me->task, 1, value));
+}
+
+static void run_in_crowd(void *given) { __atomic_fetch_add((int64_t *)given, 1, __ATOMIC_RELAXED); }
+
+/* Two numbers are about: who comes with another than the first of its phase is refused, and goes on without. */
+static void propose(visitor *me) {
+  uint64_t phase = 77;
+  uint32_t number = 1 + (drawn(me, 8) == 0);
+  int64_t *runs = &crowd.runs[me->passes];
+  paldwosk_answer answer = paldwosk_barrier_single(&me->task, number, run_in_crowd, runs, &phase);
+  MUST(answer == PALDWOSK_DONE || answer == PALDWOSK_SINGLE_MISMATCH);
+  int is_refused = answer == PALDWOSK_SINGLE_MISMATCH;
+  if (is_refused) DONE(paldwosk_barrier_next(&me->task, &phase));
+  me->made++;
+  has_passed(me, phase, !is_refused);
+}
+
+static void end_its_turn(visitor *me) {
+  uint64_t phase = 77;
+  uint32_t how = drawn(me, 3);
+  if (can_signal(me) && me->made == me->passes) {
+    __atomic_fetch_add(&me->signals, 1, __ATOMIC_RELAXED);
+    if (me->mode == PALDWOSK_SINGLE && how == 0) {
+      propose(me);
+      return;
+    }
+    if (how == 1) DONE(paldwosk_barrier_signal(&me->task));
+    else DONE(paldwosk_barrier_next(&me->task, &phase));
+    me->made++;
+    if (how == 1) return; /* it is ahead now, and passes in a later act */
+  } else DONE(paldwosk_barrier_wait(&me->task, &phase));
+  has_passed(me, phase, 0);
+}
+
+static void *visit(void *given) {
+  static __thread char report[1 << 16];
+  visitor *me = (visitor *)given;
+  for (uint32_t acts = 1 + drawn(me, 80); acts; acts--) {
+    uint32_t act = drawn(me, 100);
+    if (act < 12) bring_child(me);
+    else if (act < 35 && can_signal(me)) send_value(me);
+    else if (act == 99 && crowd.is_traced && drawn(me, 8) == 0) replay(&crowd.barrier, report, sizeof report);
+    else end_its_turn(me);
+  }
+  __atomic_store_n(&me->is_there, 0, __ATOMIC_RELEASE);
+  DONE(paldwosk_barrier_leave(&me->task));
+  return NULL;
+}
+
+static void meet(uint64_t luck, int most) {
+  static char report[1 << 18];
+  static const paldwosk_operator operators[2] = {PALDWOSK_SUM, PALDWOSK_LEAST};
+  memset(&crowd, 0, sizeof crowd);
+  UNCHECKED(&crowd.count, sizeof crowd - offsetof(struct crowd, count));
+  for (int at = 0; at < PHASES_KEPT; at++) crowd.least[at] = INT64_MAX;
+  visitor *first = &crowd.all[0];
+  crowd.most = most < VISITORS ? most : VISITORS;
+  first->luck = luck;
+  crowd.is_traced = drawn(first, 2) == 0;
+  uint32_t bound = 1 + drawn(first, 4);
+  if (crowd.is_traced) DONE(paldwosk_barrier_new_traced(&crowd.barrier, bound, operators, 2));
+  else DONE(paldwosk_barrier_new(&crowd.barrier, bound, operators, 2));
+  if (drawn(first, 3) == 0) DONE(paldwosk_barrier_spin(&crowd.barrier, 0));
+  first->mode = drawn(first, 4) ? PALDWOSK_SINGLE : PALDWOSK_SIG_WAIT;
+  DONE(paldwosk_barrier_make(&crowd.barrier, first->mode, &first->task));
+  crowd.count = first->is_there = 1;
+  start(&first->thread, visit, first);
+  for (int at = 0; at < __atomic_load_n(&crowd.count, __ATOMIC_RELAXED) && at < crowd.most; at++)
+    pthread_join(crowd.all[at].thread, NULL);
+  if (crowd.is_traced) replay(&crowd.barrier, report, sizeof report);
+  DONE(paldwosk_barrier_free(&crowd.barrier));
+}
+
+static void meet_for(int seconds, uint64_t seed, int most) {
+  time_t until = time(NULL) + seconds;
+  for (uint64_t round = 1; !faults && (round == 1 || time(NULL) < until); round++)
+    meet((seed + 1) * 0x9e3779b97f4a7c15u + round * 0xbf58476d1ce4e5b9u, most);
+}
+
+/* ---- What holds of other people's barriers. Each says whose tests have it, in words; the code is ours. */
+
+/* java.util.concurrent.Phaser: an arrival doesn't wait, and the phase isn't over by it alone. */
+static void arriving_does_not_wait(void) {
+  paldwosk_barrier barrier;
+  paldwosk_task tasks[3];
+  call waiter;
+  make_party(&barrier, tasks, 3);
+  begin_call(&waiter, tasks[2], 'n');
+  DONE(paldwosk_barrier_signal(&tasks[0]));
+  rest(20);
+  MUST(are_parked(&barrier, 1));
+  DONE(paldwosk_barrier_signal(&tasks[1]));
+  end_call(&waiter, PALDWOSK_DONE, 0);
+  DONE(paldwosk_barrier_free(&barrier));
+}
+
+/* glibc, Python and java.util.concurrent: where there is one party it never waits. */
+static void one_party_never_waits(void) {
+  paldwosk_barrier barrier;
+  paldwosk_task task;
+  uint64_t phase = 77;
+  make_party(&barrier, &task, 1);
+  for (uint64_t at = 0; at < 10; at++) {
+    DONE(at % 2 ? paldwosk_barrier_single(&task, 1, nothing, NULL, &phase) : paldwosk_barrier_next(&task, &phase));
+    MUST(phase == at);
+  }
+  DONE(paldwosk_barrier_free(&barrier));
+}
+
+/* java.util.concurrent.Phaser: who is registered later takes part from the phase that is current. Here: where its
+ * parent stands, and if that has arrived it needn't arrive either. */
+static void late_party_begins_at_its_parent(void) {
+  paldwosk_barrier barrier;
+  paldwosk_task tasks[1], late, later;
+  uint64_t phase = 77;
+  make_party(&barrier, tasks, 1);
+  DONE(paldwosk_barrier_next(&tasks[0], NULL));
+  DONE(paldwosk_barrier_next(&tasks[0], NULL));
+  DONE(paldwosk_barrier_join(&tasks[0], PALDWOSK_SIG_WAIT, &late));
+  DONE(paldwosk_barrier_signal(&tasks[0]));
+  DONE(paldwosk_barrier_join(&tasks[0], PALDWOSK_SIG_WAIT, &later));
+  DONE(paldwosk_barrier_next(&late, &phase));
+  MUST(phase == 2);
+  MUST(paldwosk_barrier_signal(&later) == PALDWOSK_ALREADY_SIGNALLED);
+  DONE(paldwosk_barrier_wait(&later, &phase));
+  MUST(phase == 2);
+  DONE(paldwosk_barrier_free(&barrier));
+}
+
+/* java.util.concurrent.Phaser: where the last who hasn't arrived deregisters, the others advance. Python has them
+ * broken in this case (abort); here they go on. */
+static void leaving_lets_others_go_on(void) {
+  paldwosk_barrier barrier;
+  paldwosk_task tasks[3];
+  call first, second;
+  make_party(&barrier, tasks, 3);
+  begin_call(&first, tasks[0], 'n');
+  begin_call(&second, tasks[1], 'n');
+  MUST(are_parked(&barrier, 2));
+  DONE(paldwosk_barrier_leave(&tasks[2]));
+  end_call(&first, PALDWOSK_DONE, 0);
+  end_call(&second, PALDWOSK_DONE, 0);
+  begin_call(&first, tasks[0], 'n'); /* and in the next phase two are enough */
+  DONE(paldwosk_barrier_next(&tasks[1], NULL));
+  end_call(&first, PALDWOSK_DONE, 1);
+  DONE(paldwosk_barrier_free(&barrier));
+}
+
+/* java.util.concurrent.Phaser: to await a phase that is over doesn't wait. */
+static void phase_that_is_over_is_not_awaited(void) {
+  paldwosk_barrier barrier;
+  paldwosk_task task, waits;
+  uint64_t phase = 77;
+  make_party(&barrier, &task, 1);
+  DONE(paldwosk_barrier_join(&task, PALDWOSK_WAIT, &waits));
+  DONE(paldwosk_barrier_next(&task, NULL));
+  DONE(paldwosk_barrier_next(&task, NULL));
+  for (uint64_t at = 0; at < 2; at++) {
+    DONE(paldwosk_barrier_wait(&waits, &phase));
+    MUST(phase == at);
+  }
+  DONE(paldwosk_barrier_free(&barrier));
+}
+
+/* java.util.concurrent.Phaser: who isn't registered can't arrive, and that changes nothing for the others. */
+static void stranger_can_not_arrive(void) {
+  paldwosk_barrier barrier;
+  paldwosk_task tasks[2];
+  call waiter;
+  make_party(&barrier, tasks, 2);
+  paldwosk_task stranger = {&barrier, 2};
+  begin_call(&waiter, tasks[0], 'n');
+  MUST(are_parked(&barrier, 1));
+  MUST(paldwosk_barrier_signal(&stranger) == PALDWOSK_NOT_REGISTERED);
+  MUST(paldwosk_barrier_leave(&stranger) == PALDWOSK_NOT_REGISTERED);
+  rest(20);
+  MUST(are_parked(&barrier, 1));
+  DONE(paldwosk_barrier_next(&tasks[1], NULL));
+  end_call(&waiter, PALDWOSK_DONE, 0);
+  DONE(paldwosk_barrier_free(&barrier));
+}
+
+/* Python's Barrier: its action is run by one of the parties, before any of them is let go. glibc: in each round
+ * exactly one thread is told that it is the serial one. Here that is who runs the single. */
+static void slow_statement(void *given) {
+  rest(20);
+  ++*(int *)given;
+}
+
+static void *see_statement(void *given) {
+  static int runs; /* not atomic: the barrier orders it */
+  paldwosk_task *task = (paldwosk_task *)given;
+  for (int round = 0; round < 5; round++) {
+    DONE(paldwosk_barrier_single(task, 1, slow_statement, &runs, NULL));
+    MUST(runs == round + 1);
+    DONE(paldwosk_barrier_next(task, NULL));
+  }
+  return NULL;
+}
+
+static void action_comes_before_all_go(void) {
+  paldwosk_barrier barrier;
+  paldwosk_task tasks[5];
+  pthread_t threads[5];
+  make_party(&barrier, tasks, 5);
+  for (int at = 0; at < 5; at++) start(&threads[at], see_statement, &tasks[at]);
+  for (int at = 0; at < 5; at++) pthread_join(threads[at], NULL);
+  DONE(paldwosk_barrier_free(&barrier));
+}
+
+/* glibc: many threads, many rounds, at one barrier; and two barriers in turn, of which one is freed and made anew by
+ * the one that was chosen, while others may still be on their way out of it. */
+static struct again {
+  paldwosk_barrier first, second;
+  paldwosk_task at_first[8], at_second[8];
+  int index[8];
+} again;
+
+static void make_again(void *unused) {
+  (void)unused;
+  DONE(paldwosk_barrier_free(&again.first));
+  memset(&again.first, 0x5a, sizeof again.first);
+  make_party(&again.first, again.at_first, 8);
+}
+
+static void *meet_again(void *given) {
+  int me = *(int *)given;
+  for (int round = 0; round < 200; round++) {
+    DONE(paldwosk_barrier_next(&again.at_first[me], NULL));
+    DONE(paldwosk_barrier_single(&again.at_second[me], 1, make_again, NULL, NULL));
+  }
+  return NULL;
+}
+
+static void barrier_is_made_anew(void) {
+  pthread_t threads[8];
+  make_party(&again.first, again.at_first, 8);
+  make_party(&again.second, again.at_second, 8);
+  for (int at = 0; at < 8; at++) {
+    again.index[at] = at;
+    start(&threads[at], meet_again, &again.index[at]);
+  }
+  for (int at = 0; at < 8; at++) pthread_join(threads[at], NULL);
+  DONE(paldwosk_barrier_free(&again.first));
+  DONE(paldwosk_barrier_free(&again.second));
+}
+
+static void facts(void) {
+  arriving_does_not_wait();
+  one_party_never_waits();
+  late_party_begins_at_its_parent();
+  leaving_lets_others_go_on();
+  phase_that_is_over_is_not_awaited();
+  stranger_can_not_arrive();
+  action_comes_before_all_go();
+  /* helgrind takes what another thread's unlocking does in a mutex for a race with the mutex's end. */
+  if (!IS_UNDER_VALGRIND) barrier_is_made_anew();
+}
+
+int main(int count, char **words) {
+  int given[3] = {0, 0, 0};
+  const char *what = count > 1 ? words[1] : "";
+  for (int at = 2; at < count && at < 5; at++) given[at - 2] = atoi(words[at]);
+  if (!strcmp(what, "wrong")) wrong();
+  else if (!strcmp(what, "memory")) memory();
+  else if (!strcmp(what, "freed")) freed(given[0]);
+  else if (!strcmp(what, "forked")) forked(given[0]);
+  else if (!strcmp(what, "interrupted")) interrupted();
+  else if (!strcmp(what, "cancelled")) cancelled();
+  else if (!strcmp(what, "facts")) facts();
+  else if (!strcmp(what, "stress")) stress(given[0], given[1], (uint32_t)given[2]);
+  else if (!strcmp(what, "singles")) singles(given[0], given[1]);
+  else if (!strcmp(what, "bounded")) bounded(given[0], given[1]);
+  else if (!strcmp(what, "traced")) traced(given[0], given[1]);
+  else if (!strcmp(what, "told")) told();
+  else if (!strcmp(what, "crowd")) meet_for(given[0], (uint64_t)given[1], given[2]);
+  else return 3;
+  return faults ? 4 : 0;
+}

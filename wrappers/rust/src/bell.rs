@@ -1,0 +1,86 @@
+//! A word by which threads sleep until it changes: a futex on Linux, elsewhere a condition variable. Each sleeper has a bit,
+//! and is woken by it; it may also wake for nothing, so it looks again for what it waits for.
+#[cfg(has_futex)]
+pub(crate) use futex::Bell;
+
+#[cfg(not(has_futex))]
+pub(crate) use condition_variable::Bell;
+
+#[cfg(has_futex)]
+mod futex {
+    use std::ffi::{c_int, c_long};
+    use std::ptr::null;
+    use std::sync::atomic::AtomicU32;
+
+    const FUTEX_WAIT_BITSET: c_int = 9 | FUTEX_PRIVATE;
+    const FUTEX_WAKE_BITSET: c_int = 10 | FUTEX_PRIVATE;
+    const FUTEX_PRIVATE: c_int = 128;
+    const SYS_FUTEX: c_long = if cfg!(target_arch = "x86_64") { 202 } else { 98 };
+
+    unsafe extern "C" {
+        fn syscall(number: c_long, ...) -> c_long; // std links it
+    }
+
+    pub(crate) struct Bell {
+        pub(crate) word: AtomicU32,
+    }
+
+    impl Bell {
+        pub(crate) const fn new() -> Bell {
+            Bell { word: AtomicU32::new(0) }
+        }
+
+        /// Sleeps, if the word is this still, until one of the bits is woken.
+        pub(crate) fn sleep(&self, word: u32, bits: u32) {
+            let no_end = null::<u8>();
+            // SAFETY: the word is lent for the call, which reads it as a whole; no pointer else is followed. What is
+            // answered says why the thread goes on, which its caller doesn't ask.
+            unsafe { syscall(SYS_FUTEX, self.word.as_ptr(), FUTEX_WAIT_BITSET, word, no_end, null::<u8>(), bits) };
+        }
+
+        /// Wakes all who sleep for one of the bits.
+        pub(crate) fn wake(&self, bits: u32) {
+            let nobody_less = c_int::MAX;
+            // SAFETY: the word is lent for the call, and no pointer is followed.
+            unsafe {
+                syscall(SYS_FUTEX, self.word.as_ptr(), FUTEX_WAKE_BITSET, nobody_less, null::<u8>(), null::<u8>(), bits)
+            };
+        }
+    }
+}
+
+#[cfg(not(has_futex))]
+mod condition_variable {
+    use std::sync::atomic::{AtomicU32, Ordering::Acquire};
+    use std::sync::{Condvar, Mutex, MutexGuard, PoisonError};
+
+    pub(crate) struct Bell {
+        pub(crate) word: AtomicU32,
+        lock: Mutex<()>,
+        changed: Condvar,
+    }
+
+    impl Bell {
+        pub(crate) const fn new() -> Bell {
+            Bell { word: AtomicU32::new(0), lock: Mutex::new(()), changed: Condvar::new() }
+        }
+
+        fn lock(&self) -> MutexGuard<'_, ()> {
+            self.lock.lock().unwrap_or_else(PoisonError::into_inner)
+        }
+
+        /// Sleeps, if the word is this still, until somebody is woken.
+        pub(crate) fn sleep(&self, word: u32, _bits: u32) {
+            let held = self.lock();
+            if self.word.load(Acquire) == word {
+                drop(self.changed.wait(held));
+            }
+        }
+
+        /// Wakes all who sleep. The word has changed, so who has the lock in `sleep` sleeps already, or won't.
+        pub(crate) fn wake(&self, _bits: u32) {
+            drop(self.lock());
+            self.changed.notify_all();
+        }
+    }
+}

@@ -1,0 +1,118 @@
+//! Where a task's answer comes while its thread spins or sleeps. A phaser has a seat for each task that it has room for, and
+//! keeps them as long as itself: so whoever answers writes where memory stays, even if the task has left meanwhile.
+use crate::archive::{Freed, MOST_FREED};
+use crate::waiting_cell::{outcome, Outcome};
+use std::sync::atomic::{AtomicU32, AtomicU64, Ordering::*};
+
+/// How many seats there are: as many as tasks may be registered at once.
+pub(crate) const SEATS: usize = MOST_FREED;
+
+const SPINNING: u32 = 0; // its thread looks at the seat again and again, or is about to
+const READY: u32 = 1; // the answer stands there
+const ASLEEP: u32 = 2; // its thread sleeps, or is about to: it has to be woken
+
+/// The seat of one task, on a cache line of its own.
+#[repr(align(64))]
+pub(crate) struct Seat {
+    state: AtomicU32,
+    answer: AtomicU32,
+    number: AtomicU64,
+}
+
+impl Seat {
+    pub(crate) const fn new() -> Seat {
+        Seat { state: AtomicU32::new(READY), answer: AtomicU32::new(0), number: AtomicU64::new(0) }
+    }
+
+    /// The task waits from now on. The lock is held, under which alone answers are given.
+    pub(crate) fn takes(&self) {
+        self.state.store(SPINNING, Relaxed);
+    }
+
+    /// Gives the answer, with the lock held. Whether its thread has to be woken.
+    pub(crate) fn give(&self, freed: &Freed) -> bool {
+        self.answer.store(freed.answer, Relaxed);
+        self.number.store(freed.number, Relaxed);
+        // Release: who sees READY sees the answer. From here on the task may be gone, and another one have the seat.
+        self.state.swap(READY, AcqRel) == ASLEEP
+    }
+
+    /// Whether the answer stands there.
+    pub(crate) fn is_ready(&self) -> bool {
+        self.state.load(Acquire) == READY
+    }
+
+    /// From now on the task has to be woken, if its answer doesn't stand there yet. Whether it doesn't.
+    pub(crate) fn falls_asleep(&self) -> bool {
+        self.state.compare_exchange(SPINNING, ASLEEP, AcqRel, Acquire).is_ok()
+    }
+
+    #[cfg(test)]
+    pub(crate) fn is_asleep(&self) -> bool {
+        self.state.load(Acquire) == ASLEEP
+    }
+
+    /// The answer, once it stands there.
+    pub(crate) fn outcome(&self) -> Outcome {
+        outcome(self.answer.load(Relaxed), self.number.load(Relaxed))
+    }
+}
+
+/// The bit by which the thread of a seat sleeps and is woken. Who shares one wakes for nothing at times.
+pub(crate) fn bit(seat: usize) -> u32 {
+    1 << (seat % 32)
+}
+
+#[cfg(test)]
+mod tests {
+    use super::*;
+    use crate::waiting_cell::Ended;
+    use std::hint::spin_loop;
+    use std::thread::{scope, yield_now};
+
+    fn spin_until(has_come: impl Fn() -> bool) {
+        let mut spun = 0_u32;
+        while !has_come() {
+            spun += 1;
+            if spun % 1_000 == 0 {
+                yield_now();
+            }
+            spin_loop();
+        }
+    }
+
+    /// Who sees that the answer stands there sees this answer, and no earlier one.
+    #[test]
+    fn ready_seat_has_its_answer() {
+        const ROUNDS: u64 = 50_000;
+        let (seat, taken) = (Seat::new(), AtomicU64::new(0));
+        scope(|scope| {
+            scope.spawn(|| {
+                for round in 1..=ROUNDS {
+                    spin_until(|| taken.load(Acquire) == round);
+                    assert!(!seat.give(&Freed { task: 0, number: round, answer: 0 }));
+                }
+            });
+            let is_earlier = |round: &u64| {
+                seat.takes();
+                taken.store(*round, Release);
+                spin_until(|| seat.is_ready());
+                seat.outcome() != Ok(Ended::Done(*round))
+            };
+            assert_eq!((1..=ROUNDS).filter(is_earlier).count(), 0);
+        });
+    }
+
+    #[test]
+    fn who_is_asleep_has_to_be_woken() {
+        let (seat, freed) = (Seat::new(), Freed { task: 0, number: 5, answer: 33 });
+        seat.takes();
+        assert!(seat.falls_asleep());
+        assert!(!seat.is_ready());
+        assert!(seat.give(&freed));
+        assert_eq!(seat.outcome(), Ok(Ended::Claimed));
+        seat.takes();
+        assert!(!seat.give(&freed));
+        assert!(!seat.falls_asleep());
+    }
+}

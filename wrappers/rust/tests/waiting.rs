@@ -1,0 +1,927 @@
+//! The calls that wait: each on its happy path and wrongly used, threads that panic or leave, barriers, and traces.
+use paldwosk::{replay, Barrier, Look, Mode, Operator, Phaser, Refusal, Task};
+use std::panic::{catch_unwind, AssertUnwindSafe, RefUnwindSafe, UnwindSafe};
+use std::sync::atomic::{AtomicBool, AtomicU64, Ordering::*};
+use std::sync::mpsc::{channel, RecvTimeoutError};
+use std::sync::Arc;
+use std::thread::{self, JoinHandle};
+use std::time::Duration;
+
+/// Far more than any test takes: one that hangs fails by it.
+const SECONDS: u64 = 120;
+
+fn in_time<T: Send + 'static>(body: impl FnOnce() -> T + Send + 'static) -> T {
+    let (ends, end) = channel();
+    let thread = thread::spawn(move || {
+        let value = body();
+        let _ = ends.send(());
+        value
+    });
+    if end.recv_timeout(Duration::from_secs(SECONDS)) == Err(RecvTimeoutError::Timeout) {
+        panic!("it hangs");
+    }
+    joined(thread)
+}
+
+fn joined<T>(thread: JoinHandle<T>) -> T {
+    thread.join().unwrap()
+}
+
+/// Time enough for another thread to sleep in its call. Nothing is judged by it: it makes likely what is to be tried.
+fn let_sleep() {
+    thread::sleep(Duration::from_millis(30));
+}
+
+/// The first task of a phaser by whose bound no barrier waits.
+fn maker(mode: Mode, operators: &[Operator]) -> Task {
+    Phaser::new(2, operators).unwrap().make(mode).unwrap()
+}
+
+fn children(parent: &mut Task, mode: Mode, count: usize) -> Vec<Task> {
+    (0..count).map(|_| parent.join(mode).unwrap()).collect()
+}
+
+/// Each task does it in a thread of its own: what they came to, in order.
+fn together<T: Send + 'static>(tasks: Vec<Task>, body: impl Fn(Task) -> T + Send + Sync + 'static) -> Vec<T> {
+    let body = Arc::new(body);
+    let started = |task| {
+        let body = body.clone();
+        thread::spawn(move || body(task))
+    };
+    let threads: Vec<_> = tasks.into_iter().map(started).collect();
+    threads.into_iter().map(joined).collect()
+}
+
+/// The maker and as many children as make so many tasks.
+fn tasks(mut maker: Task, mode: Mode, count: usize) -> Vec<Task> {
+    let mut tasks = children(&mut maker, mode, count - 1);
+    tasks.push(maker);
+    tasks
+}
+
+// ---- What each call does
+
+#[test]
+fn three_tasks_turn() {
+    in_time(|| {
+        let tasks = tasks(maker(Mode::SigWait, &[]), Mode::SigWait, 3);
+        let phases = together(tasks, |mut task| [task.next(), task.next(), task.next()]);
+        assert_eq!(phases, [[Ok(0), Ok(1), Ok(2)]; 3]);
+    });
+}
+
+#[test]
+fn phase_is_split() {
+    in_time(|| {
+        let mut maker = maker(Mode::SigWait, &[]);
+        let mut other = maker.join(Mode::SigWait).unwrap();
+        assert_eq!(maker.signal(), Ok(())); // it goes on, though the other hasn't signalled
+        let thread = thread::spawn(move || (other.signal(), other.wait(), other.next()));
+        assert_eq!(maker.wait(), Ok(0));
+        assert_eq!(maker.next(), Ok(1));
+        assert_eq!(joined(thread), (Ok(()), Ok(0), Ok(1)));
+    });
+}
+
+#[test]
+fn one_who_only_signals_waits_for_nobody() {
+    in_time(|| {
+        let mut maker = maker(Mode::SigWait, &[]);
+        let mut producer = maker.join(Mode::Sig).unwrap();
+        assert_eq!(producer.next(), Ok(0));
+        assert_eq!(producer.signal(), Ok(()));
+        assert_eq!(producer.wait(), Ok(1));
+    });
+}
+
+/// By the bound 2 the signal of phase 2 waits until both consumers have passed phase 0.
+#[test]
+fn producer_waits_at_the_bound() {
+    in_time(|| {
+        let mut maker = maker(Mode::SigWait, &[]);
+        let mut producer = maker.join(Mode::Sig).unwrap();
+        let consumers = children(&mut maker, Mode::Wait, 2);
+        maker.leave();
+        let passed = Arc::new(AtomicU64::new(0));
+        let seen = passed.clone();
+        assert_eq!((producer.next(), producer.next()), (Ok(0), Ok(1)));
+        let thread = thread::spawn(move || (producer.next(), seen.load(SeqCst), producer));
+        let mut consumers = consumers.into_iter().map(|mut consumer| {
+            let_sleep();
+            passed.fetch_add(1, SeqCst);
+            assert_eq!(consumer.wait(), Ok(0));
+            consumer
+        });
+        let (mut first, mut second) = (consumers.next().unwrap(), consumers.next().unwrap());
+        let (phase, seen, mut producer) = joined(thread);
+        assert_eq!((phase, seen), (Ok(2), 2));
+        // The same for a signal alone: of phase 3, until both have passed phase 1.
+        let thread = thread::spawn(move || producer.signal());
+        let_sleep();
+        assert!(!thread.is_finished());
+        assert_eq!((first.wait(), second.wait()), (Ok(1), Ok(1)));
+        assert_eq!(joined(thread), Ok(()));
+        assert_eq!((first.wait(), first.wait()), (Ok(2), Ok(3)));
+    });
+}
+
+#[test]
+fn accumulators_fold() {
+    in_time(|| {
+        let mut task = maker(Mode::SigWait, &[Operator::Sum, Operator::Least, Operator::Greatest]);
+        let looks = |task: &mut Task| [task.look(0), task.look(1), task.look(2)];
+        for value in [i32::MAX, -4, i32::MAX] {
+            for accumulator in 0..3 {
+                assert_eq!(task.send(accumulator, value), Ok(()));
+            }
+        }
+        task.next().unwrap();
+        let folds = [4_294_967_290, -4, 2_147_483_647].map(|fold| Ok(Look::Value(fold)));
+        assert_eq!(looks(&mut task), folds);
+        task.next().unwrap(); // a phase without a value
+        assert_eq!(looks(&mut task), [Ok(Look::Value(0)), Ok(Look::Nothing), Ok(Look::Nothing)]);
+    });
+}
+
+#[test]
+fn child_begins_where_its_parent_stands() {
+    in_time(|| {
+        let mut maker = maker(Mode::SigWait, &[]);
+        maker.next().unwrap();
+        maker.signal().unwrap();
+        let mut child = maker.join(Mode::SigWait).unwrap();
+        assert_eq!((maker.number(), child.number()), (0, 1));
+        assert_eq!(child.signal(), Err(Refusal::AlreadySignalled));
+        assert_eq!((child.wait(), maker.wait()), (Ok(1), Ok(1)));
+        child.leave();
+        assert_eq!(maker.next(), Ok(2)); // nobody waits for the child any more
+        assert_eq!(maker.join(Mode::Sig).unwrap().number(), 2); // nobody has its number again
+    });
+}
+
+/// In each of 200 phases one of four runs the statement, before anybody goes on.
+#[test]
+fn single_runs_once_and_alone() {
+    in_time(|| {
+        static RUNS: AtomicU64 = AtomicU64::new(0);
+        static RUNNING: AtomicBool = AtomicBool::new(false);
+        let statement = || {
+            assert!(!RUNNING.swap(true, SeqCst));
+            thread::yield_now();
+            RUNS.fetch_add(1, SeqCst);
+            assert!(RUNNING.swap(false, SeqCst));
+        };
+        together(tasks(maker(Mode::Single, &[]), Mode::Single, 4), move |mut task| {
+            for phase in 0..200 {
+                assert_eq!(task.single(phase as u32 % 3, statement), Ok(phase));
+                // Nobody runs the next before this task has proposed it too.
+                assert_eq!((RUNS.load(SeqCst), RUNNING.load(SeqCst)), (phase + 1, false));
+            }
+        });
+    });
+}
+
+/// Who proposed nothing waits for the statement all the same.
+#[test]
+fn all_wait_for_a_single() {
+    in_time(|| {
+        let mut maker = maker(Mode::Single, &[]);
+        let mut plain = maker.join(Mode::SigWait).unwrap();
+        let is_done = Arc::new(AtomicBool::new(false));
+        let seen = is_done.clone();
+        let thread = thread::spawn(move || (plain.next(), seen.load(SeqCst)));
+        let statement = || {
+            let_sleep();
+            is_done.store(true, SeqCst);
+        };
+        assert_eq!(maker.single(7, statement), Ok(0));
+        assert_eq!(joined(thread), (Ok(0), true));
+    });
+}
+
+// ---- What is refused
+
+#[test]
+fn wrong_bounds_and_operators_are_refused() {
+    let refusal = |bound, operators: &[Operator]| Phaser::new(bound, operators).err();
+    assert_eq!(refusal(0, &[]), Some(Refusal::BadBound));
+    assert_eq!(refusal(65_537, &[]), Some(Refusal::BadBound));
+    assert_eq!(refusal(2, &[Operator::Sum; 5]), Some(Refusal::BadOperators));
+    assert_eq!(refusal(65_536, &[Operator::Sum; 4]), None);
+    assert_eq!(Phaser::traced(0, &[]).err(), Some(Refusal::BadBound));
+}
+
+#[test]
+fn second_maker_is_refused() {
+    let phaser = Phaser::new(2, &[]).unwrap();
+    let maker = phaser.make(Mode::Sig).unwrap();
+    assert_eq!(phaser.make(Mode::Sig).err(), Some(Refusal::NotNow));
+    maker.leave();
+    assert_eq!(phaser.make(Mode::Sig).err(), Some(Refusal::NotNow));
+}
+
+#[test]
+fn calls_outside_a_mode_are_refused() {
+    let mut maker = maker(Mode::SigWait, &[Operator::Sum]);
+    let mut signaller = maker.join(Mode::Sig).unwrap();
+    let mut waiter = maker.join(Mode::Wait).unwrap();
+    assert_eq!(signaller.look(0), Err(Refusal::NoWait));
+    assert_eq!(waiter.signal(), Err(Refusal::NoSignal));
+    assert_eq!(waiter.next(), Err(Refusal::NoSignal));
+    assert_eq!(waiter.send(0, 1), Err(Refusal::NoSignal));
+    assert_eq!(waiter.single(1, || unreachable!()), Err(Refusal::NoSignal));
+    assert_eq!(maker.single(1, || unreachable!()), Err(Refusal::NoSingle));
+    assert_eq!(maker.join(Mode::Single).err(), Some(Refusal::MoreThanParent));
+    assert_eq!(signaller.join(Mode::Wait).err(), Some(Refusal::MoreThanParent));
+    assert_eq!(waiter.join(Mode::Sig).err(), Some(Refusal::MoreThanParent));
+}
+
+#[test]
+fn calls_out_of_order_are_refused() {
+    in_time(|| {
+        let mut task = maker(Mode::Single, &[Operator::Sum]);
+        assert_eq!(task.wait(), Err(Refusal::NotSignalled));
+        assert_eq!(task.look(0), Err(Refusal::NoPhaseYet));
+        task.signal().unwrap();
+        assert_eq!(task.signal(), Err(Refusal::AlreadySignalled));
+        assert_eq!(task.next(), Err(Refusal::AlreadySignalled));
+        assert_eq!(task.single(1, || unreachable!()), Err(Refusal::AlreadySignalled));
+        // What was refused changed nothing.
+        assert_eq!(task.wait(), Ok(0));
+        assert_eq!(task.next(), Ok(1));
+    });
+}
+
+#[test]
+fn unknown_accumulators_are_refused() {
+    let mut task = maker(Mode::SigWait, &[Operator::Sum]);
+    for accumulator in [1, 4, 255] {
+        assert_eq!(task.send(accumulator, 1), Err(Refusal::NoAccumulator));
+        assert_eq!(task.look(accumulator), Err(Refusal::NoAccumulator));
+    }
+}
+
+#[test]
+fn tasks_over_256_at_once_are_refused() {
+    let mut maker = maker(Mode::SigWait, &[]);
+    let mut others = children(&mut maker, Mode::SigWait, 255);
+    assert_eq!(maker.join(Mode::SigWait).err(), Some(Refusal::RegsFull));
+    others.pop();
+    assert_eq!(maker.join(Mode::SigWait).unwrap().number(), 256);
+}
+
+/// Two are held at the bound, each to propose a number of its own. One of them is first, and the other is refused.
+#[test]
+fn refusal_comes_to_who_slept() {
+    in_time(|| {
+        let phaser = Phaser::new(1, &[]).unwrap();
+        let mut maker = phaser.make(Mode::Single).unwrap();
+        let mut waiter = maker.join(Mode::Wait).unwrap();
+        let mut proposers = children(&mut maker, Mode::Single, 2);
+        maker.leave();
+        proposers.iter_mut().for_each(|task| task.signal().unwrap());
+        proposers.iter_mut().for_each(|task| assert_eq!(task.wait(), Ok(0)));
+        let threads = proposers.into_iter().zip([7, 8]).map(|(mut task, number)| {
+            thread::spawn(move || match task.single(number, || ()) {
+                Err(Refusal::SingleMismatch) => (1, task.single(15 - number, || ())),
+                answer => (0, answer),
+            })
+        });
+        let threads: Vec<_> = threads.collect();
+        let_sleep();
+        assert_eq!(waiter.wait(), Ok(0));
+        let answers: Vec<_> = threads.into_iter().map(joined).collect();
+        assert_eq!(answers.iter().map(|(refused, _)| refused).sum::<u32>(), 1);
+        assert_eq!(answers.iter().map(|(_, phase)| *phase).collect::<Vec<_>>(), [Ok(1), Ok(1)]);
+    });
+}
+
+#[test]
+fn refusals_have_their_words() {
+    assert_eq!(Refusal::TooGreat.to_string(), "refused 36 TooGreat");
+    assert_eq!(Refusal::RegsFull.to_string(), "refused 14 RegsFull");
+}
+
+// ---- Who leaves, and who panics
+
+#[test]
+fn who_leaves_holds_nobody_up() {
+    in_time(|| {
+        let mut maker = maker(Mode::SigWait, &[]);
+        let tasks = children(&mut maker, Mode::SigWait, 3);
+        let leaver = thread::spawn(move || {
+            let_sleep();
+            drop(maker);
+        });
+        assert_eq!(together(tasks, |mut task| [task.next(), task.next()]), [[Ok(0), Ok(1)]; 3]);
+        joined(leaver);
+    });
+}
+
+#[test]
+fn thread_that_panics_holds_nobody_up() {
+    in_time(|| {
+        let mut maker = maker(Mode::SigWait, &[]);
+        let tasks = children(&mut maker, Mode::SigWait, 3);
+        let panicking = thread::spawn(move || {
+            maker.next().unwrap();
+            let_sleep();
+            panic!("as it has to");
+        });
+        assert_eq!(together(tasks, |mut task| [task.next(), task.next(), task.next()]), [[Ok(0), Ok(1), Ok(2)]; 3]);
+        assert!(panicking.join().is_err());
+    });
+}
+
+/// The statement of phase 0 panics. The turn ends for all, and he who ran it goes on if the panic is caught.
+#[test]
+fn single_that_panics_ends_the_turn() {
+    in_time(|| {
+        let tasks = tasks(maker(Mode::Single, &[]), Mode::Single, 3);
+        let panics = together(tasks, |mut task| {
+            let caught = catch_unwind(AssertUnwindSafe(|| task.single(1, || panic!("as it has to"))));
+            if let Ok(phase) = caught {
+                assert_eq!(phase, Ok(0));
+            }
+            assert_eq!(task.single(2, || ()), Ok(1));
+            caught.is_err()
+        });
+        assert_eq!(panics.into_iter().filter(|panics| *panics).count(), 1);
+    });
+}
+
+#[test]
+fn thread_that_panics_in_its_single_leaves() {
+    in_time(|| {
+        let mut maker = maker(Mode::Single, &[]);
+        let mut other = maker.join(Mode::SigWait).unwrap();
+        let panicking = thread::spawn(move || maker.single(1, || panic!("as it has to")));
+        assert_eq!((other.next(), other.next()), (Ok(0), Ok(1)));
+        assert!(panicking.join().is_err());
+    });
+}
+
+/// The lock of a phaser is poisoned by nothing that a caller does.
+#[test]
+fn phaser_outlives_its_makers_thread() {
+    in_time(|| {
+        let phaser = Phaser::new(2, &[]).unwrap();
+        let maker = phaser.make(Mode::SigWait).unwrap();
+        let (gives, given) = channel();
+        let thread = thread::spawn(move || {
+            let mut maker = maker;
+            gives.send(maker.join(Mode::SigWait).unwrap()).unwrap();
+            drop(phaser);
+            panic!("as it has to");
+        });
+        let mut child = given.recv().unwrap();
+        assert!(thread.join().is_err());
+        assert_eq!(child.next(), Ok(0));
+    });
+}
+
+// ---- Many phases
+
+/// Whether in each phase the sum is that of this phase's values, and all had come before anybody went on.
+fn turn_with_values(count: usize, phases: u64, phaser: &Phaser) {
+    let mut maker = phaser.make(Mode::SigWait).unwrap();
+    let mut all = children(&mut maker, Mode::SigWait, count - 1);
+    all.push(maker);
+    let (came, count) = (AtomicU64::new(0), count as u64);
+    let all_sum = (count * (count - 1) / 2) as i64;
+    together(all, move |mut task| {
+        for phase in 0..phases {
+            let factor = (phase % 7 + 1) as i32;
+            task.send(0, task.number() as i32 * factor).unwrap();
+            came.fetch_add(1, Relaxed);
+            assert_eq!(task.next(), Ok(phase));
+            assert!(came.load(Relaxed) >= (phase + 1) * count, "a pass of phase {phase} is early");
+            assert_eq!(task.look(0), Ok(Look::Value(all_sum * i64::from(factor))));
+        }
+    });
+}
+
+#[test]
+fn two_threads_turn_often() {
+    in_time(|| turn_with_values(2, 50_000, &Phaser::new(2, &[Operator::Sum]).unwrap()));
+}
+
+#[test]
+fn four_threads_turn_often() {
+    in_time(|| turn_with_values(4, 20_000, &Phaser::new(1, &[Operator::Sum]).unwrap()));
+}
+
+#[test]
+fn sixteen_threads_turn_often() {
+    in_time(|| turn_with_values(16, 5_000, &Phaser::new(2, &[Operator::Sum]).unwrap()));
+}
+
+/// More tasks than there are bits by which threads are woken.
+#[test]
+fn hundred_threads_turn() {
+    in_time(|| turn_with_values(100, 200, &Phaser::new(2, &[Operator::Sum]).unwrap()));
+}
+
+/// Signals and waits apart, with work of another length in each thread between them.
+#[test]
+fn split_phases_turn_often() {
+    in_time(|| {
+        let (phases, came) = (3_000, AtomicU64::new(0));
+        together(tasks(maker(Mode::SigWait, &[]), Mode::SigWait, 5), move |mut task| {
+            for phase in 0..phases {
+                came.fetch_add(1, Relaxed);
+                task.signal().unwrap();
+                (0..task.number() * (phase % 50)).for_each(|_| std::hint::spin_loop());
+                assert_eq!(task.wait(), Ok(phase));
+                assert!(came.load(Relaxed) >= (phase + 1) * 5);
+            }
+        });
+    });
+}
+
+/// A producer fills a ring, and consumers read each item in order. Who has passed a phase reads its item before it passes the
+/// next, so a ring has two places more than the bound.
+fn produce(bound: u32, items: u64, consumers: usize) {
+    let mut maker = Phaser::new(bound, &[]).unwrap().make(Mode::SigWait).unwrap();
+    let mut producer = maker.join(Mode::Sig).unwrap();
+    let readers = children(&mut maker, Mode::Wait, consumers);
+    maker.leave();
+    let ring: Arc<Vec<AtomicU64>> = Arc::new((0..bound as usize + 2).map(|_| AtomicU64::new(0)).collect());
+    let place = move |item: u64| item as usize % (bound as usize + 2);
+    let read = ring.clone();
+    let writing = thread::spawn(move || {
+        for item in 0..items {
+            ring[place(item)].store(item * item, Relaxed);
+            assert_eq!(producer.next(), Ok(item));
+        }
+    });
+    together(readers, move |mut reader| {
+        for item in 0..items {
+            assert_eq!(reader.wait(), Ok(item));
+            assert_eq!(read[place(item)].load(Relaxed), item * item);
+        }
+    });
+    joined(writing);
+}
+
+#[test]
+fn bounded_producer_is_never_too_far_ahead() {
+    in_time(|| produce(1, 10_000, 2));
+    in_time(|| produce(3, 10_000, 2));
+    in_time(|| produce(64, 30_000, 1));
+}
+
+/// Threads come and go in some phase, and each sends 1 in each of its own. The one that stays sees each of them once.
+#[test]
+fn threads_come_and_go() {
+    in_time(|| {
+        let mut maker = maker(Mode::SigWait, &[Operator::Sum]);
+        let (mut threads, mut seen, mut sent) = (Vec::new(), 0, 0);
+        for round in 0..2_000_u64 {
+            if round % 3 == 0 {
+                let mut task = maker.join(Mode::SigWait).unwrap();
+                let phases = round % 11 + 1;
+                sent += phases;
+                threads.push(thread::spawn(move || {
+                    for phase in 0..phases {
+                        task.send(0, 1).unwrap();
+                        assert_eq!(task.next(), Ok(round + phase));
+                    }
+                }));
+            }
+            assert_eq!(maker.next(), Ok(round));
+            let Ok(Look::Value(sum)) = maker.look(0) else { panic!("a sum is always there") };
+            seen += sum as u64;
+        }
+        // Those who are still there go on without the maker only once it has left.
+        while let Some(thread) = threads.pop() {
+            while !thread.is_finished() {
+                maker.next().unwrap();
+                let Ok(Look::Value(sum)) = maker.look(0) else { panic!("a sum is always there") };
+                seen += sum as u64;
+            }
+            joined(thread);
+        }
+        assert_eq!(seen, sent);
+    });
+}
+
+/// Singles, of which each counts once, while others only signal and wait.
+#[test]
+fn singles_turn_often() {
+    in_time(|| {
+        static RUNS: AtomicU64 = AtomicU64::new(0);
+        let mut maker = maker(Mode::Single, &[]);
+        let mut all = children(&mut maker, Mode::SigWait, 2);
+        all.extend(children(&mut maker, Mode::Single, 2));
+        all.push(maker);
+        together(all, |mut task| {
+            for phase in 0..5_000 {
+                let turned = match task.number() {
+                    1 | 2 => task.next(),
+                    _ => task.single(phase as u32, || assert_eq!(RUNS.fetch_add(1, Relaxed), phase)),
+                };
+                assert_eq!(turned, Ok(phase));
+                assert_eq!(RUNS.load(Relaxed), phase + 1);
+            }
+        });
+    });
+}
+
+// ---- Barriers: the same tests of std's and of this one
+
+macro_rules! barrier_tests {
+    ($name:ident, $barrier:ty) => {
+        mod $name {
+            use super::*;
+
+            type Barrier = $barrier;
+
+            /// In each round all had come before anybody went on, and one leads.
+            fn meet(threads: usize, rounds: usize) {
+                let barrier = Arc::new(Barrier::new(threads));
+                let came = Arc::new(AtomicU64::new(0));
+                let leaders: Arc<Vec<AtomicU64>> = Arc::new((0..rounds).map(|_| AtomicU64::new(0)).collect());
+                let meeting: Vec<_> = (0..threads)
+                    .map(|_| {
+                        let (barrier, came, leaders) = (barrier.clone(), came.clone(), leaders.clone());
+                        thread::spawn(move || {
+                            for round in 0..rounds {
+                                came.fetch_add(1, Relaxed);
+                                let leads = barrier.wait().is_leader();
+                                assert!(came.load(Relaxed) >= ((round + 1) * threads) as u64);
+                                leaders[round].fetch_add(u64::from(leads), Relaxed);
+                            }
+                        })
+                    })
+                    .collect();
+                meeting.into_iter().for_each(joined);
+                assert!(leaders.iter().all(|leaders| leaders.load(Relaxed) == 1));
+            }
+
+            /// More threads than the barrier is for: each wait takes the place of one.
+            fn crowd(size: u64, threads: usize, generations: u64) {
+                let barrier = Arc::new(Barrier::new(size as usize));
+                let (waits, leaders) = (Arc::new(AtomicU64::new(0)), Arc::new(AtomicU64::new(0)));
+                let crowd: Vec<_> = (0..threads)
+                    .map(|_| {
+                        let (barrier, waits, leaders) = (barrier.clone(), waits.clone(), leaders.clone());
+                        thread::spawn(move || {
+                            while waits.fetch_add(1, Relaxed) < size * generations {
+                                leaders.fetch_add(u64::from(barrier.wait().is_leader()), Relaxed);
+                            }
+                        })
+                    })
+                    .collect();
+                crowd.into_iter().for_each(joined);
+                assert_eq!(leaders.load(Relaxed), generations);
+            }
+
+            #[test]
+            fn sixteen_threads_meet() {
+                in_time(|| meet(16, 20_000));
+            }
+
+            #[test]
+            fn few_threads_meet() {
+                in_time(|| meet(2, 50_000));
+                in_time(|| meet(3, 20_000));
+            }
+
+            #[test]
+            fn more_threads_than_it_is_for_meet() {
+                in_time(|| crowd(2, 6, 20_000));
+                in_time(|| crowd(3, 8, 10_000));
+            }
+
+            #[test]
+            fn barrier_of_none_is_one_of_one() {
+                in_time(|| {
+                    for count in [0, 1] {
+                        let barrier = Barrier::new(count);
+                        assert!(barrier.wait().is_leader());
+                        assert!(barrier.wait().is_leader());
+                    }
+                });
+            }
+
+            #[test]
+            fn it_has_the_same_form() {
+                fn is_fit<T: Send + Sync + UnwindSafe + RefUnwindSafe>() {}
+                is_fit::<Barrier>();
+                assert_eq!(format!("{:?}", Barrier::new(2)), "Barrier { .. }");
+                assert_eq!(format!("{:?}", Barrier::new(1).wait()), "BarrierWaitResult { is_leader: true }");
+            }
+        }
+    };
+}
+
+barrier_tests!(barrier_of_std, std::sync::Barrier);
+barrier_tests!(barrier_of_paldwosk, paldwosk::Barrier);
+
+#[test]
+fn barrier_of_256_is_the_greatest() {
+    drop(Barrier::new(256));
+    let panicked = catch_unwind(|| Barrier::new(257)).unwrap_err();
+    let said = panicked.downcast_ref::<String>().unwrap();
+    assert_eq!(said, "a paldwosk::Barrier has room for 256 threads, and 257 are asked for");
+}
+
+// ---- Traces
+
+fn traced(bound: u32, operators: &[Operator], mode: Mode) -> (Phaser, Task) {
+    let phaser = Phaser::traced(bound, operators).unwrap();
+    let maker = phaser.make(mode).unwrap();
+    (phaser, maker)
+}
+
+fn report(phaser: &Phaser) -> String {
+    replay(phaser.trace().as_bytes()).unwrap()
+}
+
+#[test]
+fn phaser_that_is_not_traced_has_no_trace() {
+    let phaser = Phaser::new(2, &[]).unwrap();
+    let maker = phaser.make(Mode::Sig).unwrap();
+    assert_eq!(phaser.trace(), "");
+    assert!(!phaser.trace_has_ended());
+    drop(maker);
+}
+
+#[test]
+fn trace_of_one_task_is_told() {
+    in_time(|| {
+        let (phaser, mut task) = traced(2, &[Operator::Sum, Operator::Greatest], Mode::SigWait);
+        task.send(0, -5).unwrap();
+        task.next().unwrap();
+        assert_eq!((task.look(0), task.look(1)), (Ok(Look::Value(-5)), Ok(Look::Nothing)));
+        task.signal().unwrap();
+        task.wait().unwrap();
+        assert_eq!(task.signal().and(task.signal()), Err(Refusal::AlreadySignalled)); // the second is no event
+        let child = task.join(Mode::Sig).unwrap();
+        child.leave();
+        task.leave();
+        let text = concat!(
+            r#"{"events":[[1,"p",0,"make",0,"SIG_WAIT",["sum","greatest"],2],[2,"p",0,"send",0,0,-5],"#,
+            r#"[3,"t",0,"begin",["next"]],[4,"p",0,"sig",0],[5,"p",0,"pass",0],"#,
+            r#"[6,"p",0,"look",0,0,-5],[7,"p",0,"look",0,1,null],"#,
+            r#"[8,"t",0,"begin",["signal"]],[9,"p",0,"sig",0],[10,"t",0,"begin",["wait"]],[11,"p",0,"pass",0],"#,
+            r#"[12,"t",0,"begin",["signal"]],[13,"p",0,"sig",0],"#,
+            r#"[14,"t",0,"begin",["async",1,[[0,"SIG"]]]],[15,"p",0,"reg",0,1,"SIG"],[16,"f",0,"spawned",1],"#,
+            r#"[17,"t",1,"begin",["end"]],[18,"p",0,"drop",1],[19,"f",0,"ended",1],"#,
+            r#"[20,"t",0,"begin",["end"]],[21,"p",0,"drop",0],[22,"f",0,"shut"]],"#,
+            r#""limits":{"acts":65536,"finishes":64,"history":65536,"phasers":64,"regs":256,"tasks":4096},"version":2}"#
+        );
+        assert_eq!(phaser.trace(), text);
+        let lines = concat!(
+            "phaser 0 phases 3\n",
+            "phaser 0 phase 0 acc 0 value -5\nphaser 0 phase 0 acc 1 none\n",
+            "phaser 0 phase 1 acc 0 value 0\nphaser 0 phase 1 acc 1 none\n",
+            "phaser 0 phase 2 acc 0 value 0\nphaser 0 phase 2 acc 1 none\n",
+            "task 0 ended\ntask 1 ended\nfinish 0 tasks 1\n",
+            "totals registered 2 signals 3 passes 2 drops 2 sends 1 up 0 down 5\n",
+        );
+        assert_eq!(report(&phaser), lines);
+    });
+}
+
+/// The maker leaves first: the root's end comes last all the same.
+#[test]
+fn trace_of_threads_replays() {
+    in_time(|| {
+        let (phaser, mut maker) = traced(2, &[], Mode::SigWait);
+        let tasks = children(&mut maker, Mode::SigWait, 3);
+        maker.leave();
+        together(tasks, |mut task| (0..50).for_each(|phase| assert_eq!(task.next(), Ok(phase))));
+        let lines = concat!(
+            "phaser 0 phases 50\ntask 0 ended\ntask 1 ended\ntask 2 ended\ntask 3 ended\nfinish 0 tasks 3\n",
+            "totals registered 4 signals 150 passes 150 drops 4 sends 0 up 0 down 0\n",
+        );
+        assert_eq!(report(&phaser), lines);
+        assert!(!phaser.trace_has_ended());
+    });
+}
+
+#[test]
+fn trace_of_values_replays() {
+    in_time(|| {
+        let phaser = Phaser::traced(2, &[Operator::Sum]).unwrap();
+        turn_with_values(4, 200, &phaser);
+        let report = report(&phaser);
+        // The tasks 0 to 3 send six times the phase's factor: 6 in phase 0, 42 in phase 6.
+        assert!(report.starts_with("phaser 0 phases 200\nphaser 0 phase 0 acc 0 value 6\n"));
+        assert!(report.contains("phaser 0 phase 6 acc 0 value 42\n"));
+        // 28 times seven phases of factors 1 to 7, and four phases of 1 to 4: (28 * 28 + 10) * 6.
+        assert!(report.ends_with("totals registered 4 signals 800 passes 800 drops 4 sends 800 up 4764 down 0\n"));
+    });
+}
+
+#[test]
+fn trace_at_the_bound_replays() {
+    in_time(|| {
+        let (phaser, mut maker) = traced(1, &[], Mode::SigWait);
+        let mut producer = maker.join(Mode::Sig).unwrap();
+        let consumers = children(&mut maker, Mode::Wait, 2);
+        maker.leave();
+        let thread = thread::spawn(move || {
+            for item in 0..100 {
+                assert_eq!(producer.next(), Ok(2 * item));
+                assert_eq!(producer.signal(), Ok(()));
+                assert_eq!(producer.wait(), Ok(2 * item + 1));
+            }
+        });
+        together(consumers, |mut task| (0..200).for_each(|phase| assert_eq!(task.wait(), Ok(phase))));
+        joined(thread);
+        let lines = concat!(
+            "phaser 0 phases 200\ntask 0 ended\ntask 1 ended\ntask 2 ended\ntask 3 ended\nfinish 0 tasks 3\n",
+            "totals registered 4 signals 200 passes 600 drops 4 sends 0 up 0 down 0\n",
+        );
+        assert_eq!(report(&phaser), lines);
+    });
+}
+
+/// Proposers whom the bound holds up, one who proposes nothing, and statements that panic.
+#[test]
+fn trace_of_singles_replays() {
+    in_time(|| {
+        let (phaser, mut maker) = traced(1, &[], Mode::Single);
+        let mut all = children(&mut maker, Mode::Single, 2);
+        all.extend(children(&mut maker, Mode::SigWait, 1));
+        all.extend(children(&mut maker, Mode::Wait, 1));
+        maker.leave();
+        let panics = together(all, |mut task| {
+            let mut panics = 0;
+            for phase in 0..100 {
+                let statement = || assert!(phase % 10 != 9, "as it has to");
+                let turned = match task.number() {
+                    1 | 2 => catch_unwind(AssertUnwindSafe(|| task.single(phase as u32, statement))),
+                    3 => Ok(task.next()),
+                    _ => Ok(task.wait()),
+                };
+                match turned {
+                    Ok(turned) => assert_eq!(turned, Ok(phase)),
+                    Err(_) => panics += 1,
+                }
+            }
+            panics
+        });
+        assert_eq!(panics.into_iter().sum::<u32>(), 10);
+        let lines = concat!(
+            "phaser 0 phases 100\ntask 0 ended\ntask 1 ended\ntask 2 ended\ntask 3 ended\ntask 4 ended\nfinish 0 tasks 4\n",
+            "totals registered 5 signals 300 passes 400 drops 5 sends 0 up 0 down 0\n",
+        );
+        assert_eq!(report(&phaser), lines);
+    });
+}
+
+#[test]
+fn trace_of_nobody_replays() {
+    let phaser = Phaser::traced(2, &[]).unwrap();
+    let lines = "task 0 ended\nfinish 0 tasks 0\ntotals registered 0 signals 0 passes 0 drops 0 sends 0 up 0 down 0\n";
+    assert_eq!(report(&phaser), lines);
+}
+
+/// One is idle, one is ahead, and one waits: the text closes the run for all three, and the run goes on.
+#[test]
+fn trace_is_asked_for_on_the_way() {
+    in_time(|| {
+        let (phaser, mut maker) = traced(2, &[], Mode::SigWait);
+        let mut ahead = maker.join(Mode::SigWait).unwrap();
+        ahead.signal().unwrap();
+        let mut waiting = maker.join(Mode::SigWait).unwrap();
+        let thread = thread::spawn(move || waiting.next());
+        let ends = "task 0 ended\ntask 1 ended\ntask 2 ended\nfinish 0 tasks 2\n";
+        // Once the second has signalled too.
+        while !report(&phaser).contains("signals 2") {
+            thread::yield_now();
+        }
+        let totals = "totals registered 3 signals 2 passes 0 drops 3 sends 0 up 0 down 0\n";
+        assert_eq!(report(&phaser), format!("phaser 0 phases 1\n{ends}{totals}"));
+        maker.next().unwrap();
+        ahead.wait().unwrap();
+        assert_eq!(joined(thread), Ok(0));
+        let totals = "totals registered 3 signals 3 passes 3 drops 3 sends 0 up 0 down 0\n";
+        assert_eq!(report(&phaser), format!("phaser 0 phases 1\n{ends}{totals}"));
+    });
+}
+
+/// In the text an open single is claimed, done and passed: before its phase is closed, and while its statement runs.
+#[test]
+fn trace_is_asked_for_in_a_single() {
+    in_time(|| {
+        let (phaser, mut maker) = traced(2, &[], Mode::Single);
+        let mut proposers = children(&mut maker, Mode::Single, 2);
+        maker.leave();
+        let report_of = |signals, passes| {
+            format!(
+                "phaser 0 phases 1\ntask 0 ended\ntask 1 ended\ntask 2 ended\nfinish 0 tasks 2\n\
+                 totals registered 3 signals {signals} passes {passes} drops 3 sends 0 up 0 down 0\n"
+            )
+        };
+        let runs = AtomicU64::new(0);
+        let statement = || {
+            runs.fetch_add(1, Relaxed);
+            assert_eq!(report(&phaser), report_of(2, 2));
+        };
+        let mut last = proposers.pop().unwrap();
+        let mut first = proposers.pop().unwrap();
+        thread::scope(|scope| {
+            let thread = scope.spawn(move || (first.single(1, statement), first));
+            while !report(&phaser).contains("signals 1") {
+                thread::yield_now();
+            }
+            assert_eq!(report(&phaser), report_of(1, 1));
+            assert_eq!(last.single(1, statement), Ok(0));
+            assert_eq!(thread.join().unwrap().0, Ok(0));
+        });
+        assert_eq!(runs.load(Relaxed), 1);
+        assert_eq!(report(&phaser), report_of(2, 2));
+    });
+}
+
+/// One task: its making is an event, and each turn two. After 29,999 turns there is room for the signal of one more.
+#[test]
+fn trace_ends_at_60_000_events() {
+    in_time(|| {
+        let (phaser, mut task) = traced(2, &[], Mode::SigWait);
+        for phase in 0..30_000 {
+            assert!(!phaser.trace_has_ended());
+            assert_eq!(task.next(), Ok(phase));
+        }
+        assert!(phaser.trace_has_ended());
+        (30_000..40_000).for_each(|phase| assert_eq!(task.next(), Ok(phase)));
+        let lines = concat!(
+            "phaser 0 phases 30000\ntask 0 ended\nfinish 0 tasks 0\n",
+            "totals registered 1 signals 30000 passes 29999 drops 1 sends 0 up 0 down 0\n",
+        );
+        assert_eq!(report(&phaser), lines);
+    });
+}
+
+/// Four events come first, and each turn of the four has eight: so the last that are noted are the signals of the turn after
+/// 7,499, which aren't passed.
+#[test]
+fn trace_of_threads_ends_at_60_000_events() {
+    in_time(|| {
+        let (phaser, maker) = traced(2, &[], Mode::SigWait);
+        together(tasks(maker, Mode::SigWait, 4), |mut task| {
+            (0..8_000).for_each(|phase| assert_eq!(task.next(), Ok(phase)));
+        });
+        assert!(phaser.trace_has_ended());
+        let lines = concat!(
+            "phaser 0 phases 7500\ntask 0 ended\ntask 1 ended\ntask 2 ended\ntask 3 ended\nfinish 0 tasks 3\n",
+            "totals registered 4 signals 30000 passes 29996 drops 4 sends 0 up 0 down 0\n",
+        );
+        assert_eq!(report(&phaser), lines);
+    });
+}
+
+/// Four events come first, and a turn with a single has ten: after 5,999 turns there is room for six more, four signals, the
+/// claim and the report. The text has the passes too, since no task leaves a single behind.
+#[test]
+fn trace_of_singles_ends_at_60_000_events() {
+    in_time(|| {
+        let (phaser, maker) = traced(2, &[], Mode::Single);
+        together(tasks(maker, Mode::Single, 4), |mut task| {
+            (0..6_500).for_each(|phase| assert_eq!(task.single(phase as u32, || ()), Ok(phase)));
+        });
+        assert!(phaser.trace_has_ended());
+        let lines = concat!(
+            "phaser 0 phases 6000\ntask 0 ended\ntask 1 ended\ntask 2 ended\ntask 3 ended\nfinish 0 tasks 3\n",
+            "totals registered 4 signals 24000 passes 24000 drops 4 sends 0 up 0 down 0\n",
+        );
+        assert_eq!(report(&phaser), lines);
+    });
+}
+
+#[test]
+fn trace_ends_at_task_4_096() {
+    in_time(|| {
+        let (phaser, mut maker) = traced(2, &[], Mode::SigWait);
+        for number in 1..4_096 {
+            assert_eq!(maker.join(Mode::Sig).unwrap().number(), number);
+        }
+        assert!(!phaser.trace_has_ended());
+        let mut late = maker.join(Mode::Sig).unwrap();
+        assert!(phaser.trace_has_ended());
+        assert_eq!(late.next(), Ok(0));
+        assert_eq!(maker.next(), Ok(0));
+        let report = report(&phaser);
+        // The text ends before the last was registered, so nobody had signalled, and no phase is told.
+        assert!(report.starts_with("phaser 0 phases 0\ntask 0 ended\n"));
+        assert!(report.ends_with("totals registered 4096 signals 0 passes 0 drops 4096 sends 0 up 0 down 0\n"));
+    });
+}
+
+// ---- The types
+
+#[test]
+fn tasks_go_from_thread_to_thread() {
+    fn is_sent<T: Send>() {}
+    fn is_shared<T: Send + Sync>() {}
+    is_sent::<Task>();
+    is_shared::<Phaser>();
+    let (_, task) = traced(2, &[], Mode::SigWait);
+    assert_eq!(format!("{task:?}"), "Task { number: 0, .. }");
+    assert_eq!(format!("{:?}", Phaser::new(2, &[]).unwrap()), "Phaser { .. }");
+}
