@@ -2,7 +2,7 @@
  * lock and a place to sleep: a call returns once its task may go on.
  *
  *     paldwosk_barrier barrier = PALDWOSK_NO_BARRIER;
- *     paldwosk_task first, second;
+ *     paldwosk_task first = PALDWOSK_NO_TASK, second = PALDWOSK_NO_TASK;
  *     paldwosk_barrier_new(&barrier, 2, NULL, 0);
  *     paldwosk_barrier_make(&barrier, PALDWOSK_SIG_WAIT, &first);
  *     paldwosk_barrier_join(&first, PALDWOSK_SIG_WAIT, &second);

@@ -18,7 +18,7 @@
  *   events.
  * waiting crowd SECONDS SEED VISITORS: so many threads that join, leave, and make any calls, at barriers with and
  *   without a trace.
- * Status 4: something wasn't as it must be; it is named on standard error. Status 5: no thread was given, or no memory. */
+ * Status 4: something wasn't as it must be, which standard error names. Status 5: there was no thread, or no memory. */
 #include "../include/paldwosk_barrier.h"
 
 #include <inttypes.h>
@@ -233,7 +233,7 @@ static void wrong_modes(void) {
 
 static void wrong_tasks(void) {
   paldwosk_barrier barrier;
-  paldwosk_task tasks[THREADS], more = PALDWOSK_NO_TASK;
+  paldwosk_task tasks[THREADS] = {PALDWOSK_NO_TASK}, more = PALDWOSK_NO_TASK;
   int64_t value = 77;
   size_t written = 77;
   make_party(&barrier, tasks, THREADS);
@@ -268,7 +268,7 @@ static void wrong_tasks(void) {
 /* While task 0 waits for the two others. */
 static void wrong_moments(void) {
   paldwosk_barrier barrier;
-  paldwosk_task tasks[3];
+  paldwosk_task tasks[3] = {PALDWOSK_NO_TASK};
   call first, second, third;
   make_party(&barrier, tasks, 3);
   begin_call(&first, tasks[0], 'n');
@@ -298,7 +298,7 @@ static void wrong_moments(void) {
 /* Both signals are held by the bound, with two numbers. The first that is let go on fixes the number of the phase. */
 static void wrong_proposal(void) {
   paldwosk_barrier barrier = PALDWOSK_NO_BARRIER;
-  paldwosk_task tasks[2], waits;
+  paldwosk_task tasks[2] = {PALDWOSK_NO_TASK}, waits = PALDWOSK_NO_TASK;
   call first, second;
   DONE(paldwosk_barrier_new(&barrier, 1, NULL, 0));
   DONE(paldwosk_barrier_make(&barrier, PALDWOSK_SINGLE, &tasks[0]));
@@ -327,7 +327,7 @@ typedef struct inside {
 /* What its task may do in a statement, and what not. */
 static void in_statement(void *given) {
   inside *it = (inside *)given;
-  paldwosk_task child;
+  paldwosk_task child = PALDWOSK_NO_TASK;
   it->runs++;
   MUST(paldwosk_barrier_free(it->barrier) == PALDWOSK_NOT_NOW);
   MUST(paldwosk_barrier_leave(&it->task) == PALDWOSK_NOT_NOW);
@@ -365,7 +365,7 @@ static void wrong(void) {
 static void memory(void) {
   for (int is_traced = 0; is_traced < 2; is_traced++) {
     paldwosk_barrier barrier = PALDWOSK_NO_BARRIER;
-    paldwosk_task task;
+    paldwosk_task task = PALDWOSK_NO_TASK;
     const paldwosk_operator sum = PALDWOSK_SUM;
     paldwosk_answer answer = is_traced ? paldwosk_barrier_new_traced(&barrier, 2, &sum, 1)
                                        : paldwosk_barrier_new(&barrier, 2, &sum, 1);
@@ -396,7 +396,7 @@ static void freed(int times) {
   paldwosk_barrier *barrier = (paldwosk_barrier *)aligned_alloc(page, page);
   if (!barrier) exit(5);
   for (int time = 0; time < times; time++) {
-    paldwosk_task tasks[4];
+    paldwosk_task tasks[4] = {PALDWOSK_NO_TASK};
     pthread_t threads[3];
     make_party(barrier, tasks, 4);
     DONE(paldwosk_barrier_spin(barrier, time % 2 ? 0 : 1 << 22));
@@ -425,7 +425,7 @@ static void *send_always(void *given) {
 
 static void in_child(paldwosk_barrier *barrier, paldwosk_task *tasks) {
   paldwosk_barrier own = PALDWOSK_NO_BARRIER;
-  paldwosk_task task, child;
+  paldwosk_task task = PALDWOSK_NO_TASK, child = PALDWOSK_NO_TASK;
   uint64_t phase = 77;
   int64_t value = 77;
   size_t written = 77;
@@ -454,7 +454,7 @@ static void in_child(paldwosk_barrier *barrier, paldwosk_task *tasks) {
 /* Another thread has the lock about half of the time, and a third waits, while this one forks. */
 static void forked(int times) {
   paldwosk_barrier barrier;
-  paldwosk_task tasks[3];
+  paldwosk_task tasks[3] = {PALDWOSK_NO_TASK};
   pthread_t sender;
   call waiter;
   UNCHECKED(&is_over, sizeof is_over);
@@ -493,7 +493,7 @@ static void *come_late(void *given) {
 /* The signal comes after a second, to the first thread, which waits until the other comes after two. */
 static void interrupted(void) {
   paldwosk_barrier barrier;
-  paldwosk_task tasks[2];
+  paldwosk_task tasks[2] = {PALDWOSK_NO_TASK};
   pthread_t late;
   uint64_t phase = 77;
   make_party(&barrier, tasks, 2);
@@ -541,7 +541,7 @@ static void *is_cancelled_inside(void *given) {
 
 static void cancelled(void) {
   paldwosk_barrier barrier;
-  paldwosk_task tasks[3];
+  paldwosk_task tasks[3] = {PALDWOSK_NO_TASK};
   pthread_t outside, within;
   void *result = NULL;
   UNCHECKED(&has_returned, sizeof has_returned);
@@ -788,14 +788,15 @@ static void write_wanted(char *wanted, size_t room, int64_t threads, int64_t pha
   int at = snprintf(wanted, room, "phaser 0 phases %" PRId64 "\n", whole + (more > 0));
   for (int task = 0; task <= threads; task++) at += snprintf(wanted + at, room - (size_t)at, "task %d ended\n", task);
   at += snprintf(wanted + at, room - (size_t)at, "finish 0 tasks %" PRId64 "\n", threads);
-  at += snprintf(wanted + at, room - (size_t)at, "totals registered %" PRId64 " signals %" PRId64, threads + 1, signals);
-  at += snprintf(wanted + at, room - (size_t)at, " passes %" PRId64 " drops %" PRId64, passes, threads + 1);
+  at += snprintf(wanted + at, room - (size_t)at, "totals registered %" PRId64, threads + 1);
+  at += snprintf(wanted + at, room - (size_t)at, " signals %" PRId64 " passes %" PRId64, signals, passes);
+  at += snprintf(wanted + at, room - (size_t)at, " drops %" PRId64, threads + 1);
   snprintf(wanted + at, room - (size_t)at, " sends 0 up 0 down 0\n");
 }
 
 static void traced(int threads, int phases) {
   static char report[1 << 16], wanted[1 << 16];
-  paldwosk_task root;
+  paldwosk_task root = PALDWOSK_NO_TASK;
   int is_long = 2 * (int64_t)threads * phases + 2 * threads + 2 > PALDWOSK_TRACE_EVENTS;
   the_party.threads = threads;
   the_party.phases = phases;
@@ -851,7 +852,7 @@ static void *run_single(void *given) {
  * hasn't been made yet. */
 static void told_midway(void) {
   paldwosk_barrier barrier;
-  paldwosk_task root, tasks[3];
+  paldwosk_task root = PALDWOSK_NO_TASK, tasks[3] = {PALDWOSK_NO_TASK};
   pthread_t single;
   call next, waits;
   make_traced(&barrier, 2, &root);
@@ -887,7 +888,7 @@ static int has_word(paldwosk_barrier *barrier, const char *word) {
 /* A second thread sends and joins for a task that waits: then its `next` is told as two acts. */
 static void told_in_parts(void) {
   paldwosk_barrier barrier;
-  paldwosk_task root, child, late;
+  paldwosk_task root = PALDWOSK_NO_TASK, child = PALDWOSK_NO_TASK, late = PALDWOSK_NO_TASK;
   call next;
   make_traced(&barrier, 2, &root);
   DONE(paldwosk_barrier_join(&root, PALDWOSK_SIG_WAIT, &child));
@@ -915,7 +916,7 @@ static void send_in_statement(void *given) { DONE(paldwosk_barrier_send((paldwos
 /* No trace tells what a task sends in the statement of its single. Up to there it is told. */
 static void told_to_a_statement(void) {
   paldwosk_barrier barrier;
-  paldwosk_task root;
+  paldwosk_task root = PALDWOSK_NO_TASK;
   make_traced(&barrier, 2, &root);
   DONE(paldwosk_barrier_next(&root, NULL));
   DONE(paldwosk_barrier_single(&root, 1, send_in_statement, &root, NULL));
@@ -928,7 +929,7 @@ static void told_to_a_statement(void) {
 /* Of task 4,096 and all that comes after no trace tells. */
 static void told_to_a_number(void) {
   paldwosk_barrier barrier;
-  paldwosk_task root, child;
+  paldwosk_task root = PALDWOSK_NO_TASK, child = PALDWOSK_NO_TASK;
   make_traced(&barrier, 2, &root);
   for (int at = 1; at < 4096; at++) {
     DONE(paldwosk_barrier_join(&root, PALDWOSK_SIG, &child));
@@ -944,7 +945,8 @@ static void told_to_a_number(void) {
 
 /* All kinds of events, 31 of them. Task 0 is the root, and leaves before the others do. */
 static void make_all_events(paldwosk_barrier *barrier, paldwosk_task root) {
-  paldwosk_task proposes, next, signals, waits;
+  paldwosk_task proposes = PALDWOSK_NO_TASK, next = PALDWOSK_NO_TASK;
+  paldwosk_task signals = PALDWOSK_NO_TASK, waits = PALDWOSK_NO_TASK;
   call first, second, third;
   int64_t value = 77;
   DONE(paldwosk_barrier_join(&root, PALDWOSK_SINGLE, &proposes));
@@ -984,7 +986,7 @@ static void told_to_each_event(void) {
   for (uint32_t room = 0; room <= events; room++) {
     paldwosk_barrier barrier = PALDWOSK_NO_BARRIER;
     const paldwosk_operator operators[2] = {PALDWOSK_SUM, PALDWOSK_LEAST};
-    paldwosk_task root;
+    paldwosk_task root = PALDWOSK_NO_TASK;
     DONE(paldwosk_barrier_new_traced(&barrier, 1, operators, 2));
     if (events < 1000) barrier.trace->room = room;
     DONE(paldwosk_barrier_make(&barrier, PALDWOSK_SINGLE, &root));
@@ -1176,7 +1178,7 @@ static void meet_for(int seconds, uint64_t seed, int most) {
 /* java.util.concurrent.Phaser: an arrival doesn't wait, and the phase isn't over by it alone. */
 static void arriving_does_not_wait(void) {
   paldwosk_barrier barrier;
-  paldwosk_task tasks[3];
+  paldwosk_task tasks[3] = {PALDWOSK_NO_TASK};
   call waiter;
   make_party(&barrier, tasks, 3);
   begin_call(&waiter, tasks[2], 'n');
@@ -1191,7 +1193,7 @@ static void arriving_does_not_wait(void) {
 /* glibc, Python and java.util.concurrent: where there is one party it never waits. */
 static void one_party_never_waits(void) {
   paldwosk_barrier barrier;
-  paldwosk_task task;
+  paldwosk_task task = PALDWOSK_NO_TASK;
   uint64_t phase = 77;
   make_party(&barrier, &task, 1);
   for (uint64_t at = 0; at < 10; at++) {
@@ -1205,7 +1207,7 @@ static void one_party_never_waits(void) {
  * parent stands, and if that has arrived it needn't arrive either. */
 static void late_party_begins_at_its_parent(void) {
   paldwosk_barrier barrier;
-  paldwosk_task tasks[1], late, later;
+  paldwosk_task tasks[1] = {PALDWOSK_NO_TASK}, late = PALDWOSK_NO_TASK, later = PALDWOSK_NO_TASK;
   uint64_t phase = 77;
   make_party(&barrier, tasks, 1);
   DONE(paldwosk_barrier_next(&tasks[0], NULL));
@@ -1225,7 +1227,7 @@ static void late_party_begins_at_its_parent(void) {
  * broken in this case (abort); here they go on. */
 static void leaving_lets_others_go_on(void) {
   paldwosk_barrier barrier;
-  paldwosk_task tasks[3];
+  paldwosk_task tasks[3] = {PALDWOSK_NO_TASK};
   call first, second;
   make_party(&barrier, tasks, 3);
   begin_call(&first, tasks[0], 'n');
@@ -1243,7 +1245,7 @@ static void leaving_lets_others_go_on(void) {
 /* java.util.concurrent.Phaser: to await a phase that is over doesn't wait. */
 static void phase_that_is_over_is_not_awaited(void) {
   paldwosk_barrier barrier;
-  paldwosk_task task, waits;
+  paldwosk_task task = PALDWOSK_NO_TASK, waits = PALDWOSK_NO_TASK;
   uint64_t phase = 77;
   make_party(&barrier, &task, 1);
   DONE(paldwosk_barrier_join(&task, PALDWOSK_WAIT, &waits));
@@ -1259,7 +1261,7 @@ static void phase_that_is_over_is_not_awaited(void) {
 /* java.util.concurrent.Phaser: who isn't registered can't arrive, and that changes nothing for the others. */
 static void stranger_can_not_arrive(void) {
   paldwosk_barrier barrier;
-  paldwosk_task tasks[2];
+  paldwosk_task tasks[2] = {PALDWOSK_NO_TASK};
   call waiter;
   make_party(&barrier, tasks, 2);
   paldwosk_task stranger = {&barrier, 2};
@@ -1294,7 +1296,7 @@ static void *see_statement(void *given) {
 
 static void action_comes_before_all_go(void) {
   paldwosk_barrier barrier;
-  paldwosk_task tasks[5];
+  paldwosk_task tasks[5] = {PALDWOSK_NO_TASK};
   pthread_t threads[5];
   make_party(&barrier, tasks, 5);
   for (int at = 0; at < 5; at++) start(&threads[at], see_statement, &tasks[at]);

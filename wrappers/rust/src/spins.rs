@@ -5,7 +5,7 @@ use std::sync::OnceLock;
 use std::thread::available_parallelism;
 
 /// As many rounds as take about as long as to fall asleep and to be woken.
-const MOST: u32 = 2_000;
+const MOST: u32 = 1_000;
 
 /// Below it a thread sleeps at once, but for one in so many.
 const LEAST: u32 = 32;
@@ -85,7 +85,7 @@ mod tests {
     fn who_spins_in_vain_spins_less() {
         let spins = Spins::new();
         let never = u32::MAX;
-        assert_eq!([(); 7].map(|_| looks(&spins, never)), [2_000, 1_000, 500, 250, 125, 62, 0]);
+        assert_eq!([(); 6].map(|_| looks(&spins, never)), [1_000, 500, 250, 125, 62, 0]);
         // One in 64 tries still, the first of whom has slept already.
         assert_eq!((0..62).map(|_| looks(&spins, never)).sum::<u32>(), 0);
         assert_eq!(looks(&spins, 101), 101);
