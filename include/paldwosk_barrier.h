@@ -9,10 +9,10 @@
  *     .. and in the thread of each:  paldwosk_barrier_next(&task, NULL);  ..  paldwosk_barrier_leave(&task);
  *     paldwosk_barrier_free(&barrier);
  *
- * WHAT IS PROVED. All that is decided stands in the archive's functions phaser_c_waiting_..: whom a call frees, with
- * which answer, in which order, and that whoever still waits after it still has to wait. So no wait ends too early,
- * and nobody is forgotten. NOT PROVED is what this header adds: a mutex round each of these calls, threads that
- * sleep, and the waking of those who are freed. It is tested, by tests/waiting.
+ * WHAT IS PROVED. All that is decided is decided by the archive's functions phaser_c_waiting_..: whom a call frees,
+ * with which answer, in which order. They let nobody go on too early, and whoever still waits after a call still has
+ * to wait. NOT PROVED is what this header adds: a mutex round each of these calls, threads that sleep, and the waking
+ * of those who are freed; nor is the trace that it writes, which a replay judges. It is tested, by tests/waiting.
  *
  * WHAT IT NEEDS. gcc or clang, C11 or C++17, and the threads of POSIX. -std=c11 does: nothing has to be defined
  * before it, and it defines nothing that changes what other headers declare. Link what paldwosk.h asks for, and
