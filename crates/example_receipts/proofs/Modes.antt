@@ -1,8 +1,9 @@
 -- Whoever was registered as one who can wait stays one.
-use Rattle.std.proofs.Common.{if◌then◌else◌, ◌≡◌, ℕ, ◌==◌, nat_lt, Bool, true, false, List, [], ◌∷◌, ◌++◌, Option, Some, None, is_some, refl, sym, ap, ◌∙◌, subst, append_assoc}
+use Rattle.std.proofs.Common.{if◌then◌else◌, ◌≡◌, ℕ, ◌==◌, nat_lt, Bool, true, false, List, [], ◌∷◌, ◌++◌, Option, Some, None, is_some, Result, Ok, Err, IfOk, refl, sym, ap, ◌∙◌, subst, append_assoc}
 use Rattle.std.specs.Option.{option_map_or}
 use Rattle.std.proofs.lemmas.Bool.{ne_eqb, and_parts, false≢true}
 use Rattle.phase_modes.specs.declared.limits.Limits.{Limits}
+use Rattle.phase_modes.specs.declared.refusal.Refusal.{Refusal}
 use Rattle.phase_modes.specs.declared.reg.Mode.{Mode}
 use Rattle.phase_modes.specs.Lists.{is_empty}
 use Rattle.phase_modes.specs.Mode.{can_wait}
@@ -19,6 +20,7 @@ use Rattle.phase_model.proofs.LiveTasks.{mode_known}
 use Rattle.long_phaser.specs.Numbered.{long_limits}
 use Rattle.seen_log.specs.Tails.{IsTail}
 use Rattle.long_receipts.specs.Told.{story_of}
+use Rattle.example_receipts.specs.Sums.{IsNext}
 
 some_mode : (test : Mode → Bool) (o : Option Mode) → option_map_or test o false ≡ true → is_some o ≡ true
 some_mode test None k = absurd cc
@@ -72,3 +74,13 @@ waits_on terms c seen before now t tail is legal k =
     is ∙ (g.1 ∙ (ap (λ (h : List Event). g.0 ++ h) tail.1 ∙ sym (append_assoc g.0 tail.0 seen))) in
     subst (λ (h : List Event). has_mode can_wait t h ≡ true) (sym all)
     (mode_stays long_limits terms can_wait t (g.0 ++ tail.0) seen (subst (λ (h : List Event). is_legal long_limits terms h ≡ true) all legal) k)
+
+-- a task that is newly registered is none that could wait before
+pub apart_of : (terms : Terms) (q : ℕ) (m : Mode) (a : Result ℕ Refusal) (seen now : List Event)
+    → IfOk a (λ t. IsNext (Reg q t m) seen now) → is_legal long_limits terms now ≡ true → has_mode can_wait q seen ≡ true
+    → IfOk a (λ t. (t == q) ≡ false)
+apart_of terms q m (Err r) seen now next legal k = tt
+apart_of terms q m (Ok t) seen now next legal k =
+    let f = last_follows long_limits terms (next.0 ++ seen) (Reg q t m) (subst (λ (h : List Event). is_legal long_limits terms h ≡ true) next.1 legal) in
+    apart can_wait q t (next.0 ++ seen) (reg_follows long_limits terms (next.0 ++ seen) q t m f.permitted).unknown
+    (mode_stays long_limits terms can_wait q next.0 seen f.before k)

@@ -2,9 +2,11 @@
 //! task sends 3, the other 4, they end their turn together, and each looks at the sum. A thread
 //! whose task has to wait sleeps until the other's call frees it.
 //!
-//! The calls give receipts, so it is proved of this program that the phase which each has passed is
-//! closed, and that what each saw is the fold of all values that were ever sent for a closed phase:
-//! `pair::both`.
+//! The calls give receipts, and each step is counted in a ledger of which each thread has a share.
+//! So it is proved of this program that the phase which each has passed is closed, that what each
+//! saw is the fold of all values that were ever sent for a closed phase (`pair::both`), and that it
+//! is 7 wherever no call was refused (`pair::run`): both registrations and the steps of both threads
+//! are all steps that were counted, so nobody else sent anything.
 #![tactic(auto)]
 
 mod pair;
@@ -22,7 +24,7 @@ fn main(rt: HostRuntime) -> anyhow::Result<()> {
         (Look::Value(one), Look::Value(other)) => {
             println!(&rt; "one saw {one}, the other {other}")?
         }
-        _ => bail!("no sum was seen"),
+        _ => unreachable!(),
     }
     Ok(())
 }

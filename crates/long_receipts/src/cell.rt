@@ -9,6 +9,7 @@ ghost use Rattle.phaser_answers.specs.Answers.{signal_result, pass_result, look_
 ghost use Rattle.parked_tasks.specs.Parking.{waiting, freed, goes_on, IsBack, has_signalled, IsBackFromSignal};
 ghost use Rattle.told_history.specs.Wide.{event_of};
 ghost use Rattle.seen_log.specs.Tails.{IsTail};
+ghost use Rattle.long_receipts.specs.Events.{with_one, make_event, register_event, signal_event, pass_event, look_event, done_event};
 ghost use Rattle.long_receipts.specs.Told.{story_of, IsAnswered, IsNumbered, IsSignalAnswer, IsPassAnswer, IfPassed, HasLooked};
 
 use crate::events::{
@@ -24,7 +25,7 @@ use std::marker::PhantomData;
 use told_history::LongEvent;
 
 /// A phaser that lives long with those who wait at it, and the whole of its history, which has no
-/// bytes.
+/// bytes. Each call adds the event that its answer tells, and nothing else: its clause `added`.
 #[derive(Drop)]
 pub struct ReceiptCell<J: Naming, T> {
     pub cell: LongCell<T>,
@@ -71,6 +72,7 @@ impl<J: Naming, T> ReceiptCell<J, T> {
     #[inline(always)]
     pub fn make(&mut self, me: &mut Front<J>, mode: Mode) -> Result<Task, Refusal>
         ensures told { IsNumbered result J.terms (λ n. make n mode) me.old me.new }
+        ensures added { self.new.cell.state.story.past ≡ with_one (make_event mode result) self.old.cell.state.story.past }
         ensures now { me.new ≡ self.new.cell.state.story.past }
         ensures parked { self.new.cell.parked ≡ self.old.cell.parked }
     {
@@ -85,6 +87,7 @@ impl<J: Naming, T> ReceiptCell<J, T> {
     #[inline(always)]
     pub fn register(&mut self, me: &mut Front<J>, parent: Task, mode: Mode) -> Result<Task, Refusal>
         ensures told { IsNumbered result J.terms (λ n. register parent n mode) me.old me.new }
+        ensures added { self.new.cell.state.story.past ≡ with_one (register_event parent mode result) self.old.cell.state.story.past }
         ensures now { me.new ≡ self.new.cell.state.story.past }
         ensures parked { self.new.cell.parked ≡ self.old.cell.parked }
     {
@@ -105,6 +108,7 @@ impl<J: Naming, T> ReceiptCell<J, T> {
         value: i32,
     ) -> Result<(), Refusal>
         ensures told { IsAnswered (λ _ r. result ≡ done_result r) J.terms (send task accumulator value) me.old me.new }
+        ensures added { self.new.cell.state.story.past ≡ with_one (done_event (LongEvent.Send task accumulator value) result) self.old.cell.state.story.past }
         ensures now { me.new ≡ self.new.cell.state.story.past }
         ensures parked { self.new.cell.parked ≡ self.old.cell.parked }
     {
@@ -126,6 +130,7 @@ impl<J: Naming, T> ReceiptCell<J, T> {
     ) -> Result<LongLook, Refusal>
         ensures told { IsAnswered (λ _ r. result ≡ look_result r) J.terms (look task accumulator) me.old me.new }
         ensures seen { IfOk result (λ x. HasLooked J.terms.ops task accumulator me.new x) }
+        ensures added { self.new.cell.state.story.past ≡ with_one (look_event task accumulator result) self.old.cell.state.story.past }
         ensures now { me.new ≡ self.new.cell.state.story.past }
         ensures parked { self.new.cell.parked ≡ self.old.cell.parked }
     {
@@ -150,6 +155,7 @@ impl<J: Naming, T> ReceiptCell<J, T> {
     ) -> SignalAnswer<T>
         requires { out.old ≡ [] }
         ensures told { IsAnswered (λ _ r. IsSignalAnswer item (signal_result r) result) J.terms (signal task number) me.old me.new }
+        ensures added { self.new.cell.state.story.past ≡ with_one (signal_event task number result) self.old.cell.state.story.past }
         ensures now { me.new ≡ self.new.cell.state.story.past }
         ensures item { IsBackFromSignal item result }
         ensures out { out.new ≡ freed self.new.cell.state.story self.old.cell.parked.items }
@@ -176,6 +182,7 @@ impl<J: Naming, T> ReceiptCell<J, T> {
         requires { out.old ≡ [] }
         ensures told { IsAnswered (λ h r. IsPassAnswer item (pass_result h r) result) J.terms (pass task) me.old me.new }
         ensures closed { IfPassed result (λ p. has_mode can_wait task me.new ≡ true → IsClosed p me.new) }
+        ensures added { self.new.cell.state.story.past ≡ with_one (pass_event task result) self.old.cell.state.story.past }
         ensures now { me.new ≡ self.new.cell.state.story.past }
         ensures item { IsBack item result }
         ensures out { out.new ≡ freed self.new.cell.state.story self.old.cell.parked.items }
@@ -199,6 +206,7 @@ impl<J: Naming, T> ReceiptCell<J, T> {
     ) -> Result<(), Refusal>
         requires { out.old ≡ [] }
         ensures told { IsAnswered (λ _ r. result ≡ done_result r) J.terms (single_done task) me.old me.new }
+        ensures added { self.new.cell.state.story.past ≡ with_one (done_event (LongEvent.Did task) result) self.old.cell.state.story.past }
         ensures now { me.new ≡ self.new.cell.state.story.past }
         ensures out { out.new ≡ freed self.new.cell.state.story self.old.cell.parked.items }
         ensures refused { OnErr result (out.new ≡ []) }
@@ -215,6 +223,7 @@ impl<J: Naming, T> ReceiptCell<J, T> {
     pub fn leave(&mut self, me: &mut Front<J>, out: &mut Out<T>, task: Task) -> Result<(), Refusal>
         requires { out.old ≡ [] }
         ensures told { IsAnswered (λ _ r. result ≡ done_result r) J.terms (drop_task task) me.old me.new }
+        ensures added { self.new.cell.state.story.past ≡ with_one (done_event (LongEvent.Drop task) result) self.old.cell.state.story.past }
         ensures now { me.new ≡ self.new.cell.state.story.past }
         ensures out { out.new ≡ freed self.new.cell.state.story self.old.cell.parked.items }
         ensures refused { OnErr result (out.new ≡ []) }

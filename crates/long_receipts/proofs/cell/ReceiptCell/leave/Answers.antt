@@ -1,4 +1,4 @@
-use Rattle.std.proofs.Common.{◌≡◌, map, ap, ◌∙◌}
+use Rattle.std.proofs.Common.{◌≡◌, map, refl, ap, ◌∙◌}
 use Rattle.phase_model.specs.declared.call.Call.TheVariants.{Drop as drop_task}
 use Rattle.phase_model.specs.Replies.{reply, done_result}
 use Rattle.told_history.specs.Wide.{event_of}
@@ -28,3 +28,8 @@ returns-clause-told g c =
     let t = c.args.task in
     let is = c.leave-answer.ensures.reply in
     receipt (λ _ r. c.leave-answer.result ≡ done_result r) g.J.Naming.terms (drop_task t) _ (map event_of cell.whole.items) _ s c.leave-answer.new.self.state.story cell.told c.begins.ensures.begins is c.leave-answer.ensures.history c.front.ensures.all
+
+pub returns-clause-added : goal.returns-clause-added
+returns-clause-added g c =
+    let s = c.args.self.now.cell.state.story in
+    ap (λ w. w.state.story.past) c.front.ensures.same ∙ (ap (λ w. w.past) c.leave-answer.ensures.history ∙ leave_adds s c.args.task c.leave-answer.result _ c.leave-answer.ensures.reply refl)

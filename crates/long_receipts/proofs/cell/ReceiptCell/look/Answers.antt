@@ -1,4 +1,4 @@
-use Rattle.std.proofs.Common.{◌≡◌, map, ap, ◌∙◌}
+use Rattle.std.proofs.Common.{◌≡◌, map, refl, ap, ◌∙◌}
 use Rattle.phase_model.specs.declared.call.Call.TheVariants.{Look as look}
 use Rattle.phase_model.specs.Replies.{reply}
 use Rattle.phaser_answers.specs.Answers.{look_result}
@@ -40,3 +40,8 @@ returns-clause-seen g c =
     look_shows g.J.Naming.terms _ _ t c.args.accumulator c.look-answer.result
     (receipt (λ _ r. c.look-answer.result ≡ look_result r) g.J.Naming.terms (look t c.args.accumulator) _ (map event_of cell.whole.items) _ s c.look-answer.new.self.state.story cell.told c.begins.ensures.begins is c.look-answer.ensures.history c.front.ensures.all)
     c.is_legal.ensures.folded
+
+pub returns-clause-added : goal.returns-clause-added
+returns-clause-added g c =
+    let s = c.args.self.now.cell.state.story in
+    ap (λ w. w.state.story.past) c.front.ensures.same ∙ (ap (λ w. w.past) c.look-answer.ensures.history ∙ look_adds s c.args.task c.args.accumulator c.look-answer.result _ c.look-answer.ensures.reply refl)

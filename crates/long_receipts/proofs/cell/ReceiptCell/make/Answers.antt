@@ -1,4 +1,4 @@
-use Rattle.std.proofs.Common.{◌≡◌, map, ap, ◌∙◌}
+use Rattle.std.proofs.Common.{◌≡◌, map, refl, ap, ◌∙◌}
 use Rattle.phase_model.specs.declared.call.Call.TheVariants.{Make as make}
 use Rattle.phase_model.specs.Replies.{reply, done_result}
 use Rattle.told_history.specs.Wide.{event_of}
@@ -30,3 +30,10 @@ returns-clause-told g c =
     let t = cell.cell.state.next in
     let is = numbered_is t (done_result (reply s (make t c.args.mode))) c.make-answer.result c.make-answer.ensures.number c.make-answer.ensures.done c.make-answer.ensures.refused in
     (t, receipt (λ _ r. c.make-answer.result ≡ numbered t (done_result r)) g.J.Naming.terms (make t c.args.mode) _ (map event_of cell.whole.items) _ s c.make-answer.new.self.state.story cell.told c.begins.ensures.begins is c.make-answer.ensures.history c.front.ensures.all)
+
+pub returns-clause-added : goal.returns-clause-added
+returns-clause-added g c =
+    let s = c.args.self.now.cell.state.story in
+    let t = c.args.self.now.cell.state.next in
+    let is = numbered_is t (done_result (reply s (make t c.args.mode))) c.make-answer.result c.make-answer.ensures.number c.make-answer.ensures.done c.make-answer.ensures.refused in
+    ap (λ w. w.state.story.past) c.front.ensures.same ∙ (ap (λ w. w.past) c.make-answer.ensures.history ∙ make_adds s t c.args.mode c.make-answer.result _ is refl)

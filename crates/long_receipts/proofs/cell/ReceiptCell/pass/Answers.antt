@@ -1,4 +1,4 @@
-use Rattle.std.proofs.Common.{map, ap, sym, ◌∙◌}
+use Rattle.std.proofs.Common.{map, refl, ap, sym, ◌∙◌}
 use Rattle.phase_model.specs.declared.call.Call.TheVariants.{Pass as pass}
 use Rattle.phase_model.specs.Replies.{reply}
 use Rattle.phaser_answers.specs.Answers.{pass_result}
@@ -42,3 +42,11 @@ returns-clause-closed g c =
     pass_closes g.J.Naming.terms _ _ t c.args.item c.pass-answer.result
     (receipt (λ h r. IsPassAnswer c.args.item (pass_result h r) c.pass-answer.result) g.J.Naming.terms (pass t) _ (map event_of cell.whole.items) _ s c.pass-answer.new.self.state.story cell.told c.begins.ensures.begins is c.pass-answer.ensures.history c.front.ensures.all)
     c.is_legal.ensures.legal
+
+pub returns-clause-added : goal.returns-clause-added
+returns-clause-added g c =
+    let cell = c.args.self.now in
+    let s = cell.cell.state.story in
+    let t = c.args.task in
+    let is : IsPassAnswer c.args.item (pass_result s.past (reply s (pass t))) c.pass-answer.result = (is_parked t cell.cell.parked.items, c.pass-answer.ensures.answer ∙ ap (λ a. locked_pass a (is_parked t cell.cell.parked.items) c.args.item) (sym (answered_is s t))) in
+    ap (λ w. w.state.story.past) c.front.ensures.same ∙ (ap (λ w. w.past) c.pass-answer.ensures.history ∙ pass_adds s t c.args.item c.pass-answer.result _ is refl)

@@ -1,4 +1,4 @@
-use Rattle.std.proofs.Common.{◌≡◌, map, ap, ◌∙◌}
+use Rattle.std.proofs.Common.{◌≡◌, map, refl, ap, ◌∙◌}
 use Rattle.phase_model.specs.declared.call.Call.TheVariants.{Register as register}
 use Rattle.phase_model.specs.Replies.{reply, done_result}
 use Rattle.told_history.specs.Wide.{event_of}
@@ -30,3 +30,10 @@ returns-clause-told g c =
     let t = cell.cell.state.next in
     let is = numbered_is t (done_result (reply s (register c.args.parent t c.args.mode))) c.register-answer.result c.register-answer.ensures.number c.register-answer.ensures.done c.register-answer.ensures.refused in
     (t, receipt (λ _ r. c.register-answer.result ≡ numbered t (done_result r)) g.J.Naming.terms (register c.args.parent t c.args.mode) _ (map event_of cell.whole.items) _ s c.register-answer.new.self.state.story cell.told c.begins.ensures.begins is c.register-answer.ensures.history c.front.ensures.all)
+
+pub returns-clause-added : goal.returns-clause-added
+returns-clause-added g c =
+    let s = c.args.self.now.cell.state.story in
+    let t = c.args.self.now.cell.state.next in
+    let is = numbered_is t (done_result (reply s (register c.args.parent t c.args.mode))) c.register-answer.result c.register-answer.ensures.number c.register-answer.ensures.done c.register-answer.ensures.refused in
+    ap (λ w. w.state.story.past) c.front.ensures.same ∙ (ap (λ w. w.past) c.register-answer.ensures.history ∙ register_adds s c.args.parent t c.args.mode c.register-answer.result _ is refl)

@@ -1,4 +1,4 @@
-use Rattle.std.proofs.Common.{◌≡◌, map, ap, w32, ◌∙◌}
+use Rattle.std.proofs.Common.{◌≡◌, map, refl, ap, w32, ◌∙◌}
 use Rattle.std.proofs.lemmas.Int.{to_z-of_z}
 use Rattle.phase_model.specs.declared.call.Call.TheVariants.{Send as send}
 use Rattle.phase_model.specs.Replies.{reply, done_result}
@@ -34,3 +34,11 @@ returns-clause-told g c =
     let is = rw round at c.send-answer.ensures.reply in
     let now = rw round at c.send-answer.ensures.history in
     receipt (λ _ r. c.send-answer.result ≡ done_result r) g.J.Naming.terms (send t c.args.accumulator c.args.value) _ (map event_of cell.whole.items) _ s c.send-answer.new.self.state.story cell.told c.begins.ensures.begins is now c.front.ensures.all
+
+pub returns-clause-added : goal.returns-clause-added
+returns-clause-added g c =
+    let s = c.args.self.now.cell.state.story in
+    let round = to_z-of_z w32 c.args.value c.ranges.value in
+    let is = rw round at c.send-answer.ensures.reply in
+    let now = rw round at c.send-answer.ensures.history in
+    ap (λ w. w.state.story.past) c.front.ensures.same ∙ (ap (λ w. w.past) now ∙ send_adds s c.args.task c.args.accumulator c.args.value c.send-answer.result _ is refl)

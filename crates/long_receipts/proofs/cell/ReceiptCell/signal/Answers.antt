@@ -1,4 +1,4 @@
-use Rattle.std.proofs.Common.{map, ap, sym, ◌∙◌}
+use Rattle.std.proofs.Common.{map, refl, ap, sym, ◌∙◌}
 use Rattle.phase_model.specs.declared.call.Call.TheVariants.{Signal as signal}
 use Rattle.phase_model.specs.Replies.{reply}
 use Rattle.phaser_answers.specs.Answers.{signal_result}
@@ -31,3 +31,11 @@ returns-clause-told g c =
     let t = c.args.task in
     let is : IsSignalAnswer c.args.item (signal_result (reply s (signal t c.args.number))) c.signal-answer.result = (is_parked t cell.cell.parked.items, c.signal-answer.ensures.answer ∙ ap (λ a. locked_signal a (is_parked t cell.cell.parked.items) c.args.item) (sym (signal_answered_is s t c.args.number))) in
     receipt (λ _ r. IsSignalAnswer c.args.item (signal_result r) c.signal-answer.result) g.J.Naming.terms (signal t c.args.number) _ (map event_of cell.whole.items) _ s c.signal-answer.new.self.state.story cell.told c.begins.ensures.begins is c.signal-answer.ensures.history c.front.ensures.all
+
+pub returns-clause-added : goal.returns-clause-added
+returns-clause-added g c =
+    let cell = c.args.self.now in
+    let s = cell.cell.state.story in
+    let t = c.args.task in
+    let is : IsSignalAnswer c.args.item (signal_result (reply s (signal t c.args.number))) c.signal-answer.result = (is_parked t cell.cell.parked.items, c.signal-answer.ensures.answer ∙ ap (λ a. locked_signal a (is_parked t cell.cell.parked.items) c.args.item) (sym (signal_answered_is s t c.args.number))) in
+    ap (λ w. w.state.story.past) c.front.ensures.same ∙ (ap (λ w. w.past) c.signal-answer.ensures.history ∙ signal_adds s t c.args.number c.args.item c.signal-answer.result _ is refl)

@@ -1,4 +1,4 @@
-use Rattle.std.proofs.Common.{◌≡◌, map, ap, ◌∙◌}
+use Rattle.std.proofs.Common.{◌≡◌, map, refl, ap, ◌∙◌}
 use Rattle.phase_model.specs.declared.call.Call.TheVariants.{SingleDone as single_done}
 use Rattle.phase_model.specs.Replies.{reply, done_result}
 use Rattle.told_history.specs.Wide.{event_of}
@@ -28,3 +28,8 @@ returns-clause-told g c =
     let t = c.args.task in
     let is = c.single_done-answer.ensures.reply in
     receipt (λ _ r. c.single_done-answer.result ≡ done_result r) g.J.Naming.terms (single_done t) _ (map event_of cell.whole.items) _ s c.single_done-answer.new.self.state.story cell.told c.begins.ensures.begins is c.single_done-answer.ensures.history c.front.ensures.all
+
+pub returns-clause-added : goal.returns-clause-added
+returns-clause-added g c =
+    let s = c.args.self.now.cell.state.story in
+    ap (λ w. w.state.story.past) c.front.ensures.same ∙ (ap (λ w. w.past) c.single_done-answer.ensures.history ∙ single_done_adds s c.args.task c.single_done-answer.result _ c.single_done-answer.ensures.reply refl)
