@@ -88,6 +88,7 @@ abbrev pub answer_of_cell : cells.Answer → Answer
 answer_of_cell (HasEnded e) = ended_answer e
 answer_of_cell IsParked = NotYet
 
+-- the same; or why the cell wasn't asked
 abbrev pub answer_of_told : Result cells.Answer Answer → Answer
 answer_of_told (Ok a) = answer_of_cell a
 answer_of_told (Err why) = why
@@ -103,6 +104,7 @@ abbrev pub answer_done : Result (Unit {0}) Refusal → Answer
 answer_done (Ok u) = Done
 answer_done (Err r) = Refused r
 
+-- the same; or why the cell wasn't asked
 abbrev pub answer_of_done : Result (Result (Unit {0}) Refusal) Answer → Answer
 answer_of_done (Ok r) = answer_done r
 answer_of_done (Err why) = why
@@ -111,16 +113,18 @@ answer_of_done (Err why) = why
 abbrev pub is_short : ℤ → Bool
 is_short v = int_le (neg_ℤ (pos 9223372036854775808)) v && int_lt v (pos 9223372036854775808)
 
--- what is answered where a look returned this, and the value that it gives; where it gives none, what was there before
+-- what is answered where a look returned this
 abbrev pub answer_seen : Result (Look ℤ) Refusal → Answer
 answer_seen (Ok (Value v)) = if is_short v then Done else TooGreat
 answer_seen (Ok Unseen) = Nothing
 answer_seen (Err r) = Refused r
 
+-- the same; or why the cell wasn't asked
 abbrev pub answer_of_seen : Result (Result (Look ℤ) Refusal) Answer → Answer
 answer_of_seen (Ok r) = answer_seen r
 answer_of_seen (Err why) = why
 
+-- the value that a look gives; where it gives none, what was there before
 abbrev pub value_seen : ℤ → Result (Look ℤ) Refusal → ℤ
 value_seen old (Ok (Value v)) = if is_short v then v else old
 value_seen old _ = old
@@ -135,10 +139,11 @@ abbrev pub next_after : ℕ → Result (Unit {0}) Refusal → ℕ
 next_after n (Ok u) = n + 1
 next_after n (Err r) = n
 
--- a call was made that gives the next number to a task
+-- what a call is answered that gives the next number to a task
 abbrev pub numbering : (ℕ → Call) → WaitingCell → Result (Unit {0}) Refusal
 numbering call c = done_result (reply c.state.story (call c.state.next))
 
+-- such a call was made
 abbrev pub IsNumbering : (ℕ → Call) → WaitingCell → WaitingCell → Type 0
 IsNumbering call c d =
     (d.state.story ≡ after c.state.story (reply c.state.story (call c.state.next)))
@@ -154,20 +159,22 @@ abbrev pub number_if : ℕ → ℕ → Result (Unit {0}) Refusal → ℕ
 number_if old next (Ok u) = next
 number_if old next (Err r) = old
 
+-- the same of what a handle holds
 abbrev pub number_given_at : ℕ → (ℕ → Call) → Option Waiting → ℕ
 number_given_at old call None = old
 number_given_at old call (Some w) = number_if old w.cell.state.next (numbering call w.cell)
 
--- the value that a look gives, of what a handle holds
+-- the value that a look gives of what a handle holds
 abbrev pub value_seen_at : ℤ → Option Waiting → (WaitingCell → Result (Look ℤ) Refusal) → ℤ
 value_seen_at old None f = old
 value_seen_at old (Some w) f = value_seen old (f w.cell)
 
--- what is answered where a task was given this number, and the number; where it was given none, what was there before
+-- what is answered where a task was given this number, or refused
 abbrev pub answer_given : Result ℕ Refusal → Answer
 answer_given (Ok t) = Done
 answer_given (Err r) = Refused r
 
+-- the number; where there is none, what was there before
 abbrev pub task_given : ℕ → Result ℕ Refusal → ℕ
 task_given old (Ok t) = t
 task_given old (Err r) = old
