@@ -21,7 +21,7 @@ use Rattle.long_phaser.specs.Numbered.{long_limits}
 use Rattle.long_receipts.specs.Told.{story_of, IsAnswered, IsPassAnswer, IfPassed}
 
 -- the answer names the phase that the event ended
-passed_is : {T : Type 0} (s : Story) (t p : ℕ) (x y : T) (o : Option Refusal) (w r b again : Bool)
+pub passed_is : {T : Type 0} (s : Story) (t p : ℕ) (x y : T) (o : Option Refusal) (w r b again : Bool)
     → locked_pass (pass_result s.past (decided o w r (if b then Claim t else Pass t))) again x ≡ Passed y p
     → ((after s (decided o w r (if b then Claim t else Pass t))).past ≡ Pass t ∷ s.past) × (waits t s.past ≡ p)
 passed_is s t p x y (Some e) w r b again is = absurd (cc is)

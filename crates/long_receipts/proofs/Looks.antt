@@ -16,7 +16,7 @@ use Rattle.world_model.specs.Laws.{IsFolded}
 use Rattle.long_phaser.specs.Numbered.{long_limits}
 use Rattle.long_receipts.specs.Told.{story_of, IsAnswered, HasLooked}
 
-looked_is : (s : Story) (t a : ℕ) (x y : Look ℤ) (o : Option Refusal) (r : Bool)
+pub looked_is : (s : Story) (t a : ℕ) (x y : Look ℤ) (o : Option Refusal) (r : Bool)
     → look_result (decided o false r (Looked t a y)) ≡ Ok x → (after s (decided o false r (Looked t a y))).past ≡ Looked t a x ∷ s.past
 looked_is s t a x y (Some e) r is = absurd (cc is)
 looked_is s t a x y None false is = absurd (cc is)

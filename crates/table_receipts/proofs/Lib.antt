@@ -1,0 +1,6 @@
+pub mod Closes
+pub mod Kept
+pub mod Looks
+pub mod Notes
+pub mod Parts
+pub mod Places
