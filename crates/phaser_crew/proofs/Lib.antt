@@ -1,1 +1,3 @@
 mod Sums
+pub mod Names
+pub mod Seen

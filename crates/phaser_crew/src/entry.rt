@@ -1,5 +1,5 @@
 //! The entry: it makes the phasers and their books, lets the workers work, and gathers all.
-ghost use Rattle.std.specs.Prelude.{◌≡◌, ◌⊎◌, ◌<◌, true, IfOk, IfErr, vec_len};
+ghost use Rattle.std.specs.Prelude.{◌≡◌, ◌⊎◌, ◌<◌, ℕ, [], true, All, IfOk, IfErr, IfSome, slice_get, vec_len};
 ghost use Rattle.phase_modes.specs.Limits.{limits_fit};
 ghost use Rattle.share_book.specs.Opening.{IsNamed, IsParted, AreAllParts};
 ghost use Rattle.phaser_crew.specs.Gathering.{AreGathered};
@@ -7,23 +7,28 @@ ghost use Rattle.phaser_crew.specs.Gathering.{AreGathered};
 use crate::crew::{Crew, Gathered};
 use crate::held::Held;
 use crate::threads::{Work, in_threads};
+use ghost_log::Whole;
 use phase_modes::{Limits, Refusal};
-use scope_locks::{PhaserParts, PhaserTable, Tickets};
+use scope_locks::Tickets;
 use share_book::{Blanks, Ledgers, Seven, Shares, gather, open};
 use std::alloc::Global;
 use std::marker::Brand;
 use std::sync::Wait;
 use std::sync::ledger::Ledger;
 use std::thread::Threads;
+use table_receipts::{
+    Logs, Named, Naming, Noted, PhaserLogs, ReceiptParts, ReceiptTable, new_logs,
+};
 
 /// A hand for each worker, with a share each.
-fn hands<'a, T: Drop, K: Ledgers, R>(
+fn hands<'a, T: Drop, K: Naming, R: Wait>(
     rt: &'a R,
     alloc: Global,
-    table: &'a PhaserTable<T, K>,
+    table: &'a ReceiptTable<T, K>,
     tickets: &'a Tickets,
     shares: Vec<Shares<K>>,
 ) -> Result<Vec<Held<'a, T, K, R>>, Refusal>
+    requires phasers { table.now.phasers ≡ K.Logs.limits.phasers }
     ensures number { IfOk result (λ v. vec_len v ≡ vec_len shares) }
     ensures memory { IfErr result (λ e. e ≡ Refusal.Memory) }
 {
@@ -42,10 +47,8 @@ struct Team<'a, C> {
     crew: &'a C,
 }
 
-impl<'a, 'b, T: Drop, C: Crew<T>, K: Ledgers, R: Wait> Work<
-    Held<'b, T, K, R>,
-    (C::Given, Shares<K>),
-> for Team<'a, C> {
+impl<'a, 'b, T: Drop, C: Crew<T>, K: Naming, R: Wait> Work<Held<'b, T, K, R>, (C::Given, Shares<K>)>
+    for Team<'a, C> {
     /// What the worker gives back, and its shares.
     fn work<S: Wait>(&self, _rt: &S, hand: Held<'b, T, K, R>) -> (C::Given, Shares<K>) {
         let mut hand = hand;
@@ -72,10 +75,10 @@ fn parted<G: Drop, K: Ledgers>(
 }
 
 /// The phasers are made ready, and all workers work. What they give back, and their shares.
-fn worked<T: Send + Drop, C: Crew<T> + Sync, K: Ledgers + Send + Sync, R: Threads + Wait + Sync>(
+fn worked<T: Send + Drop, C: Crew<T> + Sync, K: Naming + Send + Sync, R: Threads + Wait + Sync>(
     rt: &R,
     alloc: Global,
-    table: &PhaserTable<T, K>,
+    table: &ReceiptTable<T, K>,
     shares: Vec<Shares<K>>,
     crew: &C,
 ) -> Result<(Vec<C::Given>, Vec<Shares<K>>), Refusal>
@@ -88,6 +91,7 @@ where
     K::DownByWorker: Send + Sync,
     K::Room: Send + Sync,
     requires some { 0 < vec_len shares }
+    requires phasers { table.now.phasers ≡ K.Logs.limits.phasers }
     ensures number { IfOk result (λ r. (vec_len r.0 ≡ vec_len shares) × (vec_len r.1 ≡ vec_len shares)) }
     ensures refused { IfErr result (λ e. (e ≡ Refusal.Memory) ⊎ C.refuses crew.now e) }
 {
@@ -99,8 +103,9 @@ where
 }
 
 /// What is left of the table and the workers.
-fn gathered<T: Drop, G: Drop, K: Ledgers>(
-    table: PhaserTable<T, K>,
+fn gathered<T: Drop, G: Drop, K: Naming, R: Wait>(
+    rt: &R,
+    table: ReceiptTable<T, K>,
     given: Vec<G>,
     shares: Vec<Shares<K>>,
 ) -> Gathered<G>
@@ -111,10 +116,11 @@ fn gathered<T: Drop, G: Drop, K: Ledgers>(
     ensures gathered { AreGathered table.phasers result.parts.items result.totals }
     ensures given { vec_len result.given ≡ vec_len given }
 {
-    let left = table.into_parts();
-    let PhaserParts {
+    let left = table.into_parts(rt);
+    let ReceiptParts {
         parts,
         phasers,
+        logs: _,
         books,
     } = left;
     let Ok(totals) = gather(shares, phasers, books) else {
@@ -127,11 +133,12 @@ fn gathered<T: Drop, G: Drop, K: Ledgers>(
     }
 }
 
-fn run_in<T: Send + Drop, C: Crew<T> + Sync, K: Ledgers + Send + Sync, R: Threads + Wait + Sync>(
+fn run_in<T: Send + Drop, C: Crew<T> + Sync, K: Naming + Send + Sync, R: Threads + Wait + Sync>(
     rt: &R,
     alloc: Global,
     limits: Limits,
     blanks: Blanks,
+    logs: Vec<Whole<Noted>>,
     crew: &C,
 ) -> Result<Gathered<C::Given>, Refusal>
 where
@@ -146,19 +153,25 @@ where
         K.UpByWorker.name K.DownByPhaser.name K.DownByWorker.name K.Room.name }
     requires parts { IsParted blanks K.EventsByPhaser.parts K.EventsByWorker.parts K.UpByPhaser.parts
         K.UpByWorker.parts K.DownByPhaser.parts K.DownByWorker.parts K.Room.parts }
-    requires limits { limits_fit limits ≡ true }
+    requires fit { limits_fit limits ≡ true }
+    requires limits { limits ≡ K.Logs.limits }
     requires workers { 0 < blanks.workers }
+    requires phasers { blanks.phasers ≡ limits.phasers }
+    requires logs { (i : ℕ) → IfSome (slice_get logs.items i) (λ w. w.name ≡ K.Logs.logs i) }
+    requires empty { All (λ w. w.items ≡ []) logs.items }
+    requires each { vec_len logs ≡ limits.phasers }
     ensures gathered { IfOk result (λ g. AreGathered blanks.phasers g.parts.items g.totals) }
     ensures given { IfOk result (λ g. vec_len g.given ≡ blanks.workers) }
     ensures refused { IfErr result (λ e. (e ≡ Refusal.Memory) ⊎ C.refuses crew.now e) }
 {
     let (books, phasers, shares) = open::<K>(alloc, blanks)?;
-    let table = PhaserTable::new(alloc, limits, books, phasers)?;
+    let logs = PhaserLogs::<K>::of(alloc, logs)?;
+    let table = ReceiptTable::new(alloc, limits, books, phasers, logs)?;
     let (given, shares) = worked(rt, alloc, &table, shares, crew)?;
-    Ok(gathered(table, given, shares))
+    Ok(gathered(rt, table, given, shares))
 }
 
-// Names the ledgers.
+// Names the ledgers and the logs.
 fn run_over<
     T: Send + Drop,
     C: Crew<T> + Sync,
@@ -170,22 +183,31 @@ fn run_over<
     DP: Ledger + Send + Sync,
     DW: Ledger + Send + Sync,
     RM: Ledger + Send + Sync,
+    L: Logs + Send + Sync,
 >(
     rt: &R,
     alloc: Global,
     limits: Limits,
     blanks: Blanks,
+    logs: Vec<Whole<Noted>>,
     crew: &C,
 ) -> Result<Gathered<C::Given>, Refusal>
     requires names { IsNamed blanks EP.name EW.name UP.name UW.name DP.name DW.name RM.name }
     requires parts { IsParted blanks EP.parts EW.parts UP.parts UW.parts DP.parts DW.parts RM.parts }
-    requires limits { limits_fit limits ≡ true }
+    requires fit { limits_fit limits ≡ true }
+    requires limits { limits ≡ L.limits }
     requires workers { 0 < blanks.workers }
+    requires phasers { blanks.phasers ≡ limits.phasers }
+    requires logs { (i : ℕ) → IfSome (slice_get logs.items i) (λ w. w.name ≡ L.logs i) }
+    requires empty { All (λ w. w.items ≡ []) logs.items }
+    requires each { vec_len logs ≡ limits.phasers }
     ensures gathered { IfOk result (λ g. AreGathered blanks.phasers g.parts.items g.totals) }
     ensures given { IfOk result (λ g. vec_len g.given ≡ blanks.workers) }
     ensures refused { IfErr result (λ e. (e ≡ Refusal.Memory) ⊎ C.refuses crew.now e) }
 {
-    run_in::<T, C, Seven<EP, EW, UP, UW, DP, DW, RM>, R>(rt, alloc, limits, blanks, crew)
+    run_in::<T, C, Named<Seven<EP, EW, UP, UW, DP, DW, RM>, L>, R>(
+        rt, alloc, limits, blanks, logs, crew,
+    )
 }
 
 /// Takes `limits.phasers` phasers, each behind a lock of its own, has the crew prepare them, lets
@@ -206,11 +228,13 @@ pub fn with_phasers<T: Send + Drop, C: Crew<T> + Sync, R: Threads + Wait + Sync>
     ensures given { IfOk result (λ g. vec_len g.given ≡ workers) }
     ensures refused { IfErr result (λ e. (e ≡ Refusal.Memory) ⊎ C.refuses crew.now e) }
 {
-    run_over::<T, C, R, Brand, Brand, Brand, Brand, Brand, Brand, Brand>(
+    let logs = new_logs(alloc, limits.phasers)?;
+    run_over::<T, C, R, Brand, Brand, Brand, Brand, Brand, Brand, Brand, Brand>(
         rt,
         alloc,
         limits,
         Blanks::new(limits.phasers, workers),
+        logs,
         crew,
     )
 }

@@ -1,37 +1,42 @@
 //! The hand of a worker of a run: its way to the table, its shares of the books, and whom its calls
 //! wake.
-ghost use Rattle.std.specs.Prelude.{◌≡◌, ◌++◌, [], ◌<◌, IfOk, IfErr, OnOk};
+ghost use Rattle.std.specs.Prelude.{◌≡◌, ◌++◌, [], ◌<◌, ◌≤◌, IfOk, IfErr, OnOk, length};
 
+use crate::fronts::Fronts;
 use crate::hand::Hand;
 use phase_model::{Bound, Look, Ops};
 use phase_modes::{Mode, Refusal};
-use scope_locks::{Out, PassAnswer, PhaserTable, SignalAnswer, Tickets};
-use share_book::{Ledgers, Shares};
+use scope_locks::{Out, PassAnswer, SignalAnswer, Tickets};
+use share_book::Shares;
 use std::alloc::Global;
 use std::collections::VecDeque;
 use std::sync::Wait;
+use table_receipts::{Caller, Naming, ReceiptTable};
 
 /// The hand of a worker of this run.
 #[derive(Drop)]
-pub(crate) struct Held<'a, T, K: Ledgers, R> {
+pub(crate) struct Held<'a, T, K: Naming, R> {
     worker: u32,
-    rt: &'a R,
-    table: &'a PhaserTable<T, K>,
-    tickets: &'a Tickets,
-    shares: Shares<K>,
+    table: &'a ReceiptTable<T, K>,
+    /// Its out-list has those whom the last call woke.
+    by: Caller<'a, T, K, R>,
+    /// What was seen of the phasers.
+    fronts: Fronts<K>,
     /// Those whom the calls before the last one woke.
     ready: VecDeque<T>,
-    /// Those whom the last call woke.
-    out: Out<T>,
+    ghost all: { length fronts ≡ K.Logs.limits.phasers },
+    ghost few: { table.now.phasers ≡ K.Logs.limits.phasers },
 }
 
 /// The phaser's place in the table; the refusal where no phaser has the number.
-fn place<T, K: Ledgers>(
-    table: &PhaserTable<T, K>,
+fn place<T, K: Naming>(
+    table: &ReceiptTable<T, K>,
     phaser: u32,
     refusal: Refusal,
 ) -> Result<usize, Refusal>
     ensures place { IfOk result (λ n. n < table.now.phasers) }
+    ensures same { IfOk result (λ n. n ≡ phaser) }
+    ensures past { IfErr result (λ _. table.now.phasers ≤ phaser) }
     ensures known { IfOk result (λ _. phaser < table.now.phasers) }
     ensures unknown { IfErr result (λ e. e ≡ refusal) }
 {
@@ -47,6 +52,7 @@ fn place<T, K: Ledgers>(
 /// them.
 pub(crate) fn pour<T>(ready: &mut VecDeque<T>, out: &mut Out<T>) -> Result<(), Refusal>
     ensures empty { OnOk result (out.new ≡ []) }
+    ensures memory { IfErr result (λ e. e ≡ Refusal.Memory) }
     ensures same { ready.new.items ++ out.new ≡ ready.old.items ++ out.old }
 {
     ready.reserve(out.len())?;
@@ -56,36 +62,40 @@ pub(crate) fn pour<T>(ready: &mut VecDeque<T>, out: &mut Out<T>) -> Result<(), R
     Ok(())
 }
 
-impl<'a, T: Drop, K: Ledgers, R> Held<'a, T, K, R> {
+impl<'a, T: Drop, K: Naming, R: Wait> Held<'a, T, K, R> {
     /// The hand of the worker of this number. `Memory` where its list gets none.
     pub(crate) fn new(
         alloc: Global,
         worker: u32,
         rt: &'a R,
-        table: &'a PhaserTable<T, K>,
+        table: &'a ReceiptTable<T, K>,
         tickets: &'a Tickets,
         shares: Shares<K>,
     ) -> Result<Held<'a, T, K, R>, Refusal>
+        requires { table.now.phasers ≡ K.Logs.limits.phasers }
         ensures memory { IfErr result (λ e. e ≡ Refusal.Memory) }
     {
         Ok(Held {
             worker,
-            rt,
             table,
-            tickets,
-            shares,
+            by: Caller {
+                rt,
+                tickets,
+                mine: shares,
+                out: Out::new(alloc)?,
+            },
+            fronts: Fronts::of(alloc, rt, table)?,
             ready: VecDeque::new(alloc),
-            out: Out::new(alloc)?,
         })
     }
 
     /// The shares, once the worker is done.
     pub(crate) fn into_shares(self) -> Shares<K> {
-        self.shares
+        self.by.mine
     }
 }
 
-impl<'a, T, K: Ledgers, R: Wait> Hand<T> for Held<'a, T, K, R> {
+impl<'a, T, K: Naming, R: Wait> Hand<T> for Held<'a, T, K, R> {
     type Runtime = R;
 
     ghost use Rattle.std.specs.Prelude.{◌++◌};
@@ -93,9 +103,13 @@ impl<'a, T, K: Ledgers, R: Wait> Hand<T> for Held<'a, T, K, R> {
     ghost shown = { λ h. record {
       worker = h.worker;
       phasers = h.table.now.phasers;
-      freed = h.ready.items ++ h.out;
-      posted = h.shares;
+      freed = h.ready.items ++ h.by.out;
+      posted = h.by.mine;
     } };
+
+    ghost use Rattle.phaser_crew.specs.Hands.{story_at};
+
+    ghost seen = { λ h n. story_at h.fronts n };
 
     fn worker(&self) -> u32 {
         self.worker
@@ -108,7 +122,7 @@ impl<'a, T, K: Ledgers, R: Wait> Hand<T> for Held<'a, T, K, R> {
     fn next(&mut self) -> Option<T> {
         match self.ready.pop_front() {
             Some(item) => Some(item),
-            None => self.out.take(),
+            None => self.by.out.take(),
         }
     }
 
@@ -121,16 +135,12 @@ impl<'a, T, K: Ledgers, R: Wait> Hand<T> for Held<'a, T, K, R> {
         bound: Option<Bound>,
     ) -> Result<(), Refusal> {
         let number = place(self.table, phaser, Refusal::PhasersFull)?;
-        self.table.make(
-            self.rt,
-            number,
-            self.tickets,
-            &mut self.shares,
-            task,
-            mode,
-            ops,
-            bound,
-        )
+        let mut me = self.fronts.get(number);
+        let answer = self
+            .table
+            .make(&mut self.by, &mut me, number, task, mode, ops, bound);
+        self.fronts.set(number, me);
+        answer
     }
 
     fn register(
@@ -141,40 +151,32 @@ impl<'a, T, K: Ledgers, R: Wait> Hand<T> for Held<'a, T, K, R> {
         mode: Mode,
     ) -> Result<(), Refusal> {
         let number = place(self.table, phaser, Refusal::NotRegistered)?;
-        self.table.register(
-            self.rt,
-            number,
-            self.tickets,
-            &mut self.shares,
-            parent,
-            child,
-            mode,
-        )
+        let mut me = self.fronts.get(number);
+        let answer = self
+            .table
+            .register(&mut self.by, &mut me, number, parent, child, mode);
+        self.fronts.set(number, me);
+        answer
     }
 
     fn send(&mut self, phaser: u32, task: u32, accumulator: u8, value: i32) -> Result<(), Refusal> {
         let number = place(self.table, phaser, Refusal::NotRegistered)?;
-        self.table.send(
-            self.rt,
-            number,
-            self.tickets,
-            &mut self.shares,
-            task,
-            accumulator,
-            value,
-        )
+        let mut me = self.fronts.get(number);
+        let answer = self
+            .table
+            .send(&mut self.by, &mut me, number, task, accumulator, value);
+        self.fronts.set(number, me);
+        answer
     }
 
     fn look(&mut self, phaser: u32, task: u32, accumulator: u8) -> Result<Look, Refusal> {
         let number = place(self.table, phaser, Refusal::NotRegistered)?;
-        self.table.look(
-            self.rt,
-            number,
-            self.tickets,
-            &mut self.shares,
-            task,
-            accumulator,
-        )
+        let mut me = self.fronts.get(number);
+        let answer = self
+            .table
+            .look(&mut self.by, &mut me, number, task, accumulator);
+        self.fronts.set(number, me);
+        answer
     }
 
     fn signal(
@@ -188,19 +190,15 @@ impl<'a, T, K: Ledgers, R: Wait> Hand<T> for Held<'a, T, K, R> {
             Ok(number) => number,
             Err(refusal) => return SignalAnswer::Refused(item, refusal),
         };
-        if let Err(refusal) = pour(&mut self.ready, &mut self.out) {
+        if let Err(refusal) = pour(&mut self.ready, &mut self.by.out) {
             return SignalAnswer::Refused(item, refusal);
         }
-        self.table.signal(
-            self.rt,
-            number,
-            self.tickets,
-            &mut self.shares,
-            &mut self.out,
-            task,
-            proposed,
-            item,
-        )
+        let mut me = self.fronts.get(number);
+        let answer = self
+            .table
+            .signal(&mut self.by, &mut me, number, task, proposed, item);
+        self.fronts.set(number, me);
+        answer
     }
 
     fn pass(&mut self, phaser: u32, task: u32, item: T) -> PassAnswer<T> {
@@ -208,43 +206,30 @@ impl<'a, T, K: Ledgers, R: Wait> Hand<T> for Held<'a, T, K, R> {
             Ok(number) => number,
             Err(refusal) => return PassAnswer::Refused(item, refusal),
         };
-        if let Err(refusal) = pour(&mut self.ready, &mut self.out) {
+        if let Err(refusal) = pour(&mut self.ready, &mut self.by.out) {
             return PassAnswer::Refused(item, refusal);
         }
-        self.table.pass(
-            self.rt,
-            number,
-            self.tickets,
-            &mut self.shares,
-            &mut self.out,
-            task,
-            item,
-        )
+        let mut me = self.fronts.get(number);
+        let answer = self.table.pass(&mut self.by, &mut me, number, task, item);
+        self.fronts.set(number, me);
+        answer
     }
 
     fn single_done(&mut self, phaser: u32, task: u32) -> Result<(), Refusal> {
         let number = place(self.table, phaser, Refusal::NotRegistered)?;
-        pour(&mut self.ready, &mut self.out)?;
-        self.table.single_done(
-            self.rt,
-            number,
-            self.tickets,
-            &mut self.shares,
-            &mut self.out,
-            task,
-        )
+        pour(&mut self.ready, &mut self.by.out)?;
+        let mut me = self.fronts.get(number);
+        let answer = self.table.single_done(&mut self.by, &mut me, number, task);
+        self.fronts.set(number, me);
+        answer
     }
 
     fn drop_task(&mut self, phaser: u32, task: u32) -> Result<(), Refusal> {
         let number = place(self.table, phaser, Refusal::NotRegistered)?;
-        pour(&mut self.ready, &mut self.out)?;
-        self.table.drop_task(
-            self.rt,
-            number,
-            self.tickets,
-            &mut self.shares,
-            &mut self.out,
-            task,
-        )
+        pour(&mut self.ready, &mut self.by.out)?;
+        let mut me = self.fronts.get(number);
+        let answer = self.table.drop_task(&mut self.by, &mut me, number, task);
+        self.fronts.set(number, me);
+        answer
     }
 }

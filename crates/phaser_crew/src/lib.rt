@@ -5,6 +5,7 @@
 
 mod crew;
 mod entry;
+mod fronts;
 mod hand;
 mod held;
 mod long_crew;

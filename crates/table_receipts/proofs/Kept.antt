@@ -14,7 +14,7 @@ use Rattle.phaser_answers.specs.Answers.{made_with}
 use Rattle.table_receipts.specs.Logs.{Sight, GoesOn, Follows}
 use Rattle.table_receipts.specs.Told.{IsAnswered, IsMade}
 
-follows_after : (s : Story) (r : Reply) → Follows s (after s r)
+pub follows_after : (s : Story) (r : Reply) → Follows s (after s r)
 follows_after s (refused e) = inl refl
 follows_after s not_yet = inl refl
 follows_after s (done e) = inr (e, refl, refl, λ some. refl)
@@ -28,7 +28,7 @@ none_before : (l : Limits) (terms : Terms) (h : List Event) (t : ℕ) (m : Mode)
 none_before l terms [] t m f k some = absurd (cc some)
 none_before l terms (e ∷ h) t m f k some = absurd cc
 
-follows_made : (s : Story) (terms : Terms) (t : ℕ) (m : Mode) (r : Reply) → reply s (make t m) ≡ r → Follows s (made_with s terms r)
+pub follows_made : (s : Story) (terms : Terms) (t : ℕ) (m : Mode) (r : Reply) → reply s (make t m) ≡ r → Follows s (made_with s terms r)
 follows_made s terms t m (refused e) k = inl refl
 follows_made s terms t m not_yet k = inl refl
 follows_made s terms t m (done e) k = inr (e, refl, refl, λ some. none_before s.limits s.terms s.past t m e k some)

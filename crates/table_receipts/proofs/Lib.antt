@@ -1,4 +1,5 @@
 pub mod Closes
+pub mod Goes
 pub mod Kept
 pub mod Looks
 pub mod Notes

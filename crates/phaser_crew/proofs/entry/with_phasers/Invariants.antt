@@ -1,3 +1,4 @@
+use Rattle.phaser_crew.proofs.Names.{name_at}
 use Rattle.phaser_crew.proofs.entry.with_phasers.Given as goal
 
 abbrev pub ghosts-run_over-EP-Ledger : goal.ghosts-run_over-EP-Ledger
@@ -20,3 +21,7 @@ ghosts-run_over-DW-Ledger g a = record { name = a.blanks.down_by_worker.name; pa
 
 abbrev pub ghosts-run_over-RM-Ledger : goal.ghosts-run_over-RM-Ledger
 ghosts-run_over-RM-Ledger g a = record { name = a.blanks.room.name; parts = a.blanks.room.parts }
+
+-- each log has the name that it was begun under
+abbrev pub ghosts-run_over-L-Logs : goal.ghosts-run_over-L-Logs
+ghosts-run_over-L-Logs g a = record { logs = λ n. name_at (λ w. w.name) a.logs.items n; limits = a.limits }

@@ -1,5 +1,6 @@
-use Rattle.std.proofs.Common.{◌≡◌, List, length, ap, sym, ◌∙◌, arith}
+use Rattle.std.proofs.Common.{◌≡◌, List, length, ap, sym, ◌∙◌, subst, arith}
 use Rattle.std.proofs.lemmas.Bool.{eqb-true}
+use Rattle.phase_model.specs.Laws.{IsLegal}
 use Rattle.phase_model.specs.Rules.{Story}
 use Rattle.trace_model.specs.Run.{Entry}
 use Rattle.trace_model.specs.Told.{phaser_told}
@@ -41,5 +42,6 @@ returns-clause-logged g c =
           ∙ (ap (λ n. phaser_told n c.into_history.result cell.drawn.items) number
           ∙ ap (λ (s : Story). phaser_told (length ps) s cell.drawn.items) (c.into_history.ensures ∙ story));
       drawn = omega (arith, cell.ticketed, cell.drawn.ok.0, ap (λ (s : Story). length s.past) story);
+      legal = subst (λ (s : Story). IsLegal s) story cell.kept.legal;
     } in
     logs_grow g.K.Logs.logs ps c.push_reserved.new.self.items c.args.logs.now.items c.push_reserved-3.new.self.items c.of_phaser.result log c.push_reserved.ensures.items c.push_reserved-3.ensures.items c.requires.logged last

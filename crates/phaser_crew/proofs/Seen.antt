@@ -1,0 +1,56 @@
+-- What was seen of the phasers, one by one.
+use Rattle.std.proofs.Common.{◌≡◌, ℕ, zero, suc, ◌<◌, ◌==◌, Bool, true, false, List, [], ◌∷◌, ◌++◌, length, Some, IfSome, slice_get, refl, sym, ap, ◌∙◌, subst, arith}
+use lib.ListN.{get_or}
+use Rattle.std.proofs.lemmas.Bool.{false≢true, eq-eqb, eqb-true}
+use Rattle.std.specs.List.{slice_set}
+use Rattle.phase_model.specs.Rules.{Story}
+use Rattle.table_receipts.specs.Logs.{Sight, GoesOn}
+use Rattle.table_receipts.proofs.Goes.{goes_itself}
+use Rattle.phaser_crew.specs.Hands.{story_at, IsNamed, HasSeenMore}
+
+pub set_here : (xs : List Sight) (i : ℕ) (x : Sight) → i < length xs → story_at (slice_set xs i x) i ≡ x.story
+set_here [] i x within = absurd (omega (arith, within))
+set_here (y ∷ ys) zero x within = refl
+set_here (y ∷ ys) (suc i) x within = set_here ys i x (omega (arith, within))
+
+apart : (xs : List Sight) (i : ℕ) (x : Sight) (n : ℕ) → (n ≡ i → ⊥) → story_at (slice_set xs i x) n ≡ story_at xs n
+apart [] i x n other = refl
+apart (y ∷ ys) zero x zero other = absurd (other refl)
+apart (y ∷ ys) zero x (suc n) other = refl
+apart (y ∷ ys) (suc i) x zero other = refl
+apart (y ∷ ys) (suc i) x (suc n) other = apart ys i x n (λ e. other (ap suc e))
+
+pub set_apart : (xs : List Sight) (i : ℕ) (x : Sight) (n : ℕ) → n == i ≡ false → story_at (slice_set xs i x) n ≡ story_at xs n
+set_apart xs i x n other = apart xs i x n (λ e. false≢true (sym other ∙ eq-eqb n i e))
+
+-- one more at the end, under its name
+pub named_more : (names : ℕ → ℕ) (xs : List Sight) (x : Sight) → IsNamed names xs → x.log ≡ names (length xs) → IsNamed names (xs ++ x ∷ [])
+named_more names [] x all last zero = last
+named_more names [] x all last (suc n) = tt
+named_more names (y ∷ ys) x all last zero = all zero
+named_more names (y ∷ ys) x all last (suc n) = named_more (λ k. names (suc k)) ys x (λ k. all (suc k)) last n
+
+pub at_same : (xs : List Sight) (i : ℕ) (x : Sight) → i < length xs → x ≡ get_or xs i x → x.story ≡ story_at xs i
+at_same [] i x within is = absurd (omega (arith, within))
+at_same (y ∷ ys) zero x within is = ap (λ (z : Sight). z.story) is
+at_same (y ∷ ys) (suc i) x within is = at_same ys i x (omega (arith, within)) is
+
+-- what a call says of what was seen before and after, of the phaser of this number
+pub told_at : (P : Story → Story → Type 0) (xs ys : List Sight) (number phaser : ℕ) (a b : Story)
+    → number ≡ phaser → a ≡ story_at xs number → story_at ys number ≡ b → P a b → P (story_at xs phaser) (story_at ys phaser)
+told_at P xs ys number phaser a b place before now holds =
+    subst (λ (n : ℕ). P (story_at xs n) (story_at ys n)) place
+    (subst (λ (v : Story). P v (story_at ys number)) before (subst (λ (v : Story). P a v) (sym now) holds))
+
+pub seen_more : (xs zs ys : List Sight) (number phaser : ℕ) (a b : Story)
+    → zs ≡ xs → number ≡ phaser → a ≡ story_at xs number → story_at ys number ≡ b
+    → ((n : ℕ) → n == number ≡ false → story_at ys n ≡ story_at zs n)
+    → GoesOn a b → HasSeenMore phaser (λ n. story_at xs n) (λ n. story_at ys n)
+seen_more xs zs ys number phaser a b kept place before now others goes = (λ n. by_number n (n == phaser) refl, λ n other. same n other)
+  where
+    same : (n : ℕ) → n == phaser ≡ false → story_at ys n ≡ story_at xs n
+    same n other = others n (subst (λ (k : ℕ). n == k ≡ false) (sym place) other) ∙ ap (λ (l : List Sight). story_at l n) kept
+
+    by_number : (n : ℕ) (b : Bool) → n == phaser ≡ b → GoesOn (story_at xs n) (story_at ys n)
+    by_number n true is = subst (λ (k : ℕ). GoesOn (story_at xs k) (story_at ys k)) (sym (eqb-true n phaser is)) (told_at GoesOn xs ys number phaser a _ place before now goes)
+    by_number n false is = subst (λ (v : Story). GoesOn (story_at xs n) v) (sym (same n is)) (goes_itself (story_at xs n))

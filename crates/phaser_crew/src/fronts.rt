@@ -1,0 +1,68 @@
+//! What a worker has seen of all phasers.
+ghost use Rattle.std.specs.Prelude.{◌≡◌, ℕ, ◌==◌, ◌<◌, false, IfOk, IfErr, length};
+ghost use Rattle.phaser_crew.specs.Hands.{story_at, IsNamed};
+
+use phase_modes::Refusal;
+use std::alloc::Global;
+use std::marker::Model;
+use std::sync::Wait;
+use table_receipts::{Front, Naming, ReceiptTable};
+
+/// A front of each phaser, in order. Contracts see what was seen of each.
+#[derive(Drop)]
+pub(crate) struct Fronts<K: Naming> {
+    fronts: Vec<Front<K>>,
+}
+
+impl<K: Naming> Model for Fronts<K> {
+    ghost use Rattle.std.specs.Prelude.{List};
+    ghost use Rattle.table_receipts.specs.Logs.{Sight};
+    ghost use Rattle.phaser_crew.specs.Hands.{IsNamed};
+
+    ghost Value = { List Sight };
+
+    ghost view = { λ f. f.fronts.items };
+
+    ghost invariant = { λ f. IsNamed K.Logs.logs f.fronts.items };
+}
+
+impl<K: Naming> Fronts<K> {
+    /// What was done on each of the table's phasers so far. `Memory` where the list gets none.
+    pub(crate) fn of<T, R: Wait>(
+        alloc: Global,
+        rt: &R,
+        table: &ReceiptTable<T, K>,
+    ) -> Result<Fronts<K>, Refusal>
+        ensures all { IfOk result (λ f. length f ≡ table.now.phasers) }
+        ensures memory { IfErr result (λ e. e ≡ Refusal.Memory) }
+    {
+        let mut fronts = Vec::new(alloc);
+        for phaser in 0..table.phasers {
+            fronts.push(table.front(rt, phaser))?;
+        }
+        Ok(Fronts { fronts })
+    }
+
+    /// What was seen of this phaser.
+    #[inline(always)]
+    pub(crate) fn get(&mut self, phaser: usize) -> Front<K>
+        requires { phaser < length self.old }
+        ensures same { self.new ≡ self.old }
+        ensures log { result.log ≡ K.Logs.logs phaser }
+        ensures story { result.story ≡ story_at self.old phaser }
+    {
+        self.fronts[phaser].again()
+    }
+
+    /// More was seen of this phaser.
+    #[inline(always)]
+    pub(crate) fn set(&mut self, phaser: usize, seen: Front<K>)
+        requires place { phaser < length self.old }
+        requires log { seen.log ≡ K.Logs.logs phaser }
+        ensures length { length self.new ≡ length self.old }
+        ensures here { story_at self.new phaser ≡ seen.story }
+        ensures others { (n : ℕ) → (n == phaser) ≡ false → story_at self.new n ≡ story_at self.old n }
+    {
+        self.fronts[phaser] = seen;
+    }
+}
