@@ -1,3 +1,4 @@
 mod Sums
 pub mod Names
 pub mod Seen
+pub mod Told

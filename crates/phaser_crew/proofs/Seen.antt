@@ -1,7 +1,9 @@
 -- What was seen of the phasers, one by one.
-use Rattle.std.proofs.Common.{◌≡◌, ℕ, zero, suc, ◌<◌, ◌==◌, Bool, true, false, List, [], ◌∷◌, ◌++◌, length, Some, IfSome, slice_get, refl, sym, ap, ◌∙◌, subst, arith}
+use Rattle.std.proofs.Common.{◌≡◌, ◌≢◌, ◌⊎◌, inl, inr, ℕ, ◌+◌, zero, suc, ◌<◌, ◌==◌, Bool, true, false, List, [], ◌∷◌, ◌++◌, length, refl, sym, ap, ◌∙◌, subst, arith}
 use lib.ListN.{get_or}
 use Rattle.std.proofs.lemmas.Bool.{false≢true, eq-eqb, eqb-true}
+use Rattle.std.proofs.lemmas.Bool.Decides.{eqb_tells}
+use Rattle.std.proofs.Math.Dec.{eqb}
 use Rattle.std.specs.List.{slice_set}
 use Rattle.phase_model.specs.Rules.{Story}
 use Rattle.table_receipts.specs.Logs.{Sight, GoesOn}
@@ -54,3 +56,17 @@ seen_more xs zs ys number phaser a b kept place before now others goes = (λ n. 
     by_number : (n : ℕ) (b : Bool) → n == phaser ≡ b → GoesOn (story_at xs n) (story_at ys n)
     by_number n true is = subst (λ (k : ℕ). GoesOn (story_at xs k) (story_at ys k)) (sym (eqb-true n phaser is)) (told_at GoesOn xs ys number phaser a _ place before now goes)
     by_number n false is = subst (λ (v : Story). GoesOn (story_at xs n) v) (sym (same n is)) (goes_itself (story_at xs n))
+
+-- what was written back as it was changes nothing
+pub unset : (xs : List Sight) (i : ℕ) (y x : Sight) → i < length xs → x ≡ get_or xs i x → y ≡ x → slice_set xs i y ≡ xs
+unset [] i y x within is same = absurd (omega (arith, within))
+unset (z ∷ zs) zero y x within is same = ap (λ (w : Sight). w ∷ zs) (same ∙ is)
+unset (z ∷ zs) (suc i) y x within is same = ap (λ (l : List Sight). z ∷ l) (unset zs i y x (omega (arith, within)) is same)
+
+-- what begins the stories of so many phasers, and of the next one
+pub begins_more : (xs ys : List Sight) (k : ℕ) → ((n : ℕ) → n < k → GoesOn (story_at xs n) (story_at ys n)) → GoesOn (story_at xs k) (story_at ys k) → (n : ℕ) → n < k + 1 → GoesOn (story_at xs n) (story_at ys n)
+begins_more xs ys k before next n within = go (eqb_tells n k)
+  where
+    go : ((eqb n k ≡ true) × (n ≡ k)) ⊎ ((eqb n k ≡ false) × (n ≢ k)) → GoesOn (story_at xs n) (story_at ys n)
+    go (inl same) = subst (λ (m : ℕ). GoesOn (story_at xs m) (story_at ys m)) (sym same.1) next
+    go (inr other) = before n (omega (arith, within, other.1))

@@ -1,6 +1,7 @@
--- What the phasers' books add up to, as a list of amounts.
-use Rattle.std.proofs.Common.{◌≡◌, ℕ, List, [], ◌∷◌, map, refl, ap, ◌∙◌, arith}
-use Rattle.std.specs.List.{sum_by}
+-- What the phasers' books add up to, as a list of amounts; and lists of one kind.
+use Rattle.std.proofs.Common.{◌≡◌, ℕ, List, [], ◌∷◌, ◌++◌, map, refl, sym, ap, ◌∙◌, subst, arith}
+use Rattle.std.specs.List.{sum_by, All}
+use Rattle.std.proofs.lemmas.List.Elements.{All-nil, All-cons, All-append}
 use Rattle.std.proofs.lemmas.List.Sums.{sum_by-cons}
 use Rattle.phase_model.specs.Amounts.{Amount}
 use Rattle.share_book.specs.Accounts.{Entry, sum, sum_of_books}
@@ -20,3 +21,7 @@ books_sum books =
     ap (λ n. record { events = n; up = one.up; down = one.down }) (each (λ a. a.events) books)
     ∙ (ap (λ n. record { events = other.events; up = n; down = one.down }) (each (λ a. a.up) books)
     ∙ ap (λ n. record { events = other.events; up = other.up; down = n }) (each (λ a. a.down) books))
+
+-- one more of the same kind
+pub all_more : {X : Type 0} (P : X → Type 0) (xs ys : List X) (x : X) → ys ≡ xs ++ x ∷ [] → All P xs → P x → All P ys
+all_more P xs ys x more all one = subst (λ (l : List _). All P l) (sym more) (All-append P xs (x ∷ []) all (All-cons P x [] one (All-nil P)))

@@ -11,13 +11,19 @@ use trace_model::Part;
 /// No worker may wait for another: where the system makes no thread, they work one after the other.
 /// A task that has to wait is parked, and goes on in the hand of the worker whose call lets it.
 pub trait Crew<T> {
+    ghost use Rattle.std.specs.Prelude.{ℕ};
     ghost use Rattle.phase_modes.specs.declared.refusal.Refusal.{Refusal};
+    ghost use Rattle.phase_model.specs.Rules.{Story};
 
     /// What a worker gives back.
     type Given: Send + Drop;
 
     /// What `prepare` can be refused by: anything where nobody says.
     ghost refuses: { Self → Refusal → Type 0 } = { λ _ _. Unit {0} };
+
+    /// What a worker's gift says of all that the worker has seen of the phasers: nothing where nobody
+    /// says. `with_phasers` says it of the stories that the parts tell.
+    ghost shows: { Self.Given → (ℕ → Story) → Type 0 } = { λ _ _. Unit {0} };
 
     /// Makes phasers and registers tasks by the hand of worker 0, before any thread is started.
     /// Where it is refused nobody works.
@@ -26,7 +32,8 @@ pub trait Crew<T> {
 
     /// What one worker does, in a thread of its own. Items that are left in its hand at the end are
     /// dropped.
-    fn work<H: Hand<T>>(&self, hand: &mut H) -> Self::Given;
+    fn work<H: Hand<T>>(&self, hand: &mut H) -> Self::Given
+        ensures { shows result (H.seen hand.new) };
 }
 
 /// What is left once all workers are done: what each gave back, in order; the phasers' histories

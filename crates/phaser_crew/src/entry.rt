@@ -1,10 +1,13 @@
 //! The entry: it makes the phasers and their books, lets the workers work, and gathers all.
-ghost use Rattle.std.specs.Prelude.{◌≡◌, ◌⊎◌, ◌<◌, ℕ, [], true, All, IfOk, IfErr, IfSome, slice_get, vec_len};
+ghost use Rattle.std.specs.Prelude.{◌≡◌, ◌⊎◌, ◌<◌, ℕ, [], true, All, IfOk, IfErr, IfSome, length, slice_get, vec_len};
 ghost use Rattle.phase_modes.specs.Limits.{limits_fit};
 ghost use Rattle.share_book.specs.Opening.{IsNamed, IsParted, AreAllParts};
-ghost use Rattle.phaser_crew.specs.Gathering.{AreGathered};
+ghost use Rattle.phaser_crew.specs.Gathering.{AreGathered, AreShown, HasShown};
+ghost use Rattle.phaser_crew.specs.Hands.{story_at};
+ghost use Rattle.phaser_crew.specs.Hands as of_hands;
 
 use crate::crew::{Crew, Gathered};
+use crate::fronts::Fronts;
 use crate::held::Held;
 use crate::threads::{Work, in_threads};
 use ghost_log::Whole;
@@ -12,12 +15,12 @@ use phase_modes::{Limits, Refusal};
 use scope_locks::Tickets;
 use share_book::{Blanks, Ledgers, Seven, Shares, gather, open};
 use std::alloc::Global;
-use std::marker::Brand;
+use std::marker::{Brand, PhantomData};
 use std::sync::Wait;
 use std::sync::ledger::Ledger;
 use std::thread::Threads;
 use table_receipts::{
-    Logs, Named, Naming, Noted, PhaserLogs, ReceiptParts, ReceiptTable, new_logs,
+    Logs, Named, Naming, Noted, PhaserLog, PhaserLogs, ReceiptParts, ReceiptTable, new_logs,
 };
 
 /// A hand for each worker, with a share each.
@@ -41,47 +44,75 @@ fn hands<'a, T: Drop, K: Naming, R: Wait>(
     Ok(hands)
 }
 
+/// What a worker gives back, its shares, and what it has seen.
+#[derive(Drop)]
+struct Done<T, C: Crew<T>, K: Naming> {
+    given: C::Given,
+    shares: Shares<K>,
+    fronts: Fronts<K>,
+    of: PhantomData<T>,
+    ghost shows: { ∥ C.shows given (λ n. story_at fronts n) ∥₁ },
+    ghost all: { length fronts ≡ K.Logs.limits.phasers },
+}
+
 /// The crew, as it does one worker's part.
 #[derive(Drop)]
 struct Team<'a, C> {
     crew: &'a C,
 }
 
-impl<'a, 'b, T: Drop, C: Crew<T>, K: Naming, R: Wait> Work<Held<'b, T, K, R>, (C::Given, Shares<K>)>
+impl<'a, 'b, T: Drop, C: Crew<T>, K: Naming, R: Wait> Work<Held<'b, T, K, R>, Done<T, C, K>>
     for Team<'a, C> {
-    /// What the worker gives back, and its shares.
-    fn work<S: Wait>(&self, _rt: &S, hand: Held<'b, T, K, R>) -> (C::Given, Shares<K>) {
+    fn work<S: Wait>(&self, _rt: &S, hand: Held<'b, T, K, R>) -> Done<T, C, K> {
         let mut hand = hand;
         let given = self.crew.work(&mut hand);
-        (given, hand.into_shares())
+        let (shares, fronts) = hand.into_parts();
+        Done {
+            given,
+            shares,
+            fronts,
+            of: PhantomData,
+        }
     }
 }
 
-/// What the workers gave back, and their shares.
-fn parted<G: Drop, K: Ledgers>(
+/// What the workers gave back, and their shares. What each has seen begins what the logs tell.
+fn parted<T: Drop, C: Crew<T>, K: Naming>(
     alloc: Global,
-    done: Vec<(G, Shares<K>)>,
-) -> Result<(Vec<G>, Vec<Shares<K>>), Refusal>
+    done: Vec<Done<T, C, K>>,
+    logs: &mut Vec<PhaserLog<K>>,
+) -> Result<(Vec<C::Given>, Vec<Shares<K>>), Refusal>
+    requires all { length logs.old.items ≡ K.Logs.limits.phasers }
+    requires named { of_hands.IsNamed K.Logs.logs logs.old.items }
     ensures number { IfOk result (λ r. (vec_len r.0 ≡ vec_len done) × (vec_len r.1 ≡ vec_len done)) }
+    ensures same { logs.new.items ≡ logs.old.items }
+    ensures shown { IfOk result (λ r. All (λ x. ∥ HasShown C.shows (length logs.old.items) (λ n. story_at logs.old.items n) x ∥₁) r.0.items) }
     ensures memory { IfErr result (λ e. e ≡ Refusal.Memory) }
 {
     let mut all_given = Vec::new(alloc);
-    let mut shares = Vec::new(alloc);
-    for (given, mine) in done {
+    let mut all_shares = Vec::new(alloc);
+    for one in done {
+        let Done {
+            given,
+            shares,
+            mut fronts,
+            of: _,
+        } = one;
+        fronts.begin(logs);
         all_given.push(given)?;
-        shares.push(mine)?;
+        all_shares.push(shares)?;
     }
-    Ok((all_given, shares))
+    Ok((all_given, all_shares))
 }
 
-/// The phasers are made ready, and all workers work. What they give back, and their shares.
+/// The phasers are made ready, and all workers work. What each of them is done with.
 fn worked<T: Send + Drop, C: Crew<T> + Sync, K: Naming + Send + Sync, R: Threads + Wait + Sync>(
     rt: &R,
     alloc: Global,
     table: &ReceiptTable<T, K>,
     shares: Vec<Shares<K>>,
     crew: &C,
-) -> Result<(Vec<C::Given>, Vec<Shares<K>>), Refusal>
+) -> Result<Vec<Done<T, C, K>>, Refusal>
 where
     K::EventsByPhaser: Send + Sync,
     K::EventsByWorker: Send + Sync,
@@ -92,45 +123,47 @@ where
     K::Room: Send + Sync,
     requires some { 0 < vec_len shares }
     requires phasers { table.now.phasers ≡ K.Logs.limits.phasers }
-    ensures number { IfOk result (λ r. (vec_len r.0 ≡ vec_len shares) × (vec_len r.1 ≡ vec_len shares)) }
+    ensures number { IfOk result (λ v. vec_len v ≡ vec_len shares) }
     ensures refused { IfErr result (λ e. (e ≡ Refusal.Memory) ⊎ C.refuses crew.now e) }
 {
     let tickets = Tickets::new();
     let mut hands = hands(rt, alloc, table, &tickets, shares)?;
     crew.prepare(&mut hands[0])?;
-    let done = in_threads(rt, &Team { crew }, hands)?;
-    parted(alloc, done)
+    Ok(in_threads(rt, &Team { crew }, hands)?)
 }
 
 /// What is left of the table and the workers.
-fn gathered<T: Drop, G: Drop, K: Naming, R: Wait>(
+fn gathered<T: Drop, C: Crew<T>, K: Naming, R: Wait>(
     rt: &R,
+    alloc: Global,
     table: ReceiptTable<T, K>,
-    given: Vec<G>,
-    shares: Vec<Shares<K>>,
-) -> Gathered<G>
-    requires workers { AreAllParts (vec_len shares)
+    done: Vec<Done<T, C, K>>,
+) -> Result<Gathered<C::Given>, Refusal>
+    requires workers { AreAllParts (vec_len done)
         K.EventsByWorker.parts K.UpByWorker.parts K.DownByWorker.parts }
     requires phasers { AreAllParts table.phasers
         K.EventsByPhaser.parts K.UpByPhaser.parts K.DownByPhaser.parts }
-    ensures gathered { AreGathered table.phasers result.parts.items result.totals }
-    ensures given { vec_len result.given ≡ vec_len given }
+    requires all { table.phasers ≡ K.Logs.limits.phasers }
+    ensures gathered { IfOk result (λ g. AreGathered table.phasers g.parts.items g.totals) }
+    ensures given { IfOk result (λ g. vec_len g.given ≡ vec_len done) }
+    ensures shown { IfOk result (λ g. AreShown C.shows g.parts.items g.given.items) }
+    ensures memory { IfErr result (λ e. e ≡ Refusal.Memory) }
 {
-    let left = table.into_parts(rt);
     let ReceiptParts {
         parts,
         phasers,
-        logs: _,
+        mut logs,
         books,
-    } = left;
+    } = table.into_parts(rt);
+    let (given, shares) = parted(alloc, done, &mut logs)?;
     let Ok(totals) = gather(shares, phasers, books) else {
         unreachable!()
     };
-    Gathered {
+    Ok(Gathered {
         given,
         parts,
         totals,
-    }
+    })
 }
 
 fn run_in<T: Send + Drop, C: Crew<T> + Sync, K: Naming + Send + Sync, R: Threads + Wait + Sync>(
@@ -162,13 +195,14 @@ where
     requires each { vec_len logs ≡ limits.phasers }
     ensures gathered { IfOk result (λ g. AreGathered blanks.phasers g.parts.items g.totals) }
     ensures given { IfOk result (λ g. vec_len g.given ≡ blanks.workers) }
+    ensures shown { IfOk result (λ g. AreShown C.shows g.parts.items g.given.items) }
     ensures refused { IfErr result (λ e. (e ≡ Refusal.Memory) ⊎ C.refuses crew.now e) }
 {
     let (books, phasers, shares) = open::<K>(alloc, blanks)?;
     let logs = PhaserLogs::<K>::of(alloc, logs)?;
     let table = ReceiptTable::new(alloc, limits, books, phasers, logs)?;
-    let (given, shares) = worked(rt, alloc, &table, shares, crew)?;
-    Ok(gathered(rt, table, given, shares))
+    let done = worked::<T, C, K, R>(rt, alloc, &table, shares, crew)?;
+    gathered(rt, alloc, table, done)
 }
 
 // Names the ledgers and the logs.
@@ -203,6 +237,7 @@ fn run_over<
     requires each { vec_len logs ≡ limits.phasers }
     ensures gathered { IfOk result (λ g. AreGathered blanks.phasers g.parts.items g.totals) }
     ensures given { IfOk result (λ g. vec_len g.given ≡ blanks.workers) }
+    ensures shown { IfOk result (λ g. AreShown C.shows g.parts.items g.given.items) }
     ensures refused { IfErr result (λ e. (e ≡ Refusal.Memory) ⊎ C.refuses crew.now e) }
 {
     run_in::<T, C, Named<Seven<EP, EW, UP, UW, DP, DW, RM>, L>, R>(
@@ -211,7 +246,9 @@ fn run_over<
 }
 
 /// Takes `limits.phasers` phasers, each behind a lock of its own, has the crew prepare them, lets
-/// it work by so many workers, each in a thread of its own, and gathers what they leave.
+/// it work by so many workers, each in a thread of its own, and gathers what they leave. What a
+/// worker's gift says of what the worker has seen (`Crew::shows`) holds of beginnings of the stories
+/// that the parts tell.
 ///
 /// `Memory` where the phasers, a worker or a thread's result get none; else what `prepare` is
 /// refused by. What a worker's calls are refused by is the crew's own matter.
@@ -226,6 +263,7 @@ pub fn with_phasers<T: Send + Drop, C: Crew<T> + Sync, R: Threads + Wait + Sync>
     requires workers { 0 < workers }
     ensures gathered { IfOk result (λ g. AreGathered limits.phasers g.parts.items g.totals) }
     ensures given { IfOk result (λ g. vec_len g.given ≡ workers) }
+    ensures shown { IfOk result (λ g. AreShown C.shows g.parts.items g.given.items) }
     ensures refused { IfErr result (λ e. (e ≡ Refusal.Memory) ⊎ C.refuses crew.now e) }
 {
     let logs = new_logs(alloc, limits.phasers)?;

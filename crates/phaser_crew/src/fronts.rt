@@ -1,12 +1,13 @@
 //! What a worker has seen of all phasers.
 ghost use Rattle.std.specs.Prelude.{◌≡◌, ℕ, ◌==◌, ◌<◌, false, IfOk, IfErr, length};
+ghost use Rattle.table_receipts.specs.Logs.{GoesOn};
 ghost use Rattle.phaser_crew.specs.Hands.{story_at, IsNamed};
 
 use phase_modes::Refusal;
 use std::alloc::Global;
 use std::marker::Model;
 use std::sync::Wait;
-use table_receipts::{Front, Naming, ReceiptTable};
+use table_receipts::{Front, Naming, PhaserLog, ReceiptTable};
 
 /// A front of each phaser, in order. Contracts see what was seen of each.
 #[derive(Drop)]
@@ -64,5 +65,18 @@ impl<K: Naming> Fronts<K> {
         ensures others { (n : ℕ) → (n == phaser) ≡ false → story_at self.new n ≡ story_at self.old n }
     {
         self.fronts[phaser] = seen;
+    }
+
+    /// What was seen begins what the logs tell.
+    pub(crate) fn begin(&mut self, logs: &mut Vec<PhaserLog<K>>)
+        requires all { length logs.old.items ≡ length self.old }
+        requires named { IsNamed K.Logs.logs logs.old.items }
+        ensures same { (self.new ≡ self.old) × (logs.new.items ≡ logs.old.items) }
+        ensures begin { (n : ℕ) → n < length self.old → GoesOn (story_at self.old n) (story_at logs.old.items n) }
+    {
+        for phaser in 0..logs.len() {
+            let mut seen = self.get(phaser);
+            logs[phaser].includes(&mut seen);
+        }
     }
 }

@@ -89,9 +89,19 @@ impl<'a, T: Drop, K: Naming, R: Wait> Held<'a, T, K, R> {
         })
     }
 
-    /// The shares, once the worker is done.
-    pub(crate) fn into_shares(self) -> Shares<K> {
-        self.by.mine
+    /// The shares, and what was seen, once the worker is done.
+    pub(crate) fn into_parts(self) -> (Shares<K>, Fronts<K>)
+        ensures seen { result.1 ≡ self.entry.fronts }
+        ensures all { length result.1 ≡ K.Logs.limits.phasers }
+    {
+        let Held {
+            worker: _,
+            table: _,
+            by,
+            fronts,
+            ready: _,
+        } = self;
+        (by.mine, fronts)
     }
 }
 

@@ -1,8 +1,12 @@
-use Rattle.std.proofs.Common.{◌≡◌, length, vec_len}
+use Rattle.std.proofs.Common.{◌≡◌, All, length, vec_len}
+use Rattle.phaser_crew.specs.Gathering.{HasShown}
+use Rattle.phaser_crew.specs.Hands.{story_at}
 use Rattle.phaser_crew.proofs.entry.parted.Given as goal
 
-abbrev pub invariant-loop-given : goal.invariant-loop-given
-invariant-loop-given g l = record {
+abbrev pub invariant-loop-one : goal.invariant-loop-one
+invariant-loop-one g l = record {
   given : vec_len l.all_given ≡ length l.yielded;
-  shares : vec_len l.shares ≡ length l.yielded;
+  shares : vec_len l.all_shares ≡ length l.yielded;
+  kept : l.logs.items ≡ l.initial.logs.items;
+  shown : All (λ x. ∥ HasShown g.C.Crew.shows (length l.initial.logs.items) (λ n. story_at l.initial.logs.items n) x ∥₁) l.all_given.items;
 }
