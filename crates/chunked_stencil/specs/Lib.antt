@@ -1,0 +1,2 @@
+-- The definitions that contracts cite, in the order in which they are read.
+pub mod Pieces
