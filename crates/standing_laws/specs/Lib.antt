@@ -1,0 +1,2 @@
+-- What each event makes of what a task knows of itself.
+pub mod Laws
