@@ -1,5 +1,6 @@
 -- What a task knows of its phasers, where an event leaves it alike on each of them.
 use Rattle.std.proofs.Common.{◌≡◌, ℕ, Bool, true, false, ◌&&◌, ◌==◌, not, cond, List, [], ◌∷◌, map, Option, Some, None, unwrap_or, refl, sym, ap, ◌∙◌}
+use Rattle.std.specs.Prelude.{filter_map, reverse}
 use Rattle.std.specs.Option.{option_map_or}
 use Rattle.std.proofs.lemmas.Bool.{or_left, or_right}
 use Rattle.phase_modes.specs.declared.limits.Limits.{Limits}
@@ -10,12 +11,15 @@ use Rattle.phase_model.specs.Tasks.{is_live, mode_of}
 use Rattle.phase_model.specs.Phases.{waits, signals}
 use Rattle.phase_model.proofs.Closing.{some_live}
 use Rattle.phase_model.proofs.LiveTasks.{has}
+use Rattle.world_model.specs.declared.event.Step.{Step}
 use Rattle.world_model.specs.declared.event.WorldEvent.{WorldEvent}
-use Rattle.world_model.specs.Parts.{phaser_past}
+use Rattle.world_model.specs.declared.event.WorldEvent.TheVariants.{Phaser}
+use Rattle.world_model.specs.Parts.{phaser_past, terms_of, event_for}
 use Rattle.world_model.specs.Numbers.{is_phaser}
 use Rattle.world_model.specs.Scopes.{open_finishes, enclosing}
 use Rattle.world_model.specs.Tasks as of
 use Rattle.world_model.specs.Replies.{is_accepted, is_legal_world}
+use Rattle.world_model.proofs.OpenFinishes.{filter_same}
 use Rattle.world_model.proofs.SmallWords.{eq_self}
 use Rattle.world_model.proofs.UntouchedStays.{IsAlike}
 use Rattle.world_model.proofs.RegistrationsStand.{enclosing_later}
@@ -67,3 +71,20 @@ module _ (l : Limits) (e : WorldEvent) (w : List WorldEvent) (t : ℕ) (a : is_a
       let v : is_live t (phaser_past n w) ≡ true = listed_live l t w k n h in
       sym (held_like l t n e w a v (s n v)))
       ∙ ap (λ ns. map (held_in (e ∷ w) t) ns) (sym ps)
+
+-- where an event registers and drops nobody of a task, it is on the phasers on which it was
+pub phasers_like : (t : ℕ) (e : WorldEvent) (w : List WorldEvent) → of.joined_by t e ≡ None
+    → ((n : ℕ) → is_live t (phaser_past n (e ∷ w)) ≡ is_live t (phaser_past n w))
+    → of.phasers_of t (e ∷ w) ≡ of.phasers_of t w
+phasers_like t e w j s =
+    rw j (filter_same (λ n. is_live t (phaser_past n (e ∷ w))) (λ n. is_live t (phaser_past n w))
+    (reverse (filter_map (of.joined_by t) w)) (λ n h. s n))
+
+pub live_by : (t n m : ℕ) (s : Step) (w : List WorldEvent)
+    → is_live t (event_for (terms_of m w) (phaser_past m w) s ∷ phaser_past m w) ≡ is_live t (phaser_past m w)
+    → is_live t (phaser_past m (Phaser n s ∷ w)) ≡ is_live t (phaser_past m w)
+live_by t n m s w e =
+    elim (n == m) as (λ b. is_live t (cond b (event_for (terms_of m w) (phaser_past m w) s ∷ phaser_past m w) (phaser_past m w)) ≡ is_live t (phaser_past m w)) [
+      | true ↦ e
+      | false ↦ refl
+    ]

@@ -1,2 +1,5 @@
 pub mod Kept
 pub mod Others
+pub mod Marks
+pub mod Starts
+pub mod Signals

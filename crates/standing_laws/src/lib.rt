@@ -4,4 +4,4 @@
 
 mod laws;
 
-pub use laws::others_leave;
+pub use laws::{others_leave, signal_marks};
