@@ -3,3 +3,5 @@ pub mod Others
 pub mod Marks
 pub mod Starts
 pub mod Signals
+pub mod Passes
+pub mod Alike

@@ -1,15 +1,16 @@
 -- What a task knows stays what the history says of it, event by event. In each law the history is legal with its new
 -- event, and the task is one that was born.
-use Rattle.std.specs.Prelude.{ℕ, ◌≡◌, Bool, true, false, ◌==◌, List, ◌∷◌, map, Option}
+use Rattle.std.specs.Prelude.{ℕ, ◌≡◌, Bool, true, false, ◌==◌, List, ◌∷◌, map, Option, ℤ}
+use Rattle.phase_modes.specs.Limits.{limits_fit}
 use Rattle.phase_modes.specs.declared.limits.Limits.{Limits}
-use Rattle.world_model.specs.declared.event.Step.TheVariants.{Sig}
+use Rattle.world_model.specs.declared.event.Step.TheVariants.{Sig, Claim, Did, Pass, Send, Look}
 use Rattle.world_model.specs.declared.event.WorldEvent.{WorldEvent}
 use Rattle.world_model.specs.declared.event.WorldEvent.TheVariants.{Phaser}
 use Rattle.world_model.specs.Actors.{actor}
 use Rattle.world_model.specs.Tasks.{is_born}
 use Rattle.world_model.specs.Replies.{is_legal_world}
 use Rattle.task_standing.specs.Known.{Known}
-use Rattle.task_standing.specs.Standing.{marked}
+use Rattle.task_standing.specs.Standing.{marked, passed_by, acted}
 use Rattle.task_standing.specs.Histories.{IsAbout}
 
 -- an event of another task leaves what this one knows
@@ -22,3 +23,29 @@ abbrev pub SignalMarks : Type 0
 SignalMarks = (l : Limits) (w : List WorldEvent) (k : Known) (n : ℕ) (x : Option ℕ)
     → is_legal_world l (Phaser n (Sig k.number x) ∷ w) ≡ true → IsAbout w k
     → IsAbout (Phaser n (Sig k.number x) ∷ w) (record k { holding = map (marked n true) k.holding })
+
+-- its pass takes the mark off, and brings a turn to its next phaser
+abbrev pub PassUnmarks : Type 0
+PassUnmarks = (l : Limits) (w : List WorldEvent) (k : Known) (n : ℕ)
+    → is_legal_world l (Phaser n (Pass k.number) ∷ w) ≡ true → IsAbout w k
+    → IsAbout (Phaser n (Pass k.number) ∷ w)
+    (record k { plan = passed_by k.plan; holding = map (marked n false) k.holding })
+
+-- its claim of a single, and its report of one, leave what it knows
+pub record SinglesLeave : Type 0 where
+  pub claims : (l : Limits) (w : List WorldEvent) (k : Known) (n : ℕ)
+      → is_legal_world l (Phaser n (Claim k.number) ∷ w) ≡ true → IsAbout w k → IsAbout (Phaser n (Claim k.number) ∷ w) k
+  pub reports : (l : Limits) (w : List WorldEvent) (k : Known) (n : ℕ)
+      → is_legal_world l (Phaser n (Did k.number) ∷ w) ≡ true → IsAbout w k → IsAbout (Phaser n (Did k.number) ∷ w) k
+
+-- a value that it sends and a look are an act more each, of which nothing is left; here and below the limits are such
+-- that a run may have
+abbrev pub SendsAreActs : Type 0
+SendsAreActs = (l : Limits) (w : List WorldEvent) (k : Known) (n i : ℕ) (v : ℤ) → limits_fit l ≡ true
+    → is_legal_world l (Phaser n (Send k.number i v) ∷ w) ≡ true → IsAbout w k
+    → IsAbout (Phaser n (Send k.number i v) ∷ w) (acted k)
+
+abbrev pub LooksAreActs : Type 0
+LooksAreActs = (l : Limits) (w : List WorldEvent) (k : Known) (n i : ℕ) → limits_fit l ≡ true
+    → is_legal_world l (Phaser n (Look k.number i) ∷ w) ≡ true → IsAbout w k
+    → IsAbout (Phaser n (Look k.number i) ∷ w) (acted k)

@@ -1,6 +1,6 @@
 //! What each event makes of what a task knows of itself. Each function does nothing: its contract is
 //! the law, and the check proves it.
-ghost use Rattle.standing_laws.specs.Laws.{OthersLeave, SignalMarks};
+ghost use Rattle.standing_laws.specs.Laws.{LooksAreActs, OthersLeave, PassUnmarks, SendsAreActs, SignalMarks, SinglesLeave};
 
 /// An event of another task leaves all that a task knows as the history says it.
 pub fn others_leave()
@@ -10,4 +10,24 @@ pub fn others_leave()
 /// A task's own signal marks the phaser: the task is ahead there, and the signal is due no more.
 pub fn signal_marks()
     ensures { SignalMarks }
+{}
+
+/// A task's own pass takes the mark off, and brings a turn to its next phaser.
+pub fn pass_unmarks()
+    ensures { PassUnmarks }
+{}
+
+/// A task's own claim of a single, and its report, leave what it knows.
+pub fn singles_leave()
+    ensures { SinglesLeave }
+{}
+
+/// A value that a task sends is an act more, of which nothing is left.
+pub fn sends_are_acts()
+    ensures { SendsAreActs }
+{}
+
+/// A look is an act more, of which nothing is left.
+pub fn looks_are_acts()
+    ensures { LooksAreActs }
 {}

@@ -4,4 +4,4 @@
 
 mod laws;
 
-pub use laws::{others_leave, signal_marks};
+pub use laws::{looks_are_acts, others_leave, pass_unmarks, sends_are_acts, signal_marks, singles_leave};
