@@ -5,3 +5,4 @@ pub mod Starts
 pub mod Signals
 pub mod Passes
 pub mod Alike
+pub mod Leaves

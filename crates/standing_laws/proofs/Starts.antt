@@ -70,12 +70,17 @@ module _ (p : WorldEvent → Bool) (k : Known) where
         | false ↦ u k.home k.number
       ]
 
+  -- what comes after the drops of an end
+  pub closing_not : ((f : ℕ) → p (Finish f Shutting) ≡ false) → ((f u : ℕ) → p (Finish f (Ended u)) ≡ false)
+      → starts p (map (λ f. Finish f Shutting) k.finishes ++ end_of k ∷ []) ≡ false
+  closing_not s u = starts_map {X = ℕ} p (λ f. Finish f Shutting) k.finishes (end_of k ∷ []) (λ f. s f) (end_not s u)
+
   pub ending_not : ((n : ℕ) → p (Phaser n (Drop k.number)) ≡ false) → ((f : ℕ) → p (Finish f Shutting) ≡ false)
       → ((f u : ℕ) → p (Finish f (Ended u)) ≡ false) → starts p (planned k plan.Ending) ≡ false
   ending_not d s u =
       starts_map {X = Held} p (λ h. Phaser h.phaser (Drop k.number)) k.holding
       (map (λ f. Finish f Shutting) k.finishes ++ end_of k ∷ []) (λ h. d h.phaser)
-      (starts_map {X = ℕ} p (λ f. Finish f Shutting) k.finishes (end_of k ∷ []) (λ f. s f) (end_not s u))
+      (closing_not s u)
 
 -- what is due of a task before and after it makes the event that is next
 pub record Continues (t : ℕ) (e : WorldEvent) (w : List WorldEvent) : Type 0 where

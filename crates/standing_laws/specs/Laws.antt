@@ -1,9 +1,9 @@
 -- What a task knows stays what the history says of it, event by event. In each law the history is legal with its new
 -- event, and the task is one that was born.
-use Rattle.std.specs.Prelude.{ℕ, ◌≡◌, Bool, true, false, ◌==◌, List, ◌∷◌, map, Option, ℤ}
+use Rattle.std.specs.Prelude.{ℕ, ◌≡◌, Bool, true, false, ◌==◌, List, ◌∷◌, map, Option, ℤ, filter, not}
 use Rattle.phase_modes.specs.Limits.{limits_fit}
 use Rattle.phase_modes.specs.declared.limits.Limits.{Limits}
-use Rattle.world_model.specs.declared.event.Step.TheVariants.{Sig, Claim, Did, Pass, Send, Look}
+use Rattle.world_model.specs.declared.event.Step.TheVariants.{Sig, Claim, Did, Pass, Send, Look, Drop}
 use Rattle.world_model.specs.declared.event.WorldEvent.{WorldEvent}
 use Rattle.world_model.specs.declared.event.WorldEvent.TheVariants.{Phaser}
 use Rattle.world_model.specs.Actors.{actor}
@@ -49,3 +49,9 @@ abbrev pub LooksAreActs : Type 0
 LooksAreActs = (l : Limits) (w : List WorldEvent) (k : Known) (n i : ℕ) → limits_fit l ≡ true
     → is_legal_world l (Phaser n (Look k.number i) ∷ w) ≡ true → IsAbout w k
     → IsAbout (Phaser n (Look k.number i) ∷ w) (acted k)
+
+-- where it leaves a phaser, it holds all others as before
+abbrev pub LeavesLeave : Type 0
+LeavesLeave = (l : Limits) (w : List WorldEvent) (k : Known) (n : ℕ)
+    → is_legal_world l (Phaser n (Drop k.number) ∷ w) ≡ true → is_born k.number w ≡ true → IsAbout w k
+    → IsAbout (Phaser n (Drop k.number) ∷ w) (record k { holding = filter (λ h. not (h.phaser == n)) k.holding })

@@ -1,6 +1,6 @@
 //! What each event makes of what a task knows of itself. Each function does nothing: its contract is
 //! the law, and the check proves it.
-ghost use Rattle.standing_laws.specs.Laws.{LooksAreActs, OthersLeave, PassUnmarks, SendsAreActs, SignalMarks, SinglesLeave};
+ghost use Rattle.standing_laws.specs.Laws.{LeavesLeave, LooksAreActs, OthersLeave, PassUnmarks, SendsAreActs, SignalMarks, SinglesLeave};
 
 /// An event of another task leaves all that a task knows as the history says it.
 pub fn others_leave()
@@ -30,4 +30,9 @@ pub fn sends_are_acts()
 /// A look is an act more, of which nothing is left.
 pub fn looks_are_acts()
     ensures { LooksAreActs }
+{}
+
+/// A task that leaves a phaser holds it no more.
+pub fn leaves_leave()
+    ensures { LeavesLeave }
 {}

@@ -4,4 +4,4 @@
 
 mod laws;
 
-pub use laws::{looks_are_acts, others_leave, pass_unmarks, sends_are_acts, signal_marks, singles_leave};
+pub use laws::{leaves_leave, looks_are_acts, others_leave, pass_unmarks, sends_are_acts, signal_marks, singles_leave};
