@@ -6,3 +6,4 @@ pub mod Signals
 pub mod Passes
 pub mod Alike
 pub mod Leaves
+pub mod Finishes

@@ -1,6 +1,6 @@
 //! What each event makes of what a task knows of itself. Each function does nothing: its contract is
 //! the law, and the check proves it.
-ghost use Rattle.standing_laws.specs.Laws.{LeavesLeave, LooksAreActs, OthersLeave, PassUnmarks, SendsAreActs, SignalMarks, SinglesLeave};
+ghost use Rattle.standing_laws.specs.Laws.{BirthsEndSpawns, LeavesLeave, LooksAreActs, OpeningsOpen, OthersLeave, PassUnmarks, SendsAreActs, ShutsShut, SignalMarks, SinglesLeave};
 
 /// An event of another task leaves all that a task knows as the history says it.
 pub fn others_leave()
@@ -35,4 +35,19 @@ pub fn looks_are_acts()
 /// A task that leaves a phaser holds it no more.
 pub fn leaves_leave()
     ensures { LeavesLeave }
+{}
+
+/// A task that opens a finish has it innermost: an act more, of which nothing is left.
+pub fn openings_open()
+    ensures { OpeningsOpen }
+{}
+
+/// A task that shuts a finish of its own has one open finish less.
+pub fn shuts_shut()
+    ensures { ShutsShut }
+{}
+
+/// With the birth of its child a task's spawn is made.
+pub fn births_end_spawns()
+    ensures { BirthsEndSpawns }
 {}

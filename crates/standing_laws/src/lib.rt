@@ -4,4 +4,4 @@
 
 mod laws;
 
-pub use laws::{leaves_leave, looks_are_acts, others_leave, pass_unmarks, sends_are_acts, signal_marks, singles_leave};
+pub use laws::{births_end_spawns, leaves_leave, looks_are_acts, openings_open, others_leave, pass_unmarks, sends_are_acts, shuts_shut, signal_marks, singles_leave};
