@@ -7,3 +7,8 @@ pub mod Passes
 pub mod Alike
 pub mod Leaves
 pub mod Finishes
+pub mod Making
+pub mod Registering
+pub mod Begins
+pub mod Births
+pub mod Computed

@@ -1,2 +1,3 @@
 -- What each event makes of what a task knows of itself.
 pub mod Laws
+pub mod Examples

@@ -1,6 +1,6 @@
 //! What each event makes of what a task knows of itself. Each function does nothing: its contract is
 //! the law, and the check proves it.
-ghost use Rattle.standing_laws.specs.Laws.{BirthsEndSpawns, LeavesLeave, LooksAreActs, OpeningsOpen, OthersLeave, PassUnmarks, SendsAreActs, ShutsShut, SignalMarks, SinglesLeave};
+ghost use Rattle.standing_laws.specs.Laws.{BeginsBegin, BirthsEndSpawns, FailuresEnd, FailuresEndWith, LeavesLeave, LooksAreActs, MakingsHold, OpeningsOpen, OthersLeave, PassUnmarks, RefusalsEnd, RegistrationsRegister, RootsStartFresh, SendsAreActs, ShutsShut, SignalMarks, SinglesLeave};
 
 /// An event of another task leaves all that a task knows as the history says it.
 pub fn others_leave()
@@ -50,4 +50,39 @@ pub fn shuts_shut()
 /// With the birth of its child a task's spawn is made.
 pub fn births_end_spawns()
     ensures { BirthsEndSpawns }
+{}
+
+/// A task that makes a phaser holds it last: an act more, of which nothing is left.
+pub fn makings_hold()
+    ensures { MakingsHold }
+{}
+
+/// A registration of its child brings a task's spawn to the next pair.
+pub fn registrations_register()
+    ensures { RegistrationsRegister }
+{}
+
+/// A task that begins an act has to make what the act's plan says.
+pub fn begins_begin()
+    ensures { BeginsBegin }
+{}
+
+/// A task whose act is refused comes to its end.
+pub fn refusals_end()
+    ensures { RefusalsEnd }
+{}
+
+/// A task that gives up comes to its end, where it named no child that was never born.
+pub fn failures_end()
+    ensures { FailuresEnd }
+{}
+
+/// A task that gives up beside a child that was never born comes to its end, and the child leaves its phasers first.
+pub fn failures_end_with()
+    ensures { FailuresEndWith }
+{}
+
+/// The root before the first event knows what the history says.
+pub fn roots_start_fresh()
+    ensures { RootsStartFresh }
 {}

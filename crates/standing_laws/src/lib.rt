@@ -2,6 +2,8 @@
 //! all legal histories of a world: it runs nothing.
 #![tactic(auto)]
 
+mod examples;
 mod laws;
 
-pub use laws::{births_end_spawns, leaves_leave, looks_are_acts, openings_open, others_leave, pass_unmarks, sends_are_acts, shuts_shut, signal_marks, singles_leave};
+pub use examples::half_a_turn;
+pub use laws::{begins_begin, births_end_spawns, failures_end, failures_end_with, leaves_leave, looks_are_acts, makings_hold, openings_open, others_leave, pass_unmarks, refusals_end, registrations_register, roots_start_fresh, sends_are_acts, shuts_shut, signal_marks, singles_leave};
