@@ -1,5 +1,5 @@
 -- A task's own events that leave it alike on all its phasers: a single's claim and report, a value sent and a look.
-use Rattle.std.proofs.Common.{◌≡◌, ℕ, ◌+◌, ◌≤◌, ◌==◌, Bool, true, false, ◌&&◌, nat_le, min, cond, List, [], ◌∷◌, drop, refl, sym, ap, subst, ◌∙◌, arith}
+use Rattle.std.proofs.Common.{◌≡◌, ℕ, ◌+◌, ◌≤◌, ◌==◌, Bool, true, false, ◌&&◌, nat_le, min, cond, List, [], ◌∷◌, drop, refl, ap, ◌∙◌, arith}
 use Rattle.std.proofs.lemmas.Bool.{and_parts, leb-true}
 use Rattle.std.proofs.lemmas.List.Sums.{sum_by-cons}
 use Rattle.phase_modes.specs.Limits.{limits_fit, is_between}
@@ -12,8 +12,8 @@ use Rattle.world_model.specs.declared.event.WorldEvent.TheVariants.{Phaser}
 use Rattle.world_model.specs.Actors.{actor}
 use Rattle.world_model.specs.Due.{due, is_entry, is_of_single, is_idle}
 use Rattle.world_model.specs.Parts.{phaser_past, terms_of, event_for}
-use Rattle.world_model.specs.Tasks.{phasers_of, acts, is_act}
-use Rattle.world_model.specs.Replies.{is_legal_world, is_accepted}
+use Rattle.world_model.specs.Tasks.{acts, is_act}
+use Rattle.world_model.specs.Replies.{is_legal_world}
 use Rattle.world_model.proofs.AbleComputed.{idle_in_act}
 use Rattle.world_model.proofs.AbruptEnds.{nothing_due}
 use Rattle.world_model.proofs.ActsWithinLimits.{acts_within}
@@ -22,7 +22,7 @@ use Rattle.world_model.proofs.OthersLeave.{due_own}
 use Rattle.world_model.proofs.SmallWords.{eq_self, empty_is}
 use Rattle.world_model.proofs.UntouchedStays.{IsAlike, alike_same, alike_single}
 use Rattle.task_standing.specs.Known.{Known}
-use Rattle.task_standing.specs.Histories.{IsOf, IsAbout}
+use Rattle.task_standing.specs.Histories.{IsOf}
 use Rattle.standing_laws.specs.Laws.{SinglesLeave, SendsAreActs, LooksAreActs}
 use Rattle.standing_laws.proofs.Kept.{holding_kept, phasers_like}
 

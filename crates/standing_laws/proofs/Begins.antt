@@ -1,13 +1,11 @@
 -- A task begins an act that goes on by a plan, is refused one, or gives up.
-use Rattle.std.proofs.Common.{◌≡◌, ℕ, ◌+◌, ◌==◌, Bool, true, false, ◌&&◌, not, min, cond, List, [], ◌∷◌, ◌++◌, map, append_assoc, Option, Some, None, unwrap_or, refl, sym, ap, subst, ◌∙◌, inl, inr}
-use Rattle.std.specs.Prelude.{filter, filter_map, flat_map, drop}
+use Rattle.std.proofs.Common.{◌≡◌, ℕ, ◌+◌, ◌==◌, Bool, true, false, ◌&&◌, not, min, cond, List, [], ◌∷◌, ◌++◌, map, append_assoc, Option, Some, None, unwrap_or, refl, sym, ap, ◌∙◌}
+use Rattle.std.specs.Prelude.{filter}
 use Rattle.std.specs.Option.{option_map_or}
-use Rattle.std.proofs.lemmas.Bool.{cases_Bool}
 use Rattle.std.proofs.lemmas.List.{append-nil}
 use Rattle.phase_modes.specs.declared.limits.Limits.{Limits}
 use Rattle.phase_modes.specs.declared.reg.Mode.{Mode}
 use Rattle.phase_modes.specs.declared.reg.Mode.TheVariants.{Wait as Waiting}
-use Rattle.phase_modes.specs.declared.phased.Pair.{Pair}
 use Rattle.phase_modes.specs.Mode.{can_signal}
 use Rattle.phase_model.specs.Tasks.{mode_of}
 use Rattle.phase_model.specs.Phases.{waits, signals}
@@ -15,23 +13,20 @@ use Rattle.finish_core.specs.declared.event.FinishEvent.TheVariants.{Spawned, En
 use Rattle.world_model.specs.declared.event.Begun.{Begun}
 use Rattle.world_model.specs.declared.event.Begun.TheVariants.{Async, Signal, Wait, Next, NextSingle, Shut, End}
 use Rattle.world_model.specs.declared.event.Step.TheVariants.{Reg, Sig, Pass, Drop}
-use Rattle.world_model.specs.declared.event.Tried.{Tried}
 use Rattle.world_model.specs.declared.event.WorldEvent.{WorldEvent}
-use Rattle.world_model.specs.declared.event.WorldEvent.TheVariants.{Phaser, Finish, Begin, Refuse, Fail}
-use Rattle.world_model.specs.Due.{due, fixed_by, fixed, ending, drops_due, passes_due, signals_due, is_behind, unborn}
+use Rattle.world_model.specs.declared.event.WorldEvent.TheVariants.{Phaser, Finish, Begin}
+use Rattle.world_model.specs.Due.{fixed_by, ending, drops_due, passes_due, signals_due, is_behind}
 use Rattle.world_model.specs.Parts.{phaser_past}
 use Rattle.world_model.specs.Scopes.{inner, enclosing, open_finishes}
 use Rattle.world_model.specs.Tasks.{phasers_of, acts, home}
-use Rattle.world_model.specs.Replies.{is_legal_world}
 use Rattle.world_model.proofs.SmallWords.{eq_self}
-use Rattle.task_standing.specs.declared.held.Held.{Held}
-use Rattle.task_standing.specs.declared.plan.Plan.{Plan}
 use Rattle.task_standing.specs.declared.plan.Plan.TheVariants as plan
 use Rattle.task_standing.specs.Known.{Known}
-use Rattle.task_standing.specs.Standing.{owes, inner_of, begun}
-use Rattle.task_standing.specs.StillToMake.{planned, signals_of, passes_of, drops_of, shuts_of, end_of}
-use Rattle.task_standing.specs.Histories.{held_in, IsOf, IsAbout, IsAboutWith}
-use Rattle.standing_laws.specs.Laws.{plan_of, BeginsBegin, RefusalsEnd, FailuresEnd, FailuresEndWith}
+use Rattle.task_standing.specs.Standing.{owes}
+use Rattle.task_standing.specs.StillToMake.{planned, signals_of, passes_of, drops_of, shuts_of}
+use Rattle.task_standing.specs.Histories.{held_in, IsOf, IsAbout}
+use Rattle.standing_laws.specs.Laws.{plan_of, BeginsBegin, RefusalsEnd, FailuresEnd}
+use Rattle.standing_laws.specs.Children.{FailuresEndWith}
 use Rattle.standing_laws.proofs.Alike.{one_act_more}
 use Rattle.standing_laws.proofs.Making.{inner_is}
 
@@ -162,13 +157,15 @@ failures_end l w k n legal none st = record {
 }
 
 pub failures_end_with : FailuresEndWith
-failures_end_with l w child k n legal one held st =
+failures_end_with l w child k n legal one un st =
     let left : drops_due child.number w ≡ drops_of child.number child.holding =
-    drops_are w child.number (phasers_of child.number w) ∙ ap (λ hs. drops_of child.number hs) (sym held) in
-    record {
-      of = record { holding = st.holding; finishes = st.finishes; home = st.home; acts = st.acts };
-      due_is =
-          rw (eq_self k.number, one)
-          (ap (λ ds. ds ++ ending k.number w) (append-nil (drops_due child.number w) ∙ left)
-          ∙ ap (λ es. drops_of child.number child.holding ++ es) (ending_here w k st));
-    }
+    drops_are w child.number (phasers_of child.number w) ∙ ap (λ hs. drops_of child.number hs) (sym un.holding) in (
+      record { unborn = un.unborn; holding = un.holding; finishes = un.finishes; acts = un.acts; plan = un.plan },
+      record {
+        of = record { holding = st.holding; finishes = st.finishes; home = st.home; acts = st.acts };
+        due_is =
+            rw (eq_self k.number, one)
+            (ap (λ ds. ds ++ ending k.number w) (append-nil (drops_due child.number w) ∙ left)
+            ∙ ap (λ es. drops_of child.number child.holding ++ es) (ending_here w k st));
+      },
+    )

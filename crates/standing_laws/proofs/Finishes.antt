@@ -1,44 +1,38 @@
 -- A task opens a finish, shuts one, and its child is born.
-use Rattle.std.proofs.Common.{◌≡◌, ◌⊎◌, ℕ, ◌==◌, Bool, true, false, ◌&&◌, ◌||◌, not, cond, List, [], ◌∷◌, ◌++◌, map, drop, Some, None, refl, sym, ap, subst, ◌∙◌, inl, inr}
+use Rattle.std.proofs.Common.{◌≡◌, ℕ, ◌==◌, Bool, true, false, not, cond, List, [], ◌∷◌, ◌++◌, drop, refl, sym, ap, subst, ◌∙◌, inl, inr}
 use Rattle.std.specs.Prelude.{filter, slice_index_or}
-use Rattle.std.proofs.lemmas.Bool.{cases_Bool, eqb-true, eq-eqb, or_cases, true≢false, false_from_ne_true}
+use Rattle.std.proofs.lemmas.Bool.{eqb-true, eq-eqb, or_cases, true≢false, false_from_ne_true}
 use Rattle.phase_modes.specs.Lists.{is_empty}
 use Rattle.phase_modes.specs.declared.limits.Limits.{Limits}
-use Rattle.phase_model.proofs.LiveTasks.{has}
 use Rattle.finish_core.specs.Finish.{is_open}
 use Rattle.finish_core.specs.declared.event.FinishEvent.{FinishEvent}
 use Rattle.finish_core.specs.declared.event.FinishEvent.TheVariants.{Opened, Spawned, Ended, Shut as Shutting}
-use Rattle.world_model.specs.declared.event.Step.TheVariants.{Drop}
 use Rattle.world_model.specs.declared.event.Tried.TheVariants.{Open}
 use Rattle.world_model.specs.declared.event.WorldEvent.{WorldEvent}
-use Rattle.world_model.specs.declared.event.WorldEvent.TheVariants.{Phaser, Finish}
-use Rattle.world_model.specs.Actors.{actor}
+use Rattle.world_model.specs.declared.event.WorldEvent.TheVariants.{Finish}
 use Rattle.world_model.specs.Due.{due}
 use Rattle.world_model.specs.Numbers.{is_finish}
-use Rattle.world_model.specs.Parts.{phaser_past, finish_past}
-use Rattle.world_model.specs.Scopes.{opened_by, open_finishes, inner, owner}
+use Rattle.world_model.specs.Parts.{finish_past}
+use Rattle.world_model.specs.Scopes.{open_finishes, inner}
 use Rattle.world_model.specs.Tasks.{home, is_born}
 use Rattle.world_model.specs.TaskConditions.{last_entry}
 use Rattle.world_model.specs.Replies.{is_legal_world, is_accepted}
 use Rattle.world_model.proofs.AbleComputed.{idle_in_act}
 use Rattle.world_model.proofs.AgentOfTask.{born_once, next_is_born}
 use Rattle.world_model.proofs.BornWhereNamed.{birth}
-use Rattle.world_model.proofs.EndingStays.{leaving}
-use Rattle.world_model.proofs.LeavesAtEnds.{leaves_act, leave_act, shut_left, end_left}
-use Rattle.world_model.proofs.LeavingList.{ends_act, last_of, shuts_of as shuts_in, tail_of}
+use Rattle.world_model.proofs.LeavesAtEnds.{leave_act, shut_left, end_left}
+use Rattle.world_model.proofs.LeavingList.{ends_act, last_of, shuts_of as shuts_in}
 use Rattle.world_model.proofs.MadeMeans.{last_accepted, part_made}
 use Rattle.world_model.proofs.OpenFinishes.{opened, opening_fresh, opened_by_owner, filter_same, shut_takes, opens_same, home_later}
 use Rattle.world_model.proofs.OthersLeave.{due_own}
 use Rattle.world_model.proofs.ShutterDropsFirst.{shuts_act, Shutter, shutting}
 use Rattle.world_model.proofs.SmallWords.{eq_self, cons_parts}
-use Rattle.world_model.proofs.UntouchedStays.{alike_same}
 use Rattle.task_standing.specs.declared.held.Held.{Held}
 use Rattle.task_standing.specs.declared.plan.Plan.{Plan}
 use Rattle.task_standing.specs.declared.plan.Plan.TheVariants as plan
 use Rattle.task_standing.specs.Known.{Known}
 use Rattle.task_standing.specs.Standing.{inner_of, shut_by}
 use Rattle.task_standing.specs.StillToMake.{planned, drops_of, shuts_of, end_of}
-use Rattle.task_standing.specs.Histories.{held_in, IsOf, IsAbout}
 use Rattle.standing_laws.specs.Laws.{OpeningsOpen, ShutsShut, BirthsEndSpawns}
 use Rattle.standing_laws.proofs.Alike.{one_act_more, idle_after}
 use Rattle.standing_laws.proofs.Starts.{starts, never_starts, signalling_not, turning_not, spawning_not, Continues, continuing}

@@ -1,5 +1,5 @@
 -- What a task knows of its phasers, where an event leaves it alike on each of them.
-use Rattle.std.proofs.Common.{◌≡◌, ℕ, Bool, true, false, ◌&&◌, ◌==◌, not, cond, List, [], ◌∷◌, map, Option, Some, None, unwrap_or, refl, sym, ap, ◌∙◌}
+use Rattle.std.proofs.Common.{◌≡◌, ℕ, true, false, ◌&&◌, ◌==◌, not, cond, List, [], ◌∷◌, map, Option, None, unwrap_or, refl, sym, ap, ◌∙◌}
 use Rattle.std.specs.Prelude.{filter_map, reverse}
 use Rattle.std.specs.Option.{option_map_or}
 use Rattle.std.proofs.lemmas.Bool.{or_left, or_right}
@@ -16,7 +16,7 @@ use Rattle.world_model.specs.declared.event.WorldEvent.{WorldEvent}
 use Rattle.world_model.specs.declared.event.WorldEvent.TheVariants.{Phaser}
 use Rattle.world_model.specs.Parts.{phaser_past, terms_of, event_for}
 use Rattle.world_model.specs.Numbers.{is_phaser}
-use Rattle.world_model.specs.Scopes.{open_finishes, enclosing}
+use Rattle.world_model.specs.Scopes.{enclosing}
 use Rattle.world_model.specs.Tasks as of
 use Rattle.world_model.specs.Replies.{is_accepted, is_legal_world}
 use Rattle.world_model.proofs.OpenFinishes.{filter_same}
@@ -25,9 +25,7 @@ use Rattle.world_model.proofs.UntouchedStays.{IsAlike}
 use Rattle.world_model.proofs.RegistrationsStand.{enclosing_later}
 use Rattle.world_model.proofs.TurnsStand.{listed_live}
 use Rattle.task_standing.specs.declared.held.Held.{Held}
-use Rattle.task_standing.specs.declared.plan.Plan.{Plan}
-use Rattle.task_standing.specs.Known.{Known}
-use Rattle.task_standing.specs.Histories.{held_in, IsOf}
+use Rattle.task_standing.specs.Histories.{held_in}
 
 -- two functions that agree on a list
 pub map_same : {X : Type 0} (f g : ℕ → X) (xs : List ℕ) → ((x : ℕ) → has x xs ≡ true → f x ≡ g x) → map f xs ≡ map g xs

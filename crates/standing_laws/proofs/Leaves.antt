@@ -1,8 +1,7 @@
 -- A task that is dropped from a phaser holds it no more.
-use Rattle.std.proofs.Common.{◌≡◌, ℕ, ◌+◌, ◌≤◌, ◌==◌, Bool, true, false, ◌&&◌, ◌||◌, not, cond, List, [], ◌∷◌, ◌++◌, map, reverse, refl, sym, ap, subst, ◌∙◌, inl, inr, arith}
+use Rattle.std.proofs.Common.{◌≡◌, ℕ, ◌+◌, ◌≤◌, ◌==◌, Bool, true, false, ◌&&◌, ◌||◌, not, cond, List, [], ◌∷◌, ◌++◌, map, reverse, refl, sym, ap, ◌∙◌, inl, inr, arith}
 use Rattle.std.specs.Prelude.{filter, filter_map}
 use Rattle.std.proofs.lemmas.Bool.{cases_Bool, eq-eqb}
-use Rattle.phase_modes.specs.declared.limits.Limits.{Limits}
 use Rattle.phase_model.specs.Tasks.{is_live, is_registered, is_dropped, mode_of}
 use Rattle.phase_model.specs.Phases.{waits, signals}
 use Rattle.phase_model.specs.declared.history.Event.TheVariants.{Drop as Dropped}
@@ -13,7 +12,6 @@ use Rattle.world_model.specs.declared.event.WorldEvent.TheVariants.{Phaser, Fini
 use Rattle.world_model.specs.Parts.{phaser_past}
 use Rattle.world_model.specs.Scopes.{enclosing}
 use Rattle.world_model.specs.Tasks.{phasers_of, joined_by, is_born}
-use Rattle.world_model.specs.Replies.{is_legal_world, is_accepted}
 use Rattle.world_model.proofs.MadeMeans.{last_accepted, part_made}
 use Rattle.world_model.proofs.PhasersOnce.{times}
 use Rattle.world_model.proofs.SmallWords.{cons_parts}
@@ -23,12 +21,12 @@ use Rattle.task_standing.specs.declared.plan.Plan.TheVariants as plan
 use Rattle.task_standing.specs.Known.{Known}
 use Rattle.task_standing.specs.Standing.{inner_of}
 use Rattle.task_standing.specs.StillToMake.{planned, drops_of, shuts_of, end_of}
-use Rattle.task_standing.specs.Histories.{held_in, IsOf, IsAbout}
+use Rattle.task_standing.specs.Histories.{held_in}
 use Rattle.standing_laws.specs.Laws.{LeavesLeave}
 use Rattle.standing_laws.proofs.Kept.{held_by}
 use Rattle.standing_laws.proofs.Marks.{numbers, none_more, fewer}
 use Rattle.standing_laws.proofs.Starts.{starts, never_starts, signalling_not, turning_not, spawning_not, closing_not, Continues, continuing}
-use Rattle.standing_laws.proofs.Signals.{held_once, swapped}
+use Rattle.standing_laws.proofs.Signals.{held_once}
 
 -- the numbers that pass one test and another
 filter_twice : (p q r : ℕ → Bool) (xs : List ℕ) → ((m : ℕ) → p m ≡ (q m && r m)) → filter p xs ≡ filter r (filter q xs)
@@ -62,11 +60,11 @@ module _ (w : List WorldEvent) (n t : ℕ) where
         rw (e, turned n m false e) (and_true (is_registered t (phaser_past m w)) (is_dropped t (phaser_past m w)))
   ]
 
-  own_gone : phasers_of t (Phaser n (Drop t) ∷ w) ≡ filter (λ m. not (m == n)) (phasers_of t w)
+  pub own_gone : phasers_of t (Phaser n (Drop t) ∷ w) ≡ filter (λ m. not (m == n)) (phasers_of t w)
   own_gone =
       filter_twice (λ m. is_live t (phaser_past m (Phaser n (Drop t) ∷ w))) (λ m. is_live t (phaser_past m w)) (λ m. not (m == n)) (reverse (filter_map (joined_by t) w)) live_left
 
-  held_same : (m : ℕ) → held_in w t m ≡ held_in (Phaser n (Drop t) ∷ w) t m
+  pub held_same : (m : ℕ) → held_in w t m ≡ held_in (Phaser n (Drop t) ∷ w) t m
   held_same m =
       elim (n == m) as (λ b. held_in w t m
       ≡ (let h = cond b (Dropped t ∷ phaser_past m w) (phaser_past m w) in held_by m (enclosing m w) (mode_of t h) (signals t h) (waits t h))) [
@@ -75,7 +73,7 @@ module _ (w : List WorldEvent) (n t : ℕ) where
       ]
 
   -- what is held of the others is as it was
-  left_held : (ns : List ℕ) → filter (λ h. not (h.phaser == n)) (map (held_in w t) ns)
+  pub left_held : (ns : List ℕ) → filter (λ h. not (h.phaser == n)) (map (held_in w t) ns)
       ≡ map (held_in (Phaser n (Drop t) ∷ w) t) (filter (λ m. not (m == n)) ns)
   left_held [] = refl
   left_held (m ∷ ns) =
@@ -90,7 +88,7 @@ is_dropping (Phaser n (Drop t)) = true
 is_dropping _ = false
 
 -- what isn't held is not lost
-keep_all : (n : ℕ) (hs : List Held) → times n (numbers hs) ≡ 0 → filter (λ h. not (h.phaser == n)) hs ≡ hs
+pub keep_all : (n : ℕ) (hs : List Held) → times n (numbers hs) ≡ 0 → filter (λ h. not (h.phaser == n)) hs ≡ hs
 keep_all n [] e = refl
 keep_all n (h ∷ hs) e =
     elim (cases_Bool (h.phaser == n)) [
@@ -103,7 +101,7 @@ keep_all n (h ∷ hs) e =
     more : (i : ℕ) → i + 1 ≡ 0 → ⊥
     more i h = absurd (omega (arith, h))
 
-drop_place : (m n t u : ℕ) → Phaser m (Drop t) ≡ Phaser n (Drop u) → m ≡ n
+pub drop_place : (m n t u : ℕ) → Phaser m (Drop t) ≡ Phaser n (Drop u) → m ≡ n
 drop_place m n t u e = cc
 
 -- the first drop of those that pass a test is made

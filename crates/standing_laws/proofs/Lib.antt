@@ -12,3 +12,5 @@ pub mod Registering
 pub mod Begins
 pub mod Births
 pub mod Computed
+pub mod Unborn
+pub mod ChildLeaves

@@ -1,21 +1,17 @@
 -- A task makes a phaser: it holds that last.
-use Rattle.std.proofs.Common.{◌≡◌, ℕ, ◌==◌, Bool, true, false, ◌&&◌, not, cond, List, [], ◌∷◌, ◌++◌, map, refl, sym, ap, subst, ◌∙◌}
+use Rattle.std.proofs.Common.{◌≡◌, ℕ, ◌==◌, Bool, true, false, ◌&&◌, cond, List, [], ◌∷◌, ◌++◌, map, refl, sym, ap, subst, ◌∙◌}
 use Rattle.std.specs.Prelude.{slice_index_or}
 use Rattle.std.proofs.lemmas.Bool.{eqb-true, true≢false, false_from_ne_true}
-use Rattle.phase_modes.specs.declared.limits.Limits.{Limits}
-use Rattle.phase_modes.specs.declared.reg.Mode.{Mode}
 use Rattle.phase_modes.specs.Mode.{can_signal}
 use Rattle.phase_model.specs.Tasks.{is_live, is_registered}
-use Rattle.phase_model.specs.declared.terms.Terms.{Terms}
 use Rattle.phase_model.proofs.LiveTasks.{has}
 use Rattle.world_model.specs.declared.event.Step.TheVariants.{Make}
 use Rattle.world_model.specs.declared.event.Tried.TheVariants.{New}
 use Rattle.world_model.specs.declared.event.WorldEvent.{WorldEvent}
 use Rattle.world_model.specs.declared.event.WorldEvent.TheVariants.{Phaser}
 use Rattle.world_model.specs.Parts.{phaser_past}
-use Rattle.world_model.specs.Scopes.{inner, open_finishes}
+use Rattle.world_model.specs.Scopes.{inner}
 use Rattle.world_model.specs.Tasks.{phasers_of, home}
-use Rattle.world_model.specs.Replies.{is_legal_world}
 use Rattle.world_model.proofs.AbleComputed.{idle_in_act}
 use Rattle.world_model.proofs.MadeMeans.{last_accepted}
 use Rattle.world_model.proofs.NewlyJoined.{own_joined}
@@ -23,10 +19,9 @@ use Rattle.world_model.proofs.PhasersLegal.{new_past}
 use Rattle.world_model.proofs.PhasersOnce.{joins, joined_once}
 use Rattle.world_model.proofs.SmallWords.{eq_self}
 use Rattle.world_model.proofs.TurnsStand.{listed_live}
-use Rattle.task_standing.specs.declared.held.Held.{Held}
 use Rattle.task_standing.specs.Known.{Known}
 use Rattle.task_standing.specs.Standing.{inner_of}
-use Rattle.task_standing.specs.Histories.{held_in, IsOf, IsAbout}
+use Rattle.task_standing.specs.Histories.{held_in, IsOf}
 use Rattle.standing_laws.specs.Laws.{MakingsHold}
 use Rattle.standing_laws.proofs.Alike.{one_act_more, idle_after}
 use Rattle.standing_laws.proofs.Kept.{map_same}

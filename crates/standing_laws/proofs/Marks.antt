@@ -1,15 +1,10 @@
 -- The phasers that a task holds, one of which is marked.
-use Rattle.std.proofs.Common.{◌≡◌, ℕ, zero, suc, ◌+◌, ◌≤◌, ◌==◌, Bool, true, false, ◌&&◌, not, cond, List, [], ◌∷◌, ◌++◌, map, drop, filter, Option, Some, None, unwrap_or, refl, sym, ap, subst, ◌∙◌, inl, inr, arith}
-use Rattle.std.specs.Option.{option_map_or}
-use Rattle.std.proofs.lemmas.Bool.{cases_Bool, eqb-true, eq-eqb, true≢false, false≢true}
-use Rattle.phase_modes.specs.declared.reg.Mode.{Mode}
-use Rattle.phase_modes.specs.declared.reg.Mode.TheVariants.{Wait}
+use Rattle.std.proofs.Common.{◌≡◌, ℕ, zero, suc, ◌+◌, ◌≤◌, ◌==◌, Bool, true, false, ◌&&◌, cond, List, [], ◌∷◌, ◌++◌, map, drop, filter, Option, refl, sym, ap, subst, ◌∙◌, inl, inr, arith}
+use Rattle.std.proofs.lemmas.Bool.{cases_Bool, eq-eqb}
 use Rattle.phase_modes.specs.Mode.{can_signal}
-use Rattle.phase_model.specs.Tasks.{has_mode}
 use Rattle.world_model.specs.declared.event.WorldEvent.{WorldEvent}
 use Rattle.world_model.specs.declared.event.WorldEvent.TheVariants.{Phaser}
 use Rattle.world_model.specs.declared.event.Step.TheVariants.{Sig, Pass}
-use Rattle.world_model.specs.Parts.{phaser_past}
 use Rattle.world_model.proofs.PhasersOnce.{times}
 use Rattle.world_model.proofs.SmallWords.{cons_parts}
 use Rattle.task_standing.specs.declared.held.Held.{Held}

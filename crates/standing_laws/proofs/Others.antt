@@ -1,5 +1,5 @@
 -- An event of another task leaves what a task knows.
-use Rattle.std.proofs.Common.{◌≡◌, ℕ, Bool, true, false, ◌==◌, List, ◌∷◌, refl, sym, ◌∙◌}
+use Rattle.std.proofs.Common.{◌≡◌, ℕ, true, false, ◌==◌, List, ◌∷◌, refl, sym, ◌∙◌}
 use Rattle.phase_modes.specs.declared.limits.Limits.{Limits}
 use Rattle.finish_core.specs.declared.event.FinishEvent.TheVariants.{Opened}
 use Rattle.world_model.specs.declared.event.Step.TheVariants.{Make, Send, Look}
@@ -7,15 +7,15 @@ use Rattle.world_model.specs.declared.event.Begun.TheVariants.{End}
 use Rattle.world_model.specs.declared.event.WorldEvent.{WorldEvent}
 use Rattle.world_model.specs.declared.event.WorldEvent.TheVariants.{Phaser, Finish, Begin, Refuse, Fail}
 use Rattle.world_model.specs.Actors.{actor}
-use Rattle.world_model.specs.Tasks.{is_born, acts, spawns}
-use Rattle.world_model.specs.Replies.{is_legal_world, is_accepted}
+use Rattle.world_model.specs.Tasks.{acts, spawns}
+use Rattle.world_model.specs.Replies.{is_legal_world}
 use Rattle.world_model.proofs.MadeMeans.{last_accepted}
 use Rattle.world_model.proofs.AgentOfTask.{touches, untouched_born, born_once}
 use Rattle.world_model.proofs.OthersLeave.{due_other}
 use Rattle.world_model.proofs.OpenFinishes.{opens_by_others, home_later}
 use Rattle.world_model.proofs.UntouchedStays.{alike, phasers_same}
 use Rattle.task_standing.specs.Known.{Known}
-use Rattle.task_standing.specs.Histories.{IsOf, IsAbout}
+use Rattle.task_standing.specs.Histories.{IsOf}
 use Rattle.standing_laws.specs.Laws.{OthersLeave}
 use Rattle.standing_laws.proofs.Kept.{holding_kept}
 

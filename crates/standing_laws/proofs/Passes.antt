@@ -1,5 +1,5 @@
 -- A task's own pass takes the mark off, and a turn comes to its next phaser.
-use Rattle.std.proofs.Common.{◌≡◌, ℕ, zero, suc, ◌+◌, ◌<◌, ◌≤◌, ◌==◌, Bool, true, false, ◌&&◌, not, min, cond, List, [], ◌∷◌, ◌++◌, map, drop, filter, length, Option, refl, sym, ap, subst, ◌∙◌, inl, inr, arith}
+use Rattle.std.proofs.Common.{◌≡◌, ℕ, zero, suc, ◌+◌, ◌<◌, ◌≤◌, ◌==◌, Bool, true, false, ◌&&◌, not, min, List, [], ◌∷◌, ◌++◌, map, drop, filter, length, Option, refl, sym, ap, subst, ◌∙◌, inl, inr, arith}
 use Rattle.std.proofs.lemmas.Bool.{cases_Bool, eqb-true, eq-eqb, and_parts}
 use Rattle.phase_modes.specs.declared.limits.Limits.{Limits}
 use Rattle.phase_modes.specs.Mode.{can_signal}
@@ -8,7 +8,7 @@ use Rattle.phase_model.specs.Tasks.{has_mode}
 use Rattle.phase_model.specs.Phases.{waits, signals}
 use Rattle.phase_model.specs.Rules.{is_permitted, has_room}
 use Rattle.phase_model.proofs.Legal.{PassFollows, pass_follows}
-use Rattle.world_model.specs.declared.event.Step.TheVariants.{Sig, Pass}
+use Rattle.world_model.specs.declared.event.Step.TheVariants.{Pass}
 use Rattle.world_model.specs.declared.event.WorldEvent.{WorldEvent}
 use Rattle.world_model.specs.declared.event.WorldEvent.TheVariants.{Phaser}
 use Rattle.world_model.specs.Parts.{phaser_past, terms_of}
@@ -24,11 +24,11 @@ use Rattle.task_standing.specs.declared.plan.Plan.TheVariants as plan
 use Rattle.task_standing.specs.Known.{Known}
 use Rattle.task_standing.specs.Standing.{marked, owes, passed_by}
 use Rattle.task_standing.specs.StillToMake.{planned, signals_of, passes_of}
-use Rattle.task_standing.specs.Histories.{held_in, IsOf, IsAbout}
+use Rattle.task_standing.specs.Histories.{held_in, IsOf}
 use Rattle.standing_laws.specs.Laws.{PassUnmarks}
 use Rattle.standing_laws.proofs.Kept.{map_same, phasers_like, live_by}
 use Rattle.standing_laws.proofs.Marks.{map_after, passes_kept, drop_map}
-use Rattle.standing_laws.proofs.Starts.{starts, never_starts, signalling_not, spawning_not, shutting_not, ending_not, Continues, continuing}
+use Rattle.standing_laws.proofs.Starts.{starts, never_starts, spawning_not, shutting_not, ending_not, Continues, continuing}
 use Rattle.standing_laws.proofs.Signals.{swapped}
 
 module _ (l : Limits) (w : List WorldEvent) (n t : ℕ) (a : is_accepted l w (Phaser n (Pass t)) ≡ true) where

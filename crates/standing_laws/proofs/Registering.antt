@@ -1,7 +1,6 @@
 -- A task registers its child on the phaser of the next pair.
 use Rattle.std.proofs.Common.{◌≡◌, ℕ, zero, suc, ◌+◌, ◌<◌, ◌≤◌, ◌==◌, Bool, true, false, min, List, [], ◌∷◌, ◌++◌, map, drop, length, refl, sym, ap, subst, ◌∙◌, arith}
 use Rattle.std.proofs.lemmas.Bool.{eqb-true, true≢false, false_from_ne_true}
-use Rattle.phase_modes.specs.declared.limits.Limits.{Limits}
 use Rattle.phase_modes.specs.declared.phased.Pair.{Pair}
 use Rattle.phase_modes.specs.declared.reg.Mode.{Mode}
 use Rattle.finish_core.specs.declared.event.FinishEvent.TheVariants.{Spawned}
@@ -9,8 +8,7 @@ use Rattle.world_model.specs.declared.event.Step.TheVariants.{Reg}
 use Rattle.world_model.specs.declared.event.WorldEvent.{WorldEvent}
 use Rattle.world_model.specs.declared.event.WorldEvent.TheVariants.{Phaser, Finish}
 use Rattle.world_model.specs.Tasks.{is_born}
-use Rattle.world_model.specs.Replies.{is_legal_world}
-use Rattle.world_model.proofs.AgentOfTask.{touches, reg_unborn, next_is_born}
+use Rattle.world_model.proofs.AgentOfTask.{reg_unborn, next_is_born}
 use Rattle.world_model.proofs.MadeMeans.{last_accepted, part_made}
 use Rattle.world_model.proofs.SmallWords.{cons_parts}
 use Rattle.world_model.proofs.UntouchedStays.{alike, phasers_same}
@@ -19,7 +17,6 @@ use Rattle.task_standing.specs.declared.plan.Plan.TheVariants as plan
 use Rattle.task_standing.specs.Known.{Known}
 use Rattle.task_standing.specs.Standing.{inner_of, registered_by}
 use Rattle.task_standing.specs.StillToMake.{planned}
-use Rattle.task_standing.specs.Histories.{IsOf, IsAbout}
 use Rattle.standing_laws.specs.Laws.{NamesFew, RegistrationsRegister}
 use Rattle.standing_laws.proofs.Kept.{holding_kept}
 use Rattle.standing_laws.proofs.Starts.{starts, never_starts, signalling_not, turning_not, shutting_not, ending_not, Continues, continuing}

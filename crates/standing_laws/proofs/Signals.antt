@@ -3,18 +3,16 @@ use Rattle.std.proofs.Common.{◌≡◌, ℕ, ◌+◌, ◌≤◌, ◌==◌, Bool
 use Rattle.std.proofs.lemmas.Bool.{cases_Bool, eqb-true, and_parts, false_from_ne_true}
 use Rattle.phase_modes.specs.declared.limits.Limits.{Limits}
 use Rattle.phase_modes.specs.Mode.{can_signal}
-use Rattle.phase_model.specs.declared.history.Event.{Event}
 use Rattle.phase_model.specs.declared.history.Event.TheVariants.{Sig as Signed}
 use Rattle.phase_model.specs.Tasks.{is_live, has_mode}
 use Rattle.phase_model.specs.Phases.{waits, signals}
 use Rattle.phase_model.specs.Rules.{is_permitted, has_room}
 use Rattle.phase_model.proofs.Legal.{SigFollows, sig_follows}
-use Rattle.world_model.specs.declared.event.Step.{Step}
-use Rattle.world_model.specs.declared.event.Step.TheVariants.{Sig, Pass}
+use Rattle.world_model.specs.declared.event.Step.TheVariants.{Sig}
 use Rattle.world_model.specs.declared.event.WorldEvent.{WorldEvent}
 use Rattle.world_model.specs.declared.event.WorldEvent.TheVariants.{Phaser}
-use Rattle.world_model.specs.Parts.{phaser_past, terms_of, event_for}
-use Rattle.world_model.specs.Tasks.{phasers_of, joined_by}
+use Rattle.world_model.specs.Parts.{phaser_past, terms_of}
+use Rattle.world_model.specs.Tasks.{phasers_of}
 use Rattle.world_model.specs.Replies.{is_legal_world, is_accepted}
 use Rattle.world_model.proofs.MadeMeans.{last_accepted, part_made}
 use Rattle.world_model.proofs.PhasersLegal.{step_allowed}
@@ -26,11 +24,11 @@ use Rattle.task_standing.specs.declared.plan.Plan.TheVariants as plan
 use Rattle.task_standing.specs.Known.{Known}
 use Rattle.task_standing.specs.Standing.{marked, owes}
 use Rattle.task_standing.specs.StillToMake.{planned, signals_of, passes_of}
-use Rattle.task_standing.specs.Histories.{held_in, IsOf, IsAbout}
+use Rattle.task_standing.specs.Histories.{held_in, IsOf}
 use Rattle.standing_laws.specs.Laws.{SignalMarks}
 use Rattle.standing_laws.proofs.Kept.{map_same, phasers_like, live_by}
 use Rattle.standing_laws.proofs.Marks.{numbers, numbers_held, map_after, owed_less, passes_kept}
-use Rattle.standing_laws.proofs.Starts.{starts, never_starts, signalling_not, turning_not, spawning_not, shutting_not, ending_not, Continues, continuing}
+use Rattle.standing_laws.proofs.Starts.{starts, never_starts, turning_not, spawning_not, shutting_not, ending_not, Continues, continuing}
 
 -- no phaser is held twice
 pub held_once : (l : Limits) (w : List WorldEvent) (k : Known) → is_legal_world l w ≡ true → IsOf w k → (n : ℕ)

@@ -1,5 +1,5 @@
 -- A history and what its root knows then, small enough to be checked by hand.
-use Rattle.std.specs.Prelude.{ℕ, ◌≡◌, true, List, [], ◌∷◌, None}
+use Rattle.std.specs.Prelude.{◌≡◌, true, List, [], ◌∷◌, None}
 use Rattle.phase_modes.specs.Limits.{default_limits}
 use Rattle.phase_modes.specs.declared.reg.Mode.TheVariants.{SigWait}
 use Rattle.finish_core.specs.declared.event.FinishEvent.TheVariants.{Opened}

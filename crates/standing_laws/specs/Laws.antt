@@ -1,13 +1,13 @@
 -- What a task knows stays what the history says of it, event by event. In each law the history is legal with its new
 -- event, and the task is one that was born.
-use Rattle.std.specs.Prelude.{ℕ, ◌≡◌, Bool, true, false, ◌==◌, List, ◌∷◌, map, Option, ℤ, filter, not, drop, [], ◌++◌, length, ◌≤◌, Some, None}
+use Rattle.std.specs.Prelude.{ℕ, ◌≡◌, true, false, ◌==◌, List, ◌∷◌, map, Option, ℤ, filter, not, drop, [], ◌++◌, length, ◌≤◌, Some, None}
 use Rattle.phase_modes.specs.Limits.{limits_fit}
 use Rattle.phase_modes.specs.declared.limits.Limits.{Limits}
 use Rattle.world_model.specs.declared.event.Step.TheVariants.{Sig, Claim, Did, Pass, Send, Look, Drop, Make, Reg}
 use Rattle.world_model.specs.declared.event.WorldEvent.{WorldEvent}
 use Rattle.world_model.specs.declared.event.WorldEvent.TheVariants.{Phaser, Finish, Begin, Refuse, Fail}
 use Rattle.world_model.specs.Actors.{actor}
-use Rattle.world_model.specs.Tasks.{is_born, spawner, phasers_of}
+use Rattle.world_model.specs.Tasks.{is_born, spawner}
 use Rattle.world_model.specs.Replies.{is_legal_world}
 use Rattle.finish_core.specs.declared.event.FinishEvent.TheVariants.{Opened, Spawned, Shut as Shutting}
 use Rattle.world_model.specs.Scopes.{owner}
@@ -21,7 +21,7 @@ use Rattle.task_standing.specs.declared.plan.Plan.{Plan}
 use Rattle.world_model.specs.declared.event.Begun.TheVariants.{Async, Signal, Wait, Next, NextSingle, Shut, End}
 use Rattle.task_standing.specs.Known.{Known}
 use Rattle.task_standing.specs.Standing.{marked, passed_by, acted, shut_by, inner_of, registered_by, begun, fresh}
-use Rattle.task_standing.specs.Histories.{IsAbout, held_in, IsOf, IsAboutWith}
+use Rattle.task_standing.specs.Histories.{IsAbout, IsOf}
 
 -- an event of another task leaves what this one knows
 abbrev pub OthersLeave : Type 0
@@ -129,13 +129,6 @@ abbrev pub FailuresEnd : Type 0
 FailuresEnd = (l : Limits) (w : List WorldEvent) (k : Known) (n : ℕ)
     → is_legal_world l (Fail k.number n ∷ w) ≡ true → unborn k.number w ≡ [] → IsOf w k
     → IsAbout (Fail k.number n ∷ w) (record k { plan = plan.Ending })
-
--- and where it named one, the child leaves its phasers first
-abbrev pub FailuresEndWith : Type 0
-FailuresEndWith = (l : Limits) (w : List WorldEvent) (child k : Known) (n : ℕ)
-    → is_legal_world l (Fail k.number n ∷ w) ≡ true → unborn k.number w ≡ child.number ∷ []
-    → child.holding ≡ map (held_in w child.number) (phasers_of child.number w) → IsOf w k
-    → IsAboutWith (Fail k.number n ∷ w) child (record k { plan = plan.Ending })
 
 -- the root before the first event
 abbrev pub RootsStartFresh : Type 0

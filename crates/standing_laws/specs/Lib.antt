@@ -1,3 +1,4 @@
 -- What each event makes of what a task knows of itself.
 pub mod Laws
+pub mod Children
 pub mod Examples

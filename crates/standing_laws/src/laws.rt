@@ -1,6 +1,6 @@
 //! What each event makes of what a task knows of itself. Each function does nothing: its contract is
 //! the law, and the check proves it.
-ghost use Rattle.standing_laws.specs.Laws.{BeginsBegin, BirthsEndSpawns, FailuresEnd, FailuresEndWith, LeavesLeave, LooksAreActs, MakingsHold, OpeningsOpen, OthersLeave, PassUnmarks, RefusalsEnd, RegistrationsRegister, RootsStartFresh, SendsAreActs, ShutsShut, SignalMarks, SinglesLeave};
+ghost use Rattle.standing_laws.specs.Laws.{BeginsBegin, BirthsEndSpawns, FailuresEnd, LeavesLeave, LooksAreActs, MakingsHold, OpeningsOpen, OthersLeave, PassUnmarks, RefusalsEnd, RegistrationsRegister, RootsStartFresh, SendsAreActs, ShutsShut, SignalMarks, SinglesLeave};
 
 /// An event of another task leaves all that a task knows as the history says it.
 pub fn others_leave()
@@ -75,11 +75,6 @@ pub fn refusals_end()
 /// A task that gives up comes to its end, where it named no child that was never born.
 pub fn failures_end()
     ensures { FailuresEnd }
-{}
-
-/// A task that gives up beside a child that was never born comes to its end, and the child leaves its phasers first.
-pub fn failures_end_with()
-    ensures { FailuresEndWith }
 {}
 
 /// The root before the first event knows what the history says.
