@@ -15,7 +15,7 @@ use Rattle.world_model.specs.declared.event.Begun.TheVariants.{Async, Signal, Wa
 use Rattle.world_model.specs.declared.event.Step.TheVariants.{Reg, Sig, Pass, Drop}
 use Rattle.world_model.specs.declared.event.WorldEvent.{WorldEvent}
 use Rattle.world_model.specs.declared.event.WorldEvent.TheVariants.{Phaser, Finish, Begin}
-use Rattle.world_model.specs.Due.{fixed_by, ending, drops_due, passes_due, signals_due, is_behind}
+use Rattle.world_model.specs.Due.{fixed_by, ending, drops_due, passes_due, signals_due, is_behind, unborn}
 use Rattle.world_model.specs.Parts.{phaser_past}
 use Rattle.world_model.specs.Scopes.{inner, enclosing, open_finishes}
 use Rattle.world_model.specs.Tasks.{phasers_of, acts, home}
@@ -29,6 +29,7 @@ use Rattle.standing_laws.specs.Laws.{plan_of, BeginsBegin, RefusalsEnd, Failures
 use Rattle.standing_laws.specs.Children.{FailuresEndWith}
 use Rattle.standing_laws.proofs.Alike.{one_act_more}
 use Rattle.standing_laws.proofs.Making.{inner_is}
+use Rattle.standing_laws.proofs.Named.{unborn_are_named}
 
 both_ways : (c e : Bool) → (c && not (c && not e)) ≡ (c && e)
 both_ways true true = refl
@@ -151,21 +152,24 @@ refusals_end l w k a n legal st = record {
 }
 
 pub failures_end : FailuresEnd
-failures_end l w k n legal none st = record {
-  of = record { holding = st.holding; finishes = st.finishes; home = st.home; acts = st.acts };
-  due_is = rw (eq_self k.number, none) (ending_here w k st);
-}
+failures_end l w k n legal named st =
+    let none : unborn k.number w ≡ [] = unborn_are_named l w k n legal st ∙ named in
+    record {
+      of = record { holding = st.of.holding; finishes = st.of.finishes; home = st.of.home; acts = st.of.acts };
+      due_is = rw (eq_self k.number, none) (ending_here w k st.of);
+    }
 
 pub failures_end_with : FailuresEndWith
-failures_end_with l w child k n legal one un st =
+failures_end_with l w child k n legal named un st =
+    let one : unborn k.number w ≡ child.number ∷ [] = unborn_are_named l w k n legal st ∙ named in
     let left : drops_due child.number w ≡ drops_of child.number child.holding =
     drops_are w child.number (phasers_of child.number w) ∙ ap (λ hs. drops_of child.number hs) (sym un.holding) in (
       record { unborn = un.unborn; holding = un.holding; finishes = un.finishes; acts = un.acts; plan = un.plan },
       record {
-        of = record { holding = st.holding; finishes = st.finishes; home = st.home; acts = st.acts };
+        of = record { holding = st.of.holding; finishes = st.of.finishes; home = st.of.home; acts = st.of.acts };
         due_is =
             rw (eq_self k.number, one)
             (ap (λ ds. ds ++ ending k.number w) (append-nil (drops_due child.number w) ∙ left)
-            ∙ ap (λ es. drops_of child.number child.holding ++ es) (ending_here w k st));
+            ∙ ap (λ es. drops_of child.number child.holding ++ es) (ending_here w k st.of));
       },
     )

@@ -14,3 +14,4 @@ pub mod Births
 pub mod Computed
 pub mod Unborn
 pub mod ChildLeaves
+pub mod Named

@@ -9,7 +9,6 @@ use Rattle.world_model.specs.declared.event.Step.TheVariants.{Reg, Drop}
 use Rattle.world_model.specs.declared.event.WorldEvent.{WorldEvent}
 use Rattle.world_model.specs.declared.event.WorldEvent.TheVariants.{Phaser, Finish, Begin, Fail}
 use Rattle.world_model.specs.Actors.{actor}
-use Rattle.world_model.specs.Due.{unborn}
 use Rattle.world_model.specs.Replies.{is_legal_world}
 use Rattle.world_model.specs.Tasks.{is_born, spawner, phasers_of}
 use Rattle.task_standing.specs.declared.held.Held.{Held}
@@ -17,6 +16,7 @@ use Rattle.task_standing.specs.declared.plan.Plan.TheVariants as plan
 use Rattle.task_standing.specs.Known.{Known}
 use Rattle.task_standing.specs.Standing.{fresh, handed}
 use Rattle.task_standing.specs.Histories.{held_in, IsOf, IsAbout, IsAboutWith}
+use Rattle.standing_laws.specs.Laws.{named_child}
 
 -- a child that isn't born: what it holds is what the history says; it has opened and begun nothing, and is about
 -- nothing. Its home is where it is to be spawned, of which the history says nothing yet
@@ -53,8 +53,8 @@ UnbornStay = (l : Limits) (e : WorldEvent) (w : List WorldEvent) (child : Known)
 -- where its parent gives up before it is born, it leaves its phasers before its parent does
 abbrev pub FailuresEndWith : Type 0
 FailuresEndWith = (l : Limits) (w : List WorldEvent) (child k : Known) (n : ℕ)
-    → is_legal_world l (Fail k.number n ∷ w) ≡ true → unborn k.number w ≡ child.number ∷ []
-    → IsUnborn w child → IsOf w k
+    → is_legal_world l (Fail k.number n ∷ w) ≡ true → named_child k.plan ≡ child.number ∷ []
+    → IsUnborn w child → IsAbout w k
     → IsUnborn (Fail k.number n ∷ w) child
     × IsAboutWith (Fail k.number n ∷ w) child (record k { plan = plan.Ending })
 

@@ -124,10 +124,20 @@ RefusalsEnd = (l : Limits) (w : List WorldEvent) (k : Known) (a : Tried) (n : �
     → is_legal_world l (Refuse k.number a n ∷ w) ≡ true → IsOf w k
     → IsAbout (Refuse k.number a n ∷ w) (record k { plan = plan.Ending })
 
--- so does what it gives up, where it named no child that was never born
+-- the child that a plan names
+abbrev pub named_child : Plan → List ℕ
+named_child (plan.Spawning c pairs made) = c ∷ []
+named_child _ = []
+
+-- where it gives up, that is the one child that it named and that was never born
+abbrev pub UnbornAreNamed : Type 0
+UnbornAreNamed = (l : Limits) (w : List WorldEvent) (k : Known) (n : ℕ)
+    → is_legal_world l (Fail k.number n ∷ w) ≡ true → IsAbout w k → unborn k.number w ≡ named_child k.plan
+
+-- where its plan names none, giving up brings it to its end
 abbrev pub FailuresEnd : Type 0
 FailuresEnd = (l : Limits) (w : List WorldEvent) (k : Known) (n : ℕ)
-    → is_legal_world l (Fail k.number n ∷ w) ≡ true → unborn k.number w ≡ [] → IsOf w k
+    → is_legal_world l (Fail k.number n ∷ w) ≡ true → named_child k.plan ≡ [] → IsAbout w k
     → IsAbout (Fail k.number n ∷ w) (record k { plan = plan.Ending })
 
 -- the root before the first event

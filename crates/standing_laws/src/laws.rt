@@ -1,6 +1,6 @@
 //! What each event makes of what a task knows of itself. Each function does nothing: its contract is
 //! the law, and the check proves it.
-ghost use Rattle.standing_laws.specs.Laws.{BeginsBegin, BirthsEndSpawns, FailuresEnd, LeavesLeave, LooksAreActs, MakingsHold, OpeningsOpen, OthersLeave, PassUnmarks, RefusalsEnd, RegistrationsRegister, RootsStartFresh, SendsAreActs, ShutsShut, SignalMarks, SinglesLeave};
+ghost use Rattle.standing_laws.specs.Laws.{BeginsBegin, BirthsEndSpawns, FailuresEnd, LeavesLeave, LooksAreActs, MakingsHold, OpeningsOpen, OthersLeave, PassUnmarks, RefusalsEnd, RegistrationsRegister, RootsStartFresh, SendsAreActs, ShutsShut, SignalMarks, SinglesLeave, UnbornAreNamed};
 
 /// An event of another task leaves all that a task knows as the history says it.
 pub fn others_leave()
@@ -80,4 +80,9 @@ pub fn failures_end()
 /// The root before the first event knows what the history says.
 pub fn roots_start_fresh()
     ensures { RootsStartFresh }
+{}
+
+/// Where a task gives up, its plan says which child it named that was never born.
+pub fn unborn_are_named()
+    ensures { UnbornAreNamed }
 {}
