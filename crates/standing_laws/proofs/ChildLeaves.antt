@@ -27,7 +27,7 @@ use Rattle.standing_laws.proofs.Starts.{starts, never_starts, signalling_not, tu
 use Rattle.standing_laws.proofs.Leaves.{own_gone, left_held, drop_place, keep_all}
 
 -- the event drops c
-abbrev drops_child : ℕ → WorldEvent → Bool
+abbrev pub drops_child : ℕ → WorldEvent → Bool
 drops_child c (Phaser n (Drop t)) = t == c
 drops_child c _ = false
 

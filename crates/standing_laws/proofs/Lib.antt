@@ -15,3 +15,4 @@ pub mod Computed
 pub mod Unborn
 pub mod ChildLeaves
 pub mod Named
+pub mod Noted

@@ -1,5 +1,6 @@
 //! What each event makes of what a task knows of itself. Each function does nothing: its contract is
 //! the law, and the check proves it.
+ghost use Rattle.standing_laws.specs.Noted.{EventsAreNoted};
 ghost use Rattle.standing_laws.specs.Laws.{BeginsBegin, BirthsEndSpawns, FailuresEnd, LeavesLeave, LooksAreActs, MakingsHold, OpeningsOpen, OthersLeave, PassUnmarks, RefusalsEnd, RegistrationsRegister, RootsStartFresh, SendsAreActs, ShutsShut, SignalMarks, SinglesLeave, UnbornAreNamed};
 
 /// An event of another task leaves all that a task knows as the history says it.
@@ -85,4 +86,10 @@ pub fn roots_start_fresh()
 /// Where a task gives up, its plan says which child it named that was never born.
 pub fn unborn_are_named()
     ensures { UnbornAreNamed }
+{}
+
+/// After any event but its end a task knows what the history says, where it doesn't give up beside a
+/// child that was never born.
+pub fn events_are_noted()
+    ensures { EventsAreNoted }
 {}
