@@ -16,3 +16,4 @@ pub mod Unborn
 pub mod ChildLeaves
 pub mod Named
 pub mod Noted
+pub mod Few

@@ -1,24 +1,24 @@
 -- What a task knows stays what the history says of it, event by event. In each law the history is legal with its new
--- event, and the task is one that was born.
+-- event.
 use Rattle.std.specs.Prelude.{ℕ, ◌≡◌, true, false, ◌==◌, List, ◌∷◌, map, Option, ℤ, filter, not, drop, [], ◌++◌, length, ◌≤◌, Some, None}
 use Rattle.phase_modes.specs.Limits.{limits_fit}
 use Rattle.phase_modes.specs.declared.limits.Limits.{Limits}
+use Rattle.phase_modes.specs.declared.reg.Mode.{Mode}
+use Rattle.phase_model.specs.declared.terms.Terms.{Terms}
+use Rattle.finish_core.specs.declared.event.FinishEvent.TheVariants.{Opened, Spawned, Shut as Shutting}
 use Rattle.world_model.specs.declared.event.Step.TheVariants.{Sig, Claim, Did, Pass, Send, Look, Drop, Make, Reg}
 use Rattle.world_model.specs.declared.event.WorldEvent.{WorldEvent}
 use Rattle.world_model.specs.declared.event.WorldEvent.TheVariants.{Phaser, Finish, Begin, Refuse, Fail}
 use Rattle.world_model.specs.Actors.{actor}
 use Rattle.world_model.specs.Tasks.{is_born, spawner}
 use Rattle.world_model.specs.Replies.{is_legal_world}
-use Rattle.finish_core.specs.declared.event.FinishEvent.TheVariants.{Opened, Spawned, Shut as Shutting}
 use Rattle.world_model.specs.Scopes.{owner}
-use Rattle.task_standing.specs.declared.plan.Plan.TheVariants as plan
-use Rattle.phase_modes.specs.declared.reg.Mode.{Mode}
-use Rattle.phase_model.specs.declared.terms.Terms.{Terms}
 use Rattle.world_model.specs.declared.event.Begun.{Begun}
 use Rattle.world_model.specs.declared.event.Tried.{Tried}
 use Rattle.world_model.specs.Due.{unborn}
-use Rattle.task_standing.specs.declared.plan.Plan.{Plan}
 use Rattle.world_model.specs.declared.event.Begun.TheVariants.{Async, Signal, Wait, Next, NextSingle, Shut, End}
+use Rattle.task_standing.specs.declared.plan.Plan.TheVariants as plan
+use Rattle.task_standing.specs.declared.plan.Plan.{Plan}
 use Rattle.task_standing.specs.Known.{Known}
 use Rattle.task_standing.specs.Standing.{marked, passed_by, acted, shut_by, inner_of, registered_by, begun, fresh}
 use Rattle.task_standing.specs.Histories.{IsAbout, IsOf}

@@ -51,3 +51,8 @@ abbrev pub EventsAreNoted : Type 0
 EventsAreNoted = (l : Limits) (e : WorldEvent) (w : List WorldEvent) (k : Known) → limits_fit l ≡ true
     → is_legal_world l (e ∷ w) ≡ true → is_born k.number w ≡ true → NamesFew k.plan
     → ends k.number e ≡ false → fails_alone e k → IsAbout w k → IsAbout (e ∷ w) (known_after e w k)
+
+-- and its plan names no more pairs than its type holds, if it did so before
+abbrev pub PlansNameFew : Type 0
+PlansNameFew = (l : Limits) (e : WorldEvent) (w : List WorldEvent) (k : Known) → is_legal_world l (e ∷ w) ≡ true
+    → NamesFew k.plan → NamesFew (known_after e w k).plan

@@ -1,6 +1,6 @@
 //! What each event makes of what a task knows of itself. Each function does nothing: its contract is
 //! the law, and the check proves it.
-ghost use Rattle.standing_laws.specs.Noted.{EventsAreNoted};
+ghost use Rattle.standing_laws.specs.Noted.{EventsAreNoted, PlansNameFew};
 ghost use Rattle.standing_laws.specs.Laws.{BeginsBegin, BirthsEndSpawns, FailuresEnd, LeavesLeave, LooksAreActs, MakingsHold, OpeningsOpen, OthersLeave, PassUnmarks, RefusalsEnd, RegistrationsRegister, RootsStartFresh, SendsAreActs, ShutsShut, SignalMarks, SinglesLeave, UnbornAreNamed};
 
 /// An event of another task leaves all that a task knows as the history says it.
@@ -92,4 +92,9 @@ pub fn unborn_are_named()
 /// child that was never born.
 pub fn events_are_noted()
     ensures { EventsAreNoted }
+{}
+
+/// After any event a task's plan names no more pairs than its type holds, if it did so before.
+pub fn plans_name_few()
+    ensures { PlansNameFew }
 {}
