@@ -17,3 +17,4 @@ pub mod ChildLeaves
 pub mod Named
 pub mod Noted
 pub mod Few
+pub mod Always

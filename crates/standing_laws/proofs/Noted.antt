@@ -106,7 +106,7 @@ module _ (l : Limits) (w : List WorldEvent) (k : Known) (fit : limits_fit l ≡ 
       (sym own) (λ g. refusals_end l w k a n g st.of) legal
   own_event (Fail t n) legal own stays alone =
       subst (λ u. is_legal_world l (Fail u n ∷ w) ≡ true → IsAbout (Fail u n ∷ w) (noted (Fail u n) k))
-      (sym own) (λ g. failures_end l w k n g alone st) legal
+      (sym own) (λ g. failures_end l w k n g (alone own) st) legal
 
 pub events_are_noted : EventsAreNoted
 events_are_noted l e w k fit legal born few stays alone st =

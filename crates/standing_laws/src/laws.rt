@@ -1,6 +1,6 @@
 //! What each event makes of what a task knows of itself. Each function does nothing: its contract is
 //! the law, and the check proves it.
-ghost use Rattle.standing_laws.specs.Noted.{EventsAreNoted, PlansNameFew};
+ghost use Rattle.standing_laws.specs.Noted.{EventsAreNoted, NotesStayTrue, PlansNameFew};
 ghost use Rattle.standing_laws.specs.Laws.{BeginsBegin, BirthsEndSpawns, FailuresEnd, LeavesLeave, LooksAreActs, MakingsHold, OpeningsOpen, OthersLeave, PassUnmarks, RefusalsEnd, RegistrationsRegister, RootsStartFresh, SendsAreActs, ShutsShut, SignalMarks, SinglesLeave, UnbornAreNamed};
 
 /// An event of another task leaves all that a task knows as the history says it.
@@ -97,4 +97,9 @@ pub fn events_are_noted()
 /// After any event a task's plan names no more pairs than its type holds, if it did so before.
 pub fn plans_name_few()
     ensures { PlansNameFew }
+{}
+
+/// Who knows what the history says, and notes each event of its own, knows so until it ends or gives up.
+pub fn notes_stay_true()
+    ensures { NotesStayTrue }
 {}

@@ -13,7 +13,7 @@ pub use children::{
 pub use examples::half_a_turn;
 pub use laws::{
     begins_begin, births_end_spawns, events_are_noted, failures_end, leaves_leave, looks_are_acts,
-    makings_hold, openings_open, others_leave, pass_unmarks, plans_name_few, refusals_end,
-    registrations_register, roots_start_fresh, sends_are_acts, shuts_shut, signal_marks,
-    singles_leave, unborn_are_named,
+    makings_hold, notes_stay_true, openings_open, others_leave, pass_unmarks, plans_name_few,
+    refusals_end, registrations_register, roots_start_fresh, sends_are_acts, shuts_shut,
+    signal_marks, singles_leave, unborn_are_named,
 };
