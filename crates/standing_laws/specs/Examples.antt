@@ -11,7 +11,9 @@ use Rattle.world_model.specs.Due.{due}
 use Rattle.world_model.specs.Replies.{is_legal_world}
 use Rattle.task_standing.specs.declared.plan.Plan.TheVariants.{Signalling}
 use Rattle.task_standing.specs.Known.{Known}
+use Rattle.task_standing.specs.Standing.{fresh}
 use Rattle.task_standing.specs.Histories.{IsAbout}
+use Rattle.standing_laws.specs.Noted.{known_later}
 
 -- the root opened finish 1, made phaser 0 in it, began a turn, and signalled; the newest event is first
 abbrev pub half_a_turn : List WorldEvent
@@ -33,9 +35,11 @@ known_then = record {
   acts = 3;
 }
 
--- the history is legal; that is what the root knows then; and a pass is all that is due
+-- the history is legal; that is what the root knows then; a pass is all that is due; and that is what comes of noting
+-- the four events, one by one
 abbrev pub HalfATurn : Type 0
 HalfATurn =
     (is_legal_world default_limits half_a_turn ≡ true)
     × IsAbout half_a_turn known_then
     × (due 0 half_a_turn ≡ Phaser 0 (Pass 0) ∷ [])
+    × (known_later half_a_turn [] (fresh 0 0) ≡ known_then)
