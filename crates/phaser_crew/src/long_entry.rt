@@ -1,30 +1,35 @@
 //! The second entry: it makes a phaser that lives long, lets the workers work, and gathers what
 //! they give back.
-ghost use Rattle.std.specs.Prelude.{◌≡◌, ◌⊎◌, ◌<◌, IfOk, IfErr, vec_len};
+ghost use Rattle.std.specs.Prelude.{◌≡◌, ◌⊎◌, ◌<◌, [], Some, IfOk, IfErr, vec_len};
 
 use crate::long_crew::LongCrew;
 use crate::long_held::LongHeld;
 use crate::threads::{Work, in_threads};
-use long_locks::LongLock;
+use ghost_log::Whole;
+use long_receipts::{Front, Naming, ReceiptLock};
 use phase_model::{Bound, Ops};
 use phase_modes::Refusal;
 use std::alloc::Global;
+use std::marker::Brand;
 use std::sync::Wait;
 use std::thread::Threads;
+use told_history::LongEvent;
 
 /// A hand for each worker.
-fn hands<'a, T: Drop, R>(
+fn hands<'a, T: Drop, J: Naming, R>(
     rt: &'a R,
     alloc: Global,
-    lock: &'a LongLock<T>,
+    lock: &'a ReceiptLock<J, T>,
+    front: Front<J>,
     workers: u32,
-) -> Result<Vec<LongHeld<'a, T, R>>, Refusal>
+) -> Result<Vec<LongHeld<'a, T, J, R>>, Refusal>
     ensures number { IfOk result (λ v. vec_len v ≡ workers) }
     ensures memory { IfErr result (λ e. e ≡ Refusal.Memory) }
 {
+    let mut front = front;
     let mut hands = Vec::new(alloc);
     for worker in 0..workers {
-        hands.push(LongHeld::new(alloc, worker, rt, lock)?)?;
+        hands.push(LongHeld::new(alloc, worker, rt, lock, front.again())?)?;
     }
     Ok(hands)
 }
@@ -36,20 +41,21 @@ struct LongTeam<'a, C, P> {
     prepared: &'a P,
 }
 
-impl<'a, 'b, T: Drop, C: LongCrew<T>, R: Wait> Work<LongHeld<'b, T, R>, C::Given>
+impl<'a, 'b, T: Drop, C: LongCrew<T>, J: Naming, R: Wait> Work<LongHeld<'b, T, J, R>, C::Given>
     for LongTeam<'a, C, C::Prepared> {
     /// What the worker gives back.
-    fn work<S: Wait>(&self, _rt: &S, hand: LongHeld<'b, T, R>) -> C::Given {
+    fn work<S: Wait>(&self, _rt: &S, hand: LongHeld<'b, T, J, R>) -> C::Given {
         let mut hand = hand;
         self.crew.work(&mut hand, self.prepared)
     }
 }
 
 /// The phaser is made ready, and all workers work. What they give back.
-fn worked<T: Send + Drop, C: LongCrew<T> + Sync, R: Threads + Wait + Sync>(
+fn worked<T: Send + Drop, C: LongCrew<T> + Sync, J: Naming + Send + Sync, R: Threads + Wait + Sync>(
     rt: &R,
     alloc: Global,
-    lock: &LongLock<T>,
+    lock: &ReceiptLock<J, T>,
+    front: Front<J>,
     workers: u32,
     crew: &C,
 ) -> Result<Vec<C::Given>, Refusal>
@@ -57,7 +63,7 @@ fn worked<T: Send + Drop, C: LongCrew<T> + Sync, R: Threads + Wait + Sync>(
     ensures number { IfOk result (λ v. vec_len v ≡ workers) }
     ensures refused { IfErr result (λ e. (e ≡ Refusal.Memory) ⊎ C.refuses crew.now e) }
 {
-    let mut hands = hands(rt, alloc, lock, workers)?;
+    let mut hands = hands(rt, alloc, lock, front, workers)?;
     let prepared = crew.prepare(&mut hands[0])?;
     let team = LongTeam {
         crew,
@@ -65,6 +71,27 @@ fn worked<T: Send + Drop, C: LongCrew<T> + Sync, R: Threads + Wait + Sync>(
     };
     let given = in_threads(rt, &team, hands)?;
     Ok(given)
+}
+
+// Names the phaser's log.
+fn named<T: Send + Drop, C: LongCrew<T> + Sync, R: Threads + Wait + Sync, J: Naming + Send + Sync>(
+    rt: &R,
+    alloc: Global,
+    ops: Ops,
+    bound: Bound,
+    log: Whole<LongEvent>,
+    workers: u32,
+    crew: &C,
+) -> Result<Vec<C::Given>, Refusal>
+    requires name { log.name ≡ J.log }
+    requires empty { log.items ≡ [] }
+    requires terms { J.terms ≡ record { ops = ops; bound = Some bound } }
+    requires some { 0 < workers }
+    ensures given { IfOk result (λ v. vec_len v ≡ workers) }
+    ensures refused { IfErr result (λ e. (e ≡ Refusal.Memory) ⊎ C.refuses crew.now e) }
+{
+    let (lock, front) = ReceiptLock::<J, T>::new(alloc, ops, bound, log)?;
+    worked(rt, alloc, &lock, front, workers, crew)
 }
 
 /// Takes a phaser with these operators and this bound, behind a lock, has the crew prepare it, and
@@ -85,6 +112,5 @@ pub fn with_long_phaser<T: Send + Drop, C: LongCrew<T> + Sync, R: Threads + Wait
     ensures given { IfOk result (λ v. vec_len v ≡ workers) }
     ensures refused { IfErr result (λ e. (e ≡ Refusal.Memory) ⊎ C.refuses crew.now e) }
 {
-    let lock = LongLock::new(alloc, ops, bound)?;
-    worked(rt, alloc, &lock, workers, crew)
+    named::<T, C, R, Brand>(rt, alloc, ops, bound, Whole::new(), workers, crew)
 }

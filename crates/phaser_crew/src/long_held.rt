@@ -4,8 +4,9 @@ ghost use Rattle.std.specs.Prelude.{◌≡◌, IfErr};
 
 use crate::held::pour;
 use crate::long_hand::LongHand;
-use long_locks::{LongLock, Out, PassAnswer, SignalAnswer};
+use long_locks::{Out, PassAnswer, SignalAnswer};
 use long_phaser::{Phase, Task};
+use long_receipts::{Front, Naming, ReceiptLock};
 use phase_model::LongLook;
 use phase_modes::{Mode, Refusal};
 use std::alloc::Global;
@@ -14,42 +15,50 @@ use std::sync::Wait;
 
 /// The hand of a worker at this phaser.
 #[derive(Drop)]
-pub(crate) struct LongHeld<'a, T, R> {
+pub(crate) struct LongHeld<'a, T, J: Naming, R> {
     worker: u32,
     rt: &'a R,
-    lock: &'a LongLock<T>,
+    lock: &'a ReceiptLock<J, T>,
+    /// What was seen of the phaser.
+    front: Front<J>,
     /// Those whom the calls before the last one woke.
     ready: VecDeque<T>,
     /// Those whom the last call woke.
     out: Out<T>,
 }
 
-impl<'a, T: Drop, R> LongHeld<'a, T, R> {
+impl<'a, T: Drop, J: Naming, R> LongHeld<'a, T, J, R> {
     /// The hand of the worker of this number. `Memory` where its list gets none.
     pub(crate) fn new(
         alloc: Global,
         worker: u32,
         rt: &'a R,
-        lock: &'a LongLock<T>,
-    ) -> Result<LongHeld<'a, T, R>, Refusal>
+        lock: &'a ReceiptLock<J, T>,
+        front: Front<J>,
+    ) -> Result<LongHeld<'a, T, J, R>, Refusal>
         ensures memory { IfErr result (λ e. e ≡ Refusal.Memory) }
     {
         Ok(LongHeld {
             worker,
             rt,
             lock,
+            front,
             ready: VecDeque::new(alloc),
             out: Out::new(alloc)?,
         })
     }
 }
 
-impl<'a, T, R: Wait> LongHand<T> for LongHeld<'a, T, R> {
+impl<'a, T, J: Naming, R: Wait> LongHand<T> for LongHeld<'a, T, J, R> {
     type Runtime = R;
 
     ghost use Rattle.std.specs.Prelude.{◌++◌};
 
     ghost shown = { λ h. record { worker = h.worker; freed = h.ready.items ++ h.out } };
+
+    ghost terms = { J.terms };
+
+    ghost seen = { λ h. h.front };
 
     fn worker(&self) -> u32 {
         self.worker
@@ -63,43 +72,53 @@ impl<'a, T, R: Wait> LongHand<T> for LongHeld<'a, T, R> {
     }
 
     fn make(&mut self, mode: Mode) -> Result<Task, Refusal> {
-        self.lock.make(self.rt, mode)
+        self.lock.make(self.rt, &mut self.front, mode)
     }
 
     fn register(&mut self, parent: Task, mode: Mode) -> Result<Task, Refusal> {
-        self.lock.register(self.rt, parent, mode)
+        self.lock.register(self.rt, &mut self.front, parent, mode)
     }
 
     fn send(&mut self, task: Task, accumulator: u8, value: i32) -> Result<(), Refusal> {
-        self.lock.send(self.rt, task, accumulator, value)
+        self.lock
+            .send(self.rt, &mut self.front, task, accumulator, value)
     }
 
     fn look(&mut self, task: Task, accumulator: u8) -> Result<LongLook, Refusal> {
-        self.lock.look(self.rt, task, accumulator)
+        self.lock.look(self.rt, &mut self.front, task, accumulator)
     }
 
     fn signal(&mut self, task: Task, proposed: Option<u32>, item: T) -> SignalAnswer<T> {
         if let Err(refusal) = pour(&mut self.ready, &mut self.out) {
             return SignalAnswer::Refused(item, refusal);
         }
-        self.lock
-            .signal(self.rt, &mut self.out, task, proposed, item)
+        self.lock.signal(
+            self.rt,
+            &mut self.front,
+            &mut self.out,
+            task,
+            proposed,
+            item,
+        )
     }
 
     fn pass(&mut self, task: Task, item: T) -> PassAnswer<T, Phase> {
         if let Err(refusal) = pour(&mut self.ready, &mut self.out) {
             return PassAnswer::Refused(item, refusal);
         }
-        self.lock.pass(self.rt, &mut self.out, task, item)
+        self.lock
+            .pass(self.rt, &mut self.front, &mut self.out, task, item)
     }
 
     fn single_done(&mut self, task: Task) -> Result<(), Refusal> {
         pour(&mut self.ready, &mut self.out)?;
-        self.lock.single_done(self.rt, &mut self.out, task)
+        self.lock
+            .single_done(self.rt, &mut self.front, &mut self.out, task)
     }
 
     fn leave(&mut self, task: Task) -> Result<(), Refusal> {
         pour(&mut self.ready, &mut self.out)?;
-        self.lock.leave(self.rt, &mut self.out, task)
+        self.lock
+            .leave(self.rt, &mut self.front, &mut self.out, task)
     }
 }

@@ -15,7 +15,7 @@ loop-one-preserved g c =
     let many : length one.fronts ≡ length logs = one.all ∙ sym c.requires.all in
     let begins : (n : ℕ) → n < length logs → GoesOn (story_at one.fronts n) (story_at logs n) = λ n within.
     subst (λ (xs : List Sight). GoesOn (story_at one.fronts n) (story_at xs n)) inv.kept (c.begin.ensures.begin n (omega (arith, within, many))) in
-    let holds = ∥∥₁_map one.shows (λ shows. ((λ n. story_at one.fronts n), shows, begins)) in
+    let holds : ∥ HasShown g.C.Crew.shows (length logs) (λ n. story_at logs n) one.given ∥₁ = ∥∥₁_map one.shows (λ shows. ((λ n. story_at one.fronts n), shows, begins)) in
     record {
       given = omega (arith, inv.given, ap (λ (xs : List _). length xs) c.in_ok-push.ensures.items, length-append c.loop-one.all_given.items (one.given ∷ []), length-append c.loop-one.yielded (one ∷ []), c.push.new.self.ok.0, c.loop-one.all_given.ok.0);
       shares = omega (arith, inv.shares, length-append c.loop-one.yielded (one ∷ []), c.in_ok-push-2.ensures.len);

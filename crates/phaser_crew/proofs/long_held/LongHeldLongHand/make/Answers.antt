@@ -1,0 +1,7 @@
+use Rattle.phase_model.specs.declared.call.Call.TheVariants.{Make as make}
+use Rattle.phaser_crew.proofs.LongSeen.{numbered_more}
+use Rattle.phaser_crew.proofs.long_held.LongHeldLongHand.make.Goals as goal
+
+pub returns-clause-more : goal.returns-clause-more
+returns-clause-more g c =
+    numbered_more c.make.result g.J.Naming.terms (λ n. make n c.args.mode) c.args.self.now.front c.make.new.me c.make.ensures.told

@@ -1,0 +1,9 @@
+use Rattle.phase_model.specs.declared.call.Call.TheVariants.{Signal as signal}
+use Rattle.phaser_answers.specs.Answers.{signal_result}
+use Rattle.long_receipts.specs.Told.{IsSignalAnswer}
+use Rattle.phaser_crew.proofs.LongSeen.{answered_more}
+use Rattle.phaser_crew.proofs.long_held.LongHeldLongHand.signal.Goals as goal
+
+pub returns-clause-more : goal.returns-clause-more
+returns-clause-more g c =
+    answered_more (λ _ r. IsSignalAnswer c.args.item (signal_result r) c.signal.result) g.J.Naming.terms (signal c.args.task c.args.proposed) c.args.self.now.front c.signal.new.me c.signal.ensures.told
