@@ -1,5 +1,7 @@
-//! Tests of `long_receipts`, which call what it exports.
+//! Tests of `long_receipts` and of `table_receipts`, which call what these export.
 #![tactic(auto)]
 
 #[cfg(test)]
 mod calls;
+#[cfg(test)]
+mod tables;

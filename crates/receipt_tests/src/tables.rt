@@ -1,0 +1,258 @@
+//! Each call of a table that gives receipts: on one phaser two tasks send, propose a single, end
+//! their turn, look and leave, another is made and left. What the table leaves is gathered.
+ghost use Rattle.std.specs.Prelude.{◌≡◌, ◌<◌, ℕ, [], true, All, IfSome, slice_get, vec_len};
+ghost use Rattle.phase_modes.specs.Limits.{limits_fit};
+ghost use Rattle.share_book.specs.Opening.{IsNamed, IsParted};
+
+use ghost_log::Whole;
+use phase_model::{Look, Op, Ops, Reply};
+use phase_modes::{Limits, Mode, Refusal};
+use scope_locks::{Out, PassAnswer, SignalAnswer, Tickets};
+use share_book::{Blanks, Seven, Totals, gather, open};
+use std::alloc::Global;
+use std::marker::Brand;
+use std::process::Abort;
+use std::sync::Wait;
+use std::sync::ledger::Ledger;
+use std::test::Fail;
+use table_receipts::{
+    Caller, Front, Logs, Named, Naming, Noted, PhaserLogs, ReceiptTable, new_logs,
+};
+
+/// The single that both propose.
+const SINGLE: u32 = 5;
+
+/// The task signals, with this item. The item of whom this wakes too.
+fn signal<K: Naming, R: Wait>(
+    alloc: Global,
+    table: &ReceiptTable<u32, K>,
+    by: &mut Caller<'_, u32, K, R>,
+    me: &mut Front<K>,
+    phaser: usize,
+    task: u32,
+    item: u32,
+) -> Result<(Reply, Option<u32>), Refusal>
+    requires phaser { phaser < table.now.phasers }
+    requires log { me.old.log ≡ K.Logs.logs phaser }
+    ensures { me.new.log ≡ me.old.log }
+{
+    by.out = Out::new(alloc)?;
+    let reply = match table.signal(by, me, phaser, task, Some(SINGLE), item) {
+        SignalAnswer::Signalled(_) => Reply::Done,
+        SignalAnswer::Parked => Reply::NotYet,
+        SignalAnswer::Refused(_, refusal) => Reply::Refused(refusal),
+    };
+    Ok((reply, by.out.take()))
+}
+
+/// The task asks to pass, with this item.
+fn pass<K: Naming, R: Wait>(
+    alloc: Global,
+    table: &ReceiptTable<u32, K>,
+    by: &mut Caller<'_, u32, K, R>,
+    me: &mut Front<K>,
+    phaser: usize,
+    task: u32,
+    item: u32,
+) -> Result<Reply, Refusal>
+    requires phaser { phaser < table.now.phasers }
+    requires log { me.old.log ≡ K.Logs.logs phaser }
+    ensures { me.new.log ≡ me.old.log }
+{
+    by.out = Out::new(alloc)?;
+    match table.pass(by, me, phaser, task, item) {
+        PassAnswer::Passed(_, phase) => Ok(Reply::Phase(phase)),
+        PassAnswer::Claimed(_, number) => Ok(Reply::Claim(number)),
+        PassAnswer::Parked => Ok(Reply::NotYet),
+        PassAnswer::Refused(_, refusal) => Ok(Reply::Refused(refusal)),
+    }
+}
+
+/// The task reports its single done. The item of whom this wakes.
+fn single_done<K: Naming, R: Wait>(
+    alloc: Global,
+    table: &ReceiptTable<u32, K>,
+    by: &mut Caller<'_, u32, K, R>,
+    me: &mut Front<K>,
+    phaser: usize,
+    task: u32,
+) -> Result<Option<u32>, Refusal>
+    requires phaser { phaser < table.now.phasers }
+    requires log { me.old.log ≡ K.Logs.logs phaser }
+    ensures { me.new.log ≡ me.old.log }
+{
+    by.out = Out::new(alloc)?;
+    table.single_done(by, me, phaser, task)?;
+    Ok(by.out.take())
+}
+
+fn drop_task<K: Naming, R: Wait>(
+    alloc: Global,
+    table: &ReceiptTable<u32, K>,
+    by: &mut Caller<'_, u32, K, R>,
+    me: &mut Front<K>,
+    phaser: usize,
+    task: u32,
+) -> Result<(), Refusal>
+    requires phaser { phaser < table.now.phasers }
+    requires log { me.old.log ≡ K.Logs.logs phaser }
+    ensures { me.new.log ≡ me.old.log }
+{
+    by.out = Out::new(alloc)?;
+    table.drop_task(by, me, phaser, task)
+}
+
+/// One sum.
+fn one_sum() -> Ops {
+    let mut ops = Ops::none();
+    ops.push(Op::Sum);
+    ops
+}
+
+/// Two tasks turn on phaser 0: 14 events.
+fn turn_of_two<K: Naming, R: Wait + Abort>(
+    rt: &R,
+    alloc: Global,
+    table: &ReceiptTable<u32, K>,
+    by: &mut Caller<'_, u32, K, R>,
+) -> Result<(), Refusal>
+    requires { 0 < table.now.phasers }
+{
+    let mut me = table.front(rt, 0);
+    table.make(by, &mut me, 0, 0, Mode::Single, one_sum(), None)?;
+    table.register(by, &mut me, 0, 0, 1, Mode::Single)?;
+    table.send(by, &mut me, 0, 0, 0, 3)?;
+    table.send(by, &mut me, 0, 1, 0, 4)?;
+    assert_eq!(rt;
+        signal(alloc, table, by, &mut me, 0, 0, 10)?,
+        (Reply::Done, None)
+    );
+    assert_eq!(rt; pass(alloc, table, by, &mut me, 0, 0, 11)?, Reply::NotYet);
+    assert_eq!(rt;
+        signal(alloc, table, by, &mut me, 0, 1, 20)?,
+        (Reply::Done, Some(11))
+    );
+    assert_eq!(rt;
+        pass(alloc, table, by, &mut me, 0, 0, 12)?,
+        Reply::Claim(SINGLE)
+    );
+    assert_eq!(rt; pass(alloc, table, by, &mut me, 0, 1, 21)?, Reply::NotYet);
+    assert_eq!(rt; single_done(alloc, table, by, &mut me, 0, 0)?, Some(21));
+    assert_eq!(rt; pass(alloc, table, by, &mut me, 0, 0, 13)?, Reply::Phase(0));
+    assert_eq!(rt; pass(alloc, table, by, &mut me, 0, 1, 22)?, Reply::Phase(0));
+    assert_eq!(rt; table.look(by, &mut me, 0, 0, 0), Ok(Look::Value(7)));
+    assert_eq!(rt; table.look(by, &mut me, 0, 1, 0), Ok(Look::Value(7)));
+    drop_task(alloc, table, by, &mut me, 0, 0)?;
+    drop_task(alloc, table, by, &mut me, 0, 1)
+}
+
+/// Phaser 1 is made and left: 2 events.
+fn made_and_left<K: Naming, R: Wait + Abort>(
+    rt: &R,
+    alloc: Global,
+    table: &ReceiptTable<u32, K>,
+    by: &mut Caller<'_, u32, K, R>,
+) -> Result<(), Refusal>
+    requires { 1 < table.now.phasers }
+{
+    let mut me = table.lock(rt, 1).front();
+    table.make(by, &mut me, 1, 0, Mode::SigWait, one_sum(), None)?;
+    drop_task(alloc, table, by, &mut me, 1, 0)
+}
+
+/// What is gathered once both phasers were called.
+fn calls<K: Naming, R: Wait + Abort>(
+    rt: &R,
+    alloc: Global,
+    limits: Limits,
+    blanks: Blanks,
+    logs: Vec<Whole<Noted>>,
+) -> Result<Totals, Refusal>
+    requires names { IsNamed blanks K.EventsByPhaser.name K.EventsByWorker.name K.UpByPhaser.name
+        K.UpByWorker.name K.DownByPhaser.name K.DownByWorker.name K.Room.name }
+    requires parts { IsParted blanks K.EventsByPhaser.parts K.EventsByWorker.parts K.UpByPhaser.parts
+        K.UpByWorker.parts K.DownByPhaser.parts K.DownByWorker.parts K.Room.parts }
+    requires fit { limits_fit limits ≡ true }
+    requires limits { limits ≡ K.Logs.limits }
+    requires two { blanks.phasers ≡ 2 }
+    requires logs { (i : ℕ) → IfSome (slice_get logs.items i) (λ w. w.name ≡ K.Logs.logs i) }
+    requires empty { All (λ w. w.items ≡ []) logs.items }
+    requires each { vec_len logs ≡ 2 }
+{
+    let (books, phasers, mut shares) = open::<K>(alloc, blanks)?;
+    let logs = PhaserLogs::<K>::of(alloc, logs)?;
+    let table = ReceiptTable::<u32, K>::new(alloc, limits, books, phasers, logs)?;
+    let tickets = Tickets::new();
+    let mine = shares.pop().ok_or(Refusal::NotNow)?;
+    let mut by = Caller {
+        rt,
+        tickets: &tickets,
+        mine,
+        out: Out::new(alloc)?,
+    };
+    turn_of_two(rt, alloc, &table, &mut by)?;
+    made_and_left(rt, alloc, &table, &mut by)?;
+    shares.push(by.mine)?;
+    let left = table.into_parts(rt);
+    assert_eq!(rt; left.parts.len(), 2);
+    assert_eq!(rt; [left.parts[0].len(), left.parts[1].len()], [14, 2]);
+    gather(shares, left.phasers, left.books)
+}
+
+// Names the ledgers and the logs.
+fn calls_over<
+    R: Wait + Abort,
+    EP: Ledger,
+    EW: Ledger,
+    UP: Ledger,
+    UW: Ledger,
+    DP: Ledger,
+    DW: Ledger,
+    RM: Ledger,
+    L: Logs,
+>(
+    rt: &R,
+    alloc: Global,
+    limits: Limits,
+    blanks: Blanks,
+    logs: Vec<Whole<Noted>>,
+) -> Result<Totals, Refusal>
+    requires names { IsNamed blanks EP.name EW.name UP.name UW.name DP.name DW.name RM.name }
+    requires parts { IsParted blanks EP.parts EW.parts UP.parts UW.parts DP.parts DW.parts RM.parts }
+    requires fit { limits_fit limits ≡ true }
+    requires limits { limits ≡ L.limits }
+    requires two { blanks.phasers ≡ 2 }
+    requires logs { (i : ℕ) → IfSome (slice_get logs.items i) (λ w. w.name ≡ L.logs i) }
+    requires empty { All (λ w. w.items ≡ []) logs.items }
+    requires each { vec_len logs ≡ 2 }
+{
+    calls::<Named<Seven<EP, EW, UP, UW, DP, DW, RM>, L>, R>(rt, alloc, limits, blanks, logs)
+}
+
+/// 16 events, and the values 3 and 4.
+#[test]
+fn each_call_of_the_table(rt: HostRuntime) -> Result<(), Fail> {
+    const TOTALS: Totals = Totals {
+        events: 16,
+        up: 7,
+        down: 0,
+    };
+    let limits = Limits {
+        acts: 1,
+        finishes: 1,
+        history: 64,
+        phasers: 2,
+        regs: 2,
+        tasks: 2,
+    };
+    let logs = new_logs(rt.alloc(), 2)?;
+    let totals = calls_over::<HostRuntime, Brand, Brand, Brand, Brand, Brand, Brand, Brand, Brand>(
+        &rt,
+        rt.alloc(),
+        limits,
+        Blanks::new(2, 1),
+        logs,
+    );
+    assert_eq!(rt; totals, Ok(TOTALS));
+    Ok(())
+}
