@@ -1,5 +1,5 @@
 -- A sum that was seen stays seen, and is a fold of all in a legal story.
-use Rattle.std.proofs.Common.{◌≡◌, ℕ, ◌<◌, List, [], ◌∷◌, ◌++◌, Result, Ok, Err, IfOk, length, sym, subst, ap, ◌∙◌}
+use Rattle.std.proofs.Common.{◌≡◌, ◌<◌, List, [], ◌∷◌, ◌++◌, Result, Ok, Err, IfOk, length, sym, subst, ap, ◌∙◌}
 use Rattle.std.specs.Prelude.{ℤ}
 use Rattle.std.proofs.lemmas.List.{append_assoc}
 use Rattle.std.proofs.Math.Logic.{∥∥₁_map}
@@ -11,7 +11,6 @@ use Rattle.phase_model.specs.Laws.{IsLegal}
 use Rattle.phase_model.specs.Phases.{waits}
 use Rattle.phase_model.specs.Rules.{Story}
 use Rattle.world_model.proofs.PhasersFolded.{legal_is_folded}
-use Rattle.long_receipts.specs.Told.{HasLooked}
 use Rattle.table_receipts.specs.Logs.{GoesOn}
 use Rattle.trace_model.specs.Run.{Entry}
 use Rattle.phaser_crew.specs.Gathering.{AreShown}
@@ -31,11 +30,6 @@ still_seen a b (Value v) goes seen =
 pub still_later : (a b c : Story) (x : Look ℤ) → GoesOn a b → c ≡ b → IsSeen a x → IsSeen c x
 still_later a b c x goes same seen = subst (λ (s : Story). IsSeen s x) (sym same) (still_seen a b x goes seen)
 
--- what a look saw just now is seen
-pub just_seen : (s : Story) (t : ℕ) (x : Look ℤ) → HasLooked s.terms.ops t 0 s.past x → IsSeen s x
-just_seen s t Nothing looked = tt
-just_seen s t (Value v) looked = (t, [], looked.0, looked.1)
-
 -- what is seen in a legal story is the fold of all values of a closed phase
 pub seen_is_sum : (s : Story) (x : Look ℤ) → IsLegal s → IsSeen s x → IsSum s x
 seen_is_sum s Nothing legal seen = tt
@@ -48,7 +42,7 @@ given_is_sum : (s a : Story) (x : Result (Look ℤ) Refusal) → IsLegal s → G
 given_is_sum s a (Ok x) legal goes seen = seen_is_sum s x legal (still_seen a s x goes seen)
 given_is_sum s a (Err r) legal goes seen = tt
 
--- so is each sum that a worker gave back
+-- so is each sum that a worker gives back
 pub are_sums : (parts : List (List Entry)) (given : List (Result (Look ℤ) Refusal)) → 0 < length parts
     → AreShown (λ x seen. IfOk x (IsSeen (seen 0))) parts given → AreSums parts given
 are_sums parts given some shown =
