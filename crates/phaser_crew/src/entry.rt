@@ -13,7 +13,7 @@ use crate::threads::{Work, in_threads};
 use ghost_log::Whole;
 use phase_modes::{Limits, Refusal};
 use scope_locks::Tickets;
-use share_book::{Blanks, Ledgers, Seven, Shares, gather, open};
+use share_book::{Blanks, Seven, SharedLedgers, Shares, gather, open};
 use std::alloc::Global;
 use std::marker::{Brand, PhantomData};
 use std::sync::Wait;
@@ -106,21 +106,13 @@ fn parted<T: Drop, C: Crew<T>, K: Naming>(
 }
 
 /// The phasers are made ready, and all workers work. What each of them is done with.
-fn worked<T: Send + Drop, C: Crew<T> + Sync, K: Naming + Send + Sync, R: Threads + Wait + Sync>(
+fn worked<T: Send + Drop, C: Crew<T> + Sync, K: Naming + SharedLedgers, R: Threads + Wait + Sync>(
     rt: &R,
     alloc: Global,
     table: &ReceiptTable<T, K>,
     shares: Vec<Shares<K>>,
     crew: &C,
 ) -> Result<Vec<Done<T, C, K>>, Refusal>
-where
-    K::EventsByPhaser: Send + Sync,
-    K::EventsByWorker: Send + Sync,
-    K::UpByPhaser: Send + Sync,
-    K::UpByWorker: Send + Sync,
-    K::DownByPhaser: Send + Sync,
-    K::DownByWorker: Send + Sync,
-    K::Room: Send + Sync,
     requires some { 0 < vec_len shares }
     requires phasers { table.now.phasers ≡ K.Logs.limits.phasers }
     ensures number { IfOk result (λ v. vec_len v ≡ vec_len shares) }
@@ -166,7 +158,7 @@ fn gathered<T: Drop, C: Crew<T>, K: Naming, R: Wait>(
     })
 }
 
-fn run_in<T: Send + Drop, C: Crew<T> + Sync, K: Naming + Send + Sync, R: Threads + Wait + Sync>(
+fn run_in<T: Send + Drop, C: Crew<T> + Sync, K: Naming + SharedLedgers, R: Threads + Wait + Sync>(
     rt: &R,
     alloc: Global,
     limits: Limits,
@@ -174,14 +166,6 @@ fn run_in<T: Send + Drop, C: Crew<T> + Sync, K: Naming + Send + Sync, R: Threads
     logs: Vec<Whole<Noted>>,
     crew: &C,
 ) -> Result<Gathered<C::Given>, Refusal>
-where
-    K::EventsByPhaser: Send + Sync,
-    K::EventsByWorker: Send + Sync,
-    K::UpByPhaser: Send + Sync,
-    K::UpByWorker: Send + Sync,
-    K::DownByPhaser: Send + Sync,
-    K::DownByWorker: Send + Sync,
-    K::Room: Send + Sync,
     requires names { IsNamed blanks K.EventsByPhaser.name K.EventsByWorker.name K.UpByPhaser.name
         K.UpByWorker.name K.DownByPhaser.name K.DownByWorker.name K.Room.name }
     requires parts { IsParted blanks K.EventsByPhaser.parts K.EventsByWorker.parts K.UpByPhaser.parts

@@ -20,6 +20,19 @@ pub trait Ledgers {
     type Room: Ledger;
 }
 
+/// Ledgers whose books and shares several threads may have.
+pub trait SharedLedgers: Ledgers<
+    EventsByPhaser: Send + Sync,
+    EventsByWorker: Send + Sync,
+    UpByPhaser: Send + Sync,
+    UpByWorker: Send + Sync,
+    DownByPhaser: Send + Sync,
+    DownByWorker: Send + Sync,
+    Room: Send + Sync,
+>
+    + Send
+    + Sync {}
+
 /// Seven ledgers, each by a type of its own.
 #[derive(Drop)]
 pub struct Seven<A, B, C, D, E, F, G>(PhantomData<(A, B, C, D, E, F, G)>);
@@ -40,3 +53,13 @@ impl<A: Ledger, B: Ledger, C: Ledger, D: Ledger, E: Ledger, F: Ledger, G: Ledger
 
     type Room = G;
 }
+
+impl<
+    A: Ledger + Send + Sync,
+    B: Ledger + Send + Sync,
+    C: Ledger + Send + Sync,
+    D: Ledger + Send + Sync,
+    E: Ledger + Send + Sync,
+    F: Ledger + Send + Sync,
+    G: Ledger + Send + Sync,
+> SharedLedgers for Seven<A, B, C, D, E, F, G> {}

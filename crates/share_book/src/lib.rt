@@ -15,6 +15,6 @@ mod tally;
 pub use blanks::Blanks;
 pub use books::{Books, PhaserBook, Shares};
 pub use gathering::{Totals, gather};
-pub use ledgers::{Ledgers, Seven};
+pub use ledgers::{Ledgers, Seven, SharedLedgers};
 pub use opening::open;
 pub use posting::post;

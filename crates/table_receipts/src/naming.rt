@@ -1,5 +1,5 @@
 //! Which phaser has which log.
-use share_book::Ledgers;
+use share_book::{Ledgers, SharedLedgers};
 use std::marker::{Brand, PhantomData};
 
 /// The names of the phasers' logs, by the phasers' numbers, and the limits of all. Each run picks
@@ -51,3 +51,5 @@ impl<S: Ledgers, L: Logs> Logs for Named<S, L> {
 }
 
 impl<S: Ledgers, L: Logs> Naming for Named<S, L> {}
+
+impl<S: SharedLedgers, L: Logs + Send + Sync> SharedLedgers for Named<S, L> {}

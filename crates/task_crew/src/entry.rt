@@ -12,7 +12,7 @@ use crate::task::{Item, Task};
 use crate::worker::{Numbers, Shared};
 use phase_modes::{Limits, Refusal};
 use scope_locks::{FinishTable, PhaserTable, Tickets};
-use share_book::{Blanks, Ledgers, Seven, open};
+use share_book::{Blanks, Seven, SharedLedgers, open};
 use std::alloc::Global;
 use std::marker::Brand;
 use std::sync::Wait;
@@ -21,7 +21,7 @@ use std::thread::Threads;
 use task_queue::RunQueue;
 
 /// The workers work, with books of these ledgers.
-fn run_in<K: Ledgers + Send + Sync, B: Body + Send, G: Gate + Sync, R: Threads + Wait + Sync>(
+fn run_in<K: SharedLedgers, B: Body + Send, G: Gate + Sync, R: Threads + Wait + Sync>(
     rt: &R,
     alloc: Global,
     root: B,
@@ -29,14 +29,6 @@ fn run_in<K: Ledgers + Send + Sync, B: Body + Send, G: Gate + Sync, R: Threads +
     blanks: Blanks,
     gate: &G,
 ) -> Result<Remains<B>, Refusal>
-where
-    K::EventsByPhaser: Send + Sync,
-    K::EventsByWorker: Send + Sync,
-    K::UpByPhaser: Send + Sync,
-    K::UpByWorker: Send + Sync,
-    K::DownByPhaser: Send + Sync,
-    K::DownByWorker: Send + Sync,
-    K::Room: Send + Sync,
     requires names { IsNamed blanks K.EventsByPhaser.name K.EventsByWorker.name K.UpByPhaser.name
         K.UpByWorker.name K.DownByPhaser.name K.DownByWorker.name K.Room.name }
     requires parts { IsParted blanks K.EventsByPhaser.parts K.EventsByWorker.parts K.UpByPhaser.parts

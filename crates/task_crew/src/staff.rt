@@ -14,7 +14,7 @@ use crate::task::{Item, RootLeft};
 use crate::worker::{Shared, Worker};
 use phase_modes::{Limits, Refusal};
 use scope_locks::Out;
-use share_book::{Ledgers, Shares};
+use share_book::{Ledgers, SharedLedgers, Shares};
 use std::alloc::Global;
 use std::collections::VecDeque;
 use std::sync::Wait;
@@ -156,20 +156,12 @@ fn none_left<B: Body>(queue: RunQueue<Item<B>>, seats: Vec<Seat<Item<B>>>) -> Re
 }
 
 /// Runs the workers, each in a thread of its own where one can be made, until all of them are done.
-fn work_all<K: Ledgers + Send + Sync, B: Body + Send, G: Gate + Sync, R: Threads + Wait + Sync>(
+fn work_all<K: SharedLedgers, B: Body + Send, G: Gate + Sync, R: Threads + Wait + Sync>(
     rt: &R,
     shared: &Shared<B, K>,
     staff: Vec<Worker<B, K>>,
     gate: &G,
 ) -> Result<Left<B, K>, Refusal>
-where
-    K::EventsByPhaser: Send + Sync,
-    K::EventsByWorker: Send + Sync,
-    K::UpByPhaser: Send + Sync,
-    K::UpByWorker: Send + Sync,
-    K::DownByPhaser: Send + Sync,
-    K::DownByWorker: Send + Sync,
-    K::Room: Send + Sync,
     ensures seats { IfOk result (λ l. AreBack (map (λ w. w.seat) staff.items) l.seats.items) }
     ensures shares { IfOk result (λ l. vec_len l.shares ≡ vec_len staff) }
     ensures refused { IfErr result (λ e. IsRunRefused e) }
@@ -179,20 +171,12 @@ where
 }
 
 /// Runs the workers, and gathers what they leave.
-pub(crate) fn run_staff<
-    K: Ledgers + Send + Sync,
-    B: Body + Send,
-    G: Gate + Sync,
-    R: Threads + Wait + Sync,
->(rt: &R, shared: Shared<B, K>, staff: Vec<Worker<B, K>>, gate: &G) -> Result<Remains<B>, Refusal>
-where
-    K::EventsByPhaser: Send + Sync,
-    K::EventsByWorker: Send + Sync,
-    K::UpByPhaser: Send + Sync,
-    K::UpByWorker: Send + Sync,
-    K::DownByPhaser: Send + Sync,
-    K::DownByWorker: Send + Sync,
-    K::Room: Send + Sync,
+pub(crate) fn run_staff<K: SharedLedgers, B: Body + Send, G: Gate + Sync, R: Threads + Wait + Sync>(
+    rt: &R,
+    shared: Shared<B, K>,
+    staff: Vec<Worker<B, K>>,
+    gate: &G,
+) -> Result<Remains<B>, Refusal>
     requires phasers { shared.phasers.phasers ≡ shared.limits.phasers }
     requires finishes { shared.finishes.finishes ≡ shared.limits.finishes }
     requires workers { AreAllParts (vec_len staff) K.EventsByWorker.parts K.UpByWorker.parts K.DownByWorker.parts }

@@ -7,7 +7,7 @@ use super::*;
 use phase_model::Ops;
 use phase_modes::Mode;
 use scope_locks::Tickets;
-use share_book::Seven;
+use share_book::{Seven, SharedLedgers};
 use std::marker::Brand;
 use std::sync::Wait;
 use std::sync::atomic::{AtomicU64, Ordering};
@@ -80,7 +80,7 @@ fn call<K: Ledgers, R: Wait>(
 
 /// Task 0 makes this phaser. Then one thread holds phaser 0's lock, for so many turns, while another
 /// signals on this one.
-fn hold_and_call<K: Ledgers + Send + Sync, R: Threads + Wait + Sync>(
+fn hold_and_call<K: SharedLedgers, R: Threads + Wait + Sync>(
     rt: &R,
     alloc: Global,
     table: &PhaserTable<u32, K>,
@@ -88,14 +88,6 @@ fn hold_and_call<K: Ledgers + Send + Sync, R: Threads + Wait + Sync>(
     number: usize,
     turns: u64,
 ) -> Result<(bool, bool), Refusal>
-where
-    K::EventsByPhaser: Send + Sync,
-    K::EventsByWorker: Send + Sync,
-    K::UpByPhaser: Send + Sync,
-    K::UpByWorker: Send + Sync,
-    K::DownByPhaser: Send + Sync,
-    K::DownByWorker: Send + Sync,
-    K::Room: Send + Sync,
     requires held { 0 < table.now.phasers }
     requires number { number < table.now.phasers }
 {
@@ -128,21 +120,13 @@ fn only_share<K: Ledgers>(mut shares: Vec<Shares<K>>) -> Result<Shares<K>, Refus
 }
 
 /// Both threads' parts, on a new table.
-fn apart<K: Ledgers + Send + Sync, R: Threads + Wait + Sync>(
+fn apart<K: SharedLedgers, R: Threads + Wait + Sync>(
     rt: &R,
     alloc: Global,
     blanks: Blanks,
     number: usize,
     turns: u64,
 ) -> Result<(bool, bool), Refusal>
-where
-    K::EventsByPhaser: Send + Sync,
-    K::EventsByWorker: Send + Sync,
-    K::UpByPhaser: Send + Sync,
-    K::UpByWorker: Send + Sync,
-    K::DownByPhaser: Send + Sync,
-    K::DownByWorker: Send + Sync,
-    K::Room: Send + Sync,
     requires names { IsNamed blanks K.EventsByPhaser.name K.EventsByWorker.name K.UpByPhaser.name
         K.UpByWorker.name K.DownByPhaser.name K.DownByWorker.name K.Room.name }
     requires parts { IsParted blanks K.EventsByPhaser.parts K.EventsByWorker.parts K.UpByPhaser.parts
@@ -406,21 +390,13 @@ fn given_back<K: Ledgers>(
 }
 
 /// The workers' parts, each in a thread. Returns their shares.
-fn work_all<K: Ledgers + Send + Sync, R: Threads + Wait + Sync>(
+fn work_all<K: SharedLedgers, R: Threads + Wait + Sync>(
     rt: &R,
     alloc: Global,
     table: &PhaserTable<u32, K>,
     tickets: &Tickets,
     shares: Vec<Shares<K>>,
 ) -> Result<Vec<Shares<K>>, Refusal>
-where
-    K::EventsByPhaser: Send + Sync,
-    K::EventsByWorker: Send + Sync,
-    K::UpByPhaser: Send + Sync,
-    K::UpByWorker: Send + Sync,
-    K::DownByPhaser: Send + Sync,
-    K::DownByWorker: Send + Sync,
-    K::Room: Send + Sync,
     requires { table.now.phasers ≡ 8 }
 {
     let staff = numbered(alloc, shares)?;
@@ -429,19 +405,11 @@ where
 }
 
 /// What is gathered once all workers have done their parts on a new table.
-fn crowd<K: Ledgers + Send + Sync, R: Abort + Threads + Wait + Sync>(
+fn crowd<K: SharedLedgers, R: Abort + Threads + Wait + Sync>(
     rt: &R,
     alloc: Global,
     blanks: Blanks,
 ) -> Result<Totals, Refusal>
-where
-    K::EventsByPhaser: Send + Sync,
-    K::EventsByWorker: Send + Sync,
-    K::UpByPhaser: Send + Sync,
-    K::UpByWorker: Send + Sync,
-    K::DownByPhaser: Send + Sync,
-    K::DownByWorker: Send + Sync,
-    K::Room: Send + Sync,
     requires names { IsNamed blanks K.EventsByPhaser.name K.EventsByWorker.name K.UpByPhaser.name
         K.UpByWorker.name K.DownByPhaser.name K.DownByWorker.name K.Room.name }
     requires parts { IsParted blanks K.EventsByPhaser.parts K.EventsByWorker.parts K.UpByPhaser.parts

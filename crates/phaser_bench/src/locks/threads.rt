@@ -7,7 +7,7 @@ use super::calls::call_one;
 use super::job::LocksJob;
 use phase_modes::{Limits, Refusal};
 use scope_locks::{Out, PhaserTable, Tickets};
-use share_book::{Blanks, Ledgers, Seven, Shares, gather, open};
+use share_book::{Blanks, Ledgers, Seven, SharedLedgers, Shares, gather, open};
 use std::alloc::Global;
 use std::marker::Brand;
 use std::sync::Wait;
@@ -91,23 +91,14 @@ fn work<K: Ledgers, R: Wait>(
 }
 
 /// All workers' parts, each in a thread. Returns their shares.
-fn work_all<K: Ledgers + Send + Sync, R: Threads + Wait + Sync>(
+fn work_all<K: SharedLedgers, R: Threads + Wait + Sync>(
     rt: &R,
     alloc: Global,
     table: &PhaserTable<u32, K>,
     tickets: &Tickets,
     job: LocksJob,
     shares: Vec<Shares<K>>,
-) -> Result<Vec<Shares<K>>, Refusal>
-where
-    K::EventsByPhaser: Send + Sync,
-    K::EventsByWorker: Send + Sync,
-    K::UpByPhaser: Send + Sync,
-    K::UpByWorker: Send + Sync,
-    K::DownByPhaser: Send + Sync,
-    K::DownByWorker: Send + Sync,
-    K::Room: Send + Sync,
-{
+) -> Result<Vec<Shares<K>>, Refusal> {
     let staff = numbered(alloc, shares)?;
     let done = thread::map_vec(
         rt,
@@ -126,20 +117,12 @@ fn events_on<K: Ledgers>(
     Ok(gather(shares, parts.phasers, parts.books)?.events)
 }
 
-fn events_over<K: Ledgers + Send + Sync, R: Threads + Wait + Sync>(
+fn events_over<K: SharedLedgers, R: Threads + Wait + Sync>(
     rt: &R,
     alloc: Global,
     blanks: Blanks,
     job: LocksJob,
 ) -> Result<u64, Refusal>
-where
-    K::EventsByPhaser: Send + Sync,
-    K::EventsByWorker: Send + Sync,
-    K::UpByPhaser: Send + Sync,
-    K::UpByWorker: Send + Sync,
-    K::DownByPhaser: Send + Sync,
-    K::DownByWorker: Send + Sync,
-    K::Room: Send + Sync,
     requires names { IsNamed blanks K.EventsByPhaser.name K.EventsByWorker.name K.UpByPhaser.name
         K.UpByWorker.name K.DownByPhaser.name K.DownByWorker.name K.Room.name }
     requires parts { IsParted blanks K.EventsByPhaser.parts K.EventsByWorker.parts K.UpByPhaser.parts
