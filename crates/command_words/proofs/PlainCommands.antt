@@ -1,12 +1,12 @@
--- Each command: its place, its words as items, and that it reads them as what they say.
-use Rattle.std.proofs.Common.{◌≡◌, ◌++◌, ℕ, true, false, Bool, List, [], ◌∷◌, Option, Some, None, codes, if◌then◌else◌, refl}
+-- Each command: its name, its words as items, and that it reads them as what they say.
+use Rattle.std.proofs.Common.{◌≡◌, true, false, Bool, List, [], ◌∷◌, Option, Some, None, codes, refl}
 use Rattle.clap.specs.Words.{Text}
 use Rattle.clap.proofs.OnLiterals.{clap_on_literals}
 use Rattle.command_words.specs.CommandLine.{Asked, certify, events, pipeline, plain_words, replay, run, schedule, stencil}
-use Rattle.command_words.proofs.PlainEntry.{IsCommand, shape_at}
+use Rattle.command_words.proofs.PlainEntry.{IsCommand, shape_of}
 use Rattle.command_words.proofs.PlainItems.{Item, asked_of_items, given, named, texts_of}
 
--- its name, and its place among the program's commands
+-- its name
 abbrev pub name_of : Asked → Text
 name_of (events file) = codes "events"
 name_of (schedule file list out) = codes "schedule"
@@ -16,42 +16,36 @@ name_of (certify file) = codes "certify"
 name_of (stencil first steps workers) = codes "stencil"
 name_of (pipeline k items workers) = codes "pipeline"
 
-abbrev pub place_of : Asked → ℕ
-place_of (events file) = 0
-place_of (schedule file list out) = 1
-place_of (run file workers out certain) = 2
-place_of (replay file out) = 3
-place_of (certify file) = 4
-place_of (stencil first steps workers) = 5
-place_of (pipeline k items workers) = 6
+-- an option with its value, where it has one, and then the rest
+abbrev pub with_option : Text → Option Text → List Item → List Item
+with_option name None rest = rest
+with_option name (Some value) rest = named name ∷ given value ∷ rest
+
+-- a flag, where it is wanted, and then the rest
+abbrev pub with_flag : Text → Bool → List Item → List Item
+with_flag name true rest = named name ∷ rest
+with_flag name false rest = rest
 
 -- the words after its name
-abbrev pub option_items : Text → Option Text → List Item
-option_items name None = []
-option_items name (Some value) = named name ∷ given value ∷ []
-
-abbrev pub flag_items : Text → Bool → List Item
-flag_items name is_wanted = if is_wanted then named name ∷ [] else []
-
 abbrev pub items_of : Asked → List Item
 items_of (events file) = given file ∷ []
 items_of (schedule file list out) =
-    given file ∷ (option_items (codes "--picks") list ++ option_items (codes "--trace") out)
+    given file ∷ with_option (codes "--picks") list (with_option (codes "--trace") out [])
 items_of (run file workers out certain) =
     given file
-    ∷ (option_items (codes "--workers") workers
-    ++ (option_items (codes "--trace") out ++ flag_items (codes "--certain") certain))
-items_of (replay file out) = given file ∷ option_items (codes "--upgrade") out
+    ∷ with_option (codes "--workers") workers
+    (with_option (codes "--trace") out (with_flag (codes "--certain") certain []))
+items_of (replay file out) = given file ∷ with_option (codes "--upgrade") out []
 items_of (certify file) = given file ∷ []
 items_of (stencil first steps workers) =
     named (codes "--first") ∷ given first ∷ named (codes "--steps") ∷ given steps
-    ∷ option_items (codes "--workers") workers
+    ∷ with_option (codes "--workers") workers []
 items_of (pipeline k items workers) =
     named (codes "--stages") ∷ given k ∷ named (codes "--items") ∷ given items
-    ∷ option_items (codes "--workers") workers
+    ∷ with_option (codes "--workers") workers []
 
 -- the program's walk meets it
-pub command_of : (asked : Asked) → IsCommand (name_of asked) (place_of asked)
+pub command_of : (asked : Asked) → IsCommand (name_of asked)
 unfolding clap_on_literals
 command_of (events file) = record { walks = refl; faults = refl; asks = λ words. refl }
 command_of (schedule file list out) = record { walks = refl; faults = refl; asks = λ words. refl }
@@ -64,7 +58,7 @@ command_of (pipeline k items workers) = record { walks = refl; faults = refl; as
 -- the items are its plain words, and its shape reads them as what they say
 pub record IsRead (asked : Asked) : Type 0 where
   pub said : (p : Text) → plain_words p asked ≡ p ∷ name_of asked ∷ texts_of (items_of asked)
-  pub read : asked_of_items (shape_at (place_of asked)) (items_of asked) ≡ Some asked
+  pub read : asked_of_items (shape_of (name_of asked)) (items_of asked) ≡ Some asked
 
 schedule_read : (file : Text) (list out : Option Text) → IsRead (schedule file list out)
 unfolding clap_on_literals

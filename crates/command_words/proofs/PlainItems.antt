@@ -24,6 +24,7 @@ abbrev pub texts_of : List Item → List Text
 texts_of [] = []
 texts_of (item ∷ rest) = text_of item ∷ texts_of rest
 
+-- an item that is given has none of the forms of an option
 abbrev pub IsGood : Item → Type 0
 IsGood (named name) = ⊤
 IsGood (given word) = IsWord word

@@ -1,26 +1,22 @@
 -- Words of which none looks like an option ask for what they say.
-use Rattle.std.proofs.Common.{◌≡◌, ◌&&◌, ◌++◌, true, false, Bool, List, Option, Some, None, codes, ap, ◌∙◌}
+use Rattle.std.proofs.Common.{◌≡◌, ◌&&◌, true, false, Bool, List, [], Option, Some, None, ap, ◌∙◌}
 use Rattle.std.specs.Prelude.{option_and_then}
 use Rattle.std.specs.Option.{option_map_or}
 use Rattle.std.proofs.lemmas.Bool.{and_parts}
 use Rattle.clap.specs.Words.{Text}
 use Rattle.command_words.specs.CommandLine.{Asked, Work, asked_in, certify, events, is_plain, is_plainly_asked, pipeline, plain_words, replay, run, schedule, stencil, work_for, work_in}
 use Rattle.command_words.proofs.Plain.{word}
-use Rattle.command_words.proofs.PlainCommands.{as_said, command_of, flag_items, items_of, name_of, option_items, place_of}
-use Rattle.command_words.proofs.PlainEntry.{command_entered, shape_at}
+use Rattle.command_words.proofs.PlainCommands.{as_said, command_of, items_of, name_of, with_flag, with_option}
+use Rattle.command_words.proofs.PlainEntry.{command_entered, shape_of}
 use Rattle.command_words.proofs.PlainItems.{AreGood, Item, items_read, texts_of}
 
 -- an option has a word as its value, where it has one
 option_good : (name : Text) (o : Option Text) (rest : List Item) → option_map_or is_plain o true ≡ true → AreGood rest
-    → AreGood (option_items name o ++ rest)
+    → AreGood (with_option name o rest)
 option_good name None rest plain good = good
 option_good name (Some value) rest plain good = (tt, (word value plain, good))
 
-last_good : (name : Text) (o : Option Text) → option_map_or is_plain o true ≡ true → AreGood (option_items name o)
-last_good name None plain = tt
-last_good name (Some value) plain = (tt, (word value plain, tt))
-
-flag_good : (name : Text) (is_wanted : Bool) → AreGood (flag_items name is_wanted)
+flag_good : (name : Text) (is_wanted : Bool) → AreGood (with_flag name is_wanted [])
 flag_good name true = (tt, tt)
 flag_good name false = tt
 
@@ -32,35 +28,27 @@ three a b c e =
 all_good : (asked : Asked) → is_plainly_asked asked ≡ true → AreGood (items_of asked)
 all_good (events file) plain = (word file plain, tt)
 all_good (schedule file list out) plain =
-    let parts = three (is_plain file) (option_map_or is_plain list true) (option_map_or is_plain out true) plain in (
-      word file parts.0,
-      option_good (codes "--picks") list (option_items (codes "--trace") out) parts.1
-          (last_good (codes "--trace") out parts.2),
-    )
+    let parts = three _ _ _ plain in
+    (word file parts.0, option_good _ list _ parts.1 (option_good _ out _ parts.2 tt))
 all_good (run file workers out certain) plain =
-    let parts = three (is_plain file) (option_map_or is_plain workers true) (option_map_or is_plain out true) plain in
-    let flag = flag_items (codes "--certain") certain in (
-      word file parts.0,
-      option_good (codes "--workers") workers (option_items (codes "--trace") out ++ flag) parts.1
-          (option_good (codes "--trace") out flag parts.2 (flag_good (codes "--certain") certain)),
-    )
+    let parts = three _ _ _ plain in
+    (word file parts.0, option_good _ workers _ parts.1 (option_good _ out _ parts.2 (flag_good _ certain)))
 all_good (replay file out) plain =
-    let parts = and_parts (is_plain file) (option_map_or is_plain out true) plain in
-    (word file parts.0, last_good (codes "--upgrade") out parts.1)
+    let parts = and_parts _ _ plain in (word file parts.0, option_good _ out _ parts.1 tt)
 all_good (certify file) plain = (word file plain, tt)
 all_good (stencil first steps workers) plain =
-    let parts = three (is_plain first) (is_plain steps) (option_map_or is_plain workers true) plain in
-    (tt, (word first parts.0, (tt, (word steps parts.1, last_good (codes "--workers") workers parts.2))))
+    let parts = three _ _ _ plain in
+    (tt, (word first parts.0, (tt, (word steps parts.1, option_good _ workers _ parts.2 tt))))
 all_good (pipeline k items workers) plain =
-    let parts = three (is_plain k) (is_plain items) (option_map_or is_plain workers true) plain in
-    (tt, (word k parts.0, (tt, (word items parts.1, last_good (codes "--workers") workers parts.2))))
+    let parts = three _ _ _ plain in
+    (tt, (word k parts.0, (tt, (word items parts.1, option_good _ workers _ parts.2 tt))))
 
 pub plainly : (p : Text) (asked : Asked) → is_plainly_asked asked ≡ true
     → asked_in (plain_words p asked) ≡ Some asked
 plainly p asked plain =
     ap asked_in ((as_said asked).said p)
-    ∙ command_entered p (name_of asked) (place_of asked) (texts_of (items_of asked)) (command_of asked)
-    ∙ items_read (shape_at (place_of asked)) (items_of asked) (all_good asked plain)
+    ∙ command_entered p (name_of asked) (texts_of (items_of asked)) (command_of asked)
+    ∙ items_read (shape_of (name_of asked)) (items_of asked) (all_good asked plain)
     ∙ (as_said asked).read
 
 pub plain_work : (p : Text) (asked : Asked) (work : Work) (words : List Text) → words ≡ plain_words p asked
