@@ -4,11 +4,9 @@ pub mod Listed
 pub mod Named
 pub mod Numbers
 pub mod Plain
-pub mod PlainOptions
-pub mod PlainPipeline
-pub mod PlainReplay
-pub mod PlainRun
-pub mod PlainSchedule
-pub mod PlainStencil
+pub mod PlainCommands
+pub mod PlainEntry
+pub mod PlainItems
+pub mod PlainSteps
 pub mod PlainWords
 pub mod Works

@@ -1,57 +1,55 @@
--- Plain words ask for what they say.
-use Rattle.std.proofs.Common.{◌≡◌, ◌&&◌, true, List, Some, None, ap, ◌∙◌}
+-- Words of which none looks like an option ask for what they say.
+use Rattle.std.proofs.Common.{◌≡◌, ◌&&◌, true, false, Bool, List, [], Option, Some, None, ap, ◌∙◌}
 use Rattle.std.specs.Prelude.{option_and_then}
 use Rattle.std.specs.Option.{option_map_or}
 use Rattle.std.proofs.lemmas.Bool.{and_parts}
 use Rattle.clap.specs.Words.{Text}
 use Rattle.command_words.specs.CommandLine.{Asked, Work, asked_in, certify, events, is_plain, is_plainly_asked, pipeline, plain_words, replay, run, schedule, stencil, work_for, work_in}
-use Rattle.command_words.proofs.Plain.{certify_plain, events_plain}
-use Rattle.command_words.proofs.PlainSchedule.{schedule_alone, word}
-use Rattle.command_words.proofs.PlainOptions.{schedule_both, schedule_picks, schedule_trace}
-use Rattle.command_words.proofs.PlainRun.{option_word, run_plain}
-use Rattle.command_words.proofs.PlainReplay.{replay_alone, replay_upgrade}
-use Rattle.command_words.proofs.PlainStencil.{stencil_alone, stencil_workers}
-use Rattle.command_words.proofs.PlainPipeline.{pipeline_alone, pipeline_workers}
+use Rattle.command_words.proofs.Plain.{word}
+use Rattle.command_words.proofs.PlainCommands.{as_said, command_of, items_of, name_of, with_flag, with_option}
+use Rattle.command_words.proofs.PlainEntry.{command_entered, shape_of}
+use Rattle.command_words.proofs.PlainItems.{AreGood, Item, items_read, texts_of}
+
+-- an option has a word as its value, where it has one
+option_good : (name : Text) (o : Option Text) (rest : List Item) → option_map_or is_plain o true ≡ true → AreGood rest
+    → AreGood (with_option name o rest)
+option_good name None rest plain good = good
+option_good name (Some value) rest plain good = (tt, (word value plain, good))
+
+flag_good : (name : Text) (is_wanted : Bool) → AreGood (with_flag name is_wanted [])
+flag_good name true = (tt, tt)
+flag_good name false = tt
+
+three : (a b c : Bool) → (a && (b && c)) ≡ true → (a ≡ true) × (b ≡ true) × (c ≡ true)
+three a b c e =
+    let parts = and_parts a (b && c) e in
+    let more = and_parts b c parts.1 in (parts.0, more.0, more.1)
+
+all_good : (asked : Asked) → is_plainly_asked asked ≡ true → AreGood (items_of asked)
+all_good (events file) plain = (word file plain, tt)
+all_good (schedule file list out) plain =
+    let parts = three _ _ _ plain in
+    (word file parts.0, option_good _ list _ parts.1 (option_good _ out _ parts.2 tt))
+all_good (run file workers out certain) plain =
+    let parts = three _ _ _ plain in
+    (word file parts.0, option_good _ workers _ parts.1 (option_good _ out _ parts.2 (flag_good _ certain)))
+all_good (replay file out) plain =
+    let parts = and_parts _ _ plain in (word file parts.0, option_good _ out _ parts.1 tt)
+all_good (certify file) plain = (word file plain, tt)
+all_good (stencil first steps workers) plain =
+    let parts = three _ _ _ plain in
+    (tt, (word first parts.0, (tt, (word steps parts.1, option_good _ workers _ parts.2 tt))))
+all_good (pipeline k items workers) plain =
+    let parts = three _ _ _ plain in
+    (tt, (word k parts.0, (tt, (word items parts.1, option_good _ workers _ parts.2 tt))))
 
 pub plainly : (p : Text) (asked : Asked) → is_plainly_asked asked ≡ true
     → asked_in (plain_words p asked) ≡ Some asked
-plainly p (events file) plain = events_plain p file plain
-plainly p (certify file) plain = certify_plain p file plain
-plainly p (replay file None) plain =
-    replay_alone p file (word file (and_parts (is_plain file) true plain).0)
-plainly p (replay file (Some out)) plain =
-    let parts = and_parts (is_plain file) (is_plain out) plain in
-    replay_upgrade p file out (word file parts.0) (word out parts.1)
-plainly p (schedule file None None) plain =
-    schedule_alone p file (word file (and_parts (is_plain file) true plain).0)
-plainly p (schedule file (Some list) None) plain =
-    let parts = and_parts (is_plain file) (is_plain list && true) plain in
-    schedule_picks p file list (word file parts.0) (word list (and_parts (is_plain list) true parts.1).0)
-plainly p (schedule file None (Some out)) plain =
-    let parts = and_parts (is_plain file) (is_plain out) plain in
-    schedule_trace p file out (word file parts.0) (word out parts.1)
-plainly p (schedule file (Some list) (Some out)) plain =
-    let parts = and_parts (is_plain file) (is_plain list && is_plain out) plain in
-    let values = and_parts (is_plain list) (is_plain out) parts.1 in
-    schedule_both p file list out (word file parts.0) (word list values.0) (word out values.1)
-plainly p (run file workers out certain) plain =
-    let parts = and_parts (is_plain file) (option_map_or is_plain workers true && option_map_or is_plain out true) plain in
-    let values = and_parts (option_map_or is_plain workers true) (option_map_or is_plain out true) parts.1 in
-    run_plain p file workers out certain (word file parts.0) (option_word workers values.0) (option_word out values.1)
-plainly p (stencil first steps None) plain =
-    let parts = and_parts (is_plain first) (is_plain steps && true) plain in
-    stencil_alone p first steps (word first parts.0) (word steps (and_parts (is_plain steps) true parts.1).0)
-plainly p (stencil first steps (Some workers)) plain =
-    let parts = and_parts (is_plain first) (is_plain steps && is_plain workers) plain in
-    let values = and_parts (is_plain steps) (is_plain workers) parts.1 in
-    stencil_workers p first steps workers (word first parts.0) (word steps values.0) (word workers values.1)
-plainly p (pipeline k items None) plain =
-    let parts = and_parts (is_plain k) (is_plain items && true) plain in
-    pipeline_alone p k items (word k parts.0) (word items (and_parts (is_plain items) true parts.1).0)
-plainly p (pipeline k items (Some workers)) plain =
-    let parts = and_parts (is_plain k) (is_plain items && is_plain workers) plain in
-    let values = and_parts (is_plain items) (is_plain workers) parts.1 in
-    pipeline_workers p k items workers (word k parts.0) (word items values.0) (word workers values.1)
+plainly p asked plain =
+    ap asked_in ((as_said asked).said p)
+    ∙ command_entered p (name_of asked) (texts_of (items_of asked)) (command_of asked)
+    ∙ items_read (shape_of (name_of asked)) (items_of asked) (all_good asked plain)
+    ∙ (as_said asked).read
 
 pub plain_work : (p : Text) (asked : Asked) (work : Work) (words : List Text) → words ≡ plain_words p asked
     → is_plainly_asked asked ≡ true → work_for asked ≡ Some work → work_in words ≡ Some work

@@ -1,0 +1,92 @@
+-- Each command: its name, its words as items, and that it reads them as what they say.
+use Rattle.std.proofs.Common.{◌≡◌, true, false, Bool, List, [], ◌∷◌, Option, Some, None, codes, refl}
+use Rattle.clap.specs.Words.{Text}
+use Rattle.clap.proofs.OnLiterals.{clap_on_literals}
+use Rattle.command_words.specs.CommandLine.{Asked, certify, events, pipeline, plain_words, replay, run, schedule, stencil}
+use Rattle.command_words.proofs.PlainEntry.{IsCommand, shape_of}
+use Rattle.command_words.proofs.PlainItems.{Item, asked_of_items, given, named, texts_of}
+
+-- its name
+abbrev pub name_of : Asked → Text
+name_of (events file) = codes "events"
+name_of (schedule file list out) = codes "schedule"
+name_of (run file workers out certain) = codes "run"
+name_of (replay file out) = codes "replay"
+name_of (certify file) = codes "certify"
+name_of (stencil first steps workers) = codes "stencil"
+name_of (pipeline k items workers) = codes "pipeline"
+
+-- an option with its value, where it has one, and then the rest
+abbrev pub with_option : Text → Option Text → List Item → List Item
+with_option name None rest = rest
+with_option name (Some value) rest = named name ∷ given value ∷ rest
+
+-- a flag, where it is wanted, and then the rest
+abbrev pub with_flag : Text → Bool → List Item → List Item
+with_flag name true rest = named name ∷ rest
+with_flag name false rest = rest
+
+-- the words after its name
+abbrev pub items_of : Asked → List Item
+items_of (events file) = given file ∷ []
+items_of (schedule file list out) =
+    given file ∷ with_option (codes "--picks") list (with_option (codes "--trace") out [])
+items_of (run file workers out certain) =
+    given file
+    ∷ with_option (codes "--workers") workers
+    (with_option (codes "--trace") out (with_flag (codes "--certain") certain []))
+items_of (replay file out) = given file ∷ with_option (codes "--upgrade") out []
+items_of (certify file) = given file ∷ []
+items_of (stencil first steps workers) =
+    named (codes "--first") ∷ given first ∷ named (codes "--steps") ∷ given steps
+    ∷ with_option (codes "--workers") workers []
+items_of (pipeline k items workers) =
+    named (codes "--stages") ∷ given k ∷ named (codes "--items") ∷ given items
+    ∷ with_option (codes "--workers") workers []
+
+-- the program's walk meets it
+pub command_of : (asked : Asked) → IsCommand (name_of asked)
+unfolding clap_on_literals
+command_of (events file) = record { walks = refl; faults = refl; asks = λ words. refl }
+command_of (schedule file list out) = record { walks = refl; faults = refl; asks = λ words. refl }
+command_of (run file workers out certain) = record { walks = refl; faults = refl; asks = λ words. refl }
+command_of (replay file out) = record { walks = refl; faults = refl; asks = λ words. refl }
+command_of (certify file) = record { walks = refl; faults = refl; asks = λ words. refl }
+command_of (stencil first steps workers) = record { walks = refl; faults = refl; asks = λ words. refl }
+command_of (pipeline k items workers) = record { walks = refl; faults = refl; asks = λ words. refl }
+
+-- the items are its plain words, and its shape reads them as what they say
+pub record IsRead (asked : Asked) : Type 0 where
+  pub said : (p : Text) → plain_words p asked ≡ p ∷ name_of asked ∷ texts_of (items_of asked)
+  pub read : asked_of_items (shape_of (name_of asked)) (items_of asked) ≡ Some asked
+
+schedule_read : (file : Text) (list out : Option Text) → IsRead (schedule file list out)
+unfolding clap_on_literals
+schedule_read file None None = record { said = λ p. refl; read = refl }
+schedule_read file (Some list) None = record { said = λ p. refl; read = refl }
+schedule_read file None (Some out) = record { said = λ p. refl; read = refl }
+schedule_read file (Some list) (Some out) = record { said = λ p. refl; read = refl }
+
+run_read : (file : Text) (workers out : Option Text) (certain : Bool) → IsRead (run file workers out certain)
+unfolding clap_on_literals
+run_read file None None true = record { said = λ p. refl; read = refl }
+run_read file None None false = record { said = λ p. refl; read = refl }
+run_read file (Some workers) None true = record { said = λ p. refl; read = refl }
+run_read file (Some workers) None false = record { said = λ p. refl; read = refl }
+run_read file None (Some out) true = record { said = λ p. refl; read = refl }
+run_read file None (Some out) false = record { said = λ p. refl; read = refl }
+run_read file (Some workers) (Some out) true = record { said = λ p. refl; read = refl }
+run_read file (Some workers) (Some out) false = record { said = λ p. refl; read = refl }
+
+pub as_said : (asked : Asked) → IsRead asked
+unfolding clap_on_literals
+as_said (events file) = record { said = λ p. refl; read = refl }
+as_said (schedule file list out) = schedule_read file list out
+as_said (run file workers out certain) = run_read file workers out certain
+as_said (replay file None) = record { said = λ p. refl; read = refl }
+as_said (replay file (Some out)) = record { said = λ p. refl; read = refl }
+as_said (certify file) = record { said = λ p. refl; read = refl }
+as_said (stencil first steps None) = record { said = λ p. refl; read = refl }
+as_said (stencil first steps (Some workers)) = record { said = λ p. refl; read = refl }
+as_said (pipeline k items None) = record { said = λ p. refl; read = refl }
+as_said (pipeline k items (Some workers)) = record { said = λ p. refl; read = refl }
