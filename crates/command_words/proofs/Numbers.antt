@@ -6,20 +6,13 @@ use Rattle.std.specs.Result.{OkIff, result_ok}
 use Rattle.std.specs.Str.{all_ascii_digits}
 use Rattle.std.specs.Str.Parse.{ParsesUnsigned, digits_value}
 use Rattle.std.proofs.lemmas.Str.Parse.{numerals_by_value, parse_digits, tells_all_ascii_digits}
+use Rattle.std.proofs.lemmas.Bool.{and_from, and_left, and_right}
 use Rattle.phase_modes.specs.Lists.{is_empty}
 use Rattle.command_words.specs.Lists.{is_numeral, number_in}
 
 alike : (text : List ℕ) → list_all is_ascii_digit text ≡ all_ascii_digits text
 alike [] = refl
 alike (c ∷ cs) = ap (λ (b : Bool). is_ascii_digit c && b) (alike cs)
-
-both_true : (a b : Bool) → a ≡ true → b ≡ true → (a && b) ≡ true
-both_true true b p q = q
-both_true false b p q = p
-
-right_false : (a b : Bool) → b ≡ false → (a && b) ≡ false
-right_false true b q = q
-right_false false b q = refl
 
 -- the number, where the test of it holds
 abbrev number_by : Bool → ℕ → Option ℕ
@@ -32,7 +25,7 @@ by_test text test e = ap (λ (b : Bool). number_by b (digits_value 10 text)) e
 out_of_range : (c : ℕ) (cs : List ℕ) (fits : Bool) → nat_lt (digits_value 10 (c ∷ cs)) (2 ^ 32) ≡ fits
     → ((0 < length (c ∷ cs)) × (digits_value 10 (c ∷ cs) < 2 ^ 32) → ⊥) → number_in (c ∷ cs) ≡ None
 out_of_range c cs true e unfit = absurd (unfit (omega arith, ltb-true _ _ e))
-out_of_range c cs false e unfit = by_test (c ∷ cs) false (right_false (is_numeral (c ∷ cs)) _ e)
+out_of_range c cs false e unfit = by_test (c ∷ cs) false (and_right (is_numeral (c ∷ cs)) _ e)
 
 module _ {E : Type 0} where
   by_answer : (text : List ℕ) (r : Result ℕ E) → list_all is_ascii_digit text ≡ true
@@ -41,7 +34,7 @@ module _ {E : Type 0} where
   by_answer [] (Ok n) digits h = absurd (omega (arith, h.0.0))
   by_answer [] (Err e) digits h = refl
   by_answer (c ∷ cs) (Ok n) digits h =
-      ap Some h.1 ∙ sym (by_test (c ∷ cs) true (both_true (is_numeral (c ∷ cs)) _ digits (lt-ltb _ _ h.0.1)))
+      ap Some h.1 ∙ sym (by_test (c ∷ cs) true (and_from (is_numeral (c ∷ cs)) _ digits (lt-ltb _ _ h.0.1)))
   by_answer (c ∷ cs) (Err e) digits h =
       sym (out_of_range c cs (nat_lt (digits_value 10 (c ∷ cs)) (2 ^ 32)) refl h)
 
@@ -58,8 +51,4 @@ module _ {E : Type 0} where
 pub of_others : (text : List ℕ) → list_all is_ascii_digit text ≡ false → None ≡ number_in text
 of_others text other =
     sym (by_test text false
-    (left_false (is_numeral text) _ (right_false (not (is_empty text)) (list_all is_ascii_digit text) other)))
-  where
-    left_false : (a b : Bool) → a ≡ false → (a && b) ≡ false
-    left_false true b p = cc
-    left_false false b p = refl
+    (and_left (is_numeral text) _ (and_right (not (is_empty text)) (list_all is_ascii_digit text) other)))

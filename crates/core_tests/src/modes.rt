@@ -137,6 +137,9 @@ fn refusals_have_numbers_and_names(rt: HostRuntime) -> Result<(), Fail> {
     for (refusal, number) in NUMBERS {
         assert_eq!(rt; refusal.number(), number);
     }
+    assert!(rt; Refusal::of_number(1) == Some(Refusal::NotRegistered));
+    assert!(rt; Refusal::of_number(25) == Some(Refusal::NotExplained(0)));
+    assert!(rt; Refusal::of_number(0).is_none() && Refusal::of_number(27).is_none());
     assert_eq!(rt; Refusal::BadText(2).place(), Some(2));
     assert_eq!(rt; Refusal::Memory.place(), None);
     assert!(rt; Refusal::Memory.name() == "Memory");

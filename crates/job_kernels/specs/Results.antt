@@ -2,12 +2,12 @@
 use Rattle.std.specs.Prelude.{ℕ, ℤ, ◌==◌, if◌then◌else◌, List, [], ◌∷◌, flat_map, Option, is_some, option_and_then}
 use Rattle.std.specs.List.{find}
 use Rattle.phase_modes.specs.declared.refusal.Refusal.{Refusal}
+use Rattle.phase_modes.specs.RefusalNumbers.{refusal_with}
 use Rattle.phase_model.specs.declared.op.Look.{Look}
 use Rattle.phase_model.specs.declared.op.Look.TheVariants.{Value, Nothing}
 use Rattle.world_model.specs.declared.report.FoldLine.{FoldLine}
 use Rattle.world_model.specs.declared.report.TaskLine.{TaskLine}
 use Rattle.world_model.specs.Report.{PhaserReport, Report}
-use Rattle.world_model.specs.ReportLines.{refusal_with}
 
 -- what was seen, if it is a value
 abbrev pub value_seen : Look ℤ → List ℤ

@@ -1,6 +1,6 @@
 -- Where the acts of a list end.
 use Rattle.std.proofs.Common.{◌≡◌, ⊎_elim, suc-le-suc, le_of_suc-le-suc, ℕ, zero, suc, ◌+◌, ◌-◌, ◌*◌, ◌%◌, ◌<◌, ◌≤◌, min, leb, Some, None, slice_get, le_of_lt, mod-eq_of_lt, mul-zero, true, false, true≢false, List, [], ◌∷◌, ◌++◌, length, get_or, refl, sym, ap, ◌∙◌, subst, arith, suc-mul, zero-mul}
-use Rattle.std.proofs.lemmas.Bool.{le-leb, and_parts, and_from}
+use Rattle.std.proofs.lemmas.Bool.{le-leb, and_parts, and_from, cases_lt}
 use Rattle.std.proofs.lemmas.Option.{none-some, same_Some, slice_get_past, slice_get_within, get_or_from_slice_get}
 use native.Mathlib.Nat.{min-eq_left, min-eq_right}
 use Rattle.std.specs.List.Sorted.{IsNonDecreasing}
@@ -10,10 +10,7 @@ use Rattle.job_script.specs.declared.stored.Item.{Item}
 use Rattle.job_script.specs.Acts.{Act, Acts, no_acts, act, with_act, copies, flat, written, written_length, flat_length, too_many, is_short_spawn, depth}
 use Rattle.job_script.specs.inner.Ends.{ends_from, start_of}
 use Rattle.job_script.specs.inner.Views.{acts_view, are_short}
-use Rattle.job_script.proofs.Places.{below_or_past, past_all, found, flat-length, copied_at}
-
-pub not_passed : (n place : ℕ) → leb n place ≡ false → place < n
-not_passed n place e = ⊎_elim (λ h. h) (λ h. absurd (true≢false (sym (le-leb n place h) ∙ e))) (below_or_past place n)
+use Rattle.job_script.proofs.Places.{past_all, found, flat-length, copied_at}
 
 -- ---- the ends don't fall
 
@@ -71,7 +68,7 @@ capped (suc k) n =
     (λ (many : too_many ≤ n).
     let cut : min n too_many ≡ too_many = omega (arith, many) in
     ap (λ m. min (suc k * m) too_many) cut ∙ omega (arith, suc-mul k too_many, suc-mul k n, many))
-    (below_or_past n too_many)
+    (cases_lt n too_many)
 
 pub start_suc : (ends : List ℕ) (i : ℕ) → 0 < i → start_of 0 i ends ≡ get_or ends (i - 1) 0
 start_suc ends zero h = absurd (omega (arith, h))
@@ -136,7 +133,7 @@ repeated_at k j body h few =
     (⊎_elim
     (λ (less : flat_length body < too_many). ap (λ n. j % n) (sym (min-eq_left (le_of_lt less))))
     (λ (many : too_many ≤ flat_length body). mod-eq_of_lt (omega (arith, few, many)) ∙ sym (ap (λ n. j % n) (min-eq_right many) ∙ mod-eq_of_lt few))
-    (below_or_past (flat_length body) too_many))
+    (cases_lt (flat_length body) too_many))
 
 -- a plain act stands for itself
 pub plain_at : (h : Head) (body : Acts) (inner : List Act) (j n : ℕ) → ((k : ℕ) → h ≡ Repeat k → ⊥) → j < written_length h n

@@ -1,5 +1,6 @@
 -- Where an act of the flat list is found among the stored ones.
 use Rattle.std.proofs.Common.{◌≡◌, ◌⊎◌, inl, inr, ⊎_elim, zero-le, suc-le-suc, le_of_suc-le-suc, ℕ, zero, suc, ◌+◌, ◌-◌, ◌*◌, ◌%◌, ◌<◌, ◌≤◌, min, List, [], ◌∷◌, ◌++◌, length, get_or, slice_get, refl, sym, ap, ◌∙◌, subst, arith, length-append, suc-mul, zero-mul, mod-eq_of_lt}
+use Rattle.std.proofs.lemmas.Bool.{cases_lt}
 use native.Mathlib.Nat.{mod-eq-sub-mod}
 use Rattle.job_script.specs.declared.head.Head.{Head}
 use Rattle.job_script.specs.declared.head.Head.TheVariants.{Repeat}
@@ -30,11 +31,6 @@ one-length h body = written-length h body (flat body) ∙ ap (written_length h) 
 
 -- ---- a place in two lists
 
-pub below_or_past : (a b : ℕ) → (a < b) ⊎ (b ≤ a)
-below_or_past a zero = inr zero-le
-below_or_past zero (suc b) = inl (suc-le-suc zero-le)
-below_or_past (suc a) (suc b) = ⊎_elim (λ p. inl (suc-le-suc p)) (λ q. inr (suc-le-suc q)) (below_or_past a b)
-
 pub get_left : {A : Type 0} (xs ys : List A) (k : ℕ) → k < length xs → slice_get (xs ++ ys) k ≡ slice_get xs k
 get_left [] ys k h = absurd (omega (arith, h))
 get_left (x ∷ xs) ys zero h = refl
@@ -57,7 +53,7 @@ copied_at (suc k) xs i h =
     get_right xs (copies k xs) i past
     ∙ copied_at k xs (i - length xs) (omega (arith, h, past, suc-mul k (length xs)))
     ∙ ap (slice_get xs) (sym (mod-eq-sub-mod past)))
-    (below_or_past i (length xs))
+    (cases_lt i (length xs))
 
 -- ---- the search
 

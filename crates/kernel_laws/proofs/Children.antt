@@ -2,6 +2,7 @@
 use Rattle.std.proofs.Common.{◌≡◌, ℕ, ◌+◌, ◌<◌, true, false, ◌||◌, ◌==◌, cond, List, [], ◌∷◌, Some, None, refl, sym, subst, ap, ◌∙◌, inl, inr, arith}
 use Rattle.std.specs.List.{list_any}
 use Rattle.std.proofs.lemmas.Bool.{or_cases, or_left, or_right, cases_Bool, eqb-true, eq-eqb, ne_eqb, true≢false, false≢true, false_from_ne_true}
+use Rattle.std.proofs.lemmas.Option.{same_Some, none-some}
 use Rattle.phase_modes.specs.declared.limits.Limits.{Limits}
 use Rattle.world_model.specs.declared.event.Begun.TheVariants.{Async}
 use Rattle.world_model.specs.declared.event.WorldEvent.{WorldEvent}
@@ -12,15 +13,9 @@ use Rattle.world_model.proofs.MadeMeans.{last_accepted}
 use Rattle.world_model.proofs.SpawnUnderWay.{names_fresh}
 use Rattle.kernel_laws.proofs.Plain.{spawned, child_at}
 
-same_some : {X : Type 0} (x y : X) → Some x ≡ Some y → x ≡ y
-same_some x y h = cc
-
-pub none_or_some : {X : Type 0} (x : X) → None ≡ Some x → ⊥
-none_or_some x h = cc
-
 -- a place is that of a spawn which was begun
 pub at_below : (i c : ℕ) (w : List WorldEvent) → child_at i w ≡ Some c → i < spawned w
-at_below i c [] h = absurd (none_or_some c h)
+at_below i c [] h = absurd (none-some c h)
 at_below i c (Begin u (Async x ps) ∷ w) h =
     elim (cases_Bool (spawned w == i)) [
       | inl e ↦ next (eqb-true (spawned w) i e)
@@ -54,11 +49,11 @@ there_is i (e ∷ w) h = there_is i w h
 
 -- a child was named
 pub child_named : (i c : ℕ) (w : List WorldEvent) → child_at i w ≡ Some c → is_named c w ≡ true
-child_named i c [] h = absurd (none_or_some c h)
+child_named i c [] h = absurd (none-some c h)
 child_named i c (Begin u (Async x ps) ∷ w) h =
     elim (cases_Bool (spawned w == i)) [
       | inl e ↦
-          let same : x ≡ c = same_some x c (subst (λ b. cond b (Some x) (child_at i w) ≡ Some c) e h) in
+          let same : x ≡ c = same_Some x c (subst (λ b. cond b (Some x) (child_at i w) ≡ Some c) e h) in
           or_right (c == 0) ((x == c) || list_any (names c) w)
           (or_left (x == c) (list_any (names c) w) (eq-eqb x c same))
       | inr e ↦
@@ -75,12 +70,12 @@ child_named i c (e ∷ w) h = child_named i c w h
 -- and is not the root
 pub child_no_root : (l : Limits) (i c : ℕ) (w : List WorldEvent) → is_legal_world l w ≡ true
     → child_at i w ≡ Some c → (c == 0) ≡ false
-child_no_root l i c [] k h = absurd (none_or_some c h)
+child_no_root l i c [] k h = absurd (none-some c h)
 child_no_root l i c (Begin u (Async x ps) ∷ w) k h =
     let a = last_accepted l (Begin u (Async x ps)) w k in
     elim (cases_Bool (spawned w == i)) [
       | inl e ↦
-          let same : x ≡ c = same_some x c (subst (λ b. cond b (Some x) (child_at i w) ≡ Some c) e h) in
+          let same : x ≡ c = same_Some x c (subst (λ b. cond b (Some x) (child_at i w) ≡ Some c) e h) in
           false_from_ne_true (c == 0) (λ z. true≢false
           (sym (or_left (x == 0) (list_any (names x) w) (subst (λ v. (v == 0) ≡ true) (sym same) z))
           ∙ names_fresh l w u x ps a.0))
@@ -115,7 +110,7 @@ named_child c (e ∷ w) z h = named_child c w z h
 -- no child has two places
 pub one_place : (l : Limits) (i j c : ℕ) (w : List WorldEvent) → is_legal_world l w ≡ true
     → child_at i w ≡ Some c → child_at j w ≡ Some c → i ≡ j
-one_place l i j c [] k h g = absurd (none_or_some c h)
+one_place l i j c [] k h g = absurd (none-some c h)
 one_place l i j c (Begin u (Async x ps) ∷ w) k h g =
     let a = last_accepted l (Begin u (Async x ps)) w k in
     elim (cases_Bool (spawned w == i)) [
@@ -123,13 +118,13 @@ one_place l i j c (Begin u (Async x ps) ∷ w) k h g =
         | inl f ↦ sym (eqb-true (spawned w) i e) ∙ eqb-true (spawned w) j f
         | inr f ↦
             absurd (new_is_old j a.0
-            (same_some x c (subst (λ b. cond b (Some x) (child_at i w) ≡ Some c) e h))
+            (same_Some x c (subst (λ b. cond b (Some x) (child_at i w) ≡ Some c) e h))
             (subst (λ b. cond b (Some x) (child_at j w) ≡ Some c) f g))
       ]
       | inr e ↦ elim (cases_Bool (spawned w == j)) [
         | inl f ↦
             absurd (new_is_old i a.0
-            (same_some x c (subst (λ b. cond b (Some x) (child_at j w) ≡ Some c) f g))
+            (same_Some x c (subst (λ b. cond b (Some x) (child_at j w) ≡ Some c) f g))
             (subst (λ b. cond b (Some x) (child_at i w) ≡ Some c) e h))
         | inr f ↦
             one_place l i j c w a.1 (subst (λ b. cond b (Some x) (child_at i w) ≡ Some c) e h)

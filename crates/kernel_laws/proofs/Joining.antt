@@ -4,7 +4,8 @@
 use Rattle.std.proofs.Common.{◌≡◌, ℕ, Bool, true, false, ◌&&◌, ◌||◌, ◌==◌, not, cond, List, [], ◌∷◌, ◌++◌, map, Some, refl, sym, subst, ap, ◌∙◌, inl, inr}
 use Rattle.std.specs.List.{list_any, list_all}
 use Rattle.std.specs.Option.{option_map_or}
-use Rattle.std.proofs.lemmas.Bool.{and_parts, and_from, or_cases, or_parts, or_left, or_right, cases_Bool, eqb-true, eq-eqb, true≢false, false≢true, false_from_ne_true}
+use Rattle.std.proofs.lemmas.Bool.{and_parts, and_from, or_cases, or_parts, or_left, or_right, cases_Bool, eqb-true, eq-eqb, true≢false, false≢true, false_from_ne_true, not-false}
+use Rattle.std.proofs.lemmas.Option.{none-some}
 use Rattle.phase_modes.specs.declared.limits.Limits.{Limits}
 use Rattle.phase_modes.specs.declared.phased.Pair.{Pair}
 use Rattle.phase_modes.specs.declared.reg.Mode.{Mode}
@@ -36,7 +37,7 @@ use Rattle.world_model.proofs.LeavingList.{any_append_left}
 use Rattle.world_model.proofs.LeavesAtEnds.{is_leave, none_in_map, none_in_both}
 use Rattle.world_model.proofs.DropsStandAlways.{leaves_only}
 use Rattle.kernel_laws.proofs.Plain.{IsPlain, last_of_plain, is_plain, any_kept, due_next, spawned, child_at, spawner_is_root}
-use Rattle.kernel_laws.proofs.Children.{none_or_some, child_named, child_no_root}
+use Rattle.kernel_laws.proofs.Children.{child_named, child_no_root}
 
 -- a registration of c on phaser n; one in which it can't signal
 abbrev pub is_reg_for : ℕ → ℕ → WorldEvent → Bool
@@ -180,17 +181,13 @@ module _ (l : Limits) (w : List WorldEvent) (k : IsPlain l w) (n c : ℕ) where
       let s =
       or_parts (is_weak_for n c e) (list_any (is_weak_for n c) (due 0 (e ∷ w)))
       (subst (λ ds. list_any (is_weak_for n c) ds ≡ false) next p.strong) in
-      let able : can_signal o ≡ true = unweak (can_signal o) (rw (here, mine) at s.0) in
+      let able : can_signal o ≡ true = not-false (can_signal o) (rw (here, mine) at s.0) in
       record {
         there = or_left (is_registered c (phaser_past n (e ∷ w))) (list_any (is_reg_for n c) (due 0 (e ∷ w)))
             (rw (here, mine) refl);
         strong = s.1;
         mode = λ y. rw (here, mine) able;
       }
-    where
-      unweak : (b : Bool) → not b ≡ false → b ≡ true
-      unweak true h = refl
-      unweak false h = absurd (true≢false h)
 
   -- a registration
   by_reg : (m q u : ℕ) (o : Mode) → is_accepted l w (Phaser m (Reg q u o)) ≡ true
@@ -276,7 +273,7 @@ module _ (l : Limits) (pairs : ℕ → List Pair) (own : ℕ → ℕ) where
   -- each child of a place below the bound, whose spawn hands out a phaser of its own
   pub joined : (w : List WorldEvent) → IsPlain l w → SpawnsBy pairs w → (i c : ℕ) → HasOwn (pairs i) (own i)
       → child_at i w ≡ Some c → Joined (own i) c w
-  joined [] k s i c o h = absurd (none_or_some c h)
+  joined [] k s i c o h = absurd (none-some c h)
   joined (Begin u (Async x ps) ∷ w) k s i c o h =
       let e = Begin u (Async x ps) in
       let f = last_of_plain l e w k in

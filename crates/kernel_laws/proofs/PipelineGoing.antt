@@ -2,6 +2,7 @@
 use Rattle.std.proofs.Common.{ℕ, ℤ, ◌+◌, ◌≡◌, ◌≤◌, ◌<◌, ◌∙◌, ◌⊎◌, inl, inr, Bool, true, false, ◌==◌, not, nat_lt, cond, List, [], ◌∷◌, Option, Some, None, refl, sym, ap, subst, arith}
 use Rattle.std.specs.List.{list_any, list_all}
 use Rattle.std.proofs.lemmas.Bool.{and_from, or_parts, cases_Bool, eqb-true, eq-eqb, lt-ltb, le-ltb, le-leb, ltb-true, ltb-false, true≢false, false≢true, false_from_ne_true}
+use Rattle.std.proofs.lemmas.Option.{none-some}
 use Rattle.phase_modes.specs.declared.limits.Limits.{Limits}
 use Rattle.phase_modes.specs.declared.reg.Mode.TheVariants.{SigWait}
 use Rattle.phase_modes.specs.declared.reg.Mode.{Mode}
@@ -37,7 +38,7 @@ use Rattle.job_kernels.specs.PipelineTasks.{root_task, pipeline_next}
 use Rattle.body_follows.specs.Going.{heard, child_does, does}
 use Rattle.kernel_laws.proofs.Plain.{IsPlain, is_plain, turns, spawned, child_at, flipped}
 use Rattle.kernel_laws.proofs.Paces.{unborn_turns}
-use Rattle.kernel_laws.proofs.Children.{none_or_some, at_below, child_named, child_no_root, one_place}
+use Rattle.kernel_laws.proofs.Children.{at_below, child_named, child_no_root, one_place}
 use Rattle.kernel_laws.proofs.Joining.{SpawnsBy}
 use Rattle.kernel_laws.proofs.Making.{AllMade}
 use Rattle.kernel_laws.proofs.Telling.{is_refusal, IsSame, same}
@@ -254,7 +255,7 @@ module _ (l : Limits) (stages items : ℕ) (w : List WorldEvent) (st : Standing 
           unsent = λ i q h.
               let before : child_at i w ≡ None = sym (kids i) ∙ h in
               let elsewhere : (x == i) ≡ false =
-              false_from_ne_true (x == i) (λ y. none_or_some t
+              false_from_ne_true (x == i) (λ y. none-some t
               (sym before ∙ (ap (λ v. child_at v w) (sym (eqb-true x i y)) ∙ here))) in
               values i q elsewhere ∙ st.unsent i q before;
         }
@@ -365,7 +366,7 @@ module _ (l : Limits) (stages items : ℕ) (w : List WorldEvent) (st : Standing 
               (st.tasks i c before)
         ];
         unsent = λ i q h. elim (cases_Bool (spawned w == i)) [
-          | inl y ↦ absurd (none_or_some x (sym h ∙ rw y refl))
+          | inl y ↦ absurd (none-some x (sym h ∙ rw y refl))
           | inr y ↦ st.unsent i q (rw y at h)
         ];
       }

@@ -2,6 +2,7 @@
 use Rattle.std.proofs.Common.{ℕ, ℤ, zero, suc, pos, ◌+◌, ◌≡◌, ◌≤◌, ◌<◌, ◌∙◌, Bool, true, false, not, nat_lt, cond, List, [], ◌∷◌, ◌++◌, map, flat_map, None, refl, sym, ap, subst, inr, arith}
 use Rattle.std.specs.List.{range_with_len}
 use Rattle.std.proofs.lemmas.Bool.{eq-eqb, le-leb, lt-ltb, le-ltb, ltb-true, ltb-false, false≢true}
+use Rattle.std.proofs.lemmas.Option.{none-some}
 use Rattle.phase_modes.specs.Lists.{is_empty}
 use Rattle.phase_modes.specs.declared.limits.Limits.{Limits}
 use Rattle.phase_model.specs.declared.op.Look.{Look as Seen}
@@ -28,7 +29,6 @@ use Rattle.body_follows.specs.Whole.{IsWhole}
 use Rattle.kernel_laws.proofs.Goes.{GoesSmoothly, smoothly}
 use Rattle.kernel_laws.specs.Pipelines.{RunsComeToPipeline}
 use Rattle.kernel_laws.proofs.Plain.{IsPlain}
-use Rattle.kernel_laws.proofs.Children.{none_or_some}
 use Rattle.kernel_laws.proofs.EndedSums.{has_left}
 use Rattle.kernel_laws.proofs.Endings.{dropped_ends, ended_ends}
 use Rattle.kernel_laws.proofs.Making.{made, phaser_fits}
@@ -68,7 +68,7 @@ module _ (l : Limits) (stages items : ℕ) (few_items : items ≤ 100) (few_stag
             order = inr refl;
           };
           over = λ n. absurd (false≢true n);
-          tasks = λ i c h. absurd (none_or_some c h);
+          tasks = λ i c h. absurd (none-some c h);
           unsent = λ i p h. refl;
         };
       }

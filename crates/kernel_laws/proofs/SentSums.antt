@@ -1,8 +1,8 @@
 -- Sums over the values that were sent on a phaser, phase by phase.
-use Rattle.std.proofs.Common.{◌≡◌, ℕ, ℤ, ◌+◌, ◌≤◌, ◌<◌, Bool, true, false, ◌&&◌, ◌==◌, not, nat_lt, cond, max, List, [], ◌∷◌, length, refl, sym, ap, subst, ◌∙◌, inl, inr, arith}
+use Rattle.std.proofs.Common.{◌≡◌, ℕ, ℤ, ◌+◌, ◌≤◌, ◌<◌, Bool, true, false, ◌&&◌, ◌==◌, nat_lt, cond, max, List, [], ◌∷◌, length, refl, sym, ap, subst, ◌∙◌, inl, inr, arith}
 use Rattle.std.specs.Prelude.{count_by}
 use Rattle.std.specs.List.{list_all, sum_by, filter, range_with_len}
-use Rattle.std.proofs.lemmas.Bool.{and_parts, and_from, cases_Bool, eq-eqb, ltb-true, true≢false}
+use Rattle.std.proofs.lemmas.Bool.{and_parts, and_from, cases_Bool, eq-eqb, ltb-true, true≢false, not-false}
 use Rattle.std.proofs.lemmas.List.Sums.{sum_by-cons}
 use Rattle.phase_modes.specs.declared.limits.Limits.{Limits}
 use Rattle.phase_modes.specs.Mode.{can_signal}
@@ -138,12 +138,8 @@ module _ (a : ℤ → ℕ) where
   values_in_all l w g n fits same none =
       sum_mapped (values_sum a) (λ j. phaser_past j w) (filter (λ j. is_phaser j w) (below l.phasers))
       ∙ (sum_filter (λ j. values_sum a (phaser_past j w)) (λ j. is_phaser j w) (below l.phasers)
-      (λ j e. ap (λ h. values_sum a h) (empty_is (phaser_past j w) (unmade (is_empty (phaser_past j w)) e)))
+      (λ j e. ap (λ h. values_sum a h) (empty_is (phaser_past j w) (not-false (is_empty (phaser_past j w)) e)))
       ∙ sum_below (λ j. values_sum a (phaser_past j w)) g n 0 n l.phasers (none_more n) fits same none)
-    where
-      unmade : (b : Bool) → not b ≡ false → b ≡ true
-      unmade true h = refl
-      unmade false h = absurd (true≢false h)
 
 -- ---- in a plain world whose phasers have one accumulator each
 

@@ -1,6 +1,7 @@
 -- The laws of each history of a stencil: what is sent are its cells, and each look sees its cell.
 use Rattle.std.proofs.Common.{ℕ, ℤ, ◌≡◌, ◌≤◌, ◌<◌, ◌∙◌, true, cond, List, [], ◌∷◌, ◌++◌, length, refl, sym, ap, subst, inr, arith}
 use Rattle.std.proofs.lemmas.Bool.{le-ltb, false≢true}
+use Rattle.std.proofs.lemmas.Option.{none-some}
 use Rattle.phase_modes.specs.declared.limits.Limits.{Limits}
 use Rattle.phase_model.specs.Phases.{signals}
 use Rattle.job_script.specs.declared.act.Answer.TheVariants.{Started}
@@ -17,7 +18,7 @@ use Rattle.job_kernels.specs.StencilTasks.{greatest, root_task, stencil_next}
 use Rattle.kernel_laws.proofs.Goes.{IsNext, GoesSmoothly, smoothly}
 use Rattle.kernel_laws.specs.Stencils.{ValuesAreCells, LooksSeeCells}
 use Rattle.kernel_laws.proofs.Plain.{turns, spawned}
-use Rattle.kernel_laws.proofs.Children.{none_or_some, at_below}
+use Rattle.kernel_laws.proofs.Children.{at_below}
 use Rattle.kernel_laws.proofs.IdlePaces.{signals_in_send}
 use Rattle.kernel_laws.proofs.Telling.{smooth_before}
 use Rattle.kernel_laws.proofs.StencilGoing.{LooksSaw, Standing}
@@ -55,7 +56,7 @@ module _ (l : Limits) (first : List ℕ) (steps : ℕ) (small : AtMost greatest 
             order = inr refl;
           };
           over = λ n. absurd (false≢true n);
-          cells = λ i c h. absurd (none_or_some c h);
+          cells = λ i c h. absurd (none-some c h);
         };
         values = λ i p. ap (λ b. cond b (cells_at first p i ∷ []) []) (sym (le-ltb p 0 (least p)));
       }

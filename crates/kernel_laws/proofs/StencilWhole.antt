@@ -2,7 +2,7 @@
 use Rattle.std.proofs.Common.{ℕ, zero, suc, pos, ◌+◌, ◌≡◌, ◌≤◌, ◌<◌, ◌∙◌, Bool, true, false, ◌==◌, not, nat_lt, cond, List, [], ◌∷◌, length, map, flat_map, refl, sym, ap, subst, inl, inr, arith}
 use Rattle.std.specs.List.{list_any, list_all, range_with_len}
 use Rattle.std.proofs.Math.IntN.{+ℤ_idl}
-use Rattle.std.proofs.lemmas.Bool.{and_parts, and_from, or_cases, or_parts, or_left, or_right, cases_Bool, eqb-true, eq-eqb, lt-ltb, ltb-true, true≢false, false≢true, false_from_ne_true}
+use Rattle.std.proofs.lemmas.Bool.{and_parts, and_from, or_cases, or_parts, or_left, or_right, cases_Bool, eqb-true, eq-eqb, lt-ltb, ltb-true, true≢false, false≢true, false_from_ne_true, not-false}
 use Rattle.phase_modes.specs.Lists.{is_empty}
 use Rattle.phase_modes.specs.declared.limits.Limits.{Limits}
 use Rattle.phase_modes.specs.declared.reg.Mode.{Mode}
@@ -110,7 +110,7 @@ module _ (l : Limits) (n : ℕ) (w : List WorldEvent) (k : IsPlain l w) where
       let s =
       or_parts (is_far n e) (list_any (is_far n) (due 0 (e ∷ w)))
       (subst (λ ds. list_any (is_far n) ds ≡ false) next p.due) in
-      let near : m < n = ltb-true m n (unfar (nat_lt m n) s.0) in
+      let near : m < n = ltb-true m n (not-false (nat_lt m n) s.0) in
       record {
         due = s.1;
         there = λ v j z r. elim (cases_Bool (m == j)) [
@@ -118,10 +118,6 @@ module _ (l : Limits) (n : ℕ) (w : List WorldEvent) (k : IsPlain l w) where
           | inr i ↦ p.there v j z (rw i at r)
         ];
       }
-    where
-      unfar : (b : Bool) → not b ≡ false → b ≡ true
-      unfar true h = refl
-      unfar false h = absurd (true≢false h)
 
   -- a step that registers nobody but the root
   same_by : (s : Step) (j m u : ℕ) → (b : Bool)

@@ -3,7 +3,7 @@ use Rattle.std.proofs.Common.{◌≡◌, ℕ, ◌+◌, ◌<◌, ◌≤◌, Bool,
 use Rattle.std.specs.Prelude.{count_by}
 use Rattle.std.specs.List.{list_all, sum_by, filter, range_with_len}
 use Rattle.std.proofs.lemmas.List.Sums.{sum_by-cons}
-use Rattle.std.proofs.lemmas.Bool.{and_parts, and_from, cases_Bool, eqb-true, eq-eqb, ne_eqb, not-true, true≢false, false≢true, false_from_ne_true}
+use Rattle.std.proofs.lemmas.Bool.{and_parts, and_from, cases_Bool, eqb-true, eq-eqb, ne_eqb, not-true, true≢false, false≢true, false_from_ne_true, not-false}
 use Rattle.phase_modes.specs.Lists.{is_empty}
 use Rattle.phase_modes.specs.declared.limits.Limits.{Limits}
 use Rattle.phase_modes.specs.declared.phased.Pair.{Pair}
@@ -101,12 +101,8 @@ module _ (l : Limits) (sum : List Event → ℕ) (by : Step → ℕ) (k : IsSum 
   over_all w legal =
       sum_mapped sum (λ n. phaser_past n w) (filter (λ n. is_phaser n w) (below l.phasers))
       ∙ (sum_filter (λ n. sum (phaser_past n w)) (λ n. is_phaser n w) (below l.phasers)
-      (λ n e. ap (λ h. sum h) (no_events (phaser_past n w) (unmade (is_empty (phaser_past n w)) e)) ∙ k.none)
+      (λ n e. ap (λ h. sum h) (no_events (phaser_past n w) (not-false (is_empty (phaser_past n w)) e)) ∙ k.none)
       ∙ spread w legal)
-    where
-      unmade : (b : Bool) → not b ≡ false → b ≡ true
-      unmade true h = refl
-      unmade false h = absurd (true≢false h)
 
 -- two sums that agree on each phaser
 pub all_same : (l : Limits) (w : List WorldEvent) (f g : List Event → ℕ)

@@ -4,6 +4,7 @@ use Rattle.std.specs.Prelude.{filter, is_some, option_and_then}
 use Rattle.std.specs.List.{find, list_any, range_with_len}
 use Rattle.std.proofs.lemmas.Bool.{cases_Bool, cases_lt, eqb-true, eq-eqb, true≢false, or_cases, or_right}
 use Rattle.phase_modes.specs.declared.limits.Limits.{Limits}
+use Rattle.phase_modes.specs.RefusalNumbers.{refusal_with}
 use Rattle.world_model.specs.declared.event.WorldEvent.{WorldEvent}
 use Rattle.world_model.specs.declared.event.WorldEvent.TheVariants.{Phaser, Finish, Begin, Refuse, Fail}
 use Rattle.world_model.specs.declared.report.TaskLine.{TaskLine}
@@ -11,7 +12,6 @@ use Rattle.world_model.specs.Due.{is_entry}
 use Rattle.world_model.specs.GivingUp.{may_fail, may_refuse}
 use Rattle.world_model.specs.Replies.{is_accepted, is_legal_world}
 use Rattle.world_model.specs.Report.{below, refused_by, report_of, task_line}
-use Rattle.world_model.specs.ReportLines.{refusal_with}
 use Rattle.world_model.specs.Tasks.{is_born, spawns}
 use Rattle.world_model.proofs.AbleComputed.{made_done_where}
 use Rattle.world_model.proofs.ActsWithinLimits.{born_fits}

@@ -3,7 +3,7 @@
 use Rattle.std.proofs.Common.{◌≡◌, ℕ, ◌+◌, ◌≤◌, ◌==◌, nat_lt, max, Bool, true, false, ◌||◌, ◌&&◌, not, cond, List, [], ◌∷◌, Option, Some, None, is_some, refl, ap, sym, ◌∙◌, subst, arith, inl, inr}
 use Rattle.std.specs.List.{list_all, list_any}
 use Rattle.std.specs.Option.{option_map_or}
-use Rattle.std.proofs.lemmas.Bool.{cases_Bool, eq-eqb, eqb-true, ne_eqb, lt-ltb, ltb-false, ltb-true, and_parts, and_from, or_parts, or_left, or_right, not-true, not-false, false≢true, false_from_ne_true}
+use Rattle.std.proofs.lemmas.Bool.{cases_Bool, eq-eqb, eqb-true, ne_eqb, lt-ltb, ltb-false, ltb-true, and_parts, and_from, or_parts, or_left, or_right, not-true, not-false, false≢true, false_from_ne_true, or_from}
 use Rattle.phase_modes.specs.declared.limits.Limits.{Limits}
 use Rattle.phase_modes.specs.declared.reg.Mode.{Mode}
 use Rattle.phase_modes.specs.declared.refusal.Refusal.{Refusal}
@@ -79,14 +79,10 @@ fails_at f (u ∷ ts) t k e =
 pub held_by_behind : (b p : ℕ) (h : List Event) → Behind b p h → is_within_bound (Some b) p h ≡ false
 held_by_behind b p h k =
     fails_at (is_near (max 1 b) p h) (live_tasks h) k.task (has-live_tasks k.task h ∙ k.live)
-    (and_not (not (has_mode can_wait k.task h)) (nat_lt p (waits k.task h + max 1 b))
+    (or_from (not (has_mode can_wait k.task h)) (nat_lt p (waits k.task h + max 1 b))
     (ap (λ b. not b) k.waiter)
     (false_from_ne_true (nat_lt p (waits k.task h + max 1 b))
     (λ e. let less = ltb-true p (waits k.task h + max 1 b) e in let far = k.far in absurd (omega (arith, less, far)))))
-  where
-    and_not : (a b : Bool) → a ≡ false → b ≡ false → (a || b) ≡ false
-    and_not true b e f = absurd (false≢true (sym e))
-    and_not false b e f = f
 
 settled_not_yet : (o : Option Refusal) (w b : Bool) (e : Event) → is_not_yet (decided o w b e) ≡ true
     → (o ≡ None) × (w ≡ true)

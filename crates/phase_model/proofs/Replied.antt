@@ -1,7 +1,7 @@
 -- A call is done only where its event may follow.
 use Rattle.std.proofs.Common.{◌≡◌, ℕ, Bool, true, false, ◌||◌, ◌&&◌, not, cond, List, [], ◌∷◌, Option, Some, None, refl, ap, sym, ◌∙◌, subst, inl, inr, ℤ}
 use Rattle.std.proofs.lemmas.Bool.Decides.{Decides-int_eq}
-use Rattle.std.proofs.lemmas.Bool.{and_from, cases_Bool}
+use Rattle.std.proofs.lemmas.Bool.{and_from, cases_Bool, not-false}
 use Rattle.phase_model.specs.declared.op.Look.{Look}
 use Rattle.phase_model.specs.declared.op.Look.TheVariants.{Value, Nothing}
 use Rattle.phase_modes.specs.declared.limits.Limits.{Limits}
@@ -78,11 +78,7 @@ module _ (l : Limits) (terms : Terms) (h : List Event) where
   permitted (register q t m) k w = k
   permitted (signal t x) k w =
       and_from (are_met (conditions l terms h (signal t x))) (is_within_bound terms.bound (signals t h) h) k
-      (not_false (is_within_bound terms.bound (signals t h) h) w)
-    where
-      not_false : (b : Bool) → not b ≡ false → b ≡ true
-      not_false true e = refl
-      not_false false e = absurd cc
+      (not-false (is_within_bound terms.bound (signals t h) h) w)
   permitted (pass t) k w = passing t k w
   permitted (single_done t) k w = k
   permitted (send t a v) k w = k

@@ -2,7 +2,7 @@
 use Rattle.std.proofs.Common.{◌≡◌, ℕ, ◌+◌, ◌≤◌, ◌==◌, nat_lt, Bool, true, false, ◌||◌, ◌&&◌, not, cond, List, [], ◌∷◌, Option, Some, None, is_some, refl, ap, sym, ◌∙◌, subst, arith}
 use Rattle.std.specs.List.{list_all}
 use Rattle.std.specs.Option.{option_map_or}
-use Rattle.std.proofs.lemmas.Bool.{eq-eqb, ne_eqb, lt-ltb, and_parts, and_from, not-true, false≢true}
+use Rattle.std.proofs.lemmas.Bool.{eq-eqb, ne_eqb, lt-ltb, and_parts, and_from, not-true, false≢true, or_right}
 use Rattle.phase_modes.specs.declared.refusal.Refusal.{Refusal}
 use Rattle.phase_modes.specs.declared.refusal.Refusal.TheVariants.{NotRegistered, NotSignalled}
 use Rattle.phase_modes.specs.Refusal.{first_refusal}
@@ -102,11 +102,7 @@ all_in : (f : ℕ → Bool) (ts : List ℕ) → ((t : ℕ) → has t ts ≡ true
 all_in f [] k = refl
 all_in f (t ∷ ts) k =
     and_from (f t) (list_all f ts) (k t (ap (λ b. b || has t ts) (eq-eqb t t refl)))
-    (all_in f ts (λ u e. k u (or_on (t == u) (has u ts) e)))
-  where
-    or_on : (a b : Bool) → b ≡ true → (a || b) ≡ true
-    or_on true b e = refl
-    or_on false b e = e
+    (all_in f ts (λ u e. k u (or_right (t == u) (has u ts) e)))
 
 pub closed_where_signalled : (p : ℕ) (h : List Event) → HaveSignalled (p + 1) h → is_closed p h ≡ true
 closed_where_signalled p h k =
@@ -191,12 +187,8 @@ module _ (s : Story) (t : ℕ) (waiting : would_wait s t ≡ true) where
         no_claim =
             less_claimable (has_proposed t w h) (is_closed w h) (is_closed w h) (is_claimed w h)
             ((waits u h == w) || is_claimed w h) (λ c. c)
-            (or_on (waits u h == w) (is_claimed w h)) here.no_claim;
+            (or_right (waits u h == w) (is_claimed w h)) here.no_claim;
       })
-    where
-      or_on : (a b : Bool) → b ≡ true → (a || b) ≡ true
-      or_on true b e = refl
-      or_on false b e = e
   stays (Did u) k legal = absurd cc
   stays (Pass u) k legal =
       let h = s.past in

@@ -2,7 +2,7 @@
 use Rattle.std.proofs.Common.{◌≡◌, ℕ, zero, suc, max, ◌+◌, ◌≤◌, ◌==◌, nat_lt, nat_le, Bool, true, false, ◌||◌, ◌&&◌, not, List, [], ◌∷◌, length, map, Option, Some, None, slice_get, refl, ap, sym, ◌∙◌, arith, inl, inr}
 use Rattle.std.specs.List.{list_any, list_all}
 use Rattle.std.specs.Option.{option_map}
-use Rattle.std.proofs.lemmas.Bool.{cases_Bool, eq-eqb, eqb-true, ne_eqb, leb-true, and_parts, and_from, and_left, false_from_ne_true, or_left, or_right, false≢true}
+use Rattle.std.proofs.lemmas.Bool.{cases_Bool, eq-eqb, eqb-true, ne_eqb, leb-true, and_parts, and_from, and_left, false_from_ne_true, or_left, or_right, false≢true, not-false, not-true}
 use Rattle.std.proofs.lemmas.Option.{slice_get-map, same_Some}
 use Rattle.phase_modes.specs.declared.reg.Mode.{Mode}
 use Rattle.phase_modes.specs.Mode.{can_signal, can_wait}
@@ -94,14 +94,6 @@ behind_is h t e f k =
     other_of (has_mode can_signal t h) (signals t h == waits t h) e.reg.ahead
     (ap (λ x. x.reg.ahead) f.is_entry) (f.mode can_signal ∙ k)
 
-not_not : (b : Bool) → not b ≡ true → b ≡ false
-not_not true k = absurd cc
-not_not false k = refl
-
-not_yes : (b : Bool) → not b ≡ false → b ≡ true
-not_yes true k = refl
-not_yes false k = absurd cc
-
 list_all_same : (f g : ℕ → Bool) (ts : List ℕ) → ((t : ℕ) → has t ts ≡ true → f t ≡ g t)
     → list_all f ts ≡ list_all g ts
 list_all_same f g [] e = refl
@@ -191,9 +183,9 @@ module _ (s : Story) (table : List Entry) (single : Option Statement) (stands : 
       let here : (n == w) ≡ not e.reg.ahead = behind_is s.past t e f k in
       elim (at_or_ahead s.limits s.terms s.past stands.legal t (f.mode can_signal ∙ k)) [
         | inl a ↦
-            ne_eqb n (w + 1) (λ d. omega (arith, d, a)) ∙ sym (not_not e.reg.ahead (sym here ∙ eq-eqb n w a))
+            ne_eqb n (w + 1) (λ d. omega (arith, d, a)) ∙ sym (not-true e.reg.ahead (sym here ∙ eq-eqb n w a))
         | inr a ↦
-            eq-eqb n (w + 1) a ∙ sym (not_yes e.reg.ahead (sym here ∙ ne_eqb n w (λ d. omega (arith, d, a))))
+            eq-eqb n (w + 1) a ∙ sym (not-false e.reg.ahead (sym here ∙ ne_eqb n w (λ d. omega (arith, d, a))))
       ]
 
   -- a signaller's registration counts what it has signalled
@@ -205,9 +197,9 @@ module _ (s : Story) (table : List Entry) (single : Option Statement) (stands : 
       let here : (n == w) ≡ not e.reg.ahead = behind_is s.past t e f k in
       let phase : e.reg.phase ≡ w = found_phase s.past t e f in
       elim (at_or_ahead s.limits s.terms s.past stands.legal t (f.mode can_signal ∙ k)) [
-        | inl a ↦ rw (not_not e.reg.ahead (sym here ∙ eq-eqb n w a)) (phase ∙ sym a)
+        | inl a ↦ rw (not-true e.reg.ahead (sym here ∙ eq-eqb n w a)) (phase ∙ sym a)
         | inr a ↦
-            rw (not_yes e.reg.ahead (sym here ∙ ne_eqb n w (λ d. omega (arith, d, a))))
+            rw (not-false e.reg.ahead (sym here ∙ ne_eqb n w (λ d. omega (arith, d, a))))
             (omega (arith, phase, a))
       ]
 

@@ -2,7 +2,7 @@
 use Rattle.std.proofs.Common.{◌≡◌, ◌⊎◌, ℕ, ◌≤◌, ◌<◌, ◌==◌, Bool, true, false, ◌||◌, ◌&&◌, not, cond, List, [], ◌∷◌, Option, Some, None, refl, sym, ap, ◌∙◌, arith, inl, inr, subst}
 use Rattle.std.specs.List.{list_any, find}
 use Rattle.std.specs.Option.{option_map}
-use Rattle.std.proofs.lemmas.Bool.{cases_Bool, cases_lt, eqb-true, eq-eqb, ne_eqb, and_from, and_parts, or_parts, false_from_ne_true, false≢true}
+use Rattle.std.proofs.lemmas.Bool.{cases_Bool, cases_lt, eqb-true, eq-eqb, ne_eqb, and_from, and_parts, or_parts, false_from_ne_true, false≢true, not-true, cases_order}
 use Rattle.phase_modes.specs.declared.limits.Limits.{Limits}
 use Rattle.phase_modes.specs.Mode.{can_signal, can_single}
 use Rattle.phase_model.specs.declared.history.Event.{Event}
@@ -48,13 +48,6 @@ same_Bool false true f g = absurd (false≢true (g refl))
 same_Bool false false f g = refl
 
 -- where p is, beside the last proposed phase
-pub cases_phase : (x p : ℕ) → (x ≡ p) ⊎ ((x < p) ⊎ (p < x))
-cases_phase x p =
-    elim (cases_lt x p) [
-      | inl a ↦ inr (inl a)
-      | inr a ↦ elim (cases_lt p x) [ inl b ↦ inr (inr b) | inr b ↦ inl (omega (arith, a, b)) ]
-    ]
-
 below_other : (x p : ℕ) → x < p → (x == p) ≡ false
 below_other x p less = ne_eqb x p (λ e. omega (arith, e, less))
 
@@ -81,7 +74,7 @@ module _ (l : Limits) (terms : Terms) (h : List Event) (legal : is_legal l terms
   pub settled_is : (o : Option Statement) (p : ℕ) → IsLastSingle o h → is_settled p h ≡ may_pass o p
   settled_is None p k = ap (λ b. not b || is_done p h) (k p)
   settled_is (Some x) p k =
-      elim (cases_phase x.phase p) [
+      elim (cases_order x.phase p) [
         | inl e ↦
             let done : is_done p h ≡ not (is_open_stage x.stage) =
             subst (λ q. is_done q h ≡ not (is_open_stage x.stage)) e
@@ -100,7 +93,7 @@ module _ (l : Limits) (terms : Terms) (h : List Event) (legal : is_legal l terms
       → not (is_claimed p h) ≡ is_claimable o p
   claimable_is None p k made = absurd (false≢true (sym (k p) ∙ made))
   claimable_is (Some x) p k made =
-      elim (cases_phase x.phase p) [
+      elim (cases_order x.phase p) [
         | inl e ↦
             let claimed : is_claimed p h ≡ not (is_unclaimed x.stage) =
             subst (λ q. is_claimed q h ≡ not (is_unclaimed x.stage)) e
@@ -131,7 +124,7 @@ module _ (l : Limits) (terms : Terms) (h : List Event) (legal : is_legal l terms
       → x.phase ≡ p
   claimer_phase x t p k c d =
       let made : is_proposed p h ≡ true = claimed_is_proposed l terms h legal p (claimer_claims t p h c) in
-      elim (cases_phase x.phase p) [
+      elim (cases_order x.phase p) [
         | inl e ↦ e
         | inr (inl less) ↦ absurd (false≢true (sym (k.later p less) ∙ made))
         | inr (inr less) ↦
@@ -166,7 +159,7 @@ module _ (l : Limits) (terms : Terms) (h : List Event) (legal : is_legal l terms
       same_Bool (has_claimed t w h && not (is_done w h)) (is_claim_of t x.stage)
       (λ e.
       let parts = and_parts (has_claimed t w h) (not (is_done w h)) e in
-      let undone : is_done w h ≡ false = not_yes (is_done w h) parts.1 in
+      let undone : is_done w h ≡ false = not-true (is_done w h) parts.1 in
       let at : x.phase ≡ w = claimer_phase x t w k parts.0 undone in
       claim_by x.stage t w (subst (λ q. IsAtStage x.stage q h) at k.stage) parts.0 undone)
       (λ e.
@@ -174,10 +167,6 @@ module _ (l : Limits) (terms : Terms) (h : List Event) (legal : is_legal l terms
       let at : w ≡ x.phase =
       (owes l terms h legal t x.phase (claimed_proposed l terms h legal t x.phase c.0) c.1).at in
       rw at (and_from (has_claimed t x.phase h) (not (is_done x.phase h)) c.0 (ap (λ b. not b) c.1)))
-    where
-      not_yes : (b : Bool) → not b ≡ true → b ≡ false
-      not_yes true e = absurd cc
-      not_yes false e = refl
 
   -- the kept single needs as many events as the history says
   pub reserve_is : (o : Option Statement) → IsLastSingle o h → reserve h ≡ reserve_of o
@@ -240,10 +229,6 @@ module _ (l : Limits) (terms : Terms) (h : List Event) (legal : is_legal l terms
             (subst (λ n. x.phase < n) behind less) in
             let done : is_done x.phase h ≡ true =
             implied (is_proposed x.phase h) (is_done x.phase h) settled (last_is_proposed x k) in
-            inr (shut (is_open_stage x.stage) (sym (stage_done x.stage x.phase k.stage) ∙ done), less)
+            inr (not-true (is_open_stage x.stage) (sym (stage_done x.stage x.phase k.stage) ∙ done), less)
         | inr least ↦ inl (omega (arith, least, last_within x t k live signaller))
       ]
-    where
-      shut : (b : Bool) → not b ≡ true → b ≡ false
-      shut true e = absurd cc
-      shut false e = refl

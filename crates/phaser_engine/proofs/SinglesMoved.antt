@@ -1,9 +1,9 @@
 -- What the kept single is after each event.
-use Rattle.std.proofs.Common.{◌≡◌, ℕ, ◌+◌, ◌≤◌, ◌<◌, ◌==◌, Bool, true, false, ◌&&◌, not, cond, List, ◌∷◌, Option, Some, None, Result, Ok, Err, refl, sym, ap, ◌∙◌, arith, inl, inr, subst}
+use Rattle.std.proofs.Common.{◌≡◌, ℕ, ◌+◌, ◌≤◌, ◌<◌, ◌==◌, Bool, true, false, ◌&&◌, cond, List, ◌∷◌, Option, Some, None, Result, Ok, Err, refl, sym, ap, ◌∙◌, arith, inl, inr, subst}
 use Rattle.std.specs.List.{list_any, find}
 use Rattle.std.specs.Option.{option_map}
 use Rattle.std.specs.Result.{is_err}
-use Rattle.std.proofs.lemmas.Bool.{cases_Bool, cases_lt, eqb-true, eq-eqb, ne_eqb, or_left, or_from, false_from_ne_true, false≢true}
+use Rattle.std.proofs.lemmas.Bool.{cases_Bool, cases_lt, eqb-true, eq-eqb, ne_eqb, or_left, or_from, false_from_ne_true, false≢true, and_parts, not-false}
 use Rattle.phase_modes.specs.declared.limits.Limits.{Limits}
 use Rattle.phase_modes.specs.declared.refusal.Refusal.{Refusal}
 use Rattle.phase_modes.specs.declared.refusal.Refusal.TheVariants.{SingleMismatch}
@@ -54,10 +54,6 @@ unclaimed_reserve Proposed k = refl
 unclaimed_reserve (Claimed t) k = absurd cc
 unclaimed_reserve (Done t) k = absurd cc
 
-not_yes : (b : Bool) → not b ≡ false → b ≡ true
-not_yes true k = refl
-not_yes false k = absurd cc
-
 -- what a proposal that isn't refused says
 pub record Proposes (o : Option Statement) (p n : ℕ) (after : Option Statement) : Type 0 where
   pub agrees : single.is_mismatch o p n ≡ false
@@ -105,7 +101,7 @@ module _ (l : Limits) (terms : Terms) (h : List Event) (legal : is_legal l terms
             let unclaimed : is_claimed x.phase h ≡ false =
             subst (λ q. is_claimed q h ≡ false) (sym (eqb-true x.phase (signals t h) e)) own_unclaimed in
             rw e (unclaimed_reserve x.stage
-            (not_yes (is_unclaimed x.stage)
+            (not-false (is_unclaimed x.stage)
             (sym (stage_claimed l terms h legal x.stage x.phase k.stage) ∙ unclaimed)))
         | inr e ↦ rw e refl
       ]
@@ -121,7 +117,7 @@ module _ (l : Limits) (terms : Terms) (h : List Event) (legal : is_legal l terms
 
   proposed_number : (x : Statement) (n : ℕ) → IsLast x h → (x.phase == signals t h) ≡ true
       → single.is_mismatch (Some x) (signals t h) n ≡ false → n ≡ x.number
-  proposed_number x n k e agrees = sym (eqb-true x.number n (not_yes (x.number == n) (rw e at agrees)))
+  proposed_number x n k e agrees = sym (eqb-true x.number n (not-false (x.number == n) (rw e at agrees)))
 
   -- the kept single after the proposal
   pub propose_is_last : (o : Option Statement) (n : ℕ) → IsLastSingle o h → single.is_mismatch o (signals t h) n
@@ -184,7 +180,7 @@ module _ (l : Limits) (terms : Terms) (h : List Event) (legal : is_legal l terms
       → IsLastSingle (claimed o t) (Claim t ∷ h)
   claim_is_last None k c = absurd cc
   claim_is_last (Some x) k c =
-      let parts = both (x.phase == waits t h) (is_unclaimed x.stage) c in
+      let parts = and_parts (x.phase == waits t h) (is_unclaimed x.stage) c in
       let at : waits t h ≡ x.phase = sym (eqb-true x.phase (waits t h) parts.0) in
       record {
         number = k.number;
@@ -195,11 +191,6 @@ module _ (l : Limits) (terms : Terms) (h : List Event) (legal : is_legal l terms
         );
         later = k.later;
       }
-    where
-      both : (a b : Bool) → (a && b) ≡ true → (a ≡ true) × (b ≡ true)
-      both true true e = (refl, refl)
-      both true false e = absurd cc
-      both false b e = absurd cc
 
   -- the kept single after a report
   pub report_is_last : (o : Option Statement) → IsLastSingle o h → (has_claimed t (waits t h) h ≡ true)

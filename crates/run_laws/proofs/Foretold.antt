@@ -2,7 +2,7 @@
 use Rattle.std.proofs.Common.{◌≡◌, ℕ, zero, suc, Bool, true, false, ◌||◌, ◌==◌, not, cond, List, [], ◌∷◌, ◌++◌, None, refl, sym, subst, ap, ◌∙◌, inl, inr}
 use Rattle.std.specs.Prelude.{drop, slice_get}
 use Rattle.std.specs.List.{list_any, list_all}
-use Rattle.std.proofs.lemmas.Bool.{and_parts, and_from, or_cases, or_left, cases_Bool, eqb-true, true≢false, false≢true, false_from_ne_true}
+use Rattle.std.proofs.lemmas.Bool.{and_parts, and_from, or_cases, or_left, cases_Bool, eqb-true, true≢false, false≢true, false_from_ne_true, not-true}
 use Rattle.phase_modes.specs.declared.phased.Pair.{Pair}
 use Rattle.finish_core.specs.declared.event.FinishEvent.TheVariants.{Opened}
 use Rattle.job_script.specs.Acts as texts
@@ -134,10 +134,6 @@ quiet_tried w t ms new (heads.Send name a v) k = refl
 quiet_tried w t ms new (heads.Look name a) k = refl
 quiet_tried w t ms new (heads.Repeat n) k = refl
 
-unnot : (b : Bool) → not b ≡ true → b ≡ false
-unnot true k = absurd (false≢true k)
-unnot false k = refl
-
 -- so a task whose acts are quiet makes no act that draws
 quiet_makes : (w : List WorldEvent) (t : ℕ) (ms : List ℕ) (new : Numbers) (left : List texts.Act) (a : Tried)
     → list_all is_quiet left ≡ true → same_act a (tried_next w t ms new (slice_get left 0)) ≡ true
@@ -145,7 +141,7 @@ quiet_makes : (w : List WorldEvent) (t : ℕ) (ms : List ℕ) (new : Numbers) (l
 quiet_makes w t ms new [] a q k = ap is_drawing (act_is a (Beginning begun.End) k)
 quiet_makes w t ms new (x ∷ xs) a q k =
     ap is_drawing (act_is a (tried_as w t ms new x.head) k)
-    ∙ quiet_tried w t ms new x.head (unnot (is_draw x.head) (and_parts (is_quiet x) (list_all is_quiet xs) q).0)
+    ∙ quiet_tried w t ms new x.head (not-true (is_draw x.head) (and_parts (is_quiet x) (list_all is_quiet xs) q).0)
 
 -- a head that stands for a spawn is one
 spawn_head : (w : List WorldEvent) (t c : ℕ) (ps : List Pair) (ms : List ℕ) (new : Numbers) (h : Head)

@@ -3,7 +3,7 @@
 use Rattle.std.proofs.Common.{◌≡◌, ℕ, Bool, true, false, ◌&&◌, ◌||◌, ◌==◌, not, nat_lt, cond, List, [], ◌∷◌, Option, Some, None, refl, sym, subst, ◌∙◌, inl, inr, ℤ}
 use Rattle.std.specs.List.{list_all}
 use Rattle.std.proofs.lemmas.Bool.Decides.{Decides-int_eq}
-use Rattle.std.proofs.lemmas.Bool.{and_from, cases_Bool, not-true, true≢false, false≢true}
+use Rattle.std.proofs.lemmas.Bool.{and_from, cases_Bool, not-true, true≢false, false≢true, not-false}
 use Rattle.phase_modes.specs.Mode.{can_wait}
 use Rattle.phase_modes.specs.Refusal.{are_met, first_refusal, number_of}
 use Rattle.phase_modes.specs.declared.limits.Limits.{Limits}
@@ -70,10 +70,6 @@ same_as_itself : (x : Seen ℤ) → same_look x x ≡ true
 same_as_itself (Value v) = (Decides-int_eq v v).1 refl
 same_as_itself Nothing = refl
 
-unnot : (b : Bool) → not b ≡ false → b ≡ true
-unnot true k = refl
-unnot false k = absurd (true≢false k)
-
 goes_on : (m w x c : Bool) → m ≡ true → (w && not (m && (not w || x)) && not c) ≡ false → c ≡ false
     → (m && (not w || x)) ≡ true
 goes_on true false x c k n e = refl
@@ -90,7 +86,7 @@ permitted l terms h (calls.Register q t m) k w = k
 permitted l terms h (calls.Signal t x) k w =
     and_from (are_met (conditions l terms h (calls.Signal t x)))
     (is_within_bound terms.bound (signals t h) h) k
-    (unnot (is_within_bound terms.bound (signals t h) h) w)
+    (not-false (is_within_bound terms.bound (signals t h) h) w)
 permitted l terms h (calls.Pass t) k w =
     elim (cases_Bool (is_permitted l terms h (events.Claim t))) [
       | inl e ↦ subst (λ b. is_permitted l terms h (cond b (events.Claim t) (events.Pass t)) ≡ true) (sym e) e

@@ -2,7 +2,7 @@
 use Rattle.std.proofs.Common.{◌≡◌, ℕ, ◌+◌, suc, max, Bool, true, false, ◌&&◌, ◌==◌, not, cond, List, [], ◌∷◌, ◌++◌, length, map, flat_map, Option, Some, None, refl, sym, subst, ap, ◌∙◌, inl, inr, arith}
 use Rattle.std.specs.Prelude.{filter, is_some}
 use Rattle.std.specs.List.{list_any, count_by, sum_by}
-use Rattle.std.proofs.lemmas.Bool.{cases_Bool, eqb-true, false≢true}
+use Rattle.std.proofs.lemmas.Bool.{cases_Bool, eqb-true, false≢true, not-true}
 use Rattle.std.proofs.lemmas.List.Sums.{sum_by-cons}
 use Rattle.phase_modes.specs.Lists.{is_empty}
 use Rattle.phase_modes.specs.declared.limits.Limits.{Limits}
@@ -528,7 +528,7 @@ module _ {B : Type 0} (next : Answer → B → Does B) (root : B) (names : ℕ �
       → is_phaser n w ≡ true → phaser_lines v n ≡ phaser_lines w n
   phaser_kept v w one other n h =
       let some : is_empty (phaser_past n v) ≡ false =
-      unnot (is_empty (phaser_past n v)) (is_phaser_same v w one other n ∙ h) in
+      not-true (is_empty (phaser_past n v)) (is_phaser_same v w one other n ∙ h) in
       let ops : ops_of n v ≡ ops_of n w = ap (λ (x : Terms). x.ops) (shared v w one other n some).terms in
       let count = phases_same next root names l v w one other n in
       ap (λ os. line os (phaser_past n v) (phase_count (phaser_past n v))) ops
@@ -539,10 +539,6 @@ module _ {B : Type 0} (next : Answer → B → Does B) (root : B) (names : ℕ �
       (λ p. folds_same p 0 (ops_of n w) (phaser_past n v) (phaser_past n w)
       (λ a op. fold_same next root names l v w one other n p a op))))
     where
-      unnot : (b : Bool) → not b ≡ true → b ≡ false
-      unnot true k = absurd (false≢true k)
-      unnot false k = refl
-
       line : List Op → List Event → ℕ → PhaserReport
       line os h c = record { phaser = n; phases = c; folds = flat_map (λ p. folds_from p 0 os h) (below c) }
 

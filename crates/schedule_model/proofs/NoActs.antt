@@ -1,7 +1,7 @@
 -- What continues an act is never itself the begin of one.
 use Rattle.std.proofs.Common.{ℕ, ◌≡◌, Bool, true, false, ◌&&◌, ◌==◌, not, if◌then◌else◌, List, [], ◌∷◌, ◌++◌, map, Option, Some, None, refl, subst}
 use Rattle.std.specs.Prelude.{drop, filter, flat_map, slice_get, option_map, is_some}
-use Rattle.std.proofs.lemmas.Bool.{and_from, and_parts}
+use Rattle.std.proofs.lemmas.Bool.{and_from, and_parts, not-true}
 use Rattle.phase_modes.specs.declared.limits.Limits.{Limits}
 use Rattle.phase_modes.specs.declared.phased.Pair.{Pair}
 use Rattle.phase_model.specs.declared.history.Event.TheVariants.{Claim as Claimed, Did as Done}
@@ -121,15 +121,11 @@ none_is : (o : Option Made) → is_some o ≡ false → o ≡ None
 none_is None h = refl
 none_is (Some m) h = absurd cc
 
-is_false : (b : Bool) → not b ≡ true → b ≡ false
-is_false true h = absurd cc
-is_false false h = refl
-
 first_of : (l : Limits) (w ds : List WorldEvent) (e : WorldEvent) → continue_only ds ≡ true → option_map (or_single l w) (slice_get ds 0) ≡ Some e → is_some (act_of e) ≡ false
 first_of l w [] e h k = absurd cc
 first_of l w (d ∷ ds) e h k =
     let p = and_parts (not (is_some (act_of d))) (continue_only ds) h in
-    subst (λ o. is_some (act_of o) ≡ false) (got (or_single l w d) e k) (with_single l w d (is_false (is_some (act_of d)) p.0))
+    subst (λ o. is_some (act_of o) ≡ false) (got (or_single l w d) e k) (with_single l w d (not-true (is_some (act_of d)) p.0))
   where
     got : (x y : WorldEvent) → Some x ≡ Some y → x ≡ y
     got x y h = cc

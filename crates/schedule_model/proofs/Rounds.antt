@@ -1,7 +1,7 @@
 -- In a round some task moves, as long as the root hasn't ended.
 use Rattle.std.proofs.Common.{ℕ, zero, suc, ◌+◌, ◌<◌, ◌≤◌, ◌≡◌, ◌≢◌, ◌⊎◌, Bool, true, false, ◌&&◌, ◌==◌, not, List, [], ◌∷◌, length, refl, sym, subst, ap, ◌∙◌, inl, inr, if◌then◌else◌, arith}
 use Rattle.std.specs.List.{list_any}
-use Rattle.std.proofs.lemmas.Bool.{or_cases, or_left, cases_Bool, eqb-true, eqb-false, eq-eqb, true≢false, false≢true}
+use Rattle.std.proofs.lemmas.Bool.{or_cases, or_left, cases_Bool, eqb-true, eqb-false, eq-eqb, false≢true, not-false}
 use Rattle.phase_modes.specs.Limits.{limits_fit}
 use Rattle.phase_modes.specs.declared.limits.Limits.{Limits}
 use Rattle.job_script.specs.Program.{Program}
@@ -110,12 +110,8 @@ some_able : (l : Limits) (w : List WorldEvent) → is_legal_world l w ≡ true �
 some_able l w k going =
     let able = list_any (is_able l w) (tasks w) in
     let some : list_any (λ t. not (is_ended t w)) (tasks w) ≡ true = rw going refl in
-    let found = found_in (is_able l w) (tasks w) (by able (subst (λ b. (b && not able) ≡ false) some (nobody_is_stuck l w k))) in
+    let found = found_in (is_able l w) (tasks w) (not-false able (subst (λ b. (b && not able) ≡ false) some (nobody_is_stuck l w k))) in
     (found.0, tasks_born found.0 w found.1, found.2)
-  where
-    by : (b : Bool) → not b ≡ false → b ≡ true
-    by true h = refl
-    by false h = absurd (true≢false h)
 
 -- so each round makes an event
 pub rounds_move : (p : Program) (w : List WorldEvent) → limits_fit p.limits ≡ true → is_legal_world p.limits w ≡ true → Gapless w → is_ended 0 w ≡ false → length w < length (round_from p.limits.tasks 0 p w)

@@ -2,7 +2,7 @@
 use Rattle.std.proofs.Common.{ℕ, zero, suc, ◌+◌, ◌<◌, ◌≤◌, ◌≡◌, ◌≢◌, ◌⊎◌, Bool, true, false, ◌||◌, ◌==◌, not, nat_lt, cond, List, [], ◌∷◌, length, None, Ok, refl, sym, subst, ap, ◌∙◌, inl, inr, arith}
 use Rattle.std.specs.Prelude.{filter, slice_index_or}
 use Rattle.std.specs.List.{list_any, range_with_len}
-use Rattle.std.proofs.lemmas.Bool.{and_parts, or_cases, or_left, cases_Bool, eqb-true, eqb-false, or_right, ltb-true, leb-true, not-true, true≢false, false≢true, false_from_ne_true}
+use Rattle.std.proofs.lemmas.Bool.{and_parts, or_cases, or_left, cases_Bool, eqb-true, eqb-false, or_right, ltb-true, leb-true, not-true, true≢false, false≢true, false_from_ne_true, not-false}
 use Rattle.phase_modes.specs.Lists.{is_empty}
 use Rattle.phase_modes.specs.Limits.{limits_fit}
 use Rattle.phase_modes.specs.declared.limits.Limits.{Limits}
@@ -230,11 +230,7 @@ fails_before p a (suc n) d t le from h =
 
 -- all below it are
 pub used_below : (used : ℕ → Bool) (limit t : ℕ) → t < least_unused used limit → used t ≡ true
-used_below used limit t h = is_used (used t) (fails_before (λ n. not (used n)) 0 limit limit t (omega arith) (omega arith) h)
-  where
-    is_used : (b : Bool) → not b ≡ false → b ≡ true
-    is_used true k = refl
-    is_used false k = absurd (true≢false k)
+used_below used limit t h = not-false (used t) (fails_before (λ n. not (used n)) 0 limit limit t (omega arith) (omega arith) h)
 
 -- past the limit nothing is in use
 none_above : (b : Bool) (n : ℕ) → (b ≡ true → n < n) → b ≡ false

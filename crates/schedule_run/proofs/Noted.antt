@@ -4,6 +4,7 @@ use Rattle.std.specs.Prelude.{option_map}
 use Rattle.std.proofs.Math.ListN.{set}
 use Rattle.std.proofs.lemmas.List.{length-reverse, length-map}
 use Rattle.std.proofs.lemmas.Bool.{cases_Bool, eqb-true, eq-eqb, leb-true, true≢false, false≢true, false_from_ne_true, not-true, and_parts}
+use Rattle.std.proofs.lemmas.Option.{none-some}
 use Rattle.phase_modes.specs.Lists.{is_empty}
 use Rattle.phase_modes.specs.declared.limits.Limits.{Limits}
 use Rattle.phase_modes.specs.declared.refusal.Refusal.{Refusal}
@@ -193,9 +194,6 @@ waits_unmoved p w t k (at, h) = by (is_born t w && not (is_ended t w)) refl
 abbrev pub StandBy : Limits → List WorldEvent → (Place → Option ℕ) → (ℕ → Option Note) → Type 0
 StandBy l w last note = (t : ℕ) → NoteStands l w last t (note t)
 
-none_some : {A : Type 0} (x : A) → None ≡ Some x → ⊥
-none_some x h = absurd cc
-
 -- an event of a task without a note, which is now the last one of its place
 pub stand_more : (l : Limits) (w : List WorldEvent) (e : WorldEvent) (u : ℕ) (last new : Place → Option ℕ) (note : ℕ → Option Note)
     → StandBy l w last note → note u ≡ None → actor w e ≡ u
@@ -207,7 +205,7 @@ stand_more l w e u last new note stand none mine same late t = by (note t) refl 
     other : (n : Note) → note t ≡ Some n → (actor w e == t) ≡ false
     other n is =
         false_from_ne_true (actor w e == t)
-        (λ k. none_some n (sym (subst (λ (v : ℕ). note v ≡ None) (sym mine ∙ eqb-true (actor w e) t k) none) ∙ is))
+        (λ k. none-some n (sym (subst (λ (v : ℕ). note v ≡ None) (sym mine ∙ eqb-true (actor w e) t k) none) ∙ is))
 
     by : (o : Option Note) → note t ≡ o → NoteStands l w last t o → NoteStands l (e ∷ w) new t o
     by None is h = tt

@@ -1,7 +1,7 @@
 -- Each live signaller of a legal history stands within the bound of each live waiter.
 use Rattle.std.proofs.Common.{◌≡◌, ℕ, ◌+◌, ◌-◌, ◌<◌, ◌==◌, nat_lt, max, Bool, true, false, ◌||◌, not, cond, List, [], ◌∷◌, Some, refl, sym, ◌∙◌, subst, arith, inl, inr}
 use Rattle.std.specs.List.{list_all}
-use Rattle.std.proofs.lemmas.Bool.{cases_Bool, cases_lt, eqb-true, ltb-true, and_parts, and_from, or_cases, false≢true, false_from_ne_true}
+use Rattle.std.proofs.lemmas.Bool.{cases_Bool, cases_lt, eqb-true, ltb-true, and_parts, and_from, or_cases, false≢true, false_from_ne_true, both_ways}
 use Rattle.phase_modes.specs.declared.reg.Mode.{Mode}
 use Rattle.phase_modes.specs.declared.limits.Limits.{Limits}
 use Rattle.phase_modes.specs.Lists.{is_empty}
@@ -113,10 +113,6 @@ is_near_all l terms b is (Look v a n ∷ h) k t u live signaller alive waiter =
 pub legal_is_spanned : LegalIsSpanned
 legal_is_spanned l terms h k = (is_behind l terms h k, λ b is. is_near_all l terms b is h k)
 
--- where a mode fails the test, it does not pass it
-fails : (a : Bool) → a ≡ false → a ≡ true → ⊥
-fails a f t = false≢true (sym f ∙ t)
-
 waits_stays : (l : Limits) (terms : Terms) (e : Event) (h : List Event) → is_legal l terms (e ∷ h) ≡ true
     → is_empty h ≡ false → NobodyWaits h → NobodyWaits (e ∷ h)
 waits_stays l terms (Make v m) h k some nobody t live =
@@ -126,8 +122,8 @@ waits_stays l terms (Reg q v m) h k some nobody t live =
     let g = reg_follows l terms h q v m (last_follows l terms h (Reg q v m) k).permitted in
     false_from_ne_true (has_mode can_wait t (Reg q v m ∷ h)) (λ waiter.
     elim (cases_Bool (v == t)) [
-      | inl mine ↦ absurd (fails (has_mode can_wait q h) (nobody q g.parent_live) (parent_waits q m h g.within (rw mine at waiter)))
-      | inr other ↦ absurd (fails (has_mode can_wait t h) (nobody t (rw other at live)) (rw other at waiter))
+      | inl mine ↦ absurd (both_ways (has_mode can_wait q h) (nobody q g.parent_live) (parent_waits q m h g.within (rw mine at waiter)))
+      | inr other ↦ absurd (both_ways (has_mode can_wait t h) (nobody t (rw other at live)) (rw other at waiter))
     ])
 waits_stays l terms (Drop v) h k some nobody t live = nobody t (live_before_drop v t h live)
 waits_stays l terms e h k some nobody t live = nobody t live
@@ -141,8 +137,8 @@ signals_stays l terms (Reg q v m) h k some nobody t live =
     let g = reg_follows l terms h q v m (last_follows l terms h (Reg q v m) k).permitted in
     false_from_ne_true (has_mode can_signal t (Reg q v m ∷ h)) (λ able.
     elim (cases_Bool (v == t)) [
-      | inl mine ↦ absurd (fails (has_mode can_signal q h) (nobody q g.parent_live) (parent_signals q m h g.within (rw mine at able)))
-      | inr other ↦ absurd (fails (has_mode can_signal t h) (nobody t (rw other at live)) (rw other at able))
+      | inl mine ↦ absurd (both_ways (has_mode can_signal q h) (nobody q g.parent_live) (parent_signals q m h g.within (rw mine at able)))
+      | inr other ↦ absurd (both_ways (has_mode can_signal t h) (nobody t (rw other at live)) (rw other at able))
     ])
 signals_stays l terms (Drop v) h k some nobody t live = nobody t (live_before_drop v t h live)
 signals_stays l terms e h k some nobody t live = nobody t live

@@ -1,6 +1,6 @@
 -- The deques are emptied from the last to the first, and each counts by itself.
 use Rattle.std.proofs.Common.{◌≡◌, ◌≢◌, ℕ, zero, suc, ◌+◌, ◌<◌, List, [], ◌∷◌, ◌++◌, length, map, get_or, All, sym, refl, ap, ◌∙◌, subst, arith, length-append, append_assoc}
-use Rattle.std.proofs.lemmas.List.{map-append, length-map}
+use Rattle.std.proofs.lemmas.List.{map-append, length-map, get_or-map}
 use Rattle.std.proofs.lemmas.List.Elements.{All-head, All-tail}
 use Rattle.std.specs.List.{flat_map}
 use Rattle.std.specs.declared.alloc.Global.{Global}
@@ -15,7 +15,6 @@ use Rattle.task_queue.specs.Account.{Account}
 use Rattle.task_queue.specs.Accounts.{IsConserved}
 use Rattle.task_queue.specs.inner.Emptied.{own_put, own_taken, AreRows, IsEmptied, IsRestOf, AreApart, IsOrdered}
 use Rattle.task_queue.proofs.Fairs.{weigh-append}
-use Rattle.task_queue.proofs.Taking.{map_at}
 
 -- one more list at the end
 pub each-append : {X : Type 0} (k : ℕ) (h : ℕ → X → ℕ) (ls : List (List X)) (xs : List X) → each_from k h (ls ++ xs ∷ []) ≡ each_from k h ls + weigh (h (k + length ls)) xs
@@ -155,5 +154,5 @@ module _ {T P : Type 0} where
             let at = same.4 n d lt in
             let in' : k < length ordered = omega (arith, at.0, same.0) in
             let took : Account T → ℕ = λ t. weigh h (get_or t.stolen k []) in
-            omega (arith, is.3 (only k h), ap (λ l. each_from 0 (only k h) l) are.1, ap (λ l. each_from 0 (only k h) l) are.2, are.3 (only k h), each_only 0 k k h (map (λ (t : Account T). t.put) ordered) (omega arith), each_only 0 k k h (map (λ (t : Account T). t.popped) ordered) (omega arith), each_only 0 k k h is.0 (omega arith), weigh_same (λ (t : Account T). each_from 0 (only k h) t.stolen) took ordered (λ t. each_only 0 k k h t.stolen (omega arith)), same.3 took, ap (λ l. weigh h l) (map_at (λ (t : Account T). t.put) ordered k s [] in' ∙ ap (λ (t : Account T). t.put) at.1), ap (λ l. weigh h l) (map_at (λ (t : Account T). t.popped) ordered k s [] in' ∙ ap (λ (t : Account T). t.popped) at.1)),
+            omega (arith, is.3 (only k h), ap (λ l. each_from 0 (only k h) l) are.1, ap (λ l. each_from 0 (only k h) l) are.2, are.3 (only k h), each_only 0 k k h (map (λ (t : Account T). t.put) ordered) (omega arith), each_only 0 k k h (map (λ (t : Account T). t.popped) ordered) (omega arith), each_only 0 k k h is.0 (omega arith), weigh_same (λ (t : Account T). each_from 0 (only k h) t.stolen) took ordered (λ t. each_only 0 k k h t.stolen (omega arith)), same.3 took, ap (λ l. weigh h l) (get_or-map (λ (t : Account T). t.put) ordered k s [] in' ∙ ap (λ (t : Account T). t.put) at.1), ap (λ l. weigh h l) (get_or-map (λ (t : Account T). t.popped) ordered k s [] in' ∙ ap (λ (t : Account T). t.popped) at.1)),
       )

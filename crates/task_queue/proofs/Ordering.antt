@@ -3,7 +3,7 @@ use Rattle.std.proofs.Common.{◌≡◌, ◌≢◌, ℕ, zero, suc, ◌+◌, ◌
 use Rattle.std.specs.List.{Contains, HoldsAt}
 use Rattle.std.specs.declared.alloc.Global.{Global}
 use Rattle.std.proofs.lemmas.Bool.{cases_lt}
-use Rattle.std.proofs.lemmas.List.{map-append, length-map, length-set, get_or_at, get_or_push, get_or_append_left, get_or_default, same_lists, take-append-drop, drop_more, reverse-append, length-reverse, get_or-reverse}
+use Rattle.std.proofs.lemmas.List.{map-append, length-map, length-set, get_or_at, get_or_push, get_or_append_left, get_or_default, same_lists, take-append-drop, drop_more, reverse-append, length-reverse, get_or-reverse, get_or-map}
 use Rattle.std.proofs.lemmas.List.Elements.{All-cons, All-head, All-tail, All-set, All-contains, All-contains_itself, All-nil, Contains-append_left, Contains-append_right, Contains-append_cases}
 use Rattle.atomic_blocks.specs.Lent.{RowsId}
 use Rattle.task_queue.specs.Account.{Account}
@@ -11,7 +11,6 @@ use Rattle.task_queue.specs.Accounts.{IsSeatOf, IsSeatAt, HaveAll, AreTogether}
 use Rattle.task_queue.specs.inner.Emptied.{AreInOrder, IsOrdered, IsOut}
 use Rattle.task_queue.specs.Fair.{weigh}
 use Rattle.task_queue.proofs.Fairs.{all_more, map_kept, weigh-append}
-use Rattle.task_queue.proofs.Taking.{map_at}
 
 -- where the next stands in the whole list
 pub place_in : {X Y Z : Type 0} (f : X → Z) (g : Y → Z) (all xs xs' : List X) (x : X) (ys : List Y) (n : ℕ) (d : Z) → map f all ≡ map f xs ++ map g ys → xs ≡ xs' ++ x ∷ [] → n ≡ length xs' → f x ≡ get_or (map f all) n d
@@ -52,7 +51,7 @@ module _ {T : Type 0} where
   absent [] n have none = omega (arith, have.1)
   absent (x ∷ xs) n have none =
       let in' : have.0 < length (x ∷ xs) = omega (arith, have.1, length-map (x ∷ xs) (λ (t : Account T). t.worker)) in
-      none have.0 in' x (sym (map_at (λ (t : Account T). t.worker) (x ∷ xs) have.0 x n in') ∙ have.2)
+      none have.0 in' x (sym (get_or-map (λ (t : Account T). t.worker) (x ∷ xs) have.0 x n in') ∙ have.2)
 
   -- what is taken out by its place
   pub out_at : (seats rest : List (Account T)) (i : ℕ) (s : Account T) → i < length seats → s ≡ get_or seats i s → rest ≡ take i seats ++ drop (i + 1) seats → IsOut seats s rest
@@ -74,7 +73,7 @@ module _ {T : Type 0} where
   have_all n (s ∷ seats) none nums k lt = (
     k,
     omega (arith, length-map (s ∷ seats) (λ (t : Account T). t.worker)),
-    omega (arith, map_at (λ (t : Account T). t.worker) (s ∷ seats) k s k lt, nums k s lt),
+    omega (arith, get_or-map (λ (t : Account T). t.worker) (s ∷ seats) k s k lt, nums k s lt),
   )
 
   -- the seats from all that were put in order so far, and the ones that are left
@@ -153,7 +152,7 @@ module _ {T : Type 0} where
   own_at deques (x ∷ xs) all nums many k d lt =
       let in' : k < length (x ∷ xs) = omega (arith, many, lt) in
       let s = get_or (x ∷ xs) k x in
-      get_or_default deques k d s.own lt ∙ (ap (λ n. get_or deques n s.own) (sym (nums k x in')) ∙ (sym (all k x in').1 ∙ sym (map_at (λ (t : Account T). t.own) (x ∷ xs) k x d in')))
+      get_or_default deques k d s.own lt ∙ (ap (λ n. get_or deques n s.own) (sym (nums k x in')) ∙ (sym (all k x in').1 ∙ sym (get_or-map (λ (t : Account T). t.own) (x ∷ xs) k x d in')))
 
   -- seats of one queue that are in order have their own deques in order
   pub together_in_order : (seats ordered : List (Account T)) → AreTogether seats → IsOrdered seats ordered → AreInOrder ordered

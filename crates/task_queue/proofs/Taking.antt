@@ -1,14 +1,9 @@
 -- What a seat takes, step by step.
-use Rattle.std.proofs.Common.{◌≡◌, ℕ, zero, suc, ◌<◌, List, [], ◌∷◌, ◌++◌, inl, inr, ⊎_elim, Option, None, Some, MatchOption, Result, Ok, Err, MatchResult, length, map, set, get_or, refl, sym, ap, ◌∙◌, subst, arith}
-use Rattle.std.proofs.lemmas.List.{map-set, length-map}
+use Rattle.std.proofs.Common.{◌≡◌, ℕ, zero, suc, ◌<◌, List, [], ◌∷◌, ◌++◌, inl, inr, ⊎_elim, Option, None, Some, MatchOption, Result, Ok, Err, MatchResult, length, map, set, get_or, sym, ap, ◌∙◌, subst}
+use Rattle.std.proofs.lemmas.List.{map-set, length-map, get_or-map}
 use Rattle.task_queue.specs.Account.{Account}
 use Rattle.task_queue.specs.Accounts.{IsSeatOf, IsSame, HasPut, IsOneMore, HasTaken}
 use Rattle.task_queue.proofs.Fairs.{map_kept}
-
-pub map_at : {X Y : Type 0} (f : X → Y) (xs : List X) (i : ℕ) (d : X) (e : Y) → i < length xs → get_or (map f xs) i e ≡ f (get_or xs i d)
-map_at f [] i d e lt = absurd (omega arith)
-map_at f (x ∷ xs) zero d e lt = refl
-map_at f (x ∷ xs) (suc i) d e lt = map_at f xs i d e (omega arith)
 
 -- what one write makes of all lists
 pub one_written : {X T : Type 0} (f : X → List T) (xs : List X) (i : ℕ) (d y : X) → i < length xs → (o : Option T) → MatchOption o (f y ≡ f (get_or xs i d)) (λ x. f y ≡ f (get_or xs i d) ++ x ∷ [])
@@ -17,7 +12,7 @@ one_written f xs i d y lt None same = map_kept f xs i d y same
 one_written f xs i d y lt (Some x) more = (
   i,
   subst (λ n. i < n) (sym (length-map xs f)) lt,
-  map-set f xs i y ∙ ap (λ l. set (map f xs) i l) (more ∙ ap (λ l. l ++ x ∷ []) (sym (map_at f xs i d [] lt))),
+  map-set f xs i y ∙ ap (λ l. set (map f xs) i l) (more ∙ ap (λ l. l ++ x ∷ []) (sym (get_or-map f xs i d [] lt))),
 )
 
 module _ {T : Type 0} where

@@ -7,9 +7,9 @@ use Rattle.std.specs.List.{find, list_all}
 use Rattle.phase_modes.specs.declared.limits.Limits.{Limits}
 use Rattle.phase_modes.specs.declared.refusal.Refusal.{Refusal}
 use Rattle.phase_modes.specs.Refusal.{number_of}
+use Rattle.phase_modes.specs.RefusalNumbers.{refusals, refusal_with}
 use Rattle.world_model.specs.GivingUp.{may_fail, may_refuse, done_where}
 use Rattle.world_model.specs.Replies.{reply, is_made}
-use Rattle.world_model.specs.ReportLines.{refusals, refusal_with}
 use Rattle.trace_model.specs.declared.event.TracedEvent.{TracedEvent}
 use Rattle.trace_model.specs.declared.event.TracedEvent.TheVariants.{Phaser, Finish, Begin, Refuse, Fail}
 use Rattle.trace_model.specs.Run.{Entry, Run}

@@ -2,6 +2,7 @@
 use Rattle.std.proofs.Common.{◌≡◌, ℕ, ◌<◌, Bool, true, false, ◌&&◌, List, [], ◌∷◌, Option, Result, Ok, Err, length, refl, ap, sym, ◌∙◌, subst}
 use Rattle.std.specs.Prelude.{OnErr}
 use Rattle.std.specs.Result.{is_ok}
+use Rattle.std.proofs.lemmas.Bool.{and_left}
 use Rattle.phase_modes.specs.declared.refusal.Refusal.{Refusal}
 use Rattle.phase_model.specs.Rules.{Story}
 use Rattle.phase_model.specs.Tasks.{is_live}
@@ -88,11 +89,6 @@ pub none_near : (bounded gone far : Bool) → gone ≡ false → (bounded && gon
 none_near true true far k = absurd cc
 none_near true false far k = refl
 none_near false gone far k = refl
-
--- and nobody goes on by a call that isn't made
-pub none_made : (made leaves : Bool) → made ≡ false → (made && leaves) ≡ false
-none_made true leaves k = absurd cc
-none_made false leaves k = refl
 
 -- all wait on after a call that isn't made, or frees nobody
 pub waiting_either : (s s' : Story) (ps : List (Parked Then)) (made leaves : Bool) → IsSettled s ps

@@ -4,7 +4,7 @@ use Rattle.phase_modes.specs.Lists.{is_empty}
 use Rattle.std.proofs.Common.{◌≡◌, ◌⊎◌, ℕ, Bool, true, false, ◌&&◌, ◌||◌, ◌==◌, not, cond, List, [], ◌∷◌, ◌++◌, map, Some, refl, sym, subst, ◌∙◌, inl, inr}
 use Rattle.std.specs.Prelude.{drop, flat_map}
 use Rattle.std.specs.List.{list_any}
-use Rattle.std.proofs.lemmas.Bool.{and_parts, and_from, or_cases, or_from, or_parts, or_right, or_left, cases_Bool, eqb-true, true≢false}
+use Rattle.std.proofs.lemmas.Bool.{and_parts, and_from, or_cases, or_from, or_parts, or_right, or_left, cases_Bool, eqb-true, true≢false, not-true}
 use Rattle.phase_modes.specs.declared.limits.Limits.{Limits}
 use Rattle.finish_core.specs.declared.event.FinishEvent.TheVariants.{Opened, Spawned, Ended, Shut as Shutting}
 use Rattle.world_model.specs.declared.event.Step.TheVariants.{Make, Reg, Send, Look}
@@ -231,10 +231,6 @@ module _ (l : Limits) (q c : ℕ) (e : WorldEvent) (w : List WorldEvent) (k : is
       (and_parts ((is_reg_of q c first.due && not (is_empty first.rest))
       || (is_spawn_of c first.due && is_empty first.rest)) (is_spawn_list q c first.rest) shape).0)
     where
-      unnot : (b : Bool) → not b ≡ true → b ≡ false
-      unnot true h = absurd cc
-      unnot false h = refl
-
       not_spawned : (d : WorldEvent) → or_single l w d ≡ e → is_spawn_of c d ≡ true → ⊥
       not_spawned (Finish f (Spawned u)) o h =
           true≢false (sym (or_right (c == 0) (spawns c e || list_any (spawns c) w) (or_left (spawns c e)
@@ -246,7 +242,7 @@ module _ (l : Limits) (q c : ℕ) (e : WorldEvent) (w : List WorldEvent) (k : is
           → is_empty rest ≡ false
       more d rest o h =
           elim (or_cases (is_reg_of q c d && not (is_empty rest)) (is_spawn_of c d && is_empty rest) h) [
-            | inl x ↦ unnot (is_empty rest) (and_parts (is_reg_of q c d) (not (is_empty rest)) x).1
+            | inl x ↦ not-true (is_empty rest) (and_parts (is_reg_of q c d) (not (is_empty rest)) x).1
             | inr x ↦ absurd (not_spawned d o (and_parts (is_spawn_of c d) (is_empty rest) x).0)
           ]
 

@@ -2,7 +2,7 @@
 use Rattle.std.proofs.Common.{◌≡◌, ℕ, Bool, true, false, ◌==◌, not, cond, List, [], ◌∷◌, ◌++◌, map, Option, Some, None, refl, ◌∙◌}
 use Rattle.std.specs.Prelude.{drop, slice_get, option_map, flat_map}
 use Rattle.std.specs.List.{list_any}
-use Rattle.std.proofs.lemmas.Bool.{or_from, or_parts}
+use Rattle.std.proofs.lemmas.Bool.{or_from, or_parts, not-true}
 use Rattle.phase_modes.specs.declared.limits.Limits.{Limits}
 use Rattle.finish_core.specs.declared.event.FinishEvent.TheVariants.{Spawned, Ended, Shut as Shutting}
 use Rattle.world_model.specs.declared.event.Step.TheVariants.{Reg, Sig, Pass, Drop}
@@ -116,11 +116,7 @@ none_fixed_by c t End w k = none_ending c t w
 
 none_fixed : (c t : ℕ) (e : WorldEvent) (w : List WorldEvent) → is_entry t e ≡ true
     → not (begins_spawn c (Some e)) ≡ true → IsChildless c (fixed e w)
-none_fixed c t (Begin u b) w n k = none_fixed_by c u b w (unnot (begins_spawn c (Some (Begin u b))) k)
-  where
-    unnot : (b : Bool) → not b ≡ true → b ≡ false
-    unnot true h = absurd cc
-    unnot false h = refl
+none_fixed c t (Begin u b) w n k = none_fixed_by c u b w (not-true (begins_spawn c (Some (Begin u b))) k)
 none_fixed c t (Refuse u a n) w e k = none_ending c u w
 none_fixed c t (Fail u n) w e k =
     none_append c (flat_map (λ x. drops_due x w) (unborn u w)) (ending u w)

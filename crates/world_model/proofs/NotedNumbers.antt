@@ -6,10 +6,10 @@ use Rattle.phase_modes.specs.declared.limits.Limits.{Limits}
 use Rattle.phase_modes.specs.declared.refusal.Refusal.{Refusal}
 use Rattle.phase_modes.specs.declared.refusal.Refusal.TheVariants.{NotRegistered, NoSignal, NoWait, NoSingle, AlreadySignalled, NotSignalled, SingleMismatch, OnePhaserOnly, NoAccumulator, NoPhaseYet, MoreThanParent, OutsideScope, RegisteredTwice, RegsFull, HistoryFull, PhasersFull, TasksFull, FinishesFull, ActsFull, FinishOpen, NoFinish, NotNow, Memory, BadText, NotExplained, SharesDiffer}
 use Rattle.phase_modes.specs.Refusal.{number_of}
+use Rattle.phase_modes.specs.RefusalNumbers.{refusal_with}
 use Rattle.world_model.specs.declared.event.WorldEvent.{WorldEvent}
 use Rattle.world_model.specs.Acts.{act_reply}
 use Rattle.world_model.specs.GivingUp.{is_refused_by, may_fail, may_refuse}
-use Rattle.world_model.specs.ReportLines.{refusal_with}
 
 has_number : (r : Refusal) → is_some (refusal_with (number_of r)) ≡ true
 has_number NotRegistered = refl

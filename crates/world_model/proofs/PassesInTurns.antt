@@ -4,7 +4,7 @@ use Rattle.std.proofs.Common.{◌≡◌, ℕ, Bool, true, false, ◌&&◌, ◌||
 use Rattle.std.specs.Prelude.{drop, filter, flat_map, slice_get, option_map}
 use Rattle.std.specs.List.{list_any}
 use Rattle.std.specs.Option.{option_map_or}
-use Rattle.std.proofs.lemmas.Bool.{or_cases, or_from, or_parts, cases_Bool, eqb-true, true≢false}
+use Rattle.std.proofs.lemmas.Bool.{or_cases, or_from, or_parts, cases_Bool, eqb-true, true≢false, not-true}
 use Rattle.phase_modes.specs.declared.limits.Limits.{Limits}
 use Rattle.phase_model.specs.declared.history.Event.{Event}
 use Rattle.phase_model.specs.declared.history.Event.TheVariants.{Make as Made, Reg as Registered, Claim as Claimed, Did as Done}
@@ -85,12 +85,8 @@ none_fixed_by t Shut w k =
 none_fixed_by t End w k = none_ending t w
 none_fixed_by t b w k = absurd cc
 
-unnot : (b : Bool) → not b ≡ true → b ≡ false
-unnot true h = absurd cc
-unnot false h = refl
-
 none_fixed : (t : ℕ) (e : WorldEvent) (w : List WorldEvent) → is_entry t e ≡ true → not (begins_turn (Some e)) ≡ true → HasNoPass (fixed e w)
-none_fixed t (Begin u b) w n k = none_fixed_by u b w (unnot (is_turn b) k)
+none_fixed t (Begin u b) w n k = none_fixed_by u b w (not-true (is_turn b) k)
 none_fixed t (Refuse u a x) w n k = none_ending u w
 none_fixed t (Fail u x) w n k = none_append (flat_map (λ y. drops_due y w) (unborn u w)) (ending u w) (none_flat (λ y. drops_due y w) (unborn u w) (λ y. none_drops y w)) (none_ending u w)
 none_fixed t (Phaser m s) w n k = refl

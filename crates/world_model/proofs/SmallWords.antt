@@ -1,15 +1,11 @@
 -- Small words on tests and lists that many proofs need.
 use Rattle.std.proofs.Common.{◌≡◌, ℕ, Bool, true, false, ◌==◌, not, List, [], ◌∷◌, refl}
-use Rattle.std.proofs.lemmas.Bool.{eq-eqb, true≢false}
+use Rattle.std.proofs.lemmas.Bool.{eq-eqb, true≢false, not-false}
 use Rattle.phase_modes.specs.Lists.{is_empty}
 use Rattle.world_model.specs.declared.event.WorldEvent.{WorldEvent}
 
 pub eq_self : (n : ℕ) → (n == n) ≡ true
 eq_self n = eq-eqb n n refl
-
-pub unnot : (b : Bool) → not b ≡ false → b ≡ true
-unnot true k = refl
-unnot false k = absurd (true≢false k)
 
 pub empty_is : (ds : List WorldEvent) → is_empty ds ≡ true → ds ≡ []
 empty_is [] k = refl

@@ -1,7 +1,7 @@
 -- Each moment of a task that signals or turns, from the entry that begins it.
 use Rattle.std.proofs.Common.{◌≡◌, ℕ, ◌+◌, Bool, true, false, ◌&&◌, ◌||◌, ◌==◌, not, cond, List, [], ◌∷◌, ◌++◌, Option, Some, None, refl, sym, subst, ap, ◌∙◌, inl, inr, arith}
 use Rattle.std.specs.List.{list_any, list_all}
-use Rattle.std.proofs.lemmas.Bool.{and_parts, and_right, or_cases, or_left, or_right, cases_Bool, eqb-true, eq-eqb, ne_eqb, not-true, true≢false, false≢true}
+use Rattle.std.proofs.lemmas.Bool.{and_parts, and_right, or_cases, or_left, or_right, cases_Bool, eqb-true, eq-eqb, ne_eqb, not-true, true≢false, false≢true, not-false}
 use Rattle.std.proofs.lemmas.List.Folds.{list_any-append}
 use Rattle.phase_modes.specs.declared.limits.Limits.{Limits}
 use Rattle.phase_modes.specs.declared.refusal.Refusal.TheVariants.{NotSignalled}
@@ -31,7 +31,6 @@ use Rattle.world_model.proofs.DueStays.{due_stays}
 use Rattle.world_model.proofs.EndingStays.{entry_is_born}
 use Rattle.world_model.proofs.SignalsComeFirst.{moves_act, is_any_sig, is_move, sigs_first, Moves, moves, passes_of, sigs_of, single_asked}
 use Rattle.world_model.proofs.TurnsStand.{is_sig_on, is_single_on, Turning, nothing_turns, first_is_last, fewer, both_turn, wait_turn, plain_not, singles_there, singles_not, behinds, none_at}
-use Rattle.world_model.proofs.SmallWords.{unnot}
 
 nil_after : (xs : List WorldEvent) → xs ++ [] ≡ xs
 nil_after [] = refl
@@ -81,7 +80,7 @@ module _ (l : Limits) (u : ℕ) (w : List WorldEvent) (k : is_legal_world l w �
       (and_parts (is_behind u (phaser_past n w)) (has n ns)
       (sym (has-filter (λ m. is_behind u (phaser_past m w)) n ns)
       ∙ (sym (singles_there u n x (behinds l u w k)) ∙ left))).1 in
-      unnot (has_mode can_single u (phaser_past n w))
+      not-false (has_mode can_single u (phaser_past n w))
       (none_at (λ m. not (has_mode can_single u (phaser_past m w))) ns n asked.single listed)) in
       record { sigs = q.sigs; once = q.once; passes = q.passes; singles = q.singles }
 

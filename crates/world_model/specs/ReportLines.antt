@@ -1,27 +1,14 @@
 -- The lines that a report is printed as, each with a newline.
-use Rattle.std.specs.Prelude.{ℕ, List, [], ◌∷◌, ◌++◌, ◌==◌, flat_map, Option, Some, None, codes, decimal}
-use Rattle.std.specs.List.{find}
+use Rattle.std.specs.Prelude.{ℕ, List, [], ◌∷◌, ◌++◌, flat_map, Option, Some, None, codes, decimal}
 use Rattle.phase_modes.specs.declared.refusal.Refusal.{Refusal}
-use Rattle.phase_modes.specs.declared.refusal.Refusal.TheVariants.{NotRegistered, NoSignal, NoWait, NoSingle, AlreadySignalled, NotSignalled, SingleMismatch, OnePhaserOnly, NoAccumulator, NoPhaseYet, MoreThanParent, OutsideScope, RegisteredTwice, RegsFull, HistoryFull, PhasersFull, TasksFull, FinishesFull, ActsFull, FinishOpen, NoFinish, NotNow, Memory, BadText, NotExplained, SharesDiffer}
-use Rattle.phase_modes.specs.Refusal.{number_of, name_of}
+use Rattle.phase_modes.specs.Refusal.{name_of}
+use Rattle.phase_modes.specs.RefusalNumbers.{refusal_with}
 use Rattle.phase_model.specs.ReplyLines.{look_text}
 use Rattle.world_model.specs.declared.report.FinishLine.{FinishLine}
 use Rattle.world_model.specs.declared.report.FoldLine.{FoldLine}
 use Rattle.world_model.specs.declared.report.TaskLine.{TaskLine}
 use Rattle.world_model.specs.declared.report.TotalsLine.{TotalsLine}
 use Rattle.world_model.specs.Report.{PhaserReport, Report}
-
--- the refusals; no line of a report names the place of one
-abbrev pub refusals : List Refusal
-refusals =
-    NotRegistered ∷ NoSignal ∷ NoWait ∷ NoSingle ∷ AlreadySignalled ∷ NotSignalled ∷
-    SingleMismatch ∷ OnePhaserOnly ∷ NoAccumulator ∷ NoPhaseYet ∷ MoreThanParent ∷ OutsideScope ∷
-    RegisteredTwice ∷ RegsFull ∷ HistoryFull ∷ PhasersFull ∷ TasksFull ∷ FinishesFull ∷ ActsFull ∷
-    FinishOpen ∷ NoFinish ∷ NotNow ∷ Memory ∷ BadText 0 ∷ NotExplained 0 ∷ SharesDiffer ∷ []
-
--- the refusal of this number, if one has it
-abbrev pub refusal_with : ℕ → Option Refusal
-refusal_with n = find (λ r. number_of r == n) refusals
 
 -- what an accumulator came to in a phase
 abbrev pub fold_text : FoldLine → List ℕ

@@ -1,7 +1,7 @@
 //! The lines that a report is printed as.
 ghost use Rattle.std.specs.Prelude.{◌≡◌, flat_map};
 ghost use Rattle.std.specs.Fmt.{WritesOnOk};
-ghost use Rattle.world_model.specs.ReportLines.{refusal_with, fold_row, phaser_text, task_row, finish_row};
+ghost use Rattle.world_model.specs.ReportLines.{fold_row, phaser_text, task_row, finish_row};
 
 use crate::report::{FinishLine, FoldLine, PhaserLines, TaskLine, TotalsLine, WorldReport};
 use phase_model::Look;
@@ -48,7 +48,7 @@ impl fmt::Display for TaskLine {
             return write!(f, "task {} ended", self.task);
         };
         write!(f, "task {} refused {number}", self.task)?;
-        match refusal_with(number) {
+        match Refusal::of_number(number) {
             Some(refusal) => write!(f, " {}", refusal.name()),
             None => Ok(()),
         }
@@ -101,41 +101,6 @@ impl fmt::Display for WorldReport {
         write_tasks(f, &self.tasks)?;
         write_finishes(f, &self.finishes)?;
         write!(f, "{}\n", self.totals)
-    }
-}
-
-/// The refusal of this number; where it names a place, with place 0. None where no refusal has it.
-pub(crate) fn refusal_with(number: u8) -> Option<Refusal>
-    ensures { result ≡ refusal_with number }
-{
-    match number {
-        1 => Some(Refusal::NotRegistered),
-        2 => Some(Refusal::NoSignal),
-        3 => Some(Refusal::NoWait),
-        4 => Some(Refusal::NoSingle),
-        5 => Some(Refusal::AlreadySignalled),
-        6 => Some(Refusal::NotSignalled),
-        7 => Some(Refusal::SingleMismatch),
-        8 => Some(Refusal::OnePhaserOnly),
-        9 => Some(Refusal::NoAccumulator),
-        10 => Some(Refusal::NoPhaseYet),
-        11 => Some(Refusal::MoreThanParent),
-        12 => Some(Refusal::OutsideScope),
-        13 => Some(Refusal::RegisteredTwice),
-        14 => Some(Refusal::RegsFull),
-        15 => Some(Refusal::HistoryFull),
-        16 => Some(Refusal::PhasersFull),
-        17 => Some(Refusal::TasksFull),
-        18 => Some(Refusal::FinishesFull),
-        19 => Some(Refusal::ActsFull),
-        20 => Some(Refusal::FinishOpen),
-        21 => Some(Refusal::NoFinish),
-        22 => Some(Refusal::NotNow),
-        23 => Some(Refusal::Memory),
-        24 => Some(Refusal::BadText(0)),
-        25 => Some(Refusal::NotExplained(0)),
-        26 => Some(Refusal::SharesDiffer),
-        _ => None,
     }
 }
 

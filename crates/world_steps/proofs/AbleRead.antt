@@ -3,7 +3,7 @@ use Rattle.std.proofs.Common.{◌≡◌, ℕ, Bool, true, false, ◌&&◌, ◌||
 use Rattle.std.specs.Prelude.{option_to_list, slice_get}
 use Rattle.std.specs.List.{list_any}
 use Rattle.std.specs.Option.{option_map}
-use Rattle.std.proofs.lemmas.Bool.{cases_Bool, true≢false}
+use Rattle.std.proofs.lemmas.Bool.{cases_Bool, true≢false, and_right}
 use Rattle.phase_modes.specs.Lists.{is_empty}
 use Rattle.phase_modes.specs.declared.limits.Limits.{Limits}
 use Rattle.phase_modes.specs.declared.refusal.Refusal.{Refusal}
@@ -52,12 +52,8 @@ waits_in l w (Some (Phaser n (Sig t x))) = signal_would_wait (story_of l n w) t 
 waits_in l w (Some (Finish f Shutting)) = not (all_ended (finish_past f w))
 waits_in l w _ = false
 
-never : (a b : Bool) → b ≡ false → (a && b) ≡ false
-never true b e = e
-never false b e = refl
-
 none_of : (g a b c d e : Bool) → a ≡ false → b ≡ false → c ≡ false → d ≡ false → e ≡ false → (g && (a || (b || (c || (d || e))))) ≡ false
-none_of g a b c d e p q r u v = never g (a || (b || (c || (d || e)))) (rw (p, q, r, u, v) refl)
+none_of g a b c d e p q r u v = and_right g (a || (b || (c || (d || e)))) (rw (p, q, r, u, v) refl)
 
 not_made : (b : Bool) (r : Result Reply Refusal) → r ≡ Ok NotYet → is_made (cond b r (Err NotNow)) ≡ false
 not_made true r e = rw e refl
@@ -77,21 +73,21 @@ module _ (l : Limits) (w : List WorldEvent) (t : ℕ) where
       → is_able l w t ≡ false
   not_able e next d no_reg same full =
       let gives_up : (x : ℕ) → may_fail l w t x ≡ false → (t == t && is_accepted l w (Fail t x)) ≡ false =
-      λ x f. never (t == t) (is_accepted l w (Fail t x)) (rw f refl)
+      λ x f. and_right (t == t) (is_accepted l w (Fail t x)) (rw f refl)
       in
       let seven : may_fail l w t 7 ≡ false = rw (next, d) refl in
       let fourteen : may_fail l w t 14 ≡ false = rw (next, no_reg) refl in
       let fifteen : may_fail l w t 15 ≡ false = rw (next, d) refl in
-      let idle : may_fail l w t 23 ≡ false = never (is_born t w && not (is_ended t w)) (is_empty (due t w)) full in
+      let idle : may_fail l w t 23 ≡ false = and_right (is_born t w && not (is_ended t w)) (is_empty (due t w)) full in
       let made : is_accepted l w e ≡ false = ap (λ r. is_made r) same ∙ not_made _ (next_done l w e) d in
       subst (λ o. (not (is_ended t w) && list_any (λ x. actor w x == t && is_accepted l w x) (Fail t 7 ∷ Fail t 14 ∷ Fail t 15 ∷ Fail t 23 ∷ option_to_list o)) ≡ false) (sym next)
-      (none_of (not (is_ended t w)) _ _ _ _ _ (gives_up 7 seven) (gives_up 14 fourteen) (gives_up 15 fifteen) (gives_up 23 idle) (rw (never (actor w e == t) (is_accepted l w e) made) refl))
+      (none_of (not (is_ended t w)) _ _ _ _ _ (gives_up 7 seven) (gives_up 14 fourteen) (gives_up 15 fifteen) (gives_up 23 idle) (rw (and_right (actor w e == t) (is_accepted l w e) made) refl))
 
   -- nor is a task that has nothing to continue and isn't idle
   nothing_able : next_event l t w ≡ None → is_idle t w ≡ false → is_able l w t ≡ false
   nothing_able next idle =
       let gives_up : (x : ℕ) → may_fail l w t x ≡ false → (t == t && is_accepted l w (Fail t x)) ≡ false =
-      λ x f. never (t == t) (is_accepted l w (Fail t x)) (rw f refl)
+      λ x f. and_right (t == t) (is_accepted l w (Fail t x)) (rw f refl)
       in
       let seven : may_fail l w t 7 ≡ false = rw next refl in
       let fourteen : may_fail l w t 14 ≡ false = rw next refl in

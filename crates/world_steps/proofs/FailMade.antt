@@ -2,7 +2,7 @@
 use Rattle.std.proofs.Common.{◌≡◌, ◌⊎◌, ℕ, zero, suc, ◌<◌, ◌==◌, Bool, true, false, ◌&&◌, ◌||◌, not, cond, List, [], ◌∷◌, ◌++◌, map, Option, Some, None, length, get_or, slice_get, refl, sym, ap, subst, ◌∙◌, inl, inr, arith}
 use Rattle.std.specs.Prelude.{flat_map, option_map}
 use Rattle.std.specs.Option.{option_map_or}
-use Rattle.std.proofs.lemmas.Bool.{cases_Bool, eq-eqb, eqb-true}
+use Rattle.std.proofs.lemmas.Bool.{cases_Bool, eq-eqb, eqb-true, not-true}
 use Rattle.std.proofs.lemmas.List.{append-nil}
 use Rattle.phase_modes.specs.Lists.{is_empty}
 use Rattle.phase_modes.specs.declared.phased.Pair.{Pair}
@@ -89,12 +89,8 @@ module _ (s : WorldState) (w : List WorldEvent) (n : ℕ) (st : StandsFor w s) w
   refused_same None k b e = refl
   refused_same (Some (Phaser m x)) k b e =
       ap (λ v. b && v)
-      (rw (not_make (is_make (call_for x)) k)
+      (rw (not-true (is_make (call_for x)) k)
       (ap (λ (y : Story). has_number (refusal_in (phaser.returned y.past (phaser.reply y (call_for x)))) n) (st.phasers m).story ∙ same_number (phaser_past m w) _ n))
-    where
-      not_make : (v : Bool) → not v ≡ true → v ≡ false
-      not_make false h = refl
-      not_make true h = absurd cc
   refused_same (Some (Finish f d)) k true e = sym (finish_never_fails s.limits w f d n e)
   refused_same (Some (Finish f d)) k false e = refl
   refused_same (Some (Begin u b1)) k b e = absurd cc

@@ -2,6 +2,7 @@
 use Rattle.std.proofs.Common.{◌≡◌, ℕ, ◌==◌, Bool, true, false, ◌&&◌, not, cond, List, [], ◌∷◌, ◌++◌, map, drop, Option, refl, sym, ◌∙◌}
 use Rattle.std.specs.Prelude.{slice_get, option_map}
 use Rattle.std.specs.Option.{option_map_or}
+use Rattle.std.proofs.lemmas.Bool.{and_right}
 use Rattle.phase_modes.specs.declared.reg.Mode.{Mode}
 use Rattle.phase_modes.specs.declared.limits.Limits.{Limits}
 use Rattle.phase_modes.specs.declared.phased.Pair.{Pair}
@@ -28,18 +29,14 @@ pub record IsOfTurn (s : Step) : Type 0 where
   pub no_reg : (q c : ℕ) (m : Mode) → same_step (Reg q c m) s ≡ false
   pub no_signal : (u : ℕ) (y : Option ℕ) → same_step (Sig u y) s ≡ false
 
-never : (a b : Bool) → b ≡ false → (a && b) ≡ false
-never true b e = e
-never false b e = refl
-
 module _ (l : Limits) (w : List WorldEvent) (n : ℕ) (s : Step) (q : IsOfTurn s) where
   no_drops : (rest : List WorldEvent) (u : ℕ) (ns : List ℕ) → is_next l w rest n s ≡ false → is_next l w (map (λ m. Phaser m (Drop u)) ns ++ rest) n s ≡ false
   no_drops rest u [] e = e
-  no_drops rest u (m ∷ ns) e = never (m == n) _ (q.no_drop u)
+  no_drops rest u (m ∷ ns) e = and_right (m == n) _ (q.no_drop u)
 
   no_regs : (rest : List WorldEvent) (u c : ℕ) (ps : List Pair) → is_next l w rest n s ≡ false → is_next l w (map (λ p. Phaser p.phaser (Reg u c p.mode)) ps ++ rest) n s ≡ false
   no_regs rest u c [] e = e
-  no_regs rest u c (p ∷ ps) e = never (p.phaser == n) _ (q.no_reg u c p.mode)
+  no_regs rest u c (p ∷ ps) e = and_right (p.phaser == n) _ (q.no_reg u c p.mode)
 
   no_shuts : (u : ℕ) (k : TaskState) (fs : List ℕ) → is_next l w (map (λ f. Finish f Shutting) fs ++ end_of u k ∷ []) n s ≡ false
   no_shuts u k [] = elim (u == 0) as (λ b. is_next l w (cond b (Finish 0 Shutting) (Finish k.home (Ended u)) ∷ []) n s ≡ false) [ true ↦ refl | false ↦ refl ]
@@ -49,7 +46,7 @@ module _ (l : Limits) (w : List WorldEvent) (n : ℕ) (s : Step) (q : IsOfTurn s
   pub other_plan : (t : ℕ) (k : TaskState) (fs : List ℕ) (p : Plan) (left : List ℕ) → (p ≡ plan.Turning → ⊥) → k.left ≡ left → has_left p left ≡ true → is_next l w (due_by t k fs p) n s ≡ false
   other_plan t k fs plan.Idle left r e h = refl
   other_plan t k fs (plan.Signalling y turn) [] r e h = absurd cc
-  other_plan t k fs (plan.Signalling y turn) (m ∷ ms) r e h = rw e (never (m == n) _ (q.no_signal t y))
+  other_plan t k fs (plan.Signalling y turn) (m ∷ ms) r e h = rw e (and_right (m == n) _ (q.no_signal t y))
   other_plan t k fs plan.Turning left r e h = absurd (r refl)
   other_plan t k fs (plan.Spawning c pairs made) left r e h = no_regs (Finish (inner_of k fs) (Spawned c) ∷ []) t c (drop made pairs) refl
   other_plan t k fs plan.Shutting left r e h = no_drops (Finish (inner_of k fs) Shutting ∷ []) t k.left refl
@@ -60,12 +57,12 @@ module _ (l : Limits) (w : List WorldEvent) (n : ℕ) (s : Step) (q : IsOfTurn s
 -- which of the three comes where a pass is due
 pub pass_by : (b c : Bool) (m n t : ℕ) (p q : Bool) → (m == n) ≡ p → (t == t) ≡ q → q ≡ true
     → same_event (cond b (Phaser m (Claim t)) (cond c (Phaser m (Did t)) (Phaser m (Pass t)))) (Phaser n (Pass t)) ≡ (p && not b && not c)
-pass_by true c m n t p q e f g = never (m == n) false refl ∙ sym (never_mid p c)
+pass_by true c m n t p q e f g = and_right (m == n) false refl ∙ sym (never_mid p c)
   where
     never_mid : (p c : Bool) → (p && false && not c) ≡ false
     never_mid true c = refl
     never_mid false c = refl
-pass_by false true m n t p q e f g = never (m == n) false refl ∙ sym (never_end p)
+pass_by false true m n t p q e f g = and_right (m == n) false refl ∙ sym (never_end p)
   where
     never_end : (p : Bool) → (p && true && false) ≡ false
     never_end true = refl
@@ -79,12 +76,12 @@ pass_by false false m n t p q e f g = rw (e, f, g) (plain p)
 pub claim_by : (b c : Bool) (m n t : ℕ) (p q : Bool) → (m == n) ≡ p → (t == t) ≡ q → q ≡ true
     → same_event (cond b (Phaser m (Claim t)) (cond c (Phaser m (Did t)) (Phaser m (Pass t)))) (Phaser n (Claim t)) ≡ (p && b)
 claim_by true c m n t p q e f g = rw (e, f, g) refl
-claim_by false true m n t p q e f g = never (m == n) false refl ∙ sym (never p false refl)
-claim_by false false m n t p q e f g = never (m == n) false refl ∙ sym (never p false refl)
+claim_by false true m n t p q e f g = and_right (m == n) false refl ∙ sym (and_right p false refl)
+claim_by false false m n t p q e f g = and_right (m == n) false refl ∙ sym (and_right p false refl)
 
 pub report_by : (b c : Bool) (m n t : ℕ) (p q : Bool) → (m == n) ≡ p → (t == t) ≡ q → q ≡ true
     → same_event (cond b (Phaser m (Claim t)) (cond c (Phaser m (Did t)) (Phaser m (Pass t)))) (Phaser n (Did t)) ≡ (p && not b && c)
-report_by true c m n t p q e f g = never (m == n) false refl ∙ sym (never_mid p c)
+report_by true c m n t p q e f g = and_right (m == n) false refl ∙ sym (never_mid p c)
   where
     never_mid : (p c : Bool) → (p && false && c) ≡ false
     never_mid true c = refl
@@ -94,4 +91,4 @@ report_by false true m n t p q e f g = rw (e, f, g) (plain p)
     plain : (p : Bool) → (p && true) ≡ (p && true && true)
     plain true = refl
     plain false = refl
-report_by false false m n t p q e f g = never (m == n) false refl ∙ sym (never (p && true) false refl)
+report_by false false m n t p q e f g = and_right (m == n) false refl ∙ sym (and_right (p && true) false refl)

@@ -1,7 +1,7 @@
 -- A finish is opened once, by its owner: what its shut does to the open finishes of each task.
 use Rattle.std.proofs.Common.{◌≡◌, ℕ, Bool, true, false, ◌&&◌, ◌==◌, not, cond, List, [], ◌∷◌, refl, sym, ap, subst, ◌∙◌, inl, inr}
 use Rattle.std.specs.Prelude.{filter, filter_map}
-use Rattle.std.proofs.lemmas.Bool.{cases_Bool, eqb-true, eq-eqb, and_parts, and_from, false≢true}
+use Rattle.std.proofs.lemmas.Bool.{cases_Bool, eqb-true, eq-eqb, and_parts, and_from, false≢true, not-true}
 use Rattle.phase_modes.specs.Lists.{is_empty}
 use Rattle.phase_modes.specs.declared.limits.Limits.{Limits}
 use Rattle.finish_core.specs.declared.event.FinishEvent.{FinishEvent}
@@ -88,10 +88,6 @@ opened_once l t (Begin u b ∷ w) k = opened_once l t w (last_accepted l (Begin 
 opened_once l t (Refuse u a n ∷ w) k = opened_once l t w (last_accepted l (Refuse u a n) w k).1
 opened_once l t (Fail u n ∷ w) k = opened_once l t w (last_accepted l (Fail u n) w k).1
 
-not_true : (b : Bool) → not b ≡ true → b ≡ false
-not_true true e = absurd cc
-not_true false e = refl
-
 -- two tests that agree but at f, which the second doesn't pass
 module _ (p q : ℕ → Bool) (f : ℕ) (gone : q f ≡ false) (same : (g : ℕ) → (g == f) ≡ false → q g ≡ p g) where
   keeps_none : (x : ℕ) → p x ≡ false → q x ≡ false
@@ -110,7 +106,7 @@ module _ (p q : ℕ → Bool) (f : ℕ) (gone : q f ≡ false) (same : (g : ℕ)
           let here : x ≡ f = cc in
           let after : filter p xs ≡ rest = cc in
           let parts = and_parts (not (has x xs)) (is_distinct xs) d in
-          let missing : has f xs ≡ false = subst (λ i. has i xs ≡ false) here (not_true (has x xs) parts.0) in
+          let missing : has f xs ≡ false = subst (λ i. has i xs ≡ false) here (not-true (has x xs) parts.0) in
           rw (ap q here ∙ gone) (filter_but q p f xs missing same ∙ after)
       by_test later false y h = rw (keeps_none x y) (later h)
 

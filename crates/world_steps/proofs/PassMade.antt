@@ -1,6 +1,6 @@
 -- A pass of an act under way: the answer is the history's, and the world stands for what follows.
 use Rattle.std.proofs.Common.{◌≡◌, ℕ, zero, suc, ◌+◌, ◌<◌, ◌==◌, Bool, true, false, ◌&&◌, not, min, cond, List, [], ◌∷◌, map, drop, Option, Some, None, length, get_or, Result, Ok, Err, refl, sym, ap, subst, ◌∙◌, arith}
-use Rattle.std.proofs.lemmas.Bool.{eq-eqb, eqb-true, and_parts}
+use Rattle.std.proofs.lemmas.Bool.{eq-eqb, eqb-true, and_parts, not-true}
 use Rattle.phase_modes.specs.Lists.{is_empty, is_one}
 use Rattle.phase_modes.specs.declared.limits.Limits.{Limits}
 use Rattle.phase_modes.specs.declared.refusal.Refusal.{Refusal}
@@ -168,10 +168,6 @@ gone h None false false b t f e = absurd cc
 gone h None false true true t f e = absurd cc
 gone h None false true false t f e = refl
 
-not_true : (b : Bool) → not b ≡ true → b ≡ false
-not_true true e = absurd cc
-not_true false e = refl
-
 pub done_within : (l : Limits) (xs : List Story) (n t : ℕ) (e : Event) → phaser.reply (get_or xs n (blank_story l)) (pass t) ≡ done e → n < length xs
 done_within l [] n t e k = absurd cc
 done_within l (y ∷ ys) zero t e k = omega arith
@@ -199,7 +195,7 @@ pass_is_step s n t = record {
       let asked = asked_made (pass_asked s n t) (passed_on s n t) made in
       let one = and_parts (is_to_pass k n && not (may_claim y t)) (not (may_report y t)) asked.0 in
       let two = and_parts (is_to_pass k n) (not (may_claim y t)) one.0 in
-      let replied : phaser.reply y (pass t) ≡ done (Gone t) = gone y.past _ _ _ (may_claim y t) t (not_true (may_claim y t) two.1) asked.1 in
+      let replied : phaser.reply y (pass t) ≡ done (Gone t) = gone y.past _ _ _ (may_claim y t) t (not-true (may_claim y t) two.1) asked.1 in
       let accepted : is_made (reply s.limits w (Phaser n (Pass t))) ≡ true = ap (λ r. is_made r) (sym (pass_answers s w n t st)) ∙ made in
       rw (asked.0, replied) (step_stands s w n (Pass t) tt st t (pass_noted k) refl (done_within s.limits s.phasers n t (Gone t) replied) (wanted_within s.tasks t n two.0) accepted
       (pass_line s.outers w n t k (st.tasks t) k.plan k.left refl refl two.0));

@@ -1,5 +1,5 @@
 use Rattle.std.proofs.Common.{◌&&◌, is_some, Result, ap, sym, ◌∙◌}
-use Rattle.std.proofs.lemmas.Bool.{false≢true}
+use Rattle.std.proofs.lemmas.Bool.{false≢true, and_left}
 use Rattle.phase_modes.specs.declared.refusal.Refusal.{Refusal}
 use Rattle.phase_model.specs.declared.call.Call.TheVariants.{Signal as signal}
 use Rattle.phase_model.specs.Replies.{reply}
@@ -11,7 +11,7 @@ use Rattle.parked_tasks.proofs.Steps.{signal_leaves}
 use Rattle.waiting_cell.specs.declared.course.Course.{Course}
 use Rattle.waiting_cell.specs.Courses.{story_after, signal_course, has_moved}
 use Rattle.waiting_cell.proofs.Steps.{moves_signal}
-use Rattle.waiting_cell.proofs.Calling.{none_made, waiting_either}
+use Rattle.waiting_cell.proofs.Calling.{waiting_either}
 use Rattle.waiting_cell.proofs.own.own_signal.Goals as goal
 
 pub returns-clause-course : goal.returns-clause-course
@@ -47,7 +47,7 @@ returns-clause-nobody c = λ kept n.
 pub returns-clause-still : goal.returns-clause-still
 returns-clause-still c = λ still.
     c.may_free-may_go_on.ensures
-    ∙ none_made _ _
+    ∙ and_left _ _
     (c.is_made-made.ensures
     ∙ (sym (moves_signal c.args.then c.signal-answer.result)
     ∙ (sym (ap (λ (k : Course). has_moved k) c.of_signal-course.ensures) ∙ still)))

@@ -1,13 +1,13 @@
 use Rattle.std.proofs.Common.{is_some, ◌||◌, [], ap, sym, ◌∙◌}
 use Rattle.std.specs.Result.{is_ok}
-use Rattle.std.proofs.lemmas.Bool.{false≢true}
+use Rattle.std.proofs.lemmas.Bool.{false≢true, and_left}
 use Rattle.phase_model.specs.declared.call.Call.TheVariants.{Drop as drop_task}
 use Rattle.phase_model.specs.Rules.{Story}
 use Rattle.phase_model.specs.Waiting.{would_wait}
 use Rattle.parked_tasks.specs.Firsts.{is_phase_open}
 use Rattle.parked_tasks.proofs.Freeing.{neither_leaves, drop_frees_nobody}
 use Rattle.waiting_cell.specs.Turns.{standing}
-use Rattle.waiting_cell.proofs.Calling.{on_refusal, none_made, sound_after, same_after, waiting_either}
+use Rattle.waiting_cell.proofs.Calling.{on_refusal, sound_after, same_after, waiting_either}
 use Rattle.waiting_cell.proofs.Leaving.{told_of_leaving}
 use Rattle.waiting_cell.proofs.cell.WaitingCell.leave.Goals as goal
 
@@ -43,7 +43,7 @@ returns-clause-refused c =
     let ps = cell.parked.items in
     on_refusal c.leave-answer.result _
     (λ failed.
-    c.settle_if.ensures.still (c.may_free.ensures ∙ none_made _ _ (c.is_ok.ensures.value ∙ failed))
+    c.settle_if.ensures.still (c.may_free.ensures ∙ and_left _ _ (c.is_ok.ensures.value ∙ failed))
     ∙ ap (λ (v : Story). standing v ps [])
     (same_after s s' (drop_task c.args.task) c.leave-answer.ensures.history
     (sym (ap (λ a. is_ok a) c.leave-answer.ensures.reply) ∙ failed)))
