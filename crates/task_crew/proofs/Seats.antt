@@ -2,10 +2,9 @@
 use Rattle.std.proofs.Common.{◌≡◌, ℕ, ◌<◌, List, [], ◌∷◌, ◌++◌, Result, Ok, length, map, get_or, sym, ap, subst, ◌∙◌, arith}
 use Rattle.std.specs.Prelude.{IfOk}
 use Rattle.std.specs.List.{Contains}
-use Rattle.std.proofs.lemmas.List.{length-map, map-append}
+use Rattle.std.proofs.lemmas.List.{length-map, map-append, get_or-map}
 use Rattle.task_queue.specs.Account.{Account}
 use Rattle.task_queue.specs.Accounts.{IsSeatOf, AreTogether}
-use Rattle.task_queue.proofs.Taking.{map_at}
 use Rattle.task_crew.specs.inner.Back.{AreBack, AreSeatsIn}
 
 abbrev answer : (W E : Type 0) → W → Result W E
@@ -21,8 +20,8 @@ module _ {T : Type 0} where
       let there : have.0 < length back = omega (arith, inside, are.as_many) in (
         have.0,
         omega (arith, there, length-map back worker),
-        map_at worker back have.0 x k there
-            ∙ ((are.each have.0 x x inside).0 ∙ (sym (map_at worker (x ∷ xs) have.0 x k inside) ∙ have.2)),
+        get_or-map worker back have.0 x k there
+            ∙ ((are.each have.0 x x inside).0 ∙ (sym (get_or-map worker (x ∷ xs) have.0 x k inside) ∙ have.2)),
       )
 
   -- seats that were used stay together
@@ -48,10 +47,10 @@ module _ {T : Type 0} where
       let there : k < length (y ∷ ys) = omega (arith, many, lt) in
       let answered : Result W E → Type 0 = λ r. IfOk r (λ w. IsSeatOf (seat (get_or (x ∷ xs) k x)) (seat w)) in
       let same : IsSeatOf (seat (get_or (x ∷ xs) k x)) (seat (get_or (y ∷ ys) k y)) =
-      subst answered (map_at (λ (w : W). Ok w) (y ∷ ys) k y (Ok y) there) (each k x (Ok y) lt)
+      subst answered (get_or-map (λ (w : W). Ok w) (y ∷ ys) k y (Ok y) there) (each k x (Ok y) lt)
       in
-      subst (λ s. IsSeatOf s (get_or (map seat (y ∷ ys)) k d')) (sym (map_at seat (x ∷ xs) k x d lt))
-      (subst (λ s. IsSeatOf (seat (get_or (x ∷ xs) k x)) s) (sym (map_at seat (y ∷ ys) k y d' there)) same)
+      subst (λ s. IsSeatOf s (get_or (map seat (y ∷ ys)) k d')) (sym (get_or-map seat (x ∷ xs) k x d lt))
+      (subst (λ s. IsSeatOf (seat (get_or (x ∷ xs) k x)) s) (sym (get_or-map seat (y ∷ ys) k y d' there)) same)
 
   -- those that come back with the workers' answers, each of the same worker
   pub back_from : {W E : Type 0} (seat : W → Account T) (staff : List W) (rs : List (Result W E)) (back : List (Account T))
