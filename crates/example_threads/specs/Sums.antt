@@ -8,7 +8,7 @@ use Rattle.phase_model.specs.declared.op.Look.TheVariants.{Value, Nothing}
 use Rattle.phase_model.specs.Phases.{IsClosed}
 use Rattle.phase_model.specs.Rules.{Story, look_of}
 use Rattle.trace_model.specs.Run.{Entry}
-use Rattle.phaser_crew.specs.Gathering.{IsToldAt}
+use Rattle.table_receipts.specs.Parts.{IsToldAt}
 
 -- some task's look at the sum is in the story, and saw this; of no sum nothing is said
 abbrev pub IsSeen : Story → Look ℤ → Type 0

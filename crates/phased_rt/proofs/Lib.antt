@@ -7,3 +7,4 @@ pub mod Refusals
 pub mod Sums
 pub mod Totalled
 pub mod Traced
+pub mod Says

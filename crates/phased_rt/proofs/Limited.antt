@@ -9,6 +9,7 @@ use Rattle.std.proofs.lemmas.List.Elements.{filter-append}
 use Rattle.std.proofs.lemmas.Simd.{map-map}
 use Rattle.std.proofs.lemmas.Slice.Zip.{seconds-zip}
 use Rattle.phase_modes.specs.declared.limits.Limits.{Limits}
+use Rattle.phase_modes.specs.Lists.{is_empty}
 use Rattle.phase_modes.specs.Refusal.{are_met}
 use Rattle.phase_model.specs.declared.call.Call.TheVariants.{Look as look}
 use Rattle.phase_model.specs.declared.history.Event.{Event}
@@ -204,14 +205,19 @@ past_back n l terms (e ∷ h) k =
     let same = past_back n l terms h (last_follows l terms h e k).before in
     rw (eq-eqb n n refl) (ap₂ (λ (x : Event) (xs : List Event). x ∷ xs) (event_back n l terms e h k same) same)
 
--- ---- of a legal world
+-- ---- of a trace
 
--- a history that tells what a legal world has of a phaser is legal under that world's limits
-pub legal_under : (l : Limits) (n : ℕ) (s : Story) (tickets : List ℕ) (es : List Entry)
-    → is_legal_world l (past (reverse es)) ≡ true → projection (phaser n) es ≡ phaser_told n s tickets
+-- a world has of phaser n what the story tells
+pub record IsHad (n : ℕ) (s : Story) (w : List WorldEvent) : Type 0 where
+  pub events : phaser_past n w ≡ s.past
+  pub terms : is_empty s.past ≡ false → terms_of n w ≡ s.terms
+
+-- a trace whose entries of a phaser tell a legal story has that story
+pub told_is_had : (n : ℕ) (s : Story) (tickets : List ℕ) (es : List Entry)
+    → projection (phaser n) es ≡ phaser_told n s tickets
     → length tickets ≡ length s.past → is_legal s.limits s.terms s.past ≡ true
-    → is_legal l s.terms s.past ≡ true
-legal_under l n s tickets es legal_world is drawn legal = by s.past refl
+    → IsHad n s (past (reverse es))
+told_is_had n s tickets es is drawn legal = record { events = events; terms = λ some. terms s.past refl some }
   where
     w : List WorldEvent
     w = past (reverse es)
@@ -227,19 +233,35 @@ legal_under l n s tickets es legal_world is drawn legal = by s.past refl
         (alike n (reverse es)).events
         ∙ (ap (λ (v : List WorldEvent). phaser_past n v) own ∙ past_back n s.limits s.terms s.past legal)
 
-    terms : (e : Event) (h : List Event) → s.past ≡ e ∷ h → terms_of n w ≡ s.terms
-    terms e h so =
+    terms : (h : List Event) → s.past ≡ h → is_empty s.past ≡ false → terms_of n w ≡ s.terms
+    terms [] so some = absurd (false≢true (sym some ∙ ap (λ (g : List Event). is_empty g) so))
+    terms (e ∷ h) so some =
         (alike n (reverse es)).terms
         ∙ (ap (λ (v : List WorldEvent). terms_of n v) own
         ∙ (ap (λ (g : List Event). terms_of n (told n s.terms g)) so
         ∙ terms_back n s.limits s.terms e h
         (subst (λ (g : List Event). is_legal s.limits s.terms g ≡ true) so legal)))
 
+-- ---- of a legal world
+
+-- a history that tells what a legal world has of a phaser is legal under that world's limits
+pub legal_under : (l : Limits) (n : ℕ) (s : Story) (tickets : List ℕ) (es : List Entry)
+    → is_legal_world l (past (reverse es)) ≡ true → projection (phaser n) es ≡ phaser_told n s tickets
+    → length tickets ≡ length s.past → is_legal s.limits s.terms s.past ≡ true
+    → is_legal l s.terms s.past ≡ true
+legal_under l n s tickets es legal_world is drawn legal = by s.past refl
+  where
+    w : List WorldEvent
+    w = past (reverse es)
+
+    had : IsHad n s w
+    had = told_is_had n s tickets es is drawn legal
+
     by : (h : List Event) → s.past ≡ h → is_legal l s.terms s.past ≡ true
     by [] so = subst (λ (g : List Event). is_legal l s.terms g ≡ true) (sym so) refl
     by (e ∷ h) so =
-        subst (λ (g : List Event). is_legal l s.terms g ≡ true) events
-        (subst (λ (o : Terms). is_legal l o (phaser_past n w) ≡ true) (terms e h so) (phasers_legal l w legal_world n))
+        subst (λ (g : List Event). is_legal l s.terms g ≡ true) had.events
+        (subst (λ (o : Terms). is_legal l o (phaser_past n w) ≡ true) (had.terms (ap (λ (g : List Event). is_empty g) so)) (phasers_legal l w legal_world n))
 
 -- ---- of all parts
 

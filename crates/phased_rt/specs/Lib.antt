@@ -1,4 +1,5 @@
 pub mod Left
+pub mod Says
 pub mod Told
 pub mod Totals
 pub mod Traced

@@ -1,10 +1,13 @@
 //! A whole run: its workers work, and what they leave is told.
-ghost use Rattle.std.specs.Prelude.{◌≡◌, ◌<◌, ◌≤◌, true, reverse, IfOk, IfErr};
+ghost use Rattle.std.specs.Prelude.{◌≡◌, ◌<◌, ◌≤◌, ℕ, true, reverse, IfOk, IfErr};
 ghost use Rattle.phase_modes.specs.Limits.{limits_fit};
+ghost use Rattle.phase_model.specs.Rules.{Story};
 ghost use Rattle.world_model.specs.Report.{report_of};
 ghost use Rattle.trace_model.specs.Explained.{past, is_explained};
+ghost use Rattle.task_crew.specs.Heard.{nothing};
 ghost use Rattle.task_crew.specs.Refused.{IsRunRefused};
 ghost use Rattle.phased_rt.specs.Left.{IsLeftByAll};
+ghost use Rattle.phased_rt.specs.Says.{SaysOfTrace};
 ghost use Rattle.phased_rt.specs.Told.{IsToldBy};
 ghost use Rattle.phased_rt.specs.Totals.{AreTotals};
 
@@ -40,6 +43,7 @@ pub fn run<B: Body + Send, G: Gate + Sync, R: Threads + Wait + Sync>(
     ensures left { IfOk result (λ r. IsLeftByAll r.trace.events) }
     ensures told { IfOk result (λ r. IsToldBy limits r.trace.events r.totals) }
     ensures totals { IfOk result (λ r. AreTotals limits r.trace.events r.world.totals r.totals) }
+    ensures says { IfOk result (λ r. ((seen : ℕ → Story) → B.shows root nothing seen) → SaysOfTrace B.shows limits r.trace.events r.root) }
     ensures refused { IfErr result (λ e. IsRunRefused e) }
 {
     let remains = run_tasks(rt, alloc, root, limits, workers, gate)?;

@@ -3,16 +3,18 @@ ghost use Rattle.std.specs.Prelude.{◌≡◌, ◌++◌, true, reverse, IfOk, If
 ghost use Rattle.phase_modes.specs.Limits.{limits_fit};
 ghost use Rattle.world_model.specs.Report.{report_of};
 ghost use Rattle.trace_model.specs.Explained.{past, is_explained};
+ghost use Rattle.task_crew.specs.Heard.{IsSaid};
 ghost use Rattle.task_crew.specs.Refused.{IsRunRefused};
 ghost use Rattle.task_crew.specs.Remaining.{AreRemains};
 ghost use Rattle.phased_rt.specs.Left.{IsLeftByAll};
+ghost use Rattle.phased_rt.specs.Says.{SaysOfTrace};
 ghost use Rattle.phased_rt.specs.Told.{IsToldBy};
 ghost use Rattle.phased_rt.specs.Totals.{AreTotals};
 
 use crate::report::{Report, reported};
 use phase_modes::{Limits, Refusal};
 use std::alloc::Global;
-use task_crew::Remains;
+use task_crew::{Body, Remains};
 use trace_model::Part;
 
 /// All parts in a row.
@@ -30,7 +32,7 @@ fn joined(phasers: Vec<Part>, finishes: Vec<Part>, logs: Vec<Part>) -> Result<Ve
 
 /// What a run made, by what it leaves. `NotExplained` where the parts merge to no trace that a world
 /// explains.
-pub(crate) fn told_of<B: Drop>(
+pub(crate) fn told_of<B: Body>(
     alloc: Global,
     limits: Limits,
     remains: Remains<B>,
@@ -43,6 +45,7 @@ pub(crate) fn told_of<B: Drop>(
     ensures left { IfOk result (λ r. IsLeftByAll r.trace.events) }
     ensures told { IfOk result (λ r. IsToldBy limits r.trace.events r.totals) }
     ensures totals { IfOk result (λ r. AreTotals limits r.trace.events r.world.totals r.totals) }
+    ensures says { IfOk result (λ r. IsSaid B.shows limits remains.phasers.items remains.root → SaysOfTrace B.shows limits r.trace.events r.root) }
     ensures refused { IfErr result (λ e. IsRunRefused e) }
 {
     let Remains {

@@ -1,14 +1,12 @@
 -- What the phasers of a crew come to.
-use Rattle.std.specs.Prelude.{ℕ, ◌≡◌, ◌<◌, List, length, All, Some, slice_get}
+use Rattle.std.specs.Prelude.{ℕ, ◌≡◌, ◌<◌, List, length, All}
 use Rattle.phase_model.specs.Amounts.{Amount}
-use Rattle.phase_model.specs.Laws.{IsLegal}
 use Rattle.phase_model.specs.Rules.{Story}
 use Rattle.share_book.specs.declared.gathering.Totals.{Totals}
 use Rattle.share_book.specs.Accounts.{sum, amount_of}
 use Rattle.scope_locks.specs.Telling.{ArePhaserParts}
 use Rattle.trace_model.specs.Run.{Entry}
-use Rattle.trace_model.specs.Told.{phaser_told}
-use Rattle.table_receipts.specs.Logs.{GoesOn}
+use Rattle.table_receipts.specs.Parts.{IsToldAt, HasShown}
 
 -- the parts are those of all phasers in order, each a legal history with its tickets, and the totals are what
 -- all these histories add up to
@@ -17,14 +15,6 @@ pub record AreGathered (phasers : ℕ) (parts : List (List Entry)) (t : Totals) 
   pub told : ArePhaserParts 0 parts sums
   pub all : length parts ≡ phasers
   pub added : amount_of t ≡ sum sums
-
--- part n tells this story, which is legal, each event with its ticket
-abbrev pub IsToldAt : ℕ → Story → List (List Entry) → Type 0
-IsToldAt n s parts = (tickets : List ℕ) × (slice_get parts n ≡ Some (phaser_told n s tickets)) × (length tickets ≡ length s.past) × IsLegal s
-
--- the gift says this of what its worker has seen of each of the phasers, which begins the phaser's story
-abbrev pub HasShown : {G : Type 0} → (G → (ℕ → Story) → Type 0) → ℕ → (ℕ → Story) → G → Type 0
-HasShown Shows phasers stories x = (seen : ℕ → Story) × Shows x seen × ((n : ℕ) → n < phasers → GoesOn (seen n) (stories n))
 
 -- the parts tell a story of each phaser, and each gift says this of beginnings of these stories
 pub record AreShown {G : Type 0} (Shows : G → (ℕ → Story) → Type 0) (parts : List (List Entry)) (given : List G) : Type 0 where

@@ -2,12 +2,12 @@
 ghost use Rattle.std.specs.Prelude.{◌≡◌, ◌⊎◌, ◌<◌, ℕ, [], true, All, IfOk, IfErr, IfSome, length, slice_get, vec_len};
 ghost use Rattle.phase_modes.specs.Limits.{limits_fit};
 ghost use Rattle.share_book.specs.Opening.{IsNamed, IsParted, AreAllParts};
-ghost use Rattle.phaser_crew.specs.Gathering.{AreGathered, AreShown, HasShown};
-ghost use Rattle.phaser_crew.specs.Hands.{story_at};
-ghost use Rattle.phaser_crew.specs.Hands as of_hands;
+ghost use Rattle.phaser_crew.specs.Gathering.{AreGathered, AreShown};
+ghost use Rattle.table_receipts.specs.Parts.{HasShown};
+ghost use Rattle.table_receipts.specs.Seen.{story_at};
+ghost use Rattle.table_receipts.specs.Seen as of_seen;
 
 use crate::crew::{Crew, Gathered};
-use crate::fronts::Fronts;
 use crate::held::Held;
 use crate::threads::{Work, in_threads};
 use ghost_log::Whole;
@@ -20,7 +20,7 @@ use std::sync::Wait;
 use std::sync::ledger::Ledger;
 use std::thread::Threads;
 use table_receipts::{
-    Logs, Named, Naming, Noted, PhaserLog, PhaserLogs, ReceiptParts, ReceiptTable, new_logs,
+    Fronts, Logs, Named, Naming, Noted, PhaserLog, PhaserLogs, ReceiptParts, ReceiptTable, new_logs,
 };
 
 /// A hand for each worker, with a share each.
@@ -83,7 +83,7 @@ fn parted<T: Drop, C: Crew<T>, K: Naming>(
     logs: &mut Vec<PhaserLog<K>>,
 ) -> Result<(Vec<C::Given>, Vec<Shares<K>>), Refusal>
     requires all { length logs.old.items ≡ K.Logs.limits.phasers }
-    requires named { of_hands.IsNamed K.Logs.logs logs.old.items }
+    requires named { of_seen.IsNamed K.Logs.logs logs.old.items }
     ensures number { IfOk result (λ r. (vec_len r.0 ≡ vec_len done) × (vec_len r.1 ≡ vec_len done)) }
     ensures same { logs.new.items ≡ logs.old.items }
     ensures shown { IfOk result (λ r. All (λ x. ∥ HasShown C.shows (length logs.old.items) (λ n. story_at logs.old.items n) x ∥₁) r.0.items) }

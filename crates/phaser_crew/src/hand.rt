@@ -11,7 +11,8 @@ ghost use Rattle.scope_locks.specs.Amounts.{amount_if};
 ghost use Rattle.parked_tasks.specs.Parking.{goes_on, IsBack, has_signalled, IsBackFromSignal};
 ghost use Rattle.long_receipts.specs.Told.{IsSignalAnswer, IsPassAnswer, IfPassed, HasLooked};
 ghost use Rattle.table_receipts.specs.Told.{IsAnswered, IsMade};
-ghost use Rattle.phaser_crew.specs.Hands.{BeginsWith, IsSameHand, HasSeenMore};
+ghost use Rattle.table_receipts.specs.Seen.{HasSeenMore};
+ghost use Rattle.phaser_crew.specs.Hands.{BeginsWith, IsSameHand};
 
 use phase_model::{Bound, Event, Look, Ops};
 use phase_modes::{Mode, Refusal};

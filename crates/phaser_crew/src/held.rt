@@ -2,7 +2,6 @@
 //! wake.
 ghost use Rattle.std.specs.Prelude.{◌≡◌, ◌++◌, [], ◌<◌, ◌≤◌, IfOk, IfErr, OnOk, length};
 
-use crate::fronts::Fronts;
 use crate::hand::Hand;
 use phase_model::{Bound, Look, Ops};
 use phase_modes::{Mode, Refusal};
@@ -11,7 +10,7 @@ use share_book::Shares;
 use std::alloc::Global;
 use std::collections::VecDeque;
 use std::sync::Wait;
-use table_receipts::{Caller, Naming, ReceiptTable};
+use table_receipts::{Caller, Fronts, Naming, ReceiptTable};
 
 /// The hand of a worker of this run.
 #[derive(Drop)]
@@ -117,7 +116,7 @@ impl<'a, T, K: Naming, R: Wait> Hand<T> for Held<'a, T, K, R> {
       posted = h.by.mine;
     } };
 
-    ghost use Rattle.phaser_crew.specs.Hands.{story_at};
+    ghost use Rattle.table_receipts.specs.Seen.{story_at};
 
     ghost seen = { λ h n. story_at h.fronts n };
 

@@ -5,7 +5,6 @@
 
 mod crew;
 mod entry;
-mod fronts;
 mod hand;
 mod held;
 mod long_crew;

@@ -22,7 +22,7 @@ pub follows_goes : (s s' : Story) → Follows s s' → GoesOn s s'
 follows_goes s s' (inl same) = subst (λ (v : Story). GoesOn s v) (sym same) (goes_itself s)
 follows_goes s s' (inr one) = (one.2, (one.0 ∷ [], one.1), one.3)
 
-some_more : (newer past h : List Event) → h ≡ newer ++ past → is_empty past ≡ false → is_empty h ≡ false
+pub some_more : (newer past h : List Event) → h ≡ newer ++ past → is_empty past ≡ false → is_empty h ≡ false
 some_more [] past h is some = ap (λ (x : List Event). is_empty x) is ∙ some
 some_more (e ∷ newer) past h is some = ap (λ (x : List Event). is_empty x) is
 

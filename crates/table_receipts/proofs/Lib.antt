@@ -1,7 +1,10 @@
 pub mod Closes
 pub mod Goes
 pub mod Kept
+pub mod Logged
 pub mod Looks
+pub mod Names
 pub mod Notes
 pub mod Parts
 pub mod Places
+pub mod Stories

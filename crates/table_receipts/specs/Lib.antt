@@ -1,3 +1,4 @@
 pub mod Logs
 pub mod Parts
+pub mod Seen
 pub mod Told

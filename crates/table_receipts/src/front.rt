@@ -82,6 +82,7 @@ impl<K: Naming> PhaserLog<K> {
         requires { seen.old.log ≡ self.old.log }
         ensures same { (self.new ≡ self.old) × (seen.new ≡ seen.old) }
         ensures begins { GoesOn seen.old.story self.old.story }
+        ensures limits { self.old.story.limits ≡ K.Logs.limits }
     {
         includes(&mut self.whole, seen.seen.again());
     }

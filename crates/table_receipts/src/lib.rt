@@ -5,6 +5,7 @@
 mod caller;
 mod cell;
 mod front;
+mod fronts;
 mod logs;
 mod naming;
 mod noted;
@@ -13,6 +14,7 @@ mod table;
 pub use caller::Caller;
 pub use cell::ReceiptCell;
 pub use front::{Front, PhaserLog};
+pub use fronts::Fronts;
 pub use logs::{PhaserLogs, new_logs};
 pub use naming::{Logs, Named, Naming};
 pub use noted::Noted;

@@ -1,3 +1,4 @@
+pub mod Heard
 pub mod Refused
 pub mod Remaining
 pub mod inner

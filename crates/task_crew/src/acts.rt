@@ -1,27 +1,39 @@
 //! How a task's act is begun, and made where it is one event.
+ghost use Rattle.std.specs.Prelude.{◌≡◌, ◌×◌, Ok};
+ghost use Rattle.table_receipts.specs.Seen.{story_at};
 ghost use Rattle.task_queue.specs.Accounts.{IsSeatOf};
+ghost use Rattle.task_crew.specs.Heard.{nothing, look, asked_by, IsSpawned};
+ghost use Rattle.task_crew.specs.inner.Ready.{Says};
 
 use crate::body::{Body, Gate};
+use crate::naming::RunNaming;
 use crate::task::{Item, Task};
-use crate::worker::{Shared, Worker};
-use job_script::{Act, Answer};
+use crate::worker::{Busy, Shared};
+use job_script::Act;
 use phase_model::Terms;
 use phase_modes::{Mode, Phased, Refusal};
-use share_book::{Ledgers, Shares};
 use std::sync::Wait;
+use table_receipts::Caller;
 use task_standing::Plan;
 use world_model::{Begun, Tried};
 
-impl<B: Body, K: Ledgers> Shared<B, K> {
+impl<B: Body, K: RunNaming> Shared<B, K> {
     /// The task gives up what it is about, and comes to its end.
-    pub(crate) fn fail(&self, task: &mut Task<B>, refusal: Refusal) -> Result<(), Refusal> {
+    pub(crate) fn fail(&self, task: &mut Task<B, K>, refusal: Refusal) -> Result<(), Refusal> {
         task.log.note_failed(self.tickets.draw(), refusal)?;
         task.standing.give_up();
         Ok(())
     }
 
     /// The act is refused, and the task comes to its end.
-    fn refuse(&self, task: &mut Task<B>, tried: Tried, refusal: Refusal) -> Result<(), Refusal> {
+    fn refuse(
+        &self,
+        task: &mut Task<B, K>,
+        tried: Tried,
+        refusal: Refusal,
+    ) -> Result<(), Refusal>
+        ensures kept { (task.new.body ≡ task.old.body) × (task.new.fronts ≡ task.old.fronts) }
+    {
         task.log.note_refused(self.tickets.draw(), tried, refusal)?;
         task.standing.give_up();
         Ok(())
@@ -29,7 +41,9 @@ impl<B: Body, K: Ledgers> Shared<B, K> {
 
     /// Whether the task may make the act, as far as it knows itself; where it may not, it comes to
     /// its end.
-    fn may_try(&self, task: &mut Task<B>, tried: Tried) -> Result<bool, Refusal> {
+    fn may_try(&self, task: &mut Task<B, K>, tried: Tried) -> Result<bool, Refusal>
+        ensures kept { (task.new.body ≡ task.old.body) × (task.new.fronts ≡ task.old.fronts) }
+    {
         match task.standing.may_try(self.limits, &tried) {
             Ok(()) => Ok(true),
             Err(refusal) => {
@@ -42,22 +56,23 @@ impl<B: Body, K: Ledgers> Shared<B, K> {
     /// Makes a phaser.
     fn make<R: Wait>(
         &self,
-        rt: &R,
-        shares: &mut Shares<K>,
-        task: &mut Task<B>,
+        by: &mut Caller<'_, Item<B, K>, K, R>,
+        task: &mut Task<B, K>,
         mode: Mode,
         terms: &Terms,
-    ) -> Result<(), Refusal> {
+    ) -> Result<(), Refusal>
+        ensures out { by.new.out ≡ by.old.out }
+    {
         let phaser = self.numbers.phaser();
         if self.may_try(task, Tried::New(phaser, mode, *terms))? {
-            self.make_on(rt, shares, phaser, task.number(), mode, terms)?;
+            self.make_on(by, task, phaser, mode, terms)?;
             task.note_making(phaser, mode)?;
         }
         Ok(())
     }
 
     /// Opens a finish. The memory that the task needs to know it is taken before.
-    fn open<R: Wait>(&self, rt: &R, task: &mut Task<B>) -> Result<(), Refusal> {
+    fn open<R: Wait>(&self, rt: &R, task: &mut Task<B, K>) -> Result<(), Refusal> {
         if task.standing.reserve_opening().is_err() {
             return self.fail(task, Refusal::Memory);
         }
@@ -72,20 +87,21 @@ impl<B: Body, K: Ledgers> Shared<B, K> {
     /// Sends a value.
     fn send<R: Wait>(
         &self,
-        rt: &R,
-        shares: &mut Shares<K>,
-        task: &mut Task<B>,
+        by: &mut Caller<'_, Item<B, K>, K, R>,
+        task: &mut Task<B, K>,
         phaser: u32,
         accumulator: u8,
         value: i32,
-    ) -> Result<(), Refusal> {
+    ) -> Result<(), Refusal>
+        ensures out { by.new.out ≡ by.old.out }
+    {
         let tried = Tried::Send(phaser, accumulator, value);
         if !self.may_try(task, tried)? {
             return Ok(());
         }
-        match self.send_on(rt, shares, task.number(), phaser, accumulator, value) {
+        match self.send_on(by, task, phaser, accumulator, value) {
             Ok(()) => {
-                task.note_act(Answer::Done);
+                task.note_act();
                 Ok(())
             }
             Err(refusal) => self.refuse(task, tried, refusal),
@@ -95,27 +111,26 @@ impl<B: Body, K: Ledgers> Shared<B, K> {
     /// Looks at an accumulator.
     fn look<R: Wait>(
         &self,
-        rt: &R,
-        shares: &mut Shares<K>,
-        task: &mut Task<B>,
+        by: &mut Caller<'_, Item<B, K>, K, R>,
+        task: &mut Task<B, K>,
         phaser: u32,
         accumulator: u8,
-    ) -> Result<(), Refusal> {
+    ) -> Result<(), Refusal>
+        requires says { ∥ K.Supposing.supposed → Says B.Body.shows task.old.body (look phaser accumulator) (λ n. story_at task.old.fronts n) ∥₁ }
+        ensures out { by.new.out ≡ by.old.out }
+    {
         let tried = Tried::Look(phaser, accumulator);
         if !self.may_try(task, tried)? {
             return Ok(());
         }
-        match self.look_on(rt, shares, task.number(), phaser, accumulator) {
-            Ok(seen) => {
-                task.note_act(Answer::Saw(seen));
-                Ok(())
-            }
+        match self.look_on(by, task, phaser, accumulator) {
+            Ok(()) => Ok(()),
             Err(refusal) => self.refuse(task, tried, refusal),
         }
     }
 
     /// Begins an act that goes on by this plan, where it isn't refused.
-    fn begin(&self, task: &mut Task<B>, begun: Begun, plan: Plan) -> Result<bool, Refusal> {
+    fn begin(&self, task: &mut Task<B, K>, begun: Begun, plan: Plan) -> Result<bool, Refusal> {
         if !self.may_try(task, Tried::Begun(begun))? {
             return Ok(false);
         }
@@ -125,16 +140,17 @@ impl<B: Body, K: Ledgers> Shared<B, K> {
     }
 
     /// The same, where nothing else comes of it.
-    fn enter(&self, task: &mut Task<B>, begun: Begun, plan: Plan) -> Result<(), Refusal> {
+    fn enter(&self, task: &mut Task<B, K>, begun: Begun, plan: Plan) -> Result<(), Refusal> {
         let _begun = self.begin(task, begun, plan)?;
         Ok(())
     }
 
     /// Begins to spawn a child. The child's memory is taken before the act is looked at.
-    fn spawn(&self, item: &mut Item<B>, body: B, pairs: Phased) -> Result<(), Refusal> {
+    fn spawn(&self, item: &mut Item<B, K>, body: B, pairs: Phased) -> Result<(), Refusal>
+        requires says { ∥ K.Supposing.supposed → Says B.Body.shows body nothing (λ n. story_at item.old.task.value.fronts n) ∥₁ }
+    {
         let number = self.numbers.task();
-        let home = item.task.standing.inner();
-        let Ok(child) = Task::new(self.alloc, number, body, home, self.limits.acts) else {
+        let Ok(child) = item.task.child(self.alloc, number, body, self.limits.acts) else {
             return self.fail(&mut item.task, Refusal::Memory);
         };
         let plan = Plan::Spawning(number, pairs, 0);
@@ -147,11 +163,15 @@ impl<B: Body, K: Ledgers> Shared<B, K> {
     /// Begins the act that the body gave, or makes it.
     fn act<R: Wait>(
         &self,
-        rt: &R,
-        shares: &mut Shares<K>,
-        item: &mut Item<B>,
+        by: &mut Caller<'_, Item<B, K>, K, R>,
+        item: &mut Item<B, K>,
         act: Act<B>,
-    ) -> Result<(), Refusal> {
+    ) -> Result<(), Refusal>
+        requires says { ∥ K.Supposing.supposed → Says B.Body.shows item.old.task.value.body (asked_by (Ok act)) (λ n. story_at item.old.task.value.fronts n) ∥₁ }
+        requires child { (child : B) → IsSpawned child (Ok act)
+            → ∥ K.Supposing.supposed → Says B.Body.shows child nothing (λ n. story_at item.old.task.value.fronts n) ∥₁ }
+        ensures out { by.new.out ≡ by.old.out }
+    {
         let task = &mut *item.task;
         match act {
             Act::Async(body, pairs) => self.spawn(item, body, pairs),
@@ -159,11 +179,11 @@ impl<B: Body, K: Ledgers> Shared<B, K> {
                 let pairs = task.standing.pairs();
                 self.spawn(item, body, pairs)
             }
-            Act::OpenFinish => self.open(rt, task),
+            Act::OpenFinish => self.open(by.rt, task),
             Act::ShutFinish => self.enter(task, Begun::Shut, Plan::Shutting),
             Act::New(mode, ops, bound) => {
                 let terms = Terms { ops, bound };
-                self.make(rt, shares, task, mode, &terms)
+                self.make(by, task, mode, &terms)
             }
             Act::Signal => self.enter(task, Begun::Signal, Plan::Signalling(None, false)),
             Act::Wait => self.enter(task, Begun::Wait, Plan::Turning(0)),
@@ -173,9 +193,9 @@ impl<B: Body, K: Ledgers> Shared<B, K> {
                 self.enter(task, Begun::NextSingle(number), plan)
             }
             Act::Send(phaser, accumulator, value) => {
-                self.send(rt, shares, task, phaser, accumulator, value)
+                self.send(by, task, phaser, accumulator, value)
             }
-            Act::Look(phaser, accumulator) => self.look(rt, shares, task, phaser, accumulator),
+            Act::Look(phaser, accumulator) => self.look(by, task, phaser, accumulator),
             Act::End => self.enter(task, Begun::End, Plan::Ending),
         }
     }
@@ -183,18 +203,17 @@ impl<B: Body, K: Ledgers> Shared<B, K> {
     /// Asks the body for its next act, and begins it.
     pub(crate) fn step<G: Gate, R: Wait>(
         &self,
-        rt: &R,
         gate: &G,
-        worker: &mut Worker<B, K>,
-        item: &mut Item<B>,
+        busy: &mut Busy<'_, B, K, R>,
+        item: &mut Item<B, K>,
     ) -> Result<(), Refusal>
-        ensures seat { IsSeatOf worker.old.seat worker.new.seat }
+        ensures seat { IsSeatOf busy.old.seat busy.new.seat }
     {
-        gate.enter(worker.number, item.task.number());
+        gate.enter(busy.number, item.task.number());
         let act = item.task.next_act();
-        gate.leave(worker.number, item.task.number());
+        gate.leave(busy.number, item.task.number());
         match act {
-            Ok(act) => self.act(rt, &mut worker.shares, item, act),
+            Ok(act) => self.act(&mut busy.by, item, act),
             Err(refusal) => self.fail(&mut item.task, refusal),
         }
     }

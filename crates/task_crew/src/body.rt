@@ -1,5 +1,6 @@
 //! What is run: a body of a task, and a gate round its steps.
 ghost use Rattle.std.specs.Prelude.{◌≡◌, IfErr};
+ghost use Rattle.task_crew.specs.Heard.{nothing, asked_by, IsHeard, IsSpawned};
 
 use job_script::{Act, Answer, ScriptBody};
 use phase_modes::Refusal;
@@ -7,15 +8,33 @@ use phase_modes::Refusal;
 /// A task's program: a value that gives one act after the other. It never waits itself: whoever runs
 /// it carries an act out, and comes back with what it came to. A body that allocates keeps its own
 /// allocator.
+///
+/// A body may say something of what its task has seen (`shows`): who writes it proves of `step` that
+/// it stays so, and then `phased_rt::run` says it of the root's body and of the run's trace. The
+/// step hears of a look what `IsHeard` says: it saw the fold of all values that were sent for a phase,
+/// which was closed. A body that says nothing has nothing to prove.
 pub trait Body: Drop {
+    ghost use Rattle.std.specs.Prelude.{ℕ};
+    ghost use Rattle.phase_model.specs.Rules.{Story};
+    ghost use Rattle.task_crew.specs.Heard.{Asked};
+
+    /// What the body says, where this is what it asked for by its last act, and its task has seen
+    /// this of each phaser: nothing where nobody says.
+    ghost shows: { Self → Asked → (ℕ → Story) → Type 0 } = { λ _ _ _. Unit {0} };
+
     /// The task's next act, after the answer to the one before: `Started` at first. After `End` it is
     /// not called again, nor once an act was refused. `Memory`, the only error, ends the task.
     fn step(&mut self, answer: Answer) -> Result<Act<Self>, Refusal>
-        ensures memory { IfErr result (λ e. e ≡ Refusal.Memory) };
+        ensures memory { IfErr result (λ e. e ≡ Refusal.Memory) }
+        ensures shows { (asked : Asked) (seen now : ℕ → Story) → shows self.old asked seen → IsHeard asked answer seen now
+            → shows self.new (asked_by result) now }
+        ensures child { (asked : Asked) (seen now : ℕ → Story) (child : Self) → shows self.old asked seen → IsHeard asked answer seen now
+            → IsSpawned child result → shows child nothing now };
 
     /// Runs the statement of this number, which the task alone has claimed: of those who proposed it
     /// in a phase just one is called, once.
-    fn single(&mut self, number: u32);
+    fn single(&mut self, number: u32)
+        ensures { (asked : Asked) (seen : ℕ → Story) → shows self.old asked seen → shows self.new asked seen };
 }
 
 /// Called round each step of a body, while no lock is held.

@@ -1,193 +1,175 @@
 //! The calls on phasers and finishes behind their locks, by number. Those whom a call wakes are
 //! given to the queue before it answers. A number past the tables is nobody's.
+ghost use Rattle.std.specs.Prelude.{◌≡◌};
+ghost use Rattle.table_receipts.specs.Seen.{story_at};
 ghost use Rattle.task_queue.specs.Accounts.{IsSeatOf};
+ghost use Rattle.task_crew.specs.Heard.{look};
+ghost use Rattle.task_crew.specs.inner.Ready.{Says};
 
 use crate::body::Body;
 use crate::diary::Diary;
-use crate::task::Item;
-use crate::worker::{Shared, Worker};
-use phase_model::{Look, Terms};
+use crate::naming::RunNaming;
+use crate::task::{Item, Task};
+use crate::worker::{Busy, Shared};
+use job_script::Answer;
+use phase_model::Terms;
 use phase_modes::{Mode, Pair, Refusal};
 use scope_locks::{PassAnswer, ShutAnswer, SignalAnswer};
-use share_book::{Ledgers, Shares};
 use std::sync::Wait;
+use table_receipts::Caller;
 
-impl<B: Body, K: Ledgers> Shared<B, K> {
+impl<B: Body, K: RunNaming> Shared<B, K> {
     pub(crate) fn make_on<R: Wait>(
         &self,
-        rt: &R,
-        shares: &mut Shares<K>,
+        by: &mut Caller<'_, Item<B, K>, K, R>,
+        task: &mut Task<B, K>,
         phaser: u32,
-        task: u32,
         mode: Mode,
         terms: &Terms,
-    ) -> Result<(), Refusal> {
-        let number = phaser as usize;
-        if number >= self.phasers.phasers {
-            return Err(Refusal::PhasersFull);
-        }
-        let tickets = &self.tickets;
-        let ops = terms.ops;
+    ) -> Result<(), Refusal>
+        ensures out { by.new.out ≡ by.old.out }
+    {
+        let number = self.place(phaser, Refusal::PhasersFull)?;
+        let maker = task.number();
+        let mut me = task.fronts.get(number);
         self.phasers
-            .make(rt, number, tickets, shares, task, mode, ops, terms.bound)
+            .make(by, &mut me, number, maker, mode, terms.ops, terms.bound)
     }
 
     pub(crate) fn register_on<R: Wait>(
         &self,
-        rt: &R,
-        shares: &mut Shares<K>,
-        task: u32,
+        by: &mut Caller<'_, Item<B, K>, K, R>,
+        task: &mut Task<B, K>,
         child: u32,
         pair: Pair,
-    ) -> Result<(), Refusal> {
-        let number = pair.phaser as usize;
-        if number >= self.phasers.phasers {
-            return Err(Refusal::NotRegistered);
-        }
+    ) -> Result<(), Refusal>
+        ensures out { by.new.out ≡ by.old.out }
+    {
+        let number = self.place(pair.phaser, Refusal::NotRegistered)?;
+        let parent = task.number();
+        let mut me = task.fronts.get(number);
         self.phasers
-            .register(rt, number, &self.tickets, shares, task, child, pair.mode)
+            .register(by, &mut me, number, parent, child, pair.mode)
     }
 
     pub(crate) fn send_on<R: Wait>(
         &self,
-        rt: &R,
-        shares: &mut Shares<K>,
-        task: u32,
+        by: &mut Caller<'_, Item<B, K>, K, R>,
+        task: &mut Task<B, K>,
         phaser: u32,
         accumulator: u8,
         value: i32,
-    ) -> Result<(), Refusal> {
-        let number = phaser as usize;
-        if number >= self.phasers.phasers {
-            return Err(Refusal::NotRegistered);
-        }
-        self.phasers.send(rt, number, &self.tickets, shares, task, accumulator, value)
+    ) -> Result<(), Refusal>
+        ensures out { by.new.out ≡ by.old.out }
+    {
+        let number = self.place(phaser, Refusal::NotRegistered)?;
+        let sender = task.number();
+        let mut me = task.fronts.get(number);
+        self.phasers
+            .send(by, &mut me, number, sender, accumulator, value)
     }
 
+    /// The body hears what was seen.
     pub(crate) fn look_on<R: Wait>(
         &self,
-        rt: &R,
-        shares: &mut Shares<K>,
-        task: u32,
+        by: &mut Caller<'_, Item<B, K>, K, R>,
+        task: &mut Task<B, K>,
         phaser: u32,
         accumulator: u8,
-    ) -> Result<Look, Refusal> {
-        let number = phaser as usize;
-        if number >= self.phasers.phasers {
-            return Err(Refusal::NotRegistered);
-        }
-        self.phasers
-            .look(rt, number, &self.tickets, shares, task, accumulator)
+    ) -> Result<(), Refusal>
+        requires says { ∥ K.Supposing.supposed → Says B.Body.shows task.old.body (look phaser accumulator) (λ n. story_at task.old.fronts n) ∥₁ }
+        ensures out { by.new.out ≡ by.old.out }
+    {
+        let number = self.place(phaser, Refusal::NotRegistered)?;
+        let reader = task.number();
+        let mut me = task.fronts.get(number);
+        let seen = self
+            .phasers
+            .look(by, &mut me, number, reader, accumulator)?;
+        task.fronts.set(number, me);
+        task.standing.note_act();
+        task.answer = Answer::Saw(seen);
+        Ok(())
     }
 
     /// The item comes back, or it is parked.
     pub(crate) fn signal_on<R: Wait>(
         &self,
-        rt: &R,
-        worker: &mut Worker<B, K>,
-        item: Item<B>,
+        busy: &mut Busy<'_, B, K, R>,
+        item: Item<B, K>,
         phaser: u32,
         proposed: Option<u32>,
-    ) -> Result<SignalAnswer<Item<B>>, Refusal>
-        ensures seat { IsSeatOf worker.old.seat worker.new.seat }
+    ) -> Result<SignalAnswer<Item<B, K>>, Refusal>
+        ensures seat { IsSeatOf busy.old.seat busy.new.seat }
     {
-        let number = phaser as usize;
-        if number >= self.phasers.phasers {
-            return Ok(SignalAnswer::Refused(item, Refusal::NotRegistered));
-        }
+        let number = match self.place(phaser, Refusal::NotRegistered) {
+            Ok(number) => number,
+            Err(refusal) => return Ok(SignalAnswer::Refused(item, refusal)),
+        };
+        let mut item = item;
         let task = item.task.number();
-        let Worker {
-            seat,
-            kept,
-            shares,
-            out,
-            ..
-        } = worker;
-        let tickets = &self.tickets;
+        let mut me = item.task.fronts.get(number);
+        let Busy { seat, by, kept, .. } = busy;
         let answer = self
             .phasers
-            .signal(rt, number, tickets, shares, out, task, proposed, item);
-        self.flush(rt, seat, kept, out)?;
+            .signal(by, &mut me, number, task, proposed, item);
+        self.flush(by.rt, seat, kept, &mut by.out)?;
         Ok(answer)
     }
 
     /// The item comes back, or it is parked.
     pub(crate) fn pass_on<R: Wait>(
         &self,
-        rt: &R,
-        worker: &mut Worker<B, K>,
-        item: Item<B>,
+        busy: &mut Busy<'_, B, K, R>,
+        item: Item<B, K>,
         phaser: u32,
-    ) -> Result<PassAnswer<Item<B>>, Refusal>
-        ensures seat { IsSeatOf worker.old.seat worker.new.seat }
+    ) -> Result<PassAnswer<Item<B, K>>, Refusal>
+        ensures seat { IsSeatOf busy.old.seat busy.new.seat }
     {
-        let number = phaser as usize;
-        if number >= self.phasers.phasers {
-            return Ok(PassAnswer::Refused(item, Refusal::NotRegistered));
-        }
+        let number = match self.place(phaser, Refusal::NotRegistered) {
+            Ok(number) => number,
+            Err(refusal) => return Ok(PassAnswer::Refused(item, refusal)),
+        };
+        let mut item = item;
         let task = item.task.number();
-        let Worker {
-            seat,
-            kept,
-            shares,
-            out,
-            ..
-        } = worker;
-        let answer = self
-            .phasers
-            .pass(rt, number, &self.tickets, shares, out, task, item);
-        self.flush(rt, seat, kept, out)?;
+        let mut me = item.task.fronts.get(number);
+        let Busy { seat, by, kept, .. } = busy;
+        let answer = self.phasers.pass(by, &mut me, number, task, item);
+        self.flush(by.rt, seat, kept, &mut by.out)?;
         Ok(answer)
     }
 
     pub(crate) fn report_on<R: Wait>(
         &self,
-        rt: &R,
-        worker: &mut Worker<B, K>,
-        task: u32,
+        busy: &mut Busy<'_, B, K, R>,
+        task: &mut Task<B, K>,
         phaser: u32,
     ) -> Result<(), Refusal>
-        ensures seat { IsSeatOf worker.old.seat worker.new.seat }
+        ensures seat { IsSeatOf busy.old.seat busy.new.seat }
     {
-        let number = phaser as usize;
-        if number >= self.phasers.phasers {
-            return Err(Refusal::NotRegistered);
-        }
-        let Worker {
-            seat,
-            kept,
-            shares,
-            out,
-            ..
-        } = worker;
-        self.phasers
-            .single_done(rt, number, &self.tickets, shares, out, task)?;
-        self.flush(rt, seat, kept, out)
+        let number = self.place(phaser, Refusal::NotRegistered)?;
+        let reporter = task.number();
+        let mut me = task.fronts.get(number);
+        let Busy { seat, by, kept, .. } = busy;
+        self.phasers.single_done(by, &mut me, number, reporter)?;
+        self.flush(by.rt, seat, kept, &mut by.out)
     }
 
+    /// The task, or the child that it is spawning, leaves the phaser.
     pub(crate) fn drop_on<R: Wait>(
         &self,
-        rt: &R,
-        worker: &mut Worker<B, K>,
-        task: u32,
+        busy: &mut Busy<'_, B, K, R>,
+        task: &mut Task<B, K>,
+        leaver: u32,
         phaser: u32,
     ) -> Result<(), Refusal>
-        ensures seat { IsSeatOf worker.old.seat worker.new.seat }
+        ensures seat { IsSeatOf busy.old.seat busy.new.seat }
     {
-        let number = phaser as usize;
-        if number >= self.phasers.phasers {
-            return Err(Refusal::NotRegistered);
-        }
-        let Worker {
-            seat,
-            kept,
-            shares,
-            out,
-            ..
-        } = worker;
-        self.phasers
-            .drop_task(rt, number, &self.tickets, shares, out, task)?;
-        self.flush(rt, seat, kept, out)
+        let number = self.place(phaser, Refusal::NotRegistered)?;
+        let mut me = task.fronts.get(number);
+        let Busy { seat, by, kept, .. } = busy;
+        self.phasers.drop_task(by, &mut me, number, leaver)?;
+        self.flush(by.rt, seat, kept, &mut by.out)
     }
 
     pub(crate) fn open_on<R: Wait>(&self, rt: &R, task: u32, finish: u32) -> Result<(), Refusal> {
@@ -208,28 +190,22 @@ impl<B: Body, K: Ledgers> Shared<B, K> {
 
     pub(crate) fn end_on<R: Wait>(
         &self,
-        rt: &R,
-        worker: &mut Worker<B, K>,
+        busy: &mut Busy<'_, B, K, R>,
         task: u32,
         log: Diary,
         finish: u32,
     ) -> Result<(), Refusal>
-        ensures seat { IsSeatOf worker.old.seat worker.new.seat }
+        ensures seat { IsSeatOf busy.old.seat busy.new.seat }
     {
         let number = finish as usize;
         if number >= self.finishes.finishes {
             return Err(Refusal::NotNow);
         }
-        let Worker {
-            seat,
-            kept,
-            out,
-            ..
-        } = worker;
+        let Busy { seat, by, kept, .. } = busy;
         let ended = self
             .finishes
-            .ended(rt, number, &self.tickets, task, log, out);
-        self.flush(rt, seat, kept, out)?;
+            .ended(by.rt, number, &self.tickets, task, log, &mut by.out);
+        self.flush(by.rt, seat, kept, &mut by.out)?;
         match ended {
             Ok(()) => Ok(()),
             Err(_) => Err(Refusal::NotNow),
@@ -240,9 +216,9 @@ impl<B: Body, K: Ledgers> Shared<B, K> {
     pub(crate) fn shut_on<R: Wait>(
         &self,
         rt: &R,
-        item: Item<B>,
+        item: Item<B, K>,
         finish: u32,
-    ) -> ShutAnswer<Item<B>> {
+    ) -> ShutAnswer<Item<B, K>> {
         let number = finish as usize;
         if number >= self.finishes.finishes {
             return ShutAnswer::Refused(item, Refusal::NotNow);

@@ -5,11 +5,11 @@ ghost use Rattle.task_queue.specs.Accounts.{IsSeatOf};
 
 use crate::body::{Body, Gate};
 use crate::crew::Crew;
+use crate::naming::RunNaming;
 use crate::task::{Item, RootLeft, Task};
-use crate::worker::{Shared, Worker};
+use crate::worker::{Busy, Shared, Worker};
 use phase_modes::{Pair, Refusal};
 use scope_locks::{PassAnswer, ShutAnswer, SignalAnswer};
-use share_book::Ledgers;
 use std::sync::Wait;
 use task_standing::Due;
 
@@ -19,7 +19,7 @@ use task_standing::Due;
 const STRETCH: u32 = 64;
 
 /// A task that goes on; none where it is parked or has ended.
-type Next<B> = Option<Item<B>>;
+type Next<B, K> = Option<Item<B, K>>;
 
 /// What is answered where a call on a phaser or a finish was refused that no act under way can be
 /// refused. Memory may be wanting anywhere.
@@ -32,9 +32,9 @@ fn told(refusal: Refusal) -> Refusal
     }
 }
 
-impl<B: Body, K: Ledgers> Shared<B, K> {
+impl<B: Body, K: RunNaming> Shared<B, K> {
     /// The task gives up by this refusal, where its event may be refused by it.
-    fn give_up(&self, item: Item<B>, refusal: Refusal, may_fail: bool) -> Result<Next<B>, Refusal> {
+    fn give_up(&self, item: Item<B, K>, refusal: Refusal, may_fail: bool) -> Result<Next<B, K>, Refusal> {
         let mut item = item;
         if !may_fail {
             return Err(refusal);
@@ -46,15 +46,14 @@ impl<B: Body, K: Ledgers> Shared<B, K> {
     /// A task that is parked signals again once it is woken: its signal is still due.
     fn signal<R: Wait>(
         &self,
-        rt: &R,
-        worker: &mut Worker<B, K>,
-        item: Item<B>,
+        busy: &mut Busy<'_, B, K, R>,
+        item: Item<B, K>,
         phaser: u32,
         number: Option<u32>,
-    ) -> Result<Next<B>, Refusal>
-        ensures seat { IsSeatOf worker.old.seat worker.new.seat }
+    ) -> Result<Next<B, K>, Refusal>
+        ensures seat { IsSeatOf busy.old.seat busy.new.seat }
     {
-        match self.signal_on(rt, worker, item, phaser, number)? {
+        match self.signal_on(busy, item, phaser, number)? {
             SignalAnswer::Signalled(signalled) => {
                 let mut item = signalled;
                 item.task.standing.note_signal(phaser);
@@ -71,36 +70,34 @@ impl<B: Body, K: Ledgers> Shared<B, K> {
     /// Runs the statement that the task has claimed, and reports it done. The pass comes again.
     fn run_single<R: Wait>(
         &self,
-        rt: &R,
-        worker: &mut Worker<B, K>,
-        item: Item<B>,
+        busy: &mut Busy<'_, B, K, R>,
+        item: Item<B, K>,
         phaser: u32,
         number: u32,
-    ) -> Result<Next<B>, Refusal>
-        ensures seat { IsSeatOf worker.old.seat worker.new.seat }
+    ) -> Result<Next<B, K>, Refusal>
+        ensures seat { IsSeatOf busy.old.seat busy.new.seat }
     {
         let mut item = item;
-        item.task.body.single(number);
-        self.report_on(rt, worker, item.task.number(), phaser)?;
+        item.task.run_single(number);
+        self.report_on(busy, &mut item.task, phaser)?;
         Ok(Some(item))
     }
 
     fn pass<R: Wait>(
         &self,
-        rt: &R,
-        worker: &mut Worker<B, K>,
-        item: Item<B>,
+        busy: &mut Busy<'_, B, K, R>,
+        item: Item<B, K>,
         phaser: u32,
-    ) -> Result<Next<B>, Refusal>
-        ensures seat { IsSeatOf worker.old.seat worker.new.seat }
+    ) -> Result<Next<B, K>, Refusal>
+        ensures seat { IsSeatOf busy.old.seat busy.new.seat }
     {
-        match self.pass_on(rt, worker, item, phaser)? {
+        match self.pass_on(busy, item, phaser)? {
             PassAnswer::Passed(passed, _) => {
                 let mut item = passed;
                 item.task.standing.note_pass(phaser);
                 Ok(Some(item))
             }
-            PassAnswer::Claimed(item, number) => self.run_single(rt, worker, item, phaser, number),
+            PassAnswer::Claimed(item, number) => self.run_single(busy, item, phaser, number),
             PassAnswer::Parked => Ok(None),
             PassAnswer::Refused(item, refusal) => {
                 let may_fail = matches!(refusal, Refusal::HistoryFull);
@@ -111,16 +108,15 @@ impl<B: Body, K: Ledgers> Shared<B, K> {
 
     fn register<R: Wait>(
         &self,
-        rt: &R,
-        worker: &mut Worker<B, K>,
-        item: Item<B>,
+        busy: &mut Busy<'_, B, K, R>,
+        item: Item<B, K>,
         child: u32,
         pair: Pair,
-    ) -> Result<Next<B>, Refusal>
-        ensures seat { IsSeatOf worker.old.seat worker.new.seat }
+    ) -> Result<Next<B, K>, Refusal>
+        ensures seat { IsSeatOf busy.old.seat busy.new.seat }
     {
         let mut item = item;
-        match self.register_on(rt, &mut worker.shares, item.task.number(), child, pair) {
+        match self.register_on(&mut busy.by, &mut item.task, child, pair) {
             Ok(()) => {
                 item.note_registration(pair)?;
                 Ok(Some(item))
@@ -135,12 +131,11 @@ impl<B: Body, K: Ledgers> Shared<B, K> {
     /// The child is born, and any worker may run it.
     fn bear<R: Wait>(
         &self,
-        rt: &R,
-        worker: &mut Worker<B, K>,
-        item: Item<B>,
+        busy: &mut Busy<'_, B, K, R>,
+        item: Item<B, K>,
         finish: u32,
-    ) -> Result<Next<B>, Refusal>
-        ensures seat { IsSeatOf worker.old.seat worker.new.seat }
+    ) -> Result<Next<B, K>, Refusal>
+        ensures seat { IsSeatOf busy.old.seat busy.new.seat }
     {
         let Item { task, unborn } = item;
         let mut task = task;
@@ -148,24 +143,24 @@ impl<B: Body, K: Ledgers> Shared<B, K> {
             return Err(Refusal::NotNow);
         };
         let number = child.number();
-        self.spawn_on(rt, number, finish)?;
+        self.spawn_on(busy.by.rt, number, finish)?;
         task.note_birth(number);
-        self.give(rt, worker, Item::of(child))?;
+        self.give(busy, Item::of(child))?;
         Ok(Some(Item::of(task)))
     }
 
     /// The task leaves a phaser.
     fn leave<R: Wait>(
         &self,
-        rt: &R,
-        worker: &mut Worker<B, K>,
-        item: Item<B>,
+        busy: &mut Busy<'_, B, K, R>,
+        item: Item<B, K>,
         phaser: u32,
-    ) -> Result<Next<B>, Refusal>
-        ensures seat { IsSeatOf worker.old.seat worker.new.seat }
+    ) -> Result<Next<B, K>, Refusal>
+        ensures seat { IsSeatOf busy.old.seat busy.new.seat }
     {
         let mut item = item;
-        self.drop_on(rt, worker, item.task.number(), phaser)?;
+        let leaver = item.task.number();
+        self.drop_on(busy, &mut item.task, leaver, phaser)?;
         item.task.standing.leave(phaser);
         Ok(Some(item))
     }
@@ -173,21 +168,25 @@ impl<B: Body, K: Ledgers> Shared<B, K> {
     /// The unborn child is taken off a phaser.
     fn drop_child<R: Wait>(
         &self,
-        rt: &R,
-        worker: &mut Worker<B, K>,
-        item: Item<B>,
+        busy: &mut Busy<'_, B, K, R>,
+        item: Item<B, K>,
         child: u32,
         phaser: u32,
-    ) -> Result<Next<B>, Refusal>
-        ensures seat { IsSeatOf worker.old.seat worker.new.seat }
+    ) -> Result<Next<B, K>, Refusal>
+        ensures seat { IsSeatOf busy.old.seat busy.new.seat }
     {
         let mut item = item;
-        self.drop_on(rt, worker, child, phaser)?;
+        self.drop_on(busy, &mut item.task, child, phaser)?;
         item.note_child_gone(phaser);
         Ok(Some(item))
     }
 
-    fn shut<R: Wait>(&self, rt: &R, item: Item<B>, finish: u32) -> Result<Next<B>, Refusal> {
+    fn shut<R: Wait>(
+        &self,
+        rt: &R,
+        item: Item<B, K>,
+        finish: u32,
+    ) -> Result<Next<B, K>, Refusal> {
         match self.shut_on(rt, item, finish) {
             ShutAnswer::Done(shut) => {
                 let mut item = shut;
@@ -202,35 +201,35 @@ impl<B: Body, K: Ledgers> Shared<B, K> {
     /// The task ends, and leaves its log in the finish in which it was spawned.
     fn end<R: Wait>(
         &self,
-        rt: &R,
-        worker: &mut Worker<B, K>,
-        item: Item<B>,
+        busy: &mut Busy<'_, B, K, R>,
+        item: Item<B, K>,
         finish: u32,
-    ) -> Result<Next<B>, Refusal>
-        ensures seat { IsSeatOf worker.old.seat worker.new.seat }
+    ) -> Result<Next<B, K>, Refusal>
+        ensures seat { IsSeatOf busy.old.seat busy.new.seat }
     {
         let Item { task, unborn: _ } = item;
         let number = task.number();
         let Task { log, .. } = Box::into_inner(task);
-        self.end_on(rt, worker, number, log, finish)?;
+        self.end_on(busy, number, log, finish)?;
         Ok(None)
     }
 
     /// The root shuts finish 0: the run is over, and the root's log and body are its worker's.
     fn close<R: Wait>(
         &self,
-        rt: &R,
-        worker: &mut Worker<B, K>,
-        item: Item<B>,
-    ) -> Result<Next<B>, Refusal>
-        ensures seat { IsSeatOf worker.old.seat worker.new.seat }
+        busy: &mut Busy<'_, B, K, R>,
+        item: Item<B, K>,
+    ) -> Result<Next<B, K>, Refusal>
+        ensures seat { IsSeatOf busy.old.seat busy.new.seat }
     {
-        match self.shut_on(rt, item, 0) {
+        match self.shut_on(busy.by.rt, item, 0) {
             ShutAnswer::Done(item) => {
                 let Item { task, unborn: _ } = item;
-                let Task { body, log, .. } = Box::into_inner(task);
-                worker.root = Some(RootLeft { log, body });
-                self.queue.close(rt);
+                let Task {
+                    body, fronts, log, ..
+                } = Box::into_inner(task);
+                busy.root = Some(RootLeft { log, body, fronts });
+                self.queue.close(busy.by.rt);
                 Ok(None)
             }
             ShutAnswer::Parked => Ok(None),
@@ -241,28 +240,27 @@ impl<B: Body, K: Ledgers> Shared<B, K> {
     /// Makes the event that comes next, or asks the body for an act.
     fn go_on<G: Gate, R: Wait>(
         &self,
-        rt: &R,
         gate: &G,
-        worker: &mut Worker<B, K>,
-        item: Item<B>,
-    ) -> Result<Next<B>, Refusal>
-        ensures seat { IsSeatOf worker.old.seat worker.new.seat }
+        busy: &mut Busy<'_, B, K, R>,
+        item: Item<B, K>,
+    ) -> Result<Next<B, K>, Refusal>
+        ensures seat { IsSeatOf busy.old.seat busy.new.seat }
     {
         let mut item = item;
         match item.due() {
             Due::Step => {
-                self.step(rt, gate, worker, &mut item)?;
+                self.step(gate, busy, &mut item)?;
                 Ok(Some(item))
             }
-            Due::Signal(phaser, number) => self.signal(rt, worker, item, phaser, number),
-            Due::Pass(phaser) => self.pass(rt, worker, item, phaser),
-            Due::Register(child, pair) => self.register(rt, worker, item, child, pair),
-            Due::Spawn(_, finish) => self.bear(rt, worker, item, finish),
-            Due::DropChild(child, phaser) => self.drop_child(rt, worker, item, child, phaser),
-            Due::Leave(phaser) => self.leave(rt, worker, item, phaser),
-            Due::Shut(finish) => self.shut(rt, item, finish),
-            Due::End(finish) => self.end(rt, worker, item, finish),
-            Due::Close => self.close(rt, worker, item),
+            Due::Signal(phaser, number) => self.signal(busy, item, phaser, number),
+            Due::Pass(phaser) => self.pass(busy, item, phaser),
+            Due::Register(child, pair) => self.register(busy, item, child, pair),
+            Due::Spawn(_, finish) => self.bear(busy, item, finish),
+            Due::DropChild(child, phaser) => self.drop_child(busy, item, child, phaser),
+            Due::Leave(phaser) => self.leave(busy, item, phaser),
+            Due::Shut(finish) => self.shut(busy.by.rt, item, finish),
+            Due::End(finish) => self.end(busy, item, finish),
+            Due::Close => self.close(busy, item),
         }
     }
 
@@ -270,21 +268,20 @@ impl<B: Body, K: Ledgers> Shared<B, K> {
     /// queue for its next one.
     fn drive<G: Gate, R: Wait>(
         &self,
-        rt: &R,
         gate: &G,
-        worker: &mut Worker<B, K>,
-        item: Item<B>,
+        busy: &mut Busy<'_, B, K, R>,
+        item: Item<B, K>,
     ) -> Result<(), Refusal>
-        ensures seat { IsSeatOf worker.old.seat worker.new.seat }
+        ensures seat { IsSeatOf busy.old.seat busy.new.seat }
     {
         let mut driven = item;
         for _event in 0..STRETCH {
-            match self.go_on(rt, gate, worker, driven)? {
+            match self.go_on(gate, busy, driven)? {
                 Some(item) => driven = item,
                 None => return Ok(()),
             }
         }
-        self.give(rt, worker, driven)
+        self.give(busy, driven)
     }
 
     /// Takes tasks and drives them, until the queue is closed. Where something is amiss, the queue
@@ -298,12 +295,12 @@ impl<B: Body, K: Ledgers> Shared<B, K> {
         ensures seat { IfOk result (λ w. IsSeatOf worker.seat w.seat) }
         ensures refused { IfErr result (λ e. IsRunRefused e) }
     {
-        let mut worker = worker;
+        let mut busy = Busy::of(rt, &self.tickets, worker);
         for _ in rt.forever() {
-            let Some(item) = self.next(rt, &mut worker) else {
-                return Ok(worker);
+            let Some(item) = self.next(&mut busy) else {
+                return Ok(busy.into_worker());
             };
-            if let Err(refusal) = self.drive(rt, gate, &mut worker, item) {
+            if let Err(refusal) = self.drive(gate, &mut busy, item) {
                 self.queue.close(rt);
                 return Err(told(refusal));
             }
@@ -314,12 +311,12 @@ impl<B: Body, K: Ledgers> Shared<B, K> {
 
 /// What all workers share, with the gate round each step.
 #[derive(Drop)]
-pub(crate) struct Team<'a, B: Body, K: Ledgers, G: Gate> {
+pub(crate) struct Team<'a, B: Body, K: RunNaming, G: Gate> {
     pub(crate) shared: &'a Shared<B, K>,
     pub(crate) gate: &'a G,
 }
 
-impl<'a, B: Body, K: Ledgers, G: Gate> Crew<Worker<B, K>> for Team<'a, B, K, G> {
+impl<'a, B: Body, K: RunNaming, G: Gate> Crew<Worker<B, K>> for Team<'a, B, K, G> {
     ghost stays = { λ old new. IsSeatOf old.seat new.seat };
 
     fn work<R: Wait>(&self, rt: &R, worker: Worker<B, K>) -> Result<Worker<B, K>, Refusal> {

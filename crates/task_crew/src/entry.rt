@@ -1,32 +1,61 @@
 //! The entry: it makes the tables, the queue and the workers, lets them work, and gathers what they leave.
-ghost use Rattle.std.specs.Prelude.{◌≡◌, ◌<◌, ◌≤◌, true, IfOk, IfErr};
+ghost use Rattle.std.specs.Prelude.{◌≡◌, ◌×◌, ◌<◌, ◌≤◌, ℕ, [], true, All, IfOk, IfErr, IfSome, slice_get, vec_len};
 ghost use Rattle.phase_modes.specs.Limits.{limits_fit};
+ghost use Rattle.phase_model.specs.Rules.{Story};
 ghost use Rattle.share_book.specs.Opening.{IsNamed, IsParted};
+ghost use Rattle.task_crew.specs.Heard.{nothing, IsSaid};
 ghost use Rattle.task_crew.specs.Refused.{IsRunRefused};
 ghost use Rattle.task_crew.specs.Remaining.{AreRemains};
 
 use crate::body::{Body, Gate};
+use crate::naming::{RunNaming, Supposing};
 use crate::remains::Remains;
 use crate::staff::{put_root, run_staff, staff_of};
 use crate::task::{Item, Task};
 use crate::worker::{Numbers, Shared};
+use ghost_log::Whole;
 use phase_modes::{Limits, Refusal};
-use scope_locks::{FinishTable, PhaserTable, Tickets};
+use scope_locks::{FinishTable, Tickets};
 use share_book::{Blanks, Seven, SharedLedgers, open};
 use std::alloc::Global;
 use std::marker::Brand;
 use std::sync::Wait;
 use std::sync::ledger::Ledger;
 use std::thread::Threads;
+use table_receipts::{Fronts, Logs, Named, Noted, PhaserLogs, ReceiptTable, new_logs};
 use task_queue::RunQueue;
 
+/// The root, before its first act.
+fn root_of<K: RunNaming, B: Body, R: Wait>(
+    rt: &R,
+    alloc: Global,
+    limits: Limits,
+    phasers: &ReceiptTable<Item<B, K>, K>,
+    root: B,
+) -> Result<Item<B, K>, Refusal>
+    requires all { phasers.now.phasers ≡ K.Logs.limits.phasers }
+    requires root { K.Supposing.supposed → (seen : ℕ → Story) → B.Body.shows root nothing seen }
+    ensures memory { IfErr result (λ e. e ≡ Refusal.Memory) }
+{
+    let fronts = Fronts::of(alloc, rt, phasers)?;
+    Ok(Item::of(Task::new(
+        alloc,
+        0,
+        root,
+        0,
+        limits.acts,
+        fronts,
+    )?))
+}
+
 /// The workers work, with books of these ledgers.
-fn run_in<K: SharedLedgers, B: Body + Send, G: Gate + Sync, R: Threads + Wait + Sync>(
+fn run_in<K: RunNaming + SharedLedgers, B: Body + Send, G: Gate + Sync, R: Threads + Wait + Sync>(
     rt: &R,
     alloc: Global,
     root: B,
     limits: Limits,
     blanks: Blanks,
+    logs: Vec<Whole<Noted>>,
     gate: &G,
 ) -> Result<Remains<B>, Refusal>
     requires names { IsNamed blanks K.EventsByPhaser.name K.EventsByWorker.name K.UpByPhaser.name
@@ -36,15 +65,22 @@ fn run_in<K: SharedLedgers, B: Body + Send, G: Gate + Sync, R: Threads + Wait + 
     requires blanks { blanks.phasers ≡ limits.phasers }
     requires workers { (0 < blanks.workers) × (blanks.workers ≤ 16) }
     requires limits { limits_fit limits ≡ true }
+    requires limited { limits ≡ K.Logs.limits }
+    requires logs { (i : ℕ) → IfSome (slice_get logs.items i) (λ w. w.name ≡ K.Logs.logs i) }
+    requires empty { All (λ w. w.items ≡ []) logs.items }
+    requires each { vec_len logs ≡ limits.phasers }
+    requires root { K.Supposing.supposed → (seen : ℕ → Story) → B.Body.shows root nothing seen }
     ensures remains { IfOk result (λ r. AreRemains limits r.phasers.items r.finishes.items r.logs.items r.totals) }
+    ensures says { IfOk result (λ r. K.Supposing.supposed → IsSaid B.Body.shows limits r.phasers.items r.root) }
     ensures refused { IfErr result (λ e. IsRunRefused e) }
 {
     let workers = blanks.workers;
     let (books, phasers, shares) = open::<K>(alloc, blanks)?;
-    let phasers = PhaserTable::new(alloc, limits, books, phasers)?;
+    let logs = PhaserLogs::<K>::of(alloc, logs)?;
+    let phasers = ReceiptTable::new(alloc, limits, books, phasers, logs)?;
     let finishes = FinishTable::new(alloc, limits)?;
     let (queue, mut seats) = RunQueue::new(alloc, workers, limits.tasks as usize)?;
-    let root = Item::of(Task::new(alloc, 0, root, 0, limits.acts)?);
+    let root = root_of(rt, alloc, limits, &phasers, root)?;
     put_root(rt, &queue, &mut seats, root)?;
     let staff = staff_of::<B, K>(alloc, limits, seats, shares)?;
     let shared = Shared {
@@ -59,7 +95,7 @@ fn run_in<K: SharedLedgers, B: Body + Send, G: Gate + Sync, R: Threads + Wait + 
     run_staff(rt, shared, staff, gate)
 }
 
-// Names the ledgers.
+// Names the ledgers and the logs.
 fn run_over<
     B: Body + Send,
     G: Gate + Sync,
@@ -71,12 +107,14 @@ fn run_over<
     DP: Ledger + Send + Sync,
     DW: Ledger + Send + Sync,
     RM: Ledger + Send + Sync,
+    L: Logs + Supposing + Send + Sync,
 >(
     rt: &R,
     alloc: Global,
     root: B,
     limits: Limits,
     blanks: Blanks,
+    logs: Vec<Whole<Noted>>,
     gate: &G,
 ) -> Result<Remains<B>, Refusal>
     requires names { IsNamed blanks EP.name EW.name UP.name UW.name DP.name DW.name RM.name }
@@ -84,14 +122,25 @@ fn run_over<
     requires blanks { blanks.phasers ≡ limits.phasers }
     requires workers { (0 < blanks.workers) × (blanks.workers ≤ 16) }
     requires limits { limits_fit limits ≡ true }
+    requires limited { limits ≡ L.Logs.limits }
+    requires logs { (i : ℕ) → IfSome (slice_get logs.items i) (λ w. w.name ≡ L.Logs.logs i) }
+    requires empty { All (λ w. w.items ≡ []) logs.items }
+    requires each { vec_len logs ≡ limits.phasers }
+    requires root { L.Supposing.supposed → (seen : ℕ → Story) → B.Body.shows root nothing seen }
     ensures remains { IfOk result (λ r. AreRemains limits r.phasers.items r.finishes.items r.logs.items r.totals) }
+    ensures says { IfOk result (λ r. L.Supposing.supposed → IsSaid B.Body.shows limits r.phasers.items r.root) }
     ensures refused { IfErr result (λ e. IsRunRefused e) }
 {
-    run_in::<Seven<EP, EW, UP, UW, DP, DW, RM>, B, G, R>(rt, alloc, root, limits, blanks, gate)
+    run_in::<Named<Seven<EP, EW, UP, UW, DP, DW, RM>, L>, B, G, R>(
+        rt, alloc, root, limits, blanks, logs, gate,
+    )
 }
 
 /// Runs the root, and every task that comes of it, by so many workers, each in a thread of its own
 /// where one can be made, until the root has ended. `gate` is called round each step of a body.
+///
+/// Where the root's body says nothing false before its first act, whatever was seen, then it says
+/// nothing false in the end (`says`).
 ///
 /// A task that is refused something ends by itself, and the others go on. `Memory` where the tables,
 /// the workers or the logs' parts get none; `NotExplained(0)` where a lock or the queue answered what
@@ -107,14 +156,17 @@ pub fn run_tasks<B: Body + Send, G: Gate + Sync, R: Threads + Wait + Sync>(
     requires limits { limits_fit limits ≡ true }
     requires workers { (0 < workers) × (workers ≤ 16) }
     ensures remains { IfOk result (λ r. AreRemains limits r.phasers.items r.finishes.items r.logs.items r.totals) }
+    ensures says { IfOk result (λ r. ((seen : ℕ → Story) → B.shows root nothing seen) → IsSaid B.shows limits r.phasers.items r.root) }
     ensures refused { IfErr result (λ e. IsRunRefused e) }
 {
-    run_over::<B, G, R, Brand, Brand, Brand, Brand, Brand, Brand, Brand>(
+    let logs = new_logs(alloc, limits.phasers)?;
+    run_over::<B, G, R, Brand, Brand, Brand, Brand, Brand, Brand, Brand, Brand>(
         rt,
         alloc,
         root,
         limits,
         Blanks::new(limits.phasers, workers),
+        logs,
         gate,
     )
 }

@@ -22,6 +22,7 @@ mod crew;
 mod diary;
 mod driver;
 mod entry;
+mod naming;
 mod remains;
 mod staff;
 mod task;

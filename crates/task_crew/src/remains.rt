@@ -1,18 +1,23 @@
 //! What a run leaves once its workers are done: its tables and logs as parts of a trace.
-ghost use Rattle.std.specs.Prelude.{◌≡◌, ◌+◌, map, length, vec_len, All, IfOk, IfErr};
+ghost use Rattle.std.specs.Prelude.{◌≡◌, ◌×◌, ◌+◌, map, length, vec_len, All, IfOk, IfErr};
 ghost use Rattle.std.specs.List.{sum as total};
 ghost use Rattle.share_book.specs.Opening.{AreAllParts};
 ghost use Rattle.scope_locks.specs.Telling.{ArePhaserParts, AreFinishParts};
+ghost use Rattle.table_receipts.specs.Parts.{AreLogged};
+ghost use Rattle.task_crew.specs.Heard.{IsSaid};
 ghost use Rattle.task_crew.specs.Refused.{IsRunRefused};
 ghost use Rattle.task_crew.specs.Remaining.{IsTaskLog, AreRemains};
 
 use crate::body::Body;
 use crate::diary::Diary;
+use crate::naming::RunNaming;
 use crate::task::{Item, RootLeft};
 use phase_modes::{Limits, Refusal};
-use scope_locks::{FinishParts, FinishTable, PhaserParts, PhaserTable};
-use share_book::{Ledgers, Shares, Totals, gather};
+use scope_locks::{FinishParts, FinishTable};
+use share_book::{Shares, Totals, gather};
 use std::alloc::Global;
+use std::sync::Wait;
+use table_receipts::{ReceiptParts, ReceiptTable};
 use trace_model::Part;
 
 /// What a run leaves: the histories of its phasers and finishes with their tickets, each kind in
@@ -55,26 +60,30 @@ fn logs_of(alloc: Global, logs: Vec<Vec<Diary>>, root: Diary) -> Result<Vec<Part
 }
 
 /// What a run leaves, by what its tables and its workers leave.
-fn gathered<K: Ledgers, B: Body>(
+fn gathered<K: RunNaming, B: Body>(
     alloc: Global,
     limits: Limits,
-    phasers: PhaserParts<K>,
+    phasers: ReceiptParts<K>,
     finishes: FinishParts<Diary>,
     shares: Vec<Shares<K>>,
-    root: RootLeft<B>,
+    root: RootLeft<B, K>,
 ) -> Result<Remains<B>, Refusal>
-    requires phasers { vec_len phasers.parts ≡ limits.phasers }
+    requires limits { limits ≡ K.Logs.limits }
+    requires phasers { (vec_len phasers.parts ≡ limits.phasers) × (vec_len phasers.logs ≡ limits.phasers) }
     requires finishes { vec_len finishes.parts ≡ limits.finishes }
     requires told_phasers { ArePhaserParts 0 phasers.parts.items (map (λ b. b.totals) phasers.phasers.items) }
+    requires logged { AreLogged K.Logs.logs 0 phasers.parts.items phasers.logs.items }
     requires workers { AreAllParts (vec_len shares) K.EventsByWorker.parts K.UpByWorker.parts K.DownByWorker.parts }
     requires books { AreAllParts (vec_len phasers.phasers) K.EventsByPhaser.parts K.UpByPhaser.parts K.DownByPhaser.parts }
     requires told_finishes { AreFinishParts 0 finishes.parts.items (map (λ l. length l.items) finishes.logs.items) }
     ensures remains { IfOk result (λ r. AreRemains limits r.phasers.items r.finishes.items r.logs.items r.totals) }
+    ensures says { IfOk result (λ r. K.Supposing.supposed → IsSaid B.Body.shows limits r.phasers.items r.root) }
     ensures memory { IfErr result (λ e. e ≡ Refusal.Memory) }
 {
-    let PhaserParts {
+    let ReceiptParts {
         parts: of_phasers,
         phasers: held,
+        logs: mut told,
         books,
     } = phasers;
     let FinishParts {
@@ -84,7 +93,12 @@ fn gathered<K: Ledgers, B: Body>(
     let Ok(totals) = gather(shares, held, books) else {
         unreachable!()
     };
-    let RootLeft { log, body } = root;
+    let RootLeft {
+        log,
+        body,
+        mut fronts,
+    } = root;
+    fronts.begin(&mut told);
     let of_logs = logs_of(alloc, logs, log)?;
     Ok(Remains {
         phasers: of_phasers,
@@ -96,25 +110,28 @@ fn gathered<K: Ledgers, B: Body>(
 }
 
 /// The same, where the tables are still whole. `NotExplained` where the root has left nothing.
-pub(crate) fn remains_of<K: Ledgers, B: Body>(
+pub(crate) fn remains_of<K: RunNaming, B: Body, R: Wait>(
+    rt: &R,
     alloc: Global,
     limits: Limits,
-    phasers: PhaserTable<Item<B>, K>,
-    finishes: FinishTable<Item<B>, Diary>,
+    phasers: ReceiptTable<Item<B, K>, K>,
+    finishes: FinishTable<Item<B, K>, Diary>,
     shares: Vec<Shares<K>>,
-    root: Option<RootLeft<B>>,
+    root: Option<RootLeft<B, K>>,
 ) -> Result<Remains<B>, Refusal>
+    requires limits { limits ≡ K.Logs.limits }
     requires phasers { phasers.phasers ≡ limits.phasers }
     requires finishes { finishes.finishes ≡ limits.finishes }
     requires workers { AreAllParts (vec_len shares) K.EventsByWorker.parts K.UpByWorker.parts K.DownByWorker.parts }
     requires books { AreAllParts limits.phasers K.EventsByPhaser.parts K.UpByPhaser.parts K.DownByPhaser.parts }
     ensures remains { IfOk result (λ r. AreRemains limits r.phasers.items r.finishes.items r.logs.items r.totals) }
+    ensures says { IfOk result (λ r. K.Supposing.supposed → IsSaid B.Body.shows limits r.phasers.items r.root) }
     ensures refused { IfErr result (λ e. IsRunRefused e) }
 {
     let Some(root) = root else {
         return Err(Refusal::NotExplained(0));
     };
-    let of_phasers = phasers.into_parts();
+    let of_phasers = phasers.into_parts(rt);
     let of_finishes = finishes.into_parts();
     gathered(alloc, limits, of_phasers, of_finishes, shares, root)
 }

@@ -3,18 +3,20 @@ ghost use Rattle.std.specs.Prelude.{◌≡◌, [], ◌∷◌, ◌++◌, ◌+◌,
 ghost use Rattle.share_book.specs.Opening.{AreAllParts};
 ghost use Rattle.task_queue.specs.Accounts.{AreTogether, IsConserved};
 ghost use Rattle.task_crew.specs.inner.Back.{AreBack, AreSeatsIn};
+ghost use Rattle.task_crew.specs.Heard.{IsSaid};
 ghost use Rattle.task_crew.specs.Refused.{IsRunRefused};
 ghost use Rattle.task_crew.specs.Remaining.{AreRemains};
 
 use crate::body::{Body, Gate};
 use crate::crew::in_threads;
 use crate::driver::Team;
+use crate::naming::RunNaming;
 use crate::remains::{Remains, remains_of};
 use crate::task::{Item, RootLeft};
 use crate::worker::{Shared, Worker};
 use phase_modes::{Limits, Refusal};
 use scope_locks::Out;
-use share_book::{Ledgers, SharedLedgers, Shares};
+use share_book::{SharedLedgers, Shares};
 use std::alloc::Global;
 use std::collections::VecDeque;
 use std::sync::Wait;
@@ -23,17 +25,17 @@ use task_queue::{RunQueue, Seat};
 
 /// What the workers hand back: their seats and shares, and what the root leaves.
 #[derive(Drop)]
-struct Left<B: Body, K: Ledgers> {
-    seats: Vec<Seat<Item<B>>>,
+struct Left<B: Body, K: RunNaming> {
+    seats: Vec<Seat<Item<B, K>>>,
     shares: Vec<Shares<K>>,
-    root: Option<RootLeft<B>>,
+    root: Option<RootLeft<B, K>>,
 }
 
 /// A worker at each seat, with a share each.
-fn seated<B: Body, K: Ledgers>(
+fn seated<B: Body, K: RunNaming>(
     alloc: Global,
     limits: Limits,
-    seats: Vec<Seat<Item<B>>>,
+    seats: Vec<Seat<Item<B, K>>>,
     shares: Vec<Shares<K>>,
 ) -> Result<Vec<Worker<B, K>>, Refusal>
     requires { vec_len shares ≡ vec_len seats }
@@ -62,10 +64,10 @@ fn seated<B: Body, K: Ledgers>(
 }
 
 /// The workers of a queue's seats, with a share each.
-pub(crate) fn staff_of<B: Body, K: Ledgers>(
+pub(crate) fn staff_of<B: Body, K: RunNaming>(
     alloc: Global,
     limits: Limits,
-    seats: Vec<Seat<Item<B>>>,
+    seats: Vec<Seat<Item<B, K>>>,
     shares: Vec<Shares<K>>,
 ) -> Result<Vec<Worker<B, K>>, Refusal>
     requires number { vec_len shares ≡ vec_len seats }
@@ -78,7 +80,7 @@ pub(crate) fn staff_of<B: Body, K: Ledgers>(
 }
 
 /// Takes in what one worker hands back.
-fn take_back<B: Body, K: Ledgers>(
+fn take_back<B: Body, K: RunNaming>(
     left: &mut Left<B, K>,
     worker: Worker<B, K>,
 ) -> Result<(), Refusal>
@@ -101,7 +103,7 @@ fn take_back<B: Body, K: Ledgers>(
 }
 
 /// What all workers hand back.
-fn left_of<B: Body, K: Ledgers>(
+fn left_of<B: Body, K: RunNaming>(
     alloc: Global,
     done: Vec<Result<Worker<B, K>, Refusal>>,
 ) -> Result<Left<B, K>, Refusal>
@@ -122,11 +124,11 @@ fn left_of<B: Body, K: Ledgers>(
 }
 
 /// Puts the root into the queue, from the first seat.
-pub(crate) fn put_root<B: Body, R: Wait>(
+pub(crate) fn put_root<B: Body, K: RunNaming, R: Wait>(
     rt: &R,
-    queue: &RunQueue<Item<B>>,
-    seats: &mut Vec<Seat<Item<B>>>,
-    root: Item<B>,
+    queue: &RunQueue<Item<B, K>>,
+    seats: &mut Vec<Seat<Item<B, K>>>,
+    root: Item<B, K>,
 ) -> Result<(), Refusal>
     requires some { 0 < vec_len seats.old }
     requires together { AreTogether seats.old.items }
@@ -142,7 +144,8 @@ pub(crate) fn put_root<B: Body, R: Wait>(
 
 /// Sees that no task is left in the queue: each that was put was taken as often. `NotExplained`
 /// where one is.
-fn none_left<B: Body>(queue: RunQueue<Item<B>>, seats: Vec<Seat<Item<B>>>) -> Result<(), Refusal>
+fn none_left<B: Body, K: RunNaming>(
+    queue: RunQueue<Item<B, K>>, seats: Vec<Seat<Item<B, K>>>) -> Result<(), Refusal>
     requires number { vec_len seats ≡ queue.workers }
     requires together { AreTogether seats.items }
     ensures none { IfOk result (λ _. IsConserved seats.items []) }
@@ -156,7 +159,7 @@ fn none_left<B: Body>(queue: RunQueue<Item<B>>, seats: Vec<Seat<Item<B>>>) -> Re
 }
 
 /// Runs the workers, each in a thread of its own where one can be made, until all of them are done.
-fn work_all<K: SharedLedgers, B: Body + Send, G: Gate + Sync, R: Threads + Wait + Sync>(
+fn work_all<K: RunNaming + SharedLedgers, B: Body + Send, G: Gate + Sync, R: Threads + Wait + Sync>(
     rt: &R,
     shared: &Shared<B, K>,
     staff: Vec<Worker<B, K>>,
@@ -171,7 +174,7 @@ fn work_all<K: SharedLedgers, B: Body + Send, G: Gate + Sync, R: Threads + Wait 
 }
 
 /// Runs the workers, and gathers what they leave.
-pub(crate) fn run_staff<K: SharedLedgers, B: Body + Send, G: Gate + Sync, R: Threads + Wait + Sync>(
+pub(crate) fn run_staff<K: RunNaming + SharedLedgers, B: Body + Send, G: Gate + Sync, R: Threads + Wait + Sync>(
     rt: &R,
     shared: Shared<B, K>,
     staff: Vec<Worker<B, K>>,
@@ -184,6 +187,7 @@ pub(crate) fn run_staff<K: SharedLedgers, B: Body + Send, G: Gate + Sync, R: Thr
     requires together { AreTogether (map (λ w. w.seat) staff.items) }
     requires books { AreAllParts shared.limits.phasers K.EventsByPhaser.parts K.UpByPhaser.parts K.DownByPhaser.parts }
     ensures remains { IfOk result (λ r. AreRemains shared.limits r.phasers.items r.finishes.items r.logs.items r.totals) }
+    ensures says { IfOk result (λ r. K.Supposing.supposed → IsSaid B.Body.shows shared.limits r.phasers.items r.root) }
     ensures refused { IfErr result (λ e. IsRunRefused e) }
 {
     let Left {
@@ -200,5 +204,5 @@ pub(crate) fn run_staff<K: SharedLedgers, B: Body + Send, G: Gate + Sync, R: Thr
         ..
     } = shared;
     none_left(queue, seats)?;
-    remains_of(alloc, limits, phasers, finishes, shares, root)
+    remains_of(rt, alloc, limits, phasers, finishes, shares, root)
 }

@@ -1,40 +1,53 @@
-//! A task in flight: its body, what it knows of itself, and what it notes.
-ghost use Rattle.std.specs.Prelude.{◌≡◌, IfErr};
+//! A task in flight: its body, what it knows of itself, what it has seen, and what it notes.
+ghost use Rattle.std.specs.Prelude.{◌≡◌, ◌<◌, ℕ, ℤ, IfErr, length};
+ghost use Rattle.table_receipts.specs.Seen.{story_at};
+ghost use Rattle.task_crew.specs.Heard.{nothing, asked_by, IsSpawned};
+ghost use Rattle.task_crew.specs.inner.Ready.{Says, IsReady, HasSaid};
 
 use crate::body::Body;
 use crate::diary::Diary;
+use crate::naming::RunNaming;
 use job_script::{Act, Answer};
 use phase_modes::{Mode, Pair, Refusal};
 use std::alloc::Global;
+use table_receipts::Fronts;
 use task_standing::{Due, Standing};
 
 /// A task in flight.
 #[derive(Drop)]
-pub(crate) struct Task<B: Body> {
+pub(crate) struct Task<B: Body, K: RunNaming> {
     pub(crate) body: B,
     /// What the body hears before its next act.
     pub(crate) answer: Answer,
+    /// What it has seen of the phasers.
+    pub(crate) fronts: Fronts<K>,
     /// Which phasers it holds, which finishes it has open, and what it is about.
     pub(crate) standing: Standing,
     pub(crate) log: Diary,
+    ghost all: { length fronts ≡ K.Logs.limits.phasers },
+    ghost ready: { ∥ K.Supposing.supposed → IsReady B.Body.shows body answer (λ n. story_at fronts n) ∥₁ },
 }
 
 /// What moves between the queue, the locks and the workers: a task, with the child that it is
 /// spawning, which nobody else knows yet.
 #[derive(Drop)]
-pub(crate) struct Item<B: Body> {
-    pub(crate) task: Box<Task<B>>,
-    pub(crate) unborn: Option<Box<Task<B>>>,
+pub(crate) struct Item<B: Body, K: RunNaming> {
+    pub(crate) task: Box<Task<B, K>>,
+    pub(crate) unborn: Option<Box<Task<B, K>>>,
 }
 
-/// What the root leaves where the run is over: its log, and its body as it stands then.
+/// What the root leaves where the run is over: its log, its body as it stands then, and what it has
+/// seen.
 #[derive(Drop)]
-pub(crate) struct RootLeft<B> {
+pub(crate) struct RootLeft<B: Body, K: RunNaming> {
     pub(crate) log: Diary,
     pub(crate) body: B,
+    pub(crate) fronts: Fronts<K>,
+    ghost all: { length fronts ≡ K.Logs.limits.phasers },
+    ghost says: { ∥ K.Supposing.supposed → HasSaid B.Body.shows body (λ n. story_at fronts n) ∥₁ },
 }
 
-impl<B: Body> Task<B> {
+impl<B: Body, K: RunNaming> Task<B, K> {
     /// A task before its first act. All memory that it needs to be run is taken here, but for the
     /// finishes that it opens; `Memory` where that is refused.
     pub(crate) fn new(
@@ -43,13 +56,17 @@ impl<B: Body> Task<B> {
         body: B,
         home: u32,
         acts: u32,
-    ) -> Result<Box<Task<B>>, Refusal>
+        fronts: Fronts<K>,
+    ) -> Result<Box<Task<B, K>>, Refusal>
+        requires all { length fronts ≡ K.Logs.limits.phasers }
+        requires says { ∥ K.Supposing.supposed → Says B.Body.shows body nothing (λ n. story_at fronts n) ∥₁ }
         ensures memory { IfErr result (λ e. e ≡ Refusal.Memory) }
     {
         let log = Diary::new(alloc, number, acts)?;
         let task = Task {
             body,
             answer: Answer::Started,
+            fronts,
             standing: Standing::new(alloc, number, home)?,
             log,
         };
@@ -59,21 +76,45 @@ impl<B: Body> Task<B> {
         }
     }
 
+    /// Its child, which has seen what it has seen.
+    pub(crate) fn child(
+        &mut self,
+        alloc: Global,
+        number: u32,
+        body: B,
+        acts: u32,
+    ) -> Result<Box<Task<B, K>>, Refusal>
+        requires says { ∥ K.Supposing.supposed → Says B.Body.shows body nothing (λ n. story_at self.old.fronts n) ∥₁ }
+        ensures memory { IfErr result (λ e. e ≡ Refusal.Memory) }
+    {
+        let fronts = self.fronts.again(alloc)?;
+        Task::new(alloc, number, body, self.standing.inner(), acts, fronts)
+    }
+
     pub(crate) fn number(&self) -> u32 {
         self.standing.number()
     }
 
     /// The body's next act. It hears of it that it is done, unless something else comes of it.
-    pub(crate) fn next_act(&mut self) -> Result<Act<B>, Refusal> {
+    pub(crate) fn next_act(&mut self) -> Result<Act<B>, Refusal>
+        ensures says { ∥ K.Supposing.supposed → Says B.Body.shows self.new.body (asked_by result) (λ n. story_at self.new.fronts n) ∥₁ }
+        ensures child { (child : B) → IsSpawned child result
+            → ∥ K.Supposing.supposed → Says B.Body.shows child nothing (λ n. story_at self.new.fronts n) ∥₁ }
+    {
         let answer = self.answer;
         self.answer = Answer::Done;
         self.body.step(answer)
     }
 
-    /// Notes that it made an act of one event, and what the body hears of it.
-    pub(crate) fn note_act(&mut self, answer: Answer) {
+    /// Runs the statement that the task has claimed.
+    pub(crate) fn run_single(&mut self, number: u32) {
+        self.body.single(number);
+    }
+
+    /// Notes that it made an act of one event, of which the body hears that it is done.
+    pub(crate) fn note_act(&mut self) {
         self.standing.note_act();
-        self.answer = answer;
+        self.answer = Answer::Done;
     }
 
     /// Notes that it made this phaser.
@@ -90,9 +131,9 @@ impl<B: Body> Task<B> {
     }
 }
 
-impl<B: Body> Item<B> {
+impl<B: Body, K: RunNaming> Item<B, K> {
     /// A task that is spawning nobody.
-    pub(crate) fn of(task: Box<Task<B>>) -> Item<B> {
+    pub(crate) fn of(task: Box<Task<B, K>>) -> Item<B, K> {
         Item { task, unborn: None }
     }
 

@@ -1,18 +1,20 @@
 //! What the workers share, and what each has for itself.
-ghost use Rattle.std.specs.Prelude.{◌≡◌, []};
+ghost use Rattle.std.specs.Prelude.{◌≡◌, ◌<◌, [], IfOk};
 ghost use Rattle.task_queue.specs.Accounts.{IsSeatOf};
 
 use crate::body::Body;
 use crate::diary::Diary;
+use crate::naming::RunNaming;
 use crate::task::{Item, RootLeft};
 use crossbeam_utils::CachePadded;
 use phase_modes::{Limits, Refusal};
-use scope_locks::{FinishTable, Out, PhaserTable, Tickets};
-use share_book::{Ledgers, Shares};
+use scope_locks::{FinishTable, Out, Tickets};
+use share_book::Shares;
 use std::alloc::Global;
 use std::collections::VecDeque;
 use std::sync::Wait;
 use std::sync::atomic::{AtomicU64, Ordering};
+use table_receipts::{Caller, ReceiptTable};
 use task_queue::{RunQueue, Seat};
 
 /// The next numbers of phasers, tasks and finishes, each drawn from a word of its own.
@@ -53,49 +55,130 @@ impl Numbers {
 
 /// What all workers share.
 #[derive(Drop)]
-pub(crate) struct Shared<B: Body, K: Ledgers> {
+pub(crate) struct Shared<B: Body, K: RunNaming> {
     pub(crate) alloc: Global,
     pub(crate) limits: Limits,
-    pub(crate) phasers: PhaserTable<Item<B>, K>,
-    pub(crate) finishes: FinishTable<Item<B>, Diary>,
-    pub(crate) queue: RunQueue<Item<B>>,
+    pub(crate) phasers: ReceiptTable<Item<B, K>, K>,
+    pub(crate) finishes: FinishTable<Item<B, K>, Diary>,
+    pub(crate) queue: RunQueue<Item<B, K>>,
     pub(crate) tickets: Tickets,
     pub(crate) numbers: Numbers,
+    ghost limited: { limits ≡ K.Logs.limits },
+    ghost all: { phasers.phasers ≡ K.Logs.limits.phasers },
 }
 
-/// What a worker has for itself.
+/// What a worker has for itself, before and after it works.
 #[derive(Drop)]
-pub(crate) struct Worker<B: Body, K: Ledgers> {
+pub(crate) struct Worker<B: Body, K: RunNaming> {
     pub(crate) number: u32,
-    pub(crate) seat: Seat<Item<B>>,
+    pub(crate) seat: Seat<Item<B, K>>,
     pub(crate) shares: Shares<K>,
-    pub(crate) out: Out<Item<B>>,
+    pub(crate) out: Out<Item<B, K>>,
     /// Tasks that the queue had no memory for.
-    pub(crate) kept: VecDeque<Item<B>>,
+    pub(crate) kept: VecDeque<Item<B, K>>,
     /// What the root leaves, once it has ended.
-    pub(crate) root: Option<RootLeft<B>>,
+    pub(crate) root: Option<RootLeft<B, K>>,
     ghost empty: { out ≡ [] },
 }
 
-impl<B: Body, K: Ledgers> Shared<B, K> {
+/// A worker at work: it calls the table.
+#[derive(Drop)]
+pub(crate) struct Busy<'a, B: Body, K: RunNaming, R: Wait> {
+    pub(crate) number: u32,
+    pub(crate) seat: Seat<Item<B, K>>,
+    pub(crate) by: Caller<'a, Item<B, K>, K, R>,
+    pub(crate) kept: VecDeque<Item<B, K>>,
+    pub(crate) root: Option<RootLeft<B, K>>,
+    ghost empty: { by.out ≡ [] },
+}
+
+impl<'a, B: Body, K: RunNaming, R: Wait> Busy<'a, B, K, R> {
+    /// The worker begins to work.
+    pub(crate) fn of(
+        rt: &'a R,
+        tickets: &'a Tickets,
+        worker: Worker<B, K>,
+    ) -> Busy<'a, B, K, R>
+        ensures { result.seat ≡ worker.seat }
+    {
+        let Worker {
+            number,
+            seat,
+            shares,
+            out,
+            kept,
+            root,
+        } = worker;
+        let by = Caller {
+            rt,
+            tickets,
+            mine: shares,
+            out,
+        };
+        Busy {
+            number,
+            seat,
+            by,
+            kept,
+            root,
+        }
+    }
+
+    /// It has ended its work.
+    pub(crate) fn into_worker(self) -> Worker<B, K>
+        ensures { result.seat ≡ self.entry.seat }
+    {
+        let Busy {
+            number,
+            seat,
+            by,
+            kept,
+            root,
+        } = self;
+        let Caller { mine, out, .. } = by;
+        Worker {
+            number,
+            seat,
+            shares: mine,
+            out,
+            kept,
+            root,
+        }
+    }
+}
+
+impl<B: Body, K: RunNaming> Shared<B, K> {
+    /// The phaser's place in the table; the refusal where no phaser has the number.
+    pub(crate) fn place(&self, phaser: u32, refusal: Refusal) -> Result<usize, Refusal>
+        ensures place { IfOk result (λ n. n < K.Logs.limits.phasers) }
+        ensures same { IfOk result (λ n. n ≡ phaser) }
+    {
+        let number = phaser as usize;
+        if number < self.phasers.phasers {
+            Ok(number)
+        } else {
+            Err(refusal)
+        }
+    }
+
     /// The next task to be run: one that the queue had no memory for, or one of the queue. None once
     /// the queue is closed and empty.
-    pub(crate) fn next<R: Wait>(&self, rt: &R, worker: &mut Worker<B, K>) -> Option<Item<B>>
-        ensures seat { IsSeatOf worker.old.seat worker.new.seat }
+    pub(crate) fn next<R: Wait>(&self, busy: &mut Busy<'_, B, K, R>) -> Option<Item<B, K>>
+        ensures seat { IsSeatOf busy.old.seat busy.new.seat }
     {
-        if let Some(item) = worker.kept.pop_front() {
+        if let Some(item) = busy.kept.pop_front() {
             return Some(item);
         }
-        self.queue.take(rt, &mut worker.seat)
+        self.queue.take(busy.by.rt, &mut busy.seat)
     }
 
     /// Gives a task to the queue, or keeps it where the queue has no memory for it.
     fn put<R: Wait>(
         &self,
         rt: &R,
-        seat: &mut Seat<Item<B>>,
-        kept: &mut VecDeque<Item<B>>,
-        item: Item<B>,
+        seat: &mut Seat<Item<B, K>>,
+        kept: &mut VecDeque<Item<B, K>>,
+        item: Item<B, K>,
     ) -> Result<(), Refusal>
         ensures seat { IsSeatOf seat.old seat.new }
     {
@@ -111,23 +194,22 @@ impl<B: Body, K: Ledgers> Shared<B, K> {
     /// Gives a task to the queue.
     pub(crate) fn give<R: Wait>(
         &self,
-        rt: &R,
-        worker: &mut Worker<B, K>,
-        item: Item<B>,
+        busy: &mut Busy<'_, B, K, R>,
+        item: Item<B, K>,
     ) -> Result<(), Refusal>
-        ensures seat { IsSeatOf worker.old.seat worker.new.seat }
+        ensures seat { IsSeatOf busy.old.seat busy.new.seat }
     {
-        let Worker { seat, kept, .. } = worker;
-        self.put(rt, seat, kept, item)
+        let Busy { seat, by, kept, .. } = busy;
+        self.put(by.rt, seat, kept, item)
     }
 
     /// Gives all whom a call woke to the queue.
     pub(crate) fn flush<R: Wait>(
         &self,
         rt: &R,
-        seat: &mut Seat<Item<B>>,
-        kept: &mut VecDeque<Item<B>>,
-        out: &mut Out<Item<B>>,
+        seat: &mut Seat<Item<B, K>>,
+        kept: &mut VecDeque<Item<B, K>>,
+        out: &mut Out<Item<B, K>>,
     ) -> Result<(), Refusal>
         ensures seat { IsSeatOf seat.old seat.new }
         ensures out { out.new ≡ [] }

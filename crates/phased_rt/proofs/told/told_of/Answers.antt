@@ -7,6 +7,7 @@ use Rattle.trace_model.specs.Run.{Entry}
 use Rattle.trace_model.proofs.Legal.{explained_legal}
 use Rattle.phased_rt.proofs.FinishesLimited.{all_within}
 use Rattle.phased_rt.proofs.Limited.{all_limited}
+use Rattle.phased_rt.proofs.Says.{says_of_trace}
 use Rattle.phased_rt.proofs.Totalled.{told_totals}
 use Rattle.phased_rt.proofs.Traced.{phasers_from, finishes_from}
 use Rattle.phased_rt.proofs.told.told_of.Goals as goal
@@ -54,3 +55,16 @@ returns-clause-told g c =
 pub returns-clause-totals : goal.returns-clause-totals
 returns-clause-totals g c =
     told_totals c.args.limits c.in_ok-world.trace.events c.args.remains.totals c.in_ok-world.world (returns-clause-told g c) c.in_ok-world.ensures.world
+
+-- what the root's body says of the parts it says of the trace
+pub returns-clause-says : goal.returns-clause-says
+returns-clause-says g c = λ said.
+    let left = c.requires.remains in
+    let remains = c.args.remains in
+    let together = c.deref.ensures.value ∙ c.in_ok-parts.ensures.parts in
+    let es = c.in_ok-world.trace.events in
+    let phasers = remains.phasers.items in
+    let merged = subst (λ (ps : List (List Entry)). IsTraceOf ps es) together c.in_ok-world.ensures.of_parts in
+    says_of_trace g.B.Body.shows c.args.limits phasers es remains.root
+    (phasers_from phasers remains.finishes.items remains.logs.items left.sums left.ended es merged left.of_phasers left.of_finishes left.of_tasks)
+    left.all_phasers said

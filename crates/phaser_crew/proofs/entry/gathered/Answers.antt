@@ -1,8 +1,8 @@
 use Rattle.std.proofs.Common.{◌≡◌, ℕ, All, length, map, refl, sym, ◌∙◌, subst, arith}
-use Rattle.phaser_crew.specs.Gathering.{HasShown}
-use Rattle.phaser_crew.specs.Hands.{story_at}
+use Rattle.table_receipts.specs.Parts.{HasShown}
+use Rattle.table_receipts.specs.Seen.{story_at}
 use Rattle.phaser_crew.proofs.Sums.{books_sum}
-use Rattle.phaser_crew.proofs.Told.{are_named, told_at_each}
+use Rattle.table_receipts.proofs.Logged.{are_named, told_at_each}
 use Rattle.phaser_crew.proofs.entry.gathered.Goals as goal
 
 pub parted-requires-clause-named : goal.parted-requires-clause-named

@@ -2,8 +2,8 @@ use Rattle.std.proofs.Common.{◌≡◌, ℕ, ◌<◌, List, ◌∷◌, [], leng
 use Rattle.std.proofs.lemmas.List.{length-append}
 use Rattle.std.proofs.Math.Logic.{∥∥₁_map}
 use Rattle.table_receipts.specs.Logs.{Sight, GoesOn}
-use Rattle.phaser_crew.specs.Gathering.{HasShown}
-use Rattle.phaser_crew.specs.Hands.{story_at}
+use Rattle.table_receipts.specs.Parts.{HasShown}
+use Rattle.table_receipts.specs.Seen.{story_at}
 use Rattle.phaser_crew.proofs.Sums.{all_more}
 use Rattle.phaser_crew.proofs.entry.parted.Goals as goal
 

@@ -1,6 +1,6 @@
 use Rattle.std.proofs.Common.{◌≡◌, All, length, vec_len}
-use Rattle.phaser_crew.specs.Gathering.{HasShown}
-use Rattle.phaser_crew.specs.Hands.{story_at}
+use Rattle.table_receipts.specs.Parts.{HasShown}
+use Rattle.table_receipts.specs.Seen.{story_at}
 use Rattle.phaser_crew.proofs.entry.parted.Given as goal
 
 abbrev pub invariant-loop-one : goal.invariant-loop-one

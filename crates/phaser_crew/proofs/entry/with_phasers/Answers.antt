@@ -1,4 +1,4 @@
-use Rattle.phaser_crew.proofs.Names.{named}
+use Rattle.table_receipts.proofs.Names.{named}
 use Rattle.phaser_crew.proofs.entry.with_phasers.Goals as goal
 
 pub run_over-requires-clause-logs : goal.run_over-requires-clause-logs

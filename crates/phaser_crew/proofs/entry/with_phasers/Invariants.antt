@@ -1,4 +1,4 @@
-use Rattle.phaser_crew.proofs.Names.{name_at}
+use Rattle.table_receipts.proofs.Names.{name_at}
 use Rattle.phaser_crew.proofs.entry.with_phasers.Given as goal
 
 abbrev pub ghosts-run_over-EP-Ledger : goal.ghosts-run_over-EP-Ledger

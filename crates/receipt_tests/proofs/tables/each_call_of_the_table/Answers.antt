@@ -1,4 +1,4 @@
-use Rattle.receipt_tests.proofs.Names.{named}
+use Rattle.table_receipts.proofs.Names.{named}
 use Rattle.receipt_tests.proofs.tables.each_call_of_the_table.Goals as goal
 
 pub calls_over-totals-requires-clause-logs : goal.calls_over-totals-requires-clause-logs

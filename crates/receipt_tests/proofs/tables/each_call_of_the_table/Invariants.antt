@@ -1,4 +1,4 @@
-use Rattle.receipt_tests.proofs.Names.{name_at}
+use Rattle.table_receipts.proofs.Names.{name_at}
 use Rattle.receipt_tests.proofs.tables.each_call_of_the_table.Given as goal
 
 abbrev pub ghosts-calls_over-EP-Ledger : goal.ghosts-calls_over-EP-Ledger

@@ -1,3 +1,7 @@
+use Rattle.std.proofs.Common.{ℕ}
+use Rattle.phase_model.specs.Rules.{Story}
+use Rattle.table_receipts.proofs.Names.{name_at}
+use Rattle.task_crew.specs.Heard.{nothing}
 use Rattle.task_crew.proofs.entry.run_tasks.Given as goal
 
 abbrev pub ghosts-run_over-EP-Ledger : goal.ghosts-run_over-EP-Ledger
@@ -20,3 +24,11 @@ ghosts-run_over-DW-Ledger g a = record { name = a.blanks.down_by_worker.name; pa
 
 abbrev pub ghosts-run_over-RM-Ledger : goal.ghosts-run_over-RM-Ledger
 ghosts-run_over-RM-Ledger g a = record { name = a.blanks.room.name; parts = a.blanks.room.parts }
+
+-- each log has the name that it was begun under
+abbrev pub ghosts-run_over-L-Logs : goal.ghosts-run_over-L-Logs
+ghosts-run_over-L-Logs g a = record { logs = λ n. name_at (λ w. w.name) a.logs.items n; limits = a.limits }
+
+-- the root says nothing false at its start
+abbrev pub ghosts-run_over-L-Supposing : goal.ghosts-run_over-L-Supposing
+ghosts-run_over-L-Supposing g a = record { supposed = (seen : ℕ → Story) → g.B.Body.shows a.root nothing seen }

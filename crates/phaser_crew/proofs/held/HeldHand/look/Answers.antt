@@ -2,7 +2,7 @@ use Rattle.std.proofs.Common.{◌≡◌}
 use Rattle.phase_model.specs.declared.call.Call.TheVariants.{Look as look}
 use Rattle.phaser_answers.specs.Answers.{look_result}
 use Rattle.table_receipts.proofs.Goes.{answered_goes}
-use Rattle.phaser_crew.proofs.Seen.{seen_more}
+use Rattle.table_receipts.proofs.Stories.{seen_more}
 use Rattle.phaser_crew.proofs.held.HeldHand.look.Goals as goal
 
 pub returns-clause-more : goal.returns-clause-more

@@ -1,5 +1,5 @@
 use Rattle.table_receipts.proofs.Goes.{made_goes}
-use Rattle.phaser_crew.proofs.Seen.{seen_more}
+use Rattle.table_receipts.proofs.Stories.{seen_more}
 use Rattle.phaser_crew.proofs.held.HeldHand.make.Goals as goal
 
 pub returns-clause-more : goal.returns-clause-more

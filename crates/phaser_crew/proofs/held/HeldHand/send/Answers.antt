@@ -3,7 +3,7 @@ use Rattle.std.proofs.lemmas.Int.{to_z-of_z}
 use Rattle.phase_model.specs.declared.call.Call.TheVariants.{Send as send}
 use Rattle.phase_model.specs.Replies.{done_result}
 use Rattle.table_receipts.proofs.Goes.{answered_goes}
-use Rattle.phaser_crew.proofs.Seen.{seen_more}
+use Rattle.table_receipts.proofs.Stories.{seen_more}
 use Rattle.phaser_crew.proofs.held.HeldHand.send.Goals as goal
 
 pub returns-clause-more : goal.returns-clause-more

@@ -2,7 +2,7 @@ use Rattle.phase_model.specs.declared.call.Call.TheVariants.{Signal as signal}
 use Rattle.phaser_answers.specs.Answers.{signal_result}
 use Rattle.long_receipts.specs.Told.{IsSignalAnswer}
 use Rattle.table_receipts.proofs.Goes.{answered_goes}
-use Rattle.phaser_crew.proofs.Seen.{seen_more}
+use Rattle.table_receipts.proofs.Stories.{seen_more}
 use Rattle.phaser_crew.proofs.held.HeldHand.signal.Goals as goal
 
 pub returns-clause-more : goal.returns-clause-more

@@ -1,5 +1,5 @@
-use Rattle.phaser_crew.proofs.Seen.{set_here, set_apart}
-use Rattle.phaser_crew.proofs.fronts.Fronts.set.Goals as goal
+use Rattle.table_receipts.proofs.Stories.{set_here, set_apart}
+use Rattle.table_receipts.proofs.fronts.Fronts.set.Goals as goal
 
 pub returns-clause-here : goal.returns-clause-here
 returns-clause-here g c = set_here c.self.inside.fronts.items c.args.phaser c.args.seen (rw (← c.self.view_is) at c.requires.place)

@@ -1,9 +1,9 @@
 use Rattle.std.proofs.Common.{◌≡◌, ◌<◌, List, length, sym, ap, ◌∙◌, subst, arith}
 use Rattle.phase_model.specs.Rules.{Story}
 use Rattle.table_receipts.specs.Logs.{Sight, GoesOn}
-use Rattle.phaser_crew.specs.Hands.{story_at}
-use Rattle.phaser_crew.proofs.Seen.{at_same, unset, begins_more}
-use Rattle.phaser_crew.proofs.fronts.Fronts.begin.Goals as goal
+use Rattle.table_receipts.specs.Seen.{story_at}
+use Rattle.table_receipts.proofs.Stories.{at_same, unset, begins_more, same_more}
+use Rattle.table_receipts.proofs.fronts.Fronts.begin.Goals as goal
 
 pub loop-phaser-preserved : goal.loop-phaser-preserved
 loop-phaser-preserved g c =
@@ -20,9 +20,14 @@ loop-phaser-preserved g c =
       fronts = c.get-seen.ensures.same ∙ inv.fronts;
       kept = same ∙ inv.kept;
       all = ap (λ (xs : List Sight). length xs) same ∙ (inv.all ∙ ap (λ (xs : List Sight). length xs) (sym c.get-seen.ensures.same));
+      limits = same_more (λ n. (story_at logs n).limits ≡ g.K.Logs.limits) i inv.limits (subst (λ (v : Story). v.limits ≡ g.K.Logs.limits) b c.includes.ensures.limits);
       begin = begins_more fronts logs i inv.begin (subst (λ (v : Story). GoesOn v (story_at logs i)) a (subst (λ (v : Story). GoesOn c.get-seen.result.story v) b c.includes.ensures.begins));
     }
 
 pub returns-clause-begin : goal.returns-clause-begin
 returns-clause-begin g c = λ n within.
     c.loop-phaser.invariant.begin n (omega (arith, within, c.loop-phaser-test.false, c.len-phaser-end.ensures, c.requires.all, c.args.logs.now.ok.0))
+
+pub returns-clause-limits : goal.returns-clause-limits
+returns-clause-limits g c = λ n within.
+    c.loop-phaser.invariant.limits n (omega (arith, within, c.loop-phaser-test.false, c.len-phaser-end.ensures, c.requires.all, c.args.logs.now.ok.0))

@@ -5,8 +5,8 @@ use Rattle.trace_model.specs.Run.{Entry}
 use Rattle.trace_model.specs.Told.{phaser_told}
 use Rattle.table_receipts.specs.Logs.{Sight}
 use Rattle.table_receipts.specs.Parts.{AreLogged}
-use Rattle.phaser_crew.specs.Gathering.{IsToldAt}
-use Rattle.phaser_crew.specs.Hands.{story_at, IsNamed}
+use Rattle.table_receipts.specs.Parts.{IsToldAt}
+use Rattle.table_receipts.specs.Seen.{story_at, IsNamed}
 
 next : (k n : ℕ) → k + 1 + n ≡ k + suc n
 next k n = omega arith

@@ -1,6 +1,6 @@
 use Rattle.std.proofs.Common.{◌≡◌, length}
-use Rattle.phaser_crew.specs.Hands.{IsNamed}
-use Rattle.phaser_crew.proofs.fronts.Fronts.of.Given as goal
+use Rattle.table_receipts.specs.Seen.{IsNamed}
+use Rattle.table_receipts.proofs.fronts.Fronts.of.Given as goal
 
 abbrev pub invariant-loop-phaser : goal.invariant-loop-phaser
 invariant-loop-phaser g l = (length l.fronts.items ≡ l.phaser) × IsNamed g.K.Logs.logs l.fronts.items

@@ -1,14 +1,14 @@
 -- What was seen of the phasers, one by one.
-use Rattle.std.proofs.Common.{◌≡◌, ◌≢◌, ◌⊎◌, inl, inr, ℕ, ◌+◌, zero, suc, ◌<◌, ◌==◌, Bool, true, false, List, [], ◌∷◌, ◌++◌, length, refl, sym, ap, ◌∙◌, subst, arith}
+use Rattle.std.proofs.Common.{◌≡◌, ◌≢◌, ◌⊎◌, inl, inr, ℕ, ◌+◌, zero, suc, ◌<◌, ◌≤◌, ◌==◌, Bool, true, false, List, [], ◌∷◌, ◌++◌, length, refl, sym, ap, ◌∙◌, subst, arith}
 use lib.ListN.{get_or}
-use Rattle.std.proofs.lemmas.Bool.{false≢true, eq-eqb, eqb-true}
+use Rattle.std.proofs.lemmas.Bool.{false≢true, eq-eqb, eqb-true, cases_lt}
 use Rattle.std.proofs.lemmas.Bool.Decides.{eqb_tells}
 use Rattle.std.proofs.Math.Dec.{eqb}
 use Rattle.std.specs.List.{slice_set}
 use Rattle.phase_model.specs.Rules.{Story}
 use Rattle.table_receipts.specs.Logs.{Sight, GoesOn}
 use Rattle.table_receipts.proofs.Goes.{goes_itself}
-use Rattle.phaser_crew.specs.Hands.{story_at, IsNamed, HasSeenMore}
+use Rattle.table_receipts.specs.Seen.{story_at, IsNamed, HasSeenMore}
 
 pub set_here : (xs : List Sight) (i : ℕ) (x : Sight) → i < length xs → story_at (slice_set xs i x) i ≡ x.story
 set_here [] i x within = absurd (omega (arith, within))
@@ -63,10 +63,45 @@ unset [] i y x within is same = absurd (omega (arith, within))
 unset (z ∷ zs) zero y x within is same = ap (λ (w : Sight). w ∷ zs) (same ∙ is)
 unset (z ∷ zs) (suc i) y x within is same = ap (λ (l : List Sight). z ∷ l) (unset zs i y x (omega (arith, within)) is same)
 
--- what begins the stories of so many phasers, and of the next one
-pub begins_more : (xs ys : List Sight) (k : ℕ) → ((n : ℕ) → n < k → GoesOn (story_at xs n) (story_at ys n)) → GoesOn (story_at xs k) (story_at ys k) → (n : ℕ) → n < k + 1 → GoesOn (story_at xs n) (story_at ys n)
-begins_more xs ys k before next n within = go (eqb_tells n k)
+-- what holds of so many phasers, and of the next one
+pub same_more : (P : ℕ → Type 0) (k : ℕ) → ((n : ℕ) → n < k → P n) → P k → (n : ℕ) → n < k + 1 → P n
+same_more P k before next n within = go (eqb_tells n k)
   where
-    go : ((eqb n k ≡ true) × (n ≡ k)) ⊎ ((eqb n k ≡ false) × (n ≢ k)) → GoesOn (story_at xs n) (story_at ys n)
-    go (inl same) = subst (λ (m : ℕ). GoesOn (story_at xs m) (story_at ys m)) (sym same.1) next
+    go : ((eqb n k ≡ true) × (n ≡ k)) ⊎ ((eqb n k ≡ false) × (n ≢ k)) → P n
+    go (inl same) = subst P (sym same.1) next
     go (inr other) = before n (omega (arith, within, other.1))
+
+pub begins_more : (xs ys : List Sight) (k : ℕ) → ((n : ℕ) → n < k → GoesOn (story_at xs n) (story_at ys n)) → GoesOn (story_at xs k) (story_at ys k) → (n : ℕ) → n < k + 1 → GoesOn (story_at xs n) (story_at ys n)
+begins_more xs ys k before next = same_more (λ n. GoesOn (story_at xs n) (story_at ys n)) k before next
+
+-- one more at the end is what was seen of the next phaser, and all before it stay
+pub push_here : (xs : List Sight) (x : Sight) → story_at (xs ++ x ∷ []) (length xs) ≡ x.story
+push_here [] x = refl
+push_here (y ∷ ys) x = push_here ys x
+
+pub push_before : (xs : List Sight) (x : Sight) (n : ℕ) → n < length xs → story_at (xs ++ x ∷ []) n ≡ story_at xs n
+push_before [] x n within = absurd (omega (arith, within))
+push_before (y ∷ ys) x zero within = refl
+push_before (y ∷ ys) x (suc n) within = push_before ys x n (omega (arith, within))
+
+-- past the end nothing was seen
+pub none_past : (xs : List Sight) (n : ℕ) → length xs ≤ n → story_at xs n ≡ story_at [] n
+none_past [] n past = refl
+none_past (y ∷ ys) zero past = absurd (omega (arith, past))
+none_past (y ∷ ys) (suc n) past = none_past ys n (omega (arith, past))
+
+-- copies of so many, and of the next one
+pub copies_more : (xs ys zs : List Sight) (x : Sight) → ((n : ℕ) → n < length xs → story_at xs n ≡ story_at ys n)
+    → zs ≡ xs ++ x ∷ [] → x.story ≡ story_at ys (length xs) → (n : ℕ) → n < length xs + 1 → story_at zs n ≡ story_at ys n
+copies_more xs ys zs x before is next =
+    subst (λ (l : List Sight). (n : ℕ) → n < length xs + 1 → story_at l n ≡ story_at ys n) (sym is)
+    (same_more (λ n. story_at (xs ++ x ∷ []) n ≡ story_at ys n) (length xs)
+    (λ n lt. push_before xs x n lt ∙ before n lt) (push_here xs x ∙ next))
+
+-- copies of all
+pub copies_all : (xs ys : List Sight) → length xs ≡ length ys → ((n : ℕ) → n < length xs → story_at xs n ≡ story_at ys n) → (n : ℕ) → story_at xs n ≡ story_at ys n
+copies_all xs ys long each n = go (cases_lt n (length xs))
+  where
+    go : (n < length xs) ⊎ (length xs ≤ n) → story_at xs n ≡ story_at ys n
+    go (inl lt) = each n lt
+    go (inr ge) = none_past xs n ge ∙ sym (none_past ys n (omega (arith, ge, long)))

@@ -1,7 +1,7 @@
 use Rattle.std.proofs.Common.{ap, ◌∙◌}
 use Rattle.table_receipts.specs.Logs.{Sight}
-use Rattle.phaser_crew.proofs.Seen.{at_same}
-use Rattle.phaser_crew.proofs.fronts.Fronts.get.Goals as goal
+use Rattle.table_receipts.proofs.Stories.{at_same}
+use Rattle.table_receipts.proofs.fronts.Fronts.get.Goals as goal
 
 pub returns-clause-story : goal.returns-clause-story
 returns-clause-story g c =

@@ -1,0 +1,19 @@
+-- What the root's body says of a run's trace.
+use Rattle.std.specs.Prelude.{◌≡◌, ℕ, ◌<◌, List, reverse}
+use Rattle.phase_modes.specs.declared.limits.Limits.{Limits}
+use Rattle.phase_model.specs.Rules.{Story}
+use Rattle.world_model.specs.Parts.{phaser_past, terms_of}
+use Rattle.trace_model.specs.Explained.{past}
+use Rattle.trace_model.specs.Run.{Entry}
+use Rattle.table_receipts.specs.Parts.{HasShown}
+use Rattle.task_crew.specs.Heard.{Asked}
+
+-- the story that the trace tells of phaser n
+abbrev pub story_in : Limits → List Entry → ℕ → Story
+story_in l es n =
+    let w = past (reverse es) in record { limits = l; terms = terms_of n w; past = phaser_past n w }
+
+-- the root's body says this of what its task has seen of each phaser, which begins the story that the trace tells
+abbrev pub SaysOfTrace : {B : Type 0} → (B → Asked → (ℕ → Story) → Type 0) → Limits → List Entry → B → Type 0
+SaysOfTrace Shows l es root =
+    ∥ HasShown (λ b seen. (asked : Asked) × Shows b asked seen) l.phasers (λ n. story_in l es n) root ∥₁

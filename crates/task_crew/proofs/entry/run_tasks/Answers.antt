@@ -1,0 +1,5 @@
+use Rattle.table_receipts.proofs.Names.{named}
+use Rattle.task_crew.proofs.entry.run_tasks.Goals as goal
+
+pub run_over-requires-clause-logs : goal.run_over-requires-clause-logs
+run_over-requires-clause-logs g c = λ κs lives n. named (λ w. w.name) c.in_ok-logs.logs.items n

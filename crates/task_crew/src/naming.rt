@@ -1,0 +1,22 @@
+//! What a run's types are named by: its ledgers, its logs, and what its bodies suppose.
+use share_book::Ledgers;
+use std::marker::Brand;
+use table_receipts::{Logs, Named, Naming};
+
+/// What has to hold for what a run's bodies say: that its root says nothing false at its start.
+pub(crate) trait Supposing {
+    ghost supposed: { Type 0 };
+}
+
+impl Supposing for Brand {
+    ghost supposed = { Unit {0} };
+}
+
+impl<S: Ledgers, L: Logs + Supposing> Supposing for Named<S, L> {
+    ghost supposed = { L.Supposing.supposed };
+}
+
+/// The ledgers and the logs of a run, and what its bodies suppose.
+pub(crate) trait RunNaming: Naming + Supposing {}
+
+impl<S: Ledgers, L: Logs + Supposing> RunNaming for Named<S, L> {}
