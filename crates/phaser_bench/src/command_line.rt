@@ -1,6 +1,6 @@
 //! The words of the command line, as a job.
 ghost use Rattle.std.specs.Prelude.{map, SomeIff, MatchOption};
-ghost use Rattle.phaser_bench.specs.CommandLine.{IsNumberFrom, number_in, NamesCore, NamesLocks, NamesWorlds, Names};
+ghost use Rattle.phaser_bench.specs.CommandLine.{IsNumberFrom, number_in, NamesCore, NamesTable, NamesWorlds, Names};
 
 use crate::job::Job;
 use crate::locks::job::LocksJob;
@@ -36,16 +36,18 @@ fn core_job(words: &[&str]) -> Option<CoreJob>
     })
 }
 
-/// The job that the words `locks KIND TASKS PHASES PHASERS THREADS` name; none where they name
-/// none.
-fn locks_job(words: &[&str]) -> Option<LocksJob>
+/// The job that the words NAME `KIND TASKS PHASES PHASERS THREADS` name; none where they name none.
+fn table_job(name: &str, words: &[&str]) -> Option<LocksJob>
     ensures { MatchOption result
-        ((job : _) → ¬ (NamesLocks job (map (λ w. w.now) words.now)))
-        (λ job. NamesLocks job (map (λ w. w.now) words.now)) }
+        ((job : _) → ¬ (NamesTable name.now job (map (λ w. w.now) words.now)))
+        (λ job. NamesTable name.now job (map (λ w. w.now) words.now)) }
 {
-    let ["locks", kind, tasks, phases, phasers, threads] = words else {
+    let [what, kind, tasks, phases, phasers, threads] = words else {
         return None;
     };
+    if *what != name {
+        return None;
+    }
     Some(LocksJob {
         kind: LocksKind::of_name(kind)?,
         tasks: number_of(tasks, 1, 256)?,
@@ -80,8 +82,11 @@ pub fn job_of(words: &[&str]) -> Option<Job>
     if let Some(job) = core_job(words) {
         return Some(Job::Core(job));
     }
-    if let Some(job) = locks_job(words) {
+    if let Some(job) = table_job("locks", words) {
         return Some(Job::Locks(job));
+    }
+    if let Some(job) = table_job("receipts", words) {
+        return Some(Job::Receipts(job));
     }
     if let Some(job) = worlds_job(words) {
         return Some(Job::Worlds(job));
