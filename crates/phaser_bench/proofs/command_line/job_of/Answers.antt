@@ -20,4 +20,4 @@ none_named words no_core no_locks no_receipts no_worlds (Worlds job) named = no_
 
 pub returns : goal.returns
 returns c =
-    none_named _ c.in_default.ensures c.in_default-table_job.ensures c.in_default-table_job2.ensures c.in_default-worlds_job.ensures
+    none_named _ c.in_default.ensures c.in_default-locks_job.ensures c.in_default-receipts_job.ensures c.in_default-worlds_job.ensures
