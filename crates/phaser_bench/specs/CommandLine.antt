@@ -5,7 +5,7 @@ use Rattle.phaser_bench.specs.declared.phasers.job.CoreJob.{CoreJob}
 use Rattle.phaser_bench.specs.declared.locks.job.LocksJob.{LocksJob}
 use Rattle.phaser_bench.specs.declared.worlds.job.WorldsJob.{WorldsJob}
 use Rattle.phaser_bench.specs.declared.job.Job.{Job}
-use Rattle.phaser_bench.specs.declared.job.Job.TheVariants.{Core, Locks, Worlds}
+use Rattle.phaser_bench.specs.declared.job.Job.TheVariants.{Core, Locks, Receipts, Worlds}
 use Rattle.phaser_bench.specs.CoreKind.{name_of as core_name}
 use Rattle.phaser_bench.specs.LocksKind.{name_of as locks_name}
 use Rattle.phaser_bench.specs.WorldsKind.{name_of as worlds_name}
@@ -36,16 +36,16 @@ NamesCore job (what ∷ kind ∷ tasks ∷ phasers ∷ []) =
     × Spells job.phasers 1 1000 phasers
 NamesCore _ _ = ⊥
 
--- the words are locks KIND TASKS PHASES PHASERS THREADS of the job
-abbrev pub NamesLocks : LocksJob → List (List ℕ) → Type 0
-NamesLocks job (what ∷ kind ∷ tasks ∷ phases ∷ phasers ∷ threads ∷ []) =
-    (what ≡ codes "locks")
+-- the words are this name and KIND TASKS PHASES PHASERS THREADS of the job
+abbrev pub NamesTable : List ℕ → LocksJob → List (List ℕ) → Type 0
+NamesTable name job (what ∷ kind ∷ tasks ∷ phases ∷ phasers ∷ threads ∷ []) =
+    (what ≡ name)
     × (kind ≡ locks_name job.kind)
     × Spells job.tasks 1 256 tasks
     × Spells job.phases 1 32768 phases
     × Spells job.phasers 1 32 phasers
     × Spells job.threads 1 2 threads
-NamesLocks _ _ = ⊥
+NamesTable _ _ _ = ⊥
 
 -- the words are worlds KIND TURNS WORLDS of the job
 abbrev pub NamesWorlds : WorldsJob → List (List ℕ) → Type 0
@@ -59,5 +59,6 @@ NamesWorlds _ _ = ⊥
 -- the words name the job
 abbrev pub Names : Job → List (List ℕ) → Type 0
 Names (Core job) words = NamesCore job words
-Names (Locks job) words = NamesLocks job words
+Names (Locks job) words = NamesTable (codes "locks") job words
+Names (Receipts job) words = NamesTable (codes "receipts") job words
 Names (Worlds job) words = NamesWorlds job words

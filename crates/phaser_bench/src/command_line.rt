@@ -1,6 +1,6 @@
 //! The words of the command line, as a job.
-ghost use Rattle.std.specs.Prelude.{map, SomeIff, MatchOption};
-ghost use Rattle.phaser_bench.specs.CommandLine.{IsNumberFrom, number_in, NamesCore, NamesLocks, NamesWorlds, Names};
+ghost use Rattle.std.specs.Prelude.{map, SomeIff, MatchOption, codes};
+ghost use Rattle.phaser_bench.specs.CommandLine.{IsNumberFrom, number_in, NamesCore, NamesTable, NamesWorlds, Names};
 
 use crate::job::Job;
 use crate::locks::job::LocksJob;
@@ -40,10 +40,29 @@ fn core_job(words: &[&str]) -> Option<CoreJob>
 /// none.
 fn locks_job(words: &[&str]) -> Option<LocksJob>
     ensures { MatchOption result
-        ((job : _) → ¬ (NamesLocks job (map (λ w. w.now) words.now)))
-        (λ job. NamesLocks job (map (λ w. w.now) words.now)) }
+        ((job : _) → ¬ (NamesTable (codes "locks") job (map (λ w. w.now) words.now)))
+        (λ job. NamesTable (codes "locks") job (map (λ w. w.now) words.now)) }
 {
     let ["locks", kind, tasks, phases, phasers, threads] = words else {
+        return None;
+    };
+    Some(LocksJob {
+        kind: LocksKind::of_name(kind)?,
+        tasks: number_of(tasks, 1, 256)?,
+        phases: number_of(phases, 1, 32_768)?,
+        phasers: number_of(phasers, 1, 32)?,
+        threads: number_of(threads, 1, 2)?,
+    })
+}
+
+/// The job that the words `receipts KIND TASKS PHASES PHASERS THREADS` name; none where they name
+/// none.
+fn receipts_job(words: &[&str]) -> Option<LocksJob>
+    ensures { MatchOption result
+        ((job : _) → ¬ (NamesTable (codes "receipts") job (map (λ w. w.now) words.now)))
+        (λ job. NamesTable (codes "receipts") job (map (λ w. w.now) words.now)) }
+{
+    let ["receipts", kind, tasks, phases, phasers, threads] = words else {
         return None;
     };
     Some(LocksJob {
@@ -82,6 +101,9 @@ pub fn job_of(words: &[&str]) -> Option<Job>
     }
     if let Some(job) = locks_job(words) {
         return Some(Job::Locks(job));
+    }
+    if let Some(job) = receipts_job(words) {
+        return Some(Job::Receipts(job));
     }
     if let Some(job) = worlds_job(words) {
         return Some(Job::Worlds(job));

@@ -1,4 +1,5 @@
-//! What is to be measured: calls of phasers alone, calls through a table, or steps of worlds.
+//! What is to be measured: calls of phasers alone, calls through a table, without receipts or with
+//! them, or steps of worlds.
 use crate::locks::job::LocksJob;
 use crate::phasers::job::CoreJob;
 use crate::worlds::job::WorldsJob;
@@ -10,6 +11,8 @@ pub enum Job {
     Core(CoreJob),
     /// Calls through a table of phasers.
     Locks(LocksJob),
+    /// The same calls with receipts.
+    Receipts(LocksJob),
     /// Steps of worlds.
     Worlds(WorldsJob),
 }

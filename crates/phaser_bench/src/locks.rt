@@ -1,6 +1,9 @@
-//! Calls through a table of phasers, each behind its lock, by threads.
+//! Calls through a table of phasers, each behind its lock, by threads: without receipts, and with
+//! them.
 
 mod calls;
 pub mod job;
 pub mod kind;
-pub mod threads;
+pub mod plain;
+pub mod receipts;
+mod threads;

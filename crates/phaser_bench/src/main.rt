@@ -1,5 +1,5 @@
 //! Calls and steps, many in one process, for the benchmark: of phasers alone, of phasers behind
-//! locks, or of worlds. Prints how many there were.
+//! locks, without receipts or with them, or of worlds. Prints how many there were.
 #![tactic(auto)]
 
 mod command_line;
@@ -10,7 +10,7 @@ mod worlds;
 
 use command_line::job_of;
 use job::Job;
-use locks::threads::events_of;
+use locks::{plain, receipts};
 use phasers::calls::calls_on_all;
 use std::alloc::Global;
 use std::env;
@@ -25,6 +25,8 @@ core none|turn|send|look|drop|long TASKS PHASERS
     (1 to 256 tasks, 1 to 1000 phasers)
 locks none|turn|ahead|follow|free TASKS PHASES PHASERS THREADS
     (1 to 256 tasks, 1 to 32768 phases, 1 to 32 phasers for each of 1 or 2 threads)
+receipts none|turn|ahead|follow|free TASKS PHASES PHASERS THREADS
+    (the same calls with receipts)
 worlds calls|alone|beside|reported|default|greatest TURNS WORLDS
     (0 to 65536 turns, 1 to 1000 worlds)\n";
 
@@ -64,7 +66,8 @@ fn named_job(rt: &HostRuntime) -> Result<Job, u8> {
 fn count_of<R: Threads + Wait + Sync>(threads: &R, alloc: Global, job: Job) -> Option<u64> {
     match job {
         Job::Core(job) => calls_on_all(alloc, job).ok(),
-        Job::Locks(job) => events_of(threads, alloc, job).ok(),
+        Job::Locks(job) => plain::events_of(threads, alloc, job).ok(),
+        Job::Receipts(job) => receipts::events_of(threads, alloc, job).ok(),
         Job::Worlds(job) => steps_of(alloc, job).ok(),
     }
 }

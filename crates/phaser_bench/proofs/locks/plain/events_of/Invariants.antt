@@ -1,4 +1,4 @@
-use Rattle.phaser_bench.proofs.locks.threads.events_of.Given as goal
+use Rattle.phaser_bench.proofs.locks.plain.events_of.Given as goal
 
 abbrev pub ghosts-named_events-A-Ledger : goal.ghosts-named_events-A-Ledger
 ghosts-named_events-A-Ledger g a = record { name = a.blanks.events_by_phaser.name; parts = a.blanks.events_by_phaser.parts }
