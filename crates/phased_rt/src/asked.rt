@@ -25,11 +25,7 @@ fn asked_beside<Q: Question + Sync, R: Threads>(
     ensures answered { IfOk result (λ r. Q.answers question.now trace.now r.1) }
     ensures refused { IfErr result (λ e. Replays trace.now (Err e)) }
 {
-    let (answer, world) = thread::join(
-        rt,
-        || question.ask(alloc, trace),
-        || replay(alloc, trace),
-    );
+    let (answer, world) = thread::join(rt, || question.ask(alloc, trace), || replay(alloc, trace));
     Ok((world?, answer))
 }
 

@@ -28,7 +28,9 @@ impl<'p> Question for CountAndFollow<'p> {
 }
 
 /// The root makes a phaser, 1 event, goes 1,363 or 1,364 phases, 3 events each, and ends, 3 events.
-const SHORT: &str = r#"{"main":[["new","p","SIG_WAIT",[]],["repeat",681,[["next"],["next"]]],["next"]]}"#;
+const SHORT: &str =
+    r#"{"main":[["new","p","SIG_WAIT",[]],["repeat",681,[["next"],["next"]]],["next"]]}"#;
+
 const LONG: &str = r#"{"main":[["new","p","SIG_WAIT",[]],["repeat",682,[["next"],["next"]]]]}"#;
 
 /// What is run, what its trace is asked to follow, how many events it has, and the answer. Where one of

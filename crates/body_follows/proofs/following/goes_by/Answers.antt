@@ -49,7 +49,7 @@ loop-i-preserved g c =
     let at : slice_get xs i ≡ Some d = search rules in
     let less : i < length xs = omega (arith, c.loop-i-test.true, c.len-i-end.ensures.length) in
     let taken : is_explained r ≡ true
-        → IsTaken g.B.Goes.next c.args.root w (event_of d.1) (seat_of c.takes.new.bodies.seats) true = λ explained.
+    → IsTaken g.B.Goes.next c.args.root w (event_of d.1) (seat_of c.takes.new.bodies.seats) true = λ explained.
     let here : IsAfter r.limits w d = subst (λ (x : Entry). IsAfter r.limits w x) (sym (entry_at xs i d at))
     (after_its_past r i d explained less) in
     subst (λ (b : Bool). IsTaken g.B.Goes.next c.args.root w (event_of d.1) (seat_of c.takes.new.bodies.seats) b)
