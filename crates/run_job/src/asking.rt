@@ -35,6 +35,7 @@ impl<'p> Question for Follows<'p> {
     }
 }
 
+#[tactic(auto, using(crate::proofs::Answered::refused_so))]
 /// Runs a program by as many workers, each in a thread of its own. `NotExplained` where the run can't
 /// be told, or, at the place of the first event that isn't its task's next one, where it doesn't
 /// follow the program.
