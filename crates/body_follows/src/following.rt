@@ -106,11 +106,12 @@ fn takes<B: Goes>(
 
 /// Whether the tasks of an explained trace went by this root's body and those that come of it: `Ok`,
 /// or `NotExplained` with the place of the first act that its task's body doesn't give, counted from
-/// 1. `Memory` where there is too little for the bodies.
+/// 1. `Memory` where there is too little for the bodies. Any trace is taken; of one that no world
+/// explains the answer says nothing.
 pub fn goes_by<B: Goes>(alloc: Global, root: B, trace: &Trace) -> Result<(), Refusal>
-    requires { is_explained trace.now ≡ true }
-    ensures goes { IfOk result (λ _. goes_by B.next root (history trace.now.events) ≡ true) }
-    ensures refused { IfErr result (IsRefusedAt B.next root trace.now.events) }
+    ensures goes { is_explained trace.now ≡ true
+        → IfOk result (λ _. goes_by B.next root (history trace.now.events) ≡ true) }
+    ensures refused { is_explained trace.now ≡ true → IfErr result (IsRefusedAt B.next root trace.now.events) }
 {
     let mut bodies = Bodies::new(alloc, root)?;
     for i in 0..trace.len() {

@@ -4,23 +4,12 @@ use Rattle.job_script.specs.Program.{Program}
 use Rattle.job_ends.specs.declared.failure.Failure as failures
 use Rattle.world_model.specs.Report.{Report, report_of}
 use Rattle.trace_model.specs.Run.{Run}
-use Rattle.trace_model.specs.Explained.{is_explained}
-use Rattle.schedule_model.specs.Follows.{follows}
 use Rattle.schedule_run.specs.Following as following
 use Rattle.program_texts.specs.Texts.{IsOfTexts, history, program_spelled}
 use Rattle.one_answer.specs.Certified.{IsCertified}
 use Rattle.one_answer.specs.Luck.{is_all_steady}
 use Rattle.one_answer.proofs.Whole.{has_certified_report, program_run}
 use Rattle.run_job.specs.Worked.{IsOfRun, IsRunOf}
-use Rattle.run_job.proofs.Turned.{turned}
-
-pub is_run : (p : Program) (t : Run) → t.limits ≡ p.limits → is_explained t ≡ true
-    → follows p (following.history t.events) ≡ true → IsRunOf p t
-is_run p t limits explained follows_it = record {
-  limits = limits;
-  explained = explained;
-  follows_it = ap (λ w. follows p w) (turned t.events) ∙ follows_it;
-}
 
 pub of_run : (p : Program) (t : Run) (r : Report) → IsCertified p r → IsRunOf p t
     → is_all_steady t.limits (following.history t.events) ≡ true → IsCertified p (report_of p.limits (history t))

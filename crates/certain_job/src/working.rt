@@ -11,9 +11,8 @@ ghost use Rattle.certain_job.specs.Certain.{IsOfCertain, RunsCertain};
 use certify_job::{NoCertificate, certificate_of};
 use job_ends::{Ending, Failure, Status, put_text};
 use one_answer::{certify, first_luck};
-use phased_rt::{OpenGate, run};
 use program_texts::{program_of, put_trace};
-use schedule_run::follows;
+use run_job::run_program;
 use std::alloc::Global;
 use std::io::Write;
 use std::sync::Wait;
@@ -69,15 +68,7 @@ pub fn certain_bytes<R: Threads + Wait + Sync, W: Write, T: Write>(
 {
     let program = program_of(alloc, input)?;
     certify(alloc, &program)?;
-    let report = run(
-        rt,
-        alloc,
-        program.root(),
-        program.limits(),
-        workers,
-        &OpenGate,
-    )?;
-    follows(alloc, &program, &report.trace)?;
+    let report = run_program(rt, alloc, &program, workers)?;
     if let Some(at) = first_luck(alloc, &report.trace)? {
         return Err(NoCertificate::Luck(at));
     }

@@ -16,16 +16,40 @@ use body_follows::{Goes, goes_by};
 use job_ends::Status;
 use job_kernels::{PipelineBody, StencilBody};
 use phase_modes::{Limits, Refusal};
-use phased_rt::{OpenGate, run};
+use phased_rt::{OpenGate, Question, run_and_ask};
 use std::alloc::Global;
 use std::io::Write;
 use std::sync::Wait;
 use std::thread::Threads;
+use trace_model::Trace;
 use world_model::WorldReport;
+
+/// Whether a trace goes by this root's body and those that come of it.
+#[derive(Drop)]
+struct GoesBy<B: Drop> {
+    root: B,
+}
+
+impl<B: Goes + Copy> Question for GoesBy<B> {
+    ghost use Rattle.std.specs.Prelude.{true, IfOk, IfErr};
+    ghost use Rattle.schedule_run.specs.Following.{history};
+    ghost use Rattle.trace_model.specs.Explained.{is_explained};
+    ghost use Rattle.body_follows.specs.Going as going;
+
+    type Answer = Result<(), Refusal>;
+
+    ghost answers = { λ q trace answer.
+        (is_explained trace ≡ true → IfOk answer (λ _. going.goes_by B.next q.root (history trace.events) ≡ true))
+        × (is_explained trace ≡ true → IfErr answer (going.IsRefusedAt B.next q.root trace.events)) };
+
+    fn ask(&self, alloc: Global, trace: &Trace) -> Result<(), Refusal> {
+        goes_by(alloc, self.root, trace)
+    }
+}
 
 /// The report of the root's run under the default limits, once its trace was seen to go by the root's
 /// body and those that come of it.
-fn report_of<B: Goes + Copy + Send, R: Threads + Wait + Sync>(
+fn report_of<B: Goes + Copy + Send + Sync, R: Threads + Wait + Sync>(
     rt: &R,
     alloc: Global,
     root: B,
@@ -34,15 +58,23 @@ fn report_of<B: Goes + Copy + Send, R: Threads + Wait + Sync>(
     requires { (0 < workers) × (workers ≤ 16) }
     ensures { IsKernelRun B.next root result }
 {
-    let report = run(rt, alloc, root, Limits::default(), workers, &OpenGate)?;
-    match goes_by(alloc, root, &report.trace) {
+    let (report, gone) = run_and_ask(
+        rt,
+        alloc,
+        root,
+        Limits::default(),
+        workers,
+        &OpenGate,
+        &GoesBy { root },
+    )?;
+    match gone {
         Ok(()) => Ok(report.world),
         Err(refusal) => Err(refusal),
     }
 }
 
 /// Runs the root by as many workers, and ends the command of its kernel.
-fn kernel_on<B: Goes + Copy + Send, R: Threads + Wait + Sync, W: Write, F: Write>(
+fn kernel_on<B: Goes + Copy + Send + Sync, R: Threads + Wait + Sync, W: Write, F: Write>(
     rt: &R,
     alloc: Global,
     kernel: Kernel,

@@ -25,14 +25,19 @@
 //! trace does: not that it ends, nor in which order tasks go on.
 #![tactic(auto)]
 
+mod asked;
+mod asking;
 mod laws;
+mod question;
 mod report;
 mod running;
 mod told;
 
+pub use asking::run_and_ask;
 pub use job_script::{Act, Answer};
 pub use laws::runs_are_traced;
 pub use phase_modes::Phased;
+pub use question::Question;
 pub use report::Report;
 pub use running::run;
 pub use task_crew::{Body, Gate, OpenGate};

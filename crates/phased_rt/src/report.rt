@@ -7,11 +7,14 @@ ghost use Rattle.trace_model.specs.Parts.{IsTraceOf};
 ghost use Rattle.task_crew.specs.Refused.{IsRunRefused};
 ghost use Rattle.phased_rt.specs.Left.{IsLeftByAll};
 
+use crate::asked::asked_of;
+use crate::question::Question;
 use phase_modes::{Limits, Refusal};
 use share_book::Totals;
 use std::alloc::Global;
+use std::thread::Threads;
 use trace_model::{Part, Trace};
-use trace_replay::{merge, replay};
+use trace_replay::merge;
 use world_model::WorldReport;
 
 /// What a run made.
@@ -27,22 +30,27 @@ pub struct Report<B> {
 }
 
 #[tactic(auto, using(trace_model::proofs::Faults::faultless, crate::proofs::Refusals::merge_refused, crate::proofs::Refusals::replay_refused))]
-/// The trace of these parts, and the report of the run that left them. `NotExplained` where they
-/// merge to no trace that a world explains, `Memory` where there is too little for it.
-pub(crate) fn reported(
+/// The trace of these parts, the report of the run of so many workers that left them, and the answer
+/// of a question on the trace. `NotExplained` where the parts merge to no trace that a world explains,
+/// `Memory` where there is too little for it.
+pub(crate) fn reported<Q: Question + Sync, R: Threads>(
+    rt: &R,
     alloc: Global,
     limits: Limits,
+    workers: u32,
     parts: &[Part],
-) -> Result<(WorldReport, Trace), Refusal>
+    question: &Q,
+) -> Result<(WorldReport, Trace, Q::Answer), Refusal>
     requires { limits_fit limits ≡ true }
     ensures limits { IfOk result (λ r. r.1.limits ≡ limits) }
     ensures of_parts { IfOk result (λ r. IsTraceOf parts.now r.1.events) }
     ensures explained { IfOk result (λ r. is_explained r.1 ≡ true) }
     ensures world { IfOk result (λ r. r.0 ≡ report_of limits (past (reverse r.1.events))) }
     ensures left { IfOk result (λ r. IsLeftByAll r.1.events) }
+    ensures answered { IfOk result (λ r. Q.answers question.now r.1 r.2) }
     ensures refused { IfErr result (λ e. IsRunRefused e) }
 {
     let trace = merge(alloc, limits, parts)?;
-    let world = replay(alloc, &trace)?;
-    Ok((world, trace))
+    let (world, answer) = asked_of(rt, alloc, workers, &trace, question)?;
+    Ok((world, trace, answer))
 }

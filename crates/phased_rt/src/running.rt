@@ -11,6 +11,7 @@ ghost use Rattle.phased_rt.specs.Says.{SaysOfTrace};
 ghost use Rattle.phased_rt.specs.Told.{IsToldBy};
 ghost use Rattle.phased_rt.specs.Totals.{AreTotals};
 
+use crate::question::NoQuestion;
 use crate::report::Report;
 use crate::told::told_of;
 use phase_modes::{Limits, Refusal};
@@ -47,5 +48,6 @@ pub fn run<B: Body + Send, G: Gate + Sync, R: Threads + Wait + Sync>(
     ensures refused { IfErr result (λ e. IsRunRefused e) }
 {
     let remains = run_tasks(rt, alloc, root, limits, workers, gate)?;
-    told_of(alloc, limits, remains)
+    let (report, ()) = told_of(rt, alloc, limits, 1, remains, &NoQuestion)?;
+    Ok(report)
 }

@@ -11,9 +11,11 @@ ghost use Rattle.phased_rt.specs.Says.{SaysOfTrace};
 ghost use Rattle.phased_rt.specs.Told.{IsToldBy};
 ghost use Rattle.phased_rt.specs.Totals.{AreTotals};
 
+use crate::question::Question;
 use crate::report::{Report, reported};
 use phase_modes::{Limits, Refusal};
 use std::alloc::Global;
+use std::thread::Threads;
 use task_crew::{Body, Remains};
 use trace_model::Part;
 
@@ -30,22 +32,26 @@ fn joined(phasers: Vec<Part>, finishes: Vec<Part>, logs: Vec<Part>) -> Result<Ve
     Ok(parts)
 }
 
-/// What a run made, by what it leaves. `NotExplained` where the parts merge to no trace that a world
-/// explains.
-pub(crate) fn told_of<B: Body>(
+/// What a run of so many workers made, by what it leaves, and the answer of a question on its trace.
+/// `NotExplained` where the parts merge to no trace that a world explains.
+pub(crate) fn told_of<B: Body, Q: Question + Sync, R: Threads>(
+    rt: &R,
     alloc: Global,
     limits: Limits,
+    workers: u32,
     remains: Remains<B>,
-) -> Result<Report<B>, Refusal>
+    question: &Q,
+) -> Result<(Report<B>, Q::Answer), Refusal>
     requires limits { limits_fit limits ≡ true }
     requires remains { AreRemains limits remains.phasers.items remains.finishes.items remains.logs.items remains.totals }
-    ensures limits { IfOk result (λ r. r.trace.limits ≡ limits) }
-    ensures explained { IfOk result (λ r. is_explained r.trace ≡ true) }
-    ensures world { IfOk result (λ r. r.world ≡ report_of limits (past (reverse r.trace.events))) }
-    ensures left { IfOk result (λ r. IsLeftByAll r.trace.events) }
-    ensures told { IfOk result (λ r. IsToldBy limits r.trace.events r.totals) }
-    ensures totals { IfOk result (λ r. AreTotals limits r.trace.events r.world.totals r.totals) }
-    ensures says { IfOk result (λ r. IsSaid B.shows limits remains.phasers.items remains.root → SaysOfTrace B.shows limits r.trace.events r.root) }
+    ensures limits { IfOk result (λ r. r.0.trace.limits ≡ limits) }
+    ensures explained { IfOk result (λ r. is_explained r.0.trace ≡ true) }
+    ensures world { IfOk result (λ r. r.0.world ≡ report_of limits (past (reverse r.0.trace.events))) }
+    ensures left { IfOk result (λ r. IsLeftByAll r.0.trace.events) }
+    ensures told { IfOk result (λ r. IsToldBy limits r.0.trace.events r.0.totals) }
+    ensures totals { IfOk result (λ r. AreTotals limits r.0.trace.events r.0.world.totals r.0.totals) }
+    ensures says { IfOk result (λ r. IsSaid B.shows limits remains.phasers.items remains.root → SaysOfTrace B.shows limits r.0.trace.events r.0.root) }
+    ensures answered { IfOk result (λ r. Q.answers question.now r.0.trace r.1) }
     ensures refused { IfErr result (λ e. IsRunRefused e) }
 {
     let Remains {
@@ -56,11 +62,12 @@ pub(crate) fn told_of<B: Body>(
         root,
     } = remains;
     let parts = joined(phasers, finishes, logs)?;
-    let (world, trace) = reported(alloc, limits, &parts)?;
-    Ok(Report {
+    let (world, trace, answer) = reported(rt, alloc, limits, workers, &parts, question)?;
+    let report = Report {
         world,
         totals,
         trace,
         root,
-    })
+    };
+    Ok((report, answer))
 }

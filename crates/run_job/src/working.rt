@@ -7,10 +7,9 @@ ghost use Rattle.program_texts.specs.Out.{AppendsOut, KeepsOut};
 ghost use Rattle.program_texts.specs.Texts.{program_spelled, report_for, trace_line};
 ghost use Rattle.run_job.specs.Worked.{IsOfRun, Runs};
 
+use crate::asking::run_program;
 use job_ends::{Ending, Failure, Status};
-use phased_rt::{OpenGate, run};
 use program_texts::{program_of, put_run};
-use schedule_run::follows;
 use std::alloc::Global;
 use std::io::Write;
 use std::sync::Wait;
@@ -42,15 +41,7 @@ pub fn run_bytes<R: Threads + Wait + Sync, W: Write, T: Write>(
     ensures failure { IfErr result (IsOfRun input.now) }
 {
     let program = program_of(alloc, input)?;
-    let report = run(
-        rt,
-        alloc,
-        program.root(),
-        program.limits(),
-        workers,
-        &OpenGate,
-    )?;
-    follows(alloc, &program, &report.trace)?;
+    let report = run_program(rt, alloc, &program, workers)?;
     put_run(alloc, &report.world, &report.trace, out, trace_out)?;
     Ok(())
 }

@@ -10,6 +10,7 @@ use std::process::Abort;
 use std::sync::Wait;
 use std::thread::Threads;
 
+mod asked;
 mod gates;
 mod queues;
 mod roots;

@@ -1,6 +1,6 @@
 use Rattle.std.proofs.Common.{ℕ, suc, ◌+◌, ◌<◌, ◌≤◌, ◌≡◌, ◌∷◌, ◌&&◌, Bool, true, false, List, Some, length, rules, slice_get, take, sym, ap, subst, arith, ◌∙◌}
 use Rattle.world_model.specs.declared.event.WorldEvent.{WorldEvent}
-use Rattle.trace_model.specs.Explained.{event_of}
+use Rattle.trace_model.specs.Explained.{event_of, is_explained}
 use Rattle.trace_model.specs.Run.{Entry}
 use Rattle.schedule_run.specs.Following.{history}
 use Rattle.schedule_run.proofs.Histories.{entry_at, history_more, history_all}
@@ -12,7 +12,7 @@ use Rattle.body_follows.proofs.Told.{told_heard}
 use Rattle.body_follows.proofs.following.goes_by.Goals as goal
 
 pub returns-then-not-branch-clause-refused : goal.returns-then-not-branch-clause-refused
-returns-then-not-branch-clause-refused g c =
+returns-then-not-branch-clause-refused g c = λ explained.
     let r = c.args.trace.now in
     let xs : List Entry = r.events in
     let i = c.loop-i.i in
@@ -21,11 +21,11 @@ returns-then-not-branch-clause-refused g c =
     let at : slice_get xs i ≡ Some d = search rules in
     let less : i < length xs = omega (arith, c.loop-i-test.true, c.len-i-end.ensures.length) in
     let here : IsAfter r.limits w d = subst (λ (x : Entry). IsAfter r.limits w x) (sym (entry_at xs i d at))
-    (after_its_past r i d c.requires less) in
+    (after_its_past r i d explained less) in
     let taken : IsTaken g.B.Goes.next c.args.root w (event_of d.1) (seat_of c.takes.new.bodies.seats) false =
     subst (λ (b : Bool). IsTaken g.B.Goes.next c.args.root w (event_of d.1) (seat_of c.takes.new.bodies.seats) b)
     c.if-not-branch.true
-    (c.in_ok-takes.ensures.taken c.args.root c.loop-i.invariant.go
+    (c.in_ok-takes.ensures.taken c.args.root (c.loop-i.invariant.go explained)
     (λ m is. actor_named r.limits w (event_of d.1) m here.legal here.accepted is)
     (told_heard r.limits w d.1 here.answered)) in
     let one_more : suc i ≡ i + 1 = omega arith in
@@ -34,7 +34,7 @@ returns-then-not-branch-clause-refused g c =
     ∙ ap (λ (x : Entry). event_of x.1 ∷ w) (sym (entry_at xs i d at))) in (
       i,
       sym one_more,
-      c.loop-i.invariant.so_far,
+      c.loop-i.invariant.so_far explained,
       ap (λ (v : List WorldEvent). goes_by g.B.Goes.next c.args.root v) more
           ∙ ap (λ (b : Bool). b && goes_by g.B.Goes.next c.args.root w) taken,
     )
@@ -48,26 +48,30 @@ loop-i-preserved g c =
     let d : Entry = c.entry-event.result in
     let at : slice_get xs i ≡ Some d = search rules in
     let less : i < length xs = omega (arith, c.loop-i-test.true, c.len-i-end.ensures.length) in
+    let taken : is_explained r ≡ true
+    → IsTaken g.B.Goes.next c.args.root w (event_of d.1) (seat_of c.takes.new.bodies.seats) true = λ explained.
     let here : IsAfter r.limits w d = subst (λ (x : Entry). IsAfter r.limits w x) (sym (entry_at xs i d at))
-    (after_its_past r i d c.requires less) in
-    let taken : IsTaken g.B.Goes.next c.args.root w (event_of d.1) (seat_of c.takes.new.bodies.seats) true =
+    (after_its_past r i d explained less) in
     subst (λ (b : Bool). IsTaken g.B.Goes.next c.args.root w (event_of d.1) (seat_of c.takes.new.bodies.seats) b)
     c.if-not-branch.false
-    (c.in_ok-takes.ensures.taken c.args.root c.loop-i.invariant.go
+    (c.in_ok-takes.ensures.taken c.args.root (c.loop-i.invariant.go explained)
     (λ m is. actor_named r.limits w (event_of d.1) m here.legal here.accepted is)
     (told_heard r.limits w d.1 here.answered)) in
     let more : history (take (i + 1) xs) ≡ event_of d.1 ∷ w =
     history_more xs i d less ∙ ap (λ (x : Entry). event_of x.1 ∷ w) (sym (entry_at xs i d at)) in
     record {
-      go = subst (λ (v : List WorldEvent). BodiesGo g.B.Goes.next c.args.root v (seat_of c.takes.new.bodies.seats))
-          (sym more) taken.1;
-      so_far = ap (λ (v : List WorldEvent). goes_by g.B.Goes.next c.args.root v) more
-          ∙ (ap (λ (b : Bool). b && goes_by g.B.Goes.next c.args.root w) taken.0 ∙ c.loop-i.invariant.so_far);
+      go = λ explained.
+          subst (λ (v : List WorldEvent). BodiesGo g.B.Goes.next c.args.root v (seat_of c.takes.new.bodies.seats))
+          (sym more) (taken explained).1;
+      so_far = λ explained.
+          ap (λ (v : List WorldEvent). goes_by g.B.Goes.next c.args.root v) more
+          ∙ (ap (λ (b : Bool). b && goes_by g.B.Goes.next c.args.root w) (taken explained).0
+          ∙ c.loop-i.invariant.so_far explained);
     }
 
 pub returns-clause-goes : goal.returns-clause-goes
-returns-clause-goes g c =
+returns-clause-goes g c = λ explained.
     let xs : List Entry = c.args.trace.now.events in
     let over : length xs ≤ c.loop-i.i = omega (arith, c.loop-i-test.false, c.len-i-end.ensures.length) in
     ap (λ (v : List WorldEvent). goes_by g.B.Goes.next c.args.root v) (sym (history_all xs c.loop-i.i over))
-    ∙ c.loop-i.invariant.so_far
+    ∙ c.loop-i.invariant.so_far explained

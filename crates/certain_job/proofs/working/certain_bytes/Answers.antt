@@ -1,13 +1,12 @@
 -- The report that was written is the certified one, since luck has no part in the run.
-use Rattle.std.proofs.Common.{rules, ◌≡◌, true, inr, ap, ◌∙◌}
+use Rattle.std.proofs.Common.{rules, ◌≡◌, true, inr, ap}
 use Rattle.std.proofs.lemmas.Result.{err_from_is_err_and}
-use Rattle.world_model.specs.Report.{Report, report_of}
+use Rattle.world_model.specs.Report.{Report}
 use Rattle.schedule_run.specs.Following as following
-use Rattle.program_texts.specs.Texts.{history}
 use Rattle.one_answer.specs.Certified.{IsCertified}
 use Rattle.one_answer.specs.Luck.{is_all_steady}
 use Rattle.certify_job.specs.Certificate.{certificate_text}
-use Rattle.certain_job.proofs.OfRun.{is_run, of_run, of_texts}
+use Rattle.certain_job.proofs.OfRun.{of_run, of_texts}
 use Rattle.certain_job.proofs.working.certain_bytes.Goals as goal
 
 pub returns-in-Some-clause-no_certificate : goal.returns-in-Some-clause-no_certificate
@@ -19,7 +18,7 @@ returns-in-Some-clause-no_certificate g c =
       program,
       trace,
       search rules,
-      is_run program trace (made.limits ∙ c.limits.ensures.limits) made.explained (search rules),
+      made.ran,
       (search rules, search rules),
     )
 
@@ -41,17 +40,15 @@ returns-clause-done g c =
     let program = c.in_ok-program.program in
     let trace = c.in_ok-report.report.trace in
     let made = c.in_ok-report.ensures in
-    let limits = c.limits.ensures.limits in
-    let ran = is_run program trace (made.limits ∙ limits) made.explained (search rules) in
     let certified : (r : Report) × IsCertified program r = search rules in
     let steady : is_all_steady trace.limits (following.history trace.events) ≡ true = search rules in
-    let lines = ap certificate_text (made.world ∙ ap (λ l. report_of l (history trace)) limits) in (
+    let lines = ap certificate_text made.world in (
       program,
       trace,
       search rules,
-      ran,
+      made.ran,
       (
-        of_run program trace certified.0 certified.1 ran steady,
+        of_run program trace certified.0 certified.1 made.ran steady,
         (search (rules, lines), search rules),
       ),
     )

@@ -1,8 +1,9 @@
-use Rattle.std.proofs.Common.{◌≡◌, true, reverse, List, sym, ap, subst, ◌∙◌}
+use Rattle.std.proofs.Common.{rules, ◌≡◌, true, reverse, List, sym, ap, subst, ◌∙◌}
 use Rattle.world_model.specs.Report.{report_of}
 use Rattle.world_model.specs.declared.event.WorldEvent.{WorldEvent}
 use Rattle.trace_model.specs.Explained.{past}
-use Rattle.body_follows.specs.Going.{goes_by}
+use Rattle.body_follows.specs.Going.{goes_by, IsRefusedAt}
+use Rattle.schedule_run.specs.Following.{history}
 use Rattle.body_follows.proofs.Prefixes.{past_reversed}
 use Rattle.kernels_job.proofs.Whole.{refused_so}
 use Rattle.kernels_job.proofs.running.report_of.Goals as goal
@@ -10,15 +11,17 @@ use Rattle.kernels_job.proofs.running.report_of.Goals as goal
 pub returns-in-Ok : goal.returns-in-Ok
 returns-in-Ok g c =
     let trace = c.in_ok-report.report.trace in
-    let ran = c.in_ok-report.ensures in (
+    let ran = c.in_ok-report.ensures in
+    let goes : goes_by g.B.Goes.next c.args.root (history trace.events) ≡ true = search rules in (
       trace,
       ran.limits ∙ c.default.ensures,
       ran.explained,
-      subst (λ (w : List WorldEvent). goes_by g.B.Goes.next c.args.root w ≡ true) (sym (past_reversed trace.events))
-          c.in-Ok.ensures.goes,
+      subst (λ (w : List WorldEvent). goes_by g.B.Goes.next c.args.root w ≡ true) (sym (past_reversed trace.events)) goes,
       ran.world ∙ ap (λ l. report_of l (past (reverse trace.events))) c.default.ensures,
     )
 
 pub returns-in-Err : goal.returns-in-Err
 returns-in-Err g c =
-    refused_so g.B.Goes.next c.args.root c.in_ok-report.report.trace.events c.in-Err.refusal c.in-Err.ensures.refused
+    let trace = c.in_ok-report.report.trace in
+    let left : IsRefusedAt g.B.Goes.next c.args.root trace.events c.in-Err.refusal = search rules in
+    refused_so g.B.Goes.next c.args.root trace.events c.in-Err.refusal left

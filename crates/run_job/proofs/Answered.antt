@@ -1,0 +1,11 @@
+-- Who asks whether a trace follows a program is refused as a run is.
+use Rattle.std.proofs.Common.{ℕ, Option, Err, inl, inr, refl}
+use Rattle.phase_modes.specs.declared.refusal.Refusal.{Refusal}
+use Rattle.phase_modes.specs.declared.refusal.Refusal.TheVariants.{Memory, NotExplained}
+use Rattle.schedule_run.specs.Following.{AnswersPlace}
+use Rattle.task_crew.specs.Refused.{IsRunRefused}
+
+pub refused_so : (o : Option ℕ) (e : Refusal) → AnswersPlace o (Err e) → IsRunRefused e
+refused_so o Memory is = inl refl
+refused_so o (NotExplained k) is = inr (k, refl)
+refused_so o e is = absurd is

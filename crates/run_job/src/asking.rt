@@ -1,0 +1,64 @@
+//! Runs a program by workers, and asks of the trace whether it follows the program.
+ghost use Rattle.std.specs.Prelude.{◌≡◌, ◌<◌, ◌≤◌, true, reverse, IfOk, IfErr};
+ghost use Rattle.world_model.specs.Report.{report_of};
+ghost use Rattle.trace_model.specs.Explained.{past};
+ghost use Rattle.task_crew.specs.Refused.{IsRunRefused};
+ghost use Rattle.run_job.specs.Worked.{IsRunOf};
+
+use job_script::{Program, ScriptBody};
+use phase_modes::Refusal;
+use phased_rt::{OpenGate, Question, Report, run_and_ask};
+use schedule_run::follows;
+use std::alloc::Global;
+use std::sync::Wait;
+use std::thread::Threads;
+use trace_model::Trace;
+
+/// Whether a trace follows the program.
+#[derive(Drop)]
+struct Follows<'p> {
+    program: &'p Program,
+}
+
+impl<'p> Question for Follows<'p> {
+    ghost use Rattle.std.specs.Prelude.{◌≡◌, true, IfOk};
+    ghost use Rattle.schedule_model.specs.Follows.{follows};
+    ghost use Rattle.schedule_run.specs.Following.{first_not_next, history, AnswersPlace};
+
+    type Answer = Result<(), Refusal>;
+
+    ghost answers = { λ q trace answer. AnswersPlace (first_not_next q.program.now trace) answer
+        × IfOk answer (λ _. follows q.program.now (history trace.events) ≡ true) };
+
+    fn ask(&self, alloc: Global, trace: &Trace) -> Result<(), Refusal> {
+        follows(alloc, self.program, trace)
+    }
+}
+
+#[tactic(auto, using(crate::proofs::Answered::refused_so))]
+/// Runs a program by as many workers, each in a thread of its own. `NotExplained` where the run can't
+/// be told, or, at the place of the first event that isn't its task's next one, where it doesn't
+/// follow the program.
+pub fn run_program<'p, R: Threads + Wait + Sync>(
+    rt: &R,
+    alloc: Global,
+    program: &'p Program,
+    workers: u32,
+) -> Result<Report<ScriptBody<'p>>, Refusal>
+    requires { (0 < workers) × (workers ≤ 16) }
+    ensures ran { IfOk result (λ r. IsRunOf program.now r.trace) }
+    ensures world { IfOk result (λ r. r.world ≡ report_of program.now.limits (past (reverse r.trace.events))) }
+    ensures refused { IfErr result (λ e. IsRunRefused e) }
+{
+    let (report, followed) = run_and_ask(
+        rt,
+        alloc,
+        program.root(),
+        program.limits(),
+        workers,
+        &OpenGate,
+        &Follows { program },
+    )?;
+    followed?;
+    Ok(report)
+}
