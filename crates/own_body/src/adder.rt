@@ -1,5 +1,5 @@
 //! Tasks that add up: what each does, and what it says of the sum that it saw.
-ghost use Rattle.std.specs.Prelude.{◌≡◌, ◌×◌, ℕ, ⊥, Ok, IfOk};
+ghost use Rattle.std.specs.Prelude.{◌≡◌, ℕ, ⊥, Ok, IfOk};
 ghost use Rattle.phase_model.specs.Rules.{Story};
 ghost use Rattle.task_crew.specs.Heard.{Asked, look, asked_by, IsSpawned, IsAnswerTo};
 ghost use Rattle.phased_rt.specs.Says.{story_in};

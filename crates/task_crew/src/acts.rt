@@ -1,5 +1,5 @@
 //! How a task's act is begun, and made where it is one event.
-ghost use Rattle.std.specs.Prelude.{◌≡◌, ◌×◌, Ok};
+ghost use Rattle.std.specs.Prelude.{◌≡◌, Ok};
 ghost use Rattle.table_receipts.specs.Seen.{story_at};
 ghost use Rattle.task_queue.specs.Accounts.{IsSeatOf};
 ghost use Rattle.task_crew.specs.Heard.{nothing, look, asked_by, IsSpawned};
@@ -32,7 +32,8 @@ impl<B: Body, K: RunNaming> Shared<B, K> {
         tried: Tried,
         refusal: Refusal,
     ) -> Result<(), Refusal>
-        ensures kept { (task.new.body ≡ task.old.body) × (task.new.fronts ≡ task.old.fronts) }
+        ensures body { task.new.body ≡ task.old.body }
+        ensures fronts { task.new.fronts ≡ task.old.fronts }
     {
         task.log.note_refused(self.tickets.draw(), tried, refusal)?;
         task.standing.give_up();
@@ -42,7 +43,8 @@ impl<B: Body, K: RunNaming> Shared<B, K> {
     /// Whether the task may make the act, as far as it knows itself; where it may not, it comes to
     /// its end.
     fn may_try(&self, task: &mut Task<B, K>, tried: Tried) -> Result<bool, Refusal>
-        ensures kept { (task.new.body ≡ task.old.body) × (task.new.fronts ≡ task.old.fronts) }
+        ensures body { task.new.body ≡ task.old.body }
+        ensures fronts { task.new.fronts ≡ task.old.fronts }
     {
         match task.standing.may_try(self.limits, &tried) {
             Ok(()) => Ok(true),
@@ -116,7 +118,7 @@ impl<B: Body, K: RunNaming> Shared<B, K> {
         phaser: u32,
         accumulator: u8,
     ) -> Result<(), Refusal>
-        requires says { ∥ K.Supposing.supposed → Says B.Body.shows task.old.body (look phaser accumulator) (λ n. story_at task.old.fronts n) ∥₁ }
+        requires says { ∥ (K.Supposing.supposed → Says B.Body.shows task.old.body (look phaser accumulator) (λ n. story_at task.old.fronts n)) ∥₁ }
         ensures out { by.new.out ≡ by.old.out }
     {
         let tried = Tried::Look(phaser, accumulator);
@@ -147,7 +149,7 @@ impl<B: Body, K: RunNaming> Shared<B, K> {
 
     /// Begins to spawn a child. The child's memory is taken before the act is looked at.
     fn spawn(&self, item: &mut Item<B, K>, body: B, pairs: Phased) -> Result<(), Refusal>
-        requires says { ∥ K.Supposing.supposed → Says B.Body.shows body nothing (λ n. story_at item.old.task.value.fronts n) ∥₁ }
+        requires says { ∥ (K.Supposing.supposed → Says B.Body.shows body nothing (λ n. story_at item.old.task.value.fronts n)) ∥₁ }
     {
         let number = self.numbers.task();
         let Ok(child) = item.task.child(self.alloc, number, body, self.limits.acts) else {
@@ -167,36 +169,41 @@ impl<B: Body, K: RunNaming> Shared<B, K> {
         item: &mut Item<B, K>,
         act: Act<B>,
     ) -> Result<(), Refusal>
-        requires says { ∥ K.Supposing.supposed → Says B.Body.shows item.old.task.value.body (asked_by (Ok act)) (λ n. story_at item.old.task.value.fronts n) ∥₁ }
+        requires says { ∥ (K.Supposing.supposed → Says B.Body.shows item.old.task.value.body (asked_by (Ok act)) (λ n. story_at item.old.task.value.fronts n)) ∥₁ }
         requires child { (child : B) → IsSpawned child (Ok act)
-            → ∥ K.Supposing.supposed → Says B.Body.shows child nothing (λ n. story_at item.old.task.value.fronts n) ∥₁ }
+            → ∥ (K.Supposing.supposed → Says B.Body.shows child nothing (λ n. story_at item.old.task.value.fronts n)) ∥₁ }
         ensures out { by.new.out ≡ by.old.out }
     {
-        let task = &mut *item.task;
         match act {
             Act::Async(body, pairs) => self.spawn(item, body, pairs),
             Act::AsyncAll(body) => {
-                let pairs = task.standing.pairs();
+                let pairs = item.task.standing.pairs();
                 self.spawn(item, body, pairs)
             }
-            Act::OpenFinish => self.open(by.rt, task),
-            Act::ShutFinish => self.enter(task, Begun::Shut, Plan::Shutting),
+            Act::OpenFinish => self.open(by.rt, &mut item.task),
+            Act::ShutFinish => self.enter(&mut item.task, Begun::Shut, Plan::Shutting),
             Act::New(mode, ops, bound) => {
                 let terms = Terms { ops, bound };
-                self.make(by, task, mode, &terms)
+                self.make(by, &mut item.task, mode, &terms)
             }
-            Act::Signal => self.enter(task, Begun::Signal, Plan::Signalling(None, false)),
-            Act::Wait => self.enter(task, Begun::Wait, Plan::Turning(0)),
-            Act::Next => self.enter(task, Begun::Next, Plan::Signalling(None, true)),
+            Act::Signal => {
+                let plan = Plan::Signalling(None, false);
+                self.enter(&mut item.task, Begun::Signal, plan)
+            }
+            Act::Wait => self.enter(&mut item.task, Begun::Wait, Plan::Turning(0)),
+            Act::Next => {
+                let plan = Plan::Signalling(None, true);
+                self.enter(&mut item.task, Begun::Next, plan)
+            }
             Act::NextSingle(number) => {
                 let plan = Plan::Signalling(Some(number), true);
-                self.enter(task, Begun::NextSingle(number), plan)
+                self.enter(&mut item.task, Begun::NextSingle(number), plan)
             }
             Act::Send(phaser, accumulator, value) => {
-                self.send(by, task, phaser, accumulator, value)
+                self.send(by, &mut item.task, phaser, accumulator, value)
             }
-            Act::Look(phaser, accumulator) => self.look(by, task, phaser, accumulator),
-            Act::End => self.enter(task, Begun::End, Plan::Ending),
+            Act::Look(phaser, accumulator) => self.look(by, &mut item.task, phaser, accumulator),
+            Act::End => self.enter(&mut item.task, Begun::End, Plan::Ending),
         }
     }
 

@@ -31,7 +31,7 @@ impl<B: Body, K: RunNaming> Shared<B, K> {
     {
         let number = self.place(phaser, Refusal::PhasersFull)?;
         let maker = task.number();
-        let mut me = task.fronts.get(number);
+        let mut me = task.front(number);
         self.phasers
             .make(by, &mut me, number, maker, mode, terms.ops, terms.bound)
     }
@@ -47,7 +47,7 @@ impl<B: Body, K: RunNaming> Shared<B, K> {
     {
         let number = self.place(pair.phaser, Refusal::NotRegistered)?;
         let parent = task.number();
-        let mut me = task.fronts.get(number);
+        let mut me = task.front(number);
         self.phasers
             .register(by, &mut me, number, parent, child, pair.mode)
     }
@@ -64,7 +64,7 @@ impl<B: Body, K: RunNaming> Shared<B, K> {
     {
         let number = self.place(phaser, Refusal::NotRegistered)?;
         let sender = task.number();
-        let mut me = task.fronts.get(number);
+        let mut me = task.front(number);
         self.phasers
             .send(by, &mut me, number, sender, accumulator, value)
     }
@@ -77,12 +77,12 @@ impl<B: Body, K: RunNaming> Shared<B, K> {
         phaser: u32,
         accumulator: u8,
     ) -> Result<(), Refusal>
-        requires says { ∥ K.Supposing.supposed → Says B.Body.shows task.old.body (look phaser accumulator) (λ n. story_at task.old.fronts n) ∥₁ }
+        requires says { ∥ (K.Supposing.supposed → Says B.Body.shows task.old.body (look phaser accumulator) (λ n. story_at task.old.fronts n)) ∥₁ }
         ensures out { by.new.out ≡ by.old.out }
     {
         let number = self.place(phaser, Refusal::NotRegistered)?;
         let reader = task.number();
-        let mut me = task.fronts.get(number);
+        let mut me = task.front(number);
         let seen = self
             .phasers
             .look(by, &mut me, number, reader, accumulator)?;
@@ -108,7 +108,7 @@ impl<B: Body, K: RunNaming> Shared<B, K> {
         };
         let mut item = item;
         let task = item.task.number();
-        let mut me = item.task.fronts.get(number);
+        let mut me = item.task.front(number);
         let Busy { seat, by, kept, .. } = busy;
         let answer = self
             .phasers
@@ -132,7 +132,7 @@ impl<B: Body, K: RunNaming> Shared<B, K> {
         };
         let mut item = item;
         let task = item.task.number();
-        let mut me = item.task.fronts.get(number);
+        let mut me = item.task.front(number);
         let Busy { seat, by, kept, .. } = busy;
         let answer = self.phasers.pass(by, &mut me, number, task, item);
         self.flush(by.rt, seat, kept, &mut by.out)?;
@@ -149,7 +149,7 @@ impl<B: Body, K: RunNaming> Shared<B, K> {
     {
         let number = self.place(phaser, Refusal::NotRegistered)?;
         let reporter = task.number();
-        let mut me = task.fronts.get(number);
+        let mut me = task.front(number);
         let Busy { seat, by, kept, .. } = busy;
         self.phasers.single_done(by, &mut me, number, reporter)?;
         self.flush(by.rt, seat, kept, &mut by.out)
@@ -166,7 +166,7 @@ impl<B: Body, K: RunNaming> Shared<B, K> {
         ensures seat { IsSeatOf busy.old.seat busy.new.seat }
     {
         let number = self.place(phaser, Refusal::NotRegistered)?;
-        let mut me = task.fronts.get(number);
+        let mut me = task.front(number);
         let Busy { seat, by, kept, .. } = busy;
         self.phasers.drop_task(by, &mut me, number, leaver)?;
         self.flush(by.rt, seat, kept, &mut by.out)

@@ -228,7 +228,8 @@ impl<B: Body, K: RunNaming> Shared<B, K> {
                 let Task {
                     body, fronts, log, ..
                 } = Box::into_inner(task);
-                busy.root = Some(RootLeft { log, body, fronts });
+                let left = RootLeft { log, body, fronts };
+                busy.root = Some(left);
                 self.queue.close(busy.by.rt);
                 Ok(None)
             }

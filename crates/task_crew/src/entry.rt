@@ -1,5 +1,5 @@
 //! The entry: it makes the tables, the queue and the workers, lets them work, and gathers what they leave.
-ghost use Rattle.std.specs.Prelude.{◌≡◌, ◌×◌, ◌<◌, ◌≤◌, ℕ, [], true, All, IfOk, IfErr, IfSome, slice_get, vec_len};
+ghost use Rattle.std.specs.Prelude.{◌≡◌, ◌<◌, ◌≤◌, ℕ, [], true, All, IfOk, IfErr, IfSome, slice_get, vec_len};
 ghost use Rattle.phase_modes.specs.Limits.{limits_fit};
 ghost use Rattle.phase_model.specs.Rules.{Story};
 ghost use Rattle.share_book.specs.Opening.{IsNamed, IsParted};

@@ -1,5 +1,5 @@
 //! What a run leaves once its workers are done: its tables and logs as parts of a trace.
-ghost use Rattle.std.specs.Prelude.{◌≡◌, ◌×◌, ◌+◌, map, length, vec_len, All, IfOk, IfErr};
+ghost use Rattle.std.specs.Prelude.{◌≡◌, ◌+◌, map, length, vec_len, All, IfOk, IfErr};
 ghost use Rattle.std.specs.List.{sum as total};
 ghost use Rattle.share_book.specs.Opening.{AreAllParts};
 ghost use Rattle.scope_locks.specs.Telling.{ArePhaserParts, AreFinishParts};

@@ -10,7 +10,7 @@ use crate::naming::RunNaming;
 use job_script::{Act, Answer};
 use phase_modes::{Mode, Pair, Refusal};
 use std::alloc::Global;
-use table_receipts::Fronts;
+use table_receipts::{Front, Fronts};
 use task_standing::{Due, Standing};
 
 /// A task in flight.
@@ -25,7 +25,7 @@ pub(crate) struct Task<B: Body, K: RunNaming> {
     pub(crate) standing: Standing,
     pub(crate) log: Diary,
     ghost all: { length fronts ≡ K.Logs.limits.phasers },
-    ghost ready: { ∥ K.Supposing.supposed → IsReady B.Body.shows body answer (λ n. story_at fronts n) ∥₁ },
+    ghost ready: { ∥ (K.Supposing.supposed → IsReady B.Body.shows body answer (λ n. story_at fronts n)) ∥₁ },
 }
 
 /// What moves between the queue, the locks and the workers: a task, with the child that it is
@@ -44,7 +44,7 @@ pub(crate) struct RootLeft<B: Body, K: RunNaming> {
     pub(crate) body: B,
     pub(crate) fronts: Fronts<K>,
     ghost all: { length fronts ≡ K.Logs.limits.phasers },
-    ghost says: { ∥ K.Supposing.supposed → HasSaid B.Body.shows body (λ n. story_at fronts n) ∥₁ },
+    ghost says: { ∥ (K.Supposing.supposed → HasSaid B.Body.shows body (λ n. story_at fronts n)) ∥₁ },
 }
 
 impl<B: Body, K: RunNaming> Task<B, K> {
@@ -59,7 +59,7 @@ impl<B: Body, K: RunNaming> Task<B, K> {
         fronts: Fronts<K>,
     ) -> Result<Box<Task<B, K>>, Refusal>
         requires all { length fronts ≡ K.Logs.limits.phasers }
-        requires says { ∥ K.Supposing.supposed → Says B.Body.shows body nothing (λ n. story_at fronts n) ∥₁ }
+        requires says { ∥ (K.Supposing.supposed → Says B.Body.shows body nothing (λ n. story_at fronts n)) ∥₁ }
         ensures memory { IfErr result (λ e. e ≡ Refusal.Memory) }
     {
         let log = Diary::new(alloc, number, acts)?;
@@ -84,11 +84,22 @@ impl<B: Body, K: RunNaming> Task<B, K> {
         body: B,
         acts: u32,
     ) -> Result<Box<Task<B, K>>, Refusal>
-        requires says { ∥ K.Supposing.supposed → Says B.Body.shows body nothing (λ n. story_at self.old.fronts n) ∥₁ }
+        requires says { ∥ (K.Supposing.supposed → Says B.Body.shows body nothing (λ n. story_at self.old.fronts n)) ∥₁ }
         ensures memory { IfErr result (λ e. e ≡ Refusal.Memory) }
     {
         let fronts = self.fronts.again(alloc)?;
         Task::new(alloc, number, body, self.standing.inner(), acts, fronts)
+    }
+
+    /// What it has seen of this phaser.
+    pub(crate) fn front(&mut self, phaser: usize) -> Front<K>
+        requires { phaser < K.Logs.limits.phasers }
+        ensures log { result.log ≡ K.Logs.logs phaser }
+        ensures story { result.story ≡ story_at self.old.fronts phaser }
+        ensures body { self.new.body ≡ self.old.body }
+        ensures fronts { self.new.fronts ≡ self.old.fronts }
+    {
+        self.fronts.get(phaser)
     }
 
     pub(crate) fn number(&self) -> u32 {
@@ -97,9 +108,9 @@ impl<B: Body, K: RunNaming> Task<B, K> {
 
     /// The body's next act. It hears of it that it is done, unless something else comes of it.
     pub(crate) fn next_act(&mut self) -> Result<Act<B>, Refusal>
-        ensures says { ∥ K.Supposing.supposed → Says B.Body.shows self.new.body (asked_by result) (λ n. story_at self.new.fronts n) ∥₁ }
+        ensures says { ∥ (K.Supposing.supposed → Says B.Body.shows self.new.body (asked_by result) (λ n. story_at self.new.fronts n)) ∥₁ }
         ensures child { (child : B) → IsSpawned child result
-            → ∥ K.Supposing.supposed → Says B.Body.shows child nothing (λ n. story_at self.new.fronts n) ∥₁ }
+            → ∥ (K.Supposing.supposed → Says B.Body.shows child nothing (λ n. story_at self.new.fronts n)) ∥₁ }
     {
         let answer = self.answer;
         self.answer = Answer::Done;

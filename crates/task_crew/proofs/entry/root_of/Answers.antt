@@ -1,0 +1,11 @@
+use Rattle.std.proofs.Common.{ℕ}
+use Rattle.phase_model.specs.Rules.{Story}
+use Rattle.table_receipts.specs.Seen.{story_at}
+use Rattle.table_receipts.proofs.Goes.{goes_itself}
+use Rattle.task_crew.proofs.entry.root_of.Goals as goal
+
+-- whatever was seen, the root says nothing false before its first act
+pub new-requires-clause-says : goal.new-requires-clause-says
+new-requires-clause-says g c =
+    let now : ℕ → Story = λ n. story_at c.in_ok-fronts.fronts n in
+    ∣ (λ supposed. (now, c.requires.root supposed now, λ n. goes_itself (now n))) ∣₁

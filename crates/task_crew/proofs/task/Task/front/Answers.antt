@@ -1,0 +1,10 @@
+use Rattle.std.proofs.Common.{ℕ, ◌≡◌, ap, sym}
+use Rattle.table_receipts.specs.Logs.{Sight}
+use Rattle.table_receipts.specs.Seen.{story_at}
+use Rattle.task_crew.proofs.Saying.{ready_there}
+use Rattle.task_crew.proofs.task.Task.front.Goals as goal
+
+pub invariant_of-self-clause-ready : goal.invariant_of-self-clause-ready
+invariant_of-self-clause-ready g c =
+    let old = c.args.self.now in
+    ready_there g.B.Body.shows old.body old.answer old.fronts c.get.new.self c.get.ensures.same old.ready

@@ -1,0 +1,8 @@
+use Rattle.table_receipts.specs.Seen.{story_at}
+use Rattle.task_crew.proofs.Saying.{ready_single}
+use Rattle.task_crew.proofs.task.Task.run_single.Goals as goal
+
+pub invariant_of-self-clause-ready : goal.invariant_of-self-clause-ready
+invariant_of-self-clause-ready g c =
+    let old = c.args.self.now in
+    ready_single g.B.Body.shows old.body c.single.new.self old.answer (λ n. story_at old.fronts n) c.single.ensures old.ready

@@ -1,0 +1,31 @@
+use Rattle.std.proofs.Common.{ℕ, ◌≡◌, refl, sym, ap, subst, ◌∙◌}
+use Rattle.phase_model.specs.declared.call.Call.TheVariants as calls
+use Rattle.phase_model.specs.Rules.{Story}
+use Rattle.phaser_answers.specs.Answers.{look_result}
+use Rattle.long_receipts.specs.Told.{HasLooked}
+use Rattle.table_receipts.specs.Seen.{story_at}
+use Rattle.table_receipts.proofs.Goes.{answered_goes}
+use Rattle.table_receipts.proofs.Stories.{seen_more}
+use Rattle.task_crew.specs.Heard.{look}
+use Rattle.task_crew.proofs.Saying.{said_kept, ready_look}
+use Rattle.task_crew.proofs.worker.Shared.look_on.Goals as goal
+
+pub invariant_of-task-clause-ready : goal.invariant_of-task-clause-ready
+invariant_of-task-clause-ready g c =
+    let old = c.args.task.now in
+    let mid = c.front-me.new.self in
+    let ys = c.set.new.self in
+    let n = c.args.phaser in
+    let a = c.args.accumulator in
+    let t = c.number-reader.result in
+    let before = c.front-me.result.story in
+    let now = c.look.new.me.story in
+    let place = c.in_ok-number.ensures.same in
+    let more =
+    seen_more old.fronts mid.fronts ys c.in_ok-number.number n before now c.front-me.ensures.fronts place
+    c.front-me.ensures.story c.set.ensures.here c.set.ensures.others
+    (answered_goes (λ _ r. c.look.result ≡ look_result r) (calls.Look t a) before now c.look.ensures.told) in
+    let here : story_at ys n ≡ now = ap (λ (m : ℕ). story_at ys m) (sym place) ∙ c.set.ensures.here in
+    ready_look g.B.Body.shows mid.body n a t c.in_ok-seen.seen (λ k. story_at old.fronts k) (λ k. story_at ys k) more.0
+    (subst (λ (v : Story). HasLooked v.terms.ops t a v.past c.in_ok-seen.seen) (sym here) c.in_ok-seen.ensures.seen)
+    (said_kept g.B.Body.shows old.body mid.body (look n a) old.fronts old.fronts c.front-me.ensures.body refl c.requires.says)
