@@ -1,5 +1,5 @@
 -- What a body in flight says, from its task's start to the run's end.
-use Rattle.std.proofs.Common.{ℕ, ◌≡◌, ◌<◌, List, length, sym, subst, ◌∙◌, arith}
+use Rattle.std.proofs.Common.{ℕ, ◌≡◌, ◌<◌, List, length, sym, subst, arith}
 use Rattle.std.specs.Prelude.{ℤ}
 use Rattle.std.proofs.Math.Logic.{∥∥₁_map}
 use Rattle.phase_modes.specs.declared.limits.Limits.{Limits}
@@ -14,7 +14,7 @@ use Rattle.table_receipts.specs.Parts.{AreLogged}
 use Rattle.table_receipts.specs.Seen.{story_at}
 use Rattle.table_receipts.proofs.Goes.{goes_itself, goes_far}
 use Rattle.table_receipts.proofs.Logged.{told_at_each}
-use Rattle.task_crew.specs.Heard.{Asked, nothing, look, IsAnswerTo, IsHeard, IsSaid}
+use Rattle.task_crew.specs.Heard.{Asked, look, IsAnswerTo, IsHeard, IsSaid}
 use Rattle.task_crew.specs.inner.Ready.{Says, IsReady, HasSaid}
 
 module _ {B : Type 0} {P : Type 0} (Shows : B → Asked → (ℕ → Story) → Type 0) where

@@ -26,12 +26,7 @@ impl<B: Body, K: RunNaming> Shared<B, K> {
     }
 
     /// The act is refused, and the task comes to its end.
-    fn refuse(
-        &self,
-        task: &mut Task<B, K>,
-        tried: Tried,
-        refusal: Refusal,
-    ) -> Result<(), Refusal>
+    fn refuse(&self, task: &mut Task<B, K>, tried: Tried, refusal: Refusal) -> Result<(), Refusal>
         ensures body { task.new.body ≡ task.old.body }
         ensures fronts { task.new.fronts ≡ task.old.fronts }
     {

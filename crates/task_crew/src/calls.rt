@@ -83,9 +83,7 @@ impl<B: Body, K: RunNaming> Shared<B, K> {
         let number = self.place(phaser, Refusal::NotRegistered)?;
         let reader = task.number();
         let mut me = task.front(number);
-        let seen = self
-            .phasers
-            .look(by, &mut me, number, reader, accumulator)?;
+        let seen = self.phasers.look(by, &mut me, number, reader, accumulator)?;
         task.fronts.set(number, me);
         task.standing.note_act();
         task.answer = Answer::Saw(seen);

@@ -34,7 +34,12 @@ fn told(refusal: Refusal) -> Refusal
 
 impl<B: Body, K: RunNaming> Shared<B, K> {
     /// The task gives up by this refusal, where its event may be refused by it.
-    fn give_up(&self, item: Item<B, K>, refusal: Refusal, may_fail: bool) -> Result<Next<B, K>, Refusal> {
+    fn give_up(
+        &self,
+        item: Item<B, K>,
+        refusal: Refusal,
+        may_fail: bool,
+    ) -> Result<Next<B, K>, Refusal> {
         let mut item = item;
         if !may_fail {
             return Err(refusal);
@@ -181,12 +186,7 @@ impl<B: Body, K: RunNaming> Shared<B, K> {
         Ok(Some(item))
     }
 
-    fn shut<R: Wait>(
-        &self,
-        rt: &R,
-        item: Item<B, K>,
-        finish: u32,
-    ) -> Result<Next<B, K>, Refusal> {
+    fn shut<R: Wait>(&self, rt: &R, item: Item<B, K>, finish: u32) -> Result<Next<B, K>, Refusal> {
         match self.shut_on(rt, item, finish) {
             ShutAnswer::Done(shut) => {
                 let mut item = shut;
@@ -226,7 +226,10 @@ impl<B: Body, K: RunNaming> Shared<B, K> {
             ShutAnswer::Done(item) => {
                 let Item { task, unborn: _ } = item;
                 let Task {
-                    body, fronts, log, ..
+                    body,
+                    fronts,
+                    log,
+                    ..
                 } = Box::into_inner(task);
                 let left = RootLeft { log, body, fronts };
                 busy.root = Some(left);

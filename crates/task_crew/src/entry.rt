@@ -38,14 +38,7 @@ fn root_of<K: RunNaming, B: Body, R: Wait>(
     ensures memory { IfErr result (λ e. e ≡ Refusal.Memory) }
 {
     let fronts = Fronts::of(alloc, rt, phasers)?;
-    Ok(Item::of(Task::new(
-        alloc,
-        0,
-        root,
-        0,
-        limits.acts,
-        fronts,
-    )?))
+    Ok(Item::of(Task::new(alloc, 0, root, 0, limits.acts, fronts)?))
 }
 
 /// The workers work, with books of these ledgers.

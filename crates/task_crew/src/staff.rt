@@ -145,7 +145,9 @@ pub(crate) fn put_root<B: Body, K: RunNaming, R: Wait>(
 /// Sees that no task is left in the queue: each that was put was taken as often. `NotExplained`
 /// where one is.
 fn none_left<B: Body, K: RunNaming>(
-    queue: RunQueue<Item<B, K>>, seats: Vec<Seat<Item<B, K>>>) -> Result<(), Refusal>
+    queue: RunQueue<Item<B, K>>,
+    seats: Vec<Seat<Item<B, K>>>,
+) -> Result<(), Refusal>
     requires number { vec_len seats ≡ queue.workers }
     requires together { AreTogether seats.items }
     ensures none { IfOk result (λ _. IsConserved seats.items []) }
@@ -174,12 +176,12 @@ fn work_all<K: RunNaming + SharedLedgers, B: Body + Send, G: Gate + Sync, R: Thr
 }
 
 /// Runs the workers, and gathers what they leave.
-pub(crate) fn run_staff<K: RunNaming + SharedLedgers, B: Body + Send, G: Gate + Sync, R: Threads + Wait + Sync>(
-    rt: &R,
-    shared: Shared<B, K>,
-    staff: Vec<Worker<B, K>>,
-    gate: &G,
-) -> Result<Remains<B>, Refusal>
+pub(crate) fn run_staff<
+    K: RunNaming + SharedLedgers,
+    B: Body + Send,
+    G: Gate + Sync,
+    R: Threads + Wait + Sync,
+>(rt: &R, shared: Shared<B, K>, staff: Vec<Worker<B, K>>, gate: &G) -> Result<Remains<B>, Refusal>
     requires phasers { shared.phasers.phasers ≡ shared.limits.phasers }
     requires finishes { shared.finishes.finishes ≡ shared.limits.finishes }
     requires workers { AreAllParts (vec_len staff) K.EventsByWorker.parts K.UpByWorker.parts K.DownByWorker.parts }

@@ -94,11 +94,7 @@ pub(crate) struct Busy<'a, B: Body, K: RunNaming, R: Wait> {
 
 impl<'a, B: Body, K: RunNaming, R: Wait> Busy<'a, B, K, R> {
     /// The worker begins to work.
-    pub(crate) fn of(
-        rt: &'a R,
-        tickets: &'a Tickets,
-        worker: Worker<B, K>,
-    ) -> Busy<'a, B, K, R>
+    pub(crate) fn of(rt: &'a R, tickets: &'a Tickets, worker: Worker<B, K>) -> Busy<'a, B, K, R>
         ensures { result.seat ≡ worker.seat }
     {
         let Worker {

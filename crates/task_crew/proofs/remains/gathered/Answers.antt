@@ -1,4 +1,4 @@
-use Rattle.std.proofs.Common.{◌≡◌, ℕ, length, map, refl, sym, ◌∙◌, ap, arith}
+use Rattle.std.proofs.Common.{length, map, refl, sym, ◌∙◌, ap, arith}
 use Rattle.phase_modes.specs.declared.limits.Limits.{Limits}
 use Rattle.table_receipts.proofs.Logged.{are_named}
 use Rattle.task_crew.proofs.Saying.{is_said}

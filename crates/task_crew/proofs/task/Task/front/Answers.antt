@@ -1,6 +1,3 @@
-use Rattle.std.proofs.Common.{ℕ, ◌≡◌, ap, sym}
-use Rattle.table_receipts.specs.Logs.{Sight}
-use Rattle.table_receipts.specs.Seen.{story_at}
 use Rattle.task_crew.proofs.Saying.{ready_there}
 use Rattle.task_crew.proofs.task.Task.front.Goals as goal
 

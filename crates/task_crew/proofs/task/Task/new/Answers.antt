@@ -1,4 +1,3 @@
-use Rattle.std.proofs.Common.{◌≡◌}
 use Rattle.job_script.specs.declared.act.Answer.TheVariants.{Started}
 use Rattle.table_receipts.specs.Seen.{story_at}
 use Rattle.task_crew.specs.Heard.{nothing}
