@@ -42,8 +42,10 @@ says_of_trace Shows l parts es root traced many said =
   where
     own : (n : ℕ) → n < length parts → Some (projection (phaser n) es) ≡ slice_get parts n
     own n lt =
-        sym (at_place (λ m. projection (phaser m) es) 0 (length parts) n lt)
-        ∙ ap (λ (ps : List (List Entry)). slice_get ps n) traced
+        let same : n ≡ 0 + n = omega arith in
+        ap (λ (m : ℕ). Some (projection (phaser m) es)) same
+        ∙ (sym (at_place (λ m. projection (phaser m) es) 0 (length parts) n lt)
+        ∙ ap (λ (ps : List (List Entry)). slice_get ps n) traced)
 
     begins : (n : ℕ) (a : Story) → n < length parts → GoesOn a (said.0 n) → GoesOn a (story_in l es n)
     begins n a lt goes =

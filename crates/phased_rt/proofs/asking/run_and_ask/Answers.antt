@@ -1,0 +1,17 @@
+use Rattle.std.proofs.Common.{ℕ}
+use Rattle.std.proofs.lemmas.Result.{IfOk-weaker}
+use Rattle.phase_model.specs.Rules.{Story}
+use Rattle.task_crew.specs.Heard.{nothing, IsSaid}
+use Rattle.phased_rt.specs.Says.{SaysOfTrace}
+use Rattle.phased_rt.proofs.asking.run_and_ask.Goals as goal
+
+-- what the root's body says of the parts it says of the trace
+pub returns-clause-says : goal.returns-clause-says
+returns-clause-says g c =
+    let left = c.in_ok-remains.remains in
+    let limits = c.args.limits in
+    IfOk-weaker c.told_of.result
+    (λ r. IsSaid g.B.Body.shows limits left.phasers.items left.root → SaysOfTrace g.B.Body.shows limits r.0.trace.events r.0.root)
+    (λ r. ((seen : ℕ → Story) → g.B.Body.shows c.args.root nothing seen) → SaysOfTrace g.B.Body.shows limits r.0.trace.events r.0.root)
+    (λ r says root. says (c.in_ok-remains.ensures.says root))
+    c.told_of.ensures.says
