@@ -1,5 +1,5 @@
 -- A sum that was seen stays seen, and is a fold of all in a legal story.
-use Rattle.std.proofs.Common.{◌≡◌, ◌<◌, ℕ, true, List, [], ◌∷◌, ◌++◌, reverse, refl, sym, subst, ap, ◌∙◌, arith}
+use Rattle.std.proofs.Common.{◌≡◌, ◌<◌, ℕ, true, List, [], ◌∷◌, ◌++◌, reverse, sym, subst, ap, ◌∙◌}
 use Rattle.std.specs.Prelude.{ℤ}
 use Rattle.std.proofs.lemmas.List.{append_assoc}
 use Rattle.std.proofs.Math.Logic.{∥∥₁_map}
@@ -17,7 +17,10 @@ use Rattle.trace_model.specs.Explained.{past}
 use Rattle.trace_model.specs.Run.{Entry}
 use Rattle.long_receipts.specs.Told.{HasLooked}
 use Rattle.table_receipts.specs.Logs.{GoesOn}
-use Rattle.phased_rt.specs.Says.{story_in}
+use Rattle.job_script.specs.declared.act.Answer.{Answer}
+use Rattle.job_script.specs.declared.act.Answer.TheVariants.{Saw}
+use Rattle.task_crew.specs.Heard.{Asked, look, IsAnswerTo}
+use Rattle.phased_rt.specs.Says.{story_in, SaysOfTrace}
 use Rattle.own_body.specs.Sums.{IsSeen, IsSum}
 
 -- it is still seen in a story that goes on
@@ -47,3 +50,21 @@ seen_is_sum s (Value v) legal seen =
 -- the stories of a legal world are legal
 pub story_is_legal : (l : Limits) (es : List Entry) (n : ℕ) → is_legal_world l (past (reverse es)) ≡ true → IsLegal (story_in l es n)
 story_is_legal l es n legal = phasers_legal l (past (reverse es)) legal n
+
+-- what a task hears of its look on phaser 0 is seen
+pub heard_is_seen : (asked : Asked) (answer : Answer) (x : Look ℤ) (now : ℕ → Story) → asked ≡ look 0 0 → answer ≡ Saw x
+    → IsAnswerTo asked answer now → IsSeen (now 0) x
+heard_is_seen asked answer x now looks saw is =
+    let told : IsAnswerTo (look 0 0) (Saw x) now =
+    subst (λ (b : Answer). IsAnswerTo (look 0 0) b now) saw (subst (λ (a : Asked). IsAnswerTo a answer now) looks is) in
+    just_seen (now 0) told.0 x told.1
+
+-- who says that what it saw is seen has seen a sum, in the story of a legal trace
+pub says_sum : {B : Type 0} (saw : B → Look ℤ) (Shows : B → Asked → (ℕ → Story) → Type 0) (l : Limits) (es : List Entry) (root : B)
+    → ((b : B) (asked : Asked) (seen : ℕ → Story) → Shows b asked seen → IsSeen (seen 0) (saw b))
+    → is_legal_world l (past (reverse es)) ≡ true → 0 < l.phasers
+    → SaysOfTrace Shows l es root → ∥ IsSum (story_in l es 0) (saw root) ∥₁
+says_sum saw Shows l es root is legal some says =
+    ∥∥₁_map says (λ x.
+    seen_is_sum (story_in l es 0) (saw root) (story_is_legal l es 0 legal)
+    (still_seen (x.0 0) (story_in l es 0) (saw root) (x.2 0 some) (is root x.1.0 x.0 x.1.1)))

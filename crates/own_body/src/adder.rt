@@ -1,5 +1,5 @@
 //! Tasks that add up: what each does, and what it says of the sum that it saw.
-ghost use Rattle.std.specs.Prelude.{◌≡◌, ℕ, ⊥, Ok, IfOk};
+ghost use Rattle.std.specs.Prelude.{◌≡◌, ℕ, Ok, IfOk};
 ghost use Rattle.phase_model.specs.Rules.{Story};
 ghost use Rattle.task_crew.specs.Heard.{Asked, look, asked_by, IsSpawned, IsAnswerTo};
 ghost use Rattle.phased_rt.specs.Says.{story_in};
@@ -14,7 +14,7 @@ use std::thread::Threads;
 
 /// What a task does next. The root makes the phaser, which is number 0, spawns the others, and looks
 /// once.
-#[derive(Clone, Copy, PartialEq, Eq)]
+#[derive(Clone, Copy)]
 pub enum Next {
     Makes,
     Spawns,
@@ -36,10 +36,13 @@ pub struct Adder {
 
 impl Body for Adder {
     ghost use Rattle.own_body.specs.Sums.{IsSeen};
+    ghost use Rattle.own_body.specs.declared.adder.Next.{Next};
+    ghost use Rattle.own_body.specs.declared.adder.Next.TheVariants.{Hears};
+    ghost use Rattle.std.specs.Prelude.{◌≡◌};
     ghost use Rattle.task_crew.specs.Heard.{look};
 
     /// What it saw some task saw on phaser 0; and where it is about to hear, it has looked there.
-    ghost shows = { λ b asked seen. IsSeen (seen 0) b.saw × (b.next ≡ Next.Hears → asked ≡ look 0 0) };
+    ghost shows = { λ b asked seen. IsSeen (seen 0) b.saw × (b.next ≡ Hears → asked ≡ look 0 0) };
 
     fn step(&mut self, answer: Answer) -> Result<Act<Adder>, Refusal> {
         self.hear(answer);
@@ -70,21 +73,35 @@ impl Adder {
         ensures looks { self.new.next ≡ Next.Hears → asked_by (Ok result) ≡ look 0 0 }
         ensures child { (child : Adder) → IsSpawned child (Ok result) → (child.saw ≡ Look.Nothing) × (child.next ≡ Next.Sends) }
     {
-        let (act, next) = match self.next {
-            Next::Makes => (Act::New(Mode::SigWait, one_sum(), None), Next::Spawns),
-            Next::Spawns if self.number > 0 => (self.spawn(), Next::Spawns),
-            Next::Sends | Next::Hears if self.rounds > 0 => (self.send(), Next::Turns),
-            Next::Spawns | Next::Turns => (Act::Next, Next::Looks),
-            Next::Looks => (Act::Look(0, 0), Next::Hears),
-            Next::Sends | Next::Hears => (Act::End, Next::Sends),
-        };
-        self.next = next;
-        act
+        match self.next {
+            Next::Makes => {
+                self.next = Next::Spawns;
+                Act::New(Mode::SigWait, one_sum(), None)
+            }
+            Next::Spawns if self.number > 0 => self.spawn(),
+            Next::Sends | Next::Hears if self.rounds > 0 => {
+                self.next = Next::Turns;
+                self.send()
+            }
+            Next::Spawns | Next::Turns => {
+                self.next = Next::Looks;
+                Act::Next
+            }
+            Next::Looks => {
+                self.next = Next::Hears;
+                Act::Look(0, 0)
+            }
+            Next::Sends | Next::Hears => {
+                self.next = Next::Sends;
+                Act::End
+            }
+        }
     }
 
     /// It spawns a task for its number, on the phaser that it made.
     fn spawn(&mut self) -> Act<Adder>
         ensures saw { self.new.saw ≡ self.old.saw }
+        ensures next { self.new.next ≡ self.old.next }
         ensures child { (child : Adder) → IsSpawned child (Ok result) → (child.saw ≡ Look.Nothing) × (child.next ≡ Next.Sends) }
     {
         let child = Adder {
@@ -100,6 +117,7 @@ impl Adder {
     /// It sends its number.
     fn send(&mut self) -> Act<Adder>
         ensures saw { self.new.saw ≡ self.old.saw }
+        ensures next { self.new.next ≡ self.old.next }
         ensures child { (child : Adder) → IsSpawned child (Ok result) → ⊥ }
     {
         self.rounds = self.rounds.saturating_sub(1);
@@ -125,5 +143,6 @@ pub fn add_up<R: Threads + Wait + Sync>(rt: &R, alloc: Global) -> Result<Report<
         rounds: 0,
         saw: Look::Nothing,
     };
-    run(rt, alloc, root, Limits::default(), 2, &OpenGate)
+    let report = run(rt, alloc, root, Limits::default(), 2, &OpenGate)?;
+    Ok(report)
 }

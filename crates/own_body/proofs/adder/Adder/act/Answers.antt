@@ -1,0 +1,5 @@
+use Rattle.own_body.proofs.adder.Adder.act.Goals as goal
+
+-- who sends spawns nobody
+pub returns-in-Sends-clause-child : goal.returns-in-Sends-clause-child
+returns-in-Sends-clause-child c = λ child spawned. absurd (c.send.ensures.child child spawned)

@@ -1,0 +1,22 @@
+use Rattle.std.proofs.Common.{◌≡◌, sym, subst, ◌∙◌}
+use Rattle.std.specs.Prelude.{ℤ}
+use Rattle.phase_model.specs.declared.op.Look.{Look}
+use Rattle.own_body.specs.declared.adder.Next.TheVariants.{Sends, Hears}
+use Rattle.own_body.specs.Sums.{IsSeen}
+use Rattle.own_body.proofs.Sums.{still_seen}
+use Rattle.own_body.proofs.adder.AdderBody.step.Goals as goal
+
+apart : Sends ≡ Hears → ⊥
+apart same = cc
+
+pub returns-clause-shows : goal.returns-clause-shows
+returns-clause-shows c = λ asked seen now shows heard. (
+  subst (λ (x : Look ℤ). IsSeen (now 0) x) (sym c.act.ensures.saw)
+      (c.hear.ensures.saw asked now shows.1 heard.1 (still_seen (seen 0) (now 0) c.args.self.now.saw (heard.0 0) shows.0)),
+  c.act.ensures.looks,
+)
+
+pub returns-clause-child : goal.returns-clause-child
+returns-clause-child c = λ asked seen now child shows heard spawned.
+    let new = c.act.ensures.child child spawned in
+    (subst (λ (x : Look ℤ). IsSeen (now 0) x) (sym new.0) tt, λ hears. absurd (apart (sym new.1 ∙ hears)))

@@ -1,0 +1,38 @@
+use Rattle.std.proofs.Common.{◌≡◌, ◌<◌, ℕ, sym, subst, ◌∙◌, arith}
+use Rattle.phase_modes.specs.Limits.{default_limits}
+use Rattle.phase_modes.specs.declared.limits.Limits.{Limits}
+use Rattle.phase_model.specs.Rules.{Story}
+use Rattle.trace_model.proofs.Legal.{explained_legal}
+use Rattle.task_crew.specs.Heard.{Asked, look}
+use Rattle.phased_rt.specs.Says.{SaysOfTrace}
+use Rattle.own_body.specs.declared.adder.Adder.{Adder}
+use Rattle.own_body.specs.declared.adder.Next.TheVariants.{Makes, Hears}
+use Rattle.own_body.specs.Sums.{IsSeen}
+use Rattle.own_body.proofs.Sums.{says_sum}
+use Rattle.own_body.proofs.adder.add_up.Goals as goal
+
+apart : Makes ≡ Hears → ⊥
+apart same = cc
+
+-- what a task says
+abbrev Says : Adder → Asked → (ℕ → Story) → Type 0
+Says b asked seen = IsSeen (seen 0) b.saw × (b.next ≡ Hears → asked ≡ look 0 0)
+
+some : (l : Limits) → l ≡ default_limits → 0 < l.phasers
+some l same =
+    let few : 0 < 64 = omega arith in
+    subst (λ (m : Limits). 0 < m.phasers) (sym same) few
+
+-- before its first act the root has seen no sum
+pub returns : goal.returns
+returns g c =
+    let report = c.in_ok-report.report in
+    let told = c.in_ok-report.ensures in
+    let says : SaysOfTrace Says report.trace.limits report.trace.events report.root =
+    subst (λ (l : Limits). SaysOfTrace Says l report.trace.events report.root) (sym told.limits)
+    (told.says (λ seen. (tt, λ hears. absurd (apart hears)))) in
+    record {
+      sum = says_sum (λ (b : Adder). b.saw) Says report.trace.limits report.trace.events report.root
+          (λ b asked seen shows. shows.0) (explained_legal report.trace told.explained)
+          (some report.trace.limits (told.limits ∙ c.default.ensures)) says;
+    }
