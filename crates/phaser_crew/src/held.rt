@@ -11,7 +11,6 @@ use std::alloc::Global;
 use std::collections::VecDeque;
 use std::sync::Wait;
 use table_receipts::{Caller, Fronts, Naming, ReceiptTable};
-use task_numbers::{AccumulatorIndex, PhaserNumber, TaskNumber};
 
 /// The hand of a worker of this run.
 #[derive(Drop)]
@@ -31,7 +30,7 @@ pub(crate) struct Held<'a, T, K: Naming, R> {
 /// The phaser's place in the table; the refusal where no phaser has the number.
 fn place<T, K: Naming>(
     table: &ReceiptTable<T, K>,
-    phaser: PhaserNumber,
+    phaser: u32,
     refusal: Refusal,
 ) -> Result<usize, Refusal>
     ensures place { IfOk result (λ n. n < table.now.phasers) }
@@ -40,7 +39,7 @@ fn place<T, K: Naming>(
     ensures known { IfOk result (λ _. phaser < table.now.phasers) }
     ensures unknown { IfErr result (λ e. e ≡ refusal) }
 {
-    let number = phaser.get() as usize;
+    let number = phaser as usize;
     if number < table.phasers {
         Ok(number)
     } else {
@@ -138,78 +137,61 @@ impl<'a, T, K: Naming, R: Wait> Hand<T> for Held<'a, T, K, R> {
 
     fn make(
         &mut self,
-        phaser: PhaserNumber,
-        task: TaskNumber,
+        phaser: u32,
+        task: u32,
         mode: Mode,
         ops: Ops,
         bound: Option<Bound>,
     ) -> Result<(), Refusal> {
         let number = place(self.table, phaser, Refusal::PhasersFull)?;
         let mut me = self.fronts.get(number);
-        let answer = self.table.make(&mut self.by, &mut me, number, task.get(), mode, ops, bound);
+        let answer = self
+            .table
+            .make(&mut self.by, &mut me, number, task, mode, ops, bound);
         self.fronts.set(number, me);
         answer
     }
 
     fn register(
         &mut self,
-        phaser: PhaserNumber,
-        parent: TaskNumber,
-        child: TaskNumber,
+        phaser: u32,
+        parent: u32,
+        child: u32,
         mode: Mode,
     ) -> Result<(), Refusal> {
         let number = place(self.table, phaser, Refusal::NotRegistered)?;
         let mut me = self.fronts.get(number);
-        let answer = self.table.register(
-            &mut self.by,
-            &mut me,
-            number,
-            parent.get(),
-            child.get(),
-            mode,
-        );
+        let answer = self
+            .table
+            .register(&mut self.by, &mut me, number, parent, child, mode);
         self.fronts.set(number, me);
         answer
     }
 
-    fn send(
-        &mut self,
-        phaser: PhaserNumber,
-        task: TaskNumber,
-        accumulator: AccumulatorIndex,
-        value: i32,
-    ) -> Result<(), Refusal> {
+    fn send(&mut self, phaser: u32, task: u32, accumulator: u8, value: i32) -> Result<(), Refusal> {
         let number = place(self.table, phaser, Refusal::NotRegistered)?;
         let mut me = self.fronts.get(number);
-        let answer = self.table.send(
-            &mut self.by,
-            &mut me,
-            number,
-            task.get(),
-            accumulator.get(),
-            value,
-        );
+        let answer = self
+            .table
+            .send(&mut self.by, &mut me, number, task, accumulator, value);
         self.fronts.set(number, me);
         answer
     }
 
-    fn look(
-        &mut self,
-        phaser: PhaserNumber,
-        task: TaskNumber,
-        accumulator: AccumulatorIndex,
-    ) -> Result<Look, Refusal> {
+    fn look(&mut self, phaser: u32, task: u32, accumulator: u8) -> Result<Look, Refusal> {
         let number = place(self.table, phaser, Refusal::NotRegistered)?;
         let mut me = self.fronts.get(number);
-        let answer = self.table.look(&mut self.by, &mut me, number, task.get(), accumulator.get());
+        let answer = self
+            .table
+            .look(&mut self.by, &mut me, number, task, accumulator);
         self.fronts.set(number, me);
         answer
     }
 
     fn signal(
         &mut self,
-        phaser: PhaserNumber,
-        task: TaskNumber,
+        phaser: u32,
+        task: u32,
         proposed: Option<u32>,
         item: T,
     ) -> SignalAnswer<T> {
@@ -223,12 +205,12 @@ impl<'a, T, K: Naming, R: Wait> Hand<T> for Held<'a, T, K, R> {
         let mut me = self.fronts.get(number);
         let answer = self
             .table
-            .signal(&mut self.by, &mut me, number, task.get(), proposed, item);
+            .signal(&mut self.by, &mut me, number, task, proposed, item);
         self.fronts.set(number, me);
         answer
     }
 
-    fn pass(&mut self, phaser: PhaserNumber, task: TaskNumber, item: T) -> PassAnswer<T> {
+    fn pass(&mut self, phaser: u32, task: u32, item: T) -> PassAnswer<T> {
         let number = match place(self.table, phaser, Refusal::NotRegistered) {
             Ok(number) => number,
             Err(refusal) => return PassAnswer::Refused(item, refusal),
@@ -237,31 +219,25 @@ impl<'a, T, K: Naming, R: Wait> Hand<T> for Held<'a, T, K, R> {
             return PassAnswer::Refused(item, refusal);
         }
         let mut me = self.fronts.get(number);
-        let answer = self
-            .table
-            .pass(&mut self.by, &mut me, number, task.get(), item);
+        let answer = self.table.pass(&mut self.by, &mut me, number, task, item);
         self.fronts.set(number, me);
         answer
     }
 
-    fn single_done(&mut self, phaser: PhaserNumber, task: TaskNumber) -> Result<(), Refusal> {
+    fn single_done(&mut self, phaser: u32, task: u32) -> Result<(), Refusal> {
         let number = place(self.table, phaser, Refusal::NotRegistered)?;
         pour(&mut self.ready, &mut self.by.out)?;
         let mut me = self.fronts.get(number);
-        let answer = self
-            .table
-            .single_done(&mut self.by, &mut me, number, task.get());
+        let answer = self.table.single_done(&mut self.by, &mut me, number, task);
         self.fronts.set(number, me);
         answer
     }
 
-    fn drop_task(&mut self, phaser: PhaserNumber, task: TaskNumber) -> Result<(), Refusal> {
+    fn drop_task(&mut self, phaser: u32, task: u32) -> Result<(), Refusal> {
         let number = place(self.table, phaser, Refusal::NotRegistered)?;
         pour(&mut self.ready, &mut self.by.out)?;
         let mut me = self.fronts.get(number);
-        let answer = self
-            .table
-            .drop_task(&mut self.by, &mut me, number, task.get());
+        let answer = self.table.drop_task(&mut self.by, &mut me, number, task);
         self.fronts.set(number, me);
         answer
     }

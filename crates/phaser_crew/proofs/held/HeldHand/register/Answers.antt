@@ -8,4 +8,4 @@ use Rattle.phaser_crew.proofs.held.HeldHand.register.Goals as goal
 pub returns-clause-more : goal.returns-clause-more
 returns-clause-more g c =
     seen_more c.args.self.now.fronts c.get-me.new.self c.set.new.self c.in_ok-number.number c.args.phaser c.get-me.result.story c.register-answer.new.me.story c.get-me.ensures.same c.in_ok-number.ensures.same c.get-me.ensures.story c.set.ensures.here c.set.ensures.others
-    (answered_goes (λ _ r. c.register-answer.result ≡ done_result r) (register c.get.result c.get-2.result c.args.mode) c.get-me.result.story c.register-answer.new.me.story c.register-answer.ensures.told)
+    (answered_goes (λ _ r. c.register-answer.result ≡ done_result r) (register c.args.parent c.args.child c.args.mode) c.get-me.result.story c.register-answer.new.me.story c.register-answer.ensures.told)

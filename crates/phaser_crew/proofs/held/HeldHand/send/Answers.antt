@@ -10,4 +10,4 @@ pub returns-clause-more : goal.returns-clause-more
 returns-clause-more g c =
     let round = to_z-of_z w32 c.args.value c.ranges.value in
     seen_more c.args.self.now.fronts c.get-me.new.self c.set.new.self c.in_ok-number.number c.args.phaser c.get-me.result.story c.send-answer.new.me.story c.get-me.ensures.same c.in_ok-number.ensures.same c.get-me.ensures.story c.set.ensures.here c.set.ensures.others
-    (answered_goes (λ _ r. c.send-answer.result ≡ done_result r) (send c.get.result c.get-2.result c.args.value) c.get-me.result.story c.send-answer.new.me.story (rw round at c.send-answer.ensures.told))
+    (answered_goes (λ _ r. c.send-answer.result ≡ done_result r) (send c.args.task c.args.accumulator c.args.value) c.get-me.result.story c.send-answer.new.me.story (rw round at c.send-answer.ensures.told))

@@ -8,4 +8,4 @@ use Rattle.phaser_crew.proofs.held.HeldHand.signal.Goals as goal
 pub returns-clause-more : goal.returns-clause-more
 returns-clause-more g c =
     seen_more c.args.self.now.fronts c.get-me.new.self c.set.new.self c.in-Ok.number c.args.phaser c.get-me.result.story c.signal-answer.new.me.story c.get-me.ensures.same c.in-Ok.ensures.same c.get-me.ensures.story c.set.ensures.here c.set.ensures.others
-    (answered_goes (λ _ r. IsSignalAnswer c.args.item (signal_result r) c.signal-answer.result) (signal c.get.result c.args.proposed) c.get-me.result.story c.signal-answer.new.me.story c.signal-answer.ensures.told)
+    (answered_goes (λ _ r. IsSignalAnswer c.args.item (signal_result r) c.signal-answer.result) (signal c.args.task c.args.proposed) c.get-me.result.story c.signal-answer.new.me.story c.signal-answer.ensures.told)

@@ -6,4 +6,4 @@ use Rattle.phaser_crew.proofs.long_held.LongHeldLongHand.leave.Goals as goal
 
 pub returns-clause-more : goal.returns-clause-more
 returns-clause-more g c =
-    answered_more (λ _ r. c.leave.result ≡ done_result r) g.J.Naming.terms (drop_task c.get.result) c.args.self.now.front c.leave.new.me c.leave.ensures.told
+    answered_more (λ _ r. c.leave.result ≡ done_result r) g.J.Naming.terms (drop_task c.args.task) c.args.self.now.front c.leave.new.me c.leave.ensures.told

@@ -4,4 +4,4 @@ use Rattle.phaser_crew.proofs.long_held.LongHeldLongHand.register.Goals as goal
 
 pub returns-clause-more : goal.returns-clause-more
 returns-clause-more g c =
-    numbered_more c.register.result g.J.Naming.terms (λ n. register c.get.result n c.args.mode) c.args.self.now.front c.register.new.me c.register.ensures.told
+    numbered_more c.register.result g.J.Naming.terms (λ n. register c.args.parent n c.args.mode) c.args.self.now.front c.register.new.me c.register.ensures.told

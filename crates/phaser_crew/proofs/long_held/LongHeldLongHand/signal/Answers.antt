@@ -6,4 +6,4 @@ use Rattle.phaser_crew.proofs.long_held.LongHeldLongHand.signal.Goals as goal
 
 pub returns-clause-more : goal.returns-clause-more
 returns-clause-more g c =
-    answered_more (λ _ r. IsSignalAnswer c.args.item (signal_result r) c.signal.result) g.J.Naming.terms (signal c.get.result c.args.proposed) c.args.self.now.front c.signal.new.me c.signal.ensures.told
+    answered_more (λ _ r. IsSignalAnswer c.args.item (signal_result r) c.signal.result) g.J.Naming.terms (signal c.args.task c.args.proposed) c.args.self.now.front c.signal.new.me c.signal.ensures.told

@@ -6,4 +6,4 @@ use Rattle.phaser_crew.proofs.long_held.LongHeldLongHand.single_done.Goals as go
 
 pub returns-clause-more : goal.returns-clause-more
 returns-clause-more g c =
-    answered_more (λ _ r. c.single_done.result ≡ done_result r) g.J.Naming.terms (single_done c.get.result) c.args.self.now.front c.single_done.new.me c.single_done.ensures.told
+    answered_more (λ _ r. c.single_done.result ≡ done_result r) g.J.Naming.terms (single_done c.args.task) c.args.self.now.front c.single_done.new.me c.single_done.ensures.told
