@@ -70,8 +70,8 @@ rest_is done (cell ∷ rest) =
     let three = subst (λ before. RestIs row (length done + 1) before rest) (last_of_more 0 done cell) two in
     rw (before_at done (cell ∷ rest), at_seam done (cell ∷ rest), behind_seam done cell rest, three)
 
-pub row_is_piece : (row : List ℕ) → piece_step 0 row 0 ≡ stencil_step row
-row_is_piece row = sym (rest_is [] row)
+pub row_is_piece : (cells : List ℕ) → piece_step 0 cells 0 ≡ stencil_step cells
+row_is_piece cells = sym (rest_is [] cells)
 
 pub pieces_come_to_stencil : PiecesComeToStencil
 pieces_come_to_stencil zero pieces = refl
