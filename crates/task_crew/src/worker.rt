@@ -168,20 +168,20 @@ impl<B: Body, K: RunNaming> Shared<B, K> {
         self.queue.take(busy.by.rt, &mut busy.seat)
     }
 
-    /// Gives a task to the queue, or keeps it where the queue has no memory for it.
-    fn put<R: Wait>(
+    /// Gives a task to the queue, or keeps it where the queue has no memory for it; how many were
+    /// given. Nobody is woken for it yet.
+    fn put(
         &self,
-        rt: &R,
         seat: &mut Seat<Item<B, K>>,
         kept: &mut VecDeque<Item<B, K>>,
         item: Item<B, K>,
-    ) -> Result<(), Refusal>
+    ) -> Result<u64, Refusal>
         ensures seat { IsSeatOf seat.old seat.new }
     {
-        match self.queue.put(rt, seat, item) {
-            Ok(()) => Ok(()),
+        match self.queue.put_quietly(seat, item) {
+            Ok(()) => Ok(1),
             Err(item) => match kept.push_back(item) {
-                Ok(()) => Ok(()),
+                Ok(()) => Ok(0),
                 Err(_) => Err(Refusal::Memory),
             },
         }
@@ -196,10 +196,12 @@ impl<B: Body, K: RunNaming> Shared<B, K> {
         ensures seat { IsSeatOf busy.old.seat busy.new.seat }
     {
         let Busy { seat, by, kept, .. } = busy;
-        self.put(by.rt, seat, kept, item)
+        let put = self.put(seat, kept, item)?;
+        self.queue.wake(by.rt, put);
+        Ok(())
     }
 
-    /// Gives all whom a call woke to the queue.
+    /// Gives all whom a call woke to the queue, which wakes workers for them at once.
     pub(crate) fn flush<R: Wait>(
         &self,
         rt: &R,
@@ -211,12 +213,14 @@ impl<B: Body, K: RunNaming> Shared<B, K> {
         ensures out { out.new ≡ [] }
     {
         let mut given = Ok(());
+        let mut puts = 0u64;
         while let Some(item) = out.take() {
-            let put = self.put(rt, seat, kept, item);
-            if put.is_err() {
-                given = put;
+            match self.put(seat, kept, item) {
+                Ok(put) => puts = puts.saturating_add(put),
+                Err(refusal) => given = Err(refusal),
             }
         }
+        self.queue.wake(rt, puts);
         given
     }
 }

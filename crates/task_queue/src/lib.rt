@@ -5,7 +5,8 @@
 //! A worker puts tasks into its own deque and takes them from its front, first in, first out; to take
 //! one of its own it asks for no lock. Where its own has none it steals the first of another worker's,
 //! and where none has one it sleeps until somebody puts one or closes the queue. A put wakes one
-//! sleeper, if there is one, and closing wakes all. Each worker has a `Seat`, which goes with its
+//! sleeper, if there is one, and closing wakes all. Several are put quietly, and then as many are
+//! woken at once. Each worker has a `Seat`, which goes with its
 //! thread.
 //!
 //! # A caller

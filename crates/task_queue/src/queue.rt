@@ -1,11 +1,12 @@
 //! The queue of all workers.
 //!
 //! No wake-up is lost. `put` pushes, counts under the lock, and wakes one sleeper if the lock
-//! counts any. A seeker reads the count, searches, and sleeps only if the count is unchanged under
+//! counts any. Whoever puts several pushes them all, counts them at once, and wakes as many, or as
+//! many as there are. A seeker reads the count, searches, and sleeps only if the count is unchanged under
 //! the lock, under which it is counted as a sleeper. So its search finds what was counted before it
 //! read, unless another took that; what is counted later keeps it awake, or finds it counted. So
 //! does the flag. One for one is enough: who is woken searches again, and if it takes another item
-//! than the one that woke it, the `put` of that other wakes one too. A sleeper that read the count
+//! than the one that woke it, the count of that other wakes one too. A sleeper that read the count
 //! only after a `put`, and is woken by it in place of an earlier one, sleeps again: its search had
 //! found the item taken.
 ghost use Rattle.std.specs.Prelude.{◌≡◌, ◌<◌, ◌≤◌, IfOk, IfErr, MatchResult, MatchOption, vec_len, ◌⊎◌, ◌≢◌};
@@ -96,11 +97,29 @@ impl<T> RunQueue<T> {
         ensures { MatchResult result (λ _. HasPut seat.old item seat.new)
             (λ x. (x ≡ item) × IsSame seat.old seat.new) }
     {
-        seat.put(item)?;
-        if self.count(rt) {
+        self.put_quietly(seat, item)?;
+        self.wake(rt, 1);
+        Ok(())
+    }
+
+    /// The same, but nobody is woken: `wake` has to follow, once all of a row are put. So the lock is
+    /// asked for once.
+    pub fn put_quietly(&self, seat: &mut Seat<T>, item: T) -> Result<(), T>
+        ensures { MatchResult result (λ _. HasPut seat.old item seat.new)
+            (λ x. (x ≡ item) × IsSame seat.old seat.new) }
+    {
+        seat.put(item)
+    }
+
+    /// Wakes one for each of so many items that were put quietly, as far as there are any who wait.
+    pub fn wake<R: Wait>(&self, rt: &R, puts: u64) {
+        if puts == 0 {
+            return;
+        }
+        let sleepers = self.count(rt, puts);
+        for _ in 0..puts.min(sleepers) {
             self.moved.notify_one();
         }
-        Ok(())
     }
 
     /// Takes the first item of this worker's deque, or else of the next worker's that has one; waits
@@ -142,11 +161,11 @@ impl<T> RunQueue<T> {
         unreachable!()
     }
 
-    // One more was put. Whether somebody sleeps.
-    fn count<R: Wait>(&self, rt: &R) -> bool {
+    // So many more were put. How many sleep.
+    fn count<R: Wait>(&self, rt: &R, puts: u64) -> u64 {
         let mut seen = self.seen.lock(rt);
-        seen.puts = seen.puts.wrapping_add(1);
-        seen.sleepers != 0
+        seen.puts = seen.puts.wrapping_add(puts);
+        seen.sleepers
     }
 
     fn look<R: Wait>(&self, rt: &R) -> Seen {

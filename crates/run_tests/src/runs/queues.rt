@@ -249,6 +249,58 @@ fn give<R: Wait>(rt: &R, queue: &RunQueue<u32>, taken: &AtomicU64, seat: &mut Se
     queue.close(rt);
 }
 
+#[test]
+fn a_row_of_puts_wakes_as_many(rt: HostRuntime) -> Result<(), Refusal> {
+    let (queue, seats) = RunQueue::new(rt.alloc(), 4, 4)?;
+    let turns = AtomicU64::new(0);
+    let taken = AtomicU64::new(0);
+    let queue_in = &queue;
+    let done = thread::map_vec(
+        &rt,
+        seats,
+        &|seat| give_rows_or_take(&rt, queue_in, &turns, &taken, seat),
+    )?;
+    assert!(rt; done.iter().all(|&none| none));
+    assert!(rt; taken.load(Ordering::SeqCst) == 200);
+    Ok(())
+}
+
+// The first to come gives 50 rows of four items to the three others. Whether nothing is left then.
+fn give_rows_or_take<R: Wait>(
+    rt: &R,
+    queue: &RunQueue<u32>,
+    turns: &AtomicU64,
+    taken: &AtomicU64,
+    mut seat: Seat<u32>,
+) -> bool {
+    if turns.fetch_add(1, Ordering::SeqCst) == 0 {
+        give_rows(rt, queue, taken, &mut seat);
+    } else {
+        take_all(rt, queue, taken, &mut seat);
+    }
+    queue.take(rt, &mut seat).is_none()
+}
+
+// Puts each row only once the one before was taken, and closes the queue.
+fn give_rows<R: Wait>(rt: &R, queue: &RunQueue<u32>, taken: &AtomicU64, seat: &mut Seat<u32>) {
+    for row in 0..50u64 {
+        put_row(rt, queue, seat);
+        wait_for(rt, taken, row.saturating_add(1).saturating_mul(4));
+    }
+    queue.close(rt);
+}
+
+// Puts four items, and wakes workers for all of them at once.
+fn put_row<R: Wait>(rt: &R, queue: &RunQueue<u32>, seat: &mut Seat<u32>) {
+    let mut puts = 0u64;
+    for item in 0..4u32 {
+        if queue.put_quietly(seat, item).is_ok() {
+            puts = puts.saturating_add(1);
+        }
+    }
+    queue.wake(rt, puts);
+}
+
 fn wait_for<R: Wait>(rt: &R, taken: &AtomicU64, wanted: u64) {
     for _ in rt.forever() {
         if taken.load(Ordering::SeqCst) >= wanted {
