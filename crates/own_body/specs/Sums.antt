@@ -4,18 +4,20 @@ use Rattle.phase_model.specs.declared.history.Event.{Event}
 use Rattle.phase_model.specs.declared.history.Event.TheVariants.{Look as Looked}
 use Rattle.phase_model.specs.declared.op.Look.{Look}
 use Rattle.phase_model.specs.declared.op.Look.TheVariants.{Value, Nothing}
-use Rattle.phase_model.specs.Phases.{IsClosed}
+use Rattle.phase_model.specs.Phases.{IsClosed, waits}
 use Rattle.phase_model.specs.Rules.{Story, look_of}
 
--- some task's look at the sum is in the story, and saw this; of no sum nothing is said
-abbrev pub IsSeen : Story → Look ℤ → Type 0
-IsSeen s (Value v) = (t : ℕ) × (later before : List Event) × (s.past ≡ later ++ Looked t 0 (Value v) ∷ before)
-IsSeen s Nothing = Unit {0}
+-- this task's look at the sum is in the story, and saw this; of no sum nothing is said
+abbrev pub IsSeen : ℕ → Story → Look ℤ → Type 0
+IsSeen task s (Value v) = (later before : List Event) × (s.past ≡ later ++ Looked task 0 (Value v) ∷ before)
+IsSeen task s Nothing = Unit {0}
 
--- it is the fold of all values that are ever sent for one phase, which was closed when it was seen
-abbrev pub IsSum : Story → Look ℤ → Type 0
-IsSum s (Value v) =
-    (turns : ℕ)
-    × (Value v ≡ look_of s.terms.ops 0 turns s.past)
-    × ((later before : List Event) × (s.past ≡ later ++ before) × IsClosed (turns - 1) before)
-IsSum s Nothing = Unit {0}
+-- the task saw it after so many turns of its own: it is the fold of all values that are ever sent for the phase before,
+-- which was closed then
+abbrev pub IsSum : ℕ → Story → Look ℤ → Type 0
+IsSum task s (Value v) =
+    (later before : List Event)
+    × (s.past ≡ later ++ Looked task 0 (Value v) ∷ before)
+    × (Value v ≡ look_of s.terms.ops 0 (waits task before) s.past)
+    × IsClosed (waits task before - 1) before
+IsSum task s Nothing = Unit {0}

@@ -41,8 +41,8 @@ impl Body for Adder {
     ghost use Rattle.std.specs.Prelude.{◌≡◌};
     ghost use Rattle.task_crew.specs.Heard.{look};
 
-    /// What it saw some task saw on phaser 0; and where it is about to hear, it has looked there.
-    ghost shows = { λ b asked seen. IsSeen (seen 0) b.saw × (b.next ≡ Hears → asked ≡ look 0 0) };
+    /// What it saw its task saw on phaser 0; and where it is about to hear, it has looked there.
+    ghost shows = { λ b task asked seen. IsSeen task (seen 0) b.saw × (b.next ≡ Hears → asked ≡ look 0 0) };
 
     fn step(&mut self, answer: Answer) -> Result<Act<Adder>, Refusal> {
         self.hear(answer);
@@ -56,8 +56,8 @@ impl Adder {
     /// It takes in what its look saw, and will send that next.
     fn hear(&mut self, answer: Answer)
         ensures next { self.new.next ≡ self.old.next }
-        ensures saw { (asked : Asked) (now : ℕ → Story) → (self.old.next ≡ Next.Hears → asked ≡ look 0 0)
-            → IsAnswerTo asked answer now → IsSeen (now 0) self.old.saw → IsSeen (now 0) self.new.saw }
+        ensures saw { (task : ℕ) (asked : Asked) (now : ℕ → Story) → (self.old.next ≡ Next.Hears → asked ≡ look 0 0)
+            → IsAnswerTo task asked answer now → IsSeen task (now 0) self.old.saw → IsSeen task (now 0) self.new.saw }
     {
         if let (Next::Hears, Answer::Saw(saw)) = (self.next, answer) {
             self.saw = saw;
@@ -133,9 +133,9 @@ fn one_sum() -> Ops {
 }
 
 /// Three tasks add up, by two workers. The sum that the root saw is the fold of all values that were
-/// ever sent for one phase, which was closed when it was seen.
+/// ever sent for the phase before the root's own, which was closed when the root saw it.
 pub fn add_up<R: Threads + Wait + Sync>(rt: &R, alloc: Global) -> Result<Report<Adder>, Refusal>
-    ensures sum { IfOk result (λ r. ∥ IsSum (story_in r.trace.limits r.trace.events 0) r.root.saw ∥₁) }
+    ensures sum { IfOk result (λ r. ∥ IsSum 0 (story_in r.trace.limits r.trace.events 0) r.root.saw ∥₁) }
 {
     let root = Adder {
         next: Next::Makes,

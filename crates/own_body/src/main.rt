@@ -2,7 +2,7 @@
 //! together, and in the next round each sends the sum that it saw.
 //!
 //! It is proved of this program that the sum which the root gives back is the fold of all values that
-//! were ever sent for one phase, and that this phase was closed (`add_up`).
+//! were ever sent for the phase before the root's own, and that this phase was closed (`add_up`).
 #![tactic(auto)]
 
 mod adder;

@@ -9,7 +9,7 @@ use Rattle.trace_model.specs.Run.{Entry}
 use Rattle.trace_model.specs.Projections.{Whose, phaser, finish, log, whose, AreOf}
 use Rattle.trace_model.proofs.Owners.{phasers_tell, finishes_tell}
 use Rattle.scope_locks.specs.Telling.{ArePhaserParts, AreFinishParts, untold}
-use Rattle.task_crew.specs.Remaining.{IsTaskLog}
+use Rattle.task_crew.specs.Remaining.{AreLogsOf}
 use Rattle.phased_rt.specs.Totals.{is_phasers}
 
 -- parts of the owners of this number, the next and so on
@@ -73,7 +73,9 @@ finishes_apart n ps ended are = each_apart n ps (finishes_owned n ps ended are)
         All-cons (λ q. IsApart q) p ps (others_apart (finish n) (λ m. no_finish m n) p are.0)
         (each_apart (n + 1) ps are.1)
 
-pub logs_apart : (ps : List (List Entry)) → All (λ p. IsTaskLog p) ps → All (λ p. IsApart p) ps
-logs_apart ps of =
-    All-weaker (λ (p : List Entry). IsTaskLog p) (λ p. IsApart p)
-    (λ p is. others_apart (log is.0) (λ m. no_log m is.0) p is.1) ps of
+pub logs_apart : (ts : List ℕ) (ps : List (List Entry)) → AreLogsOf ts ps → All (λ p. IsApart p) ps
+logs_apart [] [] own = All-nil (λ p. IsApart p)
+logs_apart (t ∷ ts) (p ∷ ps) own =
+    All-cons (λ q. IsApart q) p ps (others_apart (log t) (λ m. no_log m t) p own.0) (logs_apart ts ps own.1)
+logs_apart [] (p ∷ ps) own = absurd own
+logs_apart (t ∷ ts) [] own = absurd own

@@ -12,7 +12,7 @@ use Rattle.trace_model.specs.Told.{phaser_told}
 use Rattle.table_receipts.specs.Logs.{GoesOn}
 use Rattle.table_receipts.specs.Parts.{IsToldAt}
 use Rattle.table_receipts.proofs.Goes.{some_more}
-use Rattle.task_crew.specs.Heard.{Asked, IsSaid}
+use Rattle.task_crew.specs.Heard.{Saying, IsSaid}
 use Rattle.phased_rt.specs.Says.{story_in, SaysOfTrace}
 use Rattle.phased_rt.proofs.Limited.{IsHad, told_is_had}
 
@@ -34,7 +34,7 @@ goes_had l es n a s goes limits had = (
   λ some. had.terms (some_more goes.1.0 a.past s.past goes.1.1 some) ∙ goes.2 some,
 )
 
-pub says_of_trace : {B : Type 0} (Shows : B → Asked → (ℕ → Story) → Type 0) (l : Limits) (parts : List (List Entry)) (es : List Entry) (root : B)
+pub says_of_trace : {B : Type 0} (Shows : Saying B) (l : Limits) (parts : List (List Entry)) (es : List Entry) (root : B)
     → map (λ n. projection (phaser n) es) (range_with_len 0 (length parts)) ≡ parts → length parts ≡ l.phasers
     → IsSaid Shows l parts root → SaysOfTrace Shows l es root
 says_of_trace Shows l parts es root traced many said =

@@ -138,7 +138,7 @@ told_totals l es t world told is =
     let others : List (List Entry) = told.finishes ++ told.logs in
     let merged : IsTraceOf (told.phasers ++ others) es = rw append_assoc at told.merged in
     let apart : All (λ p. IsApart p) others =
-    All-append (λ p. IsApart p) told.finishes told.logs (finishes_apart 0 told.finishes told.ended told.of_finishes) (logs_apart told.logs told.of_tasks)
+    All-append (λ p. IsApart p) told.finishes told.logs (finishes_apart 0 told.finishes told.ended told.of_finishes) (logs_apart told.owners told.logs told.of_tasks)
     in
     let all : amount_of t ≡ all_totals l (past (reverse es)) =
     told.added ∙ sym (totalled l told.phasers others told.sums es merged apart told.of_phasers told.all_phasers)

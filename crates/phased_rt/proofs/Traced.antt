@@ -1,7 +1,7 @@
--- What a run's trace has of each phaser and each finish is exactly its part.
+-- What a run's trace has of each phaser, each finish and each task is exactly its part.
 use Rattle.std.proofs.Common.{◌≡◌, ◌≢◌, ℕ, ◌+◌, ◌≤◌, List, [], ◌∷◌, ◌++◌, length, map, refl, sym, ap₂, subst, ◌∙◌, append_assoc, arith}
 use Rattle.std.specs.List.{All, range_with_len}
-use Rattle.std.proofs.lemmas.List.Elements.{All-nil, All-cons, All-append, All-push, All-weaker}
+use Rattle.std.proofs.lemmas.List.Elements.{All-nil, All-cons, All-head, All-tail, All-append, All-push, All-weaker}
 use Rattle.phase_modes.specs.declared.limits.Limits.{Limits}
 use Rattle.phase_model.specs.Amounts.{Amount}
 use Rattle.share_book.specs.declared.gathering.Totals.{Totals}
@@ -11,7 +11,7 @@ use Rattle.trace_model.specs.Parts.{IsTraceOf}
 use Rattle.trace_model.specs.Projections.{Whose, phaser, finish, log, whose, projection, AreOf, AreNotOf}
 use Rattle.trace_model.proofs.Owners.{projection_is_part}
 use Rattle.scope_locks.specs.Telling.{ArePhaserParts, AreFinishParts}
-use Rattle.task_crew.specs.Remaining.{IsTaskLog}
+use Rattle.task_crew.specs.Remaining.{AreLogsOf, AreDifferent}
 use Rattle.phased_rt.specs.Told.{IsToldBy}
 use Rattle.phased_rt.proofs.Owned.{AreOfEach, phasers_owned, finishes_owned}
 
@@ -29,11 +29,13 @@ of_others w v n (p ∷ ps) other own =
     All-cons (AreNotOf v) p ps (of_another v (w n) p own.0 (other n (omega arith)))
     (of_others w v (n + 1) ps (λ m above. other m (omega (arith, above))) own.1)
 
-of_logs : (v : Whose) → ((t : ℕ) → log t ≢ v) → (ps : List (List Entry)) → All (λ p. IsTaskLog p) ps
+of_logs : (v : Whose) → ((t : ℕ) → log t ≢ v) → (ts : List ℕ) (ps : List (List Entry)) → AreLogsOf ts ps
     → All (AreNotOf v) ps
-of_logs v other ps of =
-    All-weaker (λ (p : List Entry). IsTaskLog p) (AreNotOf v)
-    (λ p is. of_another v (log is.0) p is.1 (other is.0)) ps of
+of_logs v other [] [] own = All-nil (AreNotOf v)
+of_logs v other (t ∷ ts) (p ∷ ps) own =
+    All-cons (AreNotOf v) p ps (of_another v (log t) p own.0 (other t)) (of_logs v other ts ps own.1)
+of_logs v other [] (p ∷ ps) own = absurd own
+of_logs v other (t ∷ ts) [] own = absurd own
 
 -- ---- of owners in a row
 
@@ -59,6 +61,46 @@ each_traced w one n before (p ∷ ps) after es trace own front back =
     (of_another (w m) (w n) p own.0 (λ same. absurd (omega (arith, above, one n m same)))))
     back)
 
+one_log : (t u : ℕ) → log t ≡ log u → t ≡ u
+one_log t u same = cc
+
+-- none of these logs is of a task that is none of theirs
+of_other_logs : (t : ℕ) (ts : List ℕ) (ps : List (List Entry)) → All (λ u. u ≢ t) ts → AreLogsOf ts ps
+    → All (AreNotOf (log t)) ps
+of_other_logs t [] [] other own = All-nil (AreNotOf (log t))
+of_other_logs t (u ∷ us) (p ∷ ps) other own =
+    All-cons (AreNotOf (log t)) p ps
+    (of_another (log t) (log u) p own.0 (λ same. All-head (λ v. v ≢ t) u us other (one_log u t same)))
+    (of_other_logs t us ps (All-tail (λ v. v ≢ t) u us other) own.1)
+of_other_logs t [] (p ∷ ps) other own = absurd own
+of_other_logs t (u ∷ us) [] other own = absurd own
+
+-- parts before these logs, and one log more
+longer : (t : ℕ) (ts : List ℕ) (p : List Entry) (before : List (List Entry)) → AreOf (log t) p → All (λ u. u ≢ t) ts
+    → All (λ u. All (AreNotOf (log u)) before) ts → All (λ u. All (AreNotOf (log u)) (before ++ p ∷ [])) ts
+longer t [] p before own other front = All-nil (λ u. All (AreNotOf (log u)) (before ++ p ∷ []))
+longer t (u ∷ us) p before own other front =
+    All-cons (λ v. All (AreNotOf (log v)) (before ++ p ∷ [])) u us
+    (All-push (AreNotOf (log u)) before p (All-head (λ v. All (AreNotOf (log v)) before) u us front)
+    (of_another (log u) (log t) p own (λ same. All-head (λ v. v ≢ t) u us other (sym (one_log t u same)))))
+    (longer t us p before own (All-tail (λ v. v ≢ t) u us other) (All-tail (λ v. All (AreNotOf (log v)) before) u us front))
+
+-- of tasks' logs, after parts that are none of theirs
+each_log_traced : (ts : List ℕ) (before ps : List (List Entry)) (es : List Entry) → IsTraceOf (before ++ ps) es → AreLogsOf ts ps
+    → AreDifferent ts → All (λ t. All (AreNotOf (log t)) before) ts → map (λ t. projection (log t) es) ts ≡ ps
+each_log_traced [] before [] es trace own different front = refl
+each_log_traced (t ∷ ts) before (p ∷ ps) es trace own different front =
+    let rest : All (AreNotOf (log t)) ps = of_other_logs t ts ps different.0 own.1 in
+    let mine : All (AreNotOf (log t)) before = All-head (λ u. All (AreNotOf (log u)) before) t ts front in
+    let moved : IsTraceOf ((before ++ p ∷ []) ++ ps) es =
+    subst (λ (l : List (List Entry)). IsTraceOf l es) (sym (append_assoc before (p ∷ []) ps)) trace in
+    ap₂ (λ (x : List Entry) (xs : List (List Entry)). x ∷ xs)
+    (projection_is_part (log t) p before ps es trace own.0 (All-append (AreNotOf (log t)) before ps mine rest))
+    (each_log_traced ts (before ++ p ∷ []) ps es moved own.1 different.1
+    (longer t ts p before own.0 different.0 (All-tail (λ u. All (AreNotOf (log u)) before) t ts front)))
+each_log_traced [] before (p ∷ ps) es trace own different front = absurd own
+each_log_traced (t ∷ ts) before [] es trace own different front = absurd own
+
 one_phaser : (m n : ℕ) → phaser m ≡ phaser n → m ≡ n
 one_phaser m n same = cc
 
@@ -80,11 +122,11 @@ log_no_finish t f same = cc
 -- ---- of a run
 
 -- by the parts alone
-pub phasers_from : (phasers finishes logs : List (List Entry)) (sums : List Amount) (ended : List ℕ) (es : List Entry)
+pub phasers_from : (phasers finishes logs : List (List Entry)) (owners : List ℕ) (sums : List Amount) (ended : List ℕ) (es : List Entry)
     → IsTraceOf ((phasers ++ finishes) ++ logs) es → ArePhaserParts 0 phasers sums → AreFinishParts 0 finishes ended
-    → All (λ p. IsTaskLog p) logs
+    → AreLogsOf owners logs
     → map (λ n. projection (phaser n) es) (range_with_len 0 (length phasers)) ≡ phasers
-phasers_from phasers finishes logs sums ended es merged of_phasers of_finishes of_tasks =
+phasers_from phasers finishes logs owners sums ended es merged of_phasers of_finishes of_tasks =
     let parted : IsTraceOf ([] ++ (phasers ++ (finishes ++ logs))) es =
     subst (λ (ps : List (List Entry)). IsTraceOf ps es) (append_assoc phasers finishes logs) merged in
     each_traced phaser one_phaser 0 [] phasers (finishes ++ logs) es parted
@@ -92,27 +134,27 @@ phasers_from phasers finishes logs sums ended es merged of_phasers of_finishes o
     (λ m. All-append (AreNotOf (phaser m)) finishes logs
     (of_others finish (phaser m) 0 finishes (λ f above. finish_no_phaser f m)
     (finishes_owned 0 finishes ended of_finishes))
-    (of_logs (phaser m) (λ t. log_no_phaser t m) logs of_tasks))
+    (of_logs (phaser m) (λ t. log_no_phaser t m) owners logs of_tasks))
 
-pub finishes_from : (phasers finishes logs : List (List Entry)) (sums : List Amount) (ended : List ℕ) (es : List Entry)
+pub finishes_from : (phasers finishes logs : List (List Entry)) (owners : List ℕ) (sums : List Amount) (ended : List ℕ) (es : List Entry)
     → IsTraceOf ((phasers ++ finishes) ++ logs) es → ArePhaserParts 0 phasers sums → AreFinishParts 0 finishes ended
-    → All (λ p. IsTaskLog p) logs
+    → AreLogsOf owners logs
     → map (λ f. projection (finish f) es) (range_with_len 0 (length finishes)) ≡ finishes
-finishes_from phasers finishes logs sums ended es merged of_phasers of_finishes of_tasks =
+finishes_from phasers finishes logs owners sums ended es merged of_phasers of_finishes of_tasks =
     let parted : IsTraceOf (phasers ++ (finishes ++ logs)) es =
     subst (λ (ps : List (List Entry)). IsTraceOf ps es) (append_assoc phasers finishes logs) merged in
     each_traced finish one_finish 0 phasers finishes logs es parted
     (finishes_owned 0 finishes ended of_finishes)
     (λ m above. of_others phaser (finish m) 0 phasers (λ n from. phaser_no_finish n m)
     (phasers_owned 0 phasers sums of_phasers))
-    (λ m. of_logs (finish m) (λ t. log_no_finish t m) logs of_tasks)
+    (λ m. of_logs (finish m) (λ t. log_no_finish t m) owners logs of_tasks)
 
 pub phasers_traced : (l : Limits) (es : List Entry) (t : Totals) (told : IsToldBy l es t)
     → map (λ n. projection (phaser n) es) (below l.phasers) ≡ told.phasers
 phasers_traced l es t told =
     subst (λ (k : ℕ). map (λ n. projection (phaser n) es) (range_with_len 0 k) ≡ told.phasers)
     told.all_phasers
-    (phasers_from told.phasers told.finishes told.logs told.sums told.ended es told.merged
+    (phasers_from told.phasers told.finishes told.logs told.owners told.sums told.ended es told.merged
     told.of_phasers told.of_finishes told.of_tasks)
 
 pub finishes_traced : (l : Limits) (es : List Entry) (t : Totals) (told : IsToldBy l es t)
@@ -120,5 +162,23 @@ pub finishes_traced : (l : Limits) (es : List Entry) (t : Totals) (told : IsTold
 finishes_traced l es t told =
     subst (λ (k : ℕ). map (λ f. projection (finish f) es) (range_with_len 0 k) ≡ told.finishes)
     told.all_finishes
-    (finishes_from told.phasers told.finishes told.logs told.sums told.ended es told.merged
+    (finishes_from told.phasers told.finishes told.logs told.owners told.sums told.ended es told.merged
     told.of_phasers told.of_finishes told.of_tasks)
+
+pub logs_traced : (l : Limits) (es : List Entry) (t : Totals) (told : IsToldBy l es t)
+    → map (λ u. projection (log u) es) told.owners ≡ told.logs
+logs_traced l es t told =
+    each_log_traced told.owners (told.phasers ++ told.finishes) told.logs es told.merged told.of_tasks told.of_each
+    (of_all told.owners)
+  where
+    none : (u : ℕ) → All (AreNotOf (log u)) (told.phasers ++ told.finishes)
+    none u =
+        All-append (AreNotOf (log u)) told.phasers told.finishes
+        (of_others phaser (log u) 0 told.phasers (λ n from same. log_no_phaser u n (sym same))
+        (phasers_owned 0 told.phasers told.sums told.of_phasers))
+        (of_others finish (log u) 0 told.finishes (λ f from same. log_no_finish u f (sym same))
+        (finishes_owned 0 told.finishes told.ended told.of_finishes))
+
+    of_all : (us : List ℕ) → All (λ u. All (AreNotOf (log u)) (told.phasers ++ told.finishes)) us
+    of_all [] = All-nil (λ u. All (AreNotOf (log u)) (told.phasers ++ told.finishes))
+    of_all (u ∷ us) = All-cons (λ v. All (AreNotOf (log v)) (told.phasers ++ told.finishes)) u us (none u) (of_all us)

@@ -6,14 +6,15 @@ use Rattle.world_model.specs.Parts.{phaser_past, terms_of}
 use Rattle.trace_model.specs.Explained.{past}
 use Rattle.trace_model.specs.Run.{Entry}
 use Rattle.table_receipts.specs.Parts.{HasShown}
-use Rattle.task_crew.specs.Heard.{Asked}
+use Rattle.task_crew.specs.Heard.{Asked, Saying}
 
 -- the story that the trace tells of phaser n
 abbrev pub story_in : Limits → List Entry → ℕ → Story
 story_in l es n =
     let w = past (reverse es) in record { limits = l; terms = terms_of n w; past = phaser_past n w }
 
--- the root's body says this of what its task has seen of each phaser, which begins the story that the trace tells
-abbrev pub SaysOfTrace : {B : Type 0} → (B → Asked → (ℕ → Story) → Type 0) → Limits → List Entry → B → Type 0
+-- the root's body says this of what task 0, which is its, has seen of each phaser, which begins the story that the trace
+-- tells
+abbrev pub SaysOfTrace : {B : Type 0} → Saying B → Limits → List Entry → B → Type 0
 SaysOfTrace Shows l es root =
-    ∥ HasShown (λ b seen. (asked : Asked) × Shows b asked seen) l.phasers (λ n. story_in l es n) root ∥₁
+    ∥ HasShown (λ b seen. (asked : Asked) × Shows b 0 asked seen) l.phasers (λ n. story_in l es n) root ∥₁

@@ -1,5 +1,5 @@
 -- What a run's trace was put together from.
-use Rattle.std.specs.Prelude.{◌≡◌, ℕ, ◌+◌, List, [], ◌∷◌, ◌++◌, length, All}
+use Rattle.std.specs.Prelude.{◌≡◌, ℕ, ◌+◌, List, [], ◌∷◌, ◌++◌, length}
 use Rattle.std.specs.List.{sum as total}
 use Rattle.phase_modes.specs.declared.limits.Limits.{Limits}
 use Rattle.phase_model.specs.Amounts.{Amount}
@@ -8,7 +8,7 @@ use Rattle.share_book.specs.Accounts.{sum, amount_of}
 use Rattle.scope_locks.specs.Telling.{ArePhaserParts, AreFinishParts}
 use Rattle.trace_model.specs.Parts.{IsTraceOf}
 use Rattle.trace_model.specs.Run.{Entry}
-use Rattle.task_crew.specs.Remaining.{IsTaskLog}
+use Rattle.task_crew.specs.Remaining.{AreLogsOf, AreDifferent}
 
 -- the stories that these parts tell, of the phasers from n on, have these limits
 abbrev pub HaveLimits : (l : Limits) (n : ℕ) (ps : List (List Entry)) (sums : List Amount) → ArePhaserParts n ps sums → Type 0
@@ -23,20 +23,22 @@ HaveTasks tasks n (p ∷ ps) (k ∷ ended) are = (are.0.tasks ≡ tasks) × Have
 HaveTasks tasks n _ _ are = ⊥
 
 -- the trace is one of a part for each phaser and each finish, which tells a history as locks do, legal under the run's
--- limits, and of logs, each of one task: as many as tasks have ended in the finishes, and the root's; the totals are
--- what the phasers' histories add up to
+-- limits, and of logs, each of a task of its own: as many as tasks have ended in the finishes, and the root's; the
+-- totals are what the phasers' histories add up to
 pub record IsToldBy (l : Limits) (es : List Entry) (t : Totals) : Type 0 where
   pub phasers : List (List Entry)
   pub sums : List Amount
   pub finishes : List (List Entry)
   pub ended : List ℕ
   pub logs : List (List Entry)
+  pub owners : List ℕ
   pub merged : IsTraceOf ((phasers ++ finishes) ++ logs) es
   pub of_phasers : ArePhaserParts 0 phasers sums
   pub limited : HaveLimits l 0 phasers sums of_phasers
   pub of_finishes : AreFinishParts 0 finishes ended
   pub numbered : HaveTasks l.tasks 0 finishes ended of_finishes
-  pub of_tasks : All (λ p. IsTaskLog p) logs
+  pub of_tasks : AreLogsOf owners logs
+  pub of_each : AreDifferent owners
   pub all_phasers : length phasers ≡ l.phasers
   pub all_finishes : length finishes ≡ l.finishes
   pub all_logs : length logs ≡ total ended + 1

@@ -44,7 +44,7 @@ pub fn run<B: Body + Send, G: Gate + Sync, R: Threads + Wait + Sync>(
     ensures left { IfOk result (λ r. IsLeftByAll r.trace.events) }
     ensures told { IfOk result (λ r. IsToldBy limits r.trace.events r.totals) }
     ensures totals { IfOk result (λ r. AreTotals limits r.trace.events r.world.totals r.totals) }
-    ensures says { IfOk result (λ r. ((seen : ℕ → Story) → B.shows root nothing seen) → SaysOfTrace B.shows limits r.trace.events r.root) }
+    ensures says { IfOk result (λ r. ((seen : ℕ → Story) → B.shows root 0 nothing seen) → SaysOfTrace B.shows limits r.trace.events r.root) }
     ensures refused { IfErr result (λ e. IsRunRefused e) }
 {
     let remains = run_tasks(rt, alloc, root, limits, workers, gate)?;

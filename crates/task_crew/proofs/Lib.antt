@@ -1,3 +1,4 @@
+pub mod Gathering
 pub mod Seats
 pub mod Sums
 pub mod Saying

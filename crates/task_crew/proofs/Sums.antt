@@ -1,8 +1,7 @@
--- Sums over lists and books, and lists of one kind.
-use Rattle.std.proofs.Common.{◌≡◌, ℕ, ◌+◌, List, [], ◌∷◌, ◌++◌, map, refl, sym, subst, arith}
-use Rattle.std.specs.List.{sum_by, sum as total, All}
+-- Sums over lists and books.
+use Rattle.std.proofs.Common.{◌≡◌, ℕ, ◌+◌, List, [], ◌∷◌, ◌++◌, map, refl, sym, arith}
+use Rattle.std.specs.List.{sum_by, sum as total}
 use Rattle.std.proofs.lemmas.List.Sums.{sum-map, sum_by-append, sum_by-cons}
-use Rattle.std.proofs.lemmas.List.Elements.{All-nil, All-cons, All-append}
 use Rattle.phase_model.specs.Amounts.{Amount}
 use Rattle.share_book.specs.Accounts.{Entry as Book, sum, sum_of_books}
 
@@ -27,7 +26,3 @@ books_sum books =
 pub total_more : {X : Type 0} (f : X → ℕ) (xs : List X) (x : X) → total (map f (xs ++ x ∷ [])) ≡ total (map f xs) + f x
 total_more f xs x =
     omega (arith, sum-map f (xs ++ x ∷ []), sum-map f xs, sum_by-append f xs (x ∷ []), sum_by-cons f x [])
-
--- one more of the same kind
-pub all_more : {X : Type 0} (P : X → Type 0) (xs ys : List X) (x : X) → ys ≡ xs ++ x ∷ [] → All P xs → P x → All P ys
-all_more P xs ys x more all one = subst (λ (l : List _). All P l) (sym more) (All-append P xs (x ∷ []) all (All-cons P x [] one (All-nil P)))

@@ -1,3 +1,4 @@
 -- What the code's own functions say: no public contract cites it.
 pub mod Back
+pub mod Logs
 pub mod Ready

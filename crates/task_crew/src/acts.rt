@@ -1,5 +1,5 @@
 //! How a task's act is begun, and made where it is one event.
-ghost use Rattle.std.specs.Prelude.{◌≡◌, Ok};
+ghost use Rattle.std.specs.Prelude.{◌≡◌, ℕ, Ok};
 ghost use Rattle.table_receipts.specs.Seen.{story_at};
 ghost use Rattle.task_queue.specs.Accounts.{IsSeatOf};
 ghost use Rattle.task_crew.specs.Heard.{nothing, look, asked_by, IsSpawned};
@@ -20,7 +20,7 @@ use world_model::{Begun, Tried};
 impl<B: Body, K: RunNaming> Shared<B, K> {
     /// The task gives up what it is about, and comes to its end.
     pub(crate) fn fail(&self, task: &mut Task<B, K>, refusal: Refusal) -> Result<(), Refusal> {
-        task.log.note_failed(self.tickets.draw(), refusal)?;
+        task.log_failed(self.tickets.draw(), refusal)?;
         task.standing.give_up();
         Ok(())
     }
@@ -28,9 +28,10 @@ impl<B: Body, K: RunNaming> Shared<B, K> {
     /// The act is refused, and the task comes to its end.
     fn refuse(&self, task: &mut Task<B, K>, tried: Tried, refusal: Refusal) -> Result<(), Refusal>
         ensures body { task.new.body ≡ task.old.body }
+        ensures task { task.new.log.task ≡ task.old.log.task }
         ensures fronts { task.new.fronts ≡ task.old.fronts }
     {
-        task.log.note_refused(self.tickets.draw(), tried, refusal)?;
+        task.log_refused(self.tickets.draw(), tried, refusal)?;
         task.standing.give_up();
         Ok(())
     }
@@ -39,6 +40,7 @@ impl<B: Body, K: RunNaming> Shared<B, K> {
     /// its end.
     fn may_try(&self, task: &mut Task<B, K>, tried: Tried) -> Result<bool, Refusal>
         ensures body { task.new.body ≡ task.old.body }
+        ensures task { task.new.log.task ≡ task.old.log.task }
         ensures fronts { task.new.fronts ≡ task.old.fronts }
     {
         match task.standing.may_try(self.limits, &tried) {
@@ -113,7 +115,7 @@ impl<B: Body, K: RunNaming> Shared<B, K> {
         phaser: u32,
         accumulator: u8,
     ) -> Result<(), Refusal>
-        requires says { ∥ (K.Supposing.supposed → Says B.Body.shows task.old.body (look phaser accumulator) (λ n. story_at task.old.fronts n)) ∥₁ }
+        requires says { ∥ (K.Supposing.supposed → Says B.Body.shows task.old.body task.old.log.task (look phaser accumulator) (λ n. story_at task.old.fronts n)) ∥₁ }
         ensures out { by.new.out ≡ by.old.out }
     {
         let tried = Tried::Look(phaser, accumulator);
@@ -131,7 +133,7 @@ impl<B: Body, K: RunNaming> Shared<B, K> {
         if !self.may_try(task, Tried::Begun(begun))? {
             return Ok(false);
         }
-        task.log.note_begun(self.tickets.draw(), begun)?;
+        task.log_begun(self.tickets.draw(), begun)?;
         task.standing.begin(plan);
         Ok(true)
     }
@@ -144,7 +146,7 @@ impl<B: Body, K: RunNaming> Shared<B, K> {
 
     /// Begins to spawn a child. The child's memory is taken before the act is looked at.
     fn spawn(&self, item: &mut Item<B, K>, body: B, pairs: Phased) -> Result<(), Refusal>
-        requires says { ∥ (K.Supposing.supposed → Says B.Body.shows body nothing (λ n. story_at item.old.task.value.fronts n)) ∥₁ }
+        requires says { (its : ℕ) → ∥ (K.Supposing.supposed → Says B.Body.shows body its nothing (λ n. story_at item.old.task.value.fronts n)) ∥₁ }
     {
         let number = self.numbers.task();
         let Ok(child) = item.task.child(self.alloc, number, body, self.limits.acts) else {
@@ -164,9 +166,9 @@ impl<B: Body, K: RunNaming> Shared<B, K> {
         item: &mut Item<B, K>,
         act: Act<B>,
     ) -> Result<(), Refusal>
-        requires says { ∥ (K.Supposing.supposed → Says B.Body.shows item.old.task.value.body (asked_by (Ok act)) (λ n. story_at item.old.task.value.fronts n)) ∥₁ }
-        requires child { (child : B) → IsSpawned child (Ok act)
-            → ∥ (K.Supposing.supposed → Says B.Body.shows child nothing (λ n. story_at item.old.task.value.fronts n)) ∥₁ }
+        requires says { ∥ (K.Supposing.supposed → Says B.Body.shows item.old.task.value.body item.old.task.value.log.task (asked_by (Ok act)) (λ n. story_at item.old.task.value.fronts n)) ∥₁ }
+        requires child { (child : B) (its : ℕ) → IsSpawned child (Ok act)
+            → ∥ (K.Supposing.supposed → Says B.Body.shows child its nothing (λ n. story_at item.old.task.value.fronts n)) ∥₁ }
         ensures out { by.new.out ≡ by.old.out }
     {
         match act {

@@ -10,31 +10,32 @@ use phase_modes::Refusal;
 /// allocator.
 ///
 /// A body may say something of what its task has seen (`shows`): who writes it proves of `step` that
-/// it stays so, and then `phased_rt::run` says it of the root's body and of the run's trace. The
-/// step hears of a look what `IsHeard` says: it saw the fold of all values that were sent for a phase,
-/// which was closed. A body that says nothing has nothing to prove.
+/// it stays so, and then `phased_rt::run` says it of the root's body, which is task 0's, and of the
+/// run's trace. The step hears of a look what `IsHeard` says: it is the task's own, and saw the fold of
+/// all values that were sent for the phase before the task's, which was closed. A body that says
+/// nothing has nothing to prove.
 pub trait Body: Drop {
     ghost use Rattle.std.specs.Prelude.{ℕ};
     ghost use Rattle.phase_model.specs.Rules.{Story};
     ghost use Rattle.task_crew.specs.Heard.{Asked};
 
-    /// What the body says, where this is what it asked for by its last act, and its task has seen
-    /// this of each phaser: nothing where nobody says.
-    ghost shows: { Self → Asked → (ℕ → Story) → Type 0 } = { λ _ _ _. Unit {0} };
+    /// What the body says, where it is the body of the task of this number, this is what it asked for
+    /// by its last act, and its task has seen this of each phaser: nothing where nobody says.
+    ghost shows: { Self → ℕ → Asked → (ℕ → Story) → Type 0 } = { λ _ _ _ _. Unit {0} };
 
     /// The task's next act, after the answer to the one before: `Started` at first. After `End` it is
     /// not called again, nor once an act was refused. `Memory`, the only error, ends the task.
     fn step(&mut self, answer: Answer) -> Result<Act<Self>, Refusal>
         ensures memory { IfErr result (λ e. e ≡ Refusal.Memory) }
-        ensures shows { (asked : Asked) (seen now : ℕ → Story) → shows self.old asked seen → IsHeard asked answer seen now
-            → shows self.new (asked_by result) now }
-        ensures child { (asked : Asked) (seen now : ℕ → Story) (child : Self) → shows self.old asked seen → IsHeard asked answer seen now
-            → IsSpawned child result → shows child nothing now };
+        ensures shows { (task : ℕ) (asked : Asked) (seen now : ℕ → Story) → shows self.old task asked seen
+            → IsHeard task asked answer seen now → shows self.new task (asked_by result) now }
+        ensures child { (task : ℕ) (asked : Asked) (seen now : ℕ → Story) → shows self.old task asked seen
+            → IsHeard task asked answer seen now → (child : Self) (its : ℕ) → IsSpawned child result → shows child its nothing now };
 
     /// Runs the statement of this number, which the task alone has claimed: of those who proposed it
     /// in a phase just one is called, once.
     fn single(&mut self, number: u32)
-        ensures { (asked : Asked) (seen : ℕ → Story) → shows self.old asked seen → shows self.new asked seen };
+        ensures { (task : ℕ) (asked : Asked) (seen : ℕ → Story) → shows self.old task asked seen → shows self.new task asked seen };
 }
 
 /// Called round each step of a body, while no lock is held.

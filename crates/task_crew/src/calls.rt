@@ -77,7 +77,7 @@ impl<B: Body, K: RunNaming> Shared<B, K> {
         phaser: u32,
         accumulator: u8,
     ) -> Result<(), Refusal>
-        requires says { ∥ (K.Supposing.supposed → Says B.Body.shows task.old.body (look phaser accumulator) (λ n. story_at task.old.fronts n)) ∥₁ }
+        requires says { ∥ (K.Supposing.supposed → Says B.Body.shows task.old.body task.old.log.task (look phaser accumulator) (λ n. story_at task.old.fronts n)) ∥₁ }
         ensures out { by.new.out ≡ by.old.out }
     {
         let number = self.place(phaser, Refusal::NotRegistered)?;

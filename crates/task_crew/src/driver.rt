@@ -231,6 +231,10 @@ impl<B: Body, K: RunNaming> Shared<B, K> {
                     log,
                     ..
                 } = Box::into_inner(task);
+                // No clause says that a lock gives back who was parked there.
+                if log.task() > 0 {
+                    return Err(Refusal::NotNow);
+                }
                 let left = RootLeft { log, body, fronts };
                 busy.root = Some(left);
                 self.queue.close(busy.by.rt);

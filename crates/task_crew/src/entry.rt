@@ -34,7 +34,7 @@ fn root_of<K: RunNaming, B: Body, R: Wait>(
     root: B,
 ) -> Result<Item<B, K>, Refusal>
     requires all { phasers.now.phasers ≡ K.Logs.limits.phasers }
-    requires root { K.Supposing.supposed → (seen : ℕ → Story) → B.Body.shows root nothing seen }
+    requires root { K.Supposing.supposed → (seen : ℕ → Story) → B.Body.shows root 0 nothing seen }
     ensures memory { IfErr result (λ e. e ≡ Refusal.Memory) }
 {
     let fronts = Fronts::of(alloc, rt, phasers)?;
@@ -62,7 +62,7 @@ fn run_in<K: RunNaming + SharedLedgers, B: Body + Send, G: Gate + Sync, R: Threa
     requires logs { (i : ℕ) → IfSome (slice_get logs.items i) (λ w. w.name ≡ K.Logs.logs i) }
     requires empty { All (λ w. w.items ≡ []) logs.items }
     requires each { vec_len logs ≡ limits.phasers }
-    requires root { K.Supposing.supposed → (seen : ℕ → Story) → B.Body.shows root nothing seen }
+    requires root { K.Supposing.supposed → (seen : ℕ → Story) → B.Body.shows root 0 nothing seen }
     ensures remains { IfOk result (λ r. AreRemains limits r.phasers.items r.finishes.items r.logs.items r.totals) }
     ensures says { IfOk result (λ r. K.Supposing.supposed → IsSaid B.Body.shows limits r.phasers.items r.root) }
     ensures refused { IfErr result (λ e. IsRunRefused e) }
@@ -119,7 +119,7 @@ fn run_over<
     requires logs { (i : ℕ) → IfSome (slice_get logs.items i) (λ w. w.name ≡ L.Logs.logs i) }
     requires empty { All (λ w. w.items ≡ []) logs.items }
     requires each { vec_len logs ≡ limits.phasers }
-    requires root { L.Supposing.supposed → (seen : ℕ → Story) → B.Body.shows root nothing seen }
+    requires root { L.Supposing.supposed → (seen : ℕ → Story) → B.Body.shows root 0 nothing seen }
     ensures remains { IfOk result (λ r. AreRemains limits r.phasers.items r.finishes.items r.logs.items r.totals) }
     ensures says { IfOk result (λ r. L.Supposing.supposed → IsSaid B.Body.shows limits r.phasers.items r.root) }
     ensures refused { IfErr result (λ e. IsRunRefused e) }
@@ -137,7 +137,7 @@ fn run_over<
 ///
 /// A task that is refused something ends by itself, and the others go on. `Memory` where the tables,
 /// the workers or the logs' parts get none; `NotExplained(0)` where a lock or the queue answered what
-/// no run can bring about.
+/// no run can bring about, or two tasks have one number.
 pub fn run_tasks<B: Body + Send, G: Gate + Sync, R: Threads + Wait + Sync>(
     rt: &R,
     alloc: Global,
@@ -149,7 +149,7 @@ pub fn run_tasks<B: Body + Send, G: Gate + Sync, R: Threads + Wait + Sync>(
     requires limits { limits_fit limits ≡ true }
     requires workers { (0 < workers) × (workers ≤ 16) }
     ensures remains { IfOk result (λ r. AreRemains limits r.phasers.items r.finishes.items r.logs.items r.totals) }
-    ensures says { IfOk result (λ r. ((seen : ℕ → Story) → B.shows root nothing seen) → IsSaid B.shows limits r.phasers.items r.root) }
+    ensures says { IfOk result (λ r. ((seen : ℕ → Story) → B.shows root 0 nothing seen) → IsSaid B.shows limits r.phasers.items r.root) }
     ensures refused { IfErr result (λ e. IsRunRefused e) }
 {
     let logs = new_logs(alloc, limits.phasers)?;

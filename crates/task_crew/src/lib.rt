@@ -10,7 +10,7 @@
 //! # What is promised
 //!
 //! Where `run_tasks` answers Ok, there is a part for each phaser and finish, which tells a legal
-//! history, and one for each task's log; the totals are what the phasers' histories add up to. That
+//! history, and one for each task's log, no two of them of one task; the totals are what the phasers' histories add up to. That
 //! the parts fit together is no promise of this crate: `phased_rt` merges them and replays what
 //! comes of it, and is proved beside the core of a world that this crate does without.
 #![tactic(auto)]
@@ -22,6 +22,7 @@ mod crew;
 mod diary;
 mod driver;
 mod entry;
+mod logs;
 mod naming;
 mod remains;
 mod staff;

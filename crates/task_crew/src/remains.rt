@@ -1,15 +1,16 @@
 //! What a run leaves once its workers are done: its tables and logs as parts of a trace.
-ghost use Rattle.std.specs.Prelude.{◌≡◌, ◌+◌, map, length, vec_len, All, IfOk, IfErr};
-ghost use Rattle.std.specs.List.{sum as total};
+ghost use Rattle.std.specs.Prelude.{◌≡◌, true, map, length, vec_len, IfOk, IfErr};
+ghost use Rattle.phase_modes.specs.Limits.{limits_fit};
 ghost use Rattle.share_book.specs.Opening.{AreAllParts};
 ghost use Rattle.scope_locks.specs.Telling.{ArePhaserParts, AreFinishParts};
 ghost use Rattle.table_receipts.specs.Parts.{AreLogged};
 ghost use Rattle.task_crew.specs.Heard.{IsSaid};
 ghost use Rattle.task_crew.specs.Refused.{IsRunRefused};
-ghost use Rattle.task_crew.specs.Remaining.{IsTaskLog, AreRemains};
+ghost use Rattle.task_crew.specs.Remaining.{AreRemains};
 
 use crate::body::Body;
 use crate::diary::Diary;
+use crate::logs::logs_of;
 use crate::naming::RunNaming;
 use crate::task::{Item, RootLeft};
 use phase_modes::{Limits, Refusal};
@@ -32,33 +33,6 @@ pub struct Remains<B> {
     pub root: B,
 }
 
-/// Adds the parts of these logs.
-fn add_logs(parts: &mut Vec<Part>, logs: Vec<Diary>) -> Result<(), Refusal>
-    requires { All (λ p. IsTaskLog p) parts.old.items }
-    ensures own { IfOk result (λ _. All (λ p. IsTaskLog p) parts.new.items) }
-    ensures number { IfOk result (λ _. length parts.new.items ≡ length parts.old.items + length logs.items) }
-    ensures memory { IfErr result (λ e. e ≡ Refusal.Memory) }
-{
-    for log in logs {
-        parts.push(log.into_part())?;
-    }
-    Ok(())
-}
-
-/// The parts of all logs.
-fn logs_of(alloc: Global, logs: Vec<Vec<Diary>>, root: Diary) -> Result<Vec<Part>, Refusal>
-    ensures own { IfOk result (λ parts. All (λ p. IsTaskLog p) parts.items) }
-    ensures number { IfOk result (λ parts. length parts.items ≡ total (map (λ l. length l.items) logs.items) + 1) }
-    ensures memory { IfErr result (λ e. e ≡ Refusal.Memory) }
-{
-    let mut parts = Vec::new(alloc);
-    for of_finish in logs {
-        add_logs(&mut parts, of_finish)?;
-    }
-    parts.push(root.into_part())?;
-    Ok(parts)
-}
-
 /// What a run leaves, by what its tables and its workers leave.
 fn gathered<K: RunNaming, B: Body>(
     alloc: Global,
@@ -68,6 +42,7 @@ fn gathered<K: RunNaming, B: Body>(
     shares: Vec<Shares<K>>,
     root: RootLeft<B, K>,
 ) -> Result<Remains<B>, Refusal>
+    requires fit { limits_fit limits ≡ true }
     requires limits { limits ≡ K.Logs.limits }
     requires phasers { (vec_len phasers.parts ≡ limits.phasers) × (vec_len phasers.logs ≡ limits.phasers) }
     requires finishes { vec_len finishes.parts ≡ limits.finishes }
@@ -78,7 +53,7 @@ fn gathered<K: RunNaming, B: Body>(
     requires told_finishes { AreFinishParts 0 finishes.parts.items (map (λ l. length l.items) finishes.logs.items) }
     ensures remains { IfOk result (λ r. AreRemains limits r.phasers.items r.finishes.items r.logs.items r.totals) }
     ensures says { IfOk result (λ r. K.Supposing.supposed → IsSaid B.Body.shows limits r.phasers.items r.root) }
-    ensures memory { IfErr result (λ e. e ≡ Refusal.Memory) }
+    ensures refused { IfErr result (λ e. IsRunRefused e) }
 {
     let ReceiptParts {
         parts: of_phasers,
@@ -99,7 +74,7 @@ fn gathered<K: RunNaming, B: Body>(
         mut fronts,
     } = root;
     fronts.begin(&mut told);
-    let of_logs = logs_of(alloc, logs, log)?;
+    let of_logs = logs_of(alloc, limits.tasks, logs, log)?;
     Ok(Remains {
         phasers: of_phasers,
         finishes: of_finishes,
@@ -109,7 +84,8 @@ fn gathered<K: RunNaming, B: Body>(
     })
 }
 
-/// The same, where the tables are still whole. `NotExplained` where the root has left nothing.
+/// The same, where the tables are still whole. `NotExplained` where the root has left nothing, or two
+/// logs are of one task.
 pub(crate) fn remains_of<K: RunNaming, B: Body, R: Wait>(
     rt: &R,
     alloc: Global,
@@ -119,6 +95,7 @@ pub(crate) fn remains_of<K: RunNaming, B: Body, R: Wait>(
     shares: Vec<Shares<K>>,
     root: Option<RootLeft<B, K>>,
 ) -> Result<Remains<B>, Refusal>
+    requires fit { limits_fit limits ≡ true }
     requires limits { limits ≡ K.Logs.limits }
     requires phasers { phasers.phasers ≡ limits.phasers }
     requires finishes { finishes.finishes ≡ limits.finishes }

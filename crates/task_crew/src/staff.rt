@@ -1,5 +1,6 @@
 //! The workers of a run, from the seats that they are given to what they hand back.
-ghost use Rattle.std.specs.Prelude.{◌≡◌, [], ◌∷◌, ◌++◌, ◌+◌, ◌<◌, map, vec_len, All, IfOk, IfErr, OnOk};
+ghost use Rattle.std.specs.Prelude.{◌≡◌, [], ◌∷◌, ◌++◌, ◌+◌, ◌<◌, true, map, vec_len, All, IfOk, IfErr, OnOk};
+ghost use Rattle.phase_modes.specs.Limits.{limits_fit};
 ghost use Rattle.share_book.specs.Opening.{AreAllParts};
 ghost use Rattle.task_queue.specs.Accounts.{AreTogether, IsConserved};
 ghost use Rattle.task_crew.specs.inner.Back.{AreBack, AreSeatsIn};
@@ -182,6 +183,7 @@ pub(crate) fn run_staff<
     G: Gate + Sync,
     R: Threads + Wait + Sync,
 >(rt: &R, shared: Shared<B, K>, staff: Vec<Worker<B, K>>, gate: &G) -> Result<Remains<B>, Refusal>
+    requires fit { limits_fit shared.limits ≡ true }
     requires phasers { shared.phasers.phasers ≡ shared.limits.phasers }
     requires finishes { shared.finishes.finishes ≡ shared.limits.finishes }
     requires workers { AreAllParts (vec_len staff) K.EventsByWorker.parts K.UpByWorker.parts K.DownByWorker.parts }

@@ -12,6 +12,7 @@ use phase_modes::{Mode, Pair, Refusal};
 use std::alloc::Global;
 use table_receipts::{Front, Fronts};
 use task_standing::{Due, Standing};
+use world_model::{Begun, Tried};
 
 /// A task in flight.
 #[derive(Drop)]
@@ -25,7 +26,7 @@ pub(crate) struct Task<B: Body, K: RunNaming> {
     pub(crate) standing: Standing,
     pub(crate) log: Diary,
     ghost all: { length fronts ≡ K.Logs.limits.phasers },
-    ghost ready: { ∥ (K.Supposing.supposed → IsReady B.Body.shows body answer (λ n. story_at fronts n)) ∥₁ },
+    ghost ready: { ∥ (K.Supposing.supposed → IsReady B.Body.shows body log.task answer (λ n. story_at fronts n)) ∥₁ },
 }
 
 /// What moves between the queue, the locks and the workers: a task, with the child that it is
@@ -44,7 +45,7 @@ pub(crate) struct RootLeft<B: Body, K: RunNaming> {
     pub(crate) body: B,
     pub(crate) fronts: Fronts<K>,
     ghost all: { length fronts ≡ K.Logs.limits.phasers },
-    ghost says: { ∥ (K.Supposing.supposed → HasSaid B.Body.shows body (λ n. story_at fronts n)) ∥₁ },
+    ghost says: { ∥ (K.Supposing.supposed → HasSaid B.Body.shows body 0 (λ n. story_at fronts n)) ∥₁ },
 }
 
 impl<B: Body, K: RunNaming> Task<B, K> {
@@ -59,7 +60,7 @@ impl<B: Body, K: RunNaming> Task<B, K> {
         fronts: Fronts<K>,
     ) -> Result<Box<Task<B, K>>, Refusal>
         requires all { length fronts ≡ K.Logs.limits.phasers }
-        requires says { ∥ (K.Supposing.supposed → Says B.Body.shows body nothing (λ n. story_at fronts n)) ∥₁ }
+        requires says { ∥ (K.Supposing.supposed → Says B.Body.shows body number nothing (λ n. story_at fronts n)) ∥₁ }
         ensures memory { IfErr result (λ e. e ≡ Refusal.Memory) }
     {
         let log = Diary::new(alloc, number, acts)?;
@@ -84,7 +85,7 @@ impl<B: Body, K: RunNaming> Task<B, K> {
         body: B,
         acts: u32,
     ) -> Result<Box<Task<B, K>>, Refusal>
-        requires says { ∥ (K.Supposing.supposed → Says B.Body.shows body nothing (λ n. story_at self.old.fronts n)) ∥₁ }
+        requires says { ∥ (K.Supposing.supposed → Says B.Body.shows body number nothing (λ n. story_at self.old.fronts n)) ∥₁ }
         ensures memory { IfErr result (λ e. e ≡ Refusal.Memory) }
     {
         let fronts = self.fronts.again(alloc)?;
@@ -97,20 +98,24 @@ impl<B: Body, K: RunNaming> Task<B, K> {
         ensures log { result.log ≡ K.Logs.logs phaser }
         ensures story { result.story ≡ story_at self.old.fronts phaser }
         ensures body { self.new.body ≡ self.old.body }
+        ensures task { self.new.log.task ≡ self.old.log.task }
         ensures fronts { self.new.fronts ≡ self.old.fronts }
     {
         self.fronts.get(phaser)
     }
 
-    pub(crate) fn number(&self) -> u32 {
-        self.standing.number()
+    /// Its number, by which its log stands in the trace.
+    pub(crate) fn number(&self) -> u32
+        ensures { result ≡ self.now.log.task }
+    {
+        self.log.task()
     }
 
     /// The body's next act. It hears of it that it is done, unless something else comes of it.
     pub(crate) fn next_act(&mut self) -> Result<Act<B>, Refusal>
-        ensures says { ∥ (K.Supposing.supposed → Says B.Body.shows self.new.body (asked_by result) (λ n. story_at self.new.fronts n)) ∥₁ }
-        ensures child { (child : B) → IsSpawned child result
-            → ∥ (K.Supposing.supposed → Says B.Body.shows child nothing (λ n. story_at self.new.fronts n)) ∥₁ }
+        ensures says { ∥ (K.Supposing.supposed → Says B.Body.shows self.new.body self.new.log.task (asked_by result) (λ n. story_at self.new.fronts n)) ∥₁ }
+        ensures child { (child : B) (its : ℕ) → IsSpawned child result
+            → ∥ (K.Supposing.supposed → Says B.Body.shows child its nothing (λ n. story_at self.new.fronts n)) ∥₁ }
     {
         let answer = self.answer;
         self.answer = Answer::Done;
@@ -120,6 +125,38 @@ impl<B: Body, K: RunNaming> Task<B, K> {
     /// Runs the statement that the task has claimed.
     pub(crate) fn run_single(&mut self, number: u32) {
         self.body.single(number);
+    }
+
+    /// Logs that it begins this act. `ActsFull` where the log has no room for it.
+    pub(crate) fn log_begun(&mut self, ticket: u64, begun: Begun) -> Result<(), Refusal>
+        ensures body { self.new.body ≡ self.old.body }
+        ensures task { self.new.log.task ≡ self.old.log.task }
+        ensures fronts { self.new.fronts ≡ self.old.fronts }
+    {
+        self.log.note_begun(ticket, begun)
+    }
+
+    /// Logs that this act is refused. `ActsFull` where the log has no room for it.
+    pub(crate) fn log_refused(
+        &mut self,
+        ticket: u64,
+        tried: Tried,
+        refusal: Refusal,
+    ) -> Result<(), Refusal>
+        ensures body { self.new.body ≡ self.old.body }
+        ensures task { self.new.log.task ≡ self.old.log.task }
+        ensures fronts { self.new.fronts ≡ self.old.fronts }
+    {
+        self.log.note_refused(ticket, tried, refusal)
+    }
+
+    /// Logs that it gives up what it is about. `ActsFull` where the log has no room for it.
+    pub(crate) fn log_failed(&mut self, ticket: u64, refusal: Refusal) -> Result<(), Refusal>
+        ensures body { self.new.body ≡ self.old.body }
+        ensures task { self.new.log.task ≡ self.old.log.task }
+        ensures fronts { self.new.fronts ≡ self.old.fronts }
+    {
+        self.log.note_failed(ticket, refusal)
     }
 
     /// Notes that it made an act of one event, of which the body hears that it is done.

@@ -1,9 +1,8 @@
-use Rattle.std.proofs.Common.{◌≡◌, ◌<◌, ℕ, sym, subst, ◌∙◌, arith}
+use Rattle.std.proofs.Common.{◌≡◌, ◌<◌, sym, subst, ◌∙◌, arith}
 use Rattle.phase_modes.specs.Limits.{default_limits}
 use Rattle.phase_modes.specs.declared.limits.Limits.{Limits}
-use Rattle.phase_model.specs.Rules.{Story}
 use Rattle.trace_model.proofs.Legal.{explained_legal}
-use Rattle.task_crew.specs.Heard.{Asked, look}
+use Rattle.task_crew.specs.Heard.{Saying, look}
 use Rattle.phased_rt.specs.Says.{SaysOfTrace}
 use Rattle.own_body.specs.declared.adder.Adder.{Adder}
 use Rattle.own_body.specs.declared.adder.Next.TheVariants.{Makes, Hears}
@@ -15,8 +14,8 @@ apart : Makes ≡ Hears → ⊥
 apart same = cc
 
 -- what a task says
-abbrev Says : Adder → Asked → (ℕ → Story) → Type 0
-Says b asked seen = IsSeen (seen 0) b.saw × (b.next ≡ Hears → asked ≡ look 0 0)
+abbrev Says : Saying Adder
+Says b task asked seen = IsSeen task (seen 0) b.saw × (b.next ≡ Hears → asked ≡ look 0 0)
 
 some : (l : Limits) → l ≡ default_limits → 0 < l.phasers
 some l same =
@@ -33,6 +32,6 @@ returns g c =
     (told.says (λ seen. (tt, λ hears. absurd (apart hears)))) in
     record {
       sum = says_sum (λ (b : Adder). b.saw) Says report.trace.limits report.trace.events report.root
-          (λ b asked seen shows. shows.0) (explained_legal report.trace told.explained)
+          (λ b task asked seen shows. shows.0) (explained_legal report.trace told.explained)
           (some report.trace.limits (told.limits ∙ c.default.ensures)) says;
     }

@@ -12,6 +12,6 @@ returns-clause-says g c =
     let limits = c.args.limits in
     IfOk-weaker c.told_of.result
     (λ r. IsSaid g.B.Body.shows limits left.phasers.items left.root → SaysOfTrace g.B.Body.shows limits r.0.trace.events r.0.root)
-    (λ r. ((seen : ℕ → Story) → g.B.Body.shows c.args.root nothing seen) → SaysOfTrace g.B.Body.shows limits r.0.trace.events r.0.root)
+    (λ r. ((seen : ℕ → Story) → g.B.Body.shows c.args.root 0 nothing seen) → SaysOfTrace g.B.Body.shows limits r.0.trace.events r.0.root)
     (λ r says root. says (c.in_ok-remains.ensures.says root))
     c.told_of.ensures.says

@@ -28,11 +28,11 @@ returns-clause-told g c =
     (explained_legal trace c.in_ok-world.ensures.explained) in
     let limited =
     all_limited c.args.limits 0 phasers left.sums es legal
-    (phasers_from phasers finishes logs left.sums left.ended es merged left.of_phasers left.of_finishes left.of_tasks)
+    (phasers_from phasers finishes logs left.owners left.sums left.ended es merged left.of_phasers left.of_finishes left.of_tasks)
     left.of_phasers in
     let within =
     all_within c.args.limits 0 finishes left.ended es legal
-    (finishes_from phasers finishes logs left.sums left.ended es merged left.of_phasers left.of_finishes left.of_tasks)
+    (finishes_from phasers finishes logs left.owners left.sums left.ended es merged left.of_phasers left.of_finishes left.of_tasks)
     left.of_finishes in
     record {
       phasers = phasers;
@@ -40,12 +40,14 @@ returns-clause-told g c =
       finishes = finishes;
       ended = left.ended;
       logs = logs;
+      owners = left.owners;
       merged = merged;
       of_phasers = limited.parts;
       limited = limited.limits;
       of_finishes = within.parts;
       numbered = within.tasks_are;
       of_tasks = left.of_tasks;
+      of_each = left.of_each;
       all_phasers = left.all_phasers;
       all_finishes = left.all_finishes;
       all_logs = left.all_logs;
@@ -66,5 +68,5 @@ returns-clause-says g c = λ said.
     let phasers = remains.phasers.items in
     let merged = subst (λ (ps : List (List Entry)). IsTraceOf ps es) together c.in_ok-world.ensures.of_parts in
     says_of_trace g.B.Body.shows c.args.limits phasers es remains.root
-    (phasers_from phasers remains.finishes.items remains.logs.items left.sums left.ended es merged left.of_phasers left.of_finishes left.of_tasks)
+    (phasers_from phasers remains.finishes.items remains.logs.items left.owners left.sums left.ended es merged left.of_phasers left.of_finishes left.of_tasks)
     left.all_phasers said

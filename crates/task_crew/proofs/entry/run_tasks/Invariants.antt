@@ -31,4 +31,4 @@ ghosts-run_over-L-Logs g a = record { logs = λ n. name_at (λ w. w.name) a.logs
 
 -- the root says nothing false at its start
 abbrev pub ghosts-run_over-L-Supposing : goal.ghosts-run_over-L-Supposing
-ghosts-run_over-L-Supposing g a = record { supposed = (seen : ℕ → Story) → g.B.Body.shows a.root nothing seen }
+ghosts-run_over-L-Supposing g a = record { supposed = (seen : ℕ → Story) → g.B.Body.shows a.root 0 nothing seen }

@@ -16,9 +16,11 @@ returns-clause-remains g c =
     record {
       sums = map (λ b. b.totals) books;
       ended = map (λ l. length l.items) c.args.finishes.logs.items;
+      owners = c.in_ok-of_logs.ensures.own.0;
       of_phasers = c.requires.told_phasers;
       of_finishes = c.requires.told_finishes;
-      of_tasks = c.in_ok-of_logs.ensures.own;
+      of_tasks = c.in_ok-of_logs.ensures.own.1;
+      of_each = c.in_ok-of_logs.ensures.own.2;
       all_phasers = omega (arith, c.requires.phasers.0, c.args.phasers.parts.ok);
       all_logs = c.in_ok-of_logs.ensures.number;
       all_finishes = omega (arith, c.requires.finishes, c.args.finishes.parts.ok);

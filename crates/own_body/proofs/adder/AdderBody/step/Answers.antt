@@ -10,13 +10,13 @@ apart : Sends ≡ Hears → ⊥
 apart same = cc
 
 pub returns-clause-shows : goal.returns-clause-shows
-returns-clause-shows c = λ asked seen now shows heard. (
-  subst (λ (x : Look ℤ). IsSeen (now 0) x) (sym c.act.ensures.saw)
-      (c.hear.ensures.saw asked now shows.1 heard.1 (still_seen (seen 0) (now 0) c.args.self.now.saw (heard.0 0) shows.0)),
+returns-clause-shows c = λ task asked seen now shows heard. (
+  subst (λ (x : Look ℤ). IsSeen task (now 0) x) (sym c.act.ensures.saw)
+      (c.hear.ensures.saw task asked now shows.1 heard.1 (still_seen task (seen 0) (now 0) c.args.self.now.saw (heard.0 0) shows.0)),
   c.act.ensures.looks,
 )
 
 pub returns-clause-child : goal.returns-clause-child
-returns-clause-child c = λ asked seen now child shows heard spawned.
+returns-clause-child c = λ task asked seen now shows heard child its spawned.
     let new = c.act.ensures.child child spawned in
-    (subst (λ (x : Look ℤ). IsSeen (now 0) x) (sym new.0) tt, λ hears. absurd (apart (sym new.1 ∙ hears)))
+    (subst (λ (x : Look ℤ). IsSeen its (now 0) x) (sym new.0) tt, λ hears. absurd (apart (sym new.1 ∙ hears)))

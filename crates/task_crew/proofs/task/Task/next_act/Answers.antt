@@ -10,17 +10,18 @@ pub invariant_of-self-clause-ready : goal.invariant_of-self-clause-ready
 invariant_of-self-clause-ready g c =
     let old = c.args.self.now in
     let now : ℕ → Story = λ n. story_at old.fronts n in
-    ready_by g.B.Body.shows c.step.new.self (asked_by c.step.result) Done now tt
-    (said_next g.B.Body.shows old.body c.step.new.self (asked_by c.step.result) old.answer now c.step.ensures.shows old.ready)
+    ready_by g.B.Body.shows c.step.new.self old.log.task (asked_by c.step.result) Done now tt
+    (said_next g.B.Body.shows old.body c.step.new.self old.log.task old.log.task (asked_by c.step.result) old.answer now
+    (c.step.ensures.shows old.log.task) old.ready)
 
 pub returns-clause-says : goal.returns-clause-says
 returns-clause-says g c =
     let old = c.args.self.now in
-    said_next g.B.Body.shows old.body c.step.new.self (asked_by c.step.result) old.answer (λ n. story_at old.fronts n)
-    c.step.ensures.shows old.ready
+    said_next g.B.Body.shows old.body c.step.new.self old.log.task old.log.task (asked_by c.step.result) old.answer
+    (λ n. story_at old.fronts n) (c.step.ensures.shows old.log.task) old.ready
 
 pub returns-clause-child : goal.returns-clause-child
-returns-clause-child g c = λ child spawned.
+returns-clause-child g c = λ child its spawned.
     let old = c.args.self.now in
-    said_next g.B.Body.shows old.body child nothing old.answer (λ n. story_at old.fronts n)
-    (λ asked seen now shows heard. c.step.ensures.child asked seen now child shows heard spawned) old.ready
+    said_next g.B.Body.shows old.body child old.log.task its nothing old.answer (λ n. story_at old.fronts n)
+    (λ asked seen now shows heard. c.step.ensures.child old.log.task asked seen now shows heard child its spawned) old.ready

@@ -6,4 +6,4 @@ use Rattle.task_crew.proofs.task.Task.note_act.Goals as goal
 pub invariant_of-self-clause-ready : goal.invariant_of-self-clause-ready
 invariant_of-self-clause-ready g c =
     let old = c.args.self.now in
-    ready_again g.B.Body.shows old.body old.answer Done (λ n. story_at old.fronts n) (λ asked. tt) old.ready
+    ready_again g.B.Body.shows old.body old.log.task old.answer Done (λ n. story_at old.fronts n) (λ asked. tt) old.ready

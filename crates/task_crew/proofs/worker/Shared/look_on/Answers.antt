@@ -26,6 +26,9 @@ invariant_of-task-clause-ready g c =
     c.front-me.ensures.story c.set.ensures.here c.set.ensures.others
     (answered_goes (λ _ r. c.look.result ≡ look_result r) (calls.Look t a) before now c.look.ensures.told) in
     let here : story_at ys n ≡ now = ap (λ (m : ℕ). story_at ys m) (sym place) ∙ c.set.ensures.here in
-    ready_look g.B.Body.shows mid.body n a t c.in_ok-seen.seen (λ k. story_at old.fronts k) (λ k. story_at ys k) more.0
-    (subst (λ (v : Story). HasLooked v.terms.ops t a v.past c.in_ok-seen.seen) (sym here) c.in_ok-seen.ensures.seen)
-    (said_kept g.B.Body.shows old.body mid.body (look n a) old.fronts old.fronts c.front-me.ensures.body refl c.requires.says)
+    let own : t ≡ mid.log.task = c.number-reader.ensures ∙ sym c.front-me.ensures.task in
+    ready_look g.B.Body.shows mid.body n a mid.log.task c.in_ok-seen.seen (λ k. story_at old.fronts k) (λ k. story_at ys k) more.0
+    (subst (λ (m : ℕ). HasLooked (story_at ys n).terms.ops m a (story_at ys n).past c.in_ok-seen.seen) own
+    (subst (λ (v : Story). HasLooked v.terms.ops t a v.past c.in_ok-seen.seen) (sym here) c.in_ok-seen.ensures.seen))
+    (said_kept g.B.Body.shows old.body mid.body old.log.task mid.log.task (look n a) old.fronts old.fronts
+    c.front-me.ensures.body c.front-me.ensures.task refl c.requires.says)
