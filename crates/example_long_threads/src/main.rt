@@ -6,11 +6,12 @@
 
 use anyhow::bail;
 use long_locks::{PassAnswer, SignalAnswer};
-use long_phaser::{Phase, Task};
+use long_phaser::Phase;
 use phase_model::{Bound, Look, Op, Ops};
 use phase_modes::{Mode, Refusal};
 use phaser_crew::{LongCrew, LongHand, with_long_phaser};
 use std::env;
+use task_numbers::{AccumulatorIndex, LongTaskNumber};
 
 const TASKS: usize = 4;
 
@@ -23,9 +24,14 @@ struct Barrier {
     phases: Phase,
 }
 
+/// The phaser's one accumulator.
+fn accumulator() -> AccumulatorIndex {
+    AccumulatorIndex::of(0)
+}
+
 /// What the task sends in the phase.
-fn change(task: Task, phase: Phase) -> i32 {
-    (phase % 1_000) as i32 + (task % 4) as i32
+fn change(task: LongTaskNumber, phase: Phase) -> i32 {
+    (phase % 1_000) as i32 + (task.get() % 4) as i32
 }
 
 /// The sum of what the tasks 0 to 3 send.
@@ -34,8 +40,12 @@ fn sum_of(phase: Phase) -> i128 {
 }
 
 /// The task sends its change, and signals: at a barrier the bound never holds it.
-fn arrive<H: LongHand<Task>>(hand: &mut H, task: Task, phase: Phase) -> Result<(), Refusal> {
-    hand.send(task, 0, change(task, phase))?;
+fn arrive<H: LongHand<LongTaskNumber>>(
+    hand: &mut H,
+    task: LongTaskNumber,
+    phase: Phase,
+) -> Result<(), Refusal> {
+    hand.send(task, accumulator(), change(task, phase))?;
     match hand.signal(task, None, task) {
         SignalAnswer::Signalled(_) => Ok(()),
         SignalAnswer::Parked => Err(Refusal::NotNow),
@@ -44,7 +54,10 @@ fn arrive<H: LongHand<Task>>(hand: &mut H, task: Task, phase: Phase) -> Result<(
 }
 
 /// The task ends its turn. The phase of the turn; none where the task is parked.
-fn pass<H: LongHand<Task>>(hand: &mut H, task: Task) -> Result<Option<Phase>, Refusal> {
+fn pass<H: LongHand<LongTaskNumber>>(
+    hand: &mut H,
+    task: LongTaskNumber,
+) -> Result<Option<Phase>, Refusal> {
     match hand.pass(task, task) {
         PassAnswer::Passed(_, phase) => Ok(Some(phase)),
         PassAnswer::Parked => Ok(None),
@@ -54,8 +67,12 @@ fn pass<H: LongHand<Task>>(hand: &mut H, task: Task) -> Result<Option<Phase>, Re
 }
 
 /// Whether the task sees the sum that is expected of the phase.
-fn sees_sum<H: LongHand<Task>>(hand: &mut H, task: Task, phase: Phase) -> Result<bool, Refusal> {
-    match hand.look(task, 0)? {
+fn sees_sum<H: LongHand<LongTaskNumber>>(
+    hand: &mut H,
+    task: LongTaskNumber,
+    phase: Phase,
+) -> Result<bool, Refusal> {
+    match hand.look(task, accumulator())? {
         Look::Value(sum) => Ok(sum == sum_of(phase)),
         _ => Ok(false),
     }
@@ -63,12 +80,12 @@ fn sees_sum<H: LongHand<Task>>(hand: &mut H, task: Task, phase: Phase) -> Result
 
 /// After the phase the task arrives at the next, if there is one, or leaves. With whom the worker
 /// goes on.
-fn go_on<H: LongHand<Task>>(
+fn go_on<H: LongHand<LongTaskNumber>>(
     hand: &mut H,
-    task: Task,
+    task: LongTaskNumber,
     next: Phase,
     phases: Phase,
-) -> Result<Option<Task>, Refusal> {
+) -> Result<Option<LongTaskNumber>, Refusal> {
     if next < phases {
         arrive(hand, task, next)?;
         Ok(Some(task))
@@ -80,7 +97,11 @@ fn go_on<H: LongHand<Task>>(
 
 /// The worker plays the task, and then whomever its calls wake. How often one of them saw the
 /// expected sum.
-fn play<H: LongHand<Task>>(hand: &mut H, first: Task, phases: Phase) -> Result<u64, Refusal> {
+fn play<H: LongHand<LongTaskNumber>>(
+    hand: &mut H,
+    first: LongTaskNumber,
+    phases: Phase,
+) -> Result<u64, Refusal> {
     let mut right = 0u64;
     let mut next = Some(first);
     for _ in 0..u64::MAX {
@@ -100,12 +121,15 @@ fn play<H: LongHand<Task>>(hand: &mut H, first: Task, phases: Phase) -> Result<u
     Ok(right)
 }
 
-impl LongCrew<Task> for Barrier {
-    type Prepared = [Task; TASKS];
+impl LongCrew<LongTaskNumber> for Barrier {
+    type Prepared = [LongTaskNumber; TASKS];
 
     type Given = Result<u64, Refusal>;
 
-    fn prepare<H: LongHand<Task>>(&self, hand: &mut H) -> Result<[Task; TASKS], Refusal> {
+    fn prepare<H: LongHand<LongTaskNumber>>(
+        &self,
+        hand: &mut H,
+    ) -> Result<[LongTaskNumber; TASKS], Refusal> {
         let maker = hand.make(Mode::SigWait)?;
         let mut tasks = [maker; TASKS];
         for task in tasks.iter_mut().skip(1) {
@@ -114,7 +138,11 @@ impl LongCrew<Task> for Barrier {
         Ok(tasks)
     }
 
-    fn work<H: LongHand<Task>>(&self, hand: &mut H, tasks: &[Task; TASKS]) -> Result<u64, Refusal> {
+    fn work<H: LongHand<LongTaskNumber>>(
+        &self,
+        hand: &mut H,
+        tasks: &[LongTaskNumber; TASKS],
+    ) -> Result<u64, Refusal> {
         let place = hand.worker() as usize;
         match tasks.get(place) {
             Some(task) => {

@@ -1,5 +1,5 @@
 //! Two tasks, whichever worker has them in hand.
-ghost use Rattle.std.specs.Prelude.{IfOk};
+ghost use Rattle.std.specs.Prelude.{◌≡◌, IfOk};
 ghost use Rattle.table_receipts.specs.Logs.{GoesOn};
 ghost use Rattle.example_threads.specs.Sums.{IsSeen, AreSums};
 
@@ -10,16 +10,31 @@ use scope_locks::{PassAnswer, SignalAnswer};
 use std::alloc::Global;
 use std::sync::Wait;
 use std::thread::Threads;
+use task_numbers::{AccumulatorIndex, PhaserNumber, TaskNumber};
 
 /// Two workers, of which each begins with the task of its own number.
 struct Pair;
 
-/// The task sends the number to phaser 0, and signals: without a bound that never parks it.
-fn arrive<H: Hand<u32>>(hand: &mut H, task: u32, number: i32) -> Result<(), Refusal>
+/// The phaser that both tasks share.
+fn phaser() -> PhaserNumber
+    ensures { result ≡ 0 }
+{
+    PhaserNumber::of(0)
+}
+
+/// Its one accumulator.
+fn accumulator() -> AccumulatorIndex
+    ensures { result ≡ 0 }
+{
+    AccumulatorIndex::of(0)
+}
+
+/// The task sends the number to the phaser, and signals: without a bound that never parks it.
+fn arrive<H: Hand<TaskNumber>>(hand: &mut H, task: TaskNumber, number: i32) -> Result<(), Refusal>
     ensures more { GoesOn (H.seen hand.old 0) (H.seen hand.new 0) }
 {
-    hand.send(0, task, 0, number)?;
-    match hand.signal(0, task, None, task) {
+    hand.send(phaser(), task, accumulator(), number)?;
+    match hand.signal(phaser(), task, None, task) {
         SignalAnswer::Signalled(_) => Ok(()),
         SignalAnswer::Parked => Err(Refusal::NotNow),
         SignalAnswer::Refused(_, refusal) => Err(refusal),
@@ -28,21 +43,25 @@ fn arrive<H: Hand<u32>>(hand: &mut H, task: u32, number: i32) -> Result<(), Refu
 
 /// The task ends its turn, and arrives again with the sum that it sees, or leaves. With whom the
 /// worker goes on: where this task is parked or has left, with one whom a call woke.
-fn turn<H: Hand<u32>>(hand: &mut H, task: u32, last: &mut Look) -> Result<Option<u32>, Refusal>
+fn turn<H: Hand<TaskNumber>>(
+    hand: &mut H,
+    task: TaskNumber,
+    last: &mut Look,
+) -> Result<Option<TaskNumber>, Refusal>
     requires seen { IsSeen (H.seen hand.old 0) last.old }
     ensures seen { IfOk result (λ _. IsSeen (H.seen hand.new 0) last.new) }
 {
-    let phase = match hand.pass(0, task, task) {
+    let phase = match hand.pass(phaser(), task, task) {
         PassAnswer::Passed(_, phase) => phase,
         PassAnswer::Parked => return Ok(hand.next()),
         PassAnswer::Claimed(_, _) => return Err(Refusal::NotNow),
         PassAnswer::Refused(_, refusal) => return Err(refusal),
     };
     if phase == 2 {
-        hand.drop_task(0, task)?;
+        hand.drop_task(phaser(), task)?;
         return Ok(hand.next());
     }
-    let look = hand.look(0, task, 0)?;
+    let look = hand.look(phaser(), task, accumulator())?;
     *last = look;
     if let Look::Value(sum) = look {
         arrive(hand, task, i32::try_from(sum).unwrap_or(i32::MAX))?;
@@ -50,7 +69,7 @@ fn turn<H: Hand<u32>>(hand: &mut H, task: u32, last: &mut Look) -> Result<Option
     Ok(Some(task))
 }
 
-impl Crew<u32> for Pair {
+impl Crew<TaskNumber> for Pair {
     ghost use Rattle.std.specs.Prelude.{IfOk};
     ghost use Rattle.example_threads.specs.Sums.{IsSeen};
 
@@ -59,17 +78,19 @@ impl Crew<u32> for Pair {
 
     ghost shows = { λ given seen. IfOk given (IsSeen (seen 0)) };
 
-    fn prepare<H: Hand<u32>>(&self, hand: &mut H) -> Result<(), Refusal> {
+    fn prepare<H: Hand<TaskNumber>>(&self, hand: &mut H) -> Result<(), Refusal> {
         let mut one_sum = Ops::none();
         one_sum.push(Op::Sum);
-        hand.make(0, 0, Mode::SigWait, one_sum, None)?;
-        hand.register(0, 0, 1, Mode::SigWait)
+        let maker = TaskNumber::of(0);
+        hand.make(phaser(), maker, Mode::SigWait, one_sum, None)?;
+        hand.register(phaser(), maker, TaskNumber::of(1), Mode::SigWait)
     }
 
-    fn work<H: Hand<u32>>(&self, hand: &mut H) -> Result<Look, Refusal> {
-        let mut task = hand.worker();
+    fn work<H: Hand<TaskNumber>>(&self, hand: &mut H) -> Result<Look, Refusal> {
+        let worker = hand.worker();
+        let mut task = TaskNumber::of(worker);
         let mut last = Look::Nothing;
-        arrive(hand, task, if task == 0 { 3 } else { 4 })?;
+        arrive(hand, task, if worker == 0 { 3 } else { 4 })?;
         for _ in 0..u64::MAX {
             match turn(hand, task, &mut last)? {
                 Some(next) => task = next,

@@ -18,6 +18,7 @@ use phase_model::{Bound, Event, Look, Ops};
 use phase_modes::{Mode, Refusal};
 use scope_locks::{PassAnswer, SignalAnswer};
 use std::sync::Wait;
+use task_numbers::{AccumulatorIndex, PhaserNumber, TaskNumber};
 
 /// What one worker has of all phasers. A `T` stands for a task that is parked: whatever the worker
 /// who goes on with it wants to have. Contracts see the worker's number, how many phasers there
@@ -63,8 +64,8 @@ pub trait Hand<T> {
     /// The task makes the phaser, and is registered on it.
     fn make(
         &mut self,
-        phaser: u32,
-        task: u32,
+        phaser: PhaserNumber,
+        task: TaskNumber,
         mode: Mode,
         ops: Ops,
         bound: Option<Bound>,
@@ -78,7 +79,13 @@ pub trait Hand<T> {
         ensures more { HasSeenMore phaser (seen self.old) (seen self.new) };
 
     /// The parent registers the child.
-    fn register(&mut self, phaser: u32, parent: u32, child: u32, mode: Mode) -> Result<(), Refusal>
+    fn register(
+        &mut self,
+        phaser: PhaserNumber,
+        parent: TaskNumber,
+        child: TaskNumber,
+        mode: Mode,
+    ) -> Result<(), Refusal>
         ensures posted { (shown self.new).posted
             ≡ plus (amount_if (is_ok result) (Event.Reg parent child mode)) (shown self.old).posted }
         ensures unknown { (shown self.old).phasers ≤ phaser → result ≡ Err Refusal.NotRegistered }
@@ -88,7 +95,13 @@ pub trait Hand<T> {
         ensures more { HasSeenMore phaser (seen self.old) (seen self.new) };
 
     /// The task sends the value to the accumulator of this index.
-    fn send(&mut self, phaser: u32, task: u32, accumulator: u8, value: i32) -> Result<(), Refusal>
+    fn send(
+        &mut self,
+        phaser: PhaserNumber,
+        task: TaskNumber,
+        accumulator: AccumulatorIndex,
+        value: i32,
+    ) -> Result<(), Refusal>
         ensures posted { (shown self.new).posted
             ≡ plus (amount_if (is_ok result) (Event.Send task accumulator value)) (shown self.old).posted }
         ensures unknown { (shown self.old).phasers ≤ phaser → result ≡ Err Refusal.NotRegistered }
@@ -98,7 +111,12 @@ pub trait Hand<T> {
         ensures more { HasSeenMore phaser (seen self.old) (seen self.new) };
 
     /// The task looks at the accumulator of this index.
-    fn look(&mut self, phaser: u32, task: u32, accumulator: u8) -> Result<Look, Refusal>
+    fn look(
+        &mut self,
+        phaser: PhaserNumber,
+        task: TaskNumber,
+        accumulator: AccumulatorIndex,
+    ) -> Result<Look, Refusal>
         ensures posted { (x : Look ℤ) → (shown self.new).posted
             ≡ plus (amount_if (is_ok result) (Event.Look task accumulator x)) (shown self.old).posted }
         ensures unknown { (shown self.old).phasers ≤ phaser → result ≡ Err Refusal.NotRegistered }
@@ -110,7 +128,13 @@ pub trait Hand<T> {
 
     /// The task signals, with the number of a single where it proposes one. The item comes back, or
     /// is parked.
-    fn signal(&mut self, phaser: u32, task: u32, proposed: Option<u32>, item: T) -> SignalAnswer<T>
+    fn signal(
+        &mut self,
+        phaser: PhaserNumber,
+        task: TaskNumber,
+        proposed: Option<u32>,
+        item: T,
+    ) -> SignalAnswer<T>
         ensures posted { (shown self.new).posted
             ≡ plus (amount_if (has_signalled result) (Event.Sig task proposed)) (shown self.old).posted }
         ensures item { IsBackFromSignal item result }
@@ -124,7 +148,7 @@ pub trait Hand<T> {
 
     /// The task asks to end its turn. The item comes back, or is parked until a call of some worker
     /// wakes the task: then it is in that worker's hand.
-    fn pass(&mut self, phaser: u32, task: u32, item: T) -> PassAnswer<T>
+    fn pass(&mut self, phaser: PhaserNumber, task: TaskNumber, item: T) -> PassAnswer<T>
         ensures posted { (shown self.new).posted
             ≡ plus (amount_if (goes_on result) (Event.Pass task)) (shown self.old).posted }
         ensures item { IsBack item result }
@@ -138,7 +162,7 @@ pub trait Hand<T> {
         ensures more { HasSeenMore phaser (seen self.old) (seen self.new) };
 
     /// The task reports that the single which it claimed is done.
-    fn single_done(&mut self, phaser: u32, task: u32) -> Result<(), Refusal>
+    fn single_done(&mut self, phaser: PhaserNumber, task: TaskNumber) -> Result<(), Refusal>
         ensures posted { (shown self.new).posted
             ≡ plus (amount_if (is_ok result) (Event.Did task)) (shown self.old).posted }
         ensures freed { BeginsWith (shown self.old).freed (shown self.new).freed }
@@ -150,7 +174,7 @@ pub trait Hand<T> {
         ensures more { HasSeenMore phaser (seen self.old) (seen self.new) };
 
     /// The task leaves the phaser.
-    fn drop_task(&mut self, phaser: u32, task: u32) -> Result<(), Refusal>
+    fn drop_task(&mut self, phaser: PhaserNumber, task: TaskNumber) -> Result<(), Refusal>
         ensures posted { (shown self.new).posted
             ≡ plus (amount_if (is_ok result) (Event.Drop task)) (shown self.old).posted }
         ensures freed { BeginsWith (shown self.old).freed (shown self.new).freed }

@@ -11,6 +11,7 @@ use std::alloc::Global;
 use std::collections::VecDeque;
 use std::sync::Wait;
 use table_receipts::{Caller, Fronts, Naming, ReceiptTable};
+use task_numbers::{AccumulatorIndex, PhaserNumber, TaskNumber};
 
 /// The hand of a worker of this run.
 #[derive(Drop)]
@@ -30,7 +31,7 @@ pub(crate) struct Held<'a, T, K: Naming, R> {
 /// The phaser's place in the table; the refusal where no phaser has the number.
 fn place<T, K: Naming>(
     table: &ReceiptTable<T, K>,
-    phaser: u32,
+    phaser: PhaserNumber,
     refusal: Refusal,
 ) -> Result<usize, Refusal>
     ensures place { IfOk result (λ n. n < table.now.phasers) }
@@ -39,7 +40,7 @@ fn place<T, K: Naming>(
     ensures known { IfOk result (λ _. phaser < table.now.phasers) }
     ensures unknown { IfErr result (λ e. e ≡ refusal) }
 {
-    let number = phaser as usize;
+    let number = phaser.get() as usize;
     if number < table.phasers {
         Ok(number)
     } else {
@@ -137,61 +138,78 @@ impl<'a, T, K: Naming, R: Wait> Hand<T> for Held<'a, T, K, R> {
 
     fn make(
         &mut self,
-        phaser: u32,
-        task: u32,
+        phaser: PhaserNumber,
+        task: TaskNumber,
         mode: Mode,
         ops: Ops,
         bound: Option<Bound>,
     ) -> Result<(), Refusal> {
         let number = place(self.table, phaser, Refusal::PhasersFull)?;
         let mut me = self.fronts.get(number);
-        let answer = self
-            .table
-            .make(&mut self.by, &mut me, number, task, mode, ops, bound);
+        let answer = self.table.make(&mut self.by, &mut me, number, task.get(), mode, ops, bound);
         self.fronts.set(number, me);
         answer
     }
 
     fn register(
         &mut self,
-        phaser: u32,
-        parent: u32,
-        child: u32,
+        phaser: PhaserNumber,
+        parent: TaskNumber,
+        child: TaskNumber,
         mode: Mode,
     ) -> Result<(), Refusal> {
         let number = place(self.table, phaser, Refusal::NotRegistered)?;
         let mut me = self.fronts.get(number);
-        let answer = self
-            .table
-            .register(&mut self.by, &mut me, number, parent, child, mode);
+        let answer = self.table.register(
+            &mut self.by,
+            &mut me,
+            number,
+            parent.get(),
+            child.get(),
+            mode,
+        );
         self.fronts.set(number, me);
         answer
     }
 
-    fn send(&mut self, phaser: u32, task: u32, accumulator: u8, value: i32) -> Result<(), Refusal> {
+    fn send(
+        &mut self,
+        phaser: PhaserNumber,
+        task: TaskNumber,
+        accumulator: AccumulatorIndex,
+        value: i32,
+    ) -> Result<(), Refusal> {
         let number = place(self.table, phaser, Refusal::NotRegistered)?;
         let mut me = self.fronts.get(number);
-        let answer = self
-            .table
-            .send(&mut self.by, &mut me, number, task, accumulator, value);
+        let answer = self.table.send(
+            &mut self.by,
+            &mut me,
+            number,
+            task.get(),
+            accumulator.get(),
+            value,
+        );
         self.fronts.set(number, me);
         answer
     }
 
-    fn look(&mut self, phaser: u32, task: u32, accumulator: u8) -> Result<Look, Refusal> {
+    fn look(
+        &mut self,
+        phaser: PhaserNumber,
+        task: TaskNumber,
+        accumulator: AccumulatorIndex,
+    ) -> Result<Look, Refusal> {
         let number = place(self.table, phaser, Refusal::NotRegistered)?;
         let mut me = self.fronts.get(number);
-        let answer = self
-            .table
-            .look(&mut self.by, &mut me, number, task, accumulator);
+        let answer = self.table.look(&mut self.by, &mut me, number, task.get(), accumulator.get());
         self.fronts.set(number, me);
         answer
     }
 
     fn signal(
         &mut self,
-        phaser: u32,
-        task: u32,
+        phaser: PhaserNumber,
+        task: TaskNumber,
         proposed: Option<u32>,
         item: T,
     ) -> SignalAnswer<T> {
@@ -205,12 +223,12 @@ impl<'a, T, K: Naming, R: Wait> Hand<T> for Held<'a, T, K, R> {
         let mut me = self.fronts.get(number);
         let answer = self
             .table
-            .signal(&mut self.by, &mut me, number, task, proposed, item);
+            .signal(&mut self.by, &mut me, number, task.get(), proposed, item);
         self.fronts.set(number, me);
         answer
     }
 
-    fn pass(&mut self, phaser: u32, task: u32, item: T) -> PassAnswer<T> {
+    fn pass(&mut self, phaser: PhaserNumber, task: TaskNumber, item: T) -> PassAnswer<T> {
         let number = match place(self.table, phaser, Refusal::NotRegistered) {
             Ok(number) => number,
             Err(refusal) => return PassAnswer::Refused(item, refusal),
@@ -219,25 +237,31 @@ impl<'a, T, K: Naming, R: Wait> Hand<T> for Held<'a, T, K, R> {
             return PassAnswer::Refused(item, refusal);
         }
         let mut me = self.fronts.get(number);
-        let answer = self.table.pass(&mut self.by, &mut me, number, task, item);
+        let answer = self
+            .table
+            .pass(&mut self.by, &mut me, number, task.get(), item);
         self.fronts.set(number, me);
         answer
     }
 
-    fn single_done(&mut self, phaser: u32, task: u32) -> Result<(), Refusal> {
+    fn single_done(&mut self, phaser: PhaserNumber, task: TaskNumber) -> Result<(), Refusal> {
         let number = place(self.table, phaser, Refusal::NotRegistered)?;
         pour(&mut self.ready, &mut self.by.out)?;
         let mut me = self.fronts.get(number);
-        let answer = self.table.single_done(&mut self.by, &mut me, number, task);
+        let answer = self
+            .table
+            .single_done(&mut self.by, &mut me, number, task.get());
         self.fronts.set(number, me);
         answer
     }
 
-    fn drop_task(&mut self, phaser: u32, task: u32) -> Result<(), Refusal> {
+    fn drop_task(&mut self, phaser: PhaserNumber, task: TaskNumber) -> Result<(), Refusal> {
         let number = place(self.table, phaser, Refusal::NotRegistered)?;
         pour(&mut self.ready, &mut self.by.out)?;
         let mut me = self.fronts.get(number);
-        let answer = self.table.drop_task(&mut self.by, &mut me, number, task);
+        let answer = self
+            .table
+            .drop_task(&mut self.by, &mut me, number, task.get());
         self.fronts.set(number, me);
         answer
     }

@@ -12,10 +12,11 @@ ghost use Rattle.long_receipts.specs.Told.{IsAnswered, IsNumbered, IsSignalAnswe
 ghost use Rattle.phaser_crew.specs.Hands.{BeginsWith};
 
 use long_locks::{PassAnswer, SignalAnswer};
-use long_phaser::{Phase, Task};
+use long_phaser::Phase;
 use phase_model::LongLook;
 use phase_modes::{Mode, Refusal};
 use std::sync::Wait;
+use task_numbers::{AccumulatorIndex, LongTaskNumber};
 
 /// What one worker has of a phaser that lives long. A `T` stands for a task that is parked:
 /// whatever the worker who goes on with it wants to have. Contracts see the worker's number, and
@@ -56,25 +57,34 @@ pub trait LongHand<T> {
         ensures seen { seen self.new ≡ seen self.old };
 
     /// Makes the phaser, and registers its maker under the number that is returned, which is 0.
-    fn make(&mut self, mode: Mode) -> Result<Task, Refusal>
+    fn make(&mut self, mode: Mode) -> Result<LongTaskNumber, Refusal>
         ensures same { shown self.new ≡ shown self.old }
         ensures told { IsNumbered result terms (λ n. make n mode) (seen self.old) (seen self.new) }
         ensures more { IsTail (seen self.old) (seen self.new) };
 
     /// The parent registers a child, under the number that is returned: the one after the last.
-    fn register(&mut self, parent: Task, mode: Mode) -> Result<Task, Refusal>
+    fn register(&mut self, parent: LongTaskNumber, mode: Mode) -> Result<LongTaskNumber, Refusal>
         ensures same { shown self.new ≡ shown self.old }
         ensures told { IsNumbered result terms (λ n. register parent n mode) (seen self.old) (seen self.new) }
         ensures more { IsTail (seen self.old) (seen self.new) };
 
     /// The task sends the value to the accumulator of this index.
-    fn send(&mut self, task: Task, accumulator: u8, value: i32) -> Result<(), Refusal>
+    fn send(
+        &mut self,
+        task: LongTaskNumber,
+        accumulator: AccumulatorIndex,
+        value: i32,
+    ) -> Result<(), Refusal>
         ensures same { shown self.new ≡ shown self.old }
         ensures told { IsAnswered (λ _ r. result ≡ done_result r) terms (send task accumulator value) (seen self.old) (seen self.new) }
         ensures more { IsTail (seen self.old) (seen self.new) };
 
     /// The task looks at the accumulator of this index.
-    fn look(&mut self, task: Task, accumulator: u8) -> Result<LongLook, Refusal>
+    fn look(
+        &mut self,
+        task: LongTaskNumber,
+        accumulator: AccumulatorIndex,
+    ) -> Result<LongLook, Refusal>
         ensures same { shown self.new ≡ shown self.old }
         ensures told { IsAnswered (λ _ r. result ≡ look_result r) terms (look task accumulator) (seen self.old) (seen self.new) }
         ensures looked { IfOk result (λ x. HasLooked terms.ops task accumulator (seen self.new) x) }
@@ -82,7 +92,7 @@ pub trait LongHand<T> {
 
     /// The task signals, with the number of a single where it proposes one. The item comes back, or
     /// is parked.
-    fn signal(&mut self, task: Task, proposed: Option<u32>, item: T) -> SignalAnswer<T>
+    fn signal(&mut self, task: LongTaskNumber, proposed: Option<u32>, item: T) -> SignalAnswer<T>
         ensures item { IsBackFromSignal item result }
         ensures freed { BeginsWith (shown self.old).freed (shown self.new).freed }
         ensures same { (shown self.new).worker ≡ (shown self.old).worker }
@@ -93,7 +103,7 @@ pub trait LongHand<T> {
 
     /// The task asks to end its turn. The item comes back, or is parked until a call of some worker
     /// wakes the task: then it is in that worker's hand.
-    fn pass(&mut self, task: Task, item: T) -> PassAnswer<T, Phase>
+    fn pass(&mut self, task: LongTaskNumber, item: T) -> PassAnswer<T, Phase>
         ensures item { IsBack item result }
         ensures freed { BeginsWith (shown self.old).freed (shown self.new).freed }
         ensures same { (shown self.new).worker ≡ (shown self.old).worker }
@@ -104,7 +114,7 @@ pub trait LongHand<T> {
         ensures more { IsTail (seen self.old) (seen self.new) };
 
     /// The task reports that the single which it claimed is done.
-    fn single_done(&mut self, task: Task) -> Result<(), Refusal>
+    fn single_done(&mut self, task: LongTaskNumber) -> Result<(), Refusal>
         ensures freed { BeginsWith (shown self.old).freed (shown self.new).freed }
         ensures same { (shown self.new).worker ≡ (shown self.old).worker }
         ensures refused { OnErr result ((shown self.new).freed ≡ (shown self.old).freed) }
@@ -113,7 +123,7 @@ pub trait LongHand<T> {
         ensures more { IsTail (seen self.old) (seen self.new) };
 
     /// The task leaves the phaser. Its number is never given out again.
-    fn leave(&mut self, task: Task) -> Result<(), Refusal>
+    fn leave(&mut self, task: LongTaskNumber) -> Result<(), Refusal>
         ensures freed { BeginsWith (shown self.old).freed (shown self.new).freed }
         ensures same { (shown self.new).worker ≡ (shown self.old).worker }
         ensures refused { OnErr result ((shown self.new).freed ≡ (shown self.old).freed) }

@@ -5,13 +5,14 @@ ghost use Rattle.std.specs.Prelude.{◌≡◌, IfErr};
 use crate::held::pour;
 use crate::long_hand::LongHand;
 use long_locks::{Out, PassAnswer, SignalAnswer};
-use long_phaser::{Phase, Task};
+use long_phaser::Phase;
 use long_receipts::{Front, Naming, ReceiptLock};
 use phase_model::LongLook;
 use phase_modes::{Mode, Refusal};
 use std::alloc::Global;
 use std::collections::VecDeque;
 use std::sync::Wait;
+use task_numbers::{AccumulatorIndex, LongTaskNumber};
 
 /// The hand of a worker at this phaser.
 #[derive(Drop)]
@@ -25,6 +26,13 @@ pub(crate) struct LongHeld<'a, T, J: Naming, R> {
     ready: VecDeque<T>,
     /// Those whom the last call woke.
     out: Out<T>,
+}
+
+/// The number that was given out, with its type.
+fn typed(number: Result<u64, Refusal>) -> Result<LongTaskNumber, Refusal>
+    ensures { result ≡ number }
+{
+    Ok(LongTaskNumber::of(number?))
 }
 
 impl<'a, T: Drop, J: Naming, R> LongHeld<'a, T, J, R> {
@@ -71,24 +79,42 @@ impl<'a, T, J: Naming, R: Wait> LongHand<T> for LongHeld<'a, T, J, R> {
         }
     }
 
-    fn make(&mut self, mode: Mode) -> Result<Task, Refusal> {
-        self.lock.make(self.rt, &mut self.front, mode)
+    fn make(&mut self, mode: Mode) -> Result<LongTaskNumber, Refusal> {
+        typed(self.lock.make(self.rt, &mut self.front, mode))
     }
 
-    fn register(&mut self, parent: Task, mode: Mode) -> Result<Task, Refusal> {
-        self.lock.register(self.rt, &mut self.front, parent, mode)
+    fn register(&mut self, parent: LongTaskNumber, mode: Mode) -> Result<LongTaskNumber, Refusal> {
+        typed(
+            self.lock
+                .register(self.rt, &mut self.front, parent.get(), mode),
+        )
     }
 
-    fn send(&mut self, task: Task, accumulator: u8, value: i32) -> Result<(), Refusal> {
+    fn send(
+        &mut self,
+        task: LongTaskNumber,
+        accumulator: AccumulatorIndex,
+        value: i32,
+    ) -> Result<(), Refusal> {
+        self.lock.send(
+            self.rt,
+            &mut self.front,
+            task.get(),
+            accumulator.get(),
+            value,
+        )
+    }
+
+    fn look(
+        &mut self,
+        task: LongTaskNumber,
+        accumulator: AccumulatorIndex,
+    ) -> Result<LongLook, Refusal> {
         self.lock
-            .send(self.rt, &mut self.front, task, accumulator, value)
+            .look(self.rt, &mut self.front, task.get(), accumulator.get())
     }
 
-    fn look(&mut self, task: Task, accumulator: u8) -> Result<LongLook, Refusal> {
-        self.lock.look(self.rt, &mut self.front, task, accumulator)
-    }
-
-    fn signal(&mut self, task: Task, proposed: Option<u32>, item: T) -> SignalAnswer<T> {
+    fn signal(&mut self, task: LongTaskNumber, proposed: Option<u32>, item: T) -> SignalAnswer<T> {
         if let Err(refusal) = pour(&mut self.ready, &mut self.out) {
             return SignalAnswer::Refused(item, refusal);
         }
@@ -96,29 +122,29 @@ impl<'a, T, J: Naming, R: Wait> LongHand<T> for LongHeld<'a, T, J, R> {
             self.rt,
             &mut self.front,
             &mut self.out,
-            task,
+            task.get(),
             proposed,
             item,
         )
     }
 
-    fn pass(&mut self, task: Task, item: T) -> PassAnswer<T, Phase> {
+    fn pass(&mut self, task: LongTaskNumber, item: T) -> PassAnswer<T, Phase> {
         if let Err(refusal) = pour(&mut self.ready, &mut self.out) {
             return PassAnswer::Refused(item, refusal);
         }
         self.lock
-            .pass(self.rt, &mut self.front, &mut self.out, task, item)
+            .pass(self.rt, &mut self.front, &mut self.out, task.get(), item)
     }
 
-    fn single_done(&mut self, task: Task) -> Result<(), Refusal> {
+    fn single_done(&mut self, task: LongTaskNumber) -> Result<(), Refusal> {
         pour(&mut self.ready, &mut self.out)?;
         self.lock
-            .single_done(self.rt, &mut self.front, &mut self.out, task)
+            .single_done(self.rt, &mut self.front, &mut self.out, task.get())
     }
 
-    fn leave(&mut self, task: Task) -> Result<(), Refusal> {
+    fn leave(&mut self, task: LongTaskNumber) -> Result<(), Refusal> {
         pour(&mut self.ready, &mut self.out)?;
         self.lock
-            .leave(self.rt, &mut self.front, &mut self.out, task)
+            .leave(self.rt, &mut self.front, &mut self.out, task.get())
     }
 }

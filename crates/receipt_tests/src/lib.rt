@@ -1,7 +1,9 @@
-//! Tests of `long_receipts` and of `table_receipts`, which call what these export.
+//! Tests of `long_receipts`, `table_receipts` and `task_numbers`, which call what these export.
 #![tactic(auto)]
 
 #[cfg(test)]
 mod calls;
+#[cfg(test)]
+mod numbers;
 #[cfg(test)]
 mod tables;

@@ -9,3 +9,6 @@ returns-in-Parked g c = record { more = goes_far (g.H.Hand.seen c.args.hand.now 
 
 pub returns-in-Refused : goal.returns-in-Refused
 returns-in-Refused g c = record { more = goes_far (g.H.Hand.seen c.args.hand.now 0) (g.H.Hand.seen c.send.new.self 0) (g.H.Hand.seen c.signal.new.self 0) (c.send.ensures.more.0 0) (c.signal.ensures.more.0 0) }
+
+pub returns-in_err-send : goal.returns-in_err-send
+returns-in_err-send g c = record { more = c.send.ensures.more.0 0 }
