@@ -14,7 +14,7 @@ use crate::bodies::Bodies;
 use crate::going::Goes;
 use job_script::{Act, Answer};
 use phase_modes::Refusal;
-use schedule_run::{act_of, is_given};
+use schedule_run::{act_of, is_act, is_given};
 use std::alloc::Global;
 use trace_model::{Trace, TracedEvent, TracedStep};
 use world_model::Begun;
@@ -91,6 +91,9 @@ fn takes<B: Goes>(
         → IfOk result (λ b. IsTaken B.next root w (event_of event.now) (seat_of bodies.new.seats) b) }
     ensures memory { IfErr result (λ e. e ≡ NoMemory) }
 {
+    if !is_act(event) {
+        return Ok(true);
+    }
     let Some(made) = act_of(&event.event()) else {
         return Ok(true);
     };

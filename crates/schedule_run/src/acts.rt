@@ -1,8 +1,9 @@
 //! Acts as the world knows them: the one that a body gives, and the one that an event makes or
 //! refuses, with the numbers that it draws.
-ghost use Rattle.std.specs.Prelude.{◌≡◌, option_map};
+ghost use Rattle.std.specs.Prelude.{◌≡◌, is_some, option_map};
 ghost use Rattle.schedule_model.specs.Follows.{drawn};
-ghost use Rattle.schedule_model.specs.Picks.{event_of};
+ghost use Rattle.schedule_model.specs.Picks.{event_of as event_made};
+ghost use Rattle.trace_model.specs.Explained.{event_of};
 ghost use Rattle.schedule_model.specs.Scripts.{act_of};
 ghost use Rattle.schedule_run.specs.Given.{made_view, numbers_view, tried_of};
 
@@ -10,6 +11,7 @@ use finish_core::FinishEvent;
 use job_script::Act;
 use phase_model::Terms;
 use phase_modes::Phased;
+use trace_model::{TracedEvent, TracedStep};
 use world_model::{Begun, Step, Tried, WorldEvent};
 
 /// An act that a task made or was refused.
@@ -55,7 +57,7 @@ pub(crate) fn tried_of<B: Drop>(own: Phased, new: Numbers, act: &Act<B>) -> Trie
 
 /// The event by which a task makes an act.
 pub(crate) fn event_of(task: u32, act: Tried) -> WorldEvent
-    ensures { result ≡ event_of task act }
+    ensures { result ≡ event_made task act }
 {
     match act {
         Tried::New(phaser, mode, terms) => {
@@ -104,6 +106,22 @@ pub fn act_of(event: &WorldEvent) -> Option<MadeAct>
         }),
         _ => None,
     }
+}
+
+/// Whether an event of a trace is an act, made or refused. So nobody takes apart the others, which
+/// are most of a trace.
+pub fn is_act(event: &TracedEvent) -> bool
+    ensures { result ≡ is_some (act_of (event_of event.now)) }
+{
+    matches!(
+        event,
+        TracedEvent::Phaser(
+            _,
+            TracedStep::Make(_, _, _) | TracedStep::Send(_, _, _) | TracedStep::Look(_, _, _)
+        ) | TracedEvent::Finish(_, FinishEvent::Opened(_))
+            | TracedEvent::Begin(_, _)
+            | TracedEvent::Refuse(_, _, _)
+    )
 }
 
 /// The numbers that an act has drawn; those that it gives to nothing are 0.

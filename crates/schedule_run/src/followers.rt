@@ -13,12 +13,13 @@ ghost use Rattle.world_model.specs.declared.event.WorldEvent.TheVariants.{Phaser
 ghost use Rattle.world_model.specs.declared.event.WorldEvent as events;
 ghost use Rattle.schedule_model.specs.Scripts.{act_of, body_of, is_of, meanings, next_act};
 ghost use Rattle.schedule_model.specs.Follows.{drawn, follows, is_next, same_act};
+ghost use Rattle.trace_model.specs.Explained.{event_of};
 ghost use Rattle.schedule_run.specs.Following.{first_not_next, history, AnswersPlace};
 ghost use Rattle.schedule_run.specs.Given.{tried_of};
 ghost use Rattle.schedule_run.specs.inner.Bodies.{IsAskedOf, SeatsStand};
 ghost use Rattle.schedule_run.specs.inner.Followers.{seat_of, IsTaken};
 
-use crate::acts::{MadeAct, act_of, drawn, tried_of};
+use crate::acts::{MadeAct, act_of, drawn, is_act, tried_of};
 use crate::bodies::Seat;
 use crate::phasers_held::are_own_pairs;
 use crate::same_act::is_same_act;
@@ -26,7 +27,7 @@ use job_script::{Act, Answer, Program, ScriptBody};
 use phase_modes::{Phased, Refusal};
 use std::alloc::Global;
 use std::collections::BTreeMap;
-use trace_model::Trace;
+use trace_model::{Trace, TracedEvent};
 use world_model::{Begun, Step, Tried, WorldEvent};
 
 /// Whether a task's act is the one that its body gives after so many events of a trace, the numbers
@@ -163,6 +164,26 @@ impl<'p> Followers<'p> {
         self.settle(made.task, event, act)?;
         Ok(true)
     }
+
+    /// The same, of an event as the trace has it: most are no acts, and are gone past at once.
+    fn goes_past(
+        &mut self,
+        trace: &Trace,
+        count: usize,
+        event: &TracedEvent,
+    ) -> Result<bool, Refusal>
+        requires { count ≤ length trace.now.events }
+        ensures taken { (p : programs.Program)
+            → SeatsStand p (history (take count trace.now.events)) (seat_of self.old.seats)
+            → IfOk result (λ b. IsTaken p
+            (history (take count trace.now.events)) (event_of event.now) (seat_of self.new.seats) b) }
+        ensures memory { IfErr result (λ e. e ≡ NoMemory) }
+    {
+        if !is_act(event) {
+            return Ok(true);
+        }
+        self.takes(trace, count, &event.event())
+    }
 }
 
 /// Whether each act of a trace, made or refused, is its task's next one by the program: `Ok`, or
@@ -179,7 +200,7 @@ pub fn follows(alloc: Global, program: &Program, trace: &Trace) -> Result<(), Re
     let mut followers = Followers::new(alloc, program)?;
     for i in 0..trace.len() {
         let (_, event) = trace.entry(i);
-        if !followers.takes(trace, i, &event.event())? {
+        if !followers.goes_past(trace, i, &event)? {
             return Err(Refusal::NotExplained(i as u64 + 1));
         }
     }

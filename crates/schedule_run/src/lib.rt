@@ -11,6 +11,6 @@ mod run;
 mod runner;
 mod same_act;
 
-pub use acts::{MadeAct, act_of};
+pub use acts::{MadeAct, act_of, is_act};
 pub use followers::{follows, is_given};
 pub use run::{Run, run_picks};

@@ -1,5 +1,6 @@
-use Rattle.std.proofs.Common.{◌≡◌, true, List, Option, Some, None, take, sym, ap, subst, ◌∙◌}
-use Rattle.std.specs.Prelude.{option_map}
+use Rattle.std.proofs.Common.{◌≡◌, true, false, List, Option, Some, None, take, refl, sym, ap, subst, ◌∙◌}
+use Rattle.std.specs.Prelude.{is_some, option_map}
+use Rattle.std.proofs.lemmas.Bool.{true≢false}
 use Rattle.world_model.specs.Drawing.{own_pairs}
 use Rattle.world_model.specs.declared.event.WorldEvent.{WorldEvent}
 use Rattle.schedule_model.specs.Follows.{drawn, same_act}
@@ -13,6 +14,21 @@ use Rattle.schedule_run.proofs.Standing.{eq_self}
 use Rattle.body_follows.proofs.Gone.{act_given, gone, none_is_some, still}
 use Rattle.body_follows.proofs.Spawns.{names_nobody, no_act}
 use Rattle.body_follows.proofs.following.takes.Goals as goal
+
+none_of : {X : Type 0} (o : Option X) → is_some o ≡ false → o ≡ None
+none_of None none = refl
+none_of (Some x) none = absurd (true≢false none)
+
+pub returns-then-not-is_act-clause-taken : goal.returns-then-not-is_act-clause-taken
+returns-then-not-is_act-clause-taken g c = λ root go named told.
+    let e = c.args.event.now in
+    let w : List WorldEvent = history (take c.args.count c.args.trace.now.events) in
+    let none : act_of (event_of e) ≡ None =
+    none_of (act_of (event_of e)) (sym c.is_act.ensures ∙ c.if-not-is_act.true) in
+    let nobody = names_nobody e (no_act e none) in (
+      ap (λ (o : Option Made). is_next g.B.Goes.next root w o) none,
+      still g.B.Goes.next root w (event_of e) (seat_of c.args.bodies.now.seats) go none nobody.parent nobody.names,
+    )
 
 pub returns-in_default-clause-taken : goal.returns-in_default-clause-taken
 returns-in_default-clause-taken g c = λ root go named told.

@@ -17,13 +17,13 @@ returns-then-not-branch-clause-place c =
     let d : Entry = c.entry-event.result in
     let at : slice_get xs i ≡ Some d = search rules in
     let less : i < length xs = omega (arith, c.loop-i-test.true, c.len-i-end.ensures.length) in
-    let is : c.event.result ≡ event_of (get_or xs i d).1 =
-    c.event.ensures ∙ ap (λ (x : Entry). event_of x.1) (entry_at xs i d at) in
-    let taken : IsTaken p (history (take i xs)) c.event.result (seat_of c.takes.new.self.seats) false =
-    subst (λ (b : Bool). IsTaken p (history (take i xs)) c.event.result (seat_of c.takes.new.self.seats)
+    let is : event_of d.1 ≡ event_of (get_or xs i d).1 =
+    ap (λ (x : Entry). event_of x.1) (entry_at xs i d at) in
+    let taken : IsTaken p (history (take i xs)) (event_of d.1) (seat_of c.goes_past.new.self.seats) false =
+    subst (λ (b : Bool). IsTaken p (history (take i xs)) (event_of d.1) (seat_of c.goes_past.new.self.seats)
     b) c.if-not-branch.true
-    (c.in_ok-takes.ensures.taken p c.loop-i.invariant.stand) in
-    sym c.loop-i.invariant.so_far ∙ ends_here p xs i d c.event.result less is taken
+    (c.in_ok-goes_past.ensures.taken p c.loop-i.invariant.stand) in
+    sym c.loop-i.invariant.so_far ∙ ends_here p xs i d (event_of d.1) less is taken
 
 pub returns-then-not-branch-clause-leaves : goal.returns-then-not-branch-clause-leaves
 returns-then-not-branch-clause-leaves c = λ k e.
@@ -38,17 +38,17 @@ loop-i-preserved c =
     let d : Entry = c.entry-event.result in
     let at : slice_get xs i ≡ Some d = search rules in
     let less : i < length xs = omega (arith, c.loop-i-test.true, c.len-i-end.ensures.length) in
-    let is : c.event.result ≡ event_of (get_or xs i d).1 =
-    c.event.ensures ∙ ap (λ (x : Entry). event_of x.1) (entry_at xs i d at) in
-    let taken : IsTaken p (history (take i xs)) c.event.result (seat_of c.takes.new.self.seats) true =
-    subst (λ (b : Bool). IsTaken p (history (take i xs)) c.event.result (seat_of c.takes.new.self.seats)
+    let is : event_of d.1 ≡ event_of (get_or xs i d).1 =
+    ap (λ (x : Entry). event_of x.1) (entry_at xs i d at) in
+    let taken : IsTaken p (history (take i xs)) (event_of d.1) (seat_of c.goes_past.new.self.seats) true =
+    subst (λ (b : Bool). IsTaken p (history (take i xs)) (event_of d.1) (seat_of c.goes_past.new.self.seats)
     b) c.if-not-branch.false
-    (c.in_ok-takes.ensures.taken p c.loop-i.invariant.stand) in
+    (c.in_ok-goes_past.ensures.taken p c.loop-i.invariant.stand) in
     record {
-      stand = subst (λ (v : List WorldEvent). SeatsStand p v (seat_of c.takes.new.self.seats))
+      stand = subst (λ (v : List WorldEvent). SeatsStand p v (seat_of c.goes_past.new.self.seats))
           (ap (λ (e : WorldEvent). e ∷ history (take i xs)) is
           ∙ sym (history_more xs i d less)) taken.1;
-      so_far = sym (goes_on p xs i d c.event.result less is taken.0)
+      so_far = sym (goes_on p xs i d (event_of d.1) less is taken.0)
           ∙ c.loop-i.invariant.so_far;
     }
 
