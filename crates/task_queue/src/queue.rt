@@ -1,14 +1,18 @@
 //! The queue of all workers.
 //!
-//! No wake-up is lost. `put` pushes, counts under the lock, and wakes one sleeper if the lock
-//! counts any. Whoever puts several pushes them all, counts them at once, and wakes as many, or as
-//! many as there are. A seeker reads the count, searches, and sleeps only if the count is unchanged under
-//! the lock, under which it is counted as a sleeper. So its search finds what was counted before it
-//! read, unless another took that; what is counted later keeps it awake, or finds it counted. So
-//! does the flag. One for one is enough: who is woken searches again, and if it takes another item
-//! than the one that woke it, the count of that other wakes one too. A sleeper that read the count
-//! only after a `put`, and is woken by it in place of an earlier one, sleeps again: its search had
-//! found the item taken.
+//! No wake-up is lost. A worker that finds its own deque empty, and all others, says that it watches,
+//! by a word to which it adds 1, before it searches once more. `put` pushes, and asks that word
+//! afterwards, by adding 0. All that is added to the word has one order. So either the put sees that
+//! somebody watches, or whoever begins to watch later finds the item, unless another took it; and
+//! where nobody watches no put asks for the lock. Where somebody does, it counts under the lock, and
+//! wakes one sleeper if the lock counts any. Whoever puts several pushes them all, counts them at
+//! once, and wakes as many, or as many as there are. A watcher reads the count, searches, and sleeps
+//! only if the count is unchanged under the lock, under which it is counted as a sleeper. So its
+//! search finds what was counted before it read, unless another took that; what is counted later
+//! keeps it awake, or finds it counted. So does the flag. One for one is enough: who is woken
+//! searches again, and if it takes another item than the one that woke it, the count of that other
+//! wakes one too. A sleeper that read the count only after a `put`, and is woken by it in place of an
+//! earlier one, sleeps again: its search had found the item taken.
 ghost use Rattle.std.specs.Prelude.{◌≡◌, ◌<◌, ◌≤◌, IfOk, IfErr, MatchResult, MatchOption, vec_len, ◌⊎◌, ◌≢◌};
 ghost use Rattle.task_queue.specs.Accounts.{HasPut, IsSame, HasTaken, AreFresh, AreTogether, IsConserved};
 
@@ -18,6 +22,7 @@ use crate::seat::Seat;
 use phase_modes::Refusal;
 use std::alloc::Global;
 use std::marker::PhantomData;
+use std::sync::atomic::{AtomicU64, Ordering};
 use std::sync::{Condvar, Mutex, Wait};
 
 // What was seen of the queue at one moment: the number of puts, which begins again at 0 after its
@@ -34,6 +39,8 @@ struct Seen {
 pub struct RunQueue<T> {
     alloc: Global,
     workers: usize,
+    // How many workers watch for an item: they have found none, and search again, or sleep.
+    watchers: AtomicU64,
     seen: Mutex<Seen>,
     moved: Condvar,
     // Its items go from thread to thread, and none is read by two at once.
@@ -59,6 +66,7 @@ impl<T: Drop> RunQueue<T> {
         let queue = RunQueue {
             alloc,
             workers: workers as usize,
+            watchers: AtomicU64::new(0),
             seen: Mutex::new(Seen {
                 puts: 0,
                 sleepers: 0,
@@ -113,7 +121,7 @@ impl<T> RunQueue<T> {
 
     /// Wakes one for each of so many items that were put quietly, as far as there are any who wait.
     pub fn wake<R: Wait>(&self, rt: &R, puts: u64) {
-        if puts == 0 {
+        if puts == 0 || self.watched_by() == 0 {
             return;
         }
         let sleepers = self.count(rt, puts);
@@ -134,7 +142,13 @@ impl<T> RunQueue<T> {
         if let Some(item) = seat.pop() {
             return Some(item);
         }
-        self.seek(rt, seat)
+        if let Some(item) = seat.steal(rt) {
+            return Some(item);
+        }
+        self.watchers.fetch_add(1, Ordering::SeqCst);
+        let found = self.watch(rt, seat);
+        self.watchers.fetch_sub(1, Ordering::SeqCst);
+        found
     }
 
     /// Closes the queue: whoever waits or comes to take gets what is left, and then None.
@@ -143,8 +157,14 @@ impl<T> RunQueue<T> {
         self.moved.notify_all();
     }
 
-    // Takes from another worker's deque, for a worker whose own is empty; waits where there is none.
-    fn seek<R: Wait>(&self, rt: &R, seat: &mut Seat<T>) -> Option<T>
+    // How many workers watch, as seen after all that this worker has put.
+    fn watched_by(&self) -> u64 {
+        self.watchers.fetch_add(0, Ordering::SeqCst)
+    }
+
+    // Takes from another worker's deque, for a worker whose own is empty and who is counted as a
+    // watcher; waits where there is none.
+    fn watch<R: Wait>(&self, rt: &R, seat: &mut Seat<T>) -> Option<T>
         ensures { MatchOption result (IsSame seat.old seat.new)
             (λ x. HasTaken seat.old x seat.new) }
     {

@@ -207,93 +207,67 @@ fn sleep_or_close<R: Wait>(
 
 #[test]
 fn each_put_wakes_one(rt: HostRuntime) -> Result<(), Refusal> {
-    let (queue, seats) = RunQueue::new(rt.alloc(), 4, 4)?;
-    let turns = AtomicU64::new(0);
-    let taken = AtomicU64::new(0);
-    let queue_in = &queue;
-    let done = thread::map_vec(
-        &rt,
-        seats,
-        &|seat| give_or_take(&rt, queue_in, &turns, &taken, seat),
-    )?;
-    assert!(rt; done.iter().all(|&none| none));
-    assert!(rt; taken.load(Ordering::SeqCst) == 200);
+    assert!(rt; rows_are_taken(&rt, rt.alloc(), 200, 1)?);
     Ok(())
-}
-
-// The first to come gives 200 items to the others, one after another. Whether nothing is left then.
-fn give_or_take<R: Wait>(
-    rt: &R,
-    queue: &RunQueue<u32>,
-    turns: &AtomicU64,
-    taken: &AtomicU64,
-    mut seat: Seat<u32>,
-) -> bool {
-    if turns.fetch_add(1, Ordering::SeqCst) == 0 {
-        give(rt, queue, taken, &mut seat);
-    } else {
-        take_all(rt, queue, taken, &mut seat);
-    }
-    queue.take(rt, &mut seat).is_none()
-}
-
-// Puts each item only once the one before was taken, so that mostly the others sleep, and closes the
-// queue. It takes none itself: an item whose put wakes nobody would never be taken.
-fn give<R: Wait>(rt: &R, queue: &RunQueue<u32>, taken: &AtomicU64, seat: &mut Seat<u32>) {
-    for item in 0..200u32 {
-        if queue.put(rt, seat, item).is_err() {
-            break;
-        }
-        wait_for(rt, taken, item as u64 + 1);
-    }
-    queue.close(rt);
 }
 
 #[test]
 fn a_row_of_puts_wakes_as_many(rt: HostRuntime) -> Result<(), Refusal> {
-    let (queue, seats) = RunQueue::new(rt.alloc(), 4, 4)?;
+    assert!(rt; rows_are_taken(&rt, rt.alloc(), 50, 4)?);
+    Ok(())
+}
+
+// Whether each of 200 items, given in so many rows of so many by one of four workers, is taken by
+// another.
+fn rows_are_taken<R: Threads + Wait + Sync>(
+    rt: &R,
+    alloc: Global,
+    rows: u32,
+    row: u32,
+) -> Result<bool, Refusal> {
+    let (queue, seats) = RunQueue::new(alloc, 4, 4)?;
     let turns = AtomicU64::new(0);
     let taken = AtomicU64::new(0);
     let queue_in = &queue;
     let done = thread::map_vec(
-        &rt,
+        rt,
         seats,
-        &|seat| give_rows_or_take(&rt, queue_in, &turns, &taken, seat),
+        &|seat| {
+            if turns.fetch_add(1, Ordering::SeqCst) == 0 {
+                give(rt, queue_in, &taken, (rows, row), seat)
+            } else {
+                take_all(rt, queue_in, &taken, seat)
+            }
+        },
     )?;
-    assert!(rt; done.iter().all(|&none| none));
-    assert!(rt; taken.load(Ordering::SeqCst) == 200);
-    Ok(())
+    Ok(done.iter().all(|&none| none) && taken.load(Ordering::SeqCst) == 200)
 }
 
-// The first to come gives 50 rows of four items to the three others. Whether nothing is left then.
-fn give_rows_or_take<R: Wait>(
+// Gives so many rows of so many items to the others, each row only once the one before was taken, so
+// that mostly the others sleep, and closes the queue. It takes none itself: an item whose put wakes
+// nobody would never be taken. Whether nothing is left then.
+fn give<R: Wait>(
     rt: &R,
     queue: &RunQueue<u32>,
-    turns: &AtomicU64,
     taken: &AtomicU64,
+    rows: (u32, u32),
     mut seat: Seat<u32>,
 ) -> bool {
-    if turns.fetch_add(1, Ordering::SeqCst) == 0 {
-        give_rows(rt, queue, taken, &mut seat);
-    } else {
-        take_all(rt, queue, taken, &mut seat);
+    let (rows, row) = rows;
+    let mut given = 0u64;
+    for _ in 0..rows {
+        put_row(rt, queue, row, &mut seat);
+        given = given.saturating_add(u64::from(row));
+        wait_for(rt, taken, given);
     }
+    queue.close(rt);
     queue.take(rt, &mut seat).is_none()
 }
 
-// Puts each row only once the one before was taken, and closes the queue.
-fn give_rows<R: Wait>(rt: &R, queue: &RunQueue<u32>, taken: &AtomicU64, seat: &mut Seat<u32>) {
-    for row in 0..50u64 {
-        put_row(rt, queue, seat);
-        wait_for(rt, taken, row.saturating_add(1).saturating_mul(4));
-    }
-    queue.close(rt);
-}
-
-// Puts four items, and wakes workers for all of them at once.
-fn put_row<R: Wait>(rt: &R, queue: &RunQueue<u32>, seat: &mut Seat<u32>) {
+// Puts so many items, and wakes workers for all of them at once.
+fn put_row<R: Wait>(rt: &R, queue: &RunQueue<u32>, row: u32, seat: &mut Seat<u32>) {
     let mut puts = 0u64;
-    for item in 0..4u32 {
+    for item in 0..row {
         if queue.put_quietly(seat, item).is_ok() {
             puts = puts.saturating_add(1);
         }
@@ -310,13 +284,20 @@ fn wait_for<R: Wait>(rt: &R, taken: &AtomicU64, wanted: u64) {
     }
 }
 
-fn take_all<R: Wait>(rt: &R, queue: &RunQueue<u32>, taken: &AtomicU64, seat: &mut Seat<u32>) {
+// Takes until the queue is closed. Whether nothing is left then.
+fn take_all<R: Wait>(
+    rt: &R,
+    queue: &RunQueue<u32>,
+    taken: &AtomicU64,
+    mut seat: Seat<u32>,
+) -> bool {
     for _ in rt.forever() {
-        if queue.take(rt, seat).is_none() {
-            return;
+        if queue.take(rt, &mut seat).is_none() {
+            break;
         }
         taken.fetch_add(1, Ordering::SeqCst);
     }
+    queue.take(rt, &mut seat).is_none()
 }
 
 #[test]
