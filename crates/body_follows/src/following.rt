@@ -94,8 +94,8 @@ fn takes<B: Goes>(
     if !is_act(event) {
         return Ok(true);
     }
-    let Some(made) = act_of(&event.event()) else {
-        return Ok(true);
+    let Some(made) = act_of(event) else {
+        unreachable!()
     };
     let Some(act) = bodies.next_act(made.task, answer_to(event)) else {
         return Ok(false);
@@ -118,8 +118,7 @@ pub fn goes_by<B: Goes>(alloc: Global, root: B, trace: &Trace) -> Result<(), Ref
 {
     let mut bodies = Bodies::new(alloc, root)?;
     for i in 0..trace.len() {
-        let (_, event) = trace.entry(i);
-        if !takes(&mut bodies, trace, i, &event)? {
+        if !takes(&mut bodies, trace, i, &trace.event(i))? {
             return Err(Refusal::NotExplained(i as u64 + 1));
         }
     }

@@ -1,13 +1,13 @@
 //! Programs stepped through task by task, and acts as the world knows them.
 use finish_core::FinishEvent;
 use job_script::{Act, Answer, Program, ScriptBody, read_program};
-use phase_model::{Ops, Terms};
+use phase_model::{Look, Ops, Terms};
 use phase_modes::{Limits, Mode, Pair, Phased};
-use schedule_run::{MadeAct, act_of, is_given};
+use schedule_run::{MadeAct, act_of, is_act, is_given};
 use std::alloc::Global;
 use std::test::Fail;
 use trace_model::{Trace, TracedEvent, TracedStep};
-use world_model::{Begun, Step, Tried, WorldEvent};
+use world_model::{Begun, Tried};
 
 mod runs;
 mod traces;
@@ -49,11 +49,11 @@ fn one_making(alloc: Global) -> Result<Trace, Fail> {
 
 /// Whether the event makes an act of the root and a refusal of it names the same, and the body's
 /// act after this trace is that one, the numbers that it drew among it, and no wait.
-fn is_tried_so(trace: &Trace, event: &WorldEvent, act: &Act<ScriptBody<'_>>) -> bool {
+fn is_tried_so(trace: &Trace, event: &TracedEvent, act: &Act<ScriptBody<'_>>) -> bool {
     let Some(made) = act_of(event) else {
         return false;
     };
-    let refused = WorldEvent::Refuse(0, made.act, 1);
+    let refused = TracedEvent::Refuse(0, made.act, 1);
     let other = MadeAct {
         task: 0,
         act: Tried::Begun(Begun::Wait),
@@ -71,13 +71,13 @@ fn acts_are_tried(rt: HostRuntime) -> Result<(), Fail> {
         r#"{"main":[["new","p","SIG",[]],["open"],["send","p",1,-2],["look","p",1],["next"],["async_all",[]]]}"#,
     )?;
     let events = [
-        WorldEvent::Phaser(3, Step::Make(0, Mode::Sig, unbounded())),
-        WorldEvent::Finish(5, FinishEvent::Opened(0)),
-        WorldEvent::Phaser(7, Step::Send(0, 1, -2)),
-        WorldEvent::Phaser(7, Step::Look(0, 1)),
-        WorldEvent::Begin(0, Begun::Next),
-        WorldEvent::Begin(0, Begun::Async(4, one_phaser())),
-        WorldEvent::Begin(0, Begun::End),
+        TracedEvent::Phaser(3, TracedStep::Make(0, Mode::Sig, unbounded())),
+        TracedEvent::Finish(5, FinishEvent::Opened(0)),
+        TracedEvent::Phaser(7, TracedStep::Send(0, 1, -2)),
+        TracedEvent::Phaser(7, TracedStep::Look(0, 1, Look::Nothing)),
+        TracedEvent::Begin(0, Begun::Next),
+        TracedEvent::Begin(0, Begun::Async(4, one_phaser())),
+        TracedEvent::Begin(0, Begun::End),
     ];
     let trace = one_making(rt.alloc())?;
     let mut root = program.root();
@@ -96,11 +96,12 @@ fn acts_are_tried(rt: HostRuntime) -> Result<(), Fail> {
 #[test]
 fn events_that_are_no_acts(rt: HostRuntime) -> Result<(), Fail> {
     let events = [
-        WorldEvent::Phaser(0, Step::Pass(1)),
-        WorldEvent::Finish(0, FinishEvent::Spawned(1)),
-        WorldEvent::Fail(1, 15),
+        TracedEvent::Phaser(0, TracedStep::Pass(1)),
+        TracedEvent::Finish(0, FinishEvent::Spawned(1)),
+        TracedEvent::Fail(1, 15),
     ];
     for event in events {
+        assert!(rt; !is_act(&event));
         assert_eq!(rt; act_of(&event), None);
     }
     Ok(())

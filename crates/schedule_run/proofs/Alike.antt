@@ -1,5 +1,5 @@
 -- Lists of different lengths are not the same.
-use Rattle.std.proofs.Common.{suc, ◌≡◌, Bool, false, ◌&&◌, List, [], ◌∷◌, length, refl, sym, ap}
+use Rattle.std.proofs.Common.{suc, ◌≡◌, false, List, [], ◌∷◌, length, refl, sym, ap}
 use Rattle.std.proofs.lemmas.Bool.{and_right}
 use Rattle.phase_modes.specs.declared.phased.Pair.{Pair}
 use Rattle.phase_model.specs.declared.op.Op.{Op}

@@ -76,31 +76,31 @@ pub(crate) fn event_of(task: u32, act: Tried) -> WorldEvent
 
 /// The act of which the event is the first, or which it refuses; none for what continues an act,
 /// and for a failure.
-pub fn act_of(event: &WorldEvent) -> Option<MadeAct>
-    ensures { option_map made_view result ≡ act_of event.now }
+pub fn act_of(event: &TracedEvent) -> Option<MadeAct>
+    ensures { option_map made_view result ≡ act_of (event_of event.now) }
 {
     match event {
-        WorldEvent::Phaser(n, Step::Make(t, mode, terms)) => Some(MadeAct {
+        TracedEvent::Phaser(n, TracedStep::Make(t, mode, terms)) => Some(MadeAct {
             task: *t,
             act: Tried::New(*n, *mode, *terms),
         }),
-        WorldEvent::Phaser(n, Step::Send(t, accumulator, value)) => Some(MadeAct {
+        TracedEvent::Phaser(n, TracedStep::Send(t, accumulator, value)) => Some(MadeAct {
             task: *t,
             act: Tried::Send(*n, *accumulator, *value),
         }),
-        WorldEvent::Phaser(n, Step::Look(t, accumulator)) => Some(MadeAct {
+        TracedEvent::Phaser(n, TracedStep::Look(t, accumulator, _)) => Some(MadeAct {
             task: *t,
             act: Tried::Look(*n, *accumulator),
         }),
-        WorldEvent::Finish(f, FinishEvent::Opened(t)) => Some(MadeAct {
+        TracedEvent::Finish(f, FinishEvent::Opened(t)) => Some(MadeAct {
             task: *t,
             act: Tried::Open(*f),
         }),
-        WorldEvent::Begin(t, begun) => Some(MadeAct {
+        TracedEvent::Begin(t, begun) => Some(MadeAct {
             task: *t,
             act: Tried::Begun(*begun),
         }),
-        WorldEvent::Refuse(t, tried, _) => Some(MadeAct {
+        TracedEvent::Refuse(t, tried, _) => Some(MadeAct {
             task: *t,
             act: *tried,
         }),
@@ -108,8 +108,8 @@ pub fn act_of(event: &WorldEvent) -> Option<MadeAct>
     }
 }
 
-/// Whether an event of a trace is an act, made or refused. So nobody takes apart the others, which
-/// are most of a trace.
+/// Whether an event of a trace is an act, made or refused. It is asked first by what walks a trace:
+/// it takes no event apart, and of the events of a `next` two in three are no acts.
 pub fn is_act(event: &TracedEvent) -> bool
     ensures { result ≡ is_some (act_of (event_of event.now)) }
 {

@@ -13,7 +13,7 @@ ghost use Rattle.world_model.specs.declared.event.WorldEvent.TheVariants.{Phaser
 ghost use Rattle.world_model.specs.declared.event.WorldEvent as events;
 ghost use Rattle.schedule_model.specs.Scripts.{act_of, body_of, is_of, meanings, next_act};
 ghost use Rattle.schedule_model.specs.Follows.{drawn, follows, is_next, same_act};
-ghost use Rattle.trace_model.specs.Explained.{event_of};
+ghost use Rattle.trace_model.specs.Explained.{event_of, step_of};
 ghost use Rattle.schedule_run.specs.Following.{first_not_next, history, AnswersPlace};
 ghost use Rattle.schedule_run.specs.Given.{tried_of};
 ghost use Rattle.schedule_run.specs.inner.Bodies.{IsAskedOf, SeatsStand};
@@ -27,8 +27,8 @@ use job_script::{Act, Answer, Program, ScriptBody};
 use phase_modes::{Phased, Refusal};
 use std::alloc::Global;
 use std::collections::BTreeMap;
-use trace_model::{Trace, TracedEvent};
-use world_model::{Begun, Step, Tried, WorldEvent};
+use trace_model::{Trace, TracedEvent, TracedStep};
+use world_model::{Begun, Tried};
 
 /// Whether a task's act is the one that its body gives after so many events of a trace, the numbers
 /// that it drew being any. Of a spawn on all phasers it goes over the events before it, once for each
@@ -104,13 +104,13 @@ impl<'p> Followers<'p> {
     }
 
     /// Reports to a task what came of the act that it was given, by a step that makes it.
-    fn settle_step(&mut self, task: u32, phaser: u32, step: Step)
+    fn settle_step(&mut self, task: u32, phaser: u32, step: &TracedStep)
         ensures { (p : programs.Program) (w : List events.WorldEvent)
             → IsAskedOf p w task (seat_of self.old.seats)
-            → is_of task (act_of (Phaser phaser step)) ≡ true
-            → SeatsStand p (Phaser phaser step ∷ w) (seat_of self.new.seats) }
+            → is_of task (act_of (Phaser phaser (step_of step.now))) ≡ true
+            → SeatsStand p (Phaser phaser (step_of step.now) ∷ w) (seat_of self.new.seats) }
     {
-        if let Step::Make(_, _, _) = step {
+        if let TracedStep::Make(_, _, _) = step {
             self.report_made(task, phaser);
         }
     }
@@ -120,22 +120,23 @@ impl<'p> Followers<'p> {
     fn settle(
         &mut self,
         task: u32,
-        event: &WorldEvent,
+        event: &TracedEvent,
         act: Act<ScriptBody<'p>>,
     ) -> Result<(), Refusal>
         ensures settled { (p : programs.Program) (w : List events.WorldEvent)
             → IsAskedOf p w task (seat_of self.old.seats)
             → act.entry ≡ next_for (meanings p w task) (next_act p w task)
-            → is_of task (act_of event.now) ≡ true → is_next p w (act_of event.now) ≡ true
-            → IfOk result (λ _. SeatsStand p (event.now ∷ w) (seat_of self.new.seats)) }
+            → is_of task (act_of (event_of event.now)) ≡ true
+            → is_next p w (act_of (event_of event.now)) ≡ true
+            → IfOk result (λ _. SeatsStand p (event_of event.now ∷ w) (seat_of self.new.seats)) }
         ensures memory { IfErr result (λ e. e ≡ NoMemory) }
     {
         match event {
-            WorldEvent::Phaser(n, step) => {
-                self.settle_step(task, *n, *step);
+            TracedEvent::Phaser(n, step) => {
+                self.settle_step(task, *n, step);
                 Ok(())
             }
-            WorldEvent::Begin(_, Begun::Async(child, _)) => match act {
+            TracedEvent::Begin(_, Begun::Async(child, _)) => match act {
                 Act::Async(body, _) | Act::AsyncAll(body) => self.seat_child(*child, body),
                 _ => Ok(()),
             },
@@ -145,33 +146,7 @@ impl<'p> Followers<'p> {
 
     /// Whether an event is no act, or its task's next one after so many of a trace before it; it is
     /// gone past then.
-    fn takes(&mut self, trace: &Trace, count: usize, event: &WorldEvent) -> Result<bool, Refusal>
-        requires { count ≤ length trace.now.events }
-        ensures taken { (p : programs.Program)
-            → SeatsStand p (history (take count trace.now.events)) (seat_of self.old.seats)
-            → IfOk result (λ b. IsTaken p
-            (history (take count trace.now.events)) event.now (seat_of self.new.seats) b) }
-        ensures memory { IfErr result (λ e. e ≡ NoMemory) }
-    {
-        let made = match act_of(event) {
-            None => return Ok(true),
-            Some(made) => made,
-        };
-        let act = self.next_act(made.task);
-        if !is_given(trace, count, &made, &act) {
-            return Ok(false);
-        }
-        self.settle(made.task, event, act)?;
-        Ok(true)
-    }
-
-    /// The same, of an event as the trace has it: most are no acts, and are gone past at once.
-    fn goes_past(
-        &mut self,
-        trace: &Trace,
-        count: usize,
-        event: &TracedEvent,
-    ) -> Result<bool, Refusal>
+    fn takes(&mut self, trace: &Trace, count: usize, event: &TracedEvent) -> Result<bool, Refusal>
         requires { count ≤ length trace.now.events }
         ensures taken { (p : programs.Program)
             → SeatsStand p (history (take count trace.now.events)) (seat_of self.old.seats)
@@ -182,7 +157,15 @@ impl<'p> Followers<'p> {
         if !is_act(event) {
             return Ok(true);
         }
-        self.takes(trace, count, &event.event())
+        let Some(made) = act_of(event) else {
+            unreachable!()
+        };
+        let act = self.next_act(made.task);
+        if !is_given(trace, count, &made, &act) {
+            return Ok(false);
+        }
+        self.settle(made.task, event, act)?;
+        Ok(true)
     }
 }
 
@@ -199,8 +182,7 @@ pub fn follows(alloc: Global, program: &Program, trace: &Trace) -> Result<(), Re
 {
     let mut followers = Followers::new(alloc, program)?;
     for i in 0..trace.len() {
-        let (_, event) = trace.entry(i);
-        if !followers.goes_past(trace, i, &event)? {
+        if !followers.takes(trace, i, &trace.event(i))? {
             return Err(Refusal::NotExplained(i as u64 + 1));
         }
     }

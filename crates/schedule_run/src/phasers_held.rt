@@ -62,8 +62,7 @@ fn mode_on(trace: &Trace, count: usize, task: u32, phaser: u32) -> Option<Mode>
         left: false,
     };
     for place in 0..count {
-        let (_, event) = trace.entry(place);
-        stay = stay.after(task, phaser, &event);
+        stay = stay.after(task, phaser, &trace.event(place));
     }
     if stay.left { None } else { stay.mode }
 }
@@ -99,8 +98,7 @@ pub(crate) fn are_own_pairs(trace: &Trace, count: usize, task: u32, pairs: &[Pai
 {
     let mut found = 0;
     for place in 0..count {
-        let (_, event) = trace.entry(place);
-        if let Some(own) = pair_by(trace, count, task, &event) {
+        if let Some(own) = pair_by(trace, count, task, &trace.event(place)) {
             if found >= pairs.len() || !is_same_pair(pairs[found], own) {
                 return false;
             }

@@ -2,4 +2,5 @@ pub mod Adding
 pub mod Faults
 pub mod Legal
 pub mod Owners
+pub mod Places
 pub mod Telling

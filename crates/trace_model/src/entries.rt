@@ -1,5 +1,5 @@
 //! The events of a trace with their tickets, each in as little room as it needs.
-ghost use Rattle.std.specs.Prelude.{◌≡◌, ◌<◌, ◌^◌, ◌++◌, ◌∷◌, [], length, slice_get, Some, IfOk, IfErr};
+ghost use Rattle.std.specs.Prelude.{◌≡◌, ◌<◌, ◌^◌, ◌++◌, ◌∷◌, [], length, option_map, slice_get, Some, IfOk, IfErr};
 
 use crate::event::{TracedEvent, TracedStep};
 use crate::kept::Kept;
@@ -103,5 +103,21 @@ impl Entries {
     {
         let (ticket, kept) = self.kept[place];
         (ticket, kept.event(&self.long))
+    }
+
+    /// The ticket of the event at this place.
+    pub(crate) fn ticket(&self, place: usize) -> u64
+        requires { place < length self.now }
+        ensures { option_map (λ e. e.0) (slice_get self.now place) ≡ Some result }
+    {
+        self.kept[place].0
+    }
+
+    /// The event at this place.
+    pub(crate) fn event(&self, place: usize) -> TracedEvent
+        requires { place < length self.now }
+        ensures { option_map (λ e. e.1) (slice_get self.now place) ≡ Some result }
+    {
+        self.kept[place].1.event(&self.long)
     }
 }

@@ -1,5 +1,5 @@
 //! The trace of a run.
-ghost use Rattle.std.specs.Prelude.{◌≡◌, ◌<◌, ◌^◌, [], true, length, slice_get, Some, IfOk, IfErr};
+ghost use Rattle.std.specs.Prelude.{◌≡◌, ◌<◌, ◌^◌, [], true, length, option_map, slice_get, Some, IfOk, IfErr};
 ghost use Rattle.phase_modes.specs.Limits.{limits_fit};
 ghost use Rattle.trace_model.specs.Run.{with_event};
 
@@ -90,5 +90,22 @@ impl Trace {
         ensures { slice_get self.now.events place ≡ Some result }
     {
         self.events.entry(place)
+    }
+
+    /// The ticket of the event at this place, counted from 0; the event isn't read.
+    pub fn ticket(&self, place: usize) -> u64
+        requires { place < length self.now.events }
+        ensures { option_map (λ e. e.0) (slice_get self.now.events place) ≡ Some result }
+    {
+        self.events.ticket(place)
+    }
+
+    /// The event at this place, counted from 0, without its ticket: quicker than both together, of
+    /// which the event is the larger by far.
+    pub fn event(&self, place: usize) -> TracedEvent
+        requires { place < length self.now.events }
+        ensures { option_map (λ e. e.1) (slice_get self.now.events place) ≡ Some result }
+    {
+        self.events.event(place)
     }
 }

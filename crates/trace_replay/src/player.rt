@@ -57,7 +57,7 @@ impl Player {
             → HandedOver l ((ticket, event.now) ∷ es) self.new }
     {
         let later = self.is_later(ticket);
-        let reply = self.world.step(&event.event());
+        let reply = self.world.step_traced(event);
         let answered = event.is_answered(reply);
         let ends = event.ends_run();
         self.last = Some(ticket);
@@ -76,8 +76,8 @@ impl Player {
         let _terms: Option<Terms> = None;
         let _bound: Option<Bound> = None;
         for index in 0..trace.len() {
-            let (ticket, event) = trace.entry(index);
-            if !self.take(ticket, &event) {
+            let event = trace.event(index);
+            if !self.take(trace.ticket(index), &event) {
                 return Some(index as u64 + 1);
             }
         }

@@ -10,11 +10,13 @@ ghost use Rattle.world_model.specs.Drawing.{least_unused, own_pairs};
 ghost use Rattle.world_model.specs.Report.{report_of};
 ghost use Rattle.world_model.specs.Numbers.{is_phaser, is_finish, is_named};
 ghost use Rattle.world_steps.specs.StandsFor.{StandsFor, IsStep};
+ghost use Rattle.trace_model.specs.Explained.{event_of};
 
 use crate::tables::{Tables, Unused};
 use phase_modes::{Limits, Phased, Refusal};
 use std::alloc::Global;
 use std::marker::Model;
+use trace_model::TracedEvent;
 use world_model::{Condition, Reply, WorldEvent, WorldReport};
 
 /// Many phasers, finishes and tasks at once. Contracts see what it keeps; there is always a legal
@@ -57,6 +59,13 @@ impl World {
         ensures { IsStep event.now self.old self.new result }
     {
         self.tables.step(event)
+    }
+
+    /// The same of an event as a trace has it. What a look saw there is not asked.
+    pub fn step_traced(&mut self, event: &TracedEvent) -> Result<Reply, Refusal>
+        ensures { IsStep (event_of event.now) self.old self.new result }
+    {
+        self.tables.step_traced(event)
     }
 
     /// What the task is about; `None` where it hasn't been spawned.

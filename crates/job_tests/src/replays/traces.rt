@@ -61,6 +61,7 @@ fn are_in_their_places(rt: &impl Abort, trace: &Trace) {
     assert!(rt; trace.entry(2) == (5, shut(1)));
     assert!(rt; trace.entry(3) == (6, refused(1)));
     assert!(rt; trace.entry(5) == (6, refused(2)));
+    assert!(rt; trace.ticket(5) == 6 && trace.event(5) == refused(2));
 }
 
 #[test]

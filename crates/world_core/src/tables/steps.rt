@@ -1,10 +1,12 @@
 //! Any step, by its kind.
 ghost use Rattle.std.specs.Prelude.{◌≡◌};
 ghost use Rattle.world_steps.specs.StandsFor.{IsStep};
+ghost use Rattle.trace_model.specs.Explained.{event_of};
 
 use super::Tables;
 use finish_core::FinishEvent;
 use phase_modes::Refusal;
+use trace_model::TracedEvent;
 use world_model::{Reply, Step, WorldEvent};
 
 impl Tables {
@@ -18,6 +20,20 @@ impl Tables {
             WorldEvent::Begin(task, begun) => self.step_begin(task, begun),
             WorldEvent::Refuse(task, tried, number) => self.step_refuse(task, tried, number),
             WorldEvent::Fail(task, number) => self.step_fail(task, number),
+        }
+    }
+
+    /// The same of an event as a trace has it; no event of the world is made of it, which would be
+    /// as large as the largest of its kinds.
+    pub(crate) fn step_traced(&mut self, event: &TracedEvent) -> Result<Reply, Refusal>
+        ensures { IsStep (event_of event.now) self.old self.new result }
+    {
+        match *event {
+            TracedEvent::Phaser(phaser, step) => self.step_on_phaser(phaser, step.step()),
+            TracedEvent::Finish(finish, step) => self.step_in_finish(finish, step),
+            TracedEvent::Begin(task, begun) => self.step_begin(task, begun),
+            TracedEvent::Refuse(task, tried, number) => self.step_refuse(task, tried, number),
+            TracedEvent::Fail(task, number) => self.step_fail(task, number),
         }
     }
 

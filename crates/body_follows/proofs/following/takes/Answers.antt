@@ -1,6 +1,6 @@
 use Rattle.std.proofs.Common.{◌≡◌, true, false, List, Option, Some, None, take, refl, sym, ap, subst, ◌∙◌}
 use Rattle.std.specs.Prelude.{is_some, option_map}
-use Rattle.std.proofs.lemmas.Bool.{true≢false}
+use Rattle.std.proofs.option.Match.{None-if_not_some}
 use Rattle.world_model.specs.Drawing.{own_pairs}
 use Rattle.world_model.specs.declared.event.WorldEvent.{WorldEvent}
 use Rattle.schedule_model.specs.Follows.{drawn, same_act}
@@ -15,27 +15,12 @@ use Rattle.body_follows.proofs.Gone.{act_given, gone, none_is_some, still}
 use Rattle.body_follows.proofs.Spawns.{names_nobody, no_act}
 use Rattle.body_follows.proofs.following.takes.Goals as goal
 
-none_of : {X : Type 0} (o : Option X) → is_some o ≡ false → o ≡ None
-none_of None none = refl
-none_of (Some x) none = absurd (true≢false none)
-
 pub returns-then-not-is_act-clause-taken : goal.returns-then-not-is_act-clause-taken
 returns-then-not-is_act-clause-taken g c = λ root go named told.
     let e = c.args.event.now in
     let w : List WorldEvent = history (take c.args.count c.args.trace.now.events) in
     let none : act_of (event_of e) ≡ None =
-    none_of (act_of (event_of e)) (sym c.is_act.ensures ∙ c.if-not-is_act.true) in
-    let nobody = names_nobody e (no_act e none) in (
-      ap (λ (o : Option Made). is_next g.B.Goes.next root w o) none,
-      still g.B.Goes.next root w (event_of e) (seat_of c.args.bodies.now.seats) go none nobody.parent nobody.names,
-    )
-
-pub returns-in_default-clause-taken : goal.returns-in_default-clause-taken
-returns-in_default-clause-taken g c = λ root go named told.
-    let e = c.args.event.now in
-    let w : List WorldEvent = history (take c.args.count c.args.trace.now.events) in
-    let none : act_of (event_of e) ≡ None =
-    sym (ap (λ x. act_of x) c.event.ensures) ∙ (sym c.act_of.ensures ∙ ap (λ o. option_map made_view o) c.in_default.is) in
+    None-if_not_some (act_of (event_of e)) (sym c.is_act.ensures ∙ c.if-not-is_act.true) in
     let nobody = names_nobody e (no_act e none) in (
       ap (λ (o : Option Made). is_next g.B.Goes.next root w o) none,
       still g.B.Goes.next root w (event_of e) (seat_of c.args.bodies.now.seats) go none nobody.parent nobody.names,
@@ -46,7 +31,7 @@ returns-in_default-next_act-clause-taken g c = λ root go named told.
     let e = c.args.event.now in
     let m : Made = made_view c.in-Some.made in
     let is : act_of (event_of e) ≡ Some m =
-    sym (ap (λ x. act_of x) c.event.ensures) ∙ (sym c.act_of.ensures ∙ ap (λ o. option_map made_view o) c.in-Some.is) in
+    sym c.act_of.ensures ∙ ap (λ o. option_map made_view o) c.in-Some.is in
     let seat = go.seated m.task (named m is) in
     absurd (none_is_some (sym c.in_default-next_act.is ∙ c.next_act.ensures.own seat.0 seat.1))
 
@@ -56,7 +41,7 @@ returns-then-not-is_given-clause-taken g c = λ root go named told.
     let w : List WorldEvent = history (take c.args.count c.args.trace.now.events) in
     let m : Made = made_view c.in-Some.made in
     let is : act_of (event_of e) ≡ Some m =
-    sym (ap (λ x. act_of x) c.event.ensures) ∙ (sym c.act_of.ensures ∙ ap (λ o. option_map made_view o) c.in-Some.is) in
+    sym c.act_of.ensures ∙ ap (λ o. option_map made_view o) c.in-Some.is in
     let gives = act_given g.B.Goes.next root w m.task (seat_of c.args.bodies.now.seats) c.next_act.result
     c.in-Some-next_act.act go (named m is) c.next_act.ensures.own c.in-Some-next_act.is in
     ap (λ (o : Option Made). is_next g.B.Goes.next root w o) is
@@ -69,7 +54,7 @@ returns-clause-taken g c = λ root go named told.
     let w : List WorldEvent = history (take c.args.count c.args.trace.now.events) in
     let m : Made = made_view c.in-Some.made in
     let is : act_of (event_of e) ≡ Some m =
-    sym (ap (λ x. act_of x) c.event.ensures) ∙ (sym c.act_of.ensures ∙ ap (λ o. option_map made_view o) c.in-Some.is) in
+    sym c.act_of.ensures ∙ ap (λ o. option_map made_view o) c.in-Some.is in
     let gives = act_given g.B.Goes.next root w m.task (seat_of c.args.bodies.now.seats) c.next_act.result
     c.in-Some-next_act.act go (named m is) c.next_act.ensures.own c.in-Some-next_act.is in
     let next : is_next g.B.Goes.next root w (act_of (event_of e)) ≡ true =

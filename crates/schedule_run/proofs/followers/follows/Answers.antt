@@ -1,7 +1,8 @@
-use Rattle.std.proofs.Common.{◌+◌, ◌<◌, ◌≤◌, ◌≡◌, ◌∷◌, Bool, true, false, List, Some, get_or, length, rules, slice_get, take, sym, ap, subst, arith, ◌∙◌}
+use Rattle.std.proofs.Common.{◌+◌, ◌<◌, ◌≤◌, ◌≡◌, ◌∷◌, Bool, true, false, List, Some, get_or, length, slice_get, take, sym, ap, subst, arith, ◌∙◌}
 use Rattle.world_model.specs.declared.event.WorldEvent.{WorldEvent}
 use Rattle.trace_model.specs.Explained.{event_of, past}
 use Rattle.trace_model.specs.Run.{Entry}
+use Rattle.trace_model.proofs.Places.{entry_with}
 use Rattle.schedule_run.specs.Following.{history}
 use Rattle.schedule_run.specs.inner.Bodies.{SeatsStand}
 use Rattle.schedule_run.specs.inner.Followers.{seat_of, IsTaken}
@@ -14,15 +15,16 @@ returns-then-not-branch-clause-place c =
     let p = c.args.program.now in
     let xs : List Entry = c.args.trace.now.events in
     let i = c.loop-i.i in
-    let d : Entry = c.entry-event.result in
-    let at : slice_get xs i ≡ Some d = search rules in
+    let found = entry_with xs i c.event.result c.event.ensures in
+    let d : Entry = (found.0, c.event.result) in
+    let at : slice_get xs i ≡ Some d = found.1 in
     let less : i < length xs = omega (arith, c.loop-i-test.true, c.len-i-end.ensures.length) in
     let is : event_of d.1 ≡ event_of (get_or xs i d).1 =
     ap (λ (x : Entry). event_of x.1) (entry_at xs i d at) in
-    let taken : IsTaken p (history (take i xs)) (event_of d.1) (seat_of c.goes_past.new.self.seats) false =
-    subst (λ (b : Bool). IsTaken p (history (take i xs)) (event_of d.1) (seat_of c.goes_past.new.self.seats)
+    let taken : IsTaken p (history (take i xs)) (event_of d.1) (seat_of c.takes.new.self.seats) false =
+    subst (λ (b : Bool). IsTaken p (history (take i xs)) (event_of d.1) (seat_of c.takes.new.self.seats)
     b) c.if-not-branch.true
-    (c.in_ok-goes_past.ensures.taken p c.loop-i.invariant.stand) in
+    (c.in_ok-takes.ensures.taken p c.loop-i.invariant.stand) in
     sym c.loop-i.invariant.so_far ∙ ends_here p xs i d (event_of d.1) less is taken
 
 pub returns-then-not-branch-clause-leaves : goal.returns-then-not-branch-clause-leaves
@@ -35,17 +37,18 @@ loop-i-preserved c =
     let p = c.args.program.now in
     let xs : List Entry = c.args.trace.now.events in
     let i = c.loop-i.i in
-    let d : Entry = c.entry-event.result in
-    let at : slice_get xs i ≡ Some d = search rules in
+    let found = entry_with xs i c.event.result c.event.ensures in
+    let d : Entry = (found.0, c.event.result) in
+    let at : slice_get xs i ≡ Some d = found.1 in
     let less : i < length xs = omega (arith, c.loop-i-test.true, c.len-i-end.ensures.length) in
     let is : event_of d.1 ≡ event_of (get_or xs i d).1 =
     ap (λ (x : Entry). event_of x.1) (entry_at xs i d at) in
-    let taken : IsTaken p (history (take i xs)) (event_of d.1) (seat_of c.goes_past.new.self.seats) true =
-    subst (λ (b : Bool). IsTaken p (history (take i xs)) (event_of d.1) (seat_of c.goes_past.new.self.seats)
+    let taken : IsTaken p (history (take i xs)) (event_of d.1) (seat_of c.takes.new.self.seats) true =
+    subst (λ (b : Bool). IsTaken p (history (take i xs)) (event_of d.1) (seat_of c.takes.new.self.seats)
     b) c.if-not-branch.false
-    (c.in_ok-goes_past.ensures.taken p c.loop-i.invariant.stand) in
+    (c.in_ok-takes.ensures.taken p c.loop-i.invariant.stand) in
     record {
-      stand = subst (λ (v : List WorldEvent). SeatsStand p v (seat_of c.goes_past.new.self.seats))
+      stand = subst (λ (v : List WorldEvent). SeatsStand p v (seat_of c.takes.new.self.seats))
           (ap (λ (e : WorldEvent). e ∷ history (take i xs)) is
           ∙ sym (history_more xs i d less)) taken.1;
       so_far = sym (goes_on p xs i d (event_of d.1) less is taken.0)

@@ -1,4 +1,4 @@
-use Rattle.std.proofs.Common.{ℕ, ◌≡◌, ◌<◌, ◌≤◌, ⊎_elim, false, List, [], Some, nat_eq, drop, length, get_or, rules, slice_get, take, sym, ap, arith, ◌∙◌}
+use Rattle.std.proofs.Common.{ℕ, ◌≡◌, ◌<◌, ◌≤◌, ⊎_elim, false, List, [], Some, nat_eq, drop, length, get_or, slice_get, take, sym, ap, arith, ◌∙◌}
 use Rattle.std.specs.List.{filter_map}
 use Rattle.std.proofs.lemmas.Bool.{cases_eq, eq-eqb, eqb-true, false_from_ne_true}
 use Rattle.std.proofs.lemmas.List.{at_drop_more, at_drop_all, length-take-le}
@@ -7,6 +7,7 @@ use Rattle.phase_modes.specs.declared.phased.Pair.{Pair}
 use Rattle.schedule_model.specs.Follows.{same_pairs}
 use Rattle.trace_model.specs.Explained.{event_of, past}
 use Rattle.trace_model.specs.Run.{Entry}
+use Rattle.trace_model.proofs.Places.{entry_with}
 use Rattle.schedule_run.specs.Following.{history}
 use Rattle.schedule_run.specs.inner.Holding.{pair_by}
 use Rattle.schedule_run.proofs.Histories.{entry_before}
@@ -42,8 +43,9 @@ returns-then-found-pairs c =
     let ps : List Pair = c.args.pairs.now in
     let i = c.loop-place.place in
     let k = c.loop-place.found in
-    let e : Entry = c.entry-event.result in
-    let at : slice_get all i ≡ Some e = search rules in
+    let found = entry_with all i c.event.result c.event.ensures in
+    let e : Entry = (found.0, c.event.result) in
+    let at : slice_get all i ≡ Some e = found.1 in
     let less : i < length es = omega (arith, c.loop-place-test.true, length-take-le c.args.count all c.requires) in
     let stands : e ≡ get_or es i e = entry_before all c.args.count i e c.loop-place-test.true at in
     let gives : pair_by t (history es) (event_of e.1) ≡ Some c.in-Some.own = sym c.in-Some.ensures in
@@ -64,8 +66,9 @@ loop-place-preserved c =
     let ps : List Pair = c.args.pairs.now in
     let i = c.loop-place.place in
     let k = c.loop-place.found in
-    let e : Entry = c.entry-event.result in
-    let at : slice_get all i ≡ Some e = search rules in
+    let found = entry_with all i c.event.result c.event.ensures in
+    let e : Entry = (found.0, c.event.result) in
+    let at : slice_get all i ≡ Some e = found.1 in
     let less : i < length es = omega (arith, c.loop-place-test.true, length-take-le c.args.count all c.requires) in
     let stands : e ≡ get_or es i e = entry_before all c.args.count i e c.loop-place-test.true at in
     elim c.match-pair_by.branch [

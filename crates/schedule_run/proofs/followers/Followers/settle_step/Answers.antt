@@ -7,6 +7,7 @@ use Rattle.world_model.specs.declared.event.Step.{Step}
 use Rattle.world_model.specs.declared.event.Step.TheVariants.{Make}
 use Rattle.world_model.specs.declared.event.WorldEvent.{WorldEvent}
 use Rattle.world_model.specs.declared.event.WorldEvent.TheVariants.{Phaser}
+use Rattle.trace_model.specs.Explained.{step_of}
 use Rattle.schedule_model.specs.Scripts.{act_of, is_of}
 use Rattle.schedule_run.specs.declared.bodies.Seat.{Seat}
 use Rattle.schedule_run.specs.inner.Bodies.{SeatsStand}
@@ -25,5 +26,6 @@ made_by p w t n u m terms s at is own stand =
 pub returns-in-Make : goal.returns-in-Make
 returns-in-Make c = λ p w asked own.
     let a = c.in-Make in
-    made_by p w c.args.task c.args.phaser a.field-0 a.field-1 a.field-2 c.args.step
-    (seat_of c.report_made.new.self.seats) a.is own (c.report_made.ensures p w a.field-1 a.field-2 asked)
+    made_by p w c.args.task c.args.phaser a.field-0 a.field-1 a.field-2 (step_of c.args.step.now)
+    (seat_of c.report_made.new.self.seats) (ap (λ x. step_of x) a.is) own
+    (c.report_made.ensures p w a.field-1 a.field-2 asked)
