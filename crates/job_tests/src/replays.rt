@@ -9,6 +9,7 @@ use trace_model::{Trace, TracedEvent};
 
 mod logs;
 mod parts;
+mod streams;
 mod texts;
 mod traces;
 

@@ -6,4 +6,5 @@ pub mod Noted
 pub mod Parts
 pub mod Plain
 pub mod ReadBack
+pub mod Streamed
 pub mod Whole

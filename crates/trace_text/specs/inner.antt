@@ -1,2 +1,3 @@
 -- What the code's own functions say: no public contract cites it.
+pub mod Streamed
 pub mod Writing

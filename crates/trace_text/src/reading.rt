@@ -11,6 +11,7 @@ mod bound;
 mod finish;
 mod log;
 mod step;
+mod stream;
 
 use crate::version::Version;
 use finish::finish_event_of;
@@ -19,6 +20,7 @@ use phase_modes::{Limits, Refusal};
 use serde_json::Value;
 use std::alloc::Global;
 use step::step_of;
+use stream::streamed;
 use text_words::{has_only_keys, json_of, limits_of, number_at, word_at};
 use trace_model::{Trace, TracedEvent};
 
@@ -134,6 +136,9 @@ fn form_of_value(alloc: Global, value: &Value) -> Result<Trace, Refusal>
 pub fn from_json(alloc: Global, bytes: &[u8]) -> Result<Trace, Refusal>
     ensures { Gives (λ t. t) result (form_of (reading bytes.now)) }
 {
+    if let Some(trace) = streamed(alloc, bytes) {
+        return Ok(trace);
+    }
     let value = json_of(alloc, bytes)?;
     form_of_value(alloc, &value)
 }

@@ -247,8 +247,7 @@ fn write_entries(out: &mut String, trace: &Trace) -> Result<(), AllocError>
     out.push_str("[")?;
     for index in 0..trace.len() {
         write_comma(out, index)?;
-        let (ticket, event) = trace.entry(index);
-        write_entry(out, ticket, &event)?;
+        write_entry(out, trace.ticket(index), &trace.event(index))?;
     }
     out.push_str("]")?;
     Ok(())
