@@ -26,6 +26,7 @@ use phase_modes::Refusal;
 use replay_job::replay_on;
 use run_job::run_on;
 use schedule_job::schedule_on;
+use std::alloc::{AllocError, Global};
 use std::env;
 use std::fs::File;
 use std::io::{BufWriter, ErrorKind, Read};
@@ -40,7 +41,16 @@ fn main(rt: HostRuntime) -> ExitCode {
     let _first = File::open(&rt, "/");
     let _second = File::open(&rt, "/");
     let _third = File::open(&rt, "/");
+    keep_tables_together(rt.alloc());
     ExitCode::from(run(&rt, &rt).code())
+}
+
+/// The tables of a run and of its replay are some two hundred blocks, each of which the C library's
+/// allocator would ask of the system alone, and give back alone. Once it has given back a block of
+/// this size it does so with larger ones only, and keeps the others together. The block isn't
+/// touched, and where it is refused all goes on as before.
+fn keep_tables_together(alloc: Global) {
+    let _block: Result<Vec<u8>, AllocError> = Vec::with_capacity(alloc, 33_000_000);
 }
 
 /// Reads the words, and does the job that they name.
