@@ -1,1 +1,6 @@
-pub mod Sums
+pub mod Modes
+pub mod OnlyTwo
+pub mod Quiet
+pub mod Steps
+pub mod Turns
+pub mod Two

@@ -1,19 +1,30 @@
-//! Two threads share a phaser with one sum. Two tasks send a number each and end their turn
-//! together; in the next phase each sends the sum that it saw. After three phases they leave.
+//! Two threads share a phaser that lives as long as the program, and each keeps its own task. One
+//! task sends 3, the other 4, they end their turn together, and each looks at the sum. A thread
+//! whose task has to wait sleeps until the other's call frees it.
 //!
-//! A worker's hand gives receipts. So it is proved of this program that each sum that a worker gives
-//! back is the fold of all values that were ever sent for one phase, and that this phase was closed
-//! (`pair::run`).
+//! The calls give receipts, and each step is counted in a ledger of which each thread has a share.
+//! So it is proved of this program that the phase which each has passed is closed, that what each
+//! saw is the fold of all values that were ever sent for a closed phase (`pair::both`), and that it
+//! is 7 wherever no call was refused (`pair::run`): both registrations and the steps of both threads
+//! are all steps that were counted, so nobody else sent anything.
 #![tactic(auto)]
 
 mod pair;
+mod turn;
+
+use anyhow::bail;
+use phase_model::{Bound, Look};
 
 fn main(rt: HostRuntime) -> anyhow::Result<()> {
-    let gathered = pair::run(&rt, rt.alloc())?;
-    for last in gathered.given {
-        last?;
+    // At a barrier nobody comes so far ahead that a bound of 2 would hold him.
+    let Some(bound) = Bound::of(2) else {
+        bail!("a bound is 1 to 65,536");
+    };
+    match pair::run(&rt, rt.alloc(), bound)? {
+        (Look::Value(one), Look::Value(other)) => {
+            println!(&rt; "one saw {one}, the other {other}")?
+        }
+        _ => unreachable!(),
     }
-    let totals = gathered.totals;
-    println!(&rt; "{} events, {} sent", totals.events, totals.up)?;
     Ok(())
 }

@@ -1,117 +1,223 @@
-//! Two tasks, whichever worker has them in hand.
-ghost use Rattle.std.specs.Prelude.{◌≡◌, IfOk};
-ghost use Rattle.table_receipts.specs.Logs.{GoesOn};
-ghost use Rattle.example_threads.specs.Sums.{IsSeen, AreSums};
+//! Two tasks of one phaser, each in a thread of its own.
+ghost use Rattle.std.specs.Prelude.{◌≡◌, ◌+◌, ◌<◌, ◌==◌, [], ◌∷◌, true, false, Some, IfOk, pos};
+ghost use Rattle.phase_modes.specs.declared.reg.Mode.TheVariants.{SigWait};
+ghost use Rattle.phase_model.specs.declared.history.Event.TheVariants.{Make, Reg};
+ghost use Rattle.phase_model.specs.declared.op.Op.TheVariants.{Sum};
+ghost use Rattle.phase_model.specs.declared.op.Look.TheVariants.{Value};
+ghost use Rattle.phase_modes.specs.Mode.{can_wait};
+ghost use Rattle.phase_model.specs.Phases.{IsClosed};
+ghost use Rattle.phase_model.specs.Tasks.{has_mode};
+ghost use Rattle.seen_log.specs.Tails.{IsTail};
+ghost use Rattle.example_threads.specs.Sums.{IsNext, IsStart, IsTurn};
+ghost use Rattle.example_threads.specs.Turns.{IsGood, IsFoldOfAll};
 
-use phase_model::{Look, Op, Ops};
-use phase_modes::{Limits, Mode, Refusal};
-use phaser_crew::{Crew, Gathered, Hand, with_phasers};
-use scope_locks::{PassAnswer, SignalAnswer};
+use crate::turn::{Player, Turn};
+use counted_steps::CountedLock;
+use ghost_log::Whole;
+use long_phaser::Task;
+use long_receipts::{Front, Naming};
+use phase_model::{Bound, LongLook, Op, Ops};
+use phase_modes::{Mode, Refusal};
 use std::alloc::Global;
+use std::marker::Brand;
 use std::sync::Wait;
-use std::thread::Threads;
-use task_numbers::{AccumulatorIndex, PhaserNumber, TaskNumber};
+use std::sync::ledger::{Blank, Ledger, Share};
+use std::thread;
+use std::thread::{Parker, Threads};
+use told_history::LongEvent;
 
-/// Two workers, of which each begins with the task of its own number.
-struct Pair;
+/// What came of both turns, and the whole history of the phaser that is left.
+#[derive(Drop)]
+pub struct Outcome<J: Naming + Ledger> {
+    pub one: Turn<J>,
+    pub other: Turn<J>,
+    pub whole: Front<J>,
+}
 
-/// The phaser that both tasks share.
-fn phaser() -> PhaserNumber
-    ensures { result ≡ 0 }
+/// Two tasks of a new phaser, and what was seen when both were registered.
+#[derive(Drop)]
+struct Pair<J: Naming> {
+    maker: Task,
+    child: Task,
+    start: Front<J>,
+}
+
+/// The phaser is made, with a maker that can signal and wait.
+fn make<J: Naming + Ledger, R: Wait>(
+    rt: &R,
+    lock: &CountedLock<J, &Parker>,
+    me: &mut Front<J>,
+    mine: &mut Share<J>,
+) -> Result<Task, Refusal>
+    requires { 0 < mine.old.parts }
+    ensures next { IfOk result (λ t. IsNext (Make t SigWait) me.old me.new) }
+    ensures amount { IfOk result (λ _. mine.new.amount ≡ mine.old.amount + 1) }
+    ensures parts { mine.new.parts ≡ mine.old.parts }
+    ensures waits { IfOk result (λ t. has_mode can_wait t me.new ≡ true) }
 {
-    PhaserNumber::of(0)
+    lock.make(rt, me, mine, Mode::SigWait)
 }
 
-/// Its one accumulator.
-fn accumulator() -> AccumulatorIndex
-    ensures { result ≡ 0 }
+/// A child is registered that can signal and wait. Its parent still can wait.
+fn register<J: Naming + Ledger, R: Wait>(
+    rt: &R,
+    lock: &CountedLock<J, &Parker>,
+    me: &mut Front<J>,
+    mine: &mut Share<J>,
+    parent: Task,
+) -> Result<Task, Refusal>
+    requires { 0 < mine.old.parts }
+    ensures next { IfOk result (λ t. IsNext (Reg parent t SigWait) me.old me.new) }
+    ensures amount { IfOk result (λ _. mine.new.amount ≡ mine.old.amount + 1) }
+    ensures parts { mine.new.parts ≡ mine.old.parts }
+    ensures child { IfOk result (λ t. has_mode can_wait t me.new ≡ true) }
+    ensures apart { has_mode can_wait parent me.old ≡ true → IfOk result (λ t. (t == parent) ≡ false) }
+    ensures parent { has_mode can_wait parent me.old ≡ true → has_mode can_wait parent me.new ≡ true }
 {
-    AccumulatorIndex::of(0)
+    let answer = lock.register(rt, me, mine, parent, Mode::SigWait);
+    me.is_legal();
+    answer
 }
 
-/// The task sends the number to the phaser, and signals: without a bound that never parks it.
-fn arrive<H: Hand<TaskNumber>>(hand: &mut H, task: TaskNumber, number: i32) -> Result<(), Refusal>
-    ensures more { GoesOn (H.seen hand.old 0) (H.seen hand.new 0) }
+/// Two tasks are registered: two steps.
+fn registered<J: Naming + Ledger, R: Wait>(
+    rt: &R,
+    lock: &CountedLock<J, &Parker>,
+    mine: &mut Share<J>,
+    front: Front<J>,
+) -> Result<Pair<J>, Refusal>
+    requires part { 0 < mine.old.parts }
+    requires empty { front ≡ [] }
+    ensures start { IfOk result (λ pair. IsStart pair.maker pair.child pair.start) }
+    ensures apart { IfOk result (λ pair. (pair.child == pair.maker) ≡ false) }
+    ensures wait { IfOk result (λ pair. (has_mode can_wait pair.maker pair.start ≡ true) × (has_mode can_wait pair.child pair.start ≡ true)) }
+    ensures amount { IfOk result (λ _. mine.new.amount ≡ mine.old.amount + 2) }
+    ensures parts { mine.new.parts ≡ mine.old.parts }
 {
-    hand.send(phaser(), task, accumulator(), number)?;
-    match hand.signal(phaser(), task, None, task) {
-        SignalAnswer::Signalled(_) => Ok(()),
-        SignalAnswer::Parked => Err(Refusal::NotNow),
-        SignalAnswer::Refused(_, refusal) => Err(refusal),
-    }
+    let mut start = front;
+    let maker = make(rt, lock, &mut start, mine)?;
+    let child = register(rt, lock, &mut start, mine, maker)?;
+    Ok(Pair {
+        maker,
+        child,
+        start,
+    })
 }
 
-/// The task ends its turn, and arrives again with the sum that it sees, or leaves. With whom the
-/// worker goes on: where this task is parked or has left, with one whom a call woke.
-fn turn<H: Hand<TaskNumber>>(
-    hand: &mut H,
-    task: TaskNumber,
-    last: &mut Look,
-) -> Result<Option<TaskNumber>, Refusal>
-    requires seen { IsSeen (H.seen hand.old 0) last.old }
-    ensures seen { IfOk result (λ _. IsSeen (H.seen hand.new 0) last.new) }
+/// Each takes its turn in a thread of its own. Both start where both were registered, and their
+/// steps are counted.
+fn met<'p, J: Naming + Ledger + Send + Sync, R: Threads + Wait + Sync>(
+    rt: &R,
+    alloc: Global,
+    lock: &CountedLock<J, &'p Parker>,
+    parkers: &'p [Parker; 2],
+    pair: &mut Pair<J>,
+    mine: &mut Share<J>,
+) -> Result<(Turn<J>, Turn<J>), Refusal>
+    requires parts { mine.old.parts ≡ 3 }
+    requires wait { (has_mode can_wait pair.old.maker pair.old.start ≡ true) × (has_mode can_wait pair.old.child pair.old.start ≡ true) }
+    ensures good { IfOk result (λ turns. IsGood J.terms.ops turns.0.phase turns.0.front turns.0.later turns.0.seen × IsGood J.terms.ops turns.1.phase turns.1.front turns.1.later turns.1.seen) }
+    ensures one { IfOk result (λ turns. IsTurn pair.old.maker (pos 3) turns.0.seen pair.old.start turns.0.later) }
+    ensures other { IfOk result (λ turns. IsTurn pair.old.child (pos 4) turns.1.seen pair.old.start turns.1.later) }
+    ensures counted { IfOk result (λ turns. (turns.0.mine.parts ≡ 1) × (turns.0.mine.amount ≡ 4) × (turns.1.mine.parts ≡ 1) × (turns.1.mine.amount ≡ 4)) }
+    ensures kept { (mine.new.parts ≡ 1) × (mine.new.amount ≡ mine.old.amount) }
 {
-    let phase = match hand.pass(phaser(), task, task) {
-        PassAnswer::Passed(_, phase) => phase,
-        PassAnswer::Parked => return Ok(hand.next()),
-        PassAnswer::Claimed(_, _) => return Err(Refusal::NotNow),
-        PassAnswer::Refused(_, refusal) => return Err(refusal),
-    };
-    if phase == 2 {
-        hand.drop_task(phaser(), task)?;
-        return Ok(hand.next());
-    }
-    let look = hand.look(phaser(), task, accumulator())?;
-    *last = look;
-    if let Look::Value(sum) = look {
-        arrive(hand, task, i32::try_from(sum).unwrap_or(i32::MAX))?;
-    }
-    Ok(Some(task))
+    let first = mine.split_off(1, 0);
+    let second = mine.split_off(1, 0);
+    let seen = pair.start.again();
+    let one = Player::new(rt, alloc, lock, pair.maker, &parkers[0], seen)?;
+    let seen = pair.start.again();
+    let other = Player::new(rt, alloc, lock, pair.child, &parkers[1], seen)?;
+    let (one, other) = thread::join(
+        rt,
+        move || -> Result<Turn<J>, Refusal>
+            requires { (first.parts ≡ 1) × (first.amount ≡ 0) }
+            ensures good { IfOk result (λ turn. IsGood J.terms.ops turn.phase turn.front turn.later turn.seen) }
+            ensures turn { IfOk result (λ turn. IsTurn one.entry.task (pos 3) turn.seen one.entry.front turn.later) }
+            ensures counted { IfOk result (λ turn. (turn.mine.parts ≡ 1) × (turn.mine.amount ≡ 4)) }
+        { one.take_turn(first, 3) },
+        move || -> Result<Turn<J>, Refusal>
+            requires { (second.parts ≡ 1) × (second.amount ≡ 0) }
+            ensures good { IfOk result (λ turn. IsGood J.terms.ops turn.phase turn.front turn.later turn.seen) }
+            ensures turn { IfOk result (λ turn. IsTurn other.entry.task (pos 4) turn.seen other.entry.front turn.later) }
+            ensures counted { IfOk result (λ turn. (turn.mine.parts ≡ 1) × (turn.mine.amount ≡ 4)) }
+        { other.take_turn(second, 4) },
+    );
+    Ok((one?, other?))
 }
 
-impl Crew<TaskNumber> for Pair {
-    ghost use Rattle.std.specs.Prelude.{IfOk};
-    ghost use Rattle.example_threads.specs.Sums.{IsSeen};
-
-    /// The last sum that the worker saw, or `Nothing` where it saw none.
-    type Given = Result<Look, Refusal>;
-
-    ghost shows = { λ given seen. IfOk given (IsSeen (seen 0)) };
-
-    fn prepare<H: Hand<TaskNumber>>(&self, hand: &mut H) -> Result<(), Refusal> {
-        let mut one_sum = Ops::none();
-        one_sum.push(Op::Sum);
-        let maker = TaskNumber::of(0);
-        hand.make(phaser(), maker, Mode::SigWait, one_sum, None)?;
-        hand.register(phaser(), maker, TaskNumber::of(1), Mode::SigWait)
-    }
-
-    fn work<H: Hand<TaskNumber>>(&self, hand: &mut H) -> Result<Look, Refusal> {
-        let worker = hand.worker();
-        let mut task = TaskNumber::of(worker);
-        let mut last = Look::Nothing;
-        arrive(hand, task, if worker == 0 { 3 } else { 4 })?;
-        for _ in 0..u64::MAX {
-            match turn(hand, task, &mut last)? {
-                Some(next) => task = next,
-                None => break,
-            }
-        }
-        Ok(last)
-    }
+/// Two tasks of a new phaser with one sum meet: one sends 3, the other 4. In the one history that
+/// is left, the phase that each has passed is closed, and what each saw is the fold of all values
+/// that were ever sent for a phase that was closed: 7, since nobody else made a step.
+pub fn both<'p, J: Naming + Ledger + Send + Sync, R: Threads + Wait + Sync>(
+    rt: &R,
+    alloc: Global,
+    lock: CountedLock<J, &'p Parker>,
+    parkers: &'p [Parker; 2],
+    front: Front<J>,
+    all: Share<J>,
+) -> Result<Outcome<J>, Refusal>
+    requires empty { front ≡ [] }
+    requires parts { J.parts ≡ 3 }
+    requires all { (all.parts ≡ 3) × (all.amount ≡ 0) }
+    requires one_sum { J.terms.ops ≡ Sum ∷ [] }
+    ensures stand { IfOk result (λ o. IsTail o.one.front o.whole × IsTail o.other.front o.whole) }
+    ensures closed { IfOk result (λ o. IsClosed o.one.phase o.whole × IsClosed o.other.phase o.whole) }
+    ensures saw { IfOk result (λ o. IsFoldOfAll J.terms.ops o.whole o.one.seen × IsFoldOfAll J.terms.ops o.whole o.other.seen) }
+    ensures sum { IfOk result (λ o. (o.one.seen ≡ Value (pos 7)) × (o.other.seen ≡ Value (pos 7))) }
+{
+    let mut all = all;
+    let mut pair = registered(rt, &lock, &mut all, front)?;
+    let (one, other) = met(rt, alloc, &lock, parkers, &mut pair, &mut all)?;
+    let mut one = one;
+    let mut other = other;
+    one.mine.give(&mut all, 1, 4);
+    other.mine.give(&mut all, 1, 4);
+    let mut cell = lock.into_cell();
+    cell.audit(&mut all);
+    cell.includes(&mut one.front);
+    cell.includes(&mut one.later);
+    cell.includes(&mut other.front);
+    cell.includes(&mut other.later);
+    let whole = cell.front();
+    whole.is_legal();
+    Ok(Outcome { one, other, whole })
 }
 
-/// Both workers work. Each sum that one of them gives back is the fold of all values that were ever
-/// sent for one phase, which was closed when it was seen, in the one story of the phaser.
+/// What both saw of a phaser of this name, with one sum: 7.
+fn named<J: Naming + Ledger + Send + Sync, R: Threads + Wait + Sync>(
+    rt: &R,
+    alloc: Global,
+    ops: Ops,
+    bound: Bound,
+    whole: Whole<LongEvent>,
+    blank: Blank,
+) -> Result<(LongLook, LongLook), Refusal>
+    requires name { whole.name ≡ J.log }
+    requires empty { whole.items ≡ [] }
+    requires terms { J.terms ≡ record { ops = ops; bound = Some bound } }
+    requires ledger { (blank.name ≡ J.name) × (blank.parts ≡ J.parts) }
+    requires parts { blank.parts ≡ 3 }
+    requires one_sum { ops ≡ Sum ∷ [] }
+    ensures { IfOk result (λ looks. (looks.0 ≡ Value (pos 7)) × (looks.1 ≡ Value (pos 7))) }
+{
+    let parkers = [Parker::new(), Parker::new()];
+    let (steps, all) = blank.open::<J>();
+    let (lock, front) = CountedLock::<J, &Parker>::new(alloc, ops, bound, whole, steps)?;
+    let outcome = both(rt, alloc, lock, &parkers, front, all)?;
+    Ok((outcome.one.seen, outcome.other.seen))
+}
+
+/// What the two tasks see of a new phaser with one sum: where no call was refused, each sees the sum
+/// of both numbers, 3 and 4.
 pub fn run<R: Threads + Wait + Sync>(
     rt: &R,
     alloc: Global,
-) -> Result<Gathered<Result<Look, Refusal>>, Refusal>
-    ensures sums { IfOk result (λ g. AreSums g.parts.items g.given.items) }
+    bound: Bound,
+) -> Result<(LongLook, LongLook), Refusal>
+    ensures { IfOk result (λ looks. (looks.0 ≡ Value (pos 7)) × (looks.1 ≡ Value (pos 7))) }
 {
-    let limits = Limits {
-        phasers: 1,
-        ..Limits::default()
-    };
-    with_phasers(rt, alloc, limits, 2, &Pair)
+    let mut one_sum = Ops::none();
+    one_sum.push(Op::Sum);
+    named::<Brand, R>(rt, alloc, one_sum, bound, Whole::new(), Blank::new(3))
 }
