@@ -34,6 +34,10 @@ use std::process::ExitCode;
 use std::sync::Wait;
 use std::thread::Threads;
 
+/// The size in bytes of the largest block, rounded down, whose freeing makes glibc raise its `mmap`
+/// threshold: that is never above 2^25 = 33,554,432 (`DEFAULT_MMAP_THRESHOLD_MAX`, 32 MiB).
+const LARGEST_KEPT: usize = 33_000_000;
+
 /// A standard stream that is closed leaves its number to the next file that is opened, and what is
 /// written to the stream would go into that file. So each number that is free is taken first, by a
 /// folder, of which nothing can be read and to which nothing can be written.
@@ -47,10 +51,10 @@ fn main(rt: HostRuntime) -> ExitCode {
 
 /// The tables of a run and of its replay are some two hundred blocks, each of which the C library's
 /// allocator would ask of the system alone, and give back alone. Once it has given back a block of
-/// this size it does so with larger ones only, and keeps the others together. The block isn't
-/// touched, and where it is refused all goes on as before.
+/// `LARGEST_KEPT` bytes it does so with larger ones only, and keeps the others together. The block
+/// isn't touched, and where it is refused all goes on as before.
 fn keep_tables_together(alloc: Global) {
-    let _block: Result<Vec<u8>, AllocError> = Vec::with_capacity(alloc, 33_000_000);
+    let _block: Result<Vec<u8>, AllocError> = Vec::with_capacity(alloc, LARGEST_KEPT);
 }
 
 /// Reads the words, and does the job that they name.
