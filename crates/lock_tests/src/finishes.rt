@@ -192,6 +192,11 @@ fn parked_owner(rt: HostRuntime) -> Result<(), Fail> {
     ];
     let table = table_for(rt.alloc(), 2, 4)?;
     let tickets = Tickets::new();
+    assert_eq!(rt; table.place(1, Refusal::FinishesFull), Ok(1));
+    assert_eq!(rt;
+        table.place(2, Refusal::FinishesFull),
+        Err(Refusal::FinishesFull)
+    );
     opens_with_two(&rt, &table, &tickets);
     parks_its_owner(&rt, &table, &tickets);
     end_all(&rt, rt.alloc(), &table, &tickets, ENDS.as_slice());

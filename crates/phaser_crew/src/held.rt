@@ -40,12 +40,7 @@ fn place<T, K: Naming>(
     ensures known { IfOk result (λ _. phaser < table.now.phasers) }
     ensures unknown { IfErr result (λ e. e ≡ refusal) }
 {
-    let number = phaser.get() as usize;
-    if number < table.phasers {
-        Ok(number)
-    } else {
-        Err(refusal)
-    }
+    table.place(phaser.get(), refusal)
 }
 
 /// Puts the items of the out-list behind those that are ready; `Memory` where there is none for

@@ -190,6 +190,11 @@ fn calls<K: Naming, R: Wait + Abort>(
         mine,
         out: Out::new(alloc)?,
     };
+    assert_eq!(rt; table.place(1, Refusal::NotRegistered), Ok(1));
+    assert_eq!(rt;
+        table.place(2, Refusal::NotRegistered),
+        Err(Refusal::NotRegistered)
+    );
     turn_of_two(rt, alloc, &table, &mut by)?;
     made_and_left(rt, alloc, &table, &mut by)?;
     shares.push(by.mine)?;

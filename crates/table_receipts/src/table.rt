@@ -244,6 +244,19 @@ impl<T: Drop, K: Naming> ReceiptTable<T, K> {
 }
 
 impl<T, K: Naming> ReceiptTable<T, K> {
+    /// The place in the table of the phaser of this number; this refusal where the table has none.
+    pub fn place(&self, phaser: u32, refusal: Refusal) -> Result<usize, Refusal>
+        ensures place { IfOk result (λ n. (n ≡ phaser) × (n < self.now.phasers)) }
+        ensures unknown { IfErr result (λ e. (e ≡ refusal) × (self.now.phasers ≤ phaser)) }
+    {
+        let number = phaser as usize;
+        if number < self.phasers {
+            Ok(number)
+        } else {
+            Err(refusal)
+        }
+    }
+
     /// Takes the phaser's lock, and lends what stands behind it until the guard is dropped. What
     /// stands at a place has the place's number, or this waits for ever.
     #[inline(always)]

@@ -171,18 +171,12 @@ impl<B: Body, K: RunNaming> Shared<B, K> {
     }
 
     pub(crate) fn open_on<R: Wait>(&self, rt: &R, task: u32, finish: u32) -> Result<(), Refusal> {
-        let number = finish as usize;
-        if number >= self.finishes.finishes {
-            return Err(Refusal::FinishesFull);
-        }
+        let number = self.finishes.place(finish, Refusal::FinishesFull)?;
         self.finishes.opened(rt, number, &self.tickets, task)
     }
 
     pub(crate) fn spawn_on<R: Wait>(&self, rt: &R, child: u32, finish: u32) -> Result<(), Refusal> {
-        let number = finish as usize;
-        if number >= self.finishes.finishes {
-            return Err(Refusal::NotNow);
-        }
+        let number = self.finishes.place(finish, Refusal::NotNow)?;
         self.finishes.spawned(rt, number, &self.tickets, child)
     }
 
@@ -195,10 +189,7 @@ impl<B: Body, K: RunNaming> Shared<B, K> {
     ) -> Result<(), Refusal>
         ensures seat { IsSeatOf busy.old.seat busy.new.seat }
     {
-        let number = finish as usize;
-        if number >= self.finishes.finishes {
-            return Err(Refusal::NotNow);
-        }
+        let number = self.finishes.place(finish, Refusal::NotNow)?;
         let Busy { seat, by, kept, .. } = busy;
         let ended = self
             .finishes
@@ -217,10 +208,10 @@ impl<B: Body, K: RunNaming> Shared<B, K> {
         item: Item<B, K>,
         finish: u32,
     ) -> ShutAnswer<Item<B, K>> {
-        let number = finish as usize;
-        if number >= self.finishes.finishes {
-            return ShutAnswer::Refused(item, Refusal::NotNow);
-        }
+        let number = match self.finishes.place(finish, Refusal::NotNow) {
+            Ok(number) => number,
+            Err(refusal) => return ShutAnswer::Refused(item, refusal),
+        };
         self.finishes.shut(rt, number, &self.tickets, item)
     }
 }

@@ -149,12 +149,7 @@ impl<B: Body, K: RunNaming> Shared<B, K> {
         ensures place { IfOk result (λ n. n < K.Logs.limits.phasers) }
         ensures same { IfOk result (λ n. n ≡ phaser) }
     {
-        let number = phaser as usize;
-        if number < self.phasers.phasers {
-            Ok(number)
-        } else {
-            Err(refusal)
-        }
+        self.phasers.place(phaser, refusal)
     }
 
     /// The next task to be run: one that the queue had no memory for, or one of the queue. None once
