@@ -3,10 +3,10 @@ use finish_core::FinishEvent;
 use job_script::{Act, Answer, Program, ScriptBody, read_program};
 use phase_model::{Look, Ops, Terms};
 use phase_modes::{Limits, Mode, Pair, Phased};
-use schedule_run::{MadeAct, act_of, is_act, is_given};
+use schedule_run::{actor, is_given};
 use std::alloc::Global;
 use std::test::Fail;
-use trace_model::{Trace, TracedEvent, TracedStep};
+use trace_model::{EventView, ShortAct, Trace, TracedEvent, TracedStep};
 use world_model::{Begun, Tried};
 
 mod runs;
@@ -37,31 +37,51 @@ fn unbounded() -> Terms {
     }
 }
 
-/// A trace in which the root made the one phaser 3, and nothing else was done.
-fn one_making(alloc: Global) -> Result<Trace, Fail> {
+/// A trace with this one event.
+fn one_event(alloc: Global, event: TracedEvent) -> Result<Trace, Fail> {
     let mut trace = Trace::new(alloc, Limits::default());
-    let made = TracedStep::Make(0, Mode::Sig, unbounded());
-    trace
-        .push(1, TracedEvent::Phaser(3, made))
-        .map_err(|_| Fail::from("memory"))?;
+    trace.push(1, event).map_err(|_| Fail::from("memory"))?;
     Ok(trace)
 }
 
-/// Whether the event makes an act of the root and a refusal of it names the same, and the body's
-/// act after this trace is that one, the numbers that it drew among it, and no wait.
-fn is_tried_so(trace: &Trace, event: &TracedEvent, act: &Act<ScriptBody<'_>>) -> bool {
-    let Some(made) = act_of(event) else {
-        return false;
-    };
-    let refused = TracedEvent::Refuse(0, made.act, 1);
-    let other = MadeAct {
-        task: 0,
-        act: Tried::Begun(Begun::Wait),
-    };
-    made.task == 0
-        && act_of(&refused) == Some(made)
-        && is_given(trace, trace.len(), &made, act)
-        && !is_given(trace, trace.len(), &other, act)
+/// A trace in which the root made the one phaser 3, and nothing else was done.
+fn one_making(alloc: Global) -> Result<Trace, Fail> {
+    let made = TracedStep::Make(0, Mode::Sig, unbounded());
+    one_event(alloc, TracedEvent::Phaser(3, made))
+}
+
+/// An event that makes an act of the root, and the act.
+type Row = (TracedEvent, Tried);
+
+/// Whether it is the root's event, and the body's act after this trace is the one that it makes or
+/// refuses, the numbers that it drew among it; a wait isn't.
+fn is_roots(trace: &Trace, event: EventView<'_>, act: &Act<ScriptBody<'_>>) -> bool {
+    let wait = EventView::Begin(0, ShortAct::Wait);
+    actor(event) == Some(0)
+        && is_given(trace, trace.len(), event, act)
+        && !is_given(trace, trace.len(), wait, act)
+}
+
+/// Whether that is so of the row's event, as a trace lends it and as it stands, and of the refusal of
+/// its act.
+fn is_tried_so(
+    alloc: Global,
+    trace: &Trace,
+    row: &Row,
+    act: &Act<ScriptBody<'_>>,
+) -> Result<bool, Fail> {
+    let (event, tried) = row;
+    let refused = TracedEvent::Refuse(0, *tried, 1);
+    let held = one_event(alloc, *event)?;
+    if held.len() == 0 {
+        return Ok(false);
+    }
+    let (_, lent) = held.entry(0);
+    Ok(
+        is_roots(trace, lent, act)
+            && is_roots(trace, EventView::Long(event), act)
+            && is_roots(trace, EventView::Long(&refused), act),
+    )
 }
 
 #[test]
@@ -70,27 +90,50 @@ fn acts_are_tried(rt: HostRuntime) -> Result<(), Fail> {
         rt.alloc(),
         r#"{"main":[["new","p","SIG",[]],["open"],["send","p",1,-2],["look","p",1],["next"],["async_all",[]]]}"#,
     )?;
-    let events = [
-        TracedEvent::Phaser(3, TracedStep::Make(0, Mode::Sig, unbounded())),
-        TracedEvent::Finish(5, FinishEvent::Opened(0)),
-        TracedEvent::Phaser(7, TracedStep::Send(0, 1, -2)),
-        TracedEvent::Phaser(7, TracedStep::Look(0, 1, Look::Nothing)),
-        TracedEvent::Begin(0, Begun::Next),
-        TracedEvent::Begin(0, Begun::Async(4, one_phaser())),
-        TracedEvent::Begin(0, Begun::End),
+    let making = TracedStep::Make(0, Mode::Sig, unbounded());
+    let child = Begun::Async(4, one_phaser());
+    let rows = [
+        (
+            TracedEvent::Phaser(3, making),
+            Tried::New(3, Mode::Sig, unbounded()),
+        ),
+        (
+            TracedEvent::Finish(5, FinishEvent::Opened(0)),
+            Tried::Open(5),
+        ),
+        (
+            TracedEvent::Phaser(7, TracedStep::Send(0, 1, -2)),
+            Tried::Send(7, 1, -2),
+        ),
+        (
+            TracedEvent::Phaser(7, TracedStep::Look(0, 1, Look::Nothing)),
+            Tried::Look(7, 1),
+        ),
+        (
+            TracedEvent::Begin(0, Begun::Next),
+            Tried::Begun(Begun::Next),
+        ),
+        (TracedEvent::Begin(0, child), Tried::Begun(child)),
+        (TracedEvent::Begin(0, Begun::End), Tried::Begun(Begun::End)),
     ];
     let trace = one_making(rt.alloc())?;
     let mut root = program.root();
     let mut answer = Answer::Started;
-    for event in events {
+    for row in rows {
         let act = match root.step(answer) {
             Ok(act) => act,
             Err(_) => return Err(Fail::from("an act")),
         };
-        assert!(rt; is_tried_so(&trace, &event, &act));
+        assert!(rt; is_tried_so(rt.alloc(), &trace, &row, &act)?);
         answer = Answer::Made(7);
     }
     Ok(())
+}
+
+/// Whether nobody acts by this event, and it isn't the end that a body gives.
+fn is_no_act(trace: &Trace, event: EventView<'_>) -> bool {
+    let end: Act<ScriptBody<'_>> = Act::End;
+    actor(event).is_none() && !is_given(trace, trace.len(), event, &end)
 }
 
 #[test]
@@ -101,8 +144,11 @@ fn events_that_are_no_acts(rt: HostRuntime) -> Result<(), Fail> {
         TracedEvent::Fail(1, 15),
     ];
     for event in events {
-        assert!(rt; !is_act(&event));
-        assert_eq!(rt; act_of(&event), None);
+        let held = one_event(rt.alloc(), event)?;
+        assert!(rt; is_no_act(&held, EventView::Long(&event)));
+        assert!(rt; 0 < held.len());
+        let (_, lent) = held.entry(0);
+        assert!(rt; is_no_act(&held, lent));
     }
     Ok(())
 }

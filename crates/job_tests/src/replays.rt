@@ -1,4 +1,5 @@
 //! The smallest trace, and texts that are none.
+use crate::entries::entry_of;
 use job_ends::{Failure, Status};
 use phase_modes::{Limits, Refusal};
 use replay_job::{ending_on, replay_bytes, replay_on};
@@ -6,6 +7,7 @@ use std::alloc::Global;
 use std::process::Abort;
 use std::test::Fail;
 use trace_model::{Trace, TracedEvent};
+use trace_text::from_json;
 
 mod logs;
 mod parts;
@@ -262,13 +264,18 @@ fn trace_of(alloc: Global, entries: &[Entry]) -> Result<Trace, Fail> {
     Ok(trace)
 }
 
+/// The trace that the text spells.
+fn read(alloc: Global, text: &str) -> Result<Trace, Fail> {
+    from_json(alloc, text.as_bytes()).map_err(|_| Fail::from("not read"))
+}
+
 /// Whether both have the same events, with the same tickets.
 fn have_same_events(one: &Trace, other: &Trace) -> bool {
     if one.len() != other.len() {
         return false;
     }
     for place in 0..one.len() {
-        if one.entry(place) != other.entry(place) {
+        if entry_of(one, place) != entry_of(other, place) {
             return false;
         }
     }

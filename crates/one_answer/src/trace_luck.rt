@@ -25,7 +25,7 @@ pub fn first_luck(alloc: Global, trace: &Trace) -> Result<Option<LuckAt>, Refusa
     let mut watch = Watch::new(alloc, trace.limits().regs);
     for i in 0..trace.len() {
         let (_, event) = trace.entry(i);
-        if let Some(luck) = watch.take(&event.event())? {
+        if let Some(luck) = watch.take(event)? {
             return Ok(Some(LuckAt {
                 place: i as u64 + 1,
                 luck,

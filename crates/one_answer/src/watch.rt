@@ -1,6 +1,8 @@
 //! What is watched while the events of a run are gone through: who draws numbers, and how many tasks each
 //! phaser had.
 ghost use Rattle.std.specs.Prelude.{◌≡◌, nat_lt, None, IfOk, IfErr};
+ghost use Rattle.trace_model.specs.Explained.{event_of};
+ghost use Rattle.trace_model.specs.Views.{viewed};
 ghost use Rattle.one_answer.specs.inner.Watched.{count_in, draws, drawn, is_taken, luck_taken, CountsMore, IsAfter, IsFresh};
 
 use crate::luck::{Luck, luck_in};
@@ -8,7 +10,8 @@ use finish_core::FinishEvent;
 use phase_modes::Refusal;
 use std::alloc::Global;
 use std::collections::BTreeMap;
-use world_model::{Begun, Step, WorldEvent};
+use trace_model::{EventView, ShortStep, TracedEvent, TracedStep};
+use world_model::Begun;
 
 /// The draws of one kind of number.
 #[derive(Clone, Copy)]
@@ -88,38 +91,56 @@ impl Watch {
         Ok(true)
     }
 
-    /// Whether luck has no part in the event; it is gone past then.
-    fn takes(&mut self, event: &WorldEvent) -> Result<bool, Refusal>
-        ensures is { IfOk result (λ b. b ≡ is_taken self.old event.now) }
-        ensures after { IfOk result (λ b. IsAfter event.now b self.old self.new) }
+    /// Whether luck has no part in a long event; it is gone past then.
+    fn takes_long(&mut self, event: &TracedEvent) -> Result<bool, Refusal>
+        ensures is { IfOk result (λ b. b ≡ is_taken self.old (event_of event.now)) }
+        ensures after { IfOk result (λ b. IsAfter (event_of event.now) b self.old self.new) }
         ensures memory { IfErr result (λ e. e ≡ Refusal.Memory) }
     {
         match event {
-            WorldEvent::Refuse(_, _, _) | WorldEvent::Fail(_, _) => Ok(false),
-            WorldEvent::Phaser(phaser, Step::Make(task, _, _)) => {
+            TracedEvent::Refuse(_, _, _) | TracedEvent::Fail(_, _) => Ok(false),
+            TracedEvent::Phaser(phaser, TracedStep::Make(task, _, _)) => {
                 if !self.phasers.draw(*task, *phaser) {
                     return Ok(false);
                 }
                 self.register(*phaser)
             }
-            WorldEvent::Phaser(phaser, Step::Reg(_, _, _)) => self.register(*phaser),
-            WorldEvent::Begin(task, Begun::Async(child, _)) => Ok(self.tasks.draw(*task, *child)),
-            WorldEvent::Finish(finish, FinishEvent::Opened(task)) => {
+            TracedEvent::Phaser(phaser, TracedStep::Reg(_, _, _)) => self.register(*phaser),
+            TracedEvent::Begin(task, Begun::Async(child, _)) => Ok(self.tasks.draw(*task, *child)),
+            TracedEvent::Finish(finish, FinishEvent::Opened(task)) => {
                 Ok(self.finishes.draw(*task, *finish))
             }
             _ => Ok(true),
         }
     }
 
+    /// The same of any event that a trace lends.
+    fn takes(&mut self, event: EventView<'_>) -> Result<bool, Refusal>
+        ensures is { IfOk result (λ b. b ≡ is_taken self.old (event_of (viewed event.entry))) }
+        ensures after { IfOk result (λ b. IsAfter (event_of (viewed event.entry)) b self.old self.new) }
+        ensures memory { IfErr result (λ e. e ≡ Refusal.Memory) }
+    {
+        match event {
+            EventView::Fail(_, _) => Ok(false),
+            EventView::Phaser(phaser, ShortStep::Reg(_, _, _)) => self.register(phaser),
+            EventView::Finish(finish, FinishEvent::Opened(task)) => {
+                Ok(self.finishes.draw(task, finish))
+            }
+            EventView::Long(event) => self.takes_long(event),
+            _ => Ok(true),
+        }
+    }
+
     /// Goes past the event, or answers what luck decides by it.
-    pub(crate) fn take(&mut self, event: &WorldEvent) -> Result<Option<Luck>, Refusal>
-        ensures is { IfOk result (λ o. o ≡ luck_taken self.old event.now) }
-        ensures after { IfOk result (λ o. IsAfter event.now (is_taken self.old event.now) self.old self.new) }
+    pub(crate) fn take(&mut self, event: EventView<'_>) -> Result<Option<Luck>, Refusal>
+        ensures is { IfOk result (λ o. o ≡ luck_taken self.old (event_of (viewed event.entry))) }
+        ensures after { IfOk result (λ o. IsAfter (event_of (viewed event.entry))
+            (is_taken self.old (event_of (viewed event.entry))) self.old self.new) }
         ensures memory { IfErr result (λ e. e ≡ Refusal.Memory) }
     {
         if self.takes(event)? {
             return Ok(None);
         }
-        Ok(luck_in(event))
+        Ok(luck_in(&event.event().event()))
     }
 }

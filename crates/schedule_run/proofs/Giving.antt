@@ -1,5 +1,7 @@
 -- What a body gives is what its task makes next.
-use Rattle.std.proofs.Common.{ℕ, ◌≡◌, List, Option, Some, None, refl, ap, subst, ◌∙◌}
+use Rattle.std.proofs.Common.{ℕ, ◌≡◌, List, Option, Some, None, refl, sym, ap, subst, ◌∙◌}
+use Rattle.std.specs.Prelude.{option_map}
+use Rattle.std.proofs.lemmas.Option.{none-some, same_Some}
 use Rattle.job_script.specs.declared.head.Head.{Head}
 use Rattle.job_script.specs.declared.head.Head.TheVariants as acts
 use Rattle.job_script.specs.Acts.{Act, Acts}
@@ -48,3 +50,14 @@ is-next-by p w m act o given is =
     (ap (λ (a : Tried). same_act m.act a)
     (ap (λ (a : tasks.Act Script). tried_of (own_pairs m.task w) (drawn m.act) a) given
     ∙ given-is-tried p w m.task (drawn m.act)))
+
+-- the act of the task who acts
+pub acted : (o : Option Made) (t : ℕ) → option_map (λ (m : Made). m.task) o ≡ Some t
+    → (act : Tried) × (o ≡ Some (record { task = t; act = act }))
+acted None t own = absurd (none-some t own)
+acted (Some m) t own = (m.act, ap (λ (u : ℕ). Some (record { task = u; act = m.act })) (same_Some m.task t own))
+
+-- where nobody acts there is no act
+pub nobody_acts : (o : Option Made) → option_map (λ (m : Made). m.task) o ≡ None → o ≡ None
+nobody_acts None none = refl
+nobody_acts (Some m) none = absurd (none-some m.task (sym none))

@@ -1,5 +1,5 @@
 -- The seats of a run's tasks after a task was given an act, and after its event.
-use Rattle.std.proofs.Common.{ℕ, zero, suc, ◌≡◌, ◌≢◌, ◌<◌, Bool, true, false, ◌==◌, true≢false, List, [], ◌∷◌, ◌++◌, drop, slice_get, length, Option, Some, None, refl, sym, ap, subst, ◌∙◌, arith, le_of_suc-le-suc}
+use Rattle.std.proofs.Common.{Bor, ℕ, zero, suc, ◌≡◌, ◌≢◌, ◌<◌, Bool, true, false, ◌==◌, true≢false, List, [], ◌∷◌, ◌++◌, drop, slice_get, length, Option, Some, None, refl, sym, ap, subst, ◌∙◌, arith, le_of_suc-le-suc}
 use Rattle.std.proofs.Math.ListN.{set}
 use Rattle.std.proofs.lemmas.Bool.{eqb-true, false_from_ne_true}
 use Rattle.phase_modes.specs.declared.reg.Mode.{Mode}
@@ -20,7 +20,16 @@ use Rattle.world_model.specs.Due.{next_event}
 use Rattle.schedule_model.specs.Picks.{event_of}
 use Rattle.schedule_model.proofs.NoActs.{next-continues}
 use Rattle.world_model.specs.declared.event.WorldEvent.{WorldEvent}
-use Rattle.world_model.specs.declared.event.WorldEvent.TheVariants.{Phaser, Finish, Begin, Refuse}
+use Rattle.world_model.specs.declared.event.WorldEvent.TheVariants.{Phaser, Finish, Begin, Refuse, Fail}
+use Rattle.trace_model.specs.Explained.{step_of, event_of as event_in}
+use Rattle.trace_model.specs.Views.{short_act, short_step, viewed}
+use Rattle.trace_model.specs.declared.event.TracedEvent.{TracedEvent}
+use Rattle.trace_model.specs.declared.view.EventView.{EventView}
+use Rattle.trace_model.specs.declared.view.EventView.TheVariants as view
+use Rattle.trace_model.specs.declared.view.ShortAct.{ShortAct}
+use Rattle.trace_model.specs.declared.view.ShortAct.TheVariants.{Signal as Signalling, Wait as Waiting, Next as NextOne, NextSingle as NextWith, Shut as Shutting, End as Leaving}
+use Rattle.trace_model.specs.declared.view.ShortStep.{ShortStep}
+use Rattle.trace_model.specs.declared.view.ShortStep.TheVariants as short
 use Rattle.schedule_model.specs.Scripts.{act_of, is_of, parent_by, body_of, acts_left, meanings, next_act}
 use Rattle.schedule_run.specs.declared.bodies.Seat.{Seat}
 use Rattle.schedule_run.specs.inner.Bodies.{Standing, standing, seat_in, seat_at, standing_of, SeatsStand, BodiesStand, IsAskedSeat, IsAskedOf, IsAsked}
@@ -139,6 +148,37 @@ settled p w t at e a act alone plain =
     each_task p (e ∷ w) at t
     (own_settled p w t (at t) a.own ∙ sym (acted p w t e act (alone t) plain))
     (λ u k. a.others u k ∙ sym (unmoved p w u e (one_task t u (act_of e) act k) (alone u)))
+
+begins_alone : (t : ℕ) (b : ShortAct) (u : ℕ) → parent_by u (Begin t (short_act b)) ≡ None
+begins_alone t Signalling u = refl
+begins_alone t Waiting u = refl
+begins_alone t NextOne u = refl
+begins_alone t (NextWith n) u = refl
+begins_alone t Shutting u = refl
+begins_alone t Leaving u = refl
+
+makes_none : (n : ℕ) (s : ShortStep) → is_making (Phaser n (step_of (short_step s))) ≡ false
+makes_none n (short.Reg q t m) = refl
+makes_none n (short.Sig t x) = refl
+makes_none n (short.Claim t) = refl
+makes_none n (short.Did t) = refl
+makes_none n (short.Pass t) = refl
+makes_none n (short.Send t a v) = refl
+makes_none n (short.Saw a t v) = refl
+makes_none n (short.SawNothing t a) = refl
+makes_none n (short.Drop t) = refl
+
+-- an event that a trace keeps short leaves the seats as they are to stand
+pub short_settled : (p : Program) (w : List WorldEvent) (t : ℕ) (at : ℕ → Option Seat) (e : EventView)
+    → ((x : Bor TracedEvent) → e ≡ view.Long x → ⊥) → IsAskedOf p w t at
+    → is_of t (act_of (event_in (viewed e))) ≡ true → SeatsStand p (event_in (viewed e) ∷ w) at
+short_settled p w t at (view.Phaser n s) short a act =
+    settled p w t at (Phaser n (step_of (short_step s))) a act (λ u. refl) (makes_none n s)
+short_settled p w t at (view.Finish f e) short a act = settled p w t at (Finish f e) a act (λ u. refl) refl
+short_settled p w t at (view.Begin u b) short a act =
+    settled p w t at (Begin u (short_act b)) a act (begins_alone u b) refl
+short_settled p w t at (view.Fail u n) short a act = settled p w t at (Fail u n) a act (λ v. refl) refl
+short_settled p w t at (view.Long x) short a act = absurd (short x refl)
 
 -- an event that is no act
 pub quiet_stands : (p : Program) (w : List WorldEvent) (at : ℕ → Option Seat) (e : WorldEvent)

@@ -1,11 +1,14 @@
 -- The act that a body gives, as the world knows it.
-use Rattle.std.specs.Prelude.{List}
+use Rattle.std.specs.Prelude.{Bool, false, List, Option, Some, None}
 use Rattle.phase_modes.specs.declared.phased.Pair.{Pair}
 use Rattle.job_script.specs.declared.act.Act as tasks
 use Rattle.job_script.specs.declared.act.Act.TheVariants as acts
 use Rattle.world_model.specs.declared.event.Begun.TheVariants.{Async, Signal, Wait, Next, NextSingle, Shut, End}
 use Rattle.world_model.specs.declared.event.Tried.{Tried}
 use Rattle.world_model.specs.declared.event.Tried.TheVariants.{Begun as Beginning, New, Open, Send as Sending, Look as Looking}
+use Rattle.world_model.specs.declared.event.WorldEvent.{WorldEvent}
+use Rattle.world_model.specs.Drawing.{own_pairs}
+use Rattle.schedule_model.specs.Follows.{drawn, same_act}
 use Rattle.schedule_model.specs.Scripts.{Made, Numbers}
 use Rattle.schedule_run.specs.declared.acts.Numbers as stored
 use Rattle.schedule_run.specs.declared.acts.MadeAct.{MadeAct}
@@ -32,3 +35,8 @@ made_view m = record { task = m.task; act = m.act }
 -- numbers that are drawn
 abbrev pub numbers_view : stored.Numbers → Numbers
 numbers_view d = record { phaser = d.phaser; task = d.task; finish = d.finish }
+
+-- what was made or refused after these events is an act, and the one that a body gives, the numbers that it drew being any
+abbrev pub gives : {B : Type 0} → List WorldEvent → Option Made → tasks.Act B → Bool
+gives w None act = false
+gives w (Some m) act = same_act m.act (tried_of (own_pairs m.task w) (drawn m.act) act)

@@ -1,9 +1,10 @@
 //! Acts as the world knows them: the one that a body gives, and the one that an event makes or
 //! refuses, with the numbers that it draws.
-ghost use Rattle.std.specs.Prelude.{◌≡◌, is_some, option_map};
+ghost use Rattle.std.specs.Prelude.{◌≡◌, option_map};
 ghost use Rattle.schedule_model.specs.Follows.{drawn};
 ghost use Rattle.schedule_model.specs.Picks.{event_of as event_made};
 ghost use Rattle.trace_model.specs.Explained.{event_of};
+ghost use Rattle.trace_model.specs.Views.{viewed};
 ghost use Rattle.schedule_model.specs.Scripts.{act_of};
 ghost use Rattle.schedule_run.specs.Given.{made_view, numbers_view, tried_of};
 
@@ -11,12 +12,12 @@ use finish_core::FinishEvent;
 use job_script::Act;
 use phase_model::Terms;
 use phase_modes::Phased;
-use trace_model::{TracedEvent, TracedStep};
+use trace_model::{EventView, ShortStep, TracedEvent, TracedStep};
 use world_model::{Begun, Step, Tried, WorldEvent};
 
 /// An act that a task made or was refused.
 #[derive(Clone, Copy, Debug, PartialEq, Eq)]
-pub struct MadeAct {
+pub(crate) struct MadeAct {
     pub task: u32,
     pub act: Tried,
 }
@@ -76,7 +77,7 @@ pub(crate) fn event_of(task: u32, act: Tried) -> WorldEvent
 
 /// The act of which the event is the first, or which it refuses; none for what continues an act,
 /// and for a failure.
-pub fn act_of(event: &TracedEvent) -> Option<MadeAct>
+pub(crate) fn act_of(event: &TracedEvent) -> Option<MadeAct>
     ensures { option_map made_view result ≡ act_of (event_of event.now) }
 {
     match event {
@@ -108,20 +109,42 @@ pub fn act_of(event: &TracedEvent) -> Option<MadeAct>
     }
 }
 
-/// Whether an event of a trace is an act, made or refused. It is asked first by what walks a trace:
-/// it takes no event apart, and of the events of a `next` two in three are no acts.
-pub fn is_act(event: &TracedEvent) -> bool
-    ensures { result ≡ is_some (act_of (event_of event.now)) }
+/// The task of the act of which the event is the first, or which it refuses; none for what continues
+/// an act, and for a failure.
+fn actor_in(event: &TracedEvent) -> Option<u32>
+    ensures { result ≡ option_map (λ m. m.task) (act_of (event_of event.now)) }
 {
-    matches!(
-        event,
+    match event {
         TracedEvent::Phaser(
             _,
-            TracedStep::Make(_, _, _) | TracedStep::Send(_, _, _) | TracedStep::Look(_, _, _)
-        ) | TracedEvent::Finish(_, FinishEvent::Opened(_))
-            | TracedEvent::Begin(_, _)
-            | TracedEvent::Refuse(_, _, _)
-    )
+            TracedStep::Make(task, _, _)
+            | TracedStep::Send(task, _, _)
+            | TracedStep::Look(task, _, _),
+        ) => Some(*task),
+        TracedEvent::Finish(_, FinishEvent::Opened(task)) => Some(*task),
+        TracedEvent::Begin(task, _) | TracedEvent::Refuse(task, _, _) => Some(*task),
+        _ => None,
+    }
+}
+
+/// The task whose act an event of a trace makes or refuses; none for what continues an act, and for
+/// a failure. It is asked first by what walks a trace: of the events of a `next` two in three are no
+/// acts.
+pub fn actor(event: EventView<'_>) -> Option<u32>
+    ensures { result ≡ option_map (λ m. m.task) (act_of (event_of (viewed event.entry))) }
+{
+    match event {
+        EventView::Phaser(
+            _,
+            ShortStep::Send(task, _, _)
+            | ShortStep::Saw(_, task, _)
+            | ShortStep::SawNothing(task, _),
+        ) => Some(task),
+        EventView::Finish(_, FinishEvent::Opened(task)) => Some(task),
+        EventView::Begin(task, _) => Some(task),
+        EventView::Long(event) => actor_in(event),
+        _ => None,
+    }
 }
 
 /// The numbers that an act has drawn; those that it gives to nothing are 0.

@@ -1,51 +1,32 @@
 //! Whether a trace follows a program: one pass over its events, with a seat for each task.
-ghost use Rattle.std.specs.Prelude.{◌≡◌, ℕ, ◌≤◌, ◌∷◌, [], List, length, take, true, false, Err, IfOk, IfErr};
+ghost use Rattle.std.specs.Prelude.{◌≡◌, ℕ, ◌≤◌, ◌∷◌, [], List, length, option_map, take, true, false, Some, Err, IfOk, IfErr};
 ghost use Rattle.phase_modes.specs.declared.reg.Mode as modes;
 ghost use Rattle.phase_modes.specs.declared.phased.Pair as phased;
 ghost use Rattle.phase_modes.specs.declared.refusal.Refusal.TheVariants.{Memory as NoMemory};
 ghost use Rattle.phase_model.specs.declared.terms.Terms.{Terms};
 ghost use Rattle.job_script.specs.Program as programs;
 ghost use Rattle.job_script.specs.Steps.{begun, next_for};
-ghost use Rattle.world_model.specs.Drawing.{own_pairs};
 ghost use Rattle.world_model.specs.declared.event.Begun.TheVariants.{Async};
 ghost use Rattle.world_model.specs.declared.event.Step.TheVariants.{Make};
 ghost use Rattle.world_model.specs.declared.event.WorldEvent.TheVariants.{Phaser, Begin};
 ghost use Rattle.world_model.specs.declared.event.WorldEvent as events;
 ghost use Rattle.schedule_model.specs.Scripts.{act_of, body_of, is_of, meanings, next_act};
-ghost use Rattle.schedule_model.specs.Follows.{drawn, follows, is_next, same_act};
+ghost use Rattle.schedule_model.specs.Follows.{follows, is_next};
 ghost use Rattle.trace_model.specs.Explained.{event_of, step_of};
+ghost use Rattle.trace_model.specs.Views.{viewed};
 ghost use Rattle.schedule_run.specs.Following.{first_not_next, history, AnswersPlace};
-ghost use Rattle.schedule_run.specs.Given.{tried_of};
 ghost use Rattle.schedule_run.specs.inner.Bodies.{IsAskedOf, SeatsStand};
 ghost use Rattle.schedule_run.specs.inner.Followers.{seat_of, IsTaken};
 
-use crate::acts::{MadeAct, act_of, drawn, is_act, tried_of};
+use crate::acts::actor;
 use crate::bodies::Seat;
-use crate::phasers_held::are_own_pairs;
-use crate::same_act::is_same_act;
+use crate::given::is_given;
 use job_script::{Act, Answer, Program, ScriptBody};
-use phase_modes::{Phased, Refusal};
+use phase_modes::Refusal;
 use std::alloc::Global;
 use std::collections::BTreeMap;
-use trace_model::{Trace, TracedEvent, TracedStep};
-use world_model::{Begun, Tried};
-
-/// Whether a task's act is the one that its body gives after so many events of a trace, the numbers
-/// that it drew being any. Of a spawn on all phasers it goes over the events before it, once for each
-/// phaser that the task ever came to.
-pub fn is_given<B: Drop>(trace: &Trace, count: usize, made: &MadeAct, act: &Act<B>) -> bool
-    requires { count ≤ length trace.now.events }
-    ensures { result ≡ same_act made.now.act
-        (tried_of (own_pairs made.now.task (history (take count trace.now.events)))
-        (drawn made.now.act) act.now) }
-{
-    match (act, &made.act) {
-        (Act::AsyncAll(_), Tried::Begun(Begun::Async(_, pairs))) => {
-            are_own_pairs(trace, count, made.task, pairs.as_slice())
-        }
-        _ => is_same_act(&made.act, &tried_of(Phased::none(), drawn(&made.act), act)),
-    }
-}
+use trace_model::{EventView, Trace, TracedEvent, TracedStep};
+use world_model::Begun;
 
 /// The tasks of a trace by their numbers, which may be any. A task has a seat from its spawn on.
 #[derive(Drop)]
@@ -115,9 +96,9 @@ impl<'p> Followers<'p> {
         }
     }
 
-    /// Reports to a task what came of the act that it was given, by the event that makes or refuses it:
-    /// a phaser has its number, and a child its seat.
-    fn settle(
+    /// Reports to a task what came of the act that it was given, by a long event: a phaser has its
+    /// number, and a child its seat.
+    fn settle_long(
         &mut self,
         task: u32,
         event: &TracedEvent,
@@ -144,28 +125,67 @@ impl<'p> Followers<'p> {
         }
     }
 
+    /// The same, by any event that makes or refuses it.
+    fn settle(
+        &mut self,
+        task: u32,
+        event: EventView<'_>,
+        act: Act<ScriptBody<'p>>,
+    ) -> Result<(), Refusal>
+        ensures settled { (p : programs.Program) (w : List events.WorldEvent)
+            → IsAskedOf p w task (seat_of self.old.seats)
+            → act.entry ≡ next_for (meanings p w task) (next_act p w task)
+            → is_of task (act_of (event_of (viewed event.entry))) ≡ true
+            → is_next p w (act_of (event_of (viewed event.entry))) ≡ true
+            → IfOk result (λ _. SeatsStand p (event_of (viewed event.entry) ∷ w) (seat_of self.new.seats)) }
+        ensures memory { IfErr result (λ e. e ≡ NoMemory) }
+    {
+        match event {
+            EventView::Long(event) => self.settle_long(task, event, act),
+            _ => Ok(()),
+        }
+    }
+
+    /// Whether the act that an event makes or refuses is its task's next one, after so many of a trace
+    /// before it; the task goes past it then. It is not in line, for the reason that `gives_long` isn't.
+    #[inline(never)]
+    fn takes_act(
+        &mut self,
+        trace: &Trace,
+        count: usize,
+        task: u32,
+        event: EventView<'_>,
+    ) -> Result<bool, Refusal>
+        requires count { count ≤ length trace.now.events }
+        requires own { option_map (λ m. m.task) (act_of (event_of (viewed event))) ≡ Some task }
+        ensures taken { (p : programs.Program)
+            → SeatsStand p (history (take count trace.now.events)) (seat_of self.old.seats)
+            → IfOk result (λ b. IsTaken p (history (take count trace.now.events))
+            (event_of (viewed event.entry)) (seat_of self.new.seats) b) }
+        ensures memory { IfErr result (λ e. e ≡ NoMemory) }
+    {
+        let act = self.next_act(task);
+        if !is_given(trace, count, event, &act) {
+            return Ok(false);
+        }
+        self.settle(task, event, act)?;
+        Ok(true)
+    }
+
     /// Whether an event is no act, or its task's next one after so many of a trace before it; it is
     /// gone past then.
-    fn takes(&mut self, trace: &Trace, count: usize, event: &TracedEvent) -> Result<bool, Refusal>
+    fn takes(&mut self, trace: &Trace, count: usize, event: EventView<'_>) -> Result<bool, Refusal>
         requires { count ≤ length trace.now.events }
         ensures taken { (p : programs.Program)
             → SeatsStand p (history (take count trace.now.events)) (seat_of self.old.seats)
-            → IfOk result (λ b. IsTaken p
-            (history (take count trace.now.events)) (event_of event.now) (seat_of self.new.seats) b) }
+            → IfOk result (λ b. IsTaken p (history (take count trace.now.events))
+            (event_of (viewed event.entry)) (seat_of self.new.seats) b) }
         ensures memory { IfErr result (λ e. e ≡ NoMemory) }
     {
-        if !is_act(event) {
-            return Ok(true);
+        match actor(event) {
+            Some(task) => self.takes_act(trace, count, task, event),
+            None => Ok(true),
         }
-        let Some(made) = act_of(event) else {
-            unreachable!()
-        };
-        let act = self.next_act(made.task);
-        if !is_given(trace, count, &made, &act) {
-            return Ok(false);
-        }
-        self.settle(made.task, event, act)?;
-        Ok(true)
     }
 }
 
@@ -182,7 +202,8 @@ pub fn follows(alloc: Global, program: &Program, trace: &Trace) -> Result<(), Re
 {
     let mut followers = Followers::new(alloc, program)?;
     for i in 0..trace.len() {
-        if !followers.takes(trace, i, &trace.event(i))? {
+        let (_, event) = trace.entry(i);
+        if !followers.takes(trace, i, event)? {
             return Err(Refusal::NotExplained(i as u64 + 1));
         }
     }

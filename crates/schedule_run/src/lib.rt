@@ -4,6 +4,7 @@
 mod acts;
 mod bodies;
 mod followers;
+mod given;
 mod notes;
 mod phasers_held;
 mod record;
@@ -11,6 +12,7 @@ mod run;
 mod runner;
 mod same_act;
 
-pub use acts::{MadeAct, act_of, is_act};
-pub use followers::{follows, is_given};
+pub use acts::actor;
+pub use followers::follows;
+pub use given::is_given;
 pub use run::{Run, run_picks};

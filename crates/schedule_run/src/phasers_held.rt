@@ -8,12 +8,13 @@ ghost use Rattle.world_model.specs.Parts.{event_for};
 ghost use Rattle.world_model.specs.Tasks.{joined_by};
 ghost use Rattle.schedule_model.specs.Follows.{same_pairs};
 ghost use Rattle.trace_model.specs.Explained.{step_of, event_of};
+ghost use Rattle.trace_model.specs.Views.{viewed};
 ghost use Rattle.schedule_run.specs.Following.{history};
 ghost use Rattle.schedule_run.specs.inner.Holding.{stay_in, stay_of, mode_on, pair_by};
 
 use crate::same_act::is_same_pair;
 use phase_modes::{Mode, Pair};
-use trace_model::{Trace, TracedEvent, TracedStep};
+use trace_model::{EventView, ShortStep, Trace, TracedEvent, TracedStep};
 
 /// What events say of a task and a phaser: the mode in which it was last registered there, and
 /// whether it was dropped.
@@ -40,12 +41,15 @@ impl Stay {
     }
 
     /// The same after one event more.
-    fn after(self, task: u32, phaser: u32, event: &TracedEvent) -> Stay
-        ensures { (w : List events.WorldEvent)
-            → self ≡ stay_of task phaser w → result ≡ stay_of task phaser (event_of event.now ∷ w) }
+    fn after(self, task: u32, phaser: u32, event: EventView<'_>) -> Stay
+        ensures { (w : List events.WorldEvent) → self ≡ stay_of task phaser w
+            → result ≡ stay_of task phaser (event_of (viewed event.entry) ∷ w) }
     {
         match event {
-            TracedEvent::Phaser(n, step) if *n == phaser => self.after_step(task, step),
+            EventView::Phaser(n, step) if n == phaser => self.after_step(task, &step.step()),
+            EventView::Long(TracedEvent::Phaser(n, step)) if *n == phaser => {
+                self.after_step(task, step)
+            }
             _ => self,
         }
     }
@@ -62,17 +66,20 @@ fn mode_on(trace: &Trace, count: usize, task: u32, phaser: u32) -> Option<Mode>
         left: false,
     };
     for place in 0..count {
-        stay = stay.after(task, phaser, &trace.event(place));
+        let (_, event) = trace.entry(place);
+        stay = stay.after(task, phaser, event);
     }
     if stay.left { None } else { stay.mode }
 }
 
 /// The phaser on which an event registers a task.
-fn joined_by(task: u32, event: &TracedEvent) -> Option<u32>
-    ensures { result ≡ joined_by task (event_of event.now) }
+fn joined_by(task: u32, event: EventView<'_>) -> Option<u32>
+    ensures { result ≡ joined_by task (event_of (viewed event.entry)) }
 {
     match event {
-        TracedEvent::Phaser(n, TracedStep::Make(t, _, _) | TracedStep::Reg(_, t, _))
+        EventView::Phaser(n, ShortStep::Reg(_, t, _)) if t == task => Some(n),
+        EventView::Long(TracedEvent::Phaser(n, TracedStep::Make(t, _, _)))
+        | EventView::Long(TracedEvent::Phaser(n, TracedStep::Reg(_, t, _)))
             if *t == task => { Some(*n) }
         _ => None,
     }
@@ -80,9 +87,9 @@ fn joined_by(task: u32, event: &TracedEvent) -> Option<u32>
 
 /// The phaser on which an event registers a task, with the task's mode on it after so many events
 /// of a trace; none where it isn't registered there any more.
-fn pair_by(trace: &Trace, count: usize, task: u32, event: &TracedEvent) -> Option<Pair>
+fn pair_by(trace: &Trace, count: usize, task: u32, event: EventView<'_>) -> Option<Pair>
     requires { count ≤ length trace.now.events }
-    ensures { result ≡ pair_by task (history (take count trace.now.events)) (event_of event.now) }
+    ensures { result ≡ pair_by task (history (take count trace.now.events)) (event_of (viewed event.entry)) }
 {
     let phaser = joined_by(task, event)?;
     let mode = mode_on(trace, count, task, phaser)?;
@@ -98,7 +105,8 @@ pub(crate) fn are_own_pairs(trace: &Trace, count: usize, task: u32, pairs: &[Pai
 {
     let mut found = 0;
     for place in 0..count {
-        if let Some(own) = pair_by(trace, count, task, &trace.event(place)) {
+        let (_, event) = trace.entry(place);
+        if let Some(own) = pair_by(trace, count, task, event) {
             if found >= pairs.len() || !is_same_pair(pairs[found], own) {
                 return false;
             }

@@ -2,5 +2,4 @@ pub mod Adding
 pub mod Faults
 pub mod Legal
 pub mod Owners
-pub mod Places
 pub mod Telling

@@ -6,4 +6,5 @@ pub mod Projections
 pub mod Run
 pub mod TaskLog
 pub mod Told
+pub mod Views
 pub mod inner

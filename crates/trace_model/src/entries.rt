@@ -1,8 +1,10 @@
 //! The events of a trace with their tickets, each in as little room as it needs.
-ghost use Rattle.std.specs.Prelude.{◌≡◌, ◌<◌, ◌^◌, ◌++◌, ◌∷◌, [], length, option_map, slice_get, Some, IfOk, IfErr};
+ghost use Rattle.std.specs.Prelude.{◌≡◌, ◌<◌, ◌^◌, ◌++◌, ◌∷◌, [], length, slice_get, Some, IfOk, IfErr};
+ghost use Rattle.trace_model.specs.Views.{viewed};
 
 use crate::event::{TracedEvent, TracedStep};
 use crate::kept::Kept;
+use crate::view::EventView;
 use phase_model::{Bound, Terms};
 use phase_modes::Refusal;
 use std::alloc::Global;
@@ -96,28 +98,12 @@ impl Entries {
         self.kept.as_slice().len()
     }
 
-    /// The event at this place, with its ticket.
-    pub(crate) fn entry(&self, place: usize) -> (u64, TracedEvent)
+    /// The event at this place, where it stands, with its ticket.
+    pub(crate) fn entry(&self, place: usize) -> (u64, EventView<'_>)
         requires { place < length self.now }
-        ensures { slice_get self.now place ≡ Some result }
+        ensures { slice_get self.now place ≡ Some (result.0, viewed result.1) }
     {
         let (ticket, kept) = self.kept[place];
-        (ticket, kept.event(&self.long))
-    }
-
-    /// The ticket of the event at this place.
-    pub(crate) fn ticket(&self, place: usize) -> u64
-        requires { place < length self.now }
-        ensures { option_map (λ e. e.0) (slice_get self.now place) ≡ Some result }
-    {
-        self.kept[place].0
-    }
-
-    /// The event at this place.
-    pub(crate) fn event(&self, place: usize) -> TracedEvent
-        requires { place < length self.now }
-        ensures { option_map (λ e. e.1) (slice_get self.now place) ≡ Some result }
-    {
-        self.kept[place].1.event(&self.long)
+        (ticket, kept.view(&self.long))
     }
 }

@@ -10,7 +10,7 @@ use phase_model::Look;
 use phase_modes::Refusal;
 use world_model::{Reply, Step, WorldEvent};
 
-fn is_seen(seen: Look, reply: Result<Reply, Refusal>) -> bool
+pub(crate) fn is_seen(seen: Look, reply: Result<Reply, Refusal>) -> bool
     ensures { result ≡ is_seen seen reply }
 {
     match (reply, seen) {
@@ -20,7 +20,7 @@ fn is_seen(seen: Look, reply: Result<Reply, Refusal>) -> bool
     }
 }
 
-fn is_made(reply: Result<Reply, Refusal>) -> bool
+pub(crate) fn is_made(reply: Result<Reply, Refusal>) -> bool
     ensures { result ≡ is_made reply }
 {
     match reply {
@@ -63,7 +63,7 @@ impl TracedEvent {
     }
 
     /// Whether a reply makes the event, and answers a look what it saw.
-    pub fn is_answered(&self, reply: Result<Reply, Refusal>) -> bool
+    pub(crate) fn is_answered(&self, reply: Result<Reply, Refusal>) -> bool
         ensures { result ≡ is_answered self.now reply }
     {
         match *self {
@@ -73,7 +73,7 @@ impl TracedEvent {
     }
 
     /// Whether it is the shut of finish 0, with which a run ends.
-    pub fn ends_run(&self) -> bool
+    pub(crate) fn ends_run(&self) -> bool
         ensures { result ≡ ends_run self.now }
     {
         match *self {

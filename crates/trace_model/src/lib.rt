@@ -10,6 +10,7 @@ mod laws;
 mod log;
 mod part;
 mod trace;
+mod view;
 
 pub use event::{TracedEvent, TracedStep};
 pub use laws::{
@@ -19,3 +20,4 @@ pub use laws::{
 pub use log::Log;
 pub use part::Part;
 pub use trace::Trace;
+pub use view::{EventView, ShortAct, ShortStep};

@@ -1,10 +1,12 @@
 //! The trace of a run.
-ghost use Rattle.std.specs.Prelude.{◌≡◌, ◌<◌, ◌^◌, [], true, length, option_map, slice_get, Some, IfOk, IfErr};
+ghost use Rattle.std.specs.Prelude.{◌≡◌, ◌<◌, ◌^◌, [], true, length, slice_get, Some, IfOk, IfErr};
 ghost use Rattle.phase_modes.specs.Limits.{limits_fit};
 ghost use Rattle.trace_model.specs.Run.{with_event};
+ghost use Rattle.trace_model.specs.Views.{viewed};
 
 use crate::entries::Entries;
 use crate::event::TracedEvent;
+use crate::view::EventView;
 use phase_modes::{Limits, Refusal};
 use std::alloc::Global;
 use std::marker::Model;
@@ -84,28 +86,12 @@ impl Trace {
         self.events.len()
     }
 
-    /// The event at this place, counted from 0, with its ticket.
-    pub fn entry(&self, place: usize) -> (u64, TracedEvent)
+    /// The event at this place, counted from 0, with its ticket. The trace lends it: none is made,
+    /// which would be as large as the largest of its kinds.
+    pub fn entry(&self, place: usize) -> (u64, EventView<'_>)
         requires { place < length self.now.events }
-        ensures { slice_get self.now.events place ≡ Some result }
+        ensures { slice_get self.now.events place ≡ Some (result.0, viewed result.1) }
     {
         self.events.entry(place)
-    }
-
-    /// The ticket of the event at this place, counted from 0; the event isn't read.
-    pub fn ticket(&self, place: usize) -> u64
-        requires { place < length self.now.events }
-        ensures { option_map (λ e. e.0) (slice_get self.now.events place) ≡ Some result }
-    {
-        self.events.ticket(place)
-    }
-
-    /// The event at this place, counted from 0, without its ticket: quicker than both together, of
-    /// which the event is the larger by far.
-    pub fn event(&self, place: usize) -> TracedEvent
-        requires { place < length self.now.events }
-        ensures { option_map (λ e. e.1) (slice_get self.now.events place) ≡ Some result }
-    {
-        self.events.event(place)
     }
 }

@@ -3,13 +3,14 @@ ghost use Rattle.std.specs.Prelude.{◌≡◌, List, [], ◌∷◌, true, IfOk, 
 ghost use Rattle.phase_modes.specs.Limits.{limits_fit};
 ghost use Rattle.trace_model.specs.Run.{Entry};
 ghost use Rattle.trace_model.specs.Explained.{may_follow};
+ghost use Rattle.trace_model.specs.Views.{viewed};
 ghost use Rattle.trace_replay.specs.Replaying.{Replays};
 ghost use Rattle.trace_replay.specs.inner.HandedOver.{HandedOver, HandsOver, Plays, is_later_than};
 
 use phase_model::{Bound, Terms};
 use phase_modes::{Limits, Refusal};
 use std::alloc::Global;
-use trace_model::{Trace, TracedEvent, TracedStep};
+use trace_model::{EventView, Trace, TracedStep};
 use world_core::World;
 use world_model::{Begun, Tried, WorldReport};
 
@@ -50,11 +51,11 @@ impl Player {
 
     /// Hands the event to the world. Whether it may follow those before it; where it may not, the
     /// replay is at its end.
-    fn take(&mut self, ticket: u64, event: &TracedEvent) -> bool
+    fn take(&mut self, ticket: u64, event: EventView<'_>) -> bool
         ensures answer { (l : Limits) (es : List Entry) → HandedOver l es self.old
-            → result ≡ may_follow l es (ticket, event.now) }
+            → result ≡ may_follow l es (ticket, viewed event.entry) }
         ensures goes_on { (l : Limits) (es : List Entry) → HandedOver l es self.old → result ≡ true
-            → HandedOver l ((ticket, event.now) ∷ es) self.new }
+            → HandedOver l ((ticket, viewed event.entry) ∷ es) self.new }
     {
         let later = self.is_later(ticket);
         let reply = self.world.step_traced(event);
@@ -76,8 +77,8 @@ impl Player {
         let _terms: Option<Terms> = None;
         let _bound: Option<Bound> = None;
         for index in 0..trace.len() {
-            let event = trace.event(index);
-            if !self.take(trace.ticket(index), &event) {
+            let (ticket, event) = trace.entry(index);
+            if !self.take(ticket, event) {
                 return Some(index as u64 + 1);
             }
         }

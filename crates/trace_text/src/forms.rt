@@ -192,6 +192,6 @@ pub fn held_traces_are_read_back(trace: &Trace)
     let _limits = trace.limits();
     for place in 0..trace.len() {
         let (ticket, event) = trace.entry(place);
-        entry_fits(ticket, &event);
+        entry_fits(ticket, &event.event());
     }
 }

@@ -1,6 +1,7 @@
 //! Writes a trace as text, in version 2, with no blank.
 ghost use Rattle.std.specs.Prelude.{◌≡◌, ◌++◌, ◌∷◌, [], map, string_bytes, nat_lt, IfOk, IfErr, decimal};
-ghost use Rattle.trace_model.specs.declared.event.TracedEvent.TheVariants.{Refuse};
+ghost use Rattle.trace_model.specs.Views.{viewed};
+ghost use Rattle.trace_model.specs.declared.event.TracedEvent.TheVariants.{Phaser, Finish, Begin, Refuse, Fail};
 ghost use Rattle.serde_json.specs.Written.{compact_text, comma_if};
 ghost use Rattle.trace_text.specs.inner.Writing.{Appends};
 ghost use Rattle.trace_text.specs.Text.{list, rest_text, mode_data, op_data, ops_data, bound_items, terms_items, seen_data, step_items, finish_items, pair_data, pairs_data, begun_items, tried_items, event_items, entry_data, limits_data, trace_text};
@@ -10,7 +11,7 @@ use finish_core::FinishEvent;
 use phase_model::{Bound, Look, Op, Terms};
 use phase_modes::{Limits, Mode, Pair, Refusal};
 use std::alloc::{AllocError, Global};
-use trace_model::{Trace, TracedEvent, TracedStep};
+use trace_model::{EventView, Trace, TracedEvent, TracedStep};
 use world_model::{Begun, Tried};
 
 /// A comma, but before the first item.
@@ -209,36 +210,74 @@ fn write_refuse(out: &mut String, task: u32, act: &Tried, number: u8) -> Result<
     Ok(())
 }
 
-/// The items of an event, each after a comma, and the closing bracket.
+/// The items of a step on a phaser, each after a comma, and the closing bracket.
 #[tactic(auto, unfolding(json::specs::Print::escape_byte))]
+fn write_on_phaser(out: &mut String, phaser: u32, step: &TracedStep) -> Result<(), AllocError>
+    ensures { Appends result out.old out.new (rest_text (event_items Second (Phaser phaser step.now))) }
+{
+    write!(out, ",\"p\",{phaser}")?;
+    write_step(out, step)
+}
+
+/// The items of an event of a finish, each after a comma, and the closing bracket.
+#[tactic(auto, unfolding(json::specs::Print::escape_byte))]
+fn write_in_finish(out: &mut String, finish: u32, event: FinishEvent) -> Result<(), AllocError>
+    ensures { Appends result out.old out.new (rest_text (event_items Second (Finish finish event))) }
+{
+    write!(out, ",\"f\",{finish}")?;
+    write_finish_event(out, event)
+}
+
+/// The items of an act that a task begins, each after a comma, and the closing bracket.
+#[tactic(auto, unfolding(json::specs::Print::escape_byte))]
+fn write_begin(out: &mut String, task: u32, act: &Begun) -> Result<(), AllocError>
+    ensures { Appends result out.old out.new (rest_text (event_items Second (Begin task act.now))) }
+{
+    write!(out, ",\"t\",{task},\"begin\",")?;
+    write_begun(out, act)?;
+    out.push_str("]")
+}
+
+/// The items of a failure, each after a comma, and the closing bracket.
+#[tactic(auto, unfolding(json::specs::Print::escape_byte))]
+fn write_fail(out: &mut String, task: u32, number: u8) -> Result<(), AllocError>
+    ensures { Appends result out.old out.new (rest_text (event_items Second (Fail task number))) }
+{
+    write!(out, ",\"t\",{task},\"fail\",{number}]")
+}
+
+/// The items of an event, each after a comma, and the closing bracket.
 fn write_event(out: &mut String, event: &TracedEvent) -> Result<(), AllocError>
     ensures { Appends result out.old out.new (rest_text (event_items Second event.now)) }
 {
     match event {
-        TracedEvent::Phaser(phaser, step) => {
-            write!(out, ",\"p\",{phaser}")?;
-            write_step(out, step)
-        }
-        TracedEvent::Finish(finish, event) => {
-            write!(out, ",\"f\",{finish}")?;
-            write_finish_event(out, *event)
-        }
-        TracedEvent::Begin(task, act) => {
-            write!(out, ",\"t\",{task},\"begin\",")?;
-            write_begun(out, act)?;
-            out.push_str("]")
-        }
+        TracedEvent::Phaser(phaser, step) => write_on_phaser(out, *phaser, step),
+        TracedEvent::Finish(finish, event) => write_in_finish(out, *finish, *event),
+        TracedEvent::Begin(task, act) => write_begin(out, *task, act),
         TracedEvent::Refuse(task, act, number) => write_refuse(out, *task, act, *number),
-        TracedEvent::Fail(task, number) => write!(out, ",\"t\",{task},\"fail\",{number}]"),
+        TracedEvent::Fail(task, number) => write_fail(out, *task, *number),
+    }
+}
+
+/// The same of an event that a trace lends.
+fn write_view(out: &mut String, event: EventView<'_>) -> Result<(), AllocError>
+    ensures { Appends result out.old out.new (rest_text (event_items Second (viewed event.entry))) }
+{
+    match event {
+        EventView::Phaser(phaser, step) => write_on_phaser(out, phaser, &step.step()),
+        EventView::Finish(finish, event) => write_in_finish(out, finish, event),
+        EventView::Begin(task, act) => write_begin(out, task, &act.act()),
+        EventView::Fail(task, number) => write_fail(out, task, number),
+        EventView::Long(event) => write_event(out, event),
     }
 }
 
 /// An event with its ticket.
-fn write_entry(out: &mut String, ticket: u64, event: &TracedEvent) -> Result<(), AllocError>
-    ensures { Appends result out.old out.new (compact_text (entry_data Second (ticket, event.now))) }
+fn write_entry(out: &mut String, ticket: u64, event: EventView<'_>) -> Result<(), AllocError>
+    ensures { Appends result out.old out.new (compact_text (entry_data Second (ticket, viewed event.entry))) }
 {
     write!(out, "[{ticket}")?;
-    write_event(out, event)
+    write_view(out, event)
 }
 
 fn write_entries(out: &mut String, trace: &Trace) -> Result<(), AllocError>
@@ -247,7 +286,8 @@ fn write_entries(out: &mut String, trace: &Trace) -> Result<(), AllocError>
     out.push_str("[")?;
     for index in 0..trace.len() {
         write_comma(out, index)?;
-        write_entry(out, trace.ticket(index), &trace.event(index))?;
+        let (ticket, event) = trace.entry(index);
+        write_entry(out, ticket, event)?;
     }
     out.push_str("]")?;
     Ok(())

@@ -11,12 +11,13 @@ ghost use Rattle.world_model.specs.Report.{report_of};
 ghost use Rattle.world_model.specs.Numbers.{is_phaser, is_finish, is_named};
 ghost use Rattle.world_steps.specs.StandsFor.{StandsFor, IsStep};
 ghost use Rattle.trace_model.specs.Explained.{event_of};
+ghost use Rattle.trace_model.specs.Views.{viewed};
 
 use crate::tables::{Tables, Unused};
 use phase_modes::{Limits, Phased, Refusal};
 use std::alloc::Global;
 use std::marker::Model;
-use trace_model::TracedEvent;
+use trace_model::EventView;
 use world_model::{Condition, Reply, WorldEvent, WorldReport};
 
 /// Many phasers, finishes and tasks at once. Contracts see what it keeps; there is always a legal
@@ -61,9 +62,9 @@ impl World {
         self.tables.step(event)
     }
 
-    /// The same of an event as a trace has it. What a look saw there is not asked.
-    pub fn step_traced(&mut self, event: &TracedEvent) -> Result<Reply, Refusal>
-        ensures { IsStep (event_of event.now) self.old self.new result }
+    /// The same of an event as a trace lends it. What a look saw there is not asked.
+    pub fn step_traced(&mut self, event: EventView<'_>) -> Result<Reply, Refusal>
+        ensures { IsStep (event_of (viewed event.entry)) self.old self.new result }
     {
         self.tables.step_traced(event)
     }

@@ -1,4 +1,5 @@
 //! Programs run by picks: the worked examples, with the events and the reports that they come to.
+use crate::entries::entry_of;
 use finish_core::FinishEvent;
 use job_script::read_program;
 use phase_model::{Look, Op, Ops, Terms};
@@ -26,7 +27,7 @@ type Placed = (usize, TracedEvent);
 
 /// The event at this place of the trace has the next ticket, and is this one.
 fn event_is(run: &Run, place: usize, event: TracedEvent) -> bool {
-    place < run.trace.len() && run.trace.entry(place) == (place as u64 + 1, event)
+    place < run.trace.len() && entry_of(&run.trace, place) == (place as u64 + 1, event)
 }
 
 /// The trace has so many events, and at these places these ones.

@@ -1,12 +1,9 @@
 //! JSON values one after another, and texts of traces in which the events come first or last.
-use super::have_same_events;
+use super::{have_same_events, read};
 use json::{Reader, Scratch};
-use phase_modes::Refusal;
 use std::alloc::Global;
 use std::test::Fail;
 use text_stream::next_value;
-use trace_model::Trace;
-use trace_text::from_json;
 
 #[test]
 fn values_come_one_after_another(rt: HostRuntime) -> Result<(), Fail> {
@@ -52,14 +49,6 @@ fn values_that_are_none(rt: HostRuntime) -> Result<(), Fail> {
         assert!(rt; !is_value(alloc, text, 2)?, "{text}");
     }
     Ok(())
-}
-
-fn read(alloc: Global, text: &str) -> Result<Trace, Fail> {
-    match from_json(alloc, text.as_bytes()) {
-        Ok(trace) => Ok(trace),
-        Err(Refusal::BadText(_)) => Err(Fail::from("not read")),
-        Err(_) => Err(Fail::from("memory")),
-    }
 }
 
 // A list of the events, and what stands beside it. Where the events come last, the text is read as one

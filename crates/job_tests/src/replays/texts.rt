@@ -1,6 +1,6 @@
 //! The text of the smallest trace, every form of an event there and back, texts of the first
 //! version, and where damaged texts are refused.
-use super::{Entry, are_alike, trace_of};
+use super::{Entry, are_alike, read, trace_of};
 use finish_core::FinishEvent;
 use phase_model::{Bound, Look, Op, Ops, Terms};
 use phase_modes::{Mode, Pair, Phased, Refusal};
@@ -27,10 +27,6 @@ fn place_of(alloc: Global, text: &str) -> Result<Option<u64>, Fail> {
 fn is_at(rt: &impl Abort, alloc: Global, text: &str, place: Option<u64>) -> Result<(), Fail> {
     assert_eq!(rt; place_of(alloc, text)?, place, "{text}");
     Ok(())
-}
-
-fn read(alloc: Global, text: &str) -> Result<Trace, Fail> {
-    from_json(alloc, text.as_bytes()).map_err(|_| Fail::from("not read"))
 }
 
 fn written(alloc: Global, trace: &Trace) -> Result<String, Fail> {

@@ -1,12 +1,13 @@
 //! A trace and a part as another crate builds them, and their events in a world.
 use super::{fill, trace_of};
+use crate::entries::entry_of;
 use finish_core::FinishEvent;
 use phase_model::Look;
 use phase_modes::{Limits, Refusal};
 use std::alloc::Global;
 use std::process::Abort;
 use std::test::Fail;
-use trace_model::{Log, Part, Trace, TracedEvent, TracedStep};
+use trace_model::{EventView, Log, Part, ShortStep, Trace, TracedEvent, TracedStep};
 use world_model::{Reply, Step, Tried, WorldEvent};
 
 /// A long event, here of this task.
@@ -28,7 +29,7 @@ fn has_events(rt: &impl Abort, trace: &Trace, events: usize, limits: Limits) {
 fn is_first_of(rt: &impl Abort, part: &Part, trace: &Trace) {
     assert_eq!(rt; trace.len(), 1);
     assert!(rt; 0 < part.len());
-    assert!(rt; part.entry(0) == trace.entry(0));
+    assert!(rt; part.entry(0) == entry_of(trace, 0));
 }
 
 /// A part with this event.
@@ -58,10 +59,9 @@ fn events_are_kept_in_order(rt: HostRuntime) -> Result<(), Fail> {
 /// Three of the six events are in their places.
 fn are_in_their_places(rt: &impl Abort, trace: &Trace) {
     assert!(rt; 5 < trace.len());
-    assert!(rt; trace.entry(2) == (5, shut(1)));
-    assert!(rt; trace.entry(3) == (6, refused(1)));
-    assert!(rt; trace.entry(5) == (6, refused(2)));
-    assert!(rt; trace.ticket(5) == 6 && trace.event(5) == refused(2));
+    assert!(rt; entry_of(trace, 2) == (5, shut(1)));
+    assert!(rt; entry_of(trace, 3) == (6, refused(1)));
+    assert!(rt; entry_of(trace, 5) == (6, refused(2)));
 }
 
 #[test]
@@ -97,24 +97,41 @@ fn room_for_events_has_none(rt: HostRuntime) -> Result<(), Fail> {
     takes_one(&rt, &mut trace, limits)
 }
 
+/// The look is answered -5, and nothing else.
+fn saw_minus_five(rt: &impl Abort, look: EventView<'_>) {
+    assert!(rt; look.is_answered(Ok(Reply::Value(Look::Value(-5)))));
+    assert!(rt; !look.is_answered(Ok(Reply::Value(Look::Value(5)))));
+    assert!(rt; !look.is_answered(Ok(Reply::Value(Look::Nothing))));
+    assert!(rt; !look.is_answered(Err(Refusal::NoPhaseYet)));
+}
+
 #[test]
 fn a_look_is_answered_what_it_saw(rt: HostRuntime) -> Result<(), Fail> {
     let step = TracedStep::Look(3, 1, Look::Value(-5));
     let look = TracedEvent::Phaser(7, step);
     assert!(rt; step.step() == Step::Look(3, 1));
     assert!(rt; look.event() == WorldEvent::Phaser(7, Step::Look(3, 1)));
-    assert!(rt; look.is_answered(Ok(Reply::Value(Look::Value(-5)))));
-    assert!(rt; !look.is_answered(Ok(Reply::Value(Look::Nothing))));
-    assert!(rt; !look.is_answered(Err(Refusal::NoPhaseYet)));
+    saw_minus_five(&rt, EventView::Long(&look));
+    saw_minus_five(&rt, EventView::Phaser(7, ShortStep::Saw(1, 3, -5)));
+    let nothing = EventView::Phaser(7, ShortStep::SawNothing(3, 1));
+    assert!(rt; nothing.is_answered(Ok(Reply::Value(Look::Nothing))));
+    assert!(rt; !nothing.is_answered(Ok(Reply::Value(Look::Value(0)))));
     Ok(())
+}
+
+/// The event ends a run; a reply that it is done makes it, one that has it wait or is refused doesn't.
+fn ends_a_run(rt: &impl Abort, shut: EventView<'_>) {
+    assert!(rt; shut.ends_run());
+    assert!(rt; shut.is_answered(Ok(Reply::Done)));
+    assert!(rt; !shut.is_answered(Ok(Reply::NotYet)));
+    assert!(rt; !shut.is_answered(Err(Refusal::NotNow)));
 }
 
 #[test]
 fn the_shut_of_finish_0_ends_a_run(rt: HostRuntime) -> Result<(), Fail> {
-    let shut = TracedEvent::Finish(0, FinishEvent::Shut);
-    assert!(rt; shut.ends_run());
-    assert!(rt; !TracedEvent::Finish(1, FinishEvent::Shut).ends_run());
-    assert!(rt; shut.is_answered(Ok(Reply::Done)));
-    assert!(rt; !shut.is_answered(Ok(Reply::NotYet)));
+    ends_a_run(&rt, EventView::Long(&shut(0)));
+    ends_a_run(&rt, EventView::Finish(0, FinishEvent::Shut));
+    assert!(rt; !EventView::Long(&shut(1)).ends_run());
+    assert!(rt; !EventView::Finish(1, FinishEvent::Shut).ends_run());
     Ok(())
 }

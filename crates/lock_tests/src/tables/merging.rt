@@ -77,7 +77,7 @@ fn projection(
     let Terms { ops, bound } = first_terms_of(phaser, part);
     let mut history = History::new(alloc, limits, ops, bound)?;
     for place in 0..trace.len() {
-        if let Some(step) = step_on(phaser, trace.entry(place).1) {
+        if let Some(step) = step_on(phaser, trace.entry(place).1.event()) {
             add(&mut history, step);
         }
     }
@@ -88,10 +88,11 @@ fn projection(
 fn has_in_order(trace: &Trace, phaser: u32, part: &Part) -> bool {
     let mut next = 0usize;
     for place in 0..trace.len() {
-        let entry = trace.entry(place);
+        let (ticket, event) = trace.entry(place);
+        let entry = (ticket, event.event());
         if step_on(phaser, entry.1).is_some() {
             let stands = next < part.len() && part.entry(next) == entry;
-            if !stands || part.ticket(next) != entry.0 {
+            if !stands || part.ticket(next) != ticket {
                 return false;
             }
             next += 1;

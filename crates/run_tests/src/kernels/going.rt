@@ -10,14 +10,14 @@ use std::process::Abort;
 use std::sync::Wait;
 use std::test::Fail;
 use std::thread::Threads;
-use trace_model::{Trace, TracedEvent, TracedStep};
+use trace_model::{EventView, ShortStep, Trace};
 use trace_replay::replay;
 use world_model::WorldReport;
 
 /// The place of the first value that is sent, counted from 1; 0 where none is.
 fn first_send(trace: &Trace) -> u64 {
     for place in 0..trace.len() {
-        if let (_, TracedEvent::Phaser(_, TracedStep::Send(_, _, _))) = trace.entry(place) {
+        if let (_, EventView::Phaser(_, ShortStep::Send(_, _, _))) = trace.entry(place) {
             return place as u64 + 1;
         }
     }

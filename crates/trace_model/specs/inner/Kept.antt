@@ -1,47 +1,22 @@
 -- Which event each form in which a trace keeps one stands for.
 use Rattle.std.specs.Prelude.{◌≡◌, ℕ, ◌<◌, Bool, true, false, List, map, length, get_or, ⊤}
 use Rattle.std.specs.List.{All}
-use Rattle.phase_model.specs.declared.op.Look.TheVariants.{Value, Nothing}
 use Rattle.world_model.specs.declared.event.Begun.{Begun}
 use Rattle.world_model.specs.declared.event.Begun.TheVariants as begun
 use Rattle.trace_model.specs.declared.event.TracedStep.{TracedStep}
 use Rattle.trace_model.specs.declared.event.TracedStep.TheVariants as step
 use Rattle.trace_model.specs.declared.event.TracedEvent.{TracedEvent}
 use Rattle.trace_model.specs.declared.event.TracedEvent.TheVariants.{Phaser, Finish, Begin, Refuse, Fail}
-use Rattle.trace_model.specs.declared.kept.ShortStep.{ShortStep}
-use Rattle.trace_model.specs.declared.kept.ShortStep.TheVariants as short
-use Rattle.trace_model.specs.declared.kept.ShortAct.{ShortAct}
-use Rattle.trace_model.specs.declared.kept.ShortAct.TheVariants as act
 use Rattle.trace_model.specs.declared.kept.Kept.{Kept}
 use Rattle.trace_model.specs.declared.kept.Kept.TheVariants as kept
 use Rattle.trace_model.specs.Run.{Entry}
-
--- the step
-abbrev pub step_kept : ShortStep → TracedStep
-step_kept (short.Reg q t m) = step.Reg q t m
-step_kept (short.Sig t x) = step.Sig t x
-step_kept (short.Claim t) = step.Claim t
-step_kept (short.Did t) = step.Did t
-step_kept (short.Pass t) = step.Pass t
-step_kept (short.Send t a v) = step.Send t a v
-step_kept (short.Saw a t v) = step.Look t a (Value v)
-step_kept (short.SawNothing t a) = step.Look t a Nothing
-step_kept (short.Drop t) = step.Drop t
-
--- the act
-abbrev pub act_kept : ShortAct → Begun
-act_kept act.Signal = begun.Signal
-act_kept act.Wait = begun.Wait
-act_kept act.Next = begun.Next
-act_kept (act.NextSingle n) = begun.NextSingle n
-act_kept act.Shut = begun.Shut
-act_kept act.End = begun.End
+use Rattle.trace_model.specs.Views.{short_step, short_act}
 
 -- the event, where these are the long ones: a long event is the one at its place
 abbrev pub event_kept : List TracedEvent → Kept → TracedEvent
-event_kept long (kept.Phaser n s) = Phaser n (step_kept s)
+event_kept long (kept.Phaser n s) = Phaser n (short_step s)
 event_kept long (kept.Finish f e) = Finish f e
-event_kept long (kept.Begin t a) = Begin t (act_kept a)
+event_kept long (kept.Begin t a) = Begin t (short_act a)
 event_kept long (kept.Fail t n) = Fail t n
 event_kept long (kept.Long place) = get_or long place (Fail 0 0)
 
@@ -63,7 +38,7 @@ pub record Keeps (long : List TracedEvent) (k : Kept) (e : TracedEvent) : Type 0
   pub within : IsWithin (length long) k
   pub is : event_kept long k ≡ e
 
--- ---- which events are long
+-- ---- which events have no short form
 
 -- the making of a phaser: it has its terms
 abbrev pub is_long_step : TracedStep → Bool

@@ -1,12 +1,13 @@
 //! Any step, by its kind.
 ghost use Rattle.std.specs.Prelude.{◌≡◌};
 ghost use Rattle.world_steps.specs.StandsFor.{IsStep};
-ghost use Rattle.trace_model.specs.Explained.{event_of};
+ghost use Rattle.trace_model.specs.Explained.{event_of, step_of};
+ghost use Rattle.trace_model.specs.Views.{short_step, viewed};
 
 use super::Tables;
 use finish_core::FinishEvent;
 use phase_modes::Refusal;
-use trace_model::TracedEvent;
+use trace_model::{EventView, ShortStep, TracedEvent};
 use world_model::{Reply, Step, WorldEvent};
 
 impl Tables {
@@ -23,9 +24,22 @@ impl Tables {
         }
     }
 
-    /// The same of an event as a trace has it; no event of the world is made of it, which would be
+    /// The same of an event as a trace lends it; no event of the world is made of it, which would be
     /// as large as the largest of its kinds.
-    pub(crate) fn step_traced(&mut self, event: &TracedEvent) -> Result<Reply, Refusal>
+    pub(crate) fn step_traced(&mut self, event: EventView<'_>) -> Result<Reply, Refusal>
+        ensures { IsStep (event_of (viewed event.entry)) self.old self.new result }
+    {
+        match event {
+            EventView::Phaser(phaser, step) => self.step_short(phaser, step),
+            EventView::Finish(finish, step) => self.step_in_finish(finish, step),
+            EventView::Begin(task, act) => self.step_begin(task, act.act()),
+            EventView::Fail(task, number) => self.step_fail(task, number),
+            EventView::Long(event) => self.step_long(event),
+        }
+    }
+
+    /// A long event, where it stands.
+    fn step_long(&mut self, event: &TracedEvent) -> Result<Reply, Refusal>
         ensures { IsStep (event_of event.now) self.old self.new result }
     {
         match *event {
@@ -34,6 +48,25 @@ impl Tables {
             TracedEvent::Begin(task, begun) => self.step_begin(task, begun),
             TracedEvent::Refuse(task, tried, number) => self.step_refuse(task, tried, number),
             TracedEvent::Fail(task, number) => self.step_fail(task, number),
+        }
+    }
+
+    /// A short step, handed on as it is kept: a step made of it would be taken apart again.
+    fn step_short(&mut self, phaser: u32, step: ShortStep) -> Result<Reply, Refusal>
+        ensures { IsStep (WorldEvent.Phaser phaser (step_of (short_step step))) self.old self.new result }
+    {
+        match step {
+            ShortStep::Reg(parent, child, mode) => self.step_register(phaser, parent, child, mode),
+            ShortStep::Sig(task, number) => self.step_signal(phaser, task, number),
+            ShortStep::Claim(task) => self.step_claim(phaser, task),
+            ShortStep::Did(task) => self.step_report(phaser, task),
+            ShortStep::Pass(task) => self.step_pass(phaser, task),
+            ShortStep::Send(task, accumulator, value) => {
+                self.step_send(phaser, task, accumulator, value)
+            }
+            ShortStep::Saw(accumulator, task, _) => self.step_look(phaser, task, accumulator),
+            ShortStep::SawNothing(task, accumulator) => self.step_look(phaser, task, accumulator),
+            ShortStep::Drop(task) => self.step_drop(phaser, task),
         }
     }
 

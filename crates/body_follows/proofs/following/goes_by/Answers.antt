@@ -2,7 +2,7 @@ use Rattle.std.proofs.Common.{ℕ, suc, ◌+◌, ◌<◌, ◌≤◌, ◌≡◌, 
 use Rattle.world_model.specs.declared.event.WorldEvent.{WorldEvent}
 use Rattle.trace_model.specs.Explained.{event_of, is_explained}
 use Rattle.trace_model.specs.Run.{Entry}
-use Rattle.trace_model.proofs.Places.{entry_with}
+use Rattle.trace_model.specs.Views.{viewed}
 use Rattle.schedule_run.specs.Following.{history}
 use Rattle.schedule_run.proofs.Histories.{entry_at, history_more, history_all}
 use Rattle.body_follows.specs.Going.{goes_by}
@@ -18,9 +18,8 @@ returns-then-not-branch-clause-refused g c = λ explained.
     let xs : List Entry = r.events in
     let i = c.loop-i.i in
     let w : List WorldEvent = history (take i xs) in
-    let found = entry_with xs i c.event.result c.event.ensures in
-    let d : Entry = (found.0, c.event.result) in
-    let at : slice_get xs i ≡ Some d = found.1 in
+    let d : Entry = (c.entry.result.0, viewed c.entry.result.1) in
+    let at : slice_get xs i ≡ Some d = c.entry.ensures in
     let less : i < length xs = omega (arith, c.loop-i-test.true, c.len-i-end.ensures.length) in
     let here : IsAfter r.limits w d = subst (λ (x : Entry). IsAfter r.limits w x) (sym (entry_at xs i d at))
     (after_its_past r i d explained less) in
@@ -47,9 +46,8 @@ loop-i-preserved g c =
     let xs : List Entry = r.events in
     let i = c.loop-i.i in
     let w : List WorldEvent = history (take i xs) in
-    let found = entry_with xs i c.event.result c.event.ensures in
-    let d : Entry = (found.0, c.event.result) in
-    let at : slice_get xs i ≡ Some d = found.1 in
+    let d : Entry = (c.entry.result.0, viewed c.entry.result.1) in
+    let at : slice_get xs i ≡ Some d = c.entry.ensures in
     let less : i < length xs = omega (arith, c.loop-i-test.true, c.len-i-end.ensures.length) in
     let taken : is_explained r ≡ true
     → IsTaken g.B.Goes.next c.args.root w (event_of d.1) (seat_of c.takes.new.bodies.seats) true = λ explained.

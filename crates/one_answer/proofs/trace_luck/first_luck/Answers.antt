@@ -3,6 +3,7 @@ use Rattle.std.proofs.Common.{ℕ, suc, ◌+◌, ◌<◌, ◌≡◌, ◌∷◌, 
 use Rattle.world_model.specs.declared.event.WorldEvent.{WorldEvent}
 use Rattle.trace_model.specs.Explained.{event_of}
 use Rattle.trace_model.specs.Run.{Entry}
+use Rattle.trace_model.specs.Views.{viewed}
 use Rattle.schedule_run.specs.Following.{history}
 use Rattle.schedule_run.proofs.Histories.{entry_at, history_more}
 use Rattle.body_follows.proofs.Prefixes.{IsAfter, after_its_past}
@@ -18,8 +19,8 @@ returns-in-Some-clause-first c =
     let xs : List Entry = r.events in
     let i = c.loop-i.i in
     let w : List WorldEvent = history (take i xs) in
-    let d : Entry = c.entry-event.result in
-    let at : slice_get xs i ≡ Some d = search rules in
+    let d : Entry = (c.entry.result.0, viewed c.entry.result.1) in
+    let at : slice_get xs i ≡ Some d = c.entry.ensures in
     let less : i < length xs = omega (arith, c.loop-i-test.true, c.len-i-end.ensures.length) in
     let here : IsAfter r.limits w d = subst (λ (x : Entry). IsAfter r.limits w x) (sym (entry_at xs i d at))
     (after_its_past r i d c.requires less) in
@@ -46,8 +47,8 @@ loop-i-preserved c =
     let xs : List Entry = r.events in
     let i = c.loop-i.i in
     let w : List WorldEvent = history (take i xs) in
-    let d : Entry = c.entry-event.result in
-    let at : slice_get xs i ≡ Some d = search rules in
+    let d : Entry = (c.entry.result.0, viewed c.entry.result.1) in
+    let at : slice_get xs i ≡ Some d = c.entry.ensures in
     let less : i < length xs = omega (arith, c.loop-i-test.true, c.len-i-end.ensures.length) in
     let here : IsAfter r.limits w d = subst (λ (x : Entry). IsAfter r.limits w x) (sym (entry_at xs i d at))
     (after_its_past r i d c.requires less) in

@@ -2,7 +2,7 @@ use Rattle.std.proofs.Common.{◌+◌, ◌<◌, ◌≤◌, ◌≡◌, ◌∷◌,
 use Rattle.world_model.specs.declared.event.WorldEvent.{WorldEvent}
 use Rattle.trace_model.specs.Explained.{event_of, past}
 use Rattle.trace_model.specs.Run.{Entry}
-use Rattle.trace_model.proofs.Places.{entry_with}
+use Rattle.trace_model.specs.Views.{viewed}
 use Rattle.schedule_run.specs.Following.{history}
 use Rattle.schedule_run.specs.inner.Bodies.{SeatsStand}
 use Rattle.schedule_run.specs.inner.Followers.{seat_of, IsTaken}
@@ -15,9 +15,8 @@ returns-then-not-branch-clause-place c =
     let p = c.args.program.now in
     let xs : List Entry = c.args.trace.now.events in
     let i = c.loop-i.i in
-    let found = entry_with xs i c.event.result c.event.ensures in
-    let d : Entry = (found.0, c.event.result) in
-    let at : slice_get xs i ≡ Some d = found.1 in
+    let d : Entry = (c.entry.result.0, viewed c.entry.result.1) in
+    let at : slice_get xs i ≡ Some d = c.entry.ensures in
     let less : i < length xs = omega (arith, c.loop-i-test.true, c.len-i-end.ensures.length) in
     let is : event_of d.1 ≡ event_of (get_or xs i d).1 =
     ap (λ (x : Entry). event_of x.1) (entry_at xs i d at) in
@@ -37,9 +36,8 @@ loop-i-preserved c =
     let p = c.args.program.now in
     let xs : List Entry = c.args.trace.now.events in
     let i = c.loop-i.i in
-    let found = entry_with xs i c.event.result c.event.ensures in
-    let d : Entry = (found.0, c.event.result) in
-    let at : slice_get xs i ≡ Some d = found.1 in
+    let d : Entry = (c.entry.result.0, viewed c.entry.result.1) in
+    let at : slice_get xs i ≡ Some d = c.entry.ensures in
     let less : i < length xs = omega (arith, c.loop-i-test.true, c.len-i-end.ensures.length) in
     let is : event_of d.1 ≡ event_of (get_or xs i d).1 =
     ap (λ (x : Entry). event_of x.1) (entry_at xs i d at) in

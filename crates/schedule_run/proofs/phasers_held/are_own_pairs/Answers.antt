@@ -7,7 +7,7 @@ use Rattle.phase_modes.specs.declared.phased.Pair.{Pair}
 use Rattle.schedule_model.specs.Follows.{same_pairs}
 use Rattle.trace_model.specs.Explained.{event_of, past}
 use Rattle.trace_model.specs.Run.{Entry}
-use Rattle.trace_model.proofs.Places.{entry_with}
+use Rattle.trace_model.specs.Views.{viewed}
 use Rattle.schedule_run.specs.Following.{history}
 use Rattle.schedule_run.specs.inner.Holding.{pair_by}
 use Rattle.schedule_run.proofs.Histories.{entry_before}
@@ -43,9 +43,8 @@ returns-then-found-pairs c =
     let ps : List Pair = c.args.pairs.now in
     let i = c.loop-place.place in
     let k = c.loop-place.found in
-    let found = entry_with all i c.event.result c.event.ensures in
-    let e : Entry = (found.0, c.event.result) in
-    let at : slice_get all i ≡ Some e = found.1 in
+    let e : Entry = (c.entry.result.0, viewed c.entry.result.1) in
+    let at : slice_get all i ≡ Some e = c.entry.ensures in
     let less : i < length es = omega (arith, c.loop-place-test.true, length-take-le c.args.count all c.requires) in
     let stands : e ≡ get_or es i e = entry_before all c.args.count i e c.loop-place-test.true at in
     let gives : pair_by t (history es) (event_of e.1) ≡ Some c.in-Some.own = sym c.in-Some.ensures in
@@ -66,9 +65,8 @@ loop-place-preserved c =
     let ps : List Pair = c.args.pairs.now in
     let i = c.loop-place.place in
     let k = c.loop-place.found in
-    let found = entry_with all i c.event.result c.event.ensures in
-    let e : Entry = (found.0, c.event.result) in
-    let at : slice_get all i ≡ Some e = found.1 in
+    let e : Entry = (c.entry.result.0, viewed c.entry.result.1) in
+    let at : slice_get all i ≡ Some e = c.entry.ensures in
     let less : i < length es = omega (arith, c.loop-place-test.true, length-take-le c.args.count all c.requires) in
     let stands : e ≡ get_or es i e = entry_before all c.args.count i e c.loop-place-test.true at in
     elim c.match-pair_by.branch [

@@ -2,7 +2,7 @@ use Rattle.std.proofs.Common.{◌+◌, ◌≡◌, ◌<◌, ◌∷◌, Bool, fals
 use Rattle.phase_model.specs.Tasks.{is_dropped, mode_of}
 use Rattle.trace_model.specs.Explained.{event_of}
 use Rattle.trace_model.specs.Run.{Entry}
-use Rattle.trace_model.proofs.Places.{entry_with}
+use Rattle.trace_model.specs.Views.{viewed}
 use Rattle.world_model.specs.declared.event.WorldEvent.{WorldEvent}
 use Rattle.world_model.specs.Parts.{phaser_past}
 use Rattle.schedule_run.specs.Following.{history}
@@ -16,9 +16,8 @@ pub loop-place-preserved : goal.loop-place-preserved
 loop-place-preserved c =
     let es : List Entry = c.args.trace.now.events in
     let i = c.loop-place.place in
-    let found = entry_with es i c.event.result c.event.ensures in
-    let e : Entry = (found.0, c.event.result) in
-    let at : slice_get es i ≡ Some e = found.1 in
+    let e : Entry = (c.entry.result.0, viewed c.entry.result.1) in
+    let at : slice_get es i ≡ Some e = c.entry.ensures in
     let less : i < length es = omega (arith, c.loop-place-test.true, c.requires) in
     let more : event_of e.1 ∷ history (take i es) ≡ history (take (i + 1) es) =
     ap (λ (x : Entry). event_of x.1 ∷ history (take i es)) (entry_at es i e at)

@@ -1,7 +1,10 @@
-use Rattle.std.proofs.Common.{◌≡◌, ◌≤◌, true, Ok, Some, length, rules, slice_get, subst, arith}
+use Rattle.std.proofs.Common.{◌≡◌, ◌≤◌, true, Ok, Some, length, slice_get, subst, arith}
 use Rattle.phase_modes.specs.declared.limits.Limits.{Limits}
 use Rattle.phase_modes.specs.Limits.{limits_fit}
 use Rattle.text_words.specs.Reading.{reading}
+use Rattle.trace_model.specs.declared.event.TracedEvent.{TracedEvent}
+use Rattle.trace_model.specs.Run.{Entry}
+use Rattle.trace_model.specs.Views.{viewed}
 use Rattle.trace_text.specs.Form.{form_of}
 use Rattle.trace_text.specs.Noted.{notes_refusals}
 use Rattle.trace_text.specs.Text.{has_form, trace_text}
@@ -14,9 +17,9 @@ pub loop-place-preserved : goal.loop-place-preserved
 loop-place-preserved c =
     let es = c.args.trace.now.events in
     let i = c.loop-place.place in
-    let e = c.entry-ticket.result in
-    let at : slice_get es i ≡ Some e = search rules in
-    let here : MayHaveForm e = c.entry_fits.ensures in
+    let e : Entry = (c.entry-ticket.result.0, viewed c.entry-ticket.result.1) in
+    let at : slice_get es i ≡ Some e = c.entry-ticket.ensures in
+    let here : MayHaveForm e = subst (λ (x : TracedEvent). MayHaveForm (e.0, x)) c.event.ensures c.entry_fits.ensures in
     one_more es i e at c.loop-place.invariant here
 
 pub returns : goal.returns

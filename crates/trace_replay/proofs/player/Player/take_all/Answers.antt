@@ -1,7 +1,7 @@
 use Rattle.std.proofs.Common.{◌≡◌, ◌<◌, ◌≤◌, Some, length, reverse, take, slice_get, sym, ◌∙◌, arith}
 use Rattle.std.proofs.lemmas.Option.{get_or_from_slice_get}
 use Rattle.trace_model.specs.Run.{Entry}
-use Rattle.trace_model.proofs.Places.{entry_of}
+use Rattle.trace_model.specs.Views.{viewed}
 use Rattle.trace_replay.proofs.Walking.{goes_on, stops, ends}
 use Rattle.trace_replay.proofs.player.Player.take_all.Goals as goal
 
@@ -9,8 +9,8 @@ pub returns-then-not-take : goal.returns-then-not-take
 returns-then-not-take c = λ l start.
     let es = c.args.trace.now.events in
     let i = c.loop-index.index in
-    let e : Entry = (c.ticket.result, c.event-event.result) in
-    let at : slice_get es i ≡ Some e = entry_of es i e.0 e.1 c.ticket.ensures c.event-event.ensures in
+    let e : Entry = (c.entry-ticket.result.0, viewed c.entry-ticket.result.1) in
+    let at : slice_get es i ≡ Some e = c.entry-ticket.ensures in
     let less : i < length es = omega (arith, c.loop-index-test.true, c.len-index-end.ensures.length) in
     let so_far = c.loop-index.invariant l start in
     stops l es i e c.loop-index.self less (sym (get_or_from_slice_get es i e e at)) so_far
@@ -20,8 +20,8 @@ pub loop-index-preserved : goal.loop-index-preserved
 loop-index-preserved c = λ l start.
     let es = c.args.trace.now.events in
     let i = c.loop-index.index in
-    let e : Entry = (c.ticket.result, c.event-event.result) in
-    let at : slice_get es i ≡ Some e = entry_of es i e.0 e.1 c.ticket.ensures c.event-event.ensures in
+    let e : Entry = (c.entry-ticket.result.0, viewed c.entry-ticket.result.1) in
+    let at : slice_get es i ≡ Some e = c.entry-ticket.ensures in
     let less : i < length es = omega (arith, c.loop-index-test.true, c.len-index-end.ensures.length) in
     let so_far = c.loop-index.invariant l start in
     goes_on l es i e c.loop-index.self less (sym (get_or_from_slice_get es i e e at)) so_far c.take.new.self
