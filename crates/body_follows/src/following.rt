@@ -7,7 +7,7 @@ ghost use Rattle.schedule_model.specs.Scripts as acts;
 ghost use Rattle.schedule_model.specs.Scripts.{act_of, is_of};
 ghost use Rattle.schedule_run.specs.Following.{history};
 ghost use Rattle.trace_model.specs.Explained.{event_of, is_explained};
-ghost use Rattle.trace_model.specs.Views.{viewed};
+ghost use Rattle.trace_model.specs.Views.{long_event, viewed};
 ghost use Rattle.body_follows.specs.Going.{does, goes_by, heard, is_next, told_by, IsRefusedAt};
 ghost use Rattle.body_follows.specs.inner.Bodies.{seat_of, child_named, body_handed, BodiesGo, HaveGone, IsTaken};
 
@@ -18,18 +18,16 @@ use phase_model::Look;
 use phase_modes::Refusal;
 use schedule_run::{actor, is_given};
 use std::alloc::Global;
-use trace_model::{EventView, ShortStep, Trace, TracedEvent, TracedStep};
-use world_model::Begun;
+use trace_model::{EventView, LongEvent, ShortStep, Trace};
 
 /// What the task of an act hears of a long event.
-fn long_answer(event: &TracedEvent) -> Answer
-    ensures { result ≡ told_by event.now }
+fn long_answer(event: &LongEvent) -> Answer
+    ensures { result ≡ told_by (long_event event.now) }
 {
     match event {
-        TracedEvent::Phaser(n, TracedStep::Make(_, _, _)) => Answer::Made(*n),
-        TracedEvent::Phaser(_, TracedStep::Look(_, _, seen)) => Answer::Saw(*seen),
-        TracedEvent::Begin(_, Begun::Async(child, _)) => Answer::Spawned(*child),
-        _ => Answer::Done,
+        LongEvent::Make(phaser, _, _, _) => Answer::Made(*phaser),
+        LongEvent::Async(_, child, _) => Answer::Spawned(*child),
+        LongEvent::Refuse(_, _, _) => Answer::Done,
     }
 }
 
@@ -50,7 +48,7 @@ fn child_of(event: EventView<'_>) -> Option<u32>
     ensures { result ≡ child_named (viewed event.entry) }
 {
     match event {
-        EventView::Long(TracedEvent::Begin(_, Begun::Async(child, _))) => Some(*child),
+        EventView::Long(LongEvent::Async(_, child, _)) => Some(*child),
         _ => None,
     }
 }

@@ -6,7 +6,7 @@ use phase_modes::{Limits, Mode, Pair, Phased};
 use schedule_run::{actor, is_given};
 use std::alloc::Global;
 use std::test::Fail;
-use trace_model::{EventView, ShortAct, Trace, TracedEvent, TracedStep};
+use trace_model::{EventView, LongEvent, ShortAct, Trace, TracedEvent, TracedStep};
 use world_model::{Begun, Tried};
 
 mod runs;
@@ -62,8 +62,7 @@ fn is_roots(trace: &Trace, event: EventView<'_>, act: &Act<ScriptBody<'_>>) -> b
         && !is_given(trace, trace.len(), wait, act)
 }
 
-/// Whether that is so of the row's event, as a trace lends it and as it stands, and of the refusal of
-/// its act.
+/// Whether that is so of the row's event, as a trace lends it, and of the refusal of its act.
 fn is_tried_so(
     alloc: Global,
     trace: &Trace,
@@ -71,17 +70,13 @@ fn is_tried_so(
     act: &Act<ScriptBody<'_>>,
 ) -> Result<bool, Fail> {
     let (event, tried) = row;
-    let refused = TracedEvent::Refuse(0, *tried, 1);
+    let refused = LongEvent::Refuse(0, *tried, 1);
     let held = one_event(alloc, *event)?;
     if held.len() == 0 {
         return Ok(false);
     }
     let (_, lent) = held.entry(0);
-    Ok(
-        is_roots(trace, lent, act)
-            && is_roots(trace, EventView::Long(event), act)
-            && is_roots(trace, EventView::Long(&refused), act),
-    )
+    Ok(is_roots(trace, lent, act) && is_roots(trace, EventView::Long(&refused), act))
 }
 
 #[test]
@@ -145,7 +140,6 @@ fn events_that_are_no_acts(rt: HostRuntime) -> Result<(), Fail> {
     ];
     for event in events {
         let held = one_event(rt.alloc(), event)?;
-        assert!(rt; is_no_act(&held, EventView::Long(&event)));
         assert!(rt; 0 < held.len());
         let (_, lent) = held.entry(0);
         assert!(rt; is_no_act(&held, lent));

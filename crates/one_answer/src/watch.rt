@@ -2,7 +2,7 @@
 //! phaser had.
 ghost use Rattle.std.specs.Prelude.{◌≡◌, nat_lt, None, IfOk, IfErr};
 ghost use Rattle.trace_model.specs.Explained.{event_of};
-ghost use Rattle.trace_model.specs.Views.{viewed};
+ghost use Rattle.trace_model.specs.Views.{long_event, viewed};
 ghost use Rattle.one_answer.specs.inner.Watched.{count_in, draws, drawn, is_taken, luck_taken, CountsMore, IsAfter, IsFresh};
 
 use crate::luck::{Luck, luck_in};
@@ -10,8 +10,7 @@ use finish_core::FinishEvent;
 use phase_modes::Refusal;
 use std::alloc::Global;
 use std::collections::BTreeMap;
-use trace_model::{EventView, ShortStep, TracedEvent, TracedStep};
-use world_model::Begun;
+use trace_model::{EventView, LongEvent, ShortStep};
 
 /// The draws of one kind of number.
 #[derive(Clone, Copy)]
@@ -92,25 +91,20 @@ impl Watch {
     }
 
     /// Whether luck has no part in a long event; it is gone past then.
-    fn takes_long(&mut self, event: &TracedEvent) -> Result<bool, Refusal>
-        ensures is { IfOk result (λ b. b ≡ is_taken self.old (event_of event.now)) }
-        ensures after { IfOk result (λ b. IsAfter (event_of event.now) b self.old self.new) }
+    fn takes_long(&mut self, event: &LongEvent) -> Result<bool, Refusal>
+        ensures is { IfOk result (λ b. b ≡ is_taken self.old (event_of (long_event event.now))) }
+        ensures after { IfOk result (λ b. IsAfter (event_of (long_event event.now)) b self.old self.new) }
         ensures memory { IfErr result (λ e. e ≡ Refusal.Memory) }
     {
         match event {
-            TracedEvent::Refuse(_, _, _) | TracedEvent::Fail(_, _) => Ok(false),
-            TracedEvent::Phaser(phaser, TracedStep::Make(task, _, _)) => {
+            LongEvent::Refuse(_, _, _) => Ok(false),
+            LongEvent::Make(phaser, task, _, _) => {
                 if !self.phasers.draw(*task, *phaser) {
                     return Ok(false);
                 }
                 self.register(*phaser)
             }
-            TracedEvent::Phaser(phaser, TracedStep::Reg(_, _, _)) => self.register(*phaser),
-            TracedEvent::Begin(task, Begun::Async(child, _)) => Ok(self.tasks.draw(*task, *child)),
-            TracedEvent::Finish(finish, FinishEvent::Opened(task)) => {
-                Ok(self.finishes.draw(*task, *finish))
-            }
-            _ => Ok(true),
+            LongEvent::Async(task, child, _) => Ok(self.tasks.draw(*task, *child)),
         }
     }
 

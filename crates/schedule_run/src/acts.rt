@@ -1,10 +1,10 @@
 //! Acts as the world knows them: the one that a body gives, and the one that an event makes or
 //! refuses, with the numbers that it draws.
-ghost use Rattle.std.specs.Prelude.{◌≡◌, option_map};
+ghost use Rattle.std.specs.Prelude.{◌≡◌, Some, option_map};
 ghost use Rattle.schedule_model.specs.Follows.{drawn};
 ghost use Rattle.schedule_model.specs.Picks.{event_of as event_made};
 ghost use Rattle.trace_model.specs.Explained.{event_of};
-ghost use Rattle.trace_model.specs.Views.{viewed};
+ghost use Rattle.trace_model.specs.Views.{long_event, viewed};
 ghost use Rattle.schedule_model.specs.Scripts.{act_of};
 ghost use Rattle.schedule_run.specs.Given.{made_view, numbers_view, tried_of};
 
@@ -12,7 +12,7 @@ use finish_core::FinishEvent;
 use job_script::Act;
 use phase_model::Terms;
 use phase_modes::Phased;
-use trace_model::{EventView, ShortStep, TracedEvent, TracedStep};
+use trace_model::{EventView, LongEvent, ShortStep};
 use world_model::{Begun, Step, Tried, WorldEvent};
 
 /// An act that a task made or was refused.
@@ -75,55 +75,31 @@ pub(crate) fn event_of(task: u32, act: Tried) -> WorldEvent
     }
 }
 
-/// The act of which the event is the first, or which it refuses; none for what continues an act,
-/// and for a failure.
-pub(crate) fn act_of(event: &TracedEvent) -> Option<MadeAct>
-    ensures { option_map made_view result ≡ act_of (event_of event.now) }
+/// The act that a long event makes or refuses.
+pub(crate) fn act_of(event: &LongEvent) -> MadeAct
+    ensures { Some (made_view result) ≡ act_of (event_of (long_event event.now)) }
 {
-    match event {
-        TracedEvent::Phaser(n, TracedStep::Make(t, mode, terms)) => Some(MadeAct {
-            task: *t,
-            act: Tried::New(*n, *mode, *terms),
-        }),
-        TracedEvent::Phaser(n, TracedStep::Send(t, accumulator, value)) => Some(MadeAct {
-            task: *t,
-            act: Tried::Send(*n, *accumulator, *value),
-        }),
-        TracedEvent::Phaser(n, TracedStep::Look(t, accumulator, _)) => Some(MadeAct {
-            task: *t,
-            act: Tried::Look(*n, *accumulator),
-        }),
-        TracedEvent::Finish(f, FinishEvent::Opened(t)) => Some(MadeAct {
-            task: *t,
-            act: Tried::Open(*f),
-        }),
-        TracedEvent::Begin(t, begun) => Some(MadeAct {
-            task: *t,
-            act: Tried::Begun(*begun),
-        }),
-        TracedEvent::Refuse(t, tried, _) => Some(MadeAct {
-            task: *t,
-            act: *tried,
-        }),
-        _ => None,
+    match *event {
+        LongEvent::Make(phaser, task, mode, terms) => MadeAct {
+            task,
+            act: Tried::New(phaser, mode, terms),
+        },
+        LongEvent::Async(task, child, pairs) => MadeAct {
+            task,
+            act: Tried::Begun(Begun::Async(child, pairs)),
+        },
+        LongEvent::Refuse(task, act, _) => MadeAct { task, act },
     }
 }
 
-/// The task of the act of which the event is the first, or which it refuses; none for what continues
-/// an act, and for a failure.
-fn actor_in(event: &TracedEvent) -> Option<u32>
-    ensures { result ≡ option_map (λ m. m.task) (act_of (event_of event.now)) }
+/// The task whose act a long event makes or refuses.
+fn actor_in(event: &LongEvent) -> u32
+    ensures { Some result ≡ option_map (λ m. m.task) (act_of (event_of (long_event event.now))) }
 {
     match event {
-        TracedEvent::Phaser(
-            _,
-            TracedStep::Make(task, _, _)
-            | TracedStep::Send(task, _, _)
-            | TracedStep::Look(task, _, _),
-        ) => Some(*task),
-        TracedEvent::Finish(_, FinishEvent::Opened(task)) => Some(*task),
-        TracedEvent::Begin(task, _) | TracedEvent::Refuse(task, _, _) => Some(*task),
-        _ => None,
+        LongEvent::Make(_, task, _, _)
+        | LongEvent::Async(task, _, _)
+        | LongEvent::Refuse(task, _, _) => *task,
     }
 }
 
@@ -142,7 +118,7 @@ pub fn actor(event: EventView<'_>) -> Option<u32>
         ) => Some(task),
         EventView::Finish(_, FinishEvent::Opened(task)) => Some(task),
         EventView::Begin(task, _) => Some(task),
-        EventView::Long(event) => actor_in(event),
+        EventView::Long(event) => Some(actor_in(event)),
         _ => None,
     }
 }

@@ -12,8 +12,8 @@ ghost use Rattle.world_model.specs.declared.event.WorldEvent.TheVariants.{Phaser
 ghost use Rattle.world_model.specs.declared.event.WorldEvent as events;
 ghost use Rattle.schedule_model.specs.Scripts.{act_of, body_of, is_of, meanings, next_act};
 ghost use Rattle.schedule_model.specs.Follows.{follows, is_next};
-ghost use Rattle.trace_model.specs.Explained.{event_of, step_of};
-ghost use Rattle.trace_model.specs.Views.{viewed};
+ghost use Rattle.trace_model.specs.Explained.{event_of};
+ghost use Rattle.trace_model.specs.Views.{long_event, viewed};
 ghost use Rattle.schedule_run.specs.Following.{first_not_next, history, AnswersPlace};
 ghost use Rattle.schedule_run.specs.inner.Bodies.{IsAskedOf, SeatsStand};
 ghost use Rattle.schedule_run.specs.inner.Followers.{seat_of, IsTaken};
@@ -25,8 +25,7 @@ use job_script::{Act, Answer, Program, ScriptBody};
 use phase_modes::Refusal;
 use std::alloc::Global;
 use std::collections::BTreeMap;
-use trace_model::{EventView, Trace, TracedEvent, TracedStep};
-use world_model::Begun;
+use trace_model::{EventView, LongEvent, Trace};
 
 /// The tasks of a trace by their numbers, which may be any. A task has a seat from its spawn on.
 #[derive(Drop)]
@@ -84,44 +83,32 @@ impl<'p> Followers<'p> {
         Ok(())
     }
 
-    /// Reports to a task what came of the act that it was given, by a step that makes it.
-    fn settle_step(&mut self, task: u32, phaser: u32, step: &TracedStep)
-        ensures { (p : programs.Program) (w : List events.WorldEvent)
-            → IsAskedOf p w task (seat_of self.old.seats)
-            → is_of task (act_of (Phaser phaser (step_of step.now))) ≡ true
-            → SeatsStand p (Phaser phaser (step_of step.now) ∷ w) (seat_of self.new.seats) }
-    {
-        if let TracedStep::Make(_, _, _) = step {
-            self.report_made(task, phaser);
-        }
-    }
-
     /// Reports to a task what came of the act that it was given, by a long event: a phaser has its
     /// number, and a child its seat.
     fn settle_long(
         &mut self,
         task: u32,
-        event: &TracedEvent,
+        event: &LongEvent,
         act: Act<ScriptBody<'p>>,
     ) -> Result<(), Refusal>
         ensures settled { (p : programs.Program) (w : List events.WorldEvent)
             → IsAskedOf p w task (seat_of self.old.seats)
             → act.entry ≡ next_for (meanings p w task) (next_act p w task)
-            → is_of task (act_of (event_of event.now)) ≡ true
-            → is_next p w (act_of (event_of event.now)) ≡ true
-            → IfOk result (λ _. SeatsStand p (event_of event.now ∷ w) (seat_of self.new.seats)) }
+            → is_of task (act_of (event_of (long_event event.now))) ≡ true
+            → is_next p w (act_of (event_of (long_event event.now))) ≡ true
+            → IfOk result (λ _. SeatsStand p (event_of (long_event event.now) ∷ w) (seat_of self.new.seats)) }
         ensures memory { IfErr result (λ e. e ≡ NoMemory) }
     {
         match event {
-            TracedEvent::Phaser(n, step) => {
-                self.settle_step(task, *n, step);
+            LongEvent::Make(phaser, _, _, _) => {
+                self.report_made(task, *phaser);
                 Ok(())
             }
-            TracedEvent::Begin(_, Begun::Async(child, _)) => match act {
+            LongEvent::Async(_, child, _) => match act {
                 Act::Async(body, _) | Act::AsyncAll(body) => self.seat_child(*child, body),
                 _ => Ok(()),
             },
-            _ => Ok(()),
+            LongEvent::Refuse(_, _, _) => Ok(()),
         }
     }
 

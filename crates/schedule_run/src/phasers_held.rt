@@ -1,5 +1,5 @@
 //! The phasers that a task holds, read off the events of a trace.
-ghost use Rattle.std.specs.Prelude.{◌≡◌, ◌≤◌, ◌∷◌, List, length, take};
+ghost use Rattle.std.specs.Prelude.{◌≡◌, ◌≤◌, ◌∷◌, List, Some, length, take};
 ghost use Rattle.phase_model.specs.declared.history.Event.{Event as PhaserEvent};
 ghost use Rattle.phase_model.specs.declared.terms.Terms.{Terms};
 ghost use Rattle.world_model.specs.declared.event.WorldEvent as events;
@@ -8,13 +8,13 @@ ghost use Rattle.world_model.specs.Parts.{event_for};
 ghost use Rattle.world_model.specs.Tasks.{joined_by};
 ghost use Rattle.schedule_model.specs.Follows.{same_pairs};
 ghost use Rattle.trace_model.specs.Explained.{step_of, event_of};
-ghost use Rattle.trace_model.specs.Views.{viewed};
+ghost use Rattle.trace_model.specs.Views.{short_step, viewed};
 ghost use Rattle.schedule_run.specs.Following.{history};
 ghost use Rattle.schedule_run.specs.inner.Holding.{stay_in, stay_of, mode_on, pair_by};
 
 use crate::same_act::is_same_pair;
 use phase_modes::{Mode, Pair};
-use trace_model::{EventView, ShortStep, Trace, TracedEvent, TracedStep};
+use trace_model::{EventView, LongEvent, ShortStep, Trace};
 
 /// What events say of a task and a phaser: the mode in which it was last registered there, and
 /// whether it was dropped.
@@ -25,17 +25,24 @@ struct Stay {
 }
 
 impl Stay {
-    /// The same after one step more on the phaser.
-    fn after_step(self, task: u32, step: &TracedStep) -> Stay
-        ensures { (terms : Terms) (h : List PhaserEvent)
-            → self ≡ stay_in task h → result ≡ stay_in task (event_for terms h (step_of step.now) ∷ h) }
+    /// The same of a task that is registered once more, in this mode.
+    fn in_mode(self, mode: Mode) -> Stay
+        ensures { result ≡ record self { mode = Some mode } }
+    {
+        Stay {
+            mode: Some(mode),
+            ..self
+        }
+    }
+
+    /// The same after one short step more on the phaser.
+    fn after_step(self, task: u32, step: ShortStep) -> Stay
+        ensures { (terms : Terms) (h : List PhaserEvent) → self ≡ stay_in task h
+            → result ≡ stay_in task (event_for terms h (step_of (short_step step)) ∷ h) }
     {
         match step {
-            TracedStep::Make(t, mode, _) | TracedStep::Reg(_, t, mode) if *t == task => Stay {
-                mode: Some(*mode),
-                ..self
-            },
-            TracedStep::Drop(t) if *t == task => Stay { left: true, ..self },
+            ShortStep::Reg(_, t, mode) if t == task => self.in_mode(mode),
+            ShortStep::Drop(t) if t == task => Stay { left: true, ..self },
             _ => self,
         }
     }
@@ -46,9 +53,9 @@ impl Stay {
             → result ≡ stay_of task phaser (event_of (viewed event.entry) ∷ w) }
     {
         match event {
-            EventView::Phaser(n, step) if n == phaser => self.after_step(task, &step.step()),
-            EventView::Long(TracedEvent::Phaser(n, step)) if *n == phaser => {
-                self.after_step(task, step)
+            EventView::Phaser(n, step) if n == phaser => self.after_step(task, step),
+            EventView::Long(LongEvent::Make(n, t, mode, _)) if *n == phaser && *t == task => {
+                self.in_mode(*mode)
             }
             _ => self,
         }
@@ -78,9 +85,7 @@ fn joined_by(task: u32, event: EventView<'_>) -> Option<u32>
 {
     match event {
         EventView::Phaser(n, ShortStep::Reg(_, t, _)) if t == task => Some(n),
-        EventView::Long(TracedEvent::Phaser(n, TracedStep::Make(t, _, _)))
-        | EventView::Long(TracedEvent::Phaser(n, TracedStep::Reg(_, t, _)))
-            if *t == task => { Some(*n) }
+        EventView::Long(LongEvent::Make(n, t, _, _)) if *t == task => Some(*n),
         _ => None,
     }
 }

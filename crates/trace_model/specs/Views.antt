@@ -6,6 +6,8 @@ use Rattle.trace_model.specs.declared.event.TracedStep.{TracedStep}
 use Rattle.trace_model.specs.declared.event.TracedStep.TheVariants as step
 use Rattle.trace_model.specs.declared.event.TracedEvent.{TracedEvent}
 use Rattle.trace_model.specs.declared.event.TracedEvent.TheVariants as event
+use Rattle.trace_model.specs.declared.long.LongEvent.{LongEvent}
+use Rattle.trace_model.specs.declared.long.LongEvent.TheVariants as long
 use Rattle.trace_model.specs.declared.view.ShortStep.{ShortStep}
 use Rattle.trace_model.specs.declared.view.ShortStep.TheVariants as short
 use Rattle.trace_model.specs.declared.view.ShortAct.{ShortAct}
@@ -34,10 +36,16 @@ short_act (act.NextSingle n) = begun.NextSingle n
 short_act act.Shut = begun.Shut
 short_act act.End = begun.End
 
+-- the event that a long one stands for
+abbrev pub long_event : LongEvent → TracedEvent
+long_event (long.Make n t m terms) = event.Phaser n (step.Make t m terms)
+long_event (long.Async t c pairs) = event.Begin t (begun.Async c pairs)
+long_event (long.Refuse t a n) = event.Refuse t a n
+
 -- the event that is lent
 abbrev pub viewed : EventView → TracedEvent
 viewed (Phaser n s) = event.Phaser n (short_step s)
 viewed (Finish f e) = event.Finish f e
 viewed (Begin t a) = event.Begin t (short_act a)
 viewed (Fail t n) = event.Fail t n
-viewed (Long e) = e.now
+viewed (Long e) = long_event e.now

@@ -1,9 +1,10 @@
 //! The events of a trace with their tickets, each in as little room as it needs.
 ghost use Rattle.std.specs.Prelude.{◌≡◌, ◌<◌, ◌^◌, ◌++◌, ◌∷◌, [], length, slice_get, Some, IfOk, IfErr};
-ghost use Rattle.trace_model.specs.Views.{viewed};
+ghost use Rattle.trace_model.specs.Views.{long_event, viewed};
 
-use crate::event::{TracedEvent, TracedStep};
+use crate::event::TracedEvent;
 use crate::kept::Kept;
+use crate::long::LongEvent;
 use crate::view::EventView;
 use phase_model::{Bound, Terms};
 use phase_modes::Refusal;
@@ -20,7 +21,7 @@ pub(crate) struct Entries {
     /// All events.
     kept: Vec<(u64, Kept)>,
     /// Those that are long, to which `kept` has their places.
-    long: Vec<TracedEvent>,
+    long: Vec<LongEvent>,
 }
 
 impl Model for Entries {
@@ -59,12 +60,11 @@ impl Entries {
 
     /// Adds a long event at the end. On `Memory` both lists are as they were.
     #[tactic(auto, using(crate::proofs::Adding::long_more))]
-    fn push_long(&mut self, ticket: u64, event: TracedEvent) -> Result<(), Refusal>
-        ensures added { IfOk result (λ _. self.new ≡ self.old ++ (ticket, event) ∷ []) }
+    fn push_long(&mut self, ticket: u64, event: LongEvent) -> Result<(), Refusal>
+        ensures added { IfOk result (λ _. self.new ≡ self.old ++ (ticket, long_event event) ∷ []) }
         ensures memory { IfErr result (λ r. (r ≡ Refusal.Memory) × (self.new ≡ self.old)) }
     {
         // The prover has to be shown the types inside an event: it doesn't find them by itself.
-        let _step: Option<TracedStep> = None;
         let _begun: Option<Begun> = None;
         let _tried: Option<Tried> = None;
         let _terms: Option<Terms> = None;
@@ -83,11 +83,13 @@ impl Entries {
         ensures added { IfOk result (λ _. self.new ≡ self.old ++ (ticket, event.now) ∷ []) }
         ensures memory { IfErr result (λ r. (r ≡ Refusal.Memory) × (self.new ≡ self.old)) }
     {
-        let Some(kept) = Kept::of(event) else {
-            return self.push_long(ticket, *event);
-        };
-        self.kept.push((ticket, kept))?;
-        Ok(())
+        match Kept::of(event) {
+            Ok(kept) => {
+                self.kept.push((ticket, kept))?;
+                Ok(())
+            }
+            Err(long) => self.push_long(ticket, long),
+        }
     }
 
     /// How many events there are.

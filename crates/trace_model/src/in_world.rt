@@ -1,8 +1,8 @@
-//! A traced event in the world: the event that it is there, and whether a reply is the one that the
-//! trace has.
+//! A traced event in the world: the event that it is there, and whether a reply makes it, or is what a
+//! look saw.
 ghost use Rattle.std.specs.Prelude.{◌≡◌};
 ghost use Rattle.world_model.specs.Replies.{is_made};
-ghost use Rattle.trace_model.specs.Explained.{step_of, event_of, is_seen, is_answered, ends_run};
+ghost use Rattle.trace_model.specs.Explained.{step_of, event_of, is_seen};
 
 use crate::event::{TracedEvent, TracedStep};
 use finish_core::FinishEvent;
@@ -59,26 +59,6 @@ impl TracedEvent {
             TracedEvent::Begin(task, act) => WorldEvent::Begin(task, act),
             TracedEvent::Refuse(task, act, number) => WorldEvent::Refuse(task, act, number),
             TracedEvent::Fail(task, number) => WorldEvent::Fail(task, number),
-        }
-    }
-
-    /// Whether a reply makes the event, and answers a look what it saw.
-    pub(crate) fn is_answered(&self, reply: Result<Reply, Refusal>) -> bool
-        ensures { result ≡ is_answered self.now reply }
-    {
-        match *self {
-            TracedEvent::Phaser(_, TracedStep::Look(_, _, seen)) => is_seen(seen, reply),
-            _ => is_made(reply),
-        }
-    }
-
-    /// Whether it is the shut of finish 0, with which a run ends.
-    pub(crate) fn ends_run(&self) -> bool
-        ensures { result ≡ ends_run self.now }
-    {
-        match *self {
-            TracedEvent::Finish(finish, FinishEvent::Shut) => finish == 0,
-            _ => false,
         }
     }
 }

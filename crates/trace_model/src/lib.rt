@@ -8,6 +8,7 @@ mod in_world;
 mod kept;
 mod laws;
 mod log;
+mod long;
 mod part;
 mod trace;
 mod view;
@@ -18,6 +19,7 @@ pub use laws::{
     projections_are_parts, worked_traces,
 };
 pub use log::Log;
+pub use long::LongEvent;
 pub use part::Part;
 pub use trace::Trace;
 pub use view::{EventView, ShortAct, ShortStep};

@@ -1,12 +1,12 @@
 //! An event of a trace, read where it stands. Almost all events are short, and are lent as they are
 //! kept; a long event is kept apart, and is lent by reference.
-ghost use Rattle.std.specs.Prelude.{◌≡◌, true, MatchOption};
+ghost use Rattle.std.specs.Prelude.{◌≡◌};
 ghost use Rattle.trace_model.specs.Explained.{is_answered, ends_run};
 ghost use Rattle.trace_model.specs.Views.{short_step, short_act, viewed};
-ghost use Rattle.trace_model.specs.inner.Kept.{is_long_step, is_long_act};
 
 use crate::event::{TracedEvent, TracedStep};
 use crate::in_world::{is_made, is_seen};
+use crate::long::LongEvent;
 use finish_core::FinishEvent;
 use phase_model::Look;
 use phase_modes::{Mode, Refusal};
@@ -38,30 +38,6 @@ pub enum ShortStep {
 }
 
 impl ShortStep {
-    /// The short form of a step, if it has one.
-    pub(crate) fn of(step: &TracedStep) -> Option<ShortStep>
-        ensures { MatchOption result (is_long_step step.now ≡ true) (λ s. short_step s ≡ step.now) }
-    {
-        match *step {
-            TracedStep::Make(_, _, _) => None,
-            TracedStep::Reg(parent, child, mode) => Some(ShortStep::Reg(parent, child, mode)),
-            TracedStep::Sig(task, number) => Some(ShortStep::Sig(task, number)),
-            TracedStep::Claim(task) => Some(ShortStep::Claim(task)),
-            TracedStep::Did(task) => Some(ShortStep::Did(task)),
-            TracedStep::Pass(task) => Some(ShortStep::Pass(task)),
-            TracedStep::Send(task, accumulator, value) => {
-                Some(ShortStep::Send(task, accumulator, value))
-            }
-            TracedStep::Look(task, accumulator, Look::Value(value)) => {
-                Some(ShortStep::Saw(accumulator, task, value))
-            }
-            TracedStep::Look(task, accumulator, Look::Nothing) => {
-                Some(ShortStep::SawNothing(task, accumulator))
-            }
-            TracedStep::Drop(task) => Some(ShortStep::Drop(task)),
-        }
-    }
-
     /// The step.
     pub fn step(self) -> TracedStep
         ensures { result ≡ short_step self }
@@ -102,21 +78,6 @@ pub enum ShortAct {
 }
 
 impl ShortAct {
-    /// The short form of an act, if it has one.
-    pub(crate) fn of(act: &Begun) -> Option<ShortAct>
-        ensures { MatchOption result (is_long_act act.now ≡ true) (λ s. short_act s ≡ act.now) }
-    {
-        match act {
-            Begun::Async(_, _) => None,
-            Begun::Signal => Some(ShortAct::Signal),
-            Begun::Wait => Some(ShortAct::Wait),
-            Begun::Next => Some(ShortAct::Next),
-            Begun::NextSingle(number) => Some(ShortAct::NextSingle(*number)),
-            Begun::Shut => Some(ShortAct::Shut),
-            Begun::End => Some(ShortAct::End),
-        }
-    }
-
     /// The act.
     pub fn act(self) -> Begun
         ensures { result ≡ short_act self }
@@ -144,7 +105,7 @@ pub enum EventView<'a> {
     /// An entry: the task gave up what it was about, by the refusal of this number, and ended.
     Fail(u32, u8),
     /// A long event: the making of a phaser, a spawn, or a refusal.
-    Long(&'a TracedEvent),
+    Long(&'a LongEvent),
 }
 
 impl<'a> EventView<'a> {
@@ -157,7 +118,7 @@ impl<'a> EventView<'a> {
             EventView::Finish(finish, event) => TracedEvent::Finish(finish, event),
             EventView::Begin(task, act) => TracedEvent::Begin(task, act.act()),
             EventView::Fail(task, number) => TracedEvent::Fail(task, number),
-            EventView::Long(event) => *event,
+            EventView::Long(event) => event.event(),
         }
     }
 
@@ -168,7 +129,6 @@ impl<'a> EventView<'a> {
         match self {
             EventView::Phaser(_, ShortStep::Saw(_, _, value)) => is_seen(Look::Value(value), reply),
             EventView::Phaser(_, ShortStep::SawNothing(_, _)) => is_seen(Look::Nothing, reply),
-            EventView::Long(event) => event.is_answered(reply),
             _ => is_made(reply),
         }
     }
@@ -179,7 +139,6 @@ impl<'a> EventView<'a> {
     {
         match self {
             EventView::Finish(finish, FinishEvent::Shut) => finish == 0,
-            EventView::Long(event) => event.ends_run(),
             _ => false,
         }
     }

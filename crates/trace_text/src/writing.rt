@@ -1,17 +1,17 @@
 //! Writes a trace as text, in version 2, with no blank.
 ghost use Rattle.std.specs.Prelude.{◌≡◌, ◌++◌, ◌∷◌, [], map, string_bytes, nat_lt, IfOk, IfErr, decimal};
-ghost use Rattle.trace_model.specs.Views.{viewed};
+ghost use Rattle.trace_model.specs.Views.{long_event, short_step, viewed};
 ghost use Rattle.trace_model.specs.declared.event.TracedEvent.TheVariants.{Phaser, Finish, Begin, Refuse, Fail};
 ghost use Rattle.serde_json.specs.Written.{compact_text, comma_if};
 ghost use Rattle.trace_text.specs.inner.Writing.{Appends};
-ghost use Rattle.trace_text.specs.Text.{list, rest_text, mode_data, op_data, ops_data, bound_items, terms_items, seen_data, step_items, finish_items, pair_data, pairs_data, begun_items, tried_items, event_items, entry_data, limits_data, trace_text};
+ghost use Rattle.trace_text.specs.Text.{list, rest_text, mode_data, op_data, ops_data, bound_items, terms_items, step_items, finish_items, pair_data, pairs_data, begun_items, tried_items, event_items, entry_data, limits_data, trace_text};
 ghost use Rattle.trace_text.specs.declared.version.Version.TheVariants.{Second};
 
 use finish_core::FinishEvent;
-use phase_model::{Bound, Look, Op, Terms};
+use phase_model::{Bound, Op, Terms};
 use phase_modes::{Limits, Mode, Pair, Refusal};
 use std::alloc::{AllocError, Global};
-use trace_model::{EventView, Trace, TracedEvent, TracedStep};
+use trace_model::{EventView, LongEvent, ShortStep, Trace, TracedEvent, TracedStep};
 use world_model::{Begun, Tried};
 
 /// A comma, but before the first item.
@@ -84,45 +84,33 @@ fn write_terms(out: &mut String, mode: Mode, terms: &Terms) -> Result<(), AllocE
     write_bound(out, terms.bound)
 }
 
-/// What was seen: a number, or null for nothing.
-fn write_seen(out: &mut String, seen: Look) -> Result<(), AllocError>
-    ensures { Appends result out.old out.new (compact_text (seen_data seen)) }
-{
-    match seen {
-        Look::Value(value) => write!(out, "{value}"),
-        Look::Nothing => out.push_str("null"),
-    }
-}
-
-/// The items of a step, each after a comma, and the closing bracket.
+/// The items of a short step, each after a comma, and the closing bracket; a look that saw nothing has
+/// null.
 #[tactic(auto, unfolding(json::specs::Print::escape_byte))]
-fn write_step(out: &mut String, step: &TracedStep) -> Result<(), AllocError>
-    ensures { Appends result out.old out.new (rest_text (step_items Second step.now)) }
+fn write_step(out: &mut String, step: ShortStep) -> Result<(), AllocError>
+    ensures { Appends result out.old out.new (rest_text (step_items Second (short_step step))) }
 {
     match step {
-        TracedStep::Make(task, mode, terms) => {
-            write!(out, ",\"make\",{task}")?;
-            write_terms(out, *mode, terms)
-        }
-        TracedStep::Reg(parent, child, mode) => {
+        ShortStep::Reg(parent, child, mode) => {
             write!(out, ",\"reg\",{parent},{child},")?;
-            write_mode(out, *mode)?;
+            write_mode(out, mode)?;
             out.push_str("]")
         }
-        TracedStep::Sig(task, None) => write!(out, ",\"sig\",{task}]"),
-        TracedStep::Sig(task, Some(number)) => write!(out, ",\"sig\",{task},{number}]"),
-        TracedStep::Claim(task) => write!(out, ",\"claim\",{task}]"),
-        TracedStep::Did(task) => write!(out, ",\"did\",{task}]"),
-        TracedStep::Pass(task) => write!(out, ",\"pass\",{task}]"),
-        TracedStep::Send(task, accumulator, value) => {
+        ShortStep::Sig(task, None) => write!(out, ",\"sig\",{task}]"),
+        ShortStep::Sig(task, Some(number)) => write!(out, ",\"sig\",{task},{number}]"),
+        ShortStep::Claim(task) => write!(out, ",\"claim\",{task}]"),
+        ShortStep::Did(task) => write!(out, ",\"did\",{task}]"),
+        ShortStep::Pass(task) => write!(out, ",\"pass\",{task}]"),
+        ShortStep::Send(task, accumulator, value) => {
             write!(out, ",\"send\",{task},{accumulator},{value}]")
         }
-        TracedStep::Look(task, accumulator, seen) => {
-            write!(out, ",\"look\",{task},{accumulator},")?;
-            write_seen(out, *seen)?;
-            out.push_str("]")
+        ShortStep::Saw(accumulator, task, value) => {
+            write!(out, ",\"look\",{task},{accumulator},{value}]")
         }
-        TracedStep::Drop(task) => write!(out, ",\"drop\",{task}]"),
+        ShortStep::SawNothing(task, accumulator) => {
+            write!(out, ",\"look\",{task},{accumulator},null]")
+        }
+        ShortStep::Drop(task) => write!(out, ",\"drop\",{task}]"),
     }
 }
 
@@ -210,10 +198,26 @@ fn write_refuse(out: &mut String, task: u32, act: &Tried, number: u8) -> Result<
     Ok(())
 }
 
-/// The items of a step on a phaser, each after a comma, and the closing bracket.
+/// The items of the making of a phaser, each after a comma, and the closing bracket.
 #[tactic(auto, unfolding(json::specs::Print::escape_byte))]
-fn write_on_phaser(out: &mut String, phaser: u32, step: &TracedStep) -> Result<(), AllocError>
-    ensures { Appends result out.old out.new (rest_text (event_items Second (Phaser phaser step.now))) }
+fn write_make(
+    out: &mut String,
+    phaser: u32,
+    task: u32,
+    mode: Mode,
+    terms: &Terms,
+) -> Result<(), AllocError>
+    ensures { Appends result out.old out.new
+        (rest_text (event_items Second (Phaser phaser (TracedStep.Make task mode terms.now)))) }
+{
+    write!(out, ",\"p\",{phaser},\"make\",{task}")?;
+    write_terms(out, mode, terms)
+}
+
+/// The items of a short step on a phaser, each after a comma, and the closing bracket.
+#[tactic(auto, unfolding(json::specs::Print::escape_byte))]
+fn write_on_phaser(out: &mut String, phaser: u32, step: ShortStep) -> Result<(), AllocError>
+    ensures { Appends result out.old out.new (rest_text (event_items Second (Phaser phaser (short_step step)))) }
 {
     write!(out, ",\"p\",{phaser}")?;
     write_step(out, step)
@@ -246,29 +250,29 @@ fn write_fail(out: &mut String, task: u32, number: u8) -> Result<(), AllocError>
     write!(out, ",\"t\",{task},\"fail\",{number}]")
 }
 
-/// The items of an event, each after a comma, and the closing bracket.
-fn write_event(out: &mut String, event: &TracedEvent) -> Result<(), AllocError>
-    ensures { Appends result out.old out.new (rest_text (event_items Second event.now)) }
+/// The items of a long event, each after a comma, and the closing bracket.
+fn write_long(out: &mut String, event: &LongEvent) -> Result<(), AllocError>
+    ensures { Appends result out.old out.new (rest_text (event_items Second (long_event event.now))) }
 {
     match event {
-        TracedEvent::Phaser(phaser, step) => write_on_phaser(out, *phaser, step),
-        TracedEvent::Finish(finish, event) => write_in_finish(out, *finish, *event),
-        TracedEvent::Begin(task, act) => write_begin(out, *task, act),
-        TracedEvent::Refuse(task, act, number) => write_refuse(out, *task, act, *number),
-        TracedEvent::Fail(task, number) => write_fail(out, *task, *number),
+        LongEvent::Make(phaser, task, mode, terms) => write_make(out, *phaser, *task, *mode, terms),
+        LongEvent::Async(task, child, pairs) => {
+            write_begin(out, *task, &Begun::Async(*child, *pairs))
+        }
+        LongEvent::Refuse(task, act, number) => write_refuse(out, *task, act, *number),
     }
 }
 
-/// The same of an event that a trace lends.
+/// The same of any event that a trace lends.
 fn write_view(out: &mut String, event: EventView<'_>) -> Result<(), AllocError>
     ensures { Appends result out.old out.new (rest_text (event_items Second (viewed event.entry))) }
 {
     match event {
-        EventView::Phaser(phaser, step) => write_on_phaser(out, phaser, &step.step()),
+        EventView::Phaser(phaser, step) => write_on_phaser(out, phaser, step),
         EventView::Finish(finish, event) => write_in_finish(out, finish, event),
         EventView::Begin(task, act) => write_begin(out, task, &act.act()),
         EventView::Fail(task, number) => write_fail(out, task, number),
-        EventView::Long(event) => write_event(out, event),
+        EventView::Long(event) => write_long(out, event),
     }
 }
 

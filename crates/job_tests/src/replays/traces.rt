@@ -111,7 +111,6 @@ fn a_look_is_answered_what_it_saw(rt: HostRuntime) -> Result<(), Fail> {
     let look = TracedEvent::Phaser(7, step);
     assert!(rt; step.step() == Step::Look(3, 1));
     assert!(rt; look.event() == WorldEvent::Phaser(7, Step::Look(3, 1)));
-    saw_minus_five(&rt, EventView::Long(&look));
     saw_minus_five(&rt, EventView::Phaser(7, ShortStep::Saw(1, 3, -5)));
     let nothing = EventView::Phaser(7, ShortStep::SawNothing(3, 1));
     assert!(rt; nothing.is_answered(Ok(Reply::Value(Look::Nothing))));
@@ -129,9 +128,7 @@ fn ends_a_run(rt: &impl Abort, shut: EventView<'_>) {
 
 #[test]
 fn the_shut_of_finish_0_ends_a_run(rt: HostRuntime) -> Result<(), Fail> {
-    ends_a_run(&rt, EventView::Long(&shut(0)));
     ends_a_run(&rt, EventView::Finish(0, FinishEvent::Shut));
-    assert!(rt; !EventView::Long(&shut(1)).ends_run());
     assert!(rt; !EventView::Finish(1, FinishEvent::Shut).ends_run());
     Ok(())
 }

@@ -2,13 +2,13 @@
 ghost use Rattle.std.specs.Prelude.{◌≡◌};
 ghost use Rattle.world_steps.specs.StandsFor.{IsStep};
 ghost use Rattle.trace_model.specs.Explained.{event_of, step_of};
-ghost use Rattle.trace_model.specs.Views.{short_step, viewed};
+ghost use Rattle.trace_model.specs.Views.{long_event, short_step, viewed};
 
 use super::Tables;
 use finish_core::FinishEvent;
 use phase_modes::Refusal;
-use trace_model::{EventView, ShortStep, TracedEvent};
-use world_model::{Reply, Step, WorldEvent};
+use trace_model::{EventView, LongEvent, ShortStep};
+use world_model::{Begun, Reply, Step, WorldEvent};
 
 impl Tables {
     /// One event: it is made, has to wait, or is refused, and then changes nothing.
@@ -39,15 +39,15 @@ impl Tables {
     }
 
     /// A long event, where it stands.
-    fn step_long(&mut self, event: &TracedEvent) -> Result<Reply, Refusal>
-        ensures { IsStep (event_of event.now) self.old self.new result }
+    fn step_long(&mut self, event: &LongEvent) -> Result<Reply, Refusal>
+        ensures { IsStep (event_of (long_event event.now)) self.old self.new result }
     {
         match *event {
-            TracedEvent::Phaser(phaser, step) => self.step_on_phaser(phaser, step.step()),
-            TracedEvent::Finish(finish, step) => self.step_in_finish(finish, step),
-            TracedEvent::Begin(task, begun) => self.step_begin(task, begun),
-            TracedEvent::Refuse(task, tried, number) => self.step_refuse(task, tried, number),
-            TracedEvent::Fail(task, number) => self.step_fail(task, number),
+            LongEvent::Make(phaser, task, mode, terms) => self.step_make(phaser, task, mode, terms),
+            LongEvent::Async(task, child, pairs) => {
+                self.step_begin(task, Begun::Async(child, pairs))
+            }
+            LongEvent::Refuse(task, tried, number) => self.step_refuse(task, tried, number),
         }
     }
 
