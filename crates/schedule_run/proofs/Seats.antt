@@ -23,7 +23,7 @@ use Rattle.world_model.specs.declared.event.WorldEvent.{WorldEvent}
 use Rattle.world_model.specs.declared.event.WorldEvent.TheVariants.{Phaser, Finish, Begin, Refuse, Fail}
 use Rattle.trace_model.specs.Explained.{step_of, event_of as event_in}
 use Rattle.trace_model.specs.Views.{short_act, short_step, viewed}
-use Rattle.trace_model.specs.declared.event.TracedEvent.{TracedEvent}
+use Rattle.trace_model.specs.declared.long.LongEvent.{LongEvent}
 use Rattle.trace_model.specs.declared.view.EventView.{EventView}
 use Rattle.trace_model.specs.declared.view.EventView.TheVariants as view
 use Rattle.trace_model.specs.declared.view.ShortAct.{ShortAct}
@@ -170,7 +170,7 @@ makes_none n (short.Drop t) = refl
 
 -- an event that a trace keeps short leaves the seats as they are to stand
 pub short_settled : (p : Program) (w : List WorldEvent) (t : ℕ) (at : ℕ → Option Seat) (e : EventView)
-    → ((x : Bor TracedEvent) → e ≡ view.Long x → ⊥) → IsAskedOf p w t at
+    → ((x : Bor LongEvent) → e ≡ view.Long x → ⊥) → IsAskedOf p w t at
     → is_of t (act_of (event_in (viewed e))) ≡ true → SeatsStand p (event_in (viewed e) ∷ w) at
 short_settled p w t at (view.Phaser n s) short a act =
     settled p w t at (Phaser n (step_of (short_step s))) a act (λ u. refl) (makes_none n s)
