@@ -18,7 +18,8 @@ use Rattle.long_receipts.specs.Told.{HasLooked}
 use Rattle.table_receipts.specs.Logs.{GoesOn}
 use Rattle.job_script.specs.declared.act.Answer.{Answer}
 use Rattle.job_script.specs.declared.act.Answer.TheVariants.{Saw}
-use Rattle.task_crew.specs.Heard.{Asked, look, Saying, IsAnswerTo}
+use Rattle.task_crew.specs.Heard.{Asked, look, IsAnswerTo}
+use Rattle.task_crew.specs.Said.{Saying}
 use Rattle.phased_rt.specs.Says.{story_in, SaysOfTrace}
 use Rattle.own_body.specs.Sums.{IsSeen, IsSum}
 
@@ -49,11 +50,11 @@ pub story_is_legal : (l : Limits) (es : List Entry) (n : ℕ) → is_legal_world
 story_is_legal l es n legal = phasers_legal l (past (reverse es)) legal n
 
 -- what a task hears of its look on phaser 0 is seen
-pub heard_is_seen : (t : ℕ) (asked : Asked) (answer : Answer) (x : Look ℤ) (now : ℕ → Story) → asked ≡ look 0 0 → answer ≡ Saw x
-    → IsAnswerTo t asked answer now → IsSeen t (now 0) x
-heard_is_seen t asked answer x now looks saw is =
-    let told : IsAnswerTo t (look 0 0) (Saw x) now =
-    subst (λ (b : Answer). IsAnswerTo t (look 0 0) b now) saw (subst (λ (a : Asked). IsAnswerTo t a answer now) looks is) in
+pub heard_is_seen : (t : ℕ) (asked : Asked) (answer : Answer) (x : Look ℤ) (seen now : ℕ → Story) → asked ≡ look 0 0 → answer ≡ Saw x
+    → IsAnswerTo t asked answer seen now → IsSeen t (now 0) x
+heard_is_seen t asked answer x seen now looks saw is =
+    let told : IsAnswerTo t (look 0 0) (Saw x) seen now =
+    subst (λ (b : Answer). IsAnswerTo t (look 0 0) b seen now) saw (subst (λ (a : Asked). IsAnswerTo t a answer seen now) looks is) in
     just_seen t (now 0) x told
 
 -- who says that what it saw is seen has seen a sum, in the story of a legal trace

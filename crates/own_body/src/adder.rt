@@ -56,8 +56,8 @@ impl Adder {
     /// It takes in what its look saw, and will send that next.
     fn hear(&mut self, answer: Answer)
         ensures next { self.new.next ≡ self.old.next }
-        ensures saw { (task : ℕ) (asked : Asked) (now : ℕ → Story) → (self.old.next ≡ Next.Hears → asked ≡ look 0 0)
-            → IsAnswerTo task asked answer now → IsSeen task (now 0) self.old.saw → IsSeen task (now 0) self.new.saw }
+        ensures saw { (task : ℕ) (asked : Asked) (seen now : ℕ → Story) → (self.old.next ≡ Next.Hears → asked ≡ look 0 0)
+            → IsAnswerTo task asked answer seen now → IsSeen task (now 0) self.old.saw → IsSeen task (now 0) self.new.saw }
     {
         if let (Next::Hears, Answer::Saw(saw)) = (self.next, answer) {
             self.saw = saw;

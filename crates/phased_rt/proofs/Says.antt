@@ -12,7 +12,7 @@ use Rattle.trace_model.specs.Told.{phaser_told}
 use Rattle.table_receipts.specs.Logs.{GoesOn}
 use Rattle.table_receipts.specs.Parts.{IsToldAt}
 use Rattle.table_receipts.proofs.Goes.{some_more}
-use Rattle.task_crew.specs.Heard.{Saying, IsSaid}
+use Rattle.task_crew.specs.Said.{Saying, IsSaid}
 use Rattle.phased_rt.specs.Says.{story_in, SaysOfTrace}
 use Rattle.phased_rt.proofs.Limited.{IsHad, told_is_had}
 

@@ -6,7 +6,8 @@ use Rattle.world_model.specs.Parts.{phaser_past, terms_of}
 use Rattle.trace_model.specs.Explained.{past}
 use Rattle.trace_model.specs.Run.{Entry}
 use Rattle.table_receipts.specs.Parts.{HasShown}
-use Rattle.task_crew.specs.Heard.{Asked, Saying}
+use Rattle.task_crew.specs.Heard.{Asked}
+use Rattle.task_crew.specs.Said.{Saying}
 
 -- the story that the trace tells of phaser n
 abbrev pub story_in : Limits → List Entry → ℕ → Story

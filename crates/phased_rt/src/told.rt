@@ -3,9 +3,9 @@ ghost use Rattle.std.specs.Prelude.{◌≡◌, ◌++◌, true, reverse, IfOk, If
 ghost use Rattle.phase_modes.specs.Limits.{limits_fit};
 ghost use Rattle.world_model.specs.Report.{report_of};
 ghost use Rattle.trace_model.specs.Explained.{past, is_explained};
-ghost use Rattle.task_crew.specs.Heard.{IsSaid};
 ghost use Rattle.task_crew.specs.Refused.{IsRunRefused};
 ghost use Rattle.task_crew.specs.Remaining.{AreRemains};
+ghost use Rattle.task_crew.specs.Said.{IsSaid};
 ghost use Rattle.phased_rt.specs.Left.{IsLeftByAll};
 ghost use Rattle.phased_rt.specs.Says.{SaysOfTrace};
 ghost use Rattle.phased_rt.specs.Told.{IsToldBy};

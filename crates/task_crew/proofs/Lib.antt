@@ -1,4 +1,5 @@
 pub mod Gathering
+pub mod Heard
+pub mod Saying
 pub mod Seats
 pub mod Sums
-pub mod Saying

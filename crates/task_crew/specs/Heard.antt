@@ -1,56 +1,76 @@
--- What a body hears of its phasers, and what it says of them.
-use Rattle.std.specs.Prelude.{ℕ, ℤ, ◌≡◌, ◌⊎◌, ◌<◌, List, Result, Ok, length}
-use Rattle.phase_modes.specs.declared.limits.Limits.{Limits}
+-- What a body asks for by its act, and what it hears.
+use Rattle.std.specs.Prelude.{ℕ, ℤ, ◌≡◌, ◌⊎◌, true, List, [], ◌∷◌, ◌++◌, Result, Ok}
+use Rattle.phase_modes.specs.declared.reg.Mode.{Mode}
 use Rattle.phase_modes.specs.declared.refusal.Refusal.{Refusal}
-use Rattle.phase_model.specs.declared.op.Look.{Look}
+use Rattle.phase_modes.specs.Mode.{can_wait}
+use Rattle.phase_model.specs.declared.history.Event.{Event}
+use Rattle.phase_model.specs.declared.history.Event.TheVariants.{Make, Reg, Sig, Pass, Send}
+use Rattle.phase_model.specs.declared.terms.Terms.{Terms}
+use Rattle.phase_model.specs.Phases.{waits, IsClosed}
 use Rattle.phase_model.specs.Rules.{Story}
-use Rattle.trace_model.specs.Run.{Entry}
+use Rattle.phase_model.specs.Tasks.{has_mode}
 use Rattle.job_script.specs.declared.act.Act.{Act}
 use Rattle.job_script.specs.declared.act.Act.TheVariants as acts
 use Rattle.job_script.specs.declared.act.Answer.{Answer}
-use Rattle.job_script.specs.declared.act.Answer.TheVariants.{Saw}
+use Rattle.job_script.specs.declared.act.Answer.TheVariants.{Done, Made, Saw}
 use Rattle.long_receipts.specs.Told.{HasLooked}
+use Rattle.seen_log.specs.Tails.{IsTail}
 use Rattle.table_receipts.specs.Logs.{GoesOn}
-use Rattle.table_receipts.specs.Parts.{IsToldAt, HasShown}
 
--- what a body asked for by its last act: a look at an accumulator of a phaser, or nothing of which more is told here
+-- what a body asked for by its last act: to make a phaser with these terms, on which its task is registered in this
+-- mode; to send a value to an accumulator of a phaser; to look at one; to signal, to end its turn or to register a child,
+-- phaser by phaser; or something of which no more is told here
 pub data Asked : Type 0 where
   nothing : Asked
+  make : Mode → Terms → Asked
+  send : ℕ → ℕ → ℤ → Asked
   look : ℕ → ℕ → Asked
-
--- what bodies say: of the number of the task that each is the body of, what it asked for, and what was seen of each
--- phaser
-abbrev pub Saying : Type 0 → Type 1
-Saying B = B → ℕ → Asked → (ℕ → Story) → Type 0
+  on_each : Asked
 
 -- what this act asks for
 abbrev pub asked_by : {B : Type 0} → Result (Act B) Refusal → Asked
+asked_by (Ok (acts.New m ops bound)) = make m (record { ops = ops; bound = bound })
+asked_by (Ok (acts.Send n a v)) = send n a v
 asked_by (Ok (acts.Look n a)) = look n a
+asked_by (Ok acts.Signal) = on_each
+asked_by (Ok acts.Wait) = on_each
+asked_by (Ok acts.Next) = on_each
+asked_by (Ok (acts.NextSingle n)) = on_each
+asked_by (Ok (acts.Async b ps)) = on_each
+asked_by (Ok (acts.AsyncAll b)) = on_each
 asked_by _ = nothing
 
 -- this act spawns a child with this body
 abbrev pub IsSpawned : {B : Type 0} → B → Result (Act B) Refusal → Type 0
 IsSpawned child result = ((ps : _) × (result ≡ Ok (acts.Async child ps))) ⊎ (result ≡ Ok (acts.AsyncAll child))
 
--- The phaser's newest event is this task's look at this accumulator. It saw this: the fold of all values that were sent
--- for the phase before the task's own, which was closed.
-abbrev pub IsSeen : ℕ → Asked → Look ℤ → (ℕ → Story) → Type 0
-IsSeen task nothing x now = Unit {0}
-IsSeen task (look n a) x now = HasLooked (now n).terms.ops task a (now n).past x
+-- the task made the phaser, in this mode and with these terms, and nothing else was done on it yet
+abbrev pub HasMade : ℕ → Mode → Terms → Story → Type 0
+HasMade task m terms s = (s.past ≡ Make task m ∷ []) × (s.terms ≡ terms)
 
--- so the task is told what it asked for; of all but a look nothing is said here
-abbrev pub IsAnswerTo : ℕ → Asked → Answer → (ℕ → Story) → Type 0
-IsAnswerTo task asked (Saw x) now = IsSeen task asked x now
-IsAnswerTo task asked _ now = Unit {0}
+-- the task sent this value, after all that it had seen of the phaser
+abbrev pub HasSent : ℕ → ℕ → ℤ → Story → Story → Type 0
+HasSent task a v seen now =
+    (later before : List Event) × (now.past ≡ later ++ Send task a v ∷ before) × IsTail seen.past before
+
+-- The newest event is the task's signal, its registration of a child, or its pass. Where one that can wait has passed a
+-- phase, each who is registered now, and can signal, had signalled it.
+abbrev pub IsOwn : ℕ → List Event → Type 0
+IsOwn task (Sig t x ∷ h) = t ≡ task
+IsOwn task (Reg t child m ∷ h) = t ≡ task
+IsOwn task (Pass t ∷ h) = (t ≡ task) × (has_mode can_wait t (Pass t ∷ h) ≡ true → IsClosed (waits t h) (Pass t ∷ h))
+IsOwn task _ = ⊥
+
+-- So the task is told what it asked for. A look saw the fold of all values that were sent for the phase before the task's
+-- own, which was closed. Of each phaser no more was seen than before a signal, a turn's end or a spawn, or up to the task's
+-- own newest event in it.
+abbrev pub IsAnswerTo : ℕ → Asked → Answer → (ℕ → Story) → (ℕ → Story) → Type 0
+IsAnswerTo task (make m terms) (Made n) seen now = HasMade task m terms (now n)
+IsAnswerTo task (send n a v) Done seen now = HasSent task a v (seen n) (now n)
+IsAnswerTo task (look n a) (Saw x) seen now = HasLooked (now n).terms.ops task a (now n).past x
+IsAnswerTo task on_each answer seen now = (n : ℕ) → (now n ≡ seen n) ⊎ IsOwn task (now n).past
+IsAnswerTo task _ _ seen now = Unit {0}
 
 -- the body of a task that had seen this of each phaser has seen at least as much now, and hears what it asked for
 abbrev pub IsHeard : ℕ → Asked → Answer → (ℕ → Story) → (ℕ → Story) → Type 0
-IsHeard task asked answer seen now = ((n : ℕ) → GoesOn (seen n) (now n)) × IsAnswerTo task asked answer now
-
--- the parts tell a story of each phaser, legal under these limits, and the root's body, which is task 0's, says this of
--- beginnings of them
-abbrev pub IsSaid : {B : Type 0} → Saying B → Limits → List (List Entry) → B → Type 0
-IsSaid Shows l parts root =
-    (stories : ℕ → Story)
-    × ((n : ℕ) → n < length parts → IsToldAt n (stories n) parts × ((stories n).limits ≡ l))
-    × ∥ HasShown (λ b seen. (asked : Asked) × Shows b 0 asked seen) (length parts) stories root ∥₁
+IsHeard task asked answer seen now = ((n : ℕ) → GoesOn (seen n) (now n)) × IsAnswerTo task asked answer seen now

@@ -1,4 +1,5 @@
 pub mod Heard
 pub mod Refused
 pub mod Remaining
+pub mod Said
 pub mod inner

@@ -1,15 +1,16 @@
 //! How a task's act is begun, and made where it is one event.
 ghost use Rattle.std.specs.Prelude.{◌≡◌, ℕ, Ok};
+ghost use Rattle.job_script.specs.declared.act.Answer.TheVariants.{Done};
 ghost use Rattle.table_receipts.specs.Seen.{story_at};
 ghost use Rattle.task_queue.specs.Accounts.{IsSeatOf};
-ghost use Rattle.task_crew.specs.Heard.{nothing, look, asked_by, IsSpawned};
-ghost use Rattle.task_crew.specs.inner.Ready.{Says};
+ghost use Rattle.task_crew.specs.Heard.{nothing, make, send, look, asked_by, IsSpawned};
+ghost use Rattle.task_crew.specs.inner.Ready.{IsReady};
 
 use crate::body::{Body, Gate};
 use crate::naming::RunNaming;
 use crate::task::{Item, Task};
 use crate::worker::{Busy, Shared};
-use job_script::Act;
+use job_script::{Act, Answer};
 use phase_model::Terms;
 use phase_modes::{Mode, Phased, Refusal};
 use std::sync::Wait;
@@ -60,18 +61,20 @@ impl<B: Body, K: RunNaming> Shared<B, K> {
         mode: Mode,
         terms: &Terms,
     ) -> Result<(), Refusal>
+        requires says { ∥ (K.Supposing.supposed → B.Body.shows task.old.body task.old.log.task (make mode terms.now) (λ n. story_at task.old.fronts n)) ∥₁ }
         ensures out { by.new.out ≡ by.old.out }
     {
         let phaser = self.numbers.phaser();
         if self.may_try(task, Tried::New(phaser, mode, *terms))? {
             self.make_on(by, task, phaser, mode, terms)?;
-            task.note_making(phaser, mode)?;
         }
         Ok(())
     }
 
     /// Opens a finish. The memory that the task needs to know it is taken before.
-    fn open<R: Wait>(&self, rt: &R, task: &mut Task<B, K>) -> Result<(), Refusal> {
+    fn open<R: Wait>(&self, rt: &R, task: &mut Task<B, K>) -> Result<(), Refusal>
+        requires ready { ∥ (K.Supposing.supposed → IsReady B.Body.shows task.old.body task.old.log.task Done (λ n. story_at task.old.fronts n)) ∥₁ }
+    {
         if task.standing.reserve_opening().is_err() {
             return self.fail(task, Refusal::Memory);
         }
@@ -79,6 +82,7 @@ impl<B: Body, K: RunNaming> Shared<B, K> {
         if self.may_try(task, Tried::Open(finish))? {
             self.open_on(rt, task.number(), finish)?;
             task.standing.note_opening(finish)?;
+            task.answer = Answer::Done;
         }
         Ok(())
     }
@@ -92,6 +96,7 @@ impl<B: Body, K: RunNaming> Shared<B, K> {
         accumulator: u8,
         value: i32,
     ) -> Result<(), Refusal>
+        requires says { ∥ (K.Supposing.supposed → B.Body.shows task.old.body task.old.log.task (send phaser accumulator value) (λ n. story_at task.old.fronts n)) ∥₁ }
         ensures out { by.new.out ≡ by.old.out }
     {
         let tried = Tried::Send(phaser, accumulator, value);
@@ -99,10 +104,7 @@ impl<B: Body, K: RunNaming> Shared<B, K> {
             return Ok(());
         }
         match self.send_on(by, task, phaser, accumulator, value) {
-            Ok(()) => {
-                task.note_act();
-                Ok(())
-            }
+            Ok(()) => Ok(()),
             Err(refusal) => self.refuse(task, tried, refusal),
         }
     }
@@ -115,7 +117,7 @@ impl<B: Body, K: RunNaming> Shared<B, K> {
         phaser: u32,
         accumulator: u8,
     ) -> Result<(), Refusal>
-        requires says { ∥ (K.Supposing.supposed → Says B.Body.shows task.old.body task.old.log.task (look phaser accumulator) (λ n. story_at task.old.fronts n)) ∥₁ }
+        requires says { ∥ (K.Supposing.supposed → B.Body.shows task.old.body task.old.log.task (look phaser accumulator) (λ n. story_at task.old.fronts n)) ∥₁ }
         ensures out { by.new.out ≡ by.old.out }
     {
         let tried = Tried::Look(phaser, accumulator);
@@ -128,25 +130,32 @@ impl<B: Body, K: RunNaming> Shared<B, K> {
         }
     }
 
-    /// Begins an act that goes on by this plan, where it isn't refused.
-    fn begin(&self, task: &mut Task<B, K>, begun: Begun, plan: Plan) -> Result<bool, Refusal> {
+    /// Begins an act that goes on by this plan, where it isn't refused. Once it has come to its end the
+    /// body hears that it is done.
+    fn begin(&self, task: &mut Task<B, K>, begun: Begun, plan: Plan) -> Result<bool, Refusal>
+        requires ready { ∥ (K.Supposing.supposed → IsReady B.Body.shows task.old.body task.old.log.task Done (λ n. story_at task.old.fronts n)) ∥₁ }
+    {
         if !self.may_try(task, Tried::Begun(begun))? {
             return Ok(false);
         }
         task.log_begun(self.tickets.draw(), begun)?;
         task.standing.begin(plan);
+        task.answer = Answer::Done;
         Ok(true)
     }
 
     /// The same, where nothing else comes of it.
-    fn enter(&self, task: &mut Task<B, K>, begun: Begun, plan: Plan) -> Result<(), Refusal> {
+    fn enter(&self, task: &mut Task<B, K>, begun: Begun, plan: Plan) -> Result<(), Refusal>
+        requires ready { ∥ (K.Supposing.supposed → IsReady B.Body.shows task.old.body task.old.log.task Done (λ n. story_at task.old.fronts n)) ∥₁ }
+    {
         let _begun = self.begin(task, begun, plan)?;
         Ok(())
     }
 
     /// Begins to spawn a child. The child's memory is taken before the act is looked at.
     fn spawn(&self, item: &mut Item<B, K>, body: B, pairs: Phased) -> Result<(), Refusal>
-        requires says { (its : ℕ) → ∥ (K.Supposing.supposed → Says B.Body.shows body its nothing (λ n. story_at item.old.task.value.fronts n)) ∥₁ }
+        requires ready { ∥ (K.Supposing.supposed → IsReady B.Body.shows item.old.task.value.body item.old.task.value.log.task Done (λ n. story_at item.old.task.value.fronts n)) ∥₁ }
+        requires child { (its : ℕ) → ∥ (K.Supposing.supposed → B.Body.shows body its nothing (λ n. story_at item.old.task.value.fronts n)) ∥₁ }
     {
         let number = self.numbers.task();
         let Ok(child) = item.task.child(self.alloc, number, body, self.limits.acts) else {
@@ -166,9 +175,9 @@ impl<B: Body, K: RunNaming> Shared<B, K> {
         item: &mut Item<B, K>,
         act: Act<B>,
     ) -> Result<(), Refusal>
-        requires says { ∥ (K.Supposing.supposed → Says B.Body.shows item.old.task.value.body item.old.task.value.log.task (asked_by (Ok act)) (λ n. story_at item.old.task.value.fronts n)) ∥₁ }
+        requires says { ∥ (K.Supposing.supposed → B.Body.shows item.old.task.value.body item.old.task.value.log.task (asked_by (Ok act)) (λ n. story_at item.old.task.value.fronts n)) ∥₁ }
         requires child { (child : B) (its : ℕ) → IsSpawned child (Ok act)
-            → ∥ (K.Supposing.supposed → Says B.Body.shows child its nothing (λ n. story_at item.old.task.value.fronts n)) ∥₁ }
+            → ∥ (K.Supposing.supposed → B.Body.shows child its nothing (λ n. story_at item.old.task.value.fronts n)) ∥₁ }
         ensures out { by.new.out ≡ by.old.out }
     {
         match act {

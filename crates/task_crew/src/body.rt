@@ -11,9 +11,9 @@ use phase_modes::Refusal;
 ///
 /// A body may say something of what its task has seen (`shows`): who writes it proves of `step` that
 /// it stays so, and then `phased_rt::run` says it of the root's body, which is task 0's, and of the
-/// run's trace. The step hears of a look what `IsHeard` says: it is the task's own, and saw the fold of
-/// all values that were sent for the phase before the task's, which was closed. A body that says
-/// nothing has nothing to prove.
+/// run's trace. What a step hears of its act is what `IsAnswerTo` says: that the phaser was made, that
+/// the value was sent, what the look saw, and of each phaser that was signalled, passed or handed on
+/// that this was the task's own event. A body that says nothing has nothing to prove.
 pub trait Body: Drop {
     ghost use Rattle.std.specs.Prelude.{ℕ};
     ghost use Rattle.phase_model.specs.Rules.{Story};
@@ -22,6 +22,9 @@ pub trait Body: Drop {
     /// What the body says, where it is the body of the task of this number, this is what it asked for
     /// by its last act, and its task has seen this of each phaser: nothing where nobody says.
     ghost shows: { Self → ℕ → Asked → (ℕ → Story) → Type 0 } = { λ _ _ _ _. Unit {0} };
+
+    /// What the statement of this number makes of the body: of any where nobody says.
+    ghost ran: { Self → ℕ → Self → Type 0 } = { λ _ _ _. Unit {0} };
 
     /// The task's next act, after the answer to the one before: `Started` at first. After `End` it is
     /// not called again, nor once an act was refused. `Memory`, the only error, ends the task.
@@ -35,7 +38,8 @@ pub trait Body: Drop {
     /// Runs the statement of this number, which the task alone has claimed: of those who proposed it
     /// in a phase just one is called, once.
     fn single(&mut self, number: u32)
-        ensures { (task : ℕ) (asked : Asked) (seen : ℕ → Story) → shows self.old task asked seen → shows self.new task asked seen };
+        ensures ran { ran self.old number self.new }
+        ensures shows { (task : ℕ) (asked : Asked) (seen : ℕ → Story) → shows self.old task asked seen → shows self.new task asked seen };
 }
 
 /// Called round each step of a body, while no lock is held.

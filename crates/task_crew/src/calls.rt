@@ -3,8 +3,7 @@
 ghost use Rattle.std.specs.Prelude.{◌≡◌};
 ghost use Rattle.table_receipts.specs.Seen.{story_at};
 ghost use Rattle.task_queue.specs.Accounts.{IsSeatOf};
-ghost use Rattle.task_crew.specs.Heard.{look};
-ghost use Rattle.task_crew.specs.inner.Ready.{Says};
+ghost use Rattle.task_crew.specs.Heard.{make, send, look};
 
 use crate::body::Body;
 use crate::diary::Diary;
@@ -19,6 +18,7 @@ use std::sync::Wait;
 use table_receipts::Caller;
 
 impl<B: Body, K: RunNaming> Shared<B, K> {
+    /// The body hears of the phaser that was made.
     pub(crate) fn make_on<R: Wait>(
         &self,
         by: &mut Caller<'_, Item<B, K>, K, R>,
@@ -27,13 +27,18 @@ impl<B: Body, K: RunNaming> Shared<B, K> {
         mode: Mode,
         terms: &Terms,
     ) -> Result<(), Refusal>
+        requires says { ∥ (K.Supposing.supposed → B.Body.shows task.old.body task.old.log.task (make mode terms.now) (λ n. story_at task.old.fronts n)) ∥₁ }
         ensures out { by.new.out ≡ by.old.out }
     {
         let number = self.place(phaser, Refusal::PhasersFull)?;
         let maker = task.number();
         let mut me = task.front(number);
         self.phasers
-            .make(by, &mut me, number, maker, mode, terms.ops, terms.bound)
+            .make(by, &mut me, number, maker, mode, terms.ops, terms.bound)?;
+        task.standing.note_making(phaser, mode)?;
+        task.fronts.set(number, me);
+        task.answer = Answer::Made(phaser);
+        Ok(())
     }
 
     pub(crate) fn register_on<R: Wait>(
@@ -49,9 +54,12 @@ impl<B: Body, K: RunNaming> Shared<B, K> {
         let parent = task.number();
         let mut me = task.front(number);
         self.phasers
-            .register(by, &mut me, number, parent, child, pair.mode)
+            .register(by, &mut me, number, parent, child, pair.mode)?;
+        task.note_own(number, me);
+        Ok(())
     }
 
+    /// The body hears that the value was sent.
     pub(crate) fn send_on<R: Wait>(
         &self,
         by: &mut Caller<'_, Item<B, K>, K, R>,
@@ -60,13 +68,18 @@ impl<B: Body, K: RunNaming> Shared<B, K> {
         accumulator: u8,
         value: i32,
     ) -> Result<(), Refusal>
+        requires says { ∥ (K.Supposing.supposed → B.Body.shows task.old.body task.old.log.task (send phaser accumulator value) (λ n. story_at task.old.fronts n)) ∥₁ }
         ensures out { by.new.out ≡ by.old.out }
     {
         let number = self.place(phaser, Refusal::NotRegistered)?;
         let sender = task.number();
         let mut me = task.front(number);
         self.phasers
-            .send(by, &mut me, number, sender, accumulator, value)
+            .send(by, &mut me, number, sender, accumulator, value)?;
+        task.fronts.set(number, me);
+        task.standing.note_act();
+        task.answer = Answer::Done;
+        Ok(())
     }
 
     /// The body hears what was seen.
@@ -77,7 +90,7 @@ impl<B: Body, K: RunNaming> Shared<B, K> {
         phaser: u32,
         accumulator: u8,
     ) -> Result<(), Refusal>
-        requires says { ∥ (K.Supposing.supposed → Says B.Body.shows task.old.body task.old.log.task (look phaser accumulator) (λ n. story_at task.old.fronts n)) ∥₁ }
+        requires says { ∥ (K.Supposing.supposed → B.Body.shows task.old.body task.old.log.task (look phaser accumulator) (λ n. story_at task.old.fronts n)) ∥₁ }
         ensures out { by.new.out ≡ by.old.out }
     {
         let number = self.place(phaser, Refusal::NotRegistered)?;
@@ -108,9 +121,12 @@ impl<B: Body, K: RunNaming> Shared<B, K> {
         let task = item.task.number();
         let mut me = item.task.front(number);
         let Busy { seat, by, kept, .. } = busy;
-        let answer = self
+        let mut answer = self
             .phasers
             .signal(by, &mut me, number, task, proposed, item);
+        if let SignalAnswer::Signalled(item) = &mut answer {
+            item.task.note_own(number, me);
+        }
         self.flush(by.rt, seat, kept, &mut by.out)?;
         Ok(answer)
     }
@@ -132,7 +148,10 @@ impl<B: Body, K: RunNaming> Shared<B, K> {
         let task = item.task.number();
         let mut me = item.task.front(number);
         let Busy { seat, by, kept, .. } = busy;
-        let answer = self.phasers.pass(by, &mut me, number, task, item);
+        let mut answer = self.phasers.pass(by, &mut me, number, task, item);
+        if let PassAnswer::Passed(item, _) = &mut answer {
+            item.task.note_own(number, me);
+        }
         self.flush(by.rt, seat, kept, &mut by.out)?;
         Ok(answer)
     }
@@ -144,6 +163,7 @@ impl<B: Body, K: RunNaming> Shared<B, K> {
         phaser: u32,
     ) -> Result<(), Refusal>
         ensures seat { IsSeatOf busy.old.seat busy.new.seat }
+        ensures body { task.new.body ≡ task.old.body }
     {
         let number = self.place(phaser, Refusal::NotRegistered)?;
         let reporter = task.number();

@@ -1,5 +1,5 @@
 //! How a worker drives a task, event by event.
-ghost use Rattle.std.specs.Prelude.{IfOk, IfErr};
+ghost use Rattle.std.specs.Prelude.{IfOk, IfErr, IfSome};
 ghost use Rattle.task_crew.specs.Refused.{IsRunRefused};
 ghost use Rattle.task_queue.specs.Accounts.{IsSeatOf};
 
@@ -81,6 +81,7 @@ impl<B: Body, K: RunNaming> Shared<B, K> {
         number: u32,
     ) -> Result<Next<B, K>, Refusal>
         ensures seat { IsSeatOf busy.old.seat busy.new.seat }
+        ensures ran { IfOk result (λ next. IfSome next (λ after. B.Body.ran item.task.value.body number after.task.value.body)) }
     {
         let mut item = item;
         item.task.run_single(number);

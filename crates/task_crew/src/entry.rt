@@ -3,9 +3,10 @@ ghost use Rattle.std.specs.Prelude.{◌≡◌, ◌<◌, ◌≤◌, ℕ, [], true
 ghost use Rattle.phase_modes.specs.Limits.{limits_fit};
 ghost use Rattle.phase_model.specs.Rules.{Story};
 ghost use Rattle.share_book.specs.Opening.{IsNamed, IsParted};
-ghost use Rattle.task_crew.specs.Heard.{nothing, IsSaid};
+ghost use Rattle.task_crew.specs.Heard.{nothing};
 ghost use Rattle.task_crew.specs.Refused.{IsRunRefused};
 ghost use Rattle.task_crew.specs.Remaining.{AreRemains};
+ghost use Rattle.task_crew.specs.Said.{IsSaid};
 
 use crate::body::{Body, Gate};
 use crate::naming::{RunNaming, Supposing};

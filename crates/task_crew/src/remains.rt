@@ -4,9 +4,9 @@ ghost use Rattle.phase_modes.specs.Limits.{limits_fit};
 ghost use Rattle.share_book.specs.Opening.{AreAllParts};
 ghost use Rattle.scope_locks.specs.Telling.{ArePhaserParts, AreFinishParts};
 ghost use Rattle.table_receipts.specs.Parts.{AreLogged};
-ghost use Rattle.task_crew.specs.Heard.{IsSaid};
 ghost use Rattle.task_crew.specs.Refused.{IsRunRefused};
 ghost use Rattle.task_crew.specs.Remaining.{AreRemains};
+ghost use Rattle.task_crew.specs.Said.{IsSaid};
 
 use crate::body::Body;
 use crate::diary::Diary;

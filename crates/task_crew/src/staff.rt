@@ -4,9 +4,9 @@ ghost use Rattle.phase_modes.specs.Limits.{limits_fit};
 ghost use Rattle.share_book.specs.Opening.{AreAllParts};
 ghost use Rattle.task_queue.specs.Accounts.{AreTogether, IsConserved};
 ghost use Rattle.task_crew.specs.inner.Back.{AreBack, AreSeatsIn};
-ghost use Rattle.task_crew.specs.Heard.{IsSaid};
 ghost use Rattle.task_crew.specs.Refused.{IsRunRefused};
 ghost use Rattle.task_crew.specs.Remaining.{AreRemains};
+ghost use Rattle.task_crew.specs.Said.{IsSaid};
 
 use crate::body::{Body, Gate};
 use crate::crew::in_threads;

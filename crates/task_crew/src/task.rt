@@ -1,14 +1,15 @@
 //! A task in flight: its body, what it knows of itself, what it has seen, and what it notes.
-ghost use Rattle.std.specs.Prelude.{◌≡◌, ◌<◌, ℕ, ℤ, IfErr, length};
+ghost use Rattle.std.specs.Prelude.{◌≡◌, ◌<◌, ℕ, IfErr, length};
+ghost use Rattle.table_receipts.specs.Logs.{GoesOn};
 ghost use Rattle.table_receipts.specs.Seen.{story_at};
-ghost use Rattle.task_crew.specs.Heard.{nothing, asked_by, IsSpawned};
+ghost use Rattle.task_crew.specs.Heard.{nothing, asked_by, IsSpawned, IsOwn};
 ghost use Rattle.task_crew.specs.inner.Ready.{Says, IsReady, HasSaid};
 
 use crate::body::Body;
 use crate::diary::Diary;
 use crate::naming::RunNaming;
 use job_script::{Act, Answer};
-use phase_modes::{Mode, Pair, Refusal};
+use phase_modes::{Pair, Refusal};
 use std::alloc::Global;
 use table_receipts::{Front, Fronts};
 use task_standing::{Due, Standing};
@@ -18,7 +19,7 @@ use world_model::{Begun, Tried};
 #[derive(Drop)]
 pub(crate) struct Task<B: Body, K: RunNaming> {
     pub(crate) body: B,
-    /// What the body hears before its next act.
+    /// What the body hears before its next act: that it starts, until something came of its last one.
     pub(crate) answer: Answer,
     /// What it has seen of the phasers.
     pub(crate) fronts: Fronts<K>,
@@ -86,6 +87,9 @@ impl<B: Body, K: RunNaming> Task<B, K> {
         acts: u32,
     ) -> Result<Box<Task<B, K>>, Refusal>
         requires says { ∥ (K.Supposing.supposed → Says B.Body.shows body number nothing (λ n. story_at self.old.fronts n)) ∥₁ }
+        ensures body { self.new.body ≡ self.old.body }
+        ensures task { self.new.log.task ≡ self.old.log.task }
+        ensures fronts { self.new.fronts ≡ self.old.fronts }
         ensures memory { IfErr result (λ e. e ≡ Refusal.Memory) }
     {
         let fronts = self.fronts.again(alloc)?;
@@ -111,20 +115,36 @@ impl<B: Body, K: RunNaming> Task<B, K> {
         self.log.task()
     }
 
-    /// The body's next act. It hears of it that it is done, unless something else comes of it.
+    /// The body's next act.
     pub(crate) fn next_act(&mut self) -> Result<Act<B>, Refusal>
-        ensures says { ∥ (K.Supposing.supposed → Says B.Body.shows self.new.body self.new.log.task (asked_by result) (λ n. story_at self.new.fronts n)) ∥₁ }
+        ensures says { ∥ (K.Supposing.supposed → B.Body.shows self.new.body self.new.log.task (asked_by result) (λ n. story_at self.new.fronts n)) ∥₁ }
         ensures child { (child : B) (its : ℕ) → IsSpawned child result
-            → ∥ (K.Supposing.supposed → Says B.Body.shows child its nothing (λ n. story_at self.new.fronts n)) ∥₁ }
+            → ∥ (K.Supposing.supposed → B.Body.shows child its nothing (λ n. story_at self.new.fronts n)) ∥₁ }
     {
         let answer = self.answer;
-        self.answer = Answer::Done;
+        self.answer = Answer::Started;
         self.body.step(answer)
     }
 
     /// Runs the statement that the task has claimed.
-    pub(crate) fn run_single(&mut self, number: u32) {
+    pub(crate) fn run_single(&mut self, number: u32)
+        ensures { B.Body.ran self.old.body number self.new.body }
+    {
         self.body.single(number);
+    }
+
+    /// Of this phaser it has seen so much, up to its own newest event, of which the body hears that it
+    /// is done. Of one that hears something else no more is seen.
+    pub(crate) fn note_own(&mut self, phaser: usize, seen: Front<K>)
+        requires phaser { phaser < K.Logs.limits.phasers }
+        requires log { seen.log ≡ K.Logs.logs phaser }
+        requires more { GoesOn (story_at self.old.fronts phaser) seen.story }
+        requires own { IsOwn self.old.log.task seen.story.past }
+        ensures body { self.new.body ≡ self.old.body }
+    {
+        if let Answer::Done = self.answer {
+            self.fronts.set(phaser, seen);
+        }
     }
 
     /// Logs that it begins this act. `ActsFull` where the log has no room for it.
@@ -157,19 +177,6 @@ impl<B: Body, K: RunNaming> Task<B, K> {
         ensures fronts { self.new.fronts ≡ self.old.fronts }
     {
         self.log.note_failed(ticket, refusal)
-    }
-
-    /// Notes that it made an act of one event, of which the body hears that it is done.
-    pub(crate) fn note_act(&mut self) {
-        self.standing.note_act();
-        self.answer = Answer::Done;
-    }
-
-    /// Notes that it made this phaser.
-    pub(crate) fn note_making(&mut self, phaser: u32, mode: Mode) -> Result<(), Refusal> {
-        self.standing.note_making(phaser, mode)?;
-        self.answer = Answer::Made(phaser);
-        Ok(())
     }
 
     /// Notes that its child of this number is born.

@@ -3,7 +3,8 @@ use Rattle.std.specs.Prelude.{ℕ}
 use Rattle.phase_model.specs.Rules.{Story}
 use Rattle.job_script.specs.declared.act.Answer.{Answer}
 use Rattle.table_receipts.specs.Logs.{GoesOn}
-use Rattle.task_crew.specs.Heard.{Asked, Saying, IsHeard}
+use Rattle.task_crew.specs.Heard.{Asked, IsHeard}
+use Rattle.task_crew.specs.Said.{Saying}
 
 -- by its last act it asked for this; and it says this of what it had seen then, of which now no less is seen
 abbrev pub Says : {B : Type 0} → Saying B → B → ℕ → Asked → (ℕ → Story) → Type 0

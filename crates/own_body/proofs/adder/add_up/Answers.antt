@@ -2,7 +2,8 @@ use Rattle.std.proofs.Common.{◌≡◌, ◌<◌, sym, subst, ◌∙◌, arith}
 use Rattle.phase_modes.specs.Limits.{default_limits}
 use Rattle.phase_modes.specs.declared.limits.Limits.{Limits}
 use Rattle.trace_model.proofs.Legal.{explained_legal}
-use Rattle.task_crew.specs.Heard.{Saying, look}
+use Rattle.task_crew.specs.Heard.{look}
+use Rattle.task_crew.specs.Said.{Saying}
 use Rattle.phased_rt.specs.Says.{SaysOfTrace}
 use Rattle.own_body.specs.declared.adder.Adder.{Adder}
 use Rattle.own_body.specs.declared.adder.Next.TheVariants.{Makes, Hears}

@@ -12,7 +12,7 @@ apart same = cc
 pub returns-clause-shows : goal.returns-clause-shows
 returns-clause-shows c = λ task asked seen now shows heard. (
   subst (λ (x : Look ℤ). IsSeen task (now 0) x) (sym c.act.ensures.saw)
-      (c.hear.ensures.saw task asked now shows.1 heard.1 (still_seen task (seen 0) (now 0) c.args.self.now.saw (heard.0 0) shows.0)),
+      (c.hear.ensures.saw task asked seen now shows.1 heard.1 (still_seen task (seen 0) (now 0) c.args.self.now.saw (heard.0 0) shows.0)),
   c.act.ensures.looks,
 )
 

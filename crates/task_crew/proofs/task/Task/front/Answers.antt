@@ -1,7 +1,8 @@
-use Rattle.task_crew.proofs.Saying.{ready_there}
+use Rattle.std.proofs.Common.{refl}
+use Rattle.task_crew.proofs.Saying.{ready_kept}
 use Rattle.task_crew.proofs.task.Task.front.Goals as goal
 
 pub invariant_of-self-clause-ready : goal.invariant_of-self-clause-ready
 invariant_of-self-clause-ready g c =
     let old = c.args.self.now in
-    ready_there g.B.Body.shows old.body old.log.task old.answer old.fronts c.get.new.self c.get.ensures.same old.ready
+    ready_kept g.B.Body.shows old.body old.body old.log.task old.log.task old.answer old.fronts c.get.new.self refl refl c.get.ensures.same old.ready

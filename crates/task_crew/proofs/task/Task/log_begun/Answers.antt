@@ -1,8 +1,8 @@
-use Rattle.table_receipts.specs.Seen.{story_at}
-use Rattle.task_crew.proofs.Saying.{ready_noted}
+use Rattle.std.proofs.Common.{refl}
+use Rattle.task_crew.proofs.Saying.{ready_kept}
 use Rattle.task_crew.proofs.task.Task.log_begun.Goals as goal
 
 pub invariant_of-self-clause-ready : goal.invariant_of-self-clause-ready
 invariant_of-self-clause-ready g c =
     let old = c.args.self.now in
-    ready_noted g.B.Body.shows old.body old.log.task c.note_begun.new.self.task old.answer (λ n. story_at old.fronts n) c.note_begun.ensures old.ready
+    ready_kept g.B.Body.shows old.body old.body old.log.task c.note_begun.new.self.task old.answer old.fronts old.fronts refl c.note_begun.ensures refl old.ready

@@ -5,4 +5,4 @@ use Rattle.task_crew.proofs.task.Task.run_single.Goals as goal
 pub invariant_of-self-clause-ready : goal.invariant_of-self-clause-ready
 invariant_of-self-clause-ready g c =
     let old = c.args.self.now in
-    ready_single g.B.Body.shows old.body c.single.new.self old.log.task old.answer (λ n. story_at old.fronts n) c.single.ensures old.ready
+    ready_single g.B.Body.shows old.body c.single.new.self old.log.task old.answer (λ n. story_at old.fronts n) c.single.ensures.shows old.ready

@@ -1,18 +1,91 @@
-use Rattle.std.proofs.Common.{ap, inl, inr, Ok}
+use Rattle.std.proofs.Common.{ap, inl, inr, refl, sym, subst, Ok, w32, FitsSigned}
+use Rattle.std.specs.Prelude.{ℤ}
+use Rattle.std.proofs.lemmas.Int.{to_z-of_z}
 use Rattle.table_receipts.specs.Seen.{story_at}
-use Rattle.task_crew.specs.Heard.{look, asked_by}
-use Rattle.task_crew.proofs.Saying.{said_of}
+use Rattle.task_crew.specs.Heard.{make, send, look, asked_by}
+use Rattle.task_crew.proofs.Saying.{shows_of, ready_on_each, ready_nothing}
 use Rattle.task_crew.proofs.worker.Shared.act.Goals as goal
 
 pub spawn-requires : goal.spawn-requires
-spawn-requires g c = record { says = λ its. c.requires.child c.in-Async.body its (inl (c.in-Async.pairs, ap (λ a. Ok a) c.in-Async.is)) }
+spawn-requires g c = record {
+  ready = ready_on_each g.B.Body.shows c.args.item.now.task.value c.args.item.now.task.value (λ t. t.body) (λ t. t.log.task) (λ t n. story_at t.fronts n)
+      (asked_by (Ok c.args.act)) refl (ap (λ a. asked_by (Ok a)) c.in-Async.is) c.requires.says;
+  child = λ its. c.requires.child c.in-Async.body its (inl (c.in-Async.pairs, ap (λ a. Ok a) c.in-Async.is));
+}
 
 pub spawn-requires-in-AsyncAll : goal.spawn-requires-in-AsyncAll
-spawn-requires-in-AsyncAll g c = record { says = λ its. c.requires.child c.in-AsyncAll.body its (inr (ap (λ a. Ok a) c.in-AsyncAll.is)) }
+spawn-requires-in-AsyncAll g c = record {
+  ready = ready_on_each g.B.Body.shows c.args.item.now.task.value c.args.item.now.task.value (λ t. t.body) (λ t. t.log.task) (λ t n. story_at t.fronts n)
+      (asked_by (Ok c.args.act)) refl (ap (λ a. asked_by (Ok a)) c.in-AsyncAll.is) c.requires.says;
+  child = λ its. c.requires.child c.in-AsyncAll.body its (inr (ap (λ a. Ok a) c.in-AsyncAll.is));
+}
+
+pub open-requires : goal.open-requires
+open-requires g c = record {
+  ready = ready_nothing g.B.Body.shows c.args.item.now.task.value c.deref_mut.result.now (λ t. t.body) (λ t. t.log.task) (λ t n. story_at t.fronts n)
+      (asked_by (Ok c.args.act)) c.deref_mut.ensures.value (ap (λ a. asked_by (Ok a)) c.in-OpenFinish.is) c.requires.says;
+}
+
+pub enter-requires : goal.enter-requires
+enter-requires g c = record {
+  ready = ready_nothing g.B.Body.shows c.args.item.now.task.value c.deref_mut-in-ShutFinish.result.now (λ t. t.body) (λ t. t.log.task) (λ t n. story_at t.fronts n)
+      (asked_by (Ok c.args.act)) c.deref_mut-in-ShutFinish.ensures.value (ap (λ a. asked_by (Ok a)) c.in-ShutFinish.is) c.requires.says;
+}
+
+pub enter-requires-in-Signal : goal.enter-requires-in-Signal
+enter-requires-in-Signal g c = record {
+  ready = ready_on_each g.B.Body.shows c.args.item.now.task.value c.deref_mut-in-Signal.result.now (λ t. t.body) (λ t. t.log.task) (λ t n. story_at t.fronts n)
+      (asked_by (Ok c.args.act)) c.deref_mut-in-Signal.ensures.value (ap (λ a. asked_by (Ok a)) c.in-Signal.is) c.requires.says;
+}
+
+pub enter-requires-in-Wait : goal.enter-requires-in-Wait
+enter-requires-in-Wait g c = record {
+  ready = ready_on_each g.B.Body.shows c.args.item.now.task.value c.deref_mut-in-Wait.result.now (λ t. t.body) (λ t. t.log.task) (λ t n. story_at t.fronts n)
+      (asked_by (Ok c.args.act)) c.deref_mut-in-Wait.ensures.value (ap (λ a. asked_by (Ok a)) c.in-Wait.is) c.requires.says;
+}
+
+pub enter-requires-in-Next : goal.enter-requires-in-Next
+enter-requires-in-Next g c = record {
+  ready = ready_on_each g.B.Body.shows c.args.item.now.task.value c.deref_mut-in-Next.result.now (λ t. t.body) (λ t. t.log.task) (λ t n. story_at t.fronts n)
+      (asked_by (Ok c.args.act)) c.deref_mut-in-Next.ensures.value (ap (λ a. asked_by (Ok a)) c.in-Next.is) c.requires.says;
+}
+
+pub enter-requires-in-NextSingle : goal.enter-requires-in-NextSingle
+enter-requires-in-NextSingle g c = record {
+  ready = ready_on_each g.B.Body.shows c.args.item.now.task.value c.deref_mut-in-NextSingle.result.now (λ t. t.body) (λ t. t.log.task) (λ t n. story_at t.fronts n)
+      (asked_by (Ok c.args.act)) c.deref_mut-in-NextSingle.ensures.value (ap (λ a. asked_by (Ok a)) c.in-NextSingle.is) c.requires.says;
+}
+
+pub enter-requires-in-End : goal.enter-requires-in-End
+enter-requires-in-End g c = record {
+  ready = ready_nothing g.B.Body.shows c.args.item.now.task.value c.deref_mut-in-End.result.now (λ t. t.body) (λ t. t.log.task) (λ t n. story_at t.fronts n)
+      (asked_by (Ok c.args.act)) c.deref_mut-in-End.ensures.value (ap (λ a. asked_by (Ok a)) c.in-End.is) c.requires.says;
+}
+
+pub make-requires : goal.make-requires
+make-requires g c = record {
+  says = shows_of g.B.Body.shows c.args.item.now.task.value c.deref_mut-in-New.result.now (λ t. t.body) (λ t. t.log.task) (λ t n. story_at t.fronts n)
+      (asked_by (Ok c.args.act)) (make c.in-New.mode (record { ops = c.in-New.ops; bound = c.in-New.bound }))
+      c.deref_mut-in-New.ensures.value (ap (λ a. asked_by (Ok a)) c.in-New.is) c.requires.says;
+}
+
+pub send-requires : goal.send-requires
+send-requires g c =
+    let item = c.args.item.now.task.value in
+    let there = c.deref_mut-in-Send.result.now in
+    let formed = rw c.in-Send.is at c.well_formed in
+    let fits : FitsSigned w32 c.in-Send.value = record { sfits = formed.1.1.1.0.1.1.1.1.1.1.1.0.1 } in
+    record {
+      says = subst (λ (v : ℤ). ∥ (g.K.Supposing.supposed → g.B.Body.shows there.body there.log.task (send c.in-Send.phaser c.in-Send.accumulator v) (λ n. story_at there.fronts n)) ∥₁)
+          (sym (to_z-of_z w32 c.in-Send.value fits))
+          (shows_of g.B.Body.shows item there (λ t. t.body) (λ t. t.log.task) (λ t n. story_at t.fronts n)
+          (asked_by (Ok c.args.act)) (send c.in-Send.phaser c.in-Send.accumulator c.in-Send.value)
+          c.deref_mut-in-Send.ensures.value (ap (λ a. asked_by (Ok a)) c.in-Send.is) c.requires.says);
+    }
 
 pub look-requires : goal.look-requires
 look-requires g c = record {
-  says = said_of g.B.Body.shows c.args.item.now.task.value c.deref_mut-in-Look.result.now (λ t. t.body) (λ t. t.log.task) (λ t n. story_at t.fronts n)
+  says = shows_of g.B.Body.shows c.args.item.now.task.value c.deref_mut-in-Look.result.now (λ t. t.body) (λ t. t.log.task) (λ t n. story_at t.fronts n)
       (asked_by (Ok c.args.act)) (look c.in-Look.phaser c.in-Look.accumulator)
       c.deref_mut-in-Look.ensures.value (ap (λ a. asked_by (Ok a)) c.in-Look.is) c.requires.says;
 }

@@ -1,0 +1,170 @@
+-- What a call's answer is to a body that asked for it.
+use Rattle.std.proofs.Common.{ℕ, ◌≡◌, ◌⊎◌, ◌==◌, Bool, true, false, if◌then◌else◌, inl, inr, List, [], ◌∷◌, ◌++◌, Option, Some, None, Result, Ok, Err, refl, sym, ap, subst, ◌∙◌}
+use Rattle.std.specs.Prelude.{ℤ}
+use Rattle.std.proofs.lemmas.Bool.{eqb-true}
+use Rattle.std.proofs.lemmas.List.{append_assoc}
+use Rattle.phase_modes.specs.declared.limits.Limits.{Limits}
+use Rattle.phase_modes.specs.declared.refusal.Refusal.{Refusal}
+use Rattle.phase_modes.specs.declared.reg.Mode.{Mode}
+use Rattle.phase_modes.specs.Mode.{can_wait}
+use Rattle.phase_modes.specs.Refusal.{first_refusal}
+use Rattle.phase_model.specs.Conditions.{conditions}
+use Rattle.phase_model.specs.declared.call.Call.TheVariants as calls
+use Rattle.phase_model.specs.declared.history.Event.{Event}
+use Rattle.phase_model.specs.declared.history.Event.TheVariants.{Make, Reg, Sig, Claim, Pass, Send}
+use Rattle.phase_model.specs.declared.terms.Terms.{Terms}
+use Rattle.phase_model.specs.Phases.{waits, IsClosed}
+use Rattle.phase_model.specs.Replies.{Reply, reply, after, decided, done_result, event_for, must_wait}
+use Rattle.phase_model.specs.Rules.{Story, has_room, is_permitted}
+use Rattle.phase_model.specs.Tasks.{has_mode}
+use Rattle.phaser_answers.specs.Answers.{made_with, signal_result, pass_result}
+use Rattle.parked_tasks.specs.declared.answer.SignalAnswer.TheVariants.{Signalled}
+use Rattle.parked_tasks.specs.declared.answer.PassAnswer.TheVariants.{Passed}
+use Rattle.parked_tasks.specs.Parking.{locked_signal, locked_pass}
+use Rattle.job_script.specs.declared.act.Answer.{Answer}
+use Rattle.job_script.specs.declared.act.Answer.TheVariants.{Started, Done, Made, Spawned, Saw}
+use Rattle.long_receipts.specs.Told.{IsSignalAnswer, IsPassAnswer}
+use Rattle.table_receipts.specs.Logs.{GoesOn}
+use Rattle.table_receipts.specs.Seen.{HasSeenMore}
+use Rattle.table_receipts.specs.Told.{IsAnswered, IsMade}
+use Rattle.task_crew.specs.Heard.{Asked, nothing, make, send, look, on_each, HasMade, HasSent, IsOwn, IsAnswerTo}
+
+-- ---- by what was answered
+
+-- a call that is done adds its event
+done_adds : (s : Story) (e : Event) (o : Option Refusal) (w r : Bool)
+    → Ok tt ≡ done_result (decided o w r e) → (after s (decided o w r e)).past ≡ e ∷ s.past
+done_adds s e (Some x) w r is = absurd (cc is)
+done_adds s e None true r is = absurd (cc is)
+done_adds s e None false false is = absurd (cc is)
+done_adds s e None false true is = refl
+
+pub has_sent : (seen now : Story) (t a : ℕ) (v : ℤ) → IsAnswered (λ _ r. Ok tt ≡ done_result r) (calls.Send t a v) seen now
+    → HasSent t a v seen now
+has_sent seen now t a v told =
+    let s = told.0 in
+    let c = calls.Send t a v in
+    let e = Send t a v in (
+      [],
+      s.past,
+      ap (λ (x : Story). x.past) told.3
+          ∙ done_adds s e (first_refusal (conditions s.limits s.terms s.past c)) false (has_room s.limits (e ∷ s.past)) told.2,
+      told.1.1,
+    )
+
+pub registration_is_own : (seen now : Story) (t child : ℕ) (m : Mode)
+    → IsAnswered (λ _ r. Ok tt ≡ done_result r) (calls.Register t child m) seen now → IsOwn t now.past
+registration_is_own seen now t child m told =
+    let s = told.0 in
+    let c = calls.Register t child m in
+    let e = Reg t child m in
+    subst (λ (h : List Event). IsOwn t h)
+    (sym (ap (λ (x : Story). x.past) told.3
+    ∙ done_adds s e (first_refusal (conditions s.limits s.terms s.past c)) false (has_room s.limits (e ∷ s.past)) told.2)) refl
+
+makes : (s : Story) (terms : Terms) (e : Event) (o : Option Refusal) (r : Bool) → Ok tt ≡ done_result (decided o false r e)
+    → ((made_with s terms (decided o false r e)).past ≡ e ∷ s.past) × ((made_with s terms (decided o false r e)).terms ≡ terms)
+makes s terms e (Some x) r is = absurd (cc is)
+makes s terms e None false is = absurd (cc is)
+makes s terms e None true is = (refl, refl)
+
+-- only a phaser that nobody has made is made
+first_made : (l : Limits) (old terms : Terms) (h : List Event) (t : ℕ) (m : Mode)
+    → Ok tt ≡ done_result (reply (record { limits = l; terms = old; past = h }) (calls.Make t m))
+    → HasMade t m terms (made_with (record { limits = l; terms = old; past = h }) terms (reply (record { limits = l; terms = old; past = h }) (calls.Make t m)))
+first_made l old terms [] t m is =
+    makes (record { limits = l; terms = old; past = [] }) terms (Make t m) (first_refusal (conditions l old [] (calls.Make t m))) (has_room l (Make t m ∷ [])) is
+first_made l old terms (e ∷ h) t m is = absurd (cc is)
+
+pub has_made : (seen now : Story) (t : ℕ) (m : Mode) (terms : Terms) → IsMade (Ok tt) (calls.Make t m) terms seen now → HasMade t m terms now
+has_made seen now t m terms told =
+    let s = told.0 in
+    subst (λ (x : Story). HasMade t m terms x) (sym told.3) (first_made s.limits s.terms terms s.past t m told.2)
+
+signal_adds : {T : Type 0} (x y : T) (again : Bool) (s : Story) (e : Event) (o : Option Refusal) (w r : Bool)
+    → Signalled y ≡ locked_signal (signal_result (decided o w r e)) again x → (after s (decided o w r e)).past ≡ e ∷ s.past
+signal_adds x y again s e (Some f) w r is = absurd (cc is)
+signal_adds x y true s e None true r is = absurd (cc is)
+signal_adds x y false s e None true r is = absurd (cc is)
+signal_adds x y again s e None false false is = absurd (cc is)
+signal_adds x y again s e None false true is = refl
+
+pub signal_is_own : {T : Type 0} (x y : T) (seen now : Story) (t : ℕ) (n : Option ℕ)
+    → IsAnswered (λ _ r. IsSignalAnswer x (signal_result r) (Signalled y)) (calls.Signal t n) seen now → IsOwn t now.past
+signal_is_own x y seen now t n told =
+    let s = told.0 in
+    let c = calls.Signal t n in
+    let e = Sig t n in
+    subst (λ (h : List Event). IsOwn t h)
+    (sym (ap (λ (v : Story). v.past) told.3
+    ∙ signal_adds x y told.2.0 s e (first_refusal (conditions s.limits s.terms s.past c)) (must_wait s.limits s.terms s.past c)
+    (has_room s.limits (e ∷ s.past)) told.2.1)) refl
+
+-- who is answered that it has passed has, in the phase in which it was
+pass_adds : {T : Type 0} (x y : T) (p : ℕ) (again : Bool) (s : Story) (t : ℕ) (o : Option Refusal) (w r claims : Bool)
+    → Passed y p ≡ locked_pass (pass_result s.past (decided o w r (if claims then Claim t else Pass t))) again x
+    → (p ≡ waits t s.past) × ((after s (decided o w r (if claims then Claim t else Pass t))).past ≡ Pass t ∷ s.past)
+pass_adds x y p again s t (Some f) w r claims is = absurd (cc is)
+pass_adds x y p true s t None true r claims is = absurd (cc is)
+pass_adds x y p false s t None true r claims is = absurd (cc is)
+pass_adds x y p again s t None false false claims is = absurd (cc is)
+pass_adds x y p again s t None false true true is = absurd (cc is)
+pass_adds x y p again s t None false true false is = (cc is, refl)
+
+pub pass_is_own : {T : Type 0} (x y : T) (p : ℕ) (seen now : Story) (t : ℕ)
+    → IsAnswered (λ h r. IsPassAnswer x (pass_result h r) (Passed y p)) (calls.Pass t) seen now
+    → (has_mode can_wait t now.past ≡ true → IsClosed p now.past) → IsOwn t now.past
+pass_is_own x y p seen now t told closed =
+    let s = told.0 in
+    let c = calls.Pass t in
+    let added =
+    pass_adds x y p told.2.0 s t (first_refusal (conditions s.limits s.terms s.past c)) (must_wait s.limits s.terms s.past c)
+    (has_room s.limits (event_for s.limits s.terms s.past c ∷ s.past)) (is_permitted s.limits s.terms s.past (Claim t)) told.2.1 in
+    let past : now.past ≡ Pass t ∷ s.past = ap (λ (v : Story). v.past) told.3 ∙ added.1 in
+    subst (λ (h : List Event). IsOwn t h) (sym past) (
+      refl,
+      λ can. subst (λ (k : ℕ). IsClosed k (Pass t ∷ s.past)) added.0
+          (subst (λ (h : List Event). IsClosed p h) past (closed (subst (λ (h : List Event). has_mode can_wait t h ≡ true) (sym past) can))),
+    )
+
+-- ---- from one answer to the next
+
+-- before anything came of its act, the body hears nothing of it
+pub nothing_yet : (task : ℕ) (asked : Asked) (now : ℕ → Story) → IsAnswerTo task asked Started now now
+nothing_yet task nothing now = tt
+nothing_yet task (make m terms) now = tt
+nothing_yet task (send n a v) now = tt
+nothing_yet task (look n a) now = tt
+nothing_yet task on_each now = λ n. inl refl
+
+-- that its child is born says no less of what it has seen than what it was about to hear
+pub hears_of_child : (task child : ℕ) (asked : Asked) (before : Answer) (seen now : ℕ → Story)
+    → IsAnswerTo task asked before seen now → IsAnswerTo task asked (Spawned child) seen now
+hears_of_child task child nothing before seen now is = tt
+hears_of_child task child (make m terms) before seen now is = tt
+hears_of_child task child (send n a v) before seen now is = tt
+hears_of_child task child (look n a) before seen now is = tt
+hears_of_child task child on_each before seen now is = is
+
+-- what was sent stays sent
+still_sent : (task a : ℕ) (v : ℤ) (seen now new : Story) → GoesOn now new → HasSent task a v seen now → HasSent task a v seen new
+still_sent task a v seen now new goes sent = (
+  goes.1.0 ++ sent.0,
+  sent.1,
+  goes.1.1 ∙ (ap (λ (h : List Event). goes.1.0 ++ h) sent.2 ∙ sym (append_assoc goes.1.0 sent.0 (Send task a v ∷ sent.1))),
+  sent.3,
+)
+
+-- where of one phaser more was seen, up to the task's own newest event, it is done as before
+pub done_again : (task k : ℕ) (asked : Asked) (seen now new : ℕ → Story) → HasSeenMore k now new → IsOwn task (new k).past
+    → IsAnswerTo task asked Done seen now → IsAnswerTo task asked Done seen new
+done_again task k nothing seen now new more own is = tt
+done_again task k (make m terms) seen now new more own is = tt
+done_again task k (send n a v) seen now new more own is = still_sent task a v (seen n) (now n) (new n) (more.0 n) is
+done_again task k (look n a) seen now new more own is = tt
+done_again task k on_each seen now new more own is = λ n. by_number n (n == k) refl
+  where
+    by_number : (n : ℕ) (b : Bool) → n == k ≡ b → (new n ≡ seen n) ⊎ IsOwn task (new n).past
+    by_number n true same = inr (subst (λ (j : ℕ). IsOwn task (new j).past) (sym (eqb-true n k same)) own)
+    by_number n false other =
+        subst (λ (s : Story). (s ≡ seen n) ⊎ IsOwn task s.past) (sym (more.1 n other)) (is n)

@@ -1,0 +1,44 @@
+use Rattle.std.proofs.Common.{ℕ, ◌≡◌, Ok, refl, sym, ap, subst, ◌∙◌, w32}
+use Rattle.std.specs.Prelude.{ℤ}
+use Rattle.std.proofs.lemmas.Int.{to_z-of_z}
+use Rattle.phase_model.specs.declared.call.Call.TheVariants as calls
+use Rattle.phase_model.specs.Replies.{done_result}
+use Rattle.phase_model.specs.Rules.{Story}
+use Rattle.job_script.specs.declared.act.Answer.TheVariants.{Done}
+use Rattle.table_receipts.specs.Seen.{story_at}
+use Rattle.table_receipts.specs.Told.{IsAnswered}
+use Rattle.table_receipts.proofs.Goes.{answered_goes}
+use Rattle.table_receipts.proofs.Stories.{seen_more}
+use Rattle.task_crew.specs.Heard.{send, HasSent}
+use Rattle.task_crew.proofs.Heard.{has_sent}
+use Rattle.task_crew.proofs.Saying.{shows_kept, ready_seen}
+use Rattle.task_crew.proofs.worker.Shared.send_on.Goals as goal
+
+pub invariant_of-task-clause-ready : goal.invariant_of-task-clause-ready
+invariant_of-task-clause-ready g c =
+    let old = c.args.task.now in
+    let mid = c.front-me.new.self in
+    let ys = c.set.new.self in
+    let n = c.args.phaser in
+    let a = c.args.accumulator in
+    let v = c.args.value in
+    let t = c.number-sender.result in
+    let before = c.front-me.result.story in
+    let now = c.send.new.me.story in
+    let place = c.in_ok-number.ensures.same in
+    let told : IsAnswered (λ _ r. Ok tt ≡ done_result r) (calls.Send t a v) before now =
+    subst (λ (x : _). IsAnswered (λ _ r. x ≡ done_result r) (calls.Send t a v) before now) c.in_ok-send.was
+    (subst (λ (z : ℤ). IsAnswered (λ _ r. c.send.result ≡ done_result r) (calls.Send t a z) before now) (to_z-of_z w32 v c.ranges.value) c.send.ensures.told) in
+    let more =
+    seen_more old.fronts mid.fronts ys c.in_ok-number.number n before now c.front-me.ensures.fronts place
+    c.front-me.ensures.story c.set.ensures.here c.set.ensures.others
+    (answered_goes (λ _ r. Ok tt ≡ done_result r) (calls.Send t a v) before now told) in
+    let here : story_at ys n ≡ now = ap (λ (m : ℕ). story_at ys m) (sym place) ∙ c.set.ensures.here in
+    let there : before ≡ story_at old.fronts n = c.front-me.ensures.story ∙ ap (λ (m : ℕ). story_at old.fronts m) place in
+    let own : t ≡ mid.log.task = c.number-sender.ensures ∙ sym c.front-me.ensures.task in
+    ready_seen g.B.Body.shows mid.body mid.log.task (send n a v) Done (λ k. story_at old.fronts k) (λ k. story_at ys k) more.0
+    (subst (λ (m : ℕ). HasSent m a v (story_at old.fronts n) (story_at ys n)) own
+    (subst (λ (s : Story). HasSent t a v s (story_at ys n)) there
+    (subst (λ (s : Story). HasSent t a v before s) (sym here) (has_sent before now t a v told))))
+    (shows_kept g.B.Body.shows old.body mid.body old.log.task mid.log.task (send n a v) old.fronts old.fronts
+    c.front-me.ensures.body c.front-me.ensures.task refl c.requires.says)
