@@ -5,7 +5,6 @@ ghost use Rattle.world_model.specs.Replies.{is_made};
 ghost use Rattle.trace_model.specs.Explained.{step_of, event_of, is_seen};
 
 use crate::event::{TracedEvent, TracedStep};
-use finish_core::FinishEvent;
 use phase_model::Look;
 use phase_modes::Refusal;
 use world_model::{Reply, Step, WorldEvent};

@@ -11,7 +11,7 @@ use finish_core::FinishEvent;
 use phase_model::{Bound, Op, Terms};
 use phase_modes::{Limits, Mode, Pair, Refusal};
 use std::alloc::{AllocError, Global};
-use trace_model::{EventView, LongEvent, ShortStep, Trace, TracedEvent, TracedStep};
+use trace_model::{EventView, LongEvent, ShortStep, Trace, TracedStep};
 use world_model::{Begun, Tried};
 
 /// A comma, but before the first item.
