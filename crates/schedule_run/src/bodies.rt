@@ -96,7 +96,7 @@ impl<'p> Bodies<'p> {
     }
 
     /// Reports to a task that it made the phaser that its last act asked for.
-    pub(crate) fn report_made(&mut self, task: u32, phaser: u32)
+    pub(crate) fn report_made(&mut self, phaser: u32, task: u32)
         ensures stand { (p : programs.Program) (w : List events.WorldEvent)
             (m : modes.Mode) (terms : Terms)
             → IsAsked p w task self.old.seats.items

@@ -60,7 +60,7 @@ impl<'p> Followers<'p> {
     }
 
     /// Reports to a task that it made the phaser that its last act asked for.
-    fn report_made(&mut self, task: u32, phaser: u32)
+    fn report_made(&mut self, phaser: u32, task: u32)
         ensures { (p : programs.Program) (w : List events.WorldEvent)
             (m : modes.Mode) (terms : Terms)
             → IsAskedOf p w task (seat_of self.old.seats)
@@ -101,7 +101,7 @@ impl<'p> Followers<'p> {
     {
         match event {
             LongEvent::Make(phaser, _, _, _) => {
-                self.report_made(task, *phaser);
+                self.report_made(*phaser, task);
                 Ok(())
             }
             LongEvent::Async(_, child, _) => match act {

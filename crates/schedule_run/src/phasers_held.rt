@@ -48,7 +48,7 @@ impl Stay {
     }
 
     /// The same after one event more.
-    fn after(self, task: u32, phaser: u32, event: EventView<'_>) -> Stay
+    fn after(self, phaser: u32, task: u32, event: EventView<'_>) -> Stay
         ensures { (w : List events.WorldEvent) → self ≡ stay_of task phaser w
             → result ≡ stay_of task phaser (event_of (viewed event.entry) ∷ w) }
     {
@@ -64,7 +64,7 @@ impl Stay {
 
 /// The mode in which a task is registered on a phaser after so many events of a trace; none where
 /// it isn't.
-fn mode_on(trace: &Trace, count: usize, task: u32, phaser: u32) -> Option<Mode>
+fn mode_on(trace: &Trace, count: usize, phaser: u32, task: u32) -> Option<Mode>
     requires { count ≤ length trace.now.events }
     ensures { result ≡ mode_on task phaser (history (take count trace.now.events)) }
 {
@@ -74,7 +74,7 @@ fn mode_on(trace: &Trace, count: usize, task: u32, phaser: u32) -> Option<Mode>
     };
     for place in 0..count {
         let (_, event) = trace.entry(place);
-        stay = stay.after(task, phaser, event);
+        stay = stay.after(phaser, task, event);
     }
     if stay.left { None } else { stay.mode }
 }
@@ -97,7 +97,7 @@ fn pair_by(trace: &Trace, count: usize, task: u32, event: EventView<'_>) -> Opti
     ensures { result ≡ pair_by task (history (take count trace.now.events)) (event_of (viewed event.entry)) }
 {
     let phaser = joined_by(task, event)?;
-    let mode = mode_on(trace, count, task, phaser)?;
+    let mode = mode_on(trace, count, phaser, task)?;
     Some(Pair { phaser, mode })
 }
 

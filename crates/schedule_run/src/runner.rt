@@ -67,7 +67,7 @@ fn settle<'p>(bodies: &mut Bodies<'p>, task: u32, new: Numbers, act: Act<ScriptB
     match act {
         Act::Async(body, _) => seat(bodies, new.task, body),
         Act::AsyncAll(body) => seat(bodies, new.task, body),
-        Act::New(_, _, _) => bodies.report_made(task, new.phaser),
+        Act::New(_, _, _) => bodies.report_made(new.phaser, task),
         _ => {}
     }
 }

@@ -117,7 +117,7 @@ const OUTSIDE_SCOPE: &str =
     r#"{"main":[["new","p","SIG_WAIT",[]],["open"],["async",[["p","SIG"]],[["next"]]],["shut"]]}"#;
 
 /// The spawn on a phaser from outside the finish, on this phaser, is refused by this task.
-fn refused_spawn(task: u32, phaser: u32) -> [TracedEvent; 6] {
+fn refused_spawn(phaser: u32, task: u32) -> [TracedEvent; 6] {
     [
         made(0, 0, Mode::SigWait),
         of_finish(1, FinishEvent::Opened(0)),
@@ -139,14 +139,14 @@ fn refusals_are_the_tasks_own(rt: HostRuntime) -> Result<(), Fail> {
         &rt,
         rt.alloc(),
         OUTSIDE_SCOPE,
-        &refused_spawn(1, 0),
+        &refused_spawn(0, 1),
         Some(3),
     )?;
     leaves_at(
         &rt,
         rt.alloc(),
         OUTSIDE_SCOPE,
-        &refused_spawn(0, 1),
+        &refused_spawn(1, 0),
         Some(3),
     )
 }

@@ -171,7 +171,7 @@ impl Tables {
     }
 
     /// What comes where a pass is due: the single may come first.
-    fn turn_event(&self, task: u32, phaser: u32) -> WorldEvent
+    fn turn_event(&self, phaser: u32, task: u32) -> WorldEvent
         ensures { result ≡ turn_event self.now task phaser }
     {
         if self.may_claim(phaser, task) {
@@ -199,7 +199,7 @@ impl Tables {
             }
             Plan::Turning => {
                 let phaser = first?;
-                Some(self.turn_event(task, phaser))
+                Some(self.turn_event(phaser, task))
             }
             Plan::Spawning(child, pairs, made) => Some(match pairs.get(made) {
                 Some(pair) => WorldEvent::Phaser(pair.phaser, Step::Reg(task, child, pair.mode)),

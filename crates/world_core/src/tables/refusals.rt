@@ -29,7 +29,7 @@ impl Tables {
     }
 
     /// What an act is refused by that asks this of a phaser, and makes none.
-    fn may_try_call(&self, task: u32, phaser: u32, call: Call) -> Result<(), Refusal>
+    fn may_try_call(&self, phaser: u32, task: u32, call: Call) -> Result<(), Refusal>
         requires { is_make call ≡ true → phaser < length self.now.phasers }
         ensures { result ≡ free_unless (call_refusal self.now task phaser call) }
     {
@@ -38,7 +38,7 @@ impl Tables {
     }
 
     /// What the making of a phaser is refused by.
-    fn may_try_make(&self, task: u32, phaser: u32, mode: Mode) -> Result<(), Refusal>
+    fn may_try_make(&self, phaser: u32, task: u32, mode: Mode) -> Result<(), Refusal>
         ensures { result ≡ free_unless (make_refusal self.now task phaser mode) }
     {
         self.may_make(phaser, task)?;
@@ -51,16 +51,16 @@ impl Tables {
     {
         match *tried {
             Tried::Begun(begun) => self.may_begin(task, &begun),
-            Tried::New(phaser, mode, _) => self.may_try_make(task, phaser, mode),
+            Tried::New(phaser, mode, _) => self.may_try_make(phaser, task, mode),
             Tried::Open(finish) => self.may_open(finish, task),
             Tried::Send(phaser, accumulator, value) => self.may_try_call(
-                task,
                 phaser,
+                task,
                 Call::Send(task, accumulator, value),
             ),
             Tried::Look(phaser, accumulator) => self.may_try_call(
-                task,
                 phaser,
+                task,
                 Call::Look(task, accumulator),
             ),
         }

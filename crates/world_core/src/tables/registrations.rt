@@ -13,7 +13,7 @@ use world_model::{Reply, Step, WorldEvent};
 
 impl Tables {
     /// Whether the parent's next event is to register the child on the phaser in the mode.
-    fn is_to_register(&self, parent: u32, phaser: u32, child: u32, mode: Mode) -> bool
+    fn is_to_register(&self, phaser: u32, parent: u32, child: u32, mode: Mode) -> bool
         ensures to { result ≡ is_to_register (task_at self.now parent) phaser child mode }
         ensures place { result ≡ true → parent < length self.now.tasks }
     {
@@ -68,7 +68,7 @@ impl Tables {
         ensures answer { result ≡ register_answer self.old phaser parent child mode }
         ensures state { self.new ≡ register_state self.old phaser parent child mode }
     {
-        if !self.is_to_register(parent, phaser, child, mode) || !self.has_place(child) {
+        if !self.is_to_register(phaser, parent, child, mode) || !self.has_place(child) {
             return Err(Refusal::NotNow);
         }
         self.register_on(phaser, parent, child, mode)?;

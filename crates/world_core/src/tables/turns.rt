@@ -33,7 +33,7 @@ impl Tables {
     }
 
     /// Whether the task's next event is to signal with this number on this phaser.
-    fn is_to_signal(&self, task: u32, phaser: u32, number: Option<u32>) -> bool
+    fn is_to_signal(&self, phaser: u32, task: u32, number: Option<u32>) -> bool
         ensures to { result ≡ is_to_signal (task_at self.now task) phaser number }
         ensures place { result ≡ true → task < length self.now.tasks }
     {
@@ -49,7 +49,7 @@ impl Tables {
         ensures answer { result ≡ signal_answer self.old phaser task number }
         ensures state { self.new ≡ signal_state self.old phaser task number }
     {
-        if !self.is_to_signal(task, phaser, number) {
+        if !self.is_to_signal(phaser, task, number) {
             return Err(Refusal::NotNow);
         }
         match self.signal_on(phaser, task, number)? {
@@ -112,7 +112,7 @@ impl Tables {
     }
 
     /// Whether the task's next event is to pass this phaser, the single aside.
-    fn is_to_pass(&self, task: u32, phaser: u32) -> bool
+    fn is_to_pass(&self, phaser: u32, task: u32) -> bool
         ensures to { result ≡ is_to_pass (task_at self.now task) phaser }
         ensures place { result ≡ true → task < length self.now.tasks }
     {
@@ -128,7 +128,7 @@ impl Tables {
         ensures answer { result ≡ pass_answer self.old phaser task }
         ensures state { self.new ≡ pass_state self.old phaser task }
     {
-        if !self.is_to_pass(task, phaser)
+        if !self.is_to_pass(phaser, task)
             || self.may_claim(phaser, task)
             || self.may_report(phaser, task)
         {
@@ -171,7 +171,7 @@ impl Tables {
         ensures answer { result ≡ claim_answer self.old phaser task }
         ensures state { self.new ≡ claim_state self.old phaser task }
     {
-        if !self.is_to_pass(task, phaser) || !self.may_claim(phaser, task) {
+        if !self.is_to_pass(phaser, task) || !self.may_claim(phaser, task) {
             return Err(Refusal::NotNow);
         }
         match self.pass_on(phaser, task)? {
@@ -186,7 +186,7 @@ impl Tables {
         ensures answer { result ≡ report_answer self.old phaser task }
         ensures state { self.new ≡ report_state self.old phaser task }
     {
-        if !self.is_to_pass(task, phaser)
+        if !self.is_to_pass(phaser, task)
             || self.may_claim(phaser, task)
             || !self.may_report(phaser, task)
         {

@@ -248,7 +248,7 @@ impl Plain {
     }
 
     /// Whether it owes a signal on the phaser.
-    fn is_behind(&self, task: u32, phaser: u32) -> bool {
+    fn is_behind(&self, phaser: u32, task: u32) -> bool {
         self.registration(phaser, task)
             .is_some_and(|reg| reg.mode.can_signal() && !reg.ahead)
     }
@@ -287,7 +287,7 @@ impl Plain {
                 first_of([(!self.leads(task, own), Refusal::AlreadySignalled)].as_slice())
             }
             Begun::Wait => {
-                let owes = own.iter().any(|phaser| self.is_behind(task, *phaser));
+                let owes = own.iter().any(|phaser| self.is_behind(*phaser, task));
                 first_of([(!owes, Refusal::NotSignalled)].as_slice())
             }
             Begun::Next => None,
@@ -450,7 +450,7 @@ impl Plain {
     ) -> Result<(), Refusal> {
         let own = phasers_of(self.events.as_slice(), task, self.alloc)?;
         for phaser in own.as_slice() {
-            if self.is_behind(task, *phaser) {
+            if self.is_behind(*phaser, task) {
                 due.push(on(*phaser, Step::Sig(task, number)))?;
             }
         }
