@@ -1,7 +1,7 @@
 -- What a call's answer is to a body that asked for it.
-use Rattle.std.proofs.Common.{ℕ, ◌≡◌, ◌⊎◌, ◌==◌, Bool, true, false, if◌then◌else◌, inl, inr, List, [], ◌∷◌, ◌++◌, Option, Some, None, Result, Ok, Err, refl, sym, ap, subst, ◌∙◌}
+use Rattle.std.proofs.Common.{ℕ, ◌≡◌, ◌⊎◌, ◌==◌, Bool, true, false, if◌then◌else◌, inr, List, [], ◌∷◌, ◌++◌, Option, Some, None, Ok, refl, sym, ap, subst, ◌∙◌}
 use Rattle.std.specs.Prelude.{ℤ}
-use Rattle.std.proofs.lemmas.Bool.{eqb-true}
+use Rattle.std.proofs.lemmas.Bool.{eqb-true, true≢false}
 use Rattle.std.proofs.lemmas.List.{append_assoc}
 use Rattle.phase_modes.specs.declared.limits.Limits.{Limits}
 use Rattle.phase_modes.specs.declared.refusal.Refusal.{Refusal}
@@ -14,7 +14,7 @@ use Rattle.phase_model.specs.declared.history.Event.{Event}
 use Rattle.phase_model.specs.declared.history.Event.TheVariants.{Make, Reg, Sig, Claim, Pass, Send}
 use Rattle.phase_model.specs.declared.terms.Terms.{Terms}
 use Rattle.phase_model.specs.Phases.{waits, IsClosed}
-use Rattle.phase_model.specs.Replies.{Reply, reply, after, decided, done_result, event_for, must_wait}
+use Rattle.phase_model.specs.Replies.{reply, after, decided, done_result, event_for, must_wait}
 use Rattle.phase_model.specs.Rules.{Story, has_room, is_permitted}
 use Rattle.phase_model.specs.Tasks.{has_mode}
 use Rattle.phaser_answers.specs.Answers.{made_with, signal_result, pass_result}
@@ -27,7 +27,8 @@ use Rattle.long_receipts.specs.Told.{IsSignalAnswer, IsPassAnswer}
 use Rattle.table_receipts.specs.Logs.{GoesOn}
 use Rattle.table_receipts.specs.Seen.{HasSeenMore}
 use Rattle.table_receipts.specs.Told.{IsAnswered, IsMade}
-use Rattle.task_crew.specs.Heard.{Asked, nothing, make, send, look, on_each, HasMade, HasSent, IsOwn, IsAnswerTo}
+use Rattle.task_crew.specs.Heard.{Asked, nothing, make, send, look, turn, spawn, finish, ends, HasMade, HasSent, IsOwn, IsOwnOfEach, IsAnswerTo}
+use Rattle.task_crew.specs.inner.Ready.{IsAnswer, is_of_each}
 
 -- ---- by what was answered
 
@@ -129,23 +130,6 @@ pass_is_own x y p seen now t told closed =
 
 -- ---- from one answer to the next
 
--- before anything came of its act, the body hears nothing of it
-pub nothing_yet : (task : ℕ) (asked : Asked) (now : ℕ → Story) → IsAnswerTo task asked Started now now
-nothing_yet task nothing now = tt
-nothing_yet task (make m terms) now = tt
-nothing_yet task (send n a v) now = tt
-nothing_yet task (look n a) now = tt
-nothing_yet task on_each now = λ n. inl refl
-
--- that its child is born says no less of what it has seen than what it was about to hear
-pub hears_of_child : (task child : ℕ) (asked : Asked) (before : Answer) (seen now : ℕ → Story)
-    → IsAnswerTo task asked before seen now → IsAnswerTo task asked (Spawned child) seen now
-hears_of_child task child nothing before seen now is = tt
-hears_of_child task child (make m terms) before seen now is = tt
-hears_of_child task child (send n a v) before seen now is = tt
-hears_of_child task child (look n a) before seen now is = tt
-hears_of_child task child on_each before seen now is = is
-
 -- what was sent stays sent
 still_sent : (task a : ℕ) (v : ℤ) (seen now new : Story) → GoesOn now new → HasSent task a v seen now → HasSent task a v seen new
 still_sent task a v seen now new goes sent = (
@@ -155,16 +139,44 @@ still_sent task a v seen now new goes sent = (
   sent.3,
 )
 
--- where of one phaser more was seen, up to the task's own newest event, it is done as before
-pub done_again : (task k : ℕ) (asked : Asked) (seen now new : ℕ → Story) → HasSeenMore k now new → IsOwn task (new k).past
-    → IsAnswerTo task asked Done seen now → IsAnswerTo task asked Done seen new
-done_again task k nothing seen now new more own is = tt
-done_again task k (make m terms) seen now new more own is = tt
-done_again task k (send n a v) seen now new more own is = still_sent task a v (seen n) (now n) (new n) (more.0 n) is
-done_again task k (look n a) seen now new more own is = tt
-done_again task k on_each seen now new more own is = λ n. by_number n (n == k) refl
+-- where of one phaser more was seen, up to the task's own newest event, each phaser's is its own as before
+own_again : (task k : ℕ) (seen now new : ℕ → Story) → HasSeenMore k now new → IsOwn task (new k).past
+    → IsOwnOfEach task seen now → IsOwnOfEach task seen new
+own_again task k seen now new more own is = λ n. by_number n (n == k) refl
   where
     by_number : (n : ℕ) (b : Bool) → n == k ≡ b → (new n ≡ seen n) ⊎ IsOwn task (new n).past
     by_number n true same = inr (subst (λ (j : ℕ). IsOwn task (new j).past) (sym (eqb-true n k same)) own)
     by_number n false other =
         subst (λ (s : Story). (s ≡ seen n) ⊎ IsOwn task s.past) (sym (more.1 n other)) (is n)
+
+done_again : (task k : ℕ) (asked : Asked) (seen now new : ℕ → Story) → HasSeenMore k now new → IsOwn task (new k).past
+    → IsAnswerTo task asked Done seen now → IsAnswerTo task asked Done seen new
+done_again task k nothing seen now new more own is = absurd is
+done_again task k (make m terms) seen now new more own is = absurd is
+done_again task k (send n a v) seen now new more own is = still_sent task a v (seen n) (now n) (new n) (more.0 n) is
+done_again task k (look n a) seen now new more own is = absurd is
+done_again task k turn seen now new more own is = own_again task k seen now new more own is
+done_again task k spawn seen now new more own is = absurd is
+done_again task k finish seen now new more own is = tt
+done_again task k ends seen now new more own is = absurd is
+
+spawned_again : (task child k : ℕ) (asked : Asked) (seen now new : ℕ → Story) → HasSeenMore k now new → IsOwn task (new k).past
+    → IsAnswerTo task asked (Spawned child) seen now → IsAnswerTo task asked (Spawned child) seen new
+spawned_again task child k nothing seen now new more own is = absurd is
+spawned_again task child k (make m terms) seen now new more own is = absurd is
+spawned_again task child k (send n a v) seen now new more own is = absurd is
+spawned_again task child k (look n a) seen now new more own is = absurd is
+spawned_again task child k turn seen now new more own is = absurd is
+spawned_again task child k spawn seen now new more own is = own_again task k seen now new more own is
+spawned_again task child k finish seen now new more own is = absurd is
+spawned_again task child k ends seen now new more own is = absurd is
+
+-- who is about to hear of each phaser's is so still
+pub hears_again : (task k : ℕ) (asked : Asked) (answer : Option Answer) (seen now new : ℕ → Story) → is_of_each answer ≡ true
+    → HasSeenMore k now new → IsOwn task (new k).past → IsAnswer task asked answer seen now → IsAnswer task asked answer seen new
+hears_again task k asked (Some Done) seen now new each more own is = done_again task k asked seen now new more own is
+hears_again task k asked (Some (Spawned c)) seen now new each more own is = spawned_again task c k asked seen now new more own is
+hears_again task k asked (Some Started) seen now new each more own is = absurd (true≢false (sym each))
+hears_again task k asked (Some (Made n)) seen now new each more own is = absurd (true≢false (sym each))
+hears_again task k asked (Some (Saw x)) seen now new each more own is = absurd (true≢false (sym each))
+hears_again task k asked None seen now new each more own is = absurd (true≢false (sym each))

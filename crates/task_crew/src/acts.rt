@@ -1,10 +1,10 @@
 //! How a task's act is begun, and made where it is one event.
-ghost use Rattle.std.specs.Prelude.{◌≡◌, ℕ, Ok};
-ghost use Rattle.job_script.specs.declared.act.Answer.TheVariants.{Done};
+ghost use Rattle.std.specs.Prelude.{◌≡◌, ℕ, Ok, Some};
+ghost use Rattle.job_script.specs.declared.act.Answer.TheVariants.{Done, Spawned};
 ghost use Rattle.table_receipts.specs.Seen.{story_at};
 ghost use Rattle.task_queue.specs.Accounts.{IsSeatOf};
-ghost use Rattle.task_crew.specs.Heard.{nothing, make, send, look, asked_by, IsSpawned};
-ghost use Rattle.task_crew.specs.inner.Ready.{IsReady};
+ghost use Rattle.task_crew.specs.Heard.{nothing, make, send, look, ends, asked_by, IsSpawned};
+ghost use Rattle.task_crew.specs.inner.Ready.{Says, IsReady};
 
 use crate::body::{Body, Gate};
 use crate::naming::RunNaming;
@@ -73,7 +73,7 @@ impl<B: Body, K: RunNaming> Shared<B, K> {
 
     /// Opens a finish. The memory that the task needs to know it is taken before.
     fn open<R: Wait>(&self, rt: &R, task: &mut Task<B, K>) -> Result<(), Refusal>
-        requires ready { ∥ (K.Supposing.supposed → IsReady B.Body.shows task.old.body task.old.log.task Done (λ n. story_at task.old.fronts n)) ∥₁ }
+        requires ready { ∥ (K.Supposing.supposed → IsReady B.Body.shows task.old.body task.old.log.task (Some Done) (λ n. story_at task.old.fronts n)) ∥₁ }
     {
         if task.standing.reserve_opening().is_err() {
             return self.fail(task, Refusal::Memory);
@@ -82,7 +82,7 @@ impl<B: Body, K: RunNaming> Shared<B, K> {
         if self.may_try(task, Tried::Open(finish))? {
             self.open_on(rt, task.number(), finish)?;
             task.standing.note_opening(finish)?;
-            task.answer = Answer::Done;
+            task.answer = Some(Answer::Done);
         }
         Ok(())
     }
@@ -131,38 +131,54 @@ impl<B: Body, K: RunNaming> Shared<B, K> {
     }
 
     /// Begins an act that goes on by this plan, where it isn't refused. Once it has come to its end the
-    /// body hears that it is done.
-    fn begin(&self, task: &mut Task<B, K>, begun: Begun, plan: Plan) -> Result<bool, Refusal>
-        requires ready { ∥ (K.Supposing.supposed → IsReady B.Body.shows task.old.body task.old.log.task Done (λ n. story_at task.old.fronts n)) ∥₁ }
+    /// body hears this answer, if it hears one.
+    fn begin(
+        &self,
+        task: &mut Task<B, K>,
+        begun: Begun,
+        plan: Plan,
+        answer: Option<Answer>,
+    ) -> Result<bool, Refusal>
+        requires ready { ∥ (K.Supposing.supposed → IsReady B.Body.shows task.old.body task.old.log.task answer (λ n. story_at task.old.fronts n)) ∥₁ }
+        requires end { begun ≡ Begun.End → ∥ (K.Supposing.supposed → Says B.Body.shows task.old.body task.old.log.task ends (λ n. story_at task.old.fronts n)) ∥₁ }
     {
         if !self.may_try(task, Tried::Begun(begun))? {
             return Ok(false);
         }
         task.log_begun(self.tickets.draw(), begun)?;
         task.standing.begin(plan);
-        task.answer = Answer::Done;
+        task.answer = answer;
         Ok(true)
     }
 
     /// The same, where nothing else comes of it.
-    fn enter(&self, task: &mut Task<B, K>, begun: Begun, plan: Plan) -> Result<(), Refusal>
-        requires ready { ∥ (K.Supposing.supposed → IsReady B.Body.shows task.old.body task.old.log.task Done (λ n. story_at task.old.fronts n)) ∥₁ }
+    fn enter(
+        &self,
+        task: &mut Task<B, K>,
+        begun: Begun,
+        plan: Plan,
+        answer: Option<Answer>,
+    ) -> Result<(), Refusal>
+        requires ready { ∥ (K.Supposing.supposed → IsReady B.Body.shows task.old.body task.old.log.task answer (λ n. story_at task.old.fronts n)) ∥₁ }
+        requires end { begun ≡ Begun.End → ∥ (K.Supposing.supposed → Says B.Body.shows task.old.body task.old.log.task ends (λ n. story_at task.old.fronts n)) ∥₁ }
     {
-        let _begun = self.begin(task, begun, plan)?;
+        let _begun = self.begin(task, begun, plan, answer)?;
         Ok(())
     }
 
     /// Begins to spawn a child. The child's memory is taken before the act is looked at.
     fn spawn(&self, item: &mut Item<B, K>, body: B, pairs: Phased) -> Result<(), Refusal>
-        requires ready { ∥ (K.Supposing.supposed → IsReady B.Body.shows item.old.task.value.body item.old.task.value.log.task Done (λ n. story_at item.old.task.value.fronts n)) ∥₁ }
+        requires ready { (its : ℕ) → ∥ (K.Supposing.supposed → IsReady B.Body.shows item.old.task.value.body item.old.task.value.log.task (Some (Spawned its)) (λ n. story_at item.old.task.value.fronts n)) ∥₁ }
         requires child { (its : ℕ) → ∥ (K.Supposing.supposed → B.Body.shows body its nothing (λ n. story_at item.old.task.value.fronts n)) ∥₁ }
     {
         let number = self.numbers.task();
         let Ok(child) = item.task.child(self.alloc, number, body, self.limits.acts) else {
             return self.fail(&mut item.task, Refusal::Memory);
         };
+        let begun = Begun::Async(number, pairs);
         let plan = Plan::Spawning(number, pairs, 0);
-        if self.begin(&mut item.task, Begun::Async(number, pairs), plan)? {
+        let born = Some(Answer::Spawned(number));
+        if self.begin(&mut item.task, begun, plan, born)? {
             item.unborn = Some(child);
         }
         Ok(())
@@ -180,6 +196,7 @@ impl<B: Body, K: RunNaming> Shared<B, K> {
             → ∥ (K.Supposing.supposed → B.Body.shows child its nothing (λ n. story_at item.old.task.value.fronts n)) ∥₁ }
         ensures out { by.new.out ≡ by.old.out }
     {
+        let done = Some(Answer::Done);
         match act {
             Act::Async(body, pairs) => self.spawn(item, body, pairs),
             Act::AsyncAll(body) => {
@@ -187,29 +204,29 @@ impl<B: Body, K: RunNaming> Shared<B, K> {
                 self.spawn(item, body, pairs)
             }
             Act::OpenFinish => self.open(by.rt, &mut item.task),
-            Act::ShutFinish => self.enter(&mut item.task, Begun::Shut, Plan::Shutting),
+            Act::ShutFinish => self.enter(&mut item.task, Begun::Shut, Plan::Shutting, done),
             Act::New(mode, ops, bound) => {
                 let terms = Terms { ops, bound };
                 self.make(by, &mut item.task, mode, &terms)
             }
             Act::Signal => {
                 let plan = Plan::Signalling(None, false);
-                self.enter(&mut item.task, Begun::Signal, plan)
+                self.enter(&mut item.task, Begun::Signal, plan, done)
             }
-            Act::Wait => self.enter(&mut item.task, Begun::Wait, Plan::Turning(0)),
+            Act::Wait => self.enter(&mut item.task, Begun::Wait, Plan::Turning(0), done),
             Act::Next => {
                 let plan = Plan::Signalling(None, true);
-                self.enter(&mut item.task, Begun::Next, plan)
+                self.enter(&mut item.task, Begun::Next, plan, done)
             }
             Act::NextSingle(number) => {
                 let plan = Plan::Signalling(Some(number), true);
-                self.enter(&mut item.task, Begun::NextSingle(number), plan)
+                self.enter(&mut item.task, Begun::NextSingle(number), plan, done)
             }
             Act::Send(phaser, accumulator, value) => {
                 self.send(by, &mut item.task, phaser, accumulator, value)
             }
             Act::Look(phaser, accumulator) => self.look(by, &mut item.task, phaser, accumulator),
-            Act::End => self.enter(&mut item.task, Begun::End, Plan::Ending),
+            Act::End => self.enter(&mut item.task, Begun::End, Plan::Ending, None),
         }
     }
 
@@ -222,9 +239,17 @@ impl<B: Body, K: RunNaming> Shared<B, K> {
     ) -> Result<(), Refusal>
         ensures seat { IsSeatOf busy.old.seat busy.new.seat }
     {
+        // No clause says that a task which has begun to end isn't due to be stepped.
+        if item.task.has_ended() {
+            return Err(Refusal::NotNow);
+        }
         gate.enter(busy.number, item.task.number());
         let act = item.task.next_act();
         gate.leave(busy.number, item.task.number());
+        // Nor that something came of its last act.
+        let Some(act) = act else {
+            return Err(Refusal::NotNow);
+        };
         match act {
             Ok(act) => self.act(&mut busy.by, item, act),
             Err(refusal) => self.fail(&mut item.task, refusal),

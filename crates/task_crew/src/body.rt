@@ -10,10 +10,11 @@ use phase_modes::Refusal;
 /// allocator.
 ///
 /// A body may say something of what its task has seen (`shows`): who writes it proves of `step` that
-/// it stays so, and then `phased_rt::run` says it of the root's body, which is task 0's, and of the
-/// run's trace. What a step hears of its act is what `IsAnswerTo` says: that the phaser was made, that
-/// the value was sent, what the look saw, and of each phaser that was signalled, passed or handed on
-/// that this was the task's own event. A body that says nothing has nothing to prove.
+/// it stays so, and then `phased_rt::run` says it of the run's trace: of the root's body, which is task
+/// 0's, and of each task whose body has asked for its end. What a step hears is an answer to its act, as
+/// `IsAnswerTo` says: that the phaser was made, that the value was sent, what the look saw, and of each
+/// phaser that was signalled, passed or handed on that this was the task's own event. A body that says
+/// nothing has nothing to prove.
 pub trait Body: Drop {
     ghost use Rattle.std.specs.Prelude.{ℕ};
     ghost use Rattle.phase_model.specs.Rules.{Story};

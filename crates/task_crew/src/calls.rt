@@ -6,15 +6,14 @@ ghost use Rattle.task_queue.specs.Accounts.{IsSeatOf};
 ghost use Rattle.task_crew.specs.Heard.{make, send, look};
 
 use crate::body::Body;
-use crate::diary::Diary;
 use crate::naming::RunNaming;
-use crate::task::{Item, Task};
+use crate::task::{Item, Task, TaskLeft};
 use crate::worker::{Busy, Shared};
 use job_script::Answer;
 use phase_model::Terms;
 use phase_modes::{Mode, Pair, Refusal};
 use scope_locks::{PassAnswer, ShutAnswer, SignalAnswer};
-use std::sync::Wait;
+use std::sync::{Mutex, Wait};
 use table_receipts::Caller;
 
 impl<B: Body, K: RunNaming> Shared<B, K> {
@@ -37,7 +36,7 @@ impl<B: Body, K: RunNaming> Shared<B, K> {
             .make(by, &mut me, number, maker, mode, terms.ops, terms.bound)?;
         task.standing.note_making(phaser, mode)?;
         task.fronts.set(number, me);
-        task.answer = Answer::Made(phaser);
+        task.answer = Some(Answer::Made(phaser));
         Ok(())
     }
 
@@ -78,7 +77,7 @@ impl<B: Body, K: RunNaming> Shared<B, K> {
             .send(by, &mut me, number, sender, accumulator, value)?;
         task.fronts.set(number, me);
         task.standing.note_act();
-        task.answer = Answer::Done;
+        task.answer = Some(Answer::Done);
         Ok(())
     }
 
@@ -99,7 +98,7 @@ impl<B: Body, K: RunNaming> Shared<B, K> {
         let seen = self.phasers.look(by, &mut me, number, reader, accumulator)?;
         task.fronts.set(number, me);
         task.standing.note_act();
-        task.answer = Answer::Saw(seen);
+        task.answer = Some(Answer::Saw(seen));
         Ok(())
     }
 
@@ -178,8 +177,8 @@ impl<B: Body, K: RunNaming> Shared<B, K> {
         &self,
         busy: &mut Busy<'_, B, K, R>,
         task: &mut Task<B, K>,
-        leaver: u32,
         phaser: u32,
+        leaver: u32,
     ) -> Result<(), Refusal>
         ensures seat { IsSeatOf busy.old.seat busy.new.seat }
     {
@@ -204,16 +203,21 @@ impl<B: Body, K: RunNaming> Shared<B, K> {
         &self,
         busy: &mut Busy<'_, B, K, R>,
         task: u32,
-        log: Diary,
+        left: TaskLeft<K>,
         finish: u32,
     ) -> Result<(), Refusal>
         ensures seat { IsSeatOf busy.old.seat busy.new.seat }
     {
         let number = self.finishes.place(finish, Refusal::NotNow)?;
         let Busy { seat, by, kept, .. } = busy;
-        let ended = self
-            .finishes
-            .ended(by.rt, number, &self.tickets, task, log, &mut by.out);
+        let ended = self.finishes.ended(
+            by.rt,
+            number,
+            &self.tickets,
+            task,
+            Mutex::new(left),
+            &mut by.out,
+        );
         self.flush(by.rt, seat, kept, &mut by.out)?;
         match ended {
             Ok(()) => Ok(()),

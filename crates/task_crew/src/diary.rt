@@ -1,6 +1,7 @@
 //! What a task notes of itself.
-ghost use Rattle.std.specs.Prelude.{◌≡◌, All, IfErr, IfOk};
+ghost use Rattle.std.specs.Prelude.{◌≡◌, ◌⊎◌, ◌||◌, true, false, All, IfErr, IfOk};
 ghost use Rattle.trace_model.specs.Projections.{log as log_of, whose, AreOf};
+ghost use Rattle.task_crew.specs.Said.{is_end, has_end};
 
 use phase_modes::Refusal;
 use std::alloc::Global;
@@ -13,7 +14,17 @@ use world_model::{Begun, Tried};
 pub(crate) struct Diary {
     task: u32,
     log: Log,
+    /// Whether it has begun to end.
+    ended: bool,
     ghost own: { All (λ e. whose e.1 ≡ log_of task) log.entries },
+    ghost end: { ended ≡ has_end log.entries },
+}
+
+/// Whether the event begins a task's end.
+fn is_end(event: &TracedEvent) -> bool
+    ensures { result ≡ is_end event.now }
+{
+    matches!(event, TracedEvent::Begin(_, Begun::End))
 }
 
 impl Diary {
@@ -21,11 +32,13 @@ impl Diary {
     /// where that is refused.
     pub(crate) fn new(alloc: Global, task: u32, acts: u32) -> Result<Diary, Refusal>
         ensures task { IfOk result (λ d. d.task ≡ task) }
+        ensures end { IfOk result (λ d. d.ended ≡ false) }
         ensures memory { IfErr result (λ e. e ≡ Refusal.Memory) }
     {
         Ok(Diary {
             task,
             log: Log::new(alloc, acts)?,
+            ended: false,
         })
     }
 
@@ -36,22 +49,40 @@ impl Diary {
         self.task
     }
 
+    /// Whether the task has begun to end.
+    pub(crate) fn has_ended(&self) -> bool
+        ensures { result ≡ self.now.ended }
+    {
+        self.ended
+    }
+
+    /// Whether it has begun to end, where this is noted too.
+    fn ended_with(&self, event: &TracedEvent) -> bool
+        ensures { result ≡ (self.now.ended || is_end event.now) }
+    {
+        self.ended || is_end(event)
+    }
+
     /// Adds an entry at the end, with the ticket that was drawn for it; `ActsFull` where there is no
     /// room for it. It takes no memory.
     fn add(&mut self, ticket: u64, entry: TracedEvent) -> Result<(), Refusal>
         requires { whose entry ≡ log_of self.old.task }
-        ensures { self.new.task ≡ self.old.task }
+        ensures task { self.new.task ≡ self.old.task }
+        ensures end { self.new.ended ≡ true → (self.old.ended ≡ true) ⊎ (is_end entry ≡ true) }
     {
         if !self.log.has_room() {
             return Err(Refusal::ActsFull);
         }
+        let ended = self.ended_with(&entry);
         self.log.add(ticket, entry);
+        self.ended = ended;
         Ok(())
     }
 
     /// Notes that the task begins this act. `ActsFull` where there is no room for it.
     pub(crate) fn note_begun(&mut self, ticket: u64, begun: Begun) -> Result<(), Refusal>
-        ensures { self.new.task ≡ self.old.task }
+        ensures task { self.new.task ≡ self.old.task }
+        ensures end { self.new.ended ≡ true → (self.old.ended ≡ true) ⊎ (begun ≡ Begun.End) }
     {
         self.add(ticket, TracedEvent::Begin(self.task, begun))
     }
@@ -63,7 +94,8 @@ impl Diary {
         tried: Tried,
         refusal: Refusal,
     ) -> Result<(), Refusal>
-        ensures { self.new.task ≡ self.old.task }
+        ensures task { self.new.task ≡ self.old.task }
+        ensures end { self.new.ended ≡ true → self.old.ended ≡ true }
     {
         self.add(
             ticket,
@@ -73,14 +105,16 @@ impl Diary {
 
     /// Notes that the task gives up what it is about. `ActsFull` where there is no room for it.
     pub(crate) fn note_failed(&mut self, ticket: u64, refusal: Refusal) -> Result<(), Refusal>
-        ensures { self.new.task ≡ self.old.task }
+        ensures task { self.new.task ≡ self.old.task }
+        ensures end { self.new.ended ≡ true → self.old.ended ≡ true }
     {
         self.add(ticket, TracedEvent::Fail(self.task, refusal.number()))
     }
 
     /// The entries as a part of a trace.
     pub(crate) fn into_part(self) -> Part
-        ensures { AreOf (log_of self.task) result }
+        ensures own { AreOf (log_of self.task) result }
+        ensures end { has_end result ≡ self.ended }
     {
         let Diary { log, .. } = self;
         Part::of_log(log)

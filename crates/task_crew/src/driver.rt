@@ -6,7 +6,7 @@ ghost use Rattle.task_queue.specs.Accounts.{IsSeatOf};
 use crate::body::{Body, Gate};
 use crate::crew::Crew;
 use crate::naming::RunNaming;
-use crate::task::{Item, RootLeft, Task};
+use crate::task::{Item, RootLeft, Task, TaskLeft};
 use crate::worker::{Busy, Shared, Worker};
 use phase_modes::{Pair, Refusal};
 use scope_locks::{PassAnswer, ShutAnswer, SignalAnswer};
@@ -150,7 +150,7 @@ impl<B: Body, K: RunNaming> Shared<B, K> {
         };
         let number = child.number();
         self.spawn_on(busy.by.rt, number, finish)?;
-        task.note_birth(number);
+        task.standing.note_birth();
         self.give(busy, Item::of(child))?;
         Ok(Some(Item::of(task)))
     }
@@ -166,7 +166,7 @@ impl<B: Body, K: RunNaming> Shared<B, K> {
     {
         let mut item = item;
         let leaver = item.task.number();
-        self.drop_on(busy, &mut item.task, leaver, phaser)?;
+        self.drop_on(busy, &mut item.task, phaser, leaver)?;
         item.task.standing.leave(phaser);
         Ok(Some(item))
     }
@@ -176,13 +176,13 @@ impl<B: Body, K: RunNaming> Shared<B, K> {
         &self,
         busy: &mut Busy<'_, B, K, R>,
         item: Item<B, K>,
-        child: u32,
         phaser: u32,
+        child: u32,
     ) -> Result<Next<B, K>, Refusal>
         ensures seat { IsSeatOf busy.old.seat busy.new.seat }
     {
         let mut item = item;
-        self.drop_on(busy, &mut item.task, child, phaser)?;
+        self.drop_on(busy, &mut item.task, phaser, child)?;
         item.note_child_gone(phaser);
         Ok(Some(item))
     }
@@ -199,7 +199,7 @@ impl<B: Body, K: RunNaming> Shared<B, K> {
         }
     }
 
-    /// The task ends, and leaves its log in the finish in which it was spawned.
+    /// The task ends, and leaves its log and what it has seen in the finish in which it was spawned.
     fn end<R: Wait>(
         &self,
         busy: &mut Busy<'_, B, K, R>,
@@ -210,12 +210,13 @@ impl<B: Body, K: RunNaming> Shared<B, K> {
     {
         let Item { task, unborn: _ } = item;
         let number = task.number();
-        let Task { log, .. } = Box::into_inner(task);
-        self.end_on(busy, number, log, finish)?;
+        let Task { fronts, log, .. } = Box::into_inner(task);
+        let left = TaskLeft { log, fronts };
+        self.end_on(busy, number, left, finish)?;
         Ok(None)
     }
 
-    /// The root shuts finish 0: the run is over, and the root's log and body are its worker's.
+    /// The root shuts finish 0: the run is over, and what the root leaves is its worker's.
     fn close<R: Wait>(
         &self,
         busy: &mut Busy<'_, B, K, R>,
@@ -236,8 +237,9 @@ impl<B: Body, K: RunNaming> Shared<B, K> {
                 if log.task() > 0 {
                     return Err(Refusal::NotNow);
                 }
-                let left = RootLeft { log, body, fronts };
-                busy.root = Some(left);
+                let left = TaskLeft { log, fronts };
+                let root = RootLeft { left, body };
+                busy.root = Some(root);
                 self.queue.close(busy.by.rt);
                 Ok(None)
             }
@@ -265,7 +267,7 @@ impl<B: Body, K: RunNaming> Shared<B, K> {
             Due::Pass(phaser) => self.pass(busy, item, phaser),
             Due::Register(child, pair) => self.register(busy, item, child, pair),
             Due::Spawn(_, finish) => self.bear(busy, item, finish),
-            Due::DropChild(child, phaser) => self.drop_child(busy, item, child, phaser),
+            Due::DropChild(child, phaser) => self.drop_child(busy, item, phaser, child),
             Due::Leave(phaser) => self.leave(busy, item, phaser),
             Due::Shut(finish) => self.shut(busy.by.rt, item, finish),
             Due::End(finish) => self.end(busy, item, finish),

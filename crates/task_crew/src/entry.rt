@@ -6,7 +6,8 @@ ghost use Rattle.share_book.specs.Opening.{IsNamed, IsParted};
 ghost use Rattle.task_crew.specs.Heard.{nothing};
 ghost use Rattle.task_crew.specs.Refused.{IsRunRefused};
 ghost use Rattle.task_crew.specs.Remaining.{AreRemains};
-ghost use Rattle.task_crew.specs.Said.{IsSaid};
+ghost use Rattle.task_crew.specs.Said.{IsSaid, AreSaid, IsSaidOf};
+ghost use Rattle.task_crew.specs.inner.Ready.{Tells};
 
 use crate::body::{Body, Gate};
 use crate::naming::{RunNaming, Supposing};
@@ -64,8 +65,10 @@ fn run_in<K: RunNaming + SharedLedgers, B: Body + Send, G: Gate + Sync, R: Threa
     requires empty { All (λ w. w.items ≡ []) logs.items }
     requires each { vec_len logs ≡ limits.phasers }
     requires root { K.Supposing.supposed → (seen : ℕ → Story) → B.Body.shows root 0 nothing seen }
+    requires tells { ∥ Tells B.Body.shows K.Supposing.told ∥₁ }
     ensures remains { IfOk result (λ r. AreRemains limits r.phasers.items r.finishes.items r.logs.items r.totals) }
     ensures says { IfOk result (λ r. K.Supposing.supposed → IsSaid B.Body.shows limits r.phasers.items r.root) }
+    ensures each { IfOk result (λ r. K.Supposing.supposed → AreSaid K.Supposing.told limits r.phasers.items r.logs.items) }
     ensures refused { IfErr result (λ e. IsRunRefused e) }
 {
     let workers = blanks.workers;
@@ -121,8 +124,10 @@ fn run_over<
     requires empty { All (λ w. w.items ≡ []) logs.items }
     requires each { vec_len logs ≡ limits.phasers }
     requires root { L.Supposing.supposed → (seen : ℕ → Story) → B.Body.shows root 0 nothing seen }
+    requires tells { ∥ Tells B.Body.shows L.Supposing.told ∥₁ }
     ensures remains { IfOk result (λ r. AreRemains limits r.phasers.items r.finishes.items r.logs.items r.totals) }
     ensures says { IfOk result (λ r. L.Supposing.supposed → IsSaid B.Body.shows limits r.phasers.items r.root) }
+    ensures each { IfOk result (λ r. L.Supposing.supposed → AreSaid L.Supposing.told limits r.phasers.items r.logs.items) }
     ensures refused { IfErr result (λ e. IsRunRefused e) }
 {
     run_in::<Named<Seven<EP, EW, UP, UW, DP, DW, RM>, L>, B, G, R>(
@@ -134,7 +139,7 @@ fn run_over<
 /// where one can be made, until the root has ended. `gate` is called round each step of a body.
 ///
 /// Where the root's body says nothing false before its first act, whatever was seen, then it says
-/// nothing false in the end (`says`).
+/// nothing false in the end (`says`), and no body of a task does that has begun to end (`each`).
 ///
 /// A task that is refused something ends by itself, and the others go on. `Memory` where the tables,
 /// the workers or the logs' parts get none; `NotExplained(0)` where a lock or the queue answered what
@@ -151,6 +156,7 @@ pub fn run_tasks<B: Body + Send, G: Gate + Sync, R: Threads + Wait + Sync>(
     requires workers { (0 < workers) × (workers ≤ 16) }
     ensures remains { IfOk result (λ r. AreRemains limits r.phasers.items r.finishes.items r.logs.items r.totals) }
     ensures says { IfOk result (λ r. ((seen : ℕ → Story) → B.shows root 0 nothing seen) → IsSaid B.shows limits r.phasers.items r.root) }
+    ensures each { IfOk result (λ r. ((seen : ℕ → Story) → B.shows root 0 nothing seen) → AreSaid (IsSaidOf B.shows) limits r.phasers.items r.logs.items) }
     ensures refused { IfErr result (λ e. IsRunRefused e) }
 {
     let logs = new_logs(alloc, limits.phasers)?;

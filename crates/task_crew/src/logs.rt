@@ -1,14 +1,18 @@
-//! The logs that tasks leave, as parts of a trace: no two are of one task.
-ghost use Rattle.std.specs.Prelude.{◌≡◌, ◌+◌, ◌≤◌, ℕ, List, [], map, length, OnOk, IfOk, IfErr};
+//! The logs that tasks leave, as parts of a trace: no two are of one task, and what the bodies of tasks
+//! said that have ended is told of them.
+ghost use Rattle.std.specs.Prelude.{◌≡◌, ◌+◌, ◌≤◌, ℕ, List, [], map, length, All, OnOk, IfOk, IfErr};
 ghost use Rattle.std.specs.List.{sum as total};
 ghost use Rattle.task_crew.specs.Refused.{IsRunRefused};
 ghost use Rattle.task_crew.specs.Remaining.{AreLogsOf, AreDifferent};
-ghost use Rattle.task_crew.specs.inner.Logs.{AreGathered};
+ghost use Rattle.task_crew.specs.inner.Logs.{AreGathered, AreAllLogs, IsToldIn};
 
-use crate::diary::Diary;
+use crate::naming::RunNaming;
+use crate::task::TaskLeft;
 use number_set::NumberSet;
 use phase_modes::Refusal;
 use std::alloc::Global;
+use std::sync::Mutex;
+use table_receipts::PhaserLog;
 use trace_model::Part;
 
 /// The parts of the logs so far, and whose they are.
@@ -38,12 +42,22 @@ impl Gathered {
     }
 
     /// Adds a log. `NotExplained(0)` where there is one of its task, or none may have the number.
-    fn add(&mut self, log: Diary) -> Result<(), Refusal>
-        requires { AreGathered self.old.owners self.old.parts.items }
+    fn add<K: RunNaming>(
+        &mut self,
+        left: TaskLeft<K>,
+        told: &mut Vec<PhaserLog<K>>,
+    ) -> Result<(), Refusal>
+        requires logs { AreAllLogs K.Logs.logs K.Logs.limits.phasers told.old.items }
+        requires own { AreGathered self.old.owners self.old.parts.items }
+        requires told { All (IsToldIn K.Supposing.supposed K.Supposing.told told.old.items) self.old.parts.items }
         ensures own { IfOk result (λ _. AreGathered self.new.owners self.new.parts.items) }
+        ensures told { IfOk result (λ _. All (IsToldIn K.Supposing.supposed K.Supposing.told told.old.items) self.new.parts.items) }
         ensures number { OnOk result (length self.new.parts.items ≡ length self.old.parts.items + 1) }
+        ensures same { told.new.items ≡ told.old.items }
         ensures refused { IfErr result (λ e. IsRunRefused e) }
     {
+        let TaskLeft { log, mut fronts } = left;
+        fronts.begin(told);
         let task = log.task();
         if task >= self.tasks || self.owners.contains(task) {
             return Err(Refusal::NotExplained(0));
@@ -54,37 +68,49 @@ impl Gathered {
     }
 
     /// Adds the logs that were left in one finish.
-    fn add_all(&mut self, logs: Vec<Diary>) -> Result<(), Refusal>
-        requires { AreGathered self.old.owners self.old.parts.items }
+    fn add_all<K: RunNaming>(
+        &mut self,
+        of_finish: Vec<Mutex<TaskLeft<K>>>,
+        told: &mut Vec<PhaserLog<K>>,
+    ) -> Result<(), Refusal>
+        requires logs { AreAllLogs K.Logs.logs K.Logs.limits.phasers told.old.items }
+        requires own { AreGathered self.old.owners self.old.parts.items }
+        requires told { All (IsToldIn K.Supposing.supposed K.Supposing.told told.old.items) self.old.parts.items }
         ensures own { IfOk result (λ _. AreGathered self.new.owners self.new.parts.items) }
-        ensures number { OnOk result (length self.new.parts.items ≡ length self.old.parts.items + length logs.items) }
+        ensures told { IfOk result (λ _. All (IsToldIn K.Supposing.supposed K.Supposing.told told.old.items) self.new.parts.items) }
+        ensures number { OnOk result (length self.new.parts.items ≡ length self.old.parts.items + length of_finish.items) }
+        ensures same { told.new.items ≡ told.old.items }
         ensures refused { IfErr result (λ e. IsRunRefused e) }
     {
-        for log in logs {
-            self.add(log)?;
+        for left in of_finish {
+            self.add(left.into_inner(), told)?;
         }
         Ok(())
     }
 }
 
-/// The parts of all logs, of a run in which so many tasks may be. `NotExplained(0)` where two are of
-/// one task.
-pub(crate) fn logs_of(
+/// The parts of all logs that tasks left, of a run in which so many tasks may be; and what was told of
+/// them is told of what begins these phasers' logs. `NotExplained(0)` where two are of one task.
+pub(crate) fn logs_of<K: RunNaming>(
     alloc: Global,
     tasks: u32,
-    logs: Vec<Vec<Diary>>,
-    root: Diary,
+    left: Vec<Vec<Mutex<TaskLeft<K>>>>,
+    root: TaskLeft<K>,
+    told: &mut Vec<PhaserLog<K>>,
 ) -> Result<Vec<Part>, Refusal>
-    requires { tasks ≤ 65536 }
+    requires few { tasks ≤ 65536 }
+    requires logs { AreAllLogs K.Logs.logs K.Logs.limits.phasers told.old.items }
     ensures own { IfOk result (λ parts. (owners : List ℕ) × AreLogsOf owners parts.items × AreDifferent owners) }
-    ensures number { IfOk result (λ parts. length parts.items ≡ total (map (λ l. length l.items) logs.items) + 1) }
+    ensures told { IfOk result (λ parts. All (IsToldIn K.Supposing.supposed K.Supposing.told told.old.items) parts.items) }
+    ensures same { told.new.items ≡ told.old.items }
+    ensures number { IfOk result (λ parts. length parts.items ≡ total (map (λ l. length l.items) left.items) + 1) }
     ensures refused { IfErr result (λ e. IsRunRefused e) }
 {
     let mut gathered = Gathered::new(alloc, tasks)?;
-    for of_finish in logs {
-        gathered.add_all(of_finish)?;
+    for of_finish in left {
+        gathered.add_all(of_finish, told)?;
     }
-    gathered.add(root)?;
+    gathered.add(root, told)?;
     let Gathered { parts, .. } = gathered;
     Ok(parts)
 }

@@ -3,17 +3,29 @@ use share_book::Ledgers;
 use std::marker::Brand;
 use table_receipts::{Logs, Named, Naming};
 
-/// What has to hold for what a run's bodies say: that its root says nothing false at its start.
+/// What has to hold for what a run's bodies say: that its root says nothing false at its start. And what
+/// they say of their tasks.
 pub(crate) trait Supposing {
+    ghost use Rattle.std.specs.Prelude.{ℕ};
+    ghost use Rattle.phase_model.specs.Rules.{Story};
+
     ghost supposed: { Type 0 };
+
+    /// What a body says of its task, of which the task has seen this of each phaser, once the body is
+    /// no more.
+    ghost told: { ℕ → (ℕ → Story) → Type 0 };
 }
 
 impl Supposing for Brand {
     ghost supposed = { Unit {0} };
+
+    ghost told = { λ _ _. Unit {0} };
 }
 
 impl<S: Ledgers, L: Logs + Supposing> Supposing for Named<S, L> {
     ghost supposed = { L.Supposing.supposed };
+
+    ghost told = { L.Supposing.told };
 }
 
 /// The ledgers and the logs of a run, and what its bodies suppose.

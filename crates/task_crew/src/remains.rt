@@ -6,18 +6,17 @@ ghost use Rattle.scope_locks.specs.Telling.{ArePhaserParts, AreFinishParts};
 ghost use Rattle.table_receipts.specs.Parts.{AreLogged};
 ghost use Rattle.task_crew.specs.Refused.{IsRunRefused};
 ghost use Rattle.task_crew.specs.Remaining.{AreRemains};
-ghost use Rattle.task_crew.specs.Said.{IsSaid};
+ghost use Rattle.task_crew.specs.Said.{IsSaid, AreSaid};
 
 use crate::body::Body;
-use crate::diary::Diary;
 use crate::logs::logs_of;
 use crate::naming::RunNaming;
-use crate::task::{Item, RootLeft};
+use crate::task::{Item, RootLeft, TaskLeft};
 use phase_modes::{Limits, Refusal};
 use scope_locks::{FinishParts, FinishTable};
 use share_book::{Shares, Totals, gather};
 use std::alloc::Global;
-use std::sync::Wait;
+use std::sync::{Mutex, Wait};
 use table_receipts::{ReceiptParts, ReceiptTable};
 use trace_model::Part;
 
@@ -38,7 +37,7 @@ fn gathered<K: RunNaming, B: Body>(
     alloc: Global,
     limits: Limits,
     phasers: ReceiptParts<K>,
-    finishes: FinishParts<Diary>,
+    finishes: FinishParts<Mutex<TaskLeft<K>>>,
     shares: Vec<Shares<K>>,
     root: RootLeft<B, K>,
 ) -> Result<Remains<B>, Refusal>
@@ -53,6 +52,7 @@ fn gathered<K: RunNaming, B: Body>(
     requires told_finishes { AreFinishParts 0 finishes.parts.items (map (λ l. length l.items) finishes.logs.items) }
     ensures remains { IfOk result (λ r. AreRemains limits r.phasers.items r.finishes.items r.logs.items r.totals) }
     ensures says { IfOk result (λ r. K.Supposing.supposed → IsSaid B.Body.shows limits r.phasers.items r.root) }
+    ensures each { IfOk result (λ r. K.Supposing.supposed → AreSaid K.Supposing.told limits r.phasers.items r.logs.items) }
     ensures refused { IfErr result (λ e. IsRunRefused e) }
 {
     let ReceiptParts {
@@ -63,18 +63,19 @@ fn gathered<K: RunNaming, B: Body>(
     } = phasers;
     let FinishParts {
         parts: of_finishes,
-        logs,
+        logs: left,
     } = finishes;
     let Ok(totals) = gather(shares, held, books) else {
         unreachable!()
     };
     let RootLeft {
-        log,
+        left: of_root,
         body,
-        mut fronts,
     } = root;
+    let TaskLeft { log, mut fronts } = of_root;
     fronts.begin(&mut told);
-    let of_logs = logs_of(alloc, limits.tasks, logs, log)?;
+    let of_root = TaskLeft { log, fronts };
+    let of_logs = logs_of(alloc, limits.tasks, left, of_root, &mut told)?;
     Ok(Remains {
         phasers: of_phasers,
         finishes: of_finishes,
@@ -91,7 +92,7 @@ pub(crate) fn remains_of<K: RunNaming, B: Body, R: Wait>(
     alloc: Global,
     limits: Limits,
     phasers: ReceiptTable<Item<B, K>, K>,
-    finishes: FinishTable<Item<B, K>, Diary>,
+    finishes: FinishTable<Item<B, K>, Mutex<TaskLeft<K>>>,
     shares: Vec<Shares<K>>,
     root: Option<RootLeft<B, K>>,
 ) -> Result<Remains<B>, Refusal>
@@ -103,6 +104,7 @@ pub(crate) fn remains_of<K: RunNaming, B: Body, R: Wait>(
     requires books { AreAllParts limits.phasers K.EventsByPhaser.parts K.UpByPhaser.parts K.DownByPhaser.parts }
     ensures remains { IfOk result (λ r. AreRemains limits r.phasers.items r.finishes.items r.logs.items r.totals) }
     ensures says { IfOk result (λ r. K.Supposing.supposed → IsSaid B.Body.shows limits r.phasers.items r.root) }
+    ensures each { IfOk result (λ r. K.Supposing.supposed → AreSaid K.Supposing.told limits r.phasers.items r.logs.items) }
     ensures refused { IfErr result (λ e. IsRunRefused e) }
 {
     let Some(root) = root else {

@@ -6,7 +6,7 @@ ghost use Rattle.task_queue.specs.Accounts.{AreTogether, IsConserved};
 ghost use Rattle.task_crew.specs.inner.Back.{AreBack, AreSeatsIn};
 ghost use Rattle.task_crew.specs.Refused.{IsRunRefused};
 ghost use Rattle.task_crew.specs.Remaining.{AreRemains};
-ghost use Rattle.task_crew.specs.Said.{IsSaid};
+ghost use Rattle.task_crew.specs.Said.{IsSaid, AreSaid};
 
 use crate::body::{Body, Gate};
 use crate::crew::in_threads;
@@ -192,6 +192,7 @@ pub(crate) fn run_staff<
     requires books { AreAllParts shared.limits.phasers K.EventsByPhaser.parts K.UpByPhaser.parts K.DownByPhaser.parts }
     ensures remains { IfOk result (λ r. AreRemains shared.limits r.phasers.items r.finishes.items r.logs.items r.totals) }
     ensures says { IfOk result (λ r. K.Supposing.supposed → IsSaid B.Body.shows shared.limits r.phasers.items r.root) }
+    ensures each { IfOk result (λ r. K.Supposing.supposed → AreSaid K.Supposing.told shared.limits r.phasers.items r.logs.items) }
     ensures refused { IfErr result (λ e. IsRunRefused e) }
 {
     let Left {

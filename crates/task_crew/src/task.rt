@@ -1,9 +1,9 @@
 //! A task in flight: its body, what it knows of itself, what it has seen, and what it notes.
-ghost use Rattle.std.specs.Prelude.{◌≡◌, ◌<◌, ℕ, IfErr, length};
+ghost use Rattle.std.specs.Prelude.{◌≡◌, ◌<◌, ℕ, true, false, IfErr, IfSome, length};
 ghost use Rattle.table_receipts.specs.Logs.{GoesOn};
 ghost use Rattle.table_receipts.specs.Seen.{story_at};
-ghost use Rattle.task_crew.specs.Heard.{nothing, asked_by, IsSpawned, IsOwn};
-ghost use Rattle.task_crew.specs.inner.Ready.{Says, IsReady, HasSaid};
+ghost use Rattle.task_crew.specs.Heard.{nothing, ends, asked_by, IsSpawned, IsOwn};
+ghost use Rattle.task_crew.specs.inner.Ready.{Says, IsReady, HasSaid, IsTold, is_of_each};
 
 use crate::body::Body;
 use crate::diary::Diary;
@@ -19,8 +19,8 @@ use world_model::{Begun, Tried};
 #[derive(Drop)]
 pub(crate) struct Task<B: Body, K: RunNaming> {
     pub(crate) body: B,
-    /// What the body hears before its next act: that it starts, until something came of its last one.
-    pub(crate) answer: Answer,
+    /// What the body hears before its next act; nothing until something came of its last one.
+    pub(crate) answer: Option<Answer>,
     /// What it has seen of the phasers.
     pub(crate) fronts: Fronts<K>,
     /// Which phasers it holds, which finishes it has open, and what it is about.
@@ -28,6 +28,7 @@ pub(crate) struct Task<B: Body, K: RunNaming> {
     pub(crate) log: Diary,
     ghost all: { length fronts ≡ K.Logs.limits.phasers },
     ghost ready: { ∥ (K.Supposing.supposed → IsReady B.Body.shows body log.task answer (λ n. story_at fronts n)) ∥₁ },
+    ghost end: { log.ended ≡ true → ∥ (K.Supposing.supposed → Says B.Body.shows body log.task ends (λ n. story_at fronts n)) ∥₁ },
 }
 
 /// What moves between the queue, the locks and the workers: a task, with the child that it is
@@ -38,15 +39,22 @@ pub(crate) struct Item<B: Body, K: RunNaming> {
     pub(crate) unborn: Option<Box<Task<B, K>>>,
 }
 
-/// What the root leaves where the run is over: its log, its body as it stands then, and what it has
-/// seen.
+/// What a task leaves where it ends: its log, and what it has seen. Where it ends by itself, what its
+/// body said of that stays told.
 #[derive(Drop)]
-pub(crate) struct RootLeft<B: Body, K: RunNaming> {
+pub(crate) struct TaskLeft<K: RunNaming> {
     pub(crate) log: Diary,
-    pub(crate) body: B,
     pub(crate) fronts: Fronts<K>,
     ghost all: { length fronts ≡ K.Logs.limits.phasers },
-    ghost says: { ∥ (K.Supposing.supposed → HasSaid B.Body.shows body 0 (λ n. story_at fronts n)) ∥₁ },
+    ghost told: { log.ended ≡ true → ∥ (K.Supposing.supposed → IsTold K.Supposing.told log.task (λ n. story_at fronts n)) ∥₁ },
+}
+
+/// What the root leaves where the run is over: what each task does, and its body as it stands then.
+#[derive(Drop)]
+pub(crate) struct RootLeft<B: Body, K: RunNaming> {
+    pub(crate) left: TaskLeft<K>,
+    pub(crate) body: B,
+    ghost says: { ∥ (K.Supposing.supposed → HasSaid B.Body.shows body 0 (λ n. story_at left.fronts n)) ∥₁ },
 }
 
 impl<B: Body, K: RunNaming> Task<B, K> {
@@ -67,7 +75,7 @@ impl<B: Body, K: RunNaming> Task<B, K> {
         let log = Diary::new(alloc, number, acts)?;
         let task = Task {
             body,
-            answer: Answer::Started,
+            answer: Some(Answer::Started),
             fronts,
             standing: Standing::new(alloc, number, home)?,
             log,
@@ -115,15 +123,25 @@ impl<B: Body, K: RunNaming> Task<B, K> {
         self.log.task()
     }
 
-    /// The body's next act.
-    pub(crate) fn next_act(&mut self) -> Result<Act<B>, Refusal>
-        ensures says { ∥ (K.Supposing.supposed → B.Body.shows self.new.body self.new.log.task (asked_by result) (λ n. story_at self.new.fronts n)) ∥₁ }
-        ensures child { (child : B) (its : ℕ) → IsSpawned child result
-            → ∥ (K.Supposing.supposed → B.Body.shows child its nothing (λ n. story_at self.new.fronts n)) ∥₁ }
+    /// Whether it has begun to end: then its body gives no act more.
+    pub(crate) fn has_ended(&self) -> bool
+        ensures { result ≡ self.now.log.ended }
     {
-        let answer = self.answer;
-        self.answer = Answer::Started;
-        self.body.step(answer)
+        self.log.has_ended()
+    }
+
+    /// The body's next act, after what came of its last one; none where nothing did yet.
+    pub(crate) fn next_act(&mut self) -> Option<Result<Act<B>, Refusal>>
+        requires goes_on { self.old.log.ended ≡ false }
+        ensures says { IfSome result (λ act. ∥ (K.Supposing.supposed → B.Body.shows self.new.body self.new.log.task (asked_by act) (λ n. story_at self.new.fronts n)) ∥₁) }
+        ensures child { IfSome result (λ act. (child : B) (its : ℕ) → IsSpawned child act
+            → ∥ (K.Supposing.supposed → B.Body.shows child its nothing (λ n. story_at self.new.fronts n)) ∥₁) }
+    {
+        let Some(answer) = self.answer else {
+            return None;
+        };
+        self.answer = None;
+        Some(self.body.step(answer))
     }
 
     /// Runs the statement that the task has claimed.
@@ -133,8 +151,15 @@ impl<B: Body, K: RunNaming> Task<B, K> {
         self.body.single(number);
     }
 
-    /// Of this phaser it has seen so much, up to its own newest event, of which the body hears that it
-    /// is done. Of one that hears something else no more is seen.
+    /// Whether its body is about to hear of what comes phaser by phaser.
+    fn hears_of_each(&self) -> bool
+        ensures { result ≡ is_of_each self.now.answer }
+    {
+        matches!(self.answer, Some(Answer::Done | Answer::Spawned(_)))
+    }
+
+    /// Of this phaser it has seen so much, up to its own newest event, where its body is about to hear of
+    /// that. Where it isn't, no more is seen.
     pub(crate) fn note_own(&mut self, phaser: usize, seen: Front<K>)
         requires phaser { phaser < K.Logs.limits.phasers }
         requires log { seen.log ≡ K.Logs.logs phaser }
@@ -142,13 +167,14 @@ impl<B: Body, K: RunNaming> Task<B, K> {
         requires own { IsOwn self.old.log.task seen.story.past }
         ensures body { self.new.body ≡ self.old.body }
     {
-        if let Answer::Done = self.answer {
+        if self.hears_of_each() {
             self.fronts.set(phaser, seen);
         }
     }
 
     /// Logs that it begins this act. `ActsFull` where the log has no room for it.
     pub(crate) fn log_begun(&mut self, ticket: u64, begun: Begun) -> Result<(), Refusal>
+        requires end { begun ≡ Begun.End → ∥ (K.Supposing.supposed → Says B.Body.shows self.old.body self.old.log.task ends (λ n. story_at self.old.fronts n)) ∥₁ }
         ensures body { self.new.body ≡ self.old.body }
         ensures task { self.new.log.task ≡ self.old.log.task }
         ensures fronts { self.new.fronts ≡ self.old.fronts }
@@ -177,12 +203,6 @@ impl<B: Body, K: RunNaming> Task<B, K> {
         ensures fronts { self.new.fronts ≡ self.old.fronts }
     {
         self.log.note_failed(ticket, refusal)
-    }
-
-    /// Notes that its child of this number is born.
-    pub(crate) fn note_birth(&mut self, child: u32) {
-        self.standing.note_birth();
-        self.answer = Answer::Spawned(child);
     }
 }
 

@@ -1,19 +1,19 @@
 //! What the workers share, and what each has for itself.
 ghost use Rattle.std.specs.Prelude.{◌≡◌, ◌<◌, [], IfOk};
+ghost use Rattle.task_crew.specs.inner.Ready.{Tells};
 ghost use Rattle.task_queue.specs.Accounts.{IsSeatOf};
 
 use crate::body::Body;
-use crate::diary::Diary;
 use crate::naming::RunNaming;
-use crate::task::{Item, RootLeft};
+use crate::task::{Item, RootLeft, TaskLeft};
 use crossbeam_utils::CachePadded;
 use phase_modes::{Limits, Refusal};
 use scope_locks::{FinishTable, Out, Tickets};
 use share_book::Shares;
 use std::alloc::Global;
 use std::collections::VecDeque;
-use std::sync::Wait;
 use std::sync::atomic::{AtomicU64, Ordering};
+use std::sync::{Mutex, Wait};
 use table_receipts::{Caller, ReceiptTable};
 use task_queue::{RunQueue, Seat};
 
@@ -59,12 +59,14 @@ pub(crate) struct Shared<B: Body, K: RunNaming> {
     pub(crate) alloc: Global,
     pub(crate) limits: Limits,
     pub(crate) phasers: ReceiptTable<Item<B, K>, K>,
-    pub(crate) finishes: FinishTable<Item<B, K>, Diary>,
+    /// What tasks left is behind a lock each, since what was seen is lent to no second thread.
+    pub(crate) finishes: FinishTable<Item<B, K>, Mutex<TaskLeft<K>>>,
     pub(crate) queue: RunQueue<Item<B, K>>,
     pub(crate) tickets: Tickets,
     pub(crate) numbers: Numbers,
     ghost limited: { limits ≡ K.Logs.limits },
     ghost all: { phasers.phasers ≡ K.Logs.limits.phasers },
+    ghost tells: { ∥ Tells B.Body.shows K.Supposing.told ∥₁ },
 }
 
 /// What a worker has for itself, before and after it works.

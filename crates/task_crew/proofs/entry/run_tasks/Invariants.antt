@@ -2,6 +2,7 @@ use Rattle.std.proofs.Common.{ℕ}
 use Rattle.phase_model.specs.Rules.{Story}
 use Rattle.table_receipts.proofs.Names.{name_at}
 use Rattle.task_crew.specs.Heard.{nothing}
+use Rattle.task_crew.specs.Said.{IsSaidOf}
 use Rattle.task_crew.proofs.entry.run_tasks.Given as goal
 
 abbrev pub ghosts-run_over-EP-Ledger : goal.ghosts-run_over-EP-Ledger
@@ -29,6 +30,9 @@ ghosts-run_over-RM-Ledger g a = record { name = a.blanks.room.name; parts = a.bl
 abbrev pub ghosts-run_over-L-Logs : goal.ghosts-run_over-L-Logs
 ghosts-run_over-L-Logs g a = record { logs = λ n. name_at (λ w. w.name) a.logs.items n; limits = a.limits }
 
--- the root says nothing false at its start
+-- the root says nothing false at its start; and a body has said at its end what is told of a task
 abbrev pub ghosts-run_over-L-Supposing : goal.ghosts-run_over-L-Supposing
-ghosts-run_over-L-Supposing g a = record { supposed = (seen : ℕ → Story) → g.B.Body.shows a.root 0 nothing seen }
+ghosts-run_over-L-Supposing g a = record {
+  supposed = (seen : ℕ → Story) → g.B.Body.shows a.root 0 nothing seen;
+  told = IsSaidOf g.B.Body.shows;
+}

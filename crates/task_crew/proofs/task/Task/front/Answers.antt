@@ -1,8 +1,14 @@
 use Rattle.std.proofs.Common.{refl}
-use Rattle.task_crew.proofs.Saying.{ready_kept}
+use Rattle.task_crew.specs.Heard.{ends}
+use Rattle.task_crew.proofs.Saying.{ready_kept, says_kept}
 use Rattle.task_crew.proofs.task.Task.front.Goals as goal
 
 pub invariant_of-self-clause-ready : goal.invariant_of-self-clause-ready
 invariant_of-self-clause-ready g c =
     let old = c.args.self.now in
     ready_kept g.B.Body.shows old.body old.body old.log.task old.log.task old.answer old.fronts c.get.new.self refl refl c.get.ensures.same old.ready
+
+pub invariant_of-self-clause-end : goal.invariant_of-self-clause-end
+invariant_of-self-clause-end g c = λ ended.
+    let old = c.args.self.now in
+    says_kept g.B.Body.shows old.body old.body old.log.task old.log.task ends old.fronts c.get.new.self refl refl c.get.ensures.same (old.end ended)

@@ -1,4 +1,4 @@
-use Rattle.std.proofs.Common.{ℕ, ◌≡◌, Ok, refl, sym, ap, subst, ◌∙◌}
+use Rattle.std.proofs.Common.{ℕ, ◌≡◌, Ok, Some, refl, sym, ap, subst, ◌∙◌}
 use Rattle.phase_model.specs.declared.call.Call.TheVariants as calls
 use Rattle.phase_model.specs.Rules.{Story}
 use Rattle.job_script.specs.declared.act.Answer.TheVariants.{Made}
@@ -6,9 +6,9 @@ use Rattle.table_receipts.specs.Seen.{story_at}
 use Rattle.table_receipts.specs.Told.{IsMade}
 use Rattle.table_receipts.proofs.Goes.{made_goes}
 use Rattle.table_receipts.proofs.Stories.{seen_more}
-use Rattle.task_crew.specs.Heard.{make, HasMade}
+use Rattle.task_crew.specs.Heard.{make, HasMade, ends}
 use Rattle.task_crew.proofs.Heard.{has_made}
-use Rattle.task_crew.proofs.Saying.{shows_kept, ready_seen}
+use Rattle.task_crew.proofs.Saying.{shows_kept, ready_seen, says_kept, says_more}
 use Rattle.task_crew.proofs.worker.Shared.make_on.Goals as goal
 
 pub invariant_of-task-2-clause-ready : goal.invariant_of-task-2-clause-ready
@@ -31,8 +31,26 @@ invariant_of-task-2-clause-ready g c =
     (made_goes (Ok tt) t m terms before now told) in
     let here : story_at ys n ≡ now = ap (λ (k : ℕ). story_at ys k) (sym place) ∙ c.set.ensures.here in
     let own : t ≡ mid.log.task = c.number-maker.ensures ∙ sym c.front-me.ensures.task in
-    ready_seen g.B.Body.shows mid.body mid.log.task (make m terms) (Made n) (λ k. story_at old.fronts k) (λ k. story_at ys k) more.0
+    ready_seen g.B.Body.shows mid.body mid.log.task (make m terms) (Some (Made n)) (λ k. story_at old.fronts k) (λ k. story_at ys k) more.0
     (subst (λ (k : ℕ). HasMade k m terms (story_at ys n)) own
     (subst (λ (s : Story). HasMade t m terms s) (sym here) (has_made before now t m terms told)))
     (shows_kept g.B.Body.shows old.body mid.body old.log.task mid.log.task (make m terms) old.fronts old.fronts
     c.front-me.ensures.body c.front-me.ensures.task refl c.requires.says)
+
+pub invariant_of-task-2-clause-end : goal.invariant_of-task-2-clause-end
+invariant_of-task-2-clause-end g c = λ ended.
+    let m = c.args.mode in
+    let terms = c.args.terms.now in
+    let t = c.number-maker.result in
+    let old = c.args.task.now in
+    let mid = c.front-me.new.self in
+    let ys = c.set.new.self in
+    let n = c.args.phaser in
+    let before = c.front-me.result.story in
+    let now = c.make.new.me.story in
+    let place = c.in_ok-number.ensures.same in
+    let more =
+    seen_more old.fronts mid.fronts ys c.in_ok-number.number n before now c.front-me.ensures.fronts place
+    c.front-me.ensures.story c.set.ensures.here c.set.ensures.others (made_goes c.make.result t m terms c.front-me.result.story c.make.new.me.story c.make.ensures.told) in
+    says_more g.B.Body.shows mid.body mid.log.task ends (λ k. story_at old.fronts k) (λ k. story_at ys k) more.0
+    (says_kept g.B.Body.shows mid.body mid.body mid.log.task mid.log.task ends mid.fronts old.fronts refl refl (sym c.front-me.ensures.fronts) (mid.end ended))

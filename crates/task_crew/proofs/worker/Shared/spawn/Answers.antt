@@ -1,5 +1,5 @@
-use Rattle.std.proofs.Common.{ap, ◌∙◌}
-use Rattle.job_script.specs.declared.act.Answer.TheVariants.{Done}
+use Rattle.std.proofs.Common.{Some, ap, ◌∙◌}
+use Rattle.job_script.specs.declared.act.Answer.TheVariants.{Spawned}
 use Rattle.table_receipts.specs.Seen.{story_at}
 use Rattle.task_crew.specs.Heard.{nothing}
 use Rattle.task_crew.proofs.Saying.{says_now, says_there, ready_kept}
@@ -17,8 +17,9 @@ begin-requires g c =
     let old = c.args.item.now.task.value in
     let new = c.deref_mut-2.result.now in
     record {
-      ready = ready_kept g.B.Body.shows old.body new.body old.log.task new.log.task Done old.fronts new.fronts
+      ready = ready_kept g.B.Body.shows old.body new.body old.log.task new.log.task (Some (Spawned c.task-number.result)) old.fronts new.fronts
           (ap (λ t. t.body) c.deref_mut-2.ensures.value ∙ (c.child.ensures.body ∙ ap (λ t. t.body) c.deref_mut.ensures.value))
           (ap (λ t. t.log.task) c.deref_mut-2.ensures.value ∙ (c.child.ensures.task ∙ ap (λ t. t.log.task) c.deref_mut.ensures.value))
-          (ap (λ t. t.fronts) c.deref_mut-2.ensures.value ∙ (c.child.ensures.fronts ∙ ap (λ t. t.fronts) c.deref_mut.ensures.value)) c.requires.ready;
+          (ap (λ t. t.fronts) c.deref_mut-2.ensures.value ∙ (c.child.ensures.fronts ∙ ap (λ t. t.fronts) c.deref_mut.ensures.value)) (c.requires.ready c.task-number.result);
+      end = λ is. absurd (cc is);
     }
