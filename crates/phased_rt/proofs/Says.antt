@@ -1,19 +1,22 @@
--- What the root's body says of the parts it says of the trace.
-use Rattle.std.proofs.Common.{◌≡◌, ℕ, zero, suc, ◌+◌, ◌<◌, false, List, [], ◌∷◌, length, map, reverse, Some, slice_get, refl, sym, ap, ◌∙◌, arith}
-use Rattle.std.specs.List.{range_with_len}
+-- What bodies say of the parts they say of the trace.
+use Rattle.std.proofs.Common.{◌≡◌, ◌≢◌, ◌⊎◌, inl, inr, ℕ, zero, suc, ◌+◌, ◌<◌, ◌==◌, true, List, [], ◌∷◌, length, map, reverse, Some, slice_get, sym, ap, subst, ◌∙◌, arith}
+use Rattle.std.specs.List.{All, range_with_len}
+use Rattle.std.proofs.lemmas.Bool.{cases_Bool, eqb-true, eq-eqb, true≢false}
+use Rattle.std.proofs.lemmas.List.Elements.{All-nil, All-cons, All-head, All-tail}
 use Rattle.std.proofs.lemmas.Option.{same_Some}
 use Rattle.std.proofs.Math.Logic.{∥∥₁_map}
 use Rattle.phase_modes.specs.declared.limits.Limits.{Limits}
 use Rattle.phase_model.specs.Rules.{Story}
 use Rattle.trace_model.specs.Explained.{past}
-use Rattle.trace_model.specs.Projections.{phaser, projection}
+use Rattle.trace_model.specs.Projections.{phaser, log, projection, AreOf}
 use Rattle.trace_model.specs.Run.{Entry}
-use Rattle.trace_model.specs.Told.{phaser_told}
 use Rattle.table_receipts.specs.Logs.{GoesOn}
-use Rattle.table_receipts.specs.Parts.{IsToldAt}
+use Rattle.table_receipts.specs.Parts.{IsToldAt, HasShown}
 use Rattle.table_receipts.proofs.Goes.{some_more}
-use Rattle.task_crew.specs.Said.{Saying, IsSaid}
-use Rattle.phased_rt.specs.Says.{story_in, SaysOfTrace}
+use Rattle.task_crew.specs.Heard.{Asked}
+use Rattle.task_crew.specs.Remaining.{AreLogsOf}
+use Rattle.task_crew.specs.Said.{Saying, IsSaid, IsSaidOf, AreSaid, has_end}
+use Rattle.phased_rt.specs.Says.{story_in, SaysOfTrace, SaysOfEach}
 use Rattle.phased_rt.proofs.Limited.{IsHad, told_is_had}
 
 -- what a list of all numbers from k on has at place n
@@ -34,11 +37,17 @@ goes_had l es n a s goes limits had = (
   λ some. had.terms (some_more goes.1.0 a.past s.past goes.1.1 some) ∙ goes.2 some,
 )
 
-pub says_of_trace : {B : Type 0} (Shows : Saying B) (l : Limits) (parts : List (List Entry)) (es : List Entry) (root : B)
+-- the parts tell these stories, which are legal under these limits
+abbrev AreStories : Limits → List (List Entry) → (ℕ → Story) → Type 0
+AreStories l parts stories = (n : ℕ) → n < length parts → IsToldAt n (stories n) parts × ((stories n).limits ≡ l)
+
+-- what is said of beginnings of the parts' stories is said of the trace
+shown_of_trace : {G : Type 0} (Shows : G → (ℕ → Story) → Type 0) (l : Limits) (parts : List (List Entry)) (es : List Entry) (stories : ℕ → Story)
     → map (λ n. projection (phaser n) es) (range_with_len 0 (length parts)) ≡ parts → length parts ≡ l.phasers
-    → IsSaid Shows l parts root → SaysOfTrace Shows l es root
-says_of_trace Shows l parts es root traced many said =
-    ∥∥₁_map said.2 (λ x. (x.0, x.1, λ n lt. begins n (x.0 n) (omega (arith, lt, many)) (x.2 n (omega (arith, lt, many)))))
+    → AreStories l parts stories
+    → (x : G) → ∥ HasShown Shows (length parts) stories x ∥₁ → ∥ HasShown Shows l.phasers (λ n. story_in l es n) x ∥₁
+shown_of_trace Shows l parts es stories traced many are x shown =
+    ∥∥₁_map shown (λ s. (s.0, s.1, λ n lt. begins n (s.0 n) (omega (arith, lt, many)) (s.2 n (omega (arith, lt, many)))))
   where
     own : (n : ℕ) → n < length parts → Some (projection (phaser n) es) ≡ slice_get parts n
     own n lt =
@@ -47,9 +56,58 @@ says_of_trace Shows l parts es root traced many said =
         ∙ (sym (at_place (λ m. projection (phaser m) es) 0 (length parts) n lt)
         ∙ ap (λ (ps : List (List Entry)). slice_get ps n) traced)
 
-    begins : (n : ℕ) (a : Story) → n < length parts → GoesOn a (said.0 n) → GoesOn a (story_in l es n)
+    begins : (n : ℕ) (a : Story) → n < length parts → GoesOn a (stories n) → GoesOn a (story_in l es n)
     begins n a lt goes =
-        let told = said.1 n lt in
+        let told = are n lt in
         let part = told.0 in
-        goes_had l es n a (said.0 n) goes told.1
-        (told_is_had n (said.0 n) part.0 es (same_Some _ _ (own n lt ∙ part.1)) part.2 part.3)
+        goes_had l es n a (stories n) goes told.1
+        (told_is_had n (stories n) part.0 es (same_Some _ _ (own n lt ∙ part.1)) part.2 part.3)
+
+pub says_of_trace : {B : Type 0} (Shows : Saying B) (l : Limits) (parts : List (List Entry)) (es : List Entry) (root : B)
+    → map (λ n. projection (phaser n) es) (range_with_len 0 (length parts)) ≡ parts → length parts ≡ l.phasers
+    → IsSaid Shows l parts root → SaysOfTrace Shows l es root
+says_of_trace {B} Shows l parts es root traced many said =
+    shown_of_trace (λ (b : B) seen. (asked : Asked) × Shows b 0 asked seen) l parts es said.0 traced many said.1 root said.2
+
+head_same : {X : Type 0} (x y : X) (xs ys : List X) → x ∷ xs ≡ y ∷ ys → x ≡ y
+head_same x y xs ys same = cc
+
+tail_same : {X : Type 0} (x y : X) (xs ys : List X) → x ∷ xs ≡ y ∷ ys → xs ≡ ys
+tail_same x y xs ys same = cc
+
+-- this is so of the trace's entries of this task, which are a part of their own, or the task is none of these
+part_or_none : (Is : List Entry → Type 0) (es : List Entry) (t : ℕ) (ts : List ℕ) (ps : List (List Entry))
+    → map (λ u. projection (log u) es) ts ≡ ps → AreLogsOf ts ps → All Is ps
+    → (Is (projection (log t) es) × AreOf (log t) (projection (log t) es)) ⊎ All (λ u. u ≢ t) ts
+part_or_none Is es t [] ps traced own all = inr (All-nil (λ u. u ≢ t))
+part_or_none Is es t (u ∷ us) [] traced own all = absurd own
+part_or_none Is es t (u ∷ us) (p ∷ ps) traced own all =
+    elim (cases_Bool (u == t)) [
+      | inl same ↦ inl (subst (λ (v : ℕ). Is (projection (log v) es) × AreOf (log v) (projection (log v) es)) (eqb-true u t same) here)
+      | inr other ↦ elim (part_or_none Is es t us ps (tail_same _ _ _ _ traced) own.1 (All-tail Is p ps all)) [
+        | inl is ↦ inl is
+        | inr others ↦ inr (All-cons (λ v. v ≢ t) u us (λ same. true≢false (sym (eq-eqb u t same) ∙ other)) others)
+      ]
+    ]
+  where
+    here : Is (projection (log u) es) × AreOf (log u) (projection (log u) es)
+    here = (
+      subst Is (sym (head_same _ _ _ _ traced)) (All-head Is p ps all),
+      subst (λ (q : List Entry). AreOf (log u) q) (sym (head_same _ _ _ _ traced)) own.0,
+    )
+
+-- what is told of each task whose log has its end is told of each that has ended in the trace, which has each log as it
+-- was left, and no entry of others
+pub each_of_trace : {B : Type 0} (Shows : Saying B) (l : Limits) (parts logs : List (List Entry)) (owners : List ℕ) (es : List Entry)
+    → map (λ n. projection (phaser n) es) (range_with_len 0 (length parts)) ≡ parts → length parts ≡ l.phasers
+    → map (λ t. projection (log t) es) owners ≡ logs → AreLogsOf owners logs
+    → ((t : ℕ) → All (λ u. u ≢ t) owners → projection (log t) es ≡ [])
+    → AreSaid (IsSaidOf Shows) l parts logs → SaysOfEach Shows l es
+each_of_trace {B} Shows l parts logs owners es traced many left own none said t ended =
+    elim (part_or_none Is es t owners logs left own said.2) [
+      | inl is ↦ shown_of_trace (IsSaidOf Shows) l parts es said.0 traced many said.1 t (is.0 t is.1 ended)
+      | inr others ↦ absurd (true≢false (sym ended ∙ ap has_end (none t others)))
+    ]
+  where
+    Is : List Entry → Type 0
+    Is p = (task : ℕ) → AreOf (log task) p → has_end p ≡ true → ∥ HasShown (IsSaidOf Shows) (length parts) said.0 task ∥₁

@@ -7,7 +7,7 @@ use Rattle.phase_model.specs.Amounts.{Amount}
 use Rattle.share_book.specs.declared.gathering.Totals.{Totals}
 use Rattle.world_model.specs.Report.{below}
 use Rattle.trace_model.specs.Run.{Entry}
-use Rattle.trace_model.specs.Parts.{IsTraceOf}
+use Rattle.trace_model.specs.Parts.{IsTraceOf, StandIn}
 use Rattle.trace_model.specs.Projections.{Whose, phaser, finish, log, whose, projection, AreOf, AreNotOf}
 use Rattle.trace_model.proofs.Owners.{projection_is_part}
 use Rattle.scope_locks.specs.Telling.{ArePhaserParts, AreFinishParts}
@@ -165,20 +165,43 @@ finishes_traced l es t told =
     (finishes_from told.phasers told.finishes told.logs told.owners told.sums told.ended es told.merged
     told.of_phasers told.of_finishes told.of_tasks)
 
+-- no phaser's part and no finish's is of a task's log
+no_logs : (u : ℕ) (phasers finishes : List (List Entry)) (sums : List Amount) (ended : List ℕ)
+    → ArePhaserParts 0 phasers sums → AreFinishParts 0 finishes ended → All (AreNotOf (log u)) (phasers ++ finishes)
+no_logs u phasers finishes sums ended of_phasers of_finishes =
+    All-append (AreNotOf (log u)) phasers finishes
+    (of_others phaser (log u) 0 phasers (λ n from same. log_no_phaser u n (sym same)) (phasers_owned 0 phasers sums of_phasers))
+    (of_others finish (log u) 0 finishes (λ f from same. log_no_finish u f (sym same)) (finishes_owned 0 finishes ended of_finishes))
+
+-- by the parts alone
+pub logs_from : (phasers finishes logs : List (List Entry)) (owners : List ℕ) (sums : List Amount) (ended : List ℕ) (es : List Entry)
+    → IsTraceOf ((phasers ++ finishes) ++ logs) es → ArePhaserParts 0 phasers sums → AreFinishParts 0 finishes ended
+    → AreLogsOf owners logs → AreDifferent owners
+    → map (λ u. projection (log u) es) owners ≡ logs
+logs_from phasers finishes logs owners sums ended es merged of_phasers of_finishes of_tasks of_each =
+    each_log_traced owners (phasers ++ finishes) logs es merged of_tasks of_each (of_all owners)
+  where
+    of_all : (us : List ℕ) → All (λ u. All (AreNotOf (log u)) (phasers ++ finishes)) us
+    of_all [] = All-nil (λ u. All (AreNotOf (log u)) (phasers ++ finishes))
+    of_all (u ∷ us) =
+        All-cons (λ v. All (AreNotOf (log v)) (phasers ++ finishes)) u us
+        (no_logs u phasers finishes sums ended of_phasers of_finishes) (of_all us)
+
 pub logs_traced : (l : Limits) (es : List Entry) (t : Totals) (told : IsToldBy l es t)
     → map (λ u. projection (log u) es) told.owners ≡ told.logs
 logs_traced l es t told =
-    each_log_traced told.owners (told.phasers ++ told.finishes) told.logs es told.merged told.of_tasks told.of_each
-    (of_all told.owners)
-  where
-    none : (u : ℕ) → All (AreNotOf (log u)) (told.phasers ++ told.finishes)
-    none u =
-        All-append (AreNotOf (log u)) told.phasers told.finishes
-        (of_others phaser (log u) 0 told.phasers (λ n from same. log_no_phaser u n (sym same))
-        (phasers_owned 0 told.phasers told.sums told.of_phasers))
-        (of_others finish (log u) 0 told.finishes (λ f from same. log_no_finish u f (sym same))
-        (finishes_owned 0 told.finishes told.ended told.of_finishes))
+    logs_from told.phasers told.finishes told.logs told.owners told.sums told.ended es told.merged
+    told.of_phasers told.of_finishes told.of_tasks told.of_each
 
-    of_all : (us : List ℕ) → All (λ u. All (AreNotOf (log u)) (told.phasers ++ told.finishes)) us
-    of_all [] = All-nil (λ u. All (AreNotOf (log u)) (told.phasers ++ told.finishes))
-    of_all (u ∷ us) = All-cons (λ v. All (AreNotOf (log v)) (told.phasers ++ told.finishes)) u us (none u) (of_all us)
+-- a task that left none of the logs has no entry in the trace
+pub none_of_task : (t : ℕ) (phasers finishes logs : List (List Entry)) (owners : List ℕ) (sums : List Amount) (ended : List ℕ) (es : List Entry)
+    → IsTraceOf ((phasers ++ finishes) ++ logs) es → ArePhaserParts 0 phasers sums → AreFinishParts 0 finishes ended
+    → AreLogsOf owners logs → All (λ u. u ≢ t) owners
+    → projection (log t) es ≡ []
+none_of_task t phasers finishes logs owners sums ended es merged of_phasers of_finishes of_tasks other =
+    let parts = (phasers ++ finishes) ++ logs in
+    let longer : IsTraceOf ([] ∷ parts) es =
+    record { as_often = merged.as_often; in_order = All-cons (λ p. StandIn p es) [] parts tt merged.in_order } in
+    projection_is_part (log t) [] [] parts es longer (All-nil (λ (e : Entry). whose e.1 ≡ log t))
+    (All-append (AreNotOf (log t)) (phasers ++ finishes) logs
+    (no_logs t phasers finishes sums ended of_phasers of_finishes) (of_other_logs t owners logs other of_tasks))

@@ -1,13 +1,14 @@
--- What the root's body says of a run's trace.
-use Rattle.std.specs.Prelude.{◌≡◌, ℕ, ◌<◌, List, reverse}
+-- What bodies say of a run's trace.
+use Rattle.std.specs.Prelude.{◌≡◌, ℕ, true, List, reverse}
 use Rattle.phase_modes.specs.declared.limits.Limits.{Limits}
 use Rattle.phase_model.specs.Rules.{Story}
 use Rattle.world_model.specs.Parts.{phaser_past, terms_of}
 use Rattle.trace_model.specs.Explained.{past}
+use Rattle.trace_model.specs.Projections.{log, projection}
 use Rattle.trace_model.specs.Run.{Entry}
 use Rattle.table_receipts.specs.Parts.{HasShown}
 use Rattle.task_crew.specs.Heard.{Asked}
-use Rattle.task_crew.specs.Said.{Saying}
+use Rattle.task_crew.specs.Said.{Saying, IsSaidOf, has_end}
 
 -- the story that the trace tells of phaser n
 abbrev pub story_in : Limits → List Entry → ℕ → Story
@@ -19,3 +20,13 @@ story_in l es n =
 abbrev pub SaysOfTrace : {B : Type 0} → Saying B → Limits → List Entry → B → Type 0
 SaysOfTrace Shows l es root =
     ∥ HasShown (λ b seen. (asked : Asked) × Shows b 0 asked seen) l.phasers (λ n. story_in l es n) root ∥₁
+
+-- in the trace this task has begun to end
+abbrev pub HasEnded : ℕ → List Entry → Type 0
+HasEnded task es = has_end (projection (log task) es) ≡ true
+
+-- of each task that has ended a body, which was its own and has asked for its end, says this of what the task had seen of
+-- each phaser, which begins the story that the trace tells
+abbrev pub SaysOfEach : {B : Type 0} → Saying B → Limits → List Entry → Type 0
+SaysOfEach Shows l es =
+    (task : ℕ) → HasEnded task es → ∥ HasShown (IsSaidOf Shows) l.phasers (λ n. story_in l es n) task ∥₁

@@ -7,7 +7,7 @@ ghost use Rattle.trace_model.specs.Explained.{past, is_explained};
 ghost use Rattle.task_crew.specs.Heard.{nothing};
 ghost use Rattle.task_crew.specs.Refused.{IsRunRefused};
 ghost use Rattle.phased_rt.specs.Left.{IsLeftByAll};
-ghost use Rattle.phased_rt.specs.Says.{SaysOfTrace};
+ghost use Rattle.phased_rt.specs.Says.{SaysOfTrace, SaysOfEach};
 ghost use Rattle.phased_rt.specs.Told.{IsToldBy};
 ghost use Rattle.phased_rt.specs.Totals.{AreTotals};
 
@@ -41,6 +41,7 @@ pub fn run_and_ask<B: Body + Send, G: Gate + Sync, Q: Question + Sync, R: Thread
     ensures told { IfOk result (λ r. IsToldBy limits r.0.trace.events r.0.totals) }
     ensures totals { IfOk result (λ r. AreTotals limits r.0.trace.events r.0.world.totals r.0.totals) }
     ensures says { IfOk result (λ r. ((seen : ℕ → Story) → B.shows root 0 nothing seen) → SaysOfTrace B.shows limits r.0.trace.events r.0.root) }
+    ensures each { IfOk result (λ r. ((seen : ℕ → Story) → B.shows root 0 nothing seen) → SaysOfEach B.shows limits r.0.trace.events) }
     ensures answered { IfOk result (λ r. Q.answers question.now r.0.trace r.1) }
     ensures refused { IfErr result (λ e. IsRunRefused e) }
 {

@@ -22,8 +22,9 @@
 //! logs, a world explains it, and the report is that of its history: each wait of it passed when its
 //! phase was closed, and each fold is of exactly the values sent. Its parts are what the locks held,
 //! as far as bodies heard of them: what the root's body says of what its task made, sent, saw, signalled
-//! and passed is said of the trace (`says`). The contract says no more than the trace does: not that it
-//! ends, nor in which order tasks go on.
+//! and passed is said of the trace (`says`), and so is what the body of each task said that ended by
+//! itself (`each`). The contract says no more than the trace does: not that it ends, nor in which order
+//! tasks go on.
 #![tactic(auto)]
 
 mod asked;

@@ -7,7 +7,7 @@ ghost use Rattle.trace_model.specs.Explained.{past, is_explained};
 ghost use Rattle.task_crew.specs.Heard.{nothing};
 ghost use Rattle.task_crew.specs.Refused.{IsRunRefused};
 ghost use Rattle.phased_rt.specs.Left.{IsLeftByAll};
-ghost use Rattle.phased_rt.specs.Says.{SaysOfTrace};
+ghost use Rattle.phased_rt.specs.Says.{SaysOfTrace, SaysOfEach};
 ghost use Rattle.phased_rt.specs.Told.{IsToldBy};
 ghost use Rattle.phased_rt.specs.Totals.{AreTotals};
 
@@ -45,6 +45,7 @@ pub fn run<B: Body + Send, G: Gate + Sync, R: Threads + Wait + Sync>(
     ensures told { IfOk result (λ r. IsToldBy limits r.trace.events r.totals) }
     ensures totals { IfOk result (λ r. AreTotals limits r.trace.events r.world.totals r.totals) }
     ensures says { IfOk result (λ r. ((seen : ℕ → Story) → B.shows root 0 nothing seen) → SaysOfTrace B.shows limits r.trace.events r.root) }
+    ensures each { IfOk result (λ r. ((seen : ℕ → Story) → B.shows root 0 nothing seen) → SaysOfEach B.shows limits r.trace.events) }
     ensures refused { IfErr result (λ e. IsRunRefused e) }
 {
     let remains = run_tasks(rt, alloc, root, limits, workers, gate)?;

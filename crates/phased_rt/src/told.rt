@@ -5,9 +5,9 @@ ghost use Rattle.world_model.specs.Report.{report_of};
 ghost use Rattle.trace_model.specs.Explained.{past, is_explained};
 ghost use Rattle.task_crew.specs.Refused.{IsRunRefused};
 ghost use Rattle.task_crew.specs.Remaining.{AreRemains};
-ghost use Rattle.task_crew.specs.Said.{IsSaid};
+ghost use Rattle.task_crew.specs.Said.{IsSaid, AreSaid, IsSaidOf};
 ghost use Rattle.phased_rt.specs.Left.{IsLeftByAll};
-ghost use Rattle.phased_rt.specs.Says.{SaysOfTrace};
+ghost use Rattle.phased_rt.specs.Says.{SaysOfTrace, SaysOfEach};
 ghost use Rattle.phased_rt.specs.Told.{IsToldBy};
 ghost use Rattle.phased_rt.specs.Totals.{AreTotals};
 
@@ -51,6 +51,7 @@ pub(crate) fn told_of<B: Body, Q: Question + Sync, R: Threads>(
     ensures told { IfOk result (λ r. IsToldBy limits r.0.trace.events r.0.totals) }
     ensures totals { IfOk result (λ r. AreTotals limits r.0.trace.events r.0.world.totals r.0.totals) }
     ensures says { IfOk result (λ r. IsSaid B.shows limits remains.phasers.items remains.root → SaysOfTrace B.shows limits r.0.trace.events r.0.root) }
+    ensures each { IfOk result (λ r. AreSaid (IsSaidOf B.shows) limits remains.phasers.items remains.logs.items → SaysOfEach B.shows limits r.0.trace.events) }
     ensures answered { IfOk result (λ r. Q.answers question.now r.0.trace r.1) }
     ensures refused { IfErr result (λ e. IsRunRefused e) }
 {

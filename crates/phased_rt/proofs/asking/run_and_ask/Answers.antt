@@ -2,8 +2,8 @@ use Rattle.std.proofs.Common.{ℕ}
 use Rattle.std.proofs.lemmas.Result.{IfOk-weaker}
 use Rattle.phase_model.specs.Rules.{Story}
 use Rattle.task_crew.specs.Heard.{nothing}
-use Rattle.task_crew.specs.Said.{IsSaid}
-use Rattle.phased_rt.specs.Says.{SaysOfTrace}
+use Rattle.task_crew.specs.Said.{IsSaid, AreSaid, IsSaidOf}
+use Rattle.phased_rt.specs.Says.{SaysOfTrace, SaysOfEach}
 use Rattle.phased_rt.proofs.asking.run_and_ask.Goals as goal
 
 -- what the root's body says of the parts it says of the trace
@@ -16,3 +16,14 @@ returns-clause-says g c =
     (λ r. ((seen : ℕ → Story) → g.B.Body.shows c.args.root 0 nothing seen) → SaysOfTrace g.B.Body.shows limits r.0.trace.events r.0.root)
     (λ r says root. says (c.in_ok-remains.ensures.says root))
     c.told_of.ensures.says
+
+-- and what other tasks' bodies do
+pub returns-clause-each : goal.returns-clause-each
+returns-clause-each g c =
+    let left = c.in_ok-remains.remains in
+    let limits = c.args.limits in
+    IfOk-weaker c.told_of.result
+    (λ r. AreSaid (IsSaidOf g.B.Body.shows) limits left.phasers.items left.logs.items → SaysOfEach g.B.Body.shows limits r.0.trace.events)
+    (λ r. ((seen : ℕ → Story) → g.B.Body.shows c.args.root 0 nothing seen) → SaysOfEach g.B.Body.shows limits r.0.trace.events)
+    (λ r says root. says (c.in_ok-remains.ensures.each root))
+    c.told_of.ensures.each

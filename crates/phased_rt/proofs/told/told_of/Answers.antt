@@ -7,9 +7,9 @@ use Rattle.trace_model.specs.Run.{Entry}
 use Rattle.trace_model.proofs.Legal.{explained_legal}
 use Rattle.phased_rt.proofs.FinishesLimited.{all_within}
 use Rattle.phased_rt.proofs.Limited.{all_limited}
-use Rattle.phased_rt.proofs.Says.{says_of_trace}
+use Rattle.phased_rt.proofs.Says.{says_of_trace, each_of_trace}
 use Rattle.phased_rt.proofs.Totalled.{told_totals}
-use Rattle.phased_rt.proofs.Traced.{phasers_from, finishes_from}
+use Rattle.phased_rt.proofs.Traced.{phasers_from, finishes_from, logs_from, none_of_task}
 use Rattle.phased_rt.proofs.told.told_of.Goals as goal
 
 pub returns-clause-told : goal.returns-clause-told
@@ -70,3 +70,21 @@ returns-clause-says g c = λ said.
     says_of_trace g.B.Body.shows c.args.limits phasers es remains.root
     (phasers_from phasers remains.finishes.items remains.logs.items left.owners left.sums left.ended es merged left.of_phasers left.of_finishes left.of_tasks)
     left.all_phasers said
+
+-- and what is told of each task whose log has its end is told of each that has ended
+pub returns-clause-each : goal.returns-clause-each
+returns-clause-each g c = λ said.
+    let left = c.requires.remains in
+    let remains = c.args.remains in
+    let together = c.deref.ensures.value ∙ c.in_ok-parts.ensures.parts in
+    let es = c.in_ok-world.trace.events in
+    let phasers = remains.phasers.items in
+    let finishes = remains.finishes.items in
+    let logs = remains.logs.items in
+    let merged = subst (λ (ps : List (List Entry)). IsTraceOf ps es) together c.in_ok-world.ensures.of_parts in
+    each_of_trace g.B.Body.shows c.args.limits phasers logs left.owners es
+    (phasers_from phasers finishes logs left.owners left.sums left.ended es merged left.of_phasers left.of_finishes left.of_tasks)
+    left.all_phasers
+    (logs_from phasers finishes logs left.owners left.sums left.ended es merged left.of_phasers left.of_finishes left.of_tasks left.of_each)
+    left.of_tasks
+    (λ t others. none_of_task t phasers finishes logs left.owners left.sums left.ended es merged left.of_phasers left.of_finishes left.of_tasks others) said
