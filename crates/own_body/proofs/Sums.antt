@@ -17,11 +17,11 @@ use Rattle.trace_model.specs.Run.{Entry}
 use Rattle.long_receipts.specs.Told.{HasLooked}
 use Rattle.table_receipts.specs.Logs.{GoesOn}
 use Rattle.job_script.specs.declared.act.Answer.{Answer}
-use Rattle.job_script.specs.declared.act.Answer.TheVariants.{Saw}
-use Rattle.task_crew.specs.Heard.{Asked, look, IsAnswerTo}
+use Rattle.job_script.specs.declared.act.Answer.TheVariants.{Started, Done, Made, Spawned, Saw}
+use Rattle.task_crew.specs.Heard.{Asked, look, ends, IsAnswerTo}
 use Rattle.task_crew.specs.Said.{Saying}
-use Rattle.phased_rt.specs.Says.{story_in, SaysOfTrace}
-use Rattle.own_body.specs.Sums.{IsSeen, IsSum}
+use Rattle.phased_rt.specs.Says.{story_in, SaysOfTrace, SaysOfEach, HasEnded}
+use Rattle.own_body.specs.Sums.{IsSeen, IsSum, HasLookedOnce, HasSeenSum}
 
 -- it is still seen in a story that goes on
 pub still_seen : (t : ℕ) (a b : Story) (x : Look ℤ) → GoesOn a b → IsSeen t a x → IsSeen t b x
@@ -66,3 +66,44 @@ says_sum saw Shows l es root is legal some says =
     ∥∥₁_map says (λ x.
     seen_is_sum 0 (story_in l es 0) (saw root) (story_is_legal l es 0 legal)
     (still_seen 0 (x.0 0) (story_in l es 0) (saw root) (x.2 0 some) (is root 0 x.1.0 x.0 x.1.1)))
+
+-- ---- of each task that has ended
+
+-- that it has looked stays so
+pub still_looked : (t : ℕ) (a b : Story) → GoesOn a b → HasLookedOnce t a → HasLookedOnce t b
+still_looked t a b goes looked =
+    let e = Looked t 0 looked.0 in (
+      looked.0,
+      goes.1.0 ++ looked.1,
+      looked.2,
+      goes.1.1 ∙ (ap (λ h. goes.1.0 ++ h) looked.3 ∙ sym (append_assoc goes.1.0 looked.1 (e ∷ looked.2))),
+    )
+
+-- who hears of its look has looked, since nothing else is an answer to it
+heard_of_look : (t : ℕ) (answer : Answer) (seen now : ℕ → Story) → IsAnswerTo t (look 0 0) answer seen now → HasLookedOnce t (now 0)
+heard_of_look t (Saw x) seen now is = (x, [], is.0, is.1)
+heard_of_look t Started seen now is = absurd is
+heard_of_look t Done seen now is = absurd is
+heard_of_look t (Made n) seen now is = absurd is
+heard_of_look t (Spawned n) seen now is = absurd is
+
+pub heard_has_looked : (t : ℕ) (asked : Asked) (answer : Answer) (seen now : ℕ → Story) → asked ≡ look 0 0
+    → IsAnswerTo t asked answer seen now → HasLookedOnce t (now 0)
+heard_has_looked t asked answer seen now looks is =
+    heard_of_look t answer seen now (subst (λ (a : Asked). IsAnswerTo t a answer seen now) looks is)
+
+-- who has looked in a legal story has seen the fold of all values of a closed phase
+looked_is_sum : (t : ℕ) (s : Story) → IsLegal s → HasLookedOnce t s → HasSeenSum t s
+looked_is_sum t s legal looked =
+    let r = (legal_is_folded s.limits s.terms s.past legal).seen looked.1 looked.2 t 0 looked.0 looked.3 in
+    (looked.0, looked.1, looked.2, looked.3, r.1, r.0)
+
+-- where who asks for its end says that its task has looked, each that has ended has seen a sum
+pub each_has_seen : {B : Type 0} (Shows : Saying B) (l : Limits) (es : List Entry)
+    → ((b : B) (t : ℕ) (seen : ℕ → Story) → Shows b t ends seen → HasLookedOnce t (seen 0))
+    → is_legal_world l (past (reverse es)) ≡ true → 0 < l.phasers
+    → SaysOfEach Shows l es → (t : ℕ) → HasEnded t es → ∥ HasSeenSum t (story_in l es 0) ∥₁
+each_has_seen Shows l es is legal some says t ended =
+    ∥∥₁_map (says t ended) (λ x.
+    looked_is_sum t (story_in l es 0) (story_is_legal l es 0 legal)
+    (still_looked t (x.0 0) (story_in l es 0) (x.2 0 some) (is x.1.0 t (x.0) x.1.1)))

@@ -21,3 +21,16 @@ IsSum task s (Value v) =
     × (Value v ≡ look_of s.terms.ops 0 (waits task before) s.past)
     × IsClosed (waits task before - 1) before
 IsSum task s Nothing = Unit {0}
+
+-- the task has looked at the sum
+abbrev pub HasLookedOnce : ℕ → Story → Type 0
+HasLookedOnce task s = (x : Look ℤ) × (later before : List Event) × (s.past ≡ later ++ Looked task 0 x ∷ before)
+
+-- what it saw then is the fold of all values that are ever sent for the phase before its own, which was closed
+abbrev pub HasSeenSum : ℕ → Story → Type 0
+HasSeenSum task s =
+    (x : Look ℤ)
+    × (later before : List Event)
+    × (s.past ≡ later ++ Looked task 0 x ∷ before)
+    × (x ≡ look_of s.terms.ops 0 (waits task before) s.past)
+    × IsClosed (waits task before - 1) before

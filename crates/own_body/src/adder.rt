@@ -1,9 +1,9 @@
 //! Tasks that add up: what each does, and what it says of the sum that it saw.
 ghost use Rattle.std.specs.Prelude.{◌≡◌, ℕ, Ok, IfOk};
 ghost use Rattle.phase_model.specs.Rules.{Story};
-ghost use Rattle.task_crew.specs.Heard.{Asked, look, asked_by, IsSpawned, IsAnswerTo};
-ghost use Rattle.phased_rt.specs.Says.{story_in};
-ghost use Rattle.own_body.specs.Sums.{IsSeen, IsSum};
+ghost use Rattle.task_crew.specs.Heard.{Asked, look, ends, asked_by, IsSpawned, IsAnswerTo};
+ghost use Rattle.phased_rt.specs.Says.{story_in, HasEnded};
+ghost use Rattle.own_body.specs.Sums.{IsSeen, IsSum, HasSeenSum};
 
 use phase_model::{Look, Op, Ops};
 use phase_modes::{Limits, Mode, Refusal};
@@ -35,14 +35,17 @@ pub struct Adder {
 }
 
 impl Body for Adder {
-    ghost use Rattle.own_body.specs.Sums.{IsSeen};
+    ghost use Rattle.own_body.specs.Sums.{IsSeen, HasLookedOnce};
     ghost use Rattle.own_body.specs.declared.adder.Next.{Next};
     ghost use Rattle.own_body.specs.declared.adder.Next.TheVariants.{Hears};
     ghost use Rattle.std.specs.Prelude.{◌≡◌};
-    ghost use Rattle.task_crew.specs.Heard.{look};
+    ghost use Rattle.task_crew.specs.Heard.{look, ends};
 
-    /// What it saw its task saw on phaser 0; and where it is about to hear, it has looked there.
-    ghost shows = { λ b task asked seen. IsSeen task (seen 0) b.saw × (b.next ≡ Hears → asked ≡ look 0 0) };
+    /// What it saw its task saw on phaser 0; where it is about to hear, it has asked for a look there; and
+    /// where it asks for its end, its task has looked.
+    ghost shows = { λ b task asked seen. IsSeen task (seen 0) b.saw
+        × (b.next ≡ Hears → asked ≡ look 0 0)
+        × (asked ≡ ends → HasLookedOnce task (seen 0)) };
 
     fn step(&mut self, answer: Answer) -> Result<Act<Adder>, Refusal> {
         self.hear(answer);
@@ -71,6 +74,7 @@ impl Adder {
     fn act(&mut self) -> Act<Adder>
         ensures saw { self.new.saw ≡ self.old.saw }
         ensures looks { self.new.next ≡ Next.Hears → asked_by (Ok result) ≡ look 0 0 }
+        ensures end { asked_by (Ok result) ≡ ends → self.old.next ≡ Next.Hears }
         ensures child { (child : Adder) → IsSpawned child (Ok result) → (child.saw ≡ Look.Nothing) × (child.next ≡ Next.Sends) }
     {
         match self.next {
@@ -79,7 +83,11 @@ impl Adder {
                 Act::New(Mode::SigWait, one_sum(), None)
             }
             Next::Spawns if self.number > 0 => self.spawn(),
-            Next::Sends | Next::Hears if self.rounds > 0 => {
+            Next::Sends => {
+                self.next = Next::Turns;
+                self.send()
+            }
+            Next::Hears if self.rounds > 0 => {
                 self.next = Next::Turns;
                 self.send()
             }
@@ -91,7 +99,7 @@ impl Adder {
                 self.next = Next::Hears;
                 Act::Look(0, 0)
             }
-            Next::Sends | Next::Hears => {
+            Next::Hears => {
                 self.next = Next::Sends;
                 Act::End
             }
@@ -100,6 +108,7 @@ impl Adder {
 
     /// It spawns a task for its number, on the phaser that it made.
     fn spawn(&mut self) -> Act<Adder>
+        ensures end { asked_by (Ok result) ≡ ends → ⊥ }
         ensures saw { self.new.saw ≡ self.old.saw }
         ensures next { self.new.next ≡ self.old.next }
         ensures child { (child : Adder) → IsSpawned child (Ok result) → (child.saw ≡ Look.Nothing) × (child.next ≡ Next.Sends) }
@@ -116,6 +125,7 @@ impl Adder {
 
     /// It sends its number.
     fn send(&mut self) -> Act<Adder>
+        ensures end { asked_by (Ok result) ≡ ends → ⊥ }
         ensures saw { self.new.saw ≡ self.old.saw }
         ensures next { self.new.next ≡ self.old.next }
         ensures child { (child : Adder) → IsSpawned child (Ok result) → ⊥ }
@@ -133,9 +143,11 @@ fn one_sum() -> Ops {
 }
 
 /// Three tasks add up, by two workers. The sum that the root saw is the fold of all values that were
-/// ever sent for the phase before the root's own, which was closed when the root saw it.
+/// ever sent for the phase before the root's own, which was closed when the root saw it. So has each task
+/// seen one that ended by itself.
 pub fn add_up<R: Threads + Wait + Sync>(rt: &R, alloc: Global) -> Result<Report<Adder>, Refusal>
     ensures sum { IfOk result (λ r. ∥ IsSum 0 (story_in r.trace.limits r.trace.events 0) r.root.saw ∥₁) }
+    ensures each { IfOk result (λ r. (task : ℕ) → HasEnded task r.trace.events → ∥ HasSeenSum task (story_in r.trace.limits r.trace.events 0) ∥₁) }
 {
     let root = Adder {
         next: Next::Makes,
