@@ -7,7 +7,7 @@ ghost use Rattle.share_book.specs.Opening.{IsNamed, IsParted};
 use merging::merged;
 use phase_model::Reply;
 use phase_modes::{Limits, Refusal};
-use scope_locks::{Out, PassAnswer, PhaserTable, SignalAnswer};
+use scope_locks::{Out, PassAnswer, PhaserTable, SignalAnswer, Tickets};
 use share_book::{Blanks, Ledgers, Shares, Totals, gather, open};
 use std::alloc::Global;
 use std::process::Abort;
@@ -15,6 +15,16 @@ use std::process::Abort;
 mod examples_on_table;
 mod merging;
 mod threads;
+
+/// What a worker brings to each call of a table: what waits for locks, the tickets of the run, its
+/// shares of the books, and the list into which the items of those are put whom its calls wake.
+#[derive(Drop)]
+struct Caller<'a, K: Ledgers, R> {
+    rt: &'a R,
+    tickets: &'a Tickets,
+    mine: Shares<K>,
+    out: Out<u32>,
+}
 
 /// A table of phasers that nobody has made yet, and the workers' shares.
 fn fresh<K: Ledgers>(

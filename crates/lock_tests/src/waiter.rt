@@ -48,189 +48,166 @@ fn signalling_of(answer: SignalAnswer<u32>) -> Signalling {
     }
 }
 
-/// The task asks to pass, with this item. Returns the item of whom this wakes too.
-fn pass<K: Ledgers>(
-    alloc: Global,
-    cell: &mut PhaserCell<u32, K>,
-    tickets: &Tickets,
-    books: &mut Books<K>,
-    mine: &mut Shares<K>,
-    task: u32,
-    item: u32,
-) -> Result<(Passing, Option<u32>), Refusal> {
-    let mut out = Out::new(alloc)?;
-    let answer = answer_of(cell.pass(tickets, books, mine, &mut out, task, item));
-    Ok((answer, out.take()))
+/// A phaser's cell, and what a worker brings to each call of it: the tickets of the run, the books,
+/// and its shares of these.
+#[derive(Drop)]
+struct CalledCell<K: Ledgers> {
+    cell: PhaserCell<u32, K>,
+    tickets: Tickets,
+    books: Books<K>,
+    mine: Shares<K>,
 }
 
-/// The task signals, with this item. Returns the item of whom this wakes too.
-fn signal<K: Ledgers>(
-    alloc: Global,
-    cell: &mut PhaserCell<u32, K>,
-    tickets: &Tickets,
-    books: &mut Books<K>,
-    mine: &mut Shares<K>,
-    task: u32,
-    item: u32,
-) -> Result<(Signalling, Option<u32>), Refusal> {
-    let mut out = Out::new(alloc)?;
-    let answer = signalling_of(cell.signal(tickets, books, mine, &mut out, task, None, item));
-    Ok((answer, out.take()))
+impl<K: Ledgers> CalledCell<K> {
+    /// The task asks to pass, with this item. Returns the item of whom this wakes too.
+    fn pass(
+        &mut self,
+        alloc: Global,
+        task: u32,
+        item: u32,
+    ) -> Result<(Passing, Option<u32>), Refusal> {
+        let CalledCell {
+            cell,
+            tickets,
+            books,
+            mine,
+        } = self;
+        let mut out = Out::new(alloc)?;
+        let answer = answer_of(cell.pass(tickets, books, mine, &mut out, task, item));
+        Ok((answer, out.take()))
+    }
+
+    /// The task signals, with this item. Returns the item of whom this wakes too.
+    fn signal(
+        &mut self,
+        alloc: Global,
+        task: u32,
+        item: u32,
+    ) -> Result<(Signalling, Option<u32>), Refusal> {
+        let CalledCell {
+            cell,
+            tickets,
+            books,
+            mine,
+        } = self;
+        let mut out = Out::new(alloc)?;
+        let answer = signalling_of(cell.signal(tickets, books, mine, &mut out, task, None, item));
+        Ok((answer, out.take()))
+    }
+
+    /// The task is dropped. Returns the item of whom this wakes.
+    fn drop_task(&mut self, alloc: Global, task: u32) -> Result<Option<u32>, Refusal> {
+        let CalledCell {
+            cell,
+            tickets,
+            books,
+            mine,
+        } = self;
+        let mut out = Out::new(alloc)?;
+        cell.drop_task(tickets, books, mine, &mut out, task)?;
+        Ok(out.take())
+    }
+
+    /// Tasks 0 and 1 are registered, with bound 1.
+    fn register_both(&mut self, rt: &impl Abort) {
+        let CalledCell {
+            cell,
+            tickets,
+            books,
+            mine,
+        } = self;
+        let ops = Ops::none();
+        assert_eq!(rt;
+            cell.make(tickets, books, mine, 0, Mode::SigWait, ops, Bound::of(1)),
+            Ok(())
+        );
+        assert_eq!(rt;
+            cell.register(tickets, books, mine, 0, 1, Mode::SigWait),
+            Ok(())
+        );
+    }
+
+    /// Two calls of task 0, which has to wait: the first parks its item, the second has its own
+    /// back.
+    fn park_twice(&mut self, rt: &impl Abort, alloc: Global) {
+        const SIGNALLED: (Signalling, Option<u32>) = (Signalling::Signalled(99), None);
+        const PARKED: (Passing, Option<u32>) = (Passing::Parked, None);
+        const AGAIN: (Passing, Option<u32>) = (Passing::Refused(102, Refusal::NotNow), None);
+        assert_eq!(rt; self.signal(alloc, 0, 99), Ok(SIGNALLED));
+        assert_eq!(rt; self.pass(alloc, 0, 100), Ok(PARKED));
+        assert_eq!(rt; self.pass(alloc, 0, 102), Ok(AGAIN));
+    }
+
+    /// The other's signal wakes it.
+    fn let_go(&mut self, rt: &impl Abort, alloc: Global) {
+        const FREED: (Signalling, Option<u32>) = (Signalling::Signalled(101), Some(100));
+        const PASSED: (Passing, Option<u32>) = (Passing::Passed(100, 0), None);
+        assert_eq!(rt; self.signal(alloc, 1, 101), Ok(FREED));
+        assert_eq!(rt; self.pass(alloc, 0, 100), Ok(PASSED));
+    }
+
+    /// The other hasn't passed yet, so task 0 waits to signal. The other's pass wakes it, and the
+    /// other's drop nobody.
+    fn hold_and_let_go(&mut self, rt: &impl Abort, alloc: Global) {
+        const HELD: (Signalling, Option<u32>) = (Signalling::Parked, None);
+        const AGAIN: (Signalling, Option<u32>) = (Signalling::Refused(104, Refusal::NotNow), None);
+        const FREED: (Passing, Option<u32>) = (Passing::Passed(101, 0), Some(103));
+        const SIGNALLED: (Signalling, Option<u32>) = (Signalling::Signalled(103), None);
+        assert_eq!(rt; self.signal(alloc, 0, 103), Ok(HELD));
+        assert_eq!(rt; self.signal(alloc, 0, 104), Ok(AGAIN));
+        assert_eq!(rt; self.pass(alloc, 1, 101), Ok(FREED));
+        assert_eq!(rt; self.signal(alloc, 0, 103), Ok(SIGNALLED));
+        assert_eq!(rt; self.drop_task(alloc, 1), Ok(None));
+    }
+
+    /// Task 0 waits for task 1, and goes on.
+    fn wait_and_go_on(&mut self, rt: &impl Abort, alloc: Global) {
+        self.register_both(rt);
+        self.park_twice(rt, alloc);
+        self.let_go(rt, alloc);
+        self.hold_and_let_go(rt, alloc);
+    }
 }
 
-/// The task is dropped. Returns the item of whom this wakes.
-fn drop_task<K: Ledgers>(
-    alloc: Global,
-    cell: &mut PhaserCell<u32, K>,
-    tickets: &Tickets,
-    books: &mut Books<K>,
-    mine: &mut Shares<K>,
-    task: u32,
-) -> Result<Option<u32>, Refusal> {
-    let mut out = Out::new(alloc)?;
-    cell.drop_task(tickets, books, mine, &mut out, task)?;
-    Ok(out.take())
-}
-
-/// Tasks 0 and 1 are registered, with bound 1.
-fn register_both<K: Ledgers>(
-    rt: &impl Abort,
-    cell: &mut PhaserCell<u32, K>,
-    tickets: &Tickets,
-    books: &mut Books<K>,
-    mine: &mut Shares<K>,
-) {
-    let ops = Ops::none();
-    assert_eq!(rt;
-        cell.make(tickets, books, mine, 0, Mode::SigWait, ops, Bound::of(1)),
-        Ok(())
-    );
-    assert_eq!(rt;
-        cell.register(tickets, books, mine, 0, 1, Mode::SigWait),
-        Ok(())
-    );
-}
-
-/// Two calls of task 0, which has to wait: the first parks its item, the second has its own back.
-fn park_twice<K: Ledgers>(
-    rt: &impl Abort,
-    alloc: Global,
-    cell: &mut PhaserCell<u32, K>,
-    tickets: &Tickets,
-    books: &mut Books<K>,
-    mine: &mut Shares<K>,
-) {
-    const SIGNALLED: (Signalling, Option<u32>) = (Signalling::Signalled(99), None);
-    const PARKED: (Passing, Option<u32>) = (Passing::Parked, None);
-    const AGAIN: (Passing, Option<u32>) = (Passing::Refused(102, Refusal::NotNow), None);
-    assert_eq!(rt;
-        signal(alloc, cell, tickets, books, mine, 0, 99),
-        Ok(SIGNALLED)
-    );
-    assert_eq!(rt; pass(alloc, cell, tickets, books, mine, 0, 100), Ok(PARKED));
-    assert_eq!(rt; pass(alloc, cell, tickets, books, mine, 0, 102), Ok(AGAIN));
-}
-
-/// The other's signal wakes it.
-fn let_go<K: Ledgers>(
-    rt: &impl Abort,
-    alloc: Global,
-    cell: &mut PhaserCell<u32, K>,
-    tickets: &Tickets,
-    books: &mut Books<K>,
-    mine: &mut Shares<K>,
-) {
-    const FREED: (Signalling, Option<u32>) = (Signalling::Signalled(101), Some(100));
-    const PASSED: (Passing, Option<u32>) = (Passing::Passed(100, 0), None);
-    assert_eq!(rt;
-        signal(alloc, cell, tickets, books, mine, 1, 101),
-        Ok(FREED)
-    );
-    assert_eq!(rt; pass(alloc, cell, tickets, books, mine, 0, 100), Ok(PASSED));
-}
-
-/// The other hasn't passed yet, so task 0 waits to signal. The other's pass wakes it, and the
-/// other's drop nobody.
-fn hold_and_let_go<K: Ledgers>(
-    rt: &impl Abort,
-    alloc: Global,
-    cell: &mut PhaserCell<u32, K>,
-    tickets: &Tickets,
-    books: &mut Books<K>,
-    mine: &mut Shares<K>,
-) {
-    const HELD: (Signalling, Option<u32>) = (Signalling::Parked, None);
-    const AGAIN: (Signalling, Option<u32>) = (Signalling::Refused(104, Refusal::NotNow), None);
-    const FREED: (Passing, Option<u32>) = (Passing::Passed(101, 0), Some(103));
-    const SIGNALLED: (Signalling, Option<u32>) = (Signalling::Signalled(103), None);
-    assert_eq!(rt; signal(alloc, cell, tickets, books, mine, 0, 103), Ok(HELD));
-    assert_eq!(rt;
-        signal(alloc, cell, tickets, books, mine, 0, 104),
-        Ok(AGAIN)
-    );
-    assert_eq!(rt; pass(alloc, cell, tickets, books, mine, 1, 101), Ok(FREED));
-    assert_eq!(rt;
-        signal(alloc, cell, tickets, books, mine, 0, 103),
-        Ok(SIGNALLED)
-    );
-    assert_eq!(rt; drop_task(alloc, cell, tickets, books, mine, 1), Ok(None));
-}
-
-/// Task 0 waits for task 1, and goes on.
-fn wait_and_go_on<K: Ledgers>(
+/// The waiter, on a new phaser of the last of these phasers' books, by the last worker's share. What
+/// is gathered then.
+fn on_last_phaser<K: Ledgers>(
     rt: &impl Abort,
     alloc: Global,
-    cell: &mut PhaserCell<u32, K>,
-    tickets: &Tickets,
-    books: &mut Books<K>,
-    mine: &mut Shares<K>,
-) {
-    register_both(rt, cell, tickets, books, mine);
-    park_twice(rt, alloc, cell, tickets, books, mine);
-    let_go(rt, alloc, cell, tickets, books, mine);
-    hold_and_let_go(rt, alloc, cell, tickets, books, mine);
-}
-
-/// The waiter, on a new phaser of this book, which comes back.
-fn on_one_phaser<K: Ledgers>(
-    rt: &impl Abort,
-    alloc: Global,
-    book: PhaserBook<K>,
-    books: &mut Books<K>,
-    mine: &mut Shares<K>,
-) -> Result<PhaserBook<K>, Refusal>
-    requires { (book.totals ≡ nothing) × (book.room ≡ 65536) }
+    books: Books<K>,
+    mut phasers: Vec<PhaserBook<K>>,
+    mut shares: Vec<Shares<K>>,
+) -> Result<Totals, Refusal>
+    requires { All (λ b. (b.totals ≡ nothing) × (b.room ≡ 65536)) phasers.items }
 {
-    let mut cell = PhaserCell::new(alloc, Limits::default(), book)?;
-    wait_and_go_on(rt, alloc, &mut cell, &Tickets::new(), books, mine);
+    let Some(mine) = shares.pop() else {
+        return Err(Refusal::SharesDiffer);
+    };
+    let Some(book) = phasers.pop() else {
+        return Err(Refusal::SharesDiffer);
+    };
+    let mut called = CalledCell {
+        cell: PhaserCell::new(alloc, Limits::default(), book)?,
+        tickets: Tickets::new(),
+        books,
+        mine,
+    };
+    called.wait_and_go_on(rt, alloc);
+    let CalledCell {
+        cell,
+        tickets: _,
+        books,
+        mine,
+    } = called;
     let PhaserCell {
         state: _,
         drawn: _,
         book,
         parked: _,
     } = cell;
-    Ok(book)
-}
-
-/// The waiter, on a phaser of the last of these books, by the first worker's share.
-fn on_last_phaser<K: Ledgers>(
-    rt: &impl Abort,
-    alloc: Global,
-    books: &mut Books<K>,
-    phasers: &mut Vec<PhaserBook<K>>,
-    shares: &mut Vec<Shares<K>>,
-) -> Result<(), Refusal>
-    requires { All (λ b. (b.totals ≡ nothing) × (b.room ≡ 65536)) phasers.old.items }
-{
-    let Some(mine) = shares.get_mut(0) else {
-        return Err(Refusal::SharesDiffer);
-    };
-    let Some(book) = phasers.pop() else {
-        return Err(Refusal::SharesDiffer);
-    };
-    let book = on_one_phaser(rt, alloc, book, books, mine)?;
+    shares.push(mine)?;
     phasers.push(book)?;
-    Ok(())
+    gather(shares, phasers, books)
 }
 
 /// What is gathered once the waiter has gone on.
@@ -240,11 +217,8 @@ fn wait_on<K: Ledgers, R: Abort>(rt: &R, alloc: Global, blanks: Blanks) -> Resul
     requires parts { IsParted blanks K.EventsByPhaser.parts K.EventsByWorker.parts K.UpByPhaser.parts
         K.UpByWorker.parts K.DownByPhaser.parts K.DownByWorker.parts K.Room.parts }
 {
-    let (mut books, mut phasers, mut shares) = open::<K>(alloc, blanks)?;
-    let waited = on_last_phaser(rt, alloc, &mut books, &mut phasers, &mut shares);
-    let totals = gather(shares, phasers, books);
-    waited?;
-    totals
+    let (books, phasers, shares) = open::<K>(alloc, blanks)?;
+    on_last_phaser(rt, alloc, books, phasers, shares)
 }
 
 fn named_wait<

@@ -6,7 +6,6 @@ ghost use Rattle.share_book.specs.Opening.{IsNamed, IsParted};
 
 use super::*;
 use phase_model::{Call, Look, Terms};
-use scope_locks::Tickets;
 use share_book::Seven;
 use std::marker::Brand;
 use std::sync::Wait;
@@ -28,102 +27,109 @@ fn looked(answer: Result<Look, Refusal>) -> Reply {
     }
 }
 
-/// Makes the call on a phaser of the table, a making with these terms. The item of a task is
-/// its number.
-fn answer_to<K: Ledgers, R: Wait>(
-    rt: &R,
-    table: &PhaserTable<u32, K>,
-    number: usize,
-    tickets: &Tickets,
-    mine: &mut Shares<K>,
-    out: &mut Out<u32>,
-    terms: Terms,
-    call: Call,
-) -> Reply
-    requires number { number < table.now.phasers }
-    requires empty { out.old ≡ [] }
-{
-    match call {
-        Call::Make(task, mode) => {
-            let Terms { ops, bound } = terms;
-            plainly(table.make(rt, number, tickets, mine, task, mode, ops, bound))
-        }
-        Call::Register(parent, child, mode) => {
-            plainly(table.register(rt, number, tickets, mine, parent, child, mode))
-        }
-        Call::Signal(task, proposed) => {
-            signalled(table.signal(rt, number, tickets, mine, out, task, proposed, task))
-        }
-        Call::Pass(task) => turned(table.pass(rt, number, tickets, mine, out, task, task)),
-        Call::SingleDone(task) => plainly(table.single_done(rt, number, tickets, mine, out, task)),
-        Call::Send(task, accumulator, value) => {
-            plainly(table.send(rt, number, tickets, mine, task, accumulator, value))
-        }
-        Call::Look(task, accumulator) => looked(table.look(
+impl<'a, K: Ledgers, R: Wait> Caller<'a, K, R> {
+    /// Makes the call on a phaser of the table, a making with these terms. The item of a task is
+    /// its number.
+    fn answer_to(
+        &mut self,
+        table: &PhaserTable<u32, K>,
+        number: usize,
+        terms: Terms,
+        call: Call,
+    ) -> Reply
+        requires number { number < table.now.phasers }
+        requires empty { self.old.out ≡ [] }
+    {
+        let Caller {
             rt,
-            number,
             tickets,
             mine,
-            task,
-            accumulator,
-        )),
-        Call::Drop(task) => plainly(table.drop_task(rt, number, tickets, mine, out, task)),
+            out,
+        } = self;
+        match call {
+            Call::Make(task, mode) => {
+                let Terms { ops, bound } = terms;
+                plainly(table.make(rt, number, tickets, mine, task, mode, ops, bound))
+            }
+            Call::Register(parent, child, mode) => {
+                plainly(table.register(rt, number, tickets, mine, parent, child, mode))
+            }
+            Call::Signal(task, proposed) => {
+                signalled(table.signal(rt, number, tickets, mine, out, task, proposed, task))
+            }
+            Call::Pass(task) => turned(table.pass(rt, number, tickets, mine, out, task, task)),
+            Call::SingleDone(task) => {
+                plainly(table.single_done(rt, number, tickets, mine, out, task))
+            }
+            Call::Send(task, accumulator, value) => {
+                plainly(table.send(rt, number, tickets, mine, task, accumulator, value))
+            }
+            Call::Look(task, accumulator) => looked(table.look(
+                rt,
+                number,
+                tickets,
+                mine,
+                task,
+                accumulator,
+            )),
+            Call::Drop(task) => plainly(table.drop_task(rt, number, tickets, mine, out, task)),
+        }
+    }
+
+    /// What the call on phaser 0 is answered; `Memory` where there is none for the list of those
+    /// whom it wakes. They are dropped.
+    fn answer_alone(
+        &mut self,
+        alloc: Global,
+        table: &PhaserTable<u32, K>,
+        terms: Terms,
+        call: Call,
+    ) -> Reply
+        requires { 0 < table.now.phasers }
+    {
+        let Ok(out) = Out::new(alloc) else {
+            return Reply::Refused(Refusal::Memory);
+        };
+        self.out = out;
+        self.answer_to(table, 0, terms, call)
     }
 }
 
-/// What the call on phaser 0 is answered; `Memory` where there is none for the list of those whom
-/// it wakes. They are dropped.
-fn answer_alone<K: Ledgers, R: Wait>(
-    rt: &R,
-    alloc: Global,
-    table: &PhaserTable<u32, K>,
-    tickets: &Tickets,
-    mine: &mut Shares<K>,
-    terms: Terms,
-    call: Call,
-) -> Reply
-    requires { 0 < table.now.phasers }
-{
-    let Ok(mut out) = Out::new(alloc) else {
-        return Reply::Refused(Refusal::Memory);
-    };
-    answer_to(rt, table, 0, tickets, mine, &mut out, terms, call)
-}
-
-/// Each call on phaser 0 is answered as its row says.
-fn answers<K: Ledgers, R: Abort + Wait>(
-    rt: &R,
-    alloc: Global,
-    table: &PhaserTable<u32, K>,
-    tickets: &Tickets,
-    mine: &mut Shares<K>,
-    terms: &Terms,
-    rows: &[Row],
-)
-    requires { 0 < table.now.phasers }
-{
-    for (call, expected) in rows {
-        let answer = answer_alone(rt, alloc, table, tickets, mine, *terms, *call);
-        assert_eq!(rt; answer, *expected, "{call:?}");
+impl<'a, K: Ledgers, R: Abort + Wait> Caller<'a, K, R> {
+    /// Each call on phaser 0 is answered as its row says.
+    fn answers(&mut self, alloc: Global, table: &PhaserTable<u32, K>, terms: &Terms, rows: &[Row])
+        requires { 0 < table.now.phasers }
+    {
+        for (call, expected) in rows {
+            let answer = self.answer_alone(alloc, table, *terms, *call);
+            assert_eq!(self.rt; answer, *expected, "{call:?}");
+        }
     }
 }
 
-/// Each call of the one worker on phaser 0 is answered as its row says.
+/// Each call of the one worker on phaser 0 is answered as its row says. Returns the shares.
 fn answers_the_one<K: Ledgers, R: Abort + Wait>(
     rt: &R,
     alloc: Global,
     table: &PhaserTable<u32, K>,
-    tickets: &Tickets,
-    shares: &mut Vec<Shares<K>>,
+    mut shares: Vec<Shares<K>>,
     terms: Terms,
     rows: &[Row],
-)
+) -> Result<Vec<Shares<K>>, Refusal>
     requires { 0 < table.now.phasers }
 {
     assert_eq!(rt; shares.len(), 1);
-    if let Some(mine) = shares.get_mut(0) {
-        answers(rt, alloc, table, tickets, mine, &terms, rows);
-    }
+    let mine = shares.pop().ok_or(Refusal::SharesDiffer)?;
+    let tickets = Tickets::new();
+    let mut by = Caller {
+        rt,
+        tickets: &tickets,
+        mine,
+        out: Out::new(alloc)?,
+    };
+    by.answers(alloc, table, &terms, rows);
+    shares.push(by.mine)?;
+    Ok(shares)
 }
 
 /// How many of the rows are events: those that are neither refused nor have to come again.
@@ -203,8 +209,8 @@ fn play<K: Ledgers, R: Abort + Wait>(
     requires limits { limits_fit limits ≡ true }
     requires one { blanks.phasers ≡ 1 }
 {
-    let (table, mut shares) = fresh::<K>(alloc, limits, blanks)?;
-    answers_the_one(rt, alloc, &table, &Tickets::new(), &mut shares, terms, rows);
+    let (table, shares) = fresh::<K>(alloc, limits, blanks)?;
+    let shares = answers_the_one(rt, alloc, &table, shares, terms, rows)?;
     gathered(rt, alloc, limits, table, shares)
 }
 

@@ -6,7 +6,6 @@ ghost use Rattle.share_book.specs.Opening.{IsNamed, IsParted};
 use super::*;
 use phase_model::Ops;
 use phase_modes::Mode;
-use scope_locks::Tickets;
 use share_book::{Seven, SharedLedgers};
 use std::marker::Brand;
 use std::sync::Wait;
@@ -31,11 +30,29 @@ fn saw(word: &AtomicU64, turns: u64) -> bool {
     false
 }
 
-/// Tells the other thread that the lock is held, and waits for its answer, for so many turns.
-/// Whether that came.
-fn wait_for_answer(held: &AtomicU64, answered: &AtomicU64, turns: u64) -> bool {
-    held.store(1, Ordering::SeqCst);
-    saw(answered, turns)
+/// What two threads tell each other: the one that it holds phaser 0's lock, the other that its call
+/// has answered. Each word is 0 before.
+#[derive(Drop)]
+struct Handshake {
+    held: AtomicU64,
+    answered: AtomicU64,
+}
+
+impl Handshake {
+    /// Neither thread has told anything yet.
+    fn new() -> Handshake {
+        Handshake {
+            held: AtomicU64::new(0),
+            answered: AtomicU64::new(0),
+        }
+    }
+
+    /// Tells the other thread that the lock is held, and waits for its answer, for so many turns.
+    /// Whether that came.
+    fn wait_for_answer(&self, turns: u64) -> bool {
+        self.held.store(1, Ordering::SeqCst);
+        saw(&self.answered, turns)
+    }
 }
 
 /// Holds phaser 0's lock until the other thread's call has answered, or for so many turns. Whether
@@ -43,39 +60,35 @@ fn wait_for_answer(held: &AtomicU64, answered: &AtomicU64, turns: u64) -> bool {
 fn hold<K: Ledgers, R: Wait>(
     rt: &R,
     table: &PhaserTable<u32, K>,
-    held: &AtomicU64,
-    answered: &AtomicU64,
+    handshake: &Handshake,
     turns: u64,
 ) -> bool
     requires { 0 < table.now.phasers }
 {
     let guard = table.lock(rt, 0);
-    let seen = wait_for_answer(held, answered, turns);
+    let seen = handshake.wait_for_answer(turns);
     drop(guard);
     seen
 }
 
-/// Task 0 signals on the phaser once the other thread has phaser 0's lock.
-/// Whether that was so, and it has signalled.
-fn call<K: Ledgers, R: Wait>(
-    rt: &R,
-    alloc: Global,
-    table: &PhaserTable<u32, K>,
-    number: usize,
-    tickets: &Tickets,
-    held: &AtomicU64,
-    answered: &AtomicU64,
-    mine: &mut Shares<K>,
-) -> bool
-    requires { number < table.now.phasers }
-{
-    let Ok(mut out) = Out::new(alloc) else {
-        return false;
-    };
-    let seen = saw(held, MOST_TURNS);
-    let answer = signalled(table.signal(rt, number, tickets, mine, &mut out, 0, None, 0));
-    answered.store(1, Ordering::SeqCst);
-    seen && answer == Reply::Done
+impl<'a, K: Ledgers, R: Wait> Caller<'a, K, R> {
+    /// Task 0 signals on the phaser once the other thread has phaser 0's lock.
+    /// Whether that was so, and it has signalled.
+    fn call(&mut self, table: &PhaserTable<u32, K>, number: usize, handshake: &Handshake) -> bool
+        requires number { number < table.now.phasers }
+        requires empty { self.old.out ≡ [] }
+    {
+        let Caller {
+            rt,
+            tickets,
+            mine,
+            out,
+        } = self;
+        let seen = saw(&handshake.held, MOST_TURNS);
+        let answer = signalled(table.signal(rt, number, tickets, mine, out, 0, None, 0));
+        handshake.answered.store(1, Ordering::SeqCst);
+        seen && answer == Reply::Done
+    }
 }
 
 /// Task 0 makes this phaser. Then one thread holds phaser 0's lock, for so many turns, while another
@@ -91,8 +104,6 @@ fn hold_and_call<K: SharedLedgers, R: Threads + Wait + Sync>(
     requires held { 0 < table.now.phasers }
     requires number { number < table.now.phasers }
 {
-    let held = AtomicU64::new(0);
-    let answered = AtomicU64::new(0);
     let tickets = Tickets::new();
     table.make(
         rt,
@@ -104,13 +115,18 @@ fn hold_and_call<K: SharedLedgers, R: Threads + Wait + Sync>(
         Ops::none(),
         None,
     )?;
-    let drawn = &tickets;
-    let first = &held;
-    let second = &answered;
+    let mut by = Caller {
+        rt,
+        tickets: &tickets,
+        mine,
+        out: Out::new(alloc)?,
+    };
+    let handshake = Handshake::new();
+    let shared = &handshake;
     Ok(thread::join(
         rt,
-        move || hold(rt, table, first, second, turns),
-        move || call(rt, alloc, table, number, drawn, first, second, &mut mine),
+        move || hold(rt, table, shared, turns),
+        move || by.call(table, number, shared),
     ))
 }
 
@@ -212,99 +228,75 @@ const CROWD: Limits = Limits {
     tasks: 4,
 };
 
-/// On one phaser the task signals, asks to pass, sends this value and looks. Refused where somebody
-/// whom it woke before is still in the list.
-fn call_one<K: Ledgers, R: Wait>(
-    rt: &R,
-    table: &PhaserTable<u32, K>,
-    number: usize,
-    tickets: &Tickets,
-    mine: &mut Shares<K>,
-    out: &mut Out<u32>,
-    task: u32,
-    value: i32,
-) -> Result<(), Refusal>
-    requires { number < table.now.phasers }
-{
-    if !is_drained(out) {
-        return Err(Refusal::SharesDiffer);
+impl<'a, K: Ledgers, R: Wait> Caller<'a, K, R> {
+    /// On one phaser the task signals, asks to pass, sends this value and looks. Refused where
+    /// somebody whom it woke before is still in the list.
+    fn call_one(
+        &mut self,
+        table: &PhaserTable<u32, K>,
+        number: usize,
+        task: u32,
+        value: i32,
+    ) -> Result<(), Refusal>
+        requires { number < table.now.phasers }
+    {
+        let Caller {
+            rt,
+            tickets,
+            mine,
+            out,
+        } = self;
+        if !is_drained(out) {
+            return Err(Refusal::SharesDiffer);
+        }
+        let _signalled = signalled(table.signal(rt, number, tickets, mine, out, task, None, task));
+        if !is_drained(out) {
+            return Err(Refusal::SharesDiffer);
+        }
+        let _passed = turned(table.pass(rt, number, tickets, mine, out, task, task));
+        let _sent = table.send(rt, number, tickets, mine, task, 0, value);
+        let _seen = table.look(rt, number, tickets, mine, task, 0);
+        Ok(())
     }
-    let _signalled = signalled(table.signal(rt, number, tickets, mine, out, task, None, task));
-    if !is_drained(out) {
-        return Err(Refusal::SharesDiffer);
-    }
-    let _passed = turned(table.pass(rt, number, tickets, mine, out, task, task));
-    let _sent = table.send(rt, number, tickets, mine, task, 0, value);
-    let _seen = table.look(rt, number, tickets, mine, task, 0);
-    Ok(())
-}
 
-/// A turn on each phaser.
-fn call_each<K: Ledgers, R: Wait>(
-    rt: &R,
-    table: &PhaserTable<u32, K>,
-    tickets: &Tickets,
-    mine: &mut Shares<K>,
-    out: &mut Out<u32>,
-    task: u32,
-    value: i32,
-) -> Result<(), Refusal>
-    requires { table.now.phasers ≡ 8 }
-{
-    for number in 0..PHASERS as usize {
-        call_one(rt, table, number, tickets, mine, out, task, value)?;
+    /// A turn on each phaser.
+    fn call_each(
+        &mut self,
+        table: &PhaserTable<u32, K>,
+        task: u32,
+        value: i32,
+    ) -> Result<(), Refusal>
+        requires { table.now.phasers ≡ 8 }
+    {
+        for number in 0..PHASERS as usize {
+            self.call_one(table, number, task, value)?;
+        }
+        Ok(())
     }
-    Ok(())
-}
 
-/// The books have an event for each task on each phaser, at least; else `SharesDiffer`.
-fn check_registrations<K: Ledgers, R: Wait>(
-    rt: &R,
-    table: &PhaserTable<u32, K>,
-    mine: &mut Shares<K>,
-) -> Result<(), Refusal> {
-    let so_far = table.so_far(rt, mine);
-    if so_far.events < u64::from(PHASERS * WORKERS) {
-        return Err(Refusal::SharesDiffer);
+    /// The books have an event for each task on each phaser, at least; else `SharesDiffer`.
+    fn check_registrations(&mut self, table: &PhaserTable<u32, K>) -> Result<(), Refusal> {
+        let so_far = table.so_far(self.rt, &mut self.mine);
+        if so_far.events < u64::from(PHASERS * WORKERS) {
+            return Err(Refusal::SharesDiffer);
+        }
+        Ok(())
     }
-    Ok(())
-}
 
-/// All turns, in each of which the task sends the turn's number. The books have all registrations
-/// then.
-fn call_in_turns<K: Ledgers, R: Wait>(
-    rt: &R,
-    table: &PhaserTable<u32, K>,
-    tickets: &Tickets,
-    mine: &mut Shares<K>,
-    out: &mut Out<u32>,
-    task: u32,
-) -> Result<(), Refusal>
-    requires { table.now.phasers ≡ 8 }
-{
-    for turn in 0..TURNS {
-        call_each(rt, table, tickets, mine, out, task, turn as i32)?;
+    /// All turns, in each of which the task sends the turn's number. The books have all
+    /// registrations then.
+    fn call_in_turns(&mut self, table: &PhaserTable<u32, K>, task: u32) -> Result<(), Refusal>
+        requires { table.now.phasers ≡ 8 }
+    {
+        for turn in 0..TURNS {
+            self.call_each(table, task, turn as i32)?;
+        }
+        self.check_registrations(table)
     }
-    check_registrations(rt, table, mine)
-}
-
-/// All turns, with a list of its own for those whom the task wakes.
-fn call_all<K: Ledgers, R: Wait>(
-    rt: &R,
-    alloc: Global,
-    table: &PhaserTable<u32, K>,
-    tickets: &Tickets,
-    mine: &mut Shares<K>,
-    task: u32,
-) -> Result<(), Refusal>
-    requires { table.now.phasers ≡ 8 }
-{
-    let mut out = Out::new(alloc)?;
-    call_in_turns(rt, table, tickets, mine, &mut out, task)
 }
 
 /// One worker's part: on each phaser in turn it signals, asks to pass, sends and turns, as the task
-/// of its number.
+/// of its number, with a list of its own for those whom the task wakes.
 fn work<K: Ledgers, R: Wait>(
     rt: &R,
     alloc: Global,
@@ -314,9 +306,15 @@ fn work<K: Ledgers, R: Wait>(
 ) -> Result<Shares<K>, Refusal>
     requires { table.now.phasers ≡ 8 }
 {
-    let (task, mut mine) = worker;
-    call_all(rt, alloc, table, tickets, &mut mine, task)?;
-    Ok(mine)
+    let (task, mine) = worker;
+    let mut by = Caller {
+        rt,
+        tickets,
+        mine,
+        out: Out::new(alloc)?,
+    };
+    by.call_in_turns(table, task)?;
+    Ok(by.mine)
 }
 
 /// Makes the phaser and registers all workers' tasks on it.
