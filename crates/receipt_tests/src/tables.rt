@@ -22,91 +22,126 @@ use table_receipts::{
 /// The single that both propose.
 const SINGLE: u32 = 5;
 
-/// The task signals, with this item. The item of whom this wakes too.
-fn signal<K: Naming, R: Wait>(
-    alloc: Global,
-    table: &ReceiptTable<u32, K>,
-    by: &mut Caller<'_, u32, K, R>,
-    me: &mut Front<K>,
-    phaser: usize,
-    task: u32,
-    item: u32,
-) -> Result<(Reply, Option<u32>), Refusal>
-    requires phaser { phaser < table.now.phasers }
-    requires log { me.old.log ≡ K.Logs.logs phaser }
-    ensures { me.new.log ≡ me.old.log }
-{
-    by.out = Out::new(alloc)?;
-    let reply = match table.signal(by, me, phaser, task, Some(SINGLE), item) {
-        SignalAnswer::Signalled(_) => Reply::Done,
-        SignalAnswer::Parked => Reply::NotYet,
-        SignalAnswer::Refused(_, refusal) => Reply::Refused(refusal),
-    };
-    Ok((reply, by.out.take()))
-}
-
-/// The task asks to pass, with this item.
-fn pass<K: Naming, R: Wait>(
-    alloc: Global,
-    table: &ReceiptTable<u32, K>,
-    by: &mut Caller<'_, u32, K, R>,
-    me: &mut Front<K>,
-    phaser: usize,
-    task: u32,
-    item: u32,
-) -> Result<Reply, Refusal>
-    requires phaser { phaser < table.now.phasers }
-    requires log { me.old.log ≡ K.Logs.logs phaser }
-    ensures { me.new.log ≡ me.old.log }
-{
-    by.out = Out::new(alloc)?;
-    match table.pass(by, me, phaser, task, item) {
-        PassAnswer::Passed(_, phase) => Ok(Reply::Phase(phase)),
-        PassAnswer::Claimed(_, number) => Ok(Reply::Claim(number)),
-        PassAnswer::Parked => Ok(Reply::NotYet),
-        PassAnswer::Refused(_, refusal) => Ok(Reply::Refused(refusal)),
-    }
-}
-
-/// The task reports its single done. The item of whom this wakes.
-fn single_done<K: Naming, R: Wait>(
-    alloc: Global,
-    table: &ReceiptTable<u32, K>,
-    by: &mut Caller<'_, u32, K, R>,
-    me: &mut Front<K>,
-    phaser: usize,
-    task: u32,
-) -> Result<Option<u32>, Refusal>
-    requires phaser { phaser < table.now.phasers }
-    requires log { me.old.log ≡ K.Logs.logs phaser }
-    ensures { me.new.log ≡ me.old.log }
-{
-    by.out = Out::new(alloc)?;
-    table.single_done(by, me, phaser, task)?;
-    Ok(by.out.take())
-}
-
-fn drop_task<K: Naming, R: Wait>(
-    alloc: Global,
-    table: &ReceiptTable<u32, K>,
-    by: &mut Caller<'_, u32, K, R>,
-    me: &mut Front<K>,
-    phaser: usize,
-    task: u32,
-) -> Result<(), Refusal>
-    requires phaser { phaser < table.now.phasers }
-    requires log { me.old.log ≡ K.Logs.logs phaser }
-    ensures { me.new.log ≡ me.old.log }
-{
-    by.out = Out::new(alloc)?;
-    table.drop_task(by, me, phaser, task)
-}
-
 /// One sum.
 fn one_sum() -> Ops {
     let mut ops = Ops::none();
     ops.push(Op::Sum);
     ops
+}
+
+/// A phaser of a table by its number, and what was seen of it.
+#[derive(Drop)]
+struct SeenPhaser<'a, K: Naming> {
+    table: &'a ReceiptTable<u32, K>,
+    number: usize,
+    me: Front<K>,
+    ghost there: { number < table.now.phasers },
+    ghost named: { me.log ≡ K.Logs.logs number },
+}
+
+impl<'a, K: Naming> SeenPhaser<'a, K> {
+    /// The task makes the phaser, with one sum.
+    fn make<R: Wait>(
+        &mut self,
+        by: &mut Caller<'_, u32, K, R>,
+        task: u32,
+        mode: Mode,
+    ) -> Result<(), Refusal> {
+        self.table
+            .make(by, &mut self.me, self.number, task, mode, one_sum(), None)
+    }
+
+    /// The parent registers the child.
+    fn register<R: Wait>(
+        &mut self,
+        by: &mut Caller<'_, u32, K, R>,
+        parent: u32,
+        child: u32,
+        mode: Mode,
+    ) -> Result<(), Refusal> {
+        self.table
+            .register(by, &mut self.me, self.number, parent, child, mode)
+    }
+
+    /// The task sends this value.
+    fn send<R: Wait>(
+        &mut self,
+        by: &mut Caller<'_, u32, K, R>,
+        task: u32,
+        value: i32,
+    ) -> Result<(), Refusal> {
+        self.table
+            .send(by, &mut self.me, self.number, task, 0, value)
+    }
+
+    /// What the task sees of the sum.
+    fn look<R: Wait>(
+        &mut self,
+        by: &mut Caller<'_, u32, K, R>,
+        task: u32,
+    ) -> Result<Look, Refusal> {
+        self.table.look(by, &mut self.me, self.number, task, 0)
+    }
+
+    /// The task signals, with this item. The item of whom this wakes too.
+    fn signal<R: Wait>(
+        &mut self,
+        alloc: Global,
+        by: &mut Caller<'_, u32, K, R>,
+        task: u32,
+        item: u32,
+    ) -> Result<(Reply, Option<u32>), Refusal> {
+        by.out = Out::new(alloc)?;
+        let answer = self
+            .table
+            .signal(by, &mut self.me, self.number, task, Some(SINGLE), item);
+        let reply = match answer {
+            SignalAnswer::Signalled(_) => Reply::Done,
+            SignalAnswer::Parked => Reply::NotYet,
+            SignalAnswer::Refused(_, refusal) => Reply::Refused(refusal),
+        };
+        Ok((reply, by.out.take()))
+    }
+
+    /// The task asks to pass, with this item.
+    fn pass<R: Wait>(
+        &mut self,
+        alloc: Global,
+        by: &mut Caller<'_, u32, K, R>,
+        task: u32,
+        item: u32,
+    ) -> Result<Reply, Refusal> {
+        by.out = Out::new(alloc)?;
+        match self.table.pass(by, &mut self.me, self.number, task, item) {
+            PassAnswer::Passed(_, phase) => Ok(Reply::Phase(phase)),
+            PassAnswer::Claimed(_, number) => Ok(Reply::Claim(number)),
+            PassAnswer::Parked => Ok(Reply::NotYet),
+            PassAnswer::Refused(_, refusal) => Ok(Reply::Refused(refusal)),
+        }
+    }
+
+    /// The task reports its single done. The item of whom this wakes.
+    fn single_done<R: Wait>(
+        &mut self,
+        alloc: Global,
+        by: &mut Caller<'_, u32, K, R>,
+        task: u32,
+    ) -> Result<Option<u32>, Refusal> {
+        by.out = Out::new(alloc)?;
+        self.table.single_done(by, &mut self.me, self.number, task)?;
+        Ok(by.out.take())
+    }
+
+    /// The task leaves.
+    fn drop_task<R: Wait>(
+        &mut self,
+        alloc: Global,
+        by: &mut Caller<'_, u32, K, R>,
+        task: u32,
+    ) -> Result<(), Refusal> {
+        by.out = Out::new(alloc)?;
+        self.table.drop_task(by, &mut self.me, self.number, task)
+    }
 }
 
 /// Two tasks turn on phaser 0: 14 events.
@@ -118,32 +153,27 @@ fn turn_of_two<K: Naming, R: Wait + Abort>(
 ) -> Result<(), Refusal>
     requires { 0 < table.now.phasers }
 {
-    let mut me = table.front(rt, 0);
-    table.make(by, &mut me, 0, 0, Mode::Single, one_sum(), None)?;
-    table.register(by, &mut me, 0, 0, 1, Mode::Single)?;
-    table.send(by, &mut me, 0, 0, 0, 3)?;
-    table.send(by, &mut me, 0, 1, 0, 4)?;
-    assert_eq!(rt;
-        signal(alloc, table, by, &mut me, 0, 0, 10)?,
-        (Reply::Done, None)
-    );
-    assert_eq!(rt; pass(alloc, table, by, &mut me, 0, 0, 11)?, Reply::NotYet);
-    assert_eq!(rt;
-        signal(alloc, table, by, &mut me, 0, 1, 20)?,
-        (Reply::Done, Some(11))
-    );
-    assert_eq!(rt;
-        pass(alloc, table, by, &mut me, 0, 0, 12)?,
-        Reply::Claim(SINGLE)
-    );
-    assert_eq!(rt; pass(alloc, table, by, &mut me, 0, 1, 21)?, Reply::NotYet);
-    assert_eq!(rt; single_done(alloc, table, by, &mut me, 0, 0)?, Some(21));
-    assert_eq!(rt; pass(alloc, table, by, &mut me, 0, 0, 13)?, Reply::Phase(0));
-    assert_eq!(rt; pass(alloc, table, by, &mut me, 0, 1, 22)?, Reply::Phase(0));
-    assert_eq!(rt; table.look(by, &mut me, 0, 0, 0), Ok(Look::Value(7)));
-    assert_eq!(rt; table.look(by, &mut me, 0, 1, 0), Ok(Look::Value(7)));
-    drop_task(alloc, table, by, &mut me, 0, 0)?;
-    drop_task(alloc, table, by, &mut me, 0, 1)
+    let mut phaser = SeenPhaser {
+        table,
+        number: 0,
+        me: table.front(rt, 0),
+    };
+    phaser.make(by, 0, Mode::Single)?;
+    phaser.register(by, 0, 1, Mode::Single)?;
+    phaser.send(by, 0, 3)?;
+    phaser.send(by, 1, 4)?;
+    assert_eq!(rt; phaser.signal(alloc, by, 0, 10)?, (Reply::Done, None));
+    assert_eq!(rt; phaser.pass(alloc, by, 0, 11)?, Reply::NotYet);
+    assert_eq!(rt; phaser.signal(alloc, by, 1, 20)?, (Reply::Done, Some(11)));
+    assert_eq!(rt; phaser.pass(alloc, by, 0, 12)?, Reply::Claim(SINGLE));
+    assert_eq!(rt; phaser.pass(alloc, by, 1, 21)?, Reply::NotYet);
+    assert_eq!(rt; phaser.single_done(alloc, by, 0)?, Some(21));
+    assert_eq!(rt; phaser.pass(alloc, by, 0, 13)?, Reply::Phase(0));
+    assert_eq!(rt; phaser.pass(alloc, by, 1, 22)?, Reply::Phase(0));
+    assert_eq!(rt; phaser.look(by, 0), Ok(Look::Value(7)));
+    assert_eq!(rt; phaser.look(by, 1), Ok(Look::Value(7)));
+    phaser.drop_task(alloc, by, 0)?;
+    phaser.drop_task(alloc, by, 1)
 }
 
 /// Phaser 1 is made and left: 2 events.
@@ -155,9 +185,13 @@ fn made_and_left<K: Naming, R: Wait + Abort>(
 ) -> Result<(), Refusal>
     requires { 1 < table.now.phasers }
 {
-    let mut me = table.lock(rt, 1).front();
-    table.make(by, &mut me, 1, 0, Mode::SigWait, one_sum(), None)?;
-    drop_task(alloc, table, by, &mut me, 1, 0)
+    let mut phaser = SeenPhaser {
+        table,
+        number: 1,
+        me: table.lock(rt, 1).front(),
+    };
+    phaser.make(by, 0, Mode::SigWait)?;
+    phaser.drop_task(alloc, by, 0)
 }
 
 /// What is gathered once both phasers were called.
