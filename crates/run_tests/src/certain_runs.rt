@@ -2,6 +2,7 @@
 ghost use Rattle.std.specs.Prelude.{◌<◌, ◌≤◌};
 
 use crate::certificates::{CROWD, TWO_MAKERS, TWO_SENDERS, TWO_SENDERS_CERTIFICATE};
+use crate::ended::Ended;
 use certain_job::{certain_bytes, certain_on, ending_on};
 use certify_job::NoCertificate;
 use job_ends::Status;
@@ -10,14 +11,6 @@ use std::alloc::Global;
 use std::process::Abort;
 use std::sync::Wait;
 use std::thread::Threads;
-
-/// How a run that has to be certain ends, with its lines and what is reported.
-#[derive(Clone, Copy)]
-struct Ended {
-    status: Status,
-    lines: &'static str,
-    faults: &'static str,
-}
 
 /// Runs the text by as many workers, and compares how that ends. A trace is written where there are
 /// lines, and else none.
@@ -58,11 +51,7 @@ fn check<R: Abort + Threads + Wait + Sync>(rt: &R, alloc: Global, text: &str, wa
 
 #[test]
 fn certain_runs(rt: HostRuntime) {
-    let wanted = Ended {
-        status: Status::Done,
-        lines: TWO_SENDERS_CERTIFICATE,
-        faults: "",
-    };
+    let wanted = Ended::done(TWO_SENDERS_CERTIFICATE);
     check(&rt, rt.alloc(), TWO_SENDERS, &wanted);
 }
 
@@ -79,12 +68,7 @@ const UNCERTAIN: [(&str, &str); 3] = [
 #[test]
 fn uncertain_programs_are_not_run(rt: HostRuntime) {
     for (text, faults) in UNCERTAIN {
-        let wanted = Ended {
-            status: Status::Refused,
-            lines: "",
-            faults,
-        };
-        check(&rt, rt.alloc(), text, &wanted);
+        check(&rt, rt.alloc(), text, &Ended::refused(faults));
     }
 }
 

@@ -3,6 +3,7 @@ mod going;
 mod on_workers;
 mod on_world;
 
+use crate::ended::Ended;
 use job_ends::Status;
 use kernels_job::{Kernel, ending_on};
 use phase_model::Look;
@@ -75,16 +76,14 @@ fn ends(
     alloc: Global,
     kernel: Kernel,
     ran: Result<WorldReport, Refusal>,
-    status: Status,
-    lines: &str,
-    line: &str,
+    wanted: &Ended<'_>,
 ) {
     let mut out = Vec::new(alloc);
     let mut faults = Vec::new(alloc);
     let ending = ending_on(alloc, kernel, ran, &mut out, &mut faults);
-    assert!(rt; ending.status == status);
-    assert!(rt; out.as_slice() == lines.as_bytes());
-    assert!(rt; faults.as_slice() == line.as_bytes());
+    assert!(rt; ending.status == wanted.status);
+    assert!(rt; out.as_slice() == wanted.lines.as_bytes());
+    assert!(rt; faults.as_slice() == wanted.faults.as_bytes());
 }
 
 #[test]
@@ -94,27 +93,25 @@ fn results_are_printed(rt: HostRuntime) {
         rt.alloc(),
         Kernel::Stencil(1),
         report_of(rt.alloc(), &[4, 2], &[None, None], ONE_CELL),
-        Status::Done,
-        "cells 2\ntotals registered 2 signals 1 passes 1 drops 2 sends 2 up 6 down 0\n",
-        "",
+        &Ended::done(
+            "cells 2\ntotals registered 2 signals 1 passes 1 drops 2 sends 2 up 6 down 0\n",
+        ),
     );
     ends(
         &rt,
         rt.alloc(),
         Kernel::Pipeline(0),
         report_of(rt.alloc(), &[1, 2], &[None, None, None], ONE_CELL),
-        Status::Done,
-        "items 1 2\ntotals registered 2 signals 1 passes 1 drops 2 sends 2 up 6 down 0\n",
-        "",
+        &Ended::done(
+            "items 1 2\ntotals registered 2 signals 1 passes 1 drops 2 sends 2 up 6 down 0\n",
+        ),
     );
     ends(
         &rt,
         rt.alloc(),
         Kernel::Pipeline(1),
         report_of(rt.alloc(), &[], &[None, None, None, None], NO_ITEM),
-        Status::Done,
-        "items\ntotals registered 6 signals 0 passes 1 drops 6 sends 0 up 0 down 0\n",
-        "",
+        &Ended::done("items\ntotals registered 6 signals 0 passes 1 drops 6 sends 0 up 0 down 0\n"),
     );
 }
 
@@ -125,18 +122,14 @@ fn refusals_are_told(rt: HostRuntime) {
         rt.alloc(),
         Kernel::Stencil(1),
         report_of(rt.alloc(), &[4], &[None, Some(23), Some(15)], ONE_CELL),
-        Status::Refused,
-        "",
-        "refused 23 Memory\n",
+        &Ended::refused("refused 23 Memory\n"),
     );
     ends(
         &rt,
         rt.alloc(),
         Kernel::Stencil(1),
         Err(Refusal::SharesDiffer),
-        Status::Refused,
-        "",
-        "refused 26 SharesDiffer\n",
+        &Ended::refused("refused 26 SharesDiffer\n"),
     );
 }
 

@@ -11,6 +11,8 @@ mod certain_runs;
 #[cfg(test)]
 mod certificates;
 #[cfg(test)]
+mod ended;
+#[cfg(test)]
 mod kernels;
 #[cfg(test)]
 mod runs;

@@ -2,6 +2,7 @@
 //! order, and runs that print none.
 ghost use Rattle.std.specs.Prelude.{◌<◌, ◌≤◌};
 
+use crate::ended::Ended;
 use job_ends::{Failure, Status};
 use phase_modes::Refusal;
 use run_job::{ending_on, run_bytes, run_on};
@@ -21,15 +22,13 @@ fn is_written(rt: &impl Abort, bytes: &[u8], text: &str) {
     assert_eq!(rt; bytes, text.as_bytes());
 }
 
-/// Runs the text by as many workers, and compares how that ends, the lines, and what is reported.
+/// Runs the text by as many workers, and compares how that ends.
 fn check_by<R: Abort + Threads + Wait + Sync>(
     rt: &R,
     alloc: Global,
     text: &str,
     workers: u32,
-    status: Status,
-    lines: &str,
-    faults: &str,
+    wanted: &Ended<'_>,
 )
     requires { (0 < workers) × (workers ≤ 16) }
 {
@@ -45,16 +44,17 @@ fn check_by<R: Abort + Threads + Wait + Sync>(
         &mut reported,
         &mut nowhere,
     );
-    assert_eq!(rt; ended, status, "{text}");
-    is_written(rt, &out, lines);
-    is_written(rt, &reported, faults);
+    assert_eq!(rt; ended, wanted.status, "{text}");
+    is_written(rt, &out, wanted.lines);
+    is_written(rt, &reported, wanted.faults);
 }
 
 /// By 1, 2 and 16 workers the text's run is reported by these lines.
 fn reports<R: Abort + Threads + Wait + Sync>(rt: &R, alloc: Global, text: &str, lines: &str) {
-    check_by(rt, alloc, text, 1, Status::Done, lines, "");
-    check_by(rt, alloc, text, 2, Status::Done, lines, "");
-    check_by(rt, alloc, text, 16, Status::Done, lines, "");
+    let wanted = Ended::done(lines);
+    check_by(rt, alloc, text, 1, &wanted);
+    check_by(rt, alloc, text, 2, &wanted);
+    check_by(rt, alloc, text, 16, &wanted);
 }
 
 /// Programs, each with the lines of its report.
@@ -249,9 +249,7 @@ fn bad_text(rt: HostRuntime) {
         rt.alloc(),
         r#"{"main":[["next"],["jump"]]}"#,
         2,
-        Status::Refused,
-        "",
-        "refused 24 BadText at 2\n",
+        &Ended::refused("refused 24 BadText at 2\n"),
     );
 }
 

@@ -2,6 +2,7 @@
 ghost use Rattle.std.specs.Prelude.{◌≤◌, ◌<◌, length};
 
 use super::ends;
+use crate::ended::Ended;
 use job_ends::Status;
 use job_kernels::{PipelineBody, StencilBody, cells_of, items_of, pipeline_plain, stencil_plain};
 use kernels_job::{Kernel, pipeline_on, stencil_on};
@@ -53,9 +54,7 @@ fn stencil_prints<R: Threads + Wait + Sync + Abort>(
             alloc,
             Kernel::Stencil(steps),
             Ok(world),
-            Status::Done,
-            lines,
-            "",
+            &Ended::done(lines),
         );
         let mut out = Vec::new(alloc);
         let mut faults = Vec::new(alloc);
@@ -88,9 +87,7 @@ fn pipeline_prints<R: Threads + Wait + Sync + Abort>(
             alloc,
             Kernel::Pipeline(stages),
             Ok(world),
-            Status::Done,
-            lines,
-            "",
+            &Ended::done(lines),
         );
         let mut out = Vec::new(alloc);
         let mut faults = Vec::new(alloc);
