@@ -7,20 +7,20 @@ use std::process::Abort;
 
 mod programs;
 
+/// How a schedule is to end: its status, the lines that are written, and what is reported.
+#[derive(Clone, Copy)]
+struct Ended<'a> {
+    status: Status,
+    lines: &'a str,
+    faults: &'a str,
+}
+
 fn is_written(rt: &impl Abort, bytes: &[u8], text: &str) {
     assert_eq!(rt; bytes, text.as_bytes());
 }
 
-/// Runs the text by the picks, and compares how that ends, the lines, and what is reported.
-fn check(
-    rt: &impl Abort,
-    alloc: Global,
-    text: &str,
-    picks: &[u32],
-    status: Status,
-    lines: &str,
-    faults: &str,
-) {
+/// Runs the text by the picks, and compares how that ends.
+fn check(rt: &impl Abort, alloc: Global, text: &str, picks: &[u32], wanted: &Ended<'_>) {
     let mut out = Vec::new(alloc);
     let mut reported = Vec::new(alloc);
     let mut nowhere: Option<Vec<u8>> = None;
@@ -32,14 +32,19 @@ fn check(
         &mut reported,
         &mut nowhere,
     );
-    assert_eq!(rt; ended, status, "{text}");
-    is_written(rt, &out, lines);
-    is_written(rt, &reported, faults);
+    assert_eq!(rt; ended, wanted.status, "{text}");
+    is_written(rt, &out, wanted.lines);
+    is_written(rt, &reported, wanted.faults);
 }
 
 /// The text's run by the picks is reported by these lines.
 fn reports(rt: &impl Abort, alloc: Global, text: &str, picks: &[u32], lines: &str) {
-    check(rt, alloc, text, picks, Status::Done, lines, "");
+    let wanted = Ended {
+        status: Status::Done,
+        lines,
+        faults: "",
+    };
+    check(rt, alloc, text, picks, &wanted);
 }
 
 #[test]
@@ -187,14 +192,17 @@ fn trace_of_a_bounded_run(rt: HostRuntime) {
 
 #[test]
 fn bad_text(rt: HostRuntime) {
+    let wanted = Ended {
+        status: Status::Refused,
+        lines: "",
+        faults: "refused 24 BadText at 2\n",
+    };
     check(
         &rt,
         rt.alloc(),
         r#"{"main":[["next"],["jump"]]}"#,
         &[],
-        Status::Refused,
-        "",
-        "refused 24 BadText at 2\n",
+        &wanted,
     );
 }
 
