@@ -25,8 +25,8 @@ SaysOfTrace Shows l es root =
 abbrev pub HasEnded : ℕ → List Entry → Type 0
 HasEnded task es = has_end (projection (log task) es) ≡ true
 
--- of each task that has ended a body, which was its own and has asked for its end, says this of what the task had seen of
--- each phaser, which begins the story that the trace tells
+-- of each task that has ended there is a body that says this, as the task's own and where it has asked for its end, of what
+-- had been seen of each phaser, which begins the story that the trace tells
 abbrev pub SaysOfEach : {B : Type 0} → Saying B → Limits → List Entry → Type 0
 SaysOfEach Shows l es =
     (task : ℕ) → HasEnded task es → ∥ HasShown (IsSaidOf Shows) l.phasers (λ n. story_in l es n) task ∥₁
