@@ -24,7 +24,7 @@ fn named(phaser: u32, mode: Mode) -> Phased {
 fn turn_goes_from_phaser_to_phaser(rt: HostRuntime) -> Result<(), Fail> {
     let mut task = on_two_phasers(&rt)?;
     assert_eq!(rt; task.due(), Due::Step);
-    task.begin(Plan::Signalling(None, true));
+    task.begin(Plan::of(&Begun::Next));
     assert_eq!(rt; task.due(), Due::Signal(4, None));
     task.note_signal(4);
     assert_eq!(rt; task.due(), Due::Pass(4));
@@ -101,7 +101,7 @@ fn child_that_is_never_born_leaves_first(rt: HostRuntime) -> Result<(), Fail> {
     task.note_registration();
     assert_eq!(rt; task.due_with(&child), Due::Spawn(9, 0));
     task.give_up();
-    assert_eq!(rt; task.due_with(&child), Due::DropChild(9, 4));
+    assert_eq!(rt; task.due_with(&child), Due::DropChild(4, 9));
     child.leave(4);
     assert_eq!(rt; task.due_with(&child), Due::Leave(4));
     Ok(())

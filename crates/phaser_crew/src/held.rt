@@ -3,7 +3,7 @@
 ghost use Rattle.std.specs.Prelude.{◌≡◌, ◌++◌, [], ◌<◌, ◌≤◌, IfOk, IfErr, OnOk, length};
 
 use crate::hand::Hand;
-use phase_model::{Bound, Look, Ops};
+use phase_model::{Bound, Look, Ops, Terms};
 use phase_modes::{Mode, Refusal};
 use scope_locks::{Out, PassAnswer, SignalAnswer, Tickets};
 use share_book::Shares;
@@ -141,7 +141,10 @@ impl<'a, T, K: Naming, R: Wait> Hand<T> for Held<'a, T, K, R> {
     ) -> Result<(), Refusal> {
         let number = place(self.table, phaser, Refusal::PhasersFull)?;
         let mut me = self.fronts.get(number);
-        let answer = self.table.make(&mut self.by, &mut me, number, task.get(), mode, ops, bound);
+        let terms = Terms { ops, bound };
+        let answer = self
+            .table
+            .make(&mut self.by, &mut me, number, task.get(), mode, &terms);
         self.fronts.set(number, me);
         answer
     }

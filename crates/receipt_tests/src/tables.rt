@@ -5,7 +5,7 @@ ghost use Rattle.phase_modes.specs.Limits.{limits_fit};
 ghost use Rattle.share_book.specs.Opening.{IsNamed, IsParted};
 
 use ghost_log::Whole;
-use phase_model::{Look, Op, Ops, Reply};
+use phase_model::{Look, Op, Ops, Reply, Terms};
 use phase_modes::{Limits, Mode, Refusal};
 use scope_locks::{Out, PassAnswer, SignalAnswer, Tickets};
 use share_book::{Blanks, Seven, Totals, gather, open};
@@ -22,11 +22,11 @@ use table_receipts::{
 /// The single that both propose.
 const SINGLE: u32 = 5;
 
-/// One sum.
-fn one_sum() -> Ops {
+/// One sum, and no bound.
+fn one_sum() -> Terms {
     let mut ops = Ops::none();
     ops.push(Op::Sum);
-    ops
+    Terms { ops, bound: None }
 }
 
 /// A phaser of a table by its number, and what was seen of it.
@@ -48,7 +48,7 @@ impl<'a, K: Naming> SeenPhaser<'a, K> {
         mode: Mode,
     ) -> Result<(), Refusal> {
         self.table
-            .make(by, &mut self.me, self.number, task, mode, one_sum(), None)
+            .make(by, &mut self.me, self.number, task, mode, &one_sum())
     }
 
     /// The parent registers the child.

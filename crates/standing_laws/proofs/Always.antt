@@ -14,7 +14,8 @@ use Rattle.world_model.specs.Tasks.{is_born, is_ended, ends, spawns}
 use Rattle.world_model.proofs.MadeMeans.{last_accepted}
 use Rattle.task_standing.specs.Known.{Known}
 use Rattle.standing_laws.specs.Laws.{NamesFew}
-use Rattle.standing_laws.specs.Noted.{noted, known_after, known_later, gives_up, fails_alone, NotesStayTrue}
+use Rattle.task_standing.specs.Noted.{noted}
+use Rattle.standing_laws.specs.Noted.{known_after, known_later, gives_up, fails_alone, NotesStayTrue}
 use Rattle.standing_laws.proofs.Few.{plans_name_few}
 use Rattle.standing_laws.proofs.Noted.{events_are_noted}
 

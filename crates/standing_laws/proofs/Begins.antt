@@ -25,7 +25,8 @@ use Rattle.task_standing.specs.Known.{Known}
 use Rattle.task_standing.specs.Standing.{owes}
 use Rattle.task_standing.specs.StillToMake.{planned, signals_of, passes_of, drops_of, shuts_of}
 use Rattle.task_standing.specs.Histories.{held_in, IsOf, IsAbout}
-use Rattle.standing_laws.specs.Laws.{plan_of, BeginsBegin, RefusalsEnd, FailuresEnd}
+use Rattle.task_standing.specs.Noted.{plan_of}
+use Rattle.standing_laws.specs.Laws.{BeginsBegin, RefusalsEnd, FailuresEnd}
 use Rattle.standing_laws.specs.Children.{FailuresEndWith}
 use Rattle.standing_laws.proofs.Alike.{one_act_more}
 use Rattle.standing_laws.proofs.Making.{inner_is}

@@ -28,7 +28,8 @@ use Rattle.task_standing.specs.declared.plan.Plan.TheVariants as plan
 use Rattle.task_standing.specs.Known.{Known}
 use Rattle.task_standing.specs.Standing.{passed_by, registered_by, shut_by}
 use Rattle.standing_laws.specs.Laws.{NamesFew}
-use Rattle.standing_laws.specs.Noted.{noted, PlansNameFew}
+use Rattle.task_standing.specs.Noted.{noted}
+use Rattle.standing_laws.specs.Noted.{PlansNameFew}
 
 abbrev named_in : List Pair → List ℕ
 named_in ps = map (λ p. p.phaser) ps

@@ -19,7 +19,8 @@ use Rattle.task_standing.specs.Known.{Known}
 use Rattle.task_standing.specs.StillToMake.{planned}
 use Rattle.task_standing.specs.Histories.{IsAbout}
 use Rattle.standing_laws.specs.Laws.{NamesFew}
-use Rattle.standing_laws.specs.Noted.{noted, fails_alone, EventsAreNoted}
+use Rattle.task_standing.specs.Noted.{noted}
+use Rattle.standing_laws.specs.Noted.{fails_alone, EventsAreNoted}
 use Rattle.standing_laws.proofs.Alike.{singles_leave, sends_are_acts, looks_are_acts}
 use Rattle.standing_laws.proofs.Begins.{begins_begin, refusals_end, failures_end}
 use Rattle.standing_laws.proofs.ChildLeaves.{drops_child}

@@ -1,6 +1,6 @@
 -- What a task knows stays what the history says of it, event by event. In each law the history is legal with its new
 -- event.
-use Rattle.std.specs.Prelude.{ℕ, ◌≡◌, true, false, ◌==◌, List, ◌∷◌, map, Option, ℤ, filter, not, drop, [], ◌++◌, length, ◌≤◌, Some, None}
+use Rattle.std.specs.Prelude.{ℕ, ◌≡◌, true, false, ◌==◌, List, ◌∷◌, map, Option, ℤ, filter, not, drop, [], ◌++◌, length, ◌≤◌}
 use Rattle.phase_modes.specs.Limits.{limits_fit}
 use Rattle.phase_modes.specs.declared.limits.Limits.{Limits}
 use Rattle.phase_modes.specs.declared.reg.Mode.{Mode}
@@ -16,11 +16,11 @@ use Rattle.world_model.specs.Scopes.{owner}
 use Rattle.world_model.specs.declared.event.Begun.{Begun}
 use Rattle.world_model.specs.declared.event.Tried.{Tried}
 use Rattle.world_model.specs.Due.{unborn}
-use Rattle.world_model.specs.declared.event.Begun.TheVariants.{Async, Signal, Wait, Next, NextSingle, Shut, End}
 use Rattle.task_standing.specs.declared.plan.Plan.TheVariants as plan
 use Rattle.task_standing.specs.declared.plan.Plan.{Plan}
 use Rattle.task_standing.specs.Known.{Known}
 use Rattle.task_standing.specs.Standing.{marked, passed_by, acted, shut_by, inner_of, registered_by, begun, fresh}
+use Rattle.task_standing.specs.Noted.{plan_of}
 use Rattle.task_standing.specs.Histories.{IsAbout, IsOf}
 
 -- an event of another task leaves what this one knows
@@ -102,16 +102,6 @@ abbrev pub RegistrationsRegister : Type 0
 RegistrationsRegister = (l : Limits) (w : List WorldEvent) (k : Known) (n c : ℕ) (m : Mode)
     → is_legal_world l (Phaser n (Reg k.number c m) ∷ w) ≡ true → NamesFew k.plan → IsAbout w k
     → IsAbout (Phaser n (Reg k.number c m) ∷ w) (record k { plan = registered_by k.plan })
-
--- the plan by which an act goes on that is begun
-abbrev pub plan_of : Begun → Plan
-plan_of (Async c pairs) = plan.Spawning c pairs 0
-plan_of Signal = plan.Signalling None false
-plan_of Wait = plan.Turning 0
-plan_of Next = plan.Signalling None true
-plan_of (NextSingle x) = plan.Signalling (Some x) true
-plan_of Shut = plan.Shutting
-plan_of End = plan.Ending
 
 -- an act that it begins goes on by its plan
 abbrev pub BeginsBegin : Type 0

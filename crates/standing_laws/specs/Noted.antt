@@ -1,41 +1,17 @@
 -- What a task knows after any event.
-use Rattle.std.specs.Prelude.{ℕ, Bool, ◌≡◌, true, false, ◌==◌, not, if◌then◌else◌, List, [], ◌∷◌, ◌++◌, map, filter, drop}
+use Rattle.std.specs.Prelude.{ℕ, Bool, ◌≡◌, true, false, ◌==◌, if◌then◌else◌, List, [], ◌∷◌, ◌++◌}
 use Rattle.std.specs.List.{list_any}
 use Rattle.phase_modes.specs.Limits.{limits_fit}
 use Rattle.phase_modes.specs.declared.limits.Limits.{Limits}
-use Rattle.finish_core.specs.declared.event.FinishEvent.TheVariants.{Opened, Spawned, Ended, Shut as Shutting}
-use Rattle.world_model.specs.declared.event.Step.TheVariants.{Make, Reg, Sig, Claim, Did, Pass, Send, Look, Drop}
 use Rattle.world_model.specs.declared.event.WorldEvent.{WorldEvent}
-use Rattle.world_model.specs.declared.event.WorldEvent.TheVariants.{Phaser, Finish, Begin, Refuse, Fail}
+use Rattle.world_model.specs.declared.event.WorldEvent.TheVariants.{Fail}
 use Rattle.world_model.specs.Actors.{actor}
 use Rattle.world_model.specs.Replies.{is_legal_world}
 use Rattle.world_model.specs.Tasks.{is_born, ends, is_ended}
-use Rattle.task_standing.specs.declared.plan.Plan.TheVariants as plan
 use Rattle.task_standing.specs.Known.{Known}
-use Rattle.task_standing.specs.Standing.{acted, begun, inner_of, marked, passed_by, registered_by, shut_by}
+use Rattle.task_standing.specs.Noted.{noted}
 use Rattle.task_standing.specs.Histories.{IsAbout}
-use Rattle.standing_laws.specs.Laws.{NamesFew, named_child, plan_of}
-
--- what a task notes of an event that it makes itself; of its end it notes nothing
-abbrev pub noted : WorldEvent → Known → Known
-noted (Phaser n (Make t m terms)) k = record (acted k) {
-  holding = k.holding ++ record { phaser = n; finish = inner_of k; mode = m; ahead = false } ∷ [];
-}
-noted (Phaser n (Reg t c m)) k = record k { plan = registered_by k.plan }
-noted (Phaser n (Sig t x)) k = record k { holding = map (marked n true) k.holding }
-noted (Phaser n (Claim t)) k = k
-noted (Phaser n (Did t)) k = k
-noted (Phaser n (Pass t)) k = record k { plan = passed_by k.plan; holding = map (marked n false) k.holding }
-noted (Phaser n (Send t i v)) k = acted k
-noted (Phaser n (Look t i)) k = acted k
-noted (Phaser n (Drop t)) k = record k { holding = filter (λ h. not (h.phaser == n)) k.holding }
-noted (Finish f (Opened t)) k = record (acted k) { finishes = f ∷ k.finishes }
-noted (Finish f (Spawned c)) k = record k { plan = plan.Idle }
-noted (Finish f (Ended t)) k = k
-noted (Finish f Shutting) k = record k { plan = shut_by k.plan; finishes = drop 1 k.finishes }
-noted (Begin t b) k = begun (plan_of b) k
-noted (Refuse t a n) k = record k { plan = plan.Ending }
-noted (Fail t n) k = record k { plan = plan.Ending }
+use Rattle.standing_laws.specs.Laws.{NamesFew, named_child}
 
 -- where the event is that it gives up, its plan names no child
 abbrev pub fails_alone : WorldEvent → Known → Type 0

@@ -13,12 +13,12 @@ ghost use Rattle.long_receipts.specs.Told.{IsSignalAnswer, IsPassAnswer, IfPasse
 ghost use Rattle.table_receipts.specs.Logs.{blank, GoesOn};
 ghost use Rattle.table_receipts.specs.Told.{IsAnswered, IsMade};
 
+use crate::caller::Caller;
 use crate::front::{Front, PhaserLog};
 use crate::naming::Naming;
-use phase_model::{Bound, Event, Look, Ops};
+use phase_model::{Event, Look, Terms};
 use phase_modes::{Mode, Refusal};
-use scope_locks::{Out, PassAnswer, PhaserCell, Post, SignalAnswer, Tickets};
-use share_book::Shares;
+use scope_locks::{PassAnswer, PhaserCell, Post, SignalAnswer};
 
 /// A phaser with its book and those who wait at it, and the whole of its log. Each call adds the
 /// event that its answer tells, and nothing else.
@@ -78,28 +78,35 @@ impl<T, K: Naming> ReceiptCell<T, K> {
 
     /// The phaser's `make_with`, with its refusals: makes it with these operators and this bound.
     #[inline(always)]
-    pub fn make<B: Post<K>>(
+    pub fn make<B: Post<K>, R>(
         &mut self,
-        me: &mut Front<K>,
-        tickets: &Tickets,
+        by: &mut Caller<'_, T, K, R>,
         books: &mut B,
-        mine: &mut Shares<K>,
+        me: &mut Front<K>,
         task: u32,
         mode: Mode,
-        ops: Ops,
-        bound: Option<Bound>,
+        terms: &Terms,
     ) -> Result<(), Refusal>
         requires log { me.old.log ≡ K.Logs.logs self.old.number }
-        ensures told { IsMade result (make task mode) (record { ops = ops; bound = bound }) me.old.story me.new.story }
+        ensures told { IsMade result (make task mode) terms.now me.old.story me.new.story }
         ensures parked { self.new.cell.parked ≡ self.old.cell.parked }
         ensures now { me.new.story ≡ self.new.cell.state.story }
         ensures log { me.new.log ≡ me.old.log }
         ensures number { self.new.number ≡ self.old.number }
-        ensures mine { mine.new ≡ plus (amount_if (is_ok result) (Event.Make task mode)) mine.old }
+        ensures mine { by.new.mine ≡ plus (amount_if (is_ok result) (Event.Make task mode)) by.old.mine }
+        ensures out { by.new.out ≡ by.old.out }
     {
         self.log.includes(me);
         let before = self.cell.state.history().len();
-        let answer = self.cell.make(tickets, books, mine, task, mode, ops, bound);
+        let answer = self.cell.make(
+            by.tickets,
+            books,
+            &mut by.mine,
+            task,
+            mode,
+            terms.ops,
+            terms.bound,
+        );
         self.log.follow(self.cell.state.history(), before);
         *me = self.log.front();
         answer
@@ -107,12 +114,11 @@ impl<T, K: Naming> ReceiptCell<T, K> {
 
     /// The phaser's `register`, with its refusals.
     #[inline(always)]
-    pub fn register<B: Post<K>>(
+    pub fn register<B: Post<K>, R>(
         &mut self,
-        me: &mut Front<K>,
-        tickets: &Tickets,
+        by: &mut Caller<'_, T, K, R>,
         books: &mut B,
-        mine: &mut Shares<K>,
+        me: &mut Front<K>,
         parent: u32,
         child: u32,
         mode: Mode,
@@ -123,13 +129,14 @@ impl<T, K: Naming> ReceiptCell<T, K> {
         ensures now { me.new.story ≡ self.new.cell.state.story }
         ensures log { me.new.log ≡ me.old.log }
         ensures number { self.new.number ≡ self.old.number }
-        ensures mine { mine.new ≡ plus (amount_if (is_ok result) (Event.Reg parent child mode)) mine.old }
+        ensures mine { by.new.mine ≡ plus (amount_if (is_ok result) (Event.Reg parent child mode)) by.old.mine }
+        ensures out { by.new.out ≡ by.old.out }
     {
         self.log.includes(me);
         let before = self.cell.state.history().len();
         let answer = self
             .cell
-            .register(tickets, books, mine, parent, child, mode);
+            .register(by.tickets, books, &mut by.mine, parent, child, mode);
         self.log.follow(self.cell.state.history(), before);
         *me = self.log.front();
         answer
@@ -137,12 +144,11 @@ impl<T, K: Naming> ReceiptCell<T, K> {
 
     /// The phaser's `send`, with its refusals.
     #[inline(always)]
-    pub fn send<B: Post<K>>(
+    pub fn send<B: Post<K>, R>(
         &mut self,
-        me: &mut Front<K>,
-        tickets: &Tickets,
+        by: &mut Caller<'_, T, K, R>,
         books: &mut B,
-        mine: &mut Shares<K>,
+        me: &mut Front<K>,
         task: u32,
         accumulator: u8,
         value: i32,
@@ -153,13 +159,14 @@ impl<T, K: Naming> ReceiptCell<T, K> {
         ensures now { me.new.story ≡ self.new.cell.state.story }
         ensures log { me.new.log ≡ me.old.log }
         ensures number { self.new.number ≡ self.old.number }
-        ensures mine { mine.new ≡ plus (amount_if (is_ok result) (Event.Send task accumulator value)) mine.old }
+        ensures mine { by.new.mine ≡ plus (amount_if (is_ok result) (Event.Send task accumulator value)) by.old.mine }
+        ensures out { by.new.out ≡ by.old.out }
     {
         self.log.includes(me);
         let before = self.cell.state.history().len();
         let answer = self
             .cell
-            .send(tickets, books, mine, task, accumulator, value);
+            .send(by.tickets, books, &mut by.mine, task, accumulator, value);
         self.log.follow(self.cell.state.history(), before);
         *me = self.log.front();
         answer
@@ -168,12 +175,11 @@ impl<T, K: Naming> ReceiptCell<T, K> {
     /// The phaser's `look`, with its refusals. What was seen is the fold of all values that were sent for
     /// the phase before the task's own, which was closed.
     #[inline(always)]
-    pub fn look<B: Post<K>>(
+    pub fn look<B: Post<K>, R>(
         &mut self,
-        me: &mut Front<K>,
-        tickets: &Tickets,
+        by: &mut Caller<'_, T, K, R>,
         books: &mut B,
-        mine: &mut Shares<K>,
+        me: &mut Front<K>,
         task: u32,
         accumulator: u8,
     ) -> Result<Look, Refusal>
@@ -184,11 +190,14 @@ impl<T, K: Naming> ReceiptCell<T, K> {
         ensures now { me.new.story ≡ self.new.cell.state.story }
         ensures log { me.new.log ≡ me.old.log }
         ensures number { self.new.number ≡ self.old.number }
-        ensures mine { (x : Look ℤ) → mine.new ≡ plus (amount_if (is_ok result) (Event.Look task accumulator x)) mine.old }
+        ensures mine { (x : Look ℤ) → by.new.mine ≡ plus (amount_if (is_ok result) (Event.Look task accumulator x)) by.old.mine }
+        ensures out { by.new.out ≡ by.old.out }
     {
         self.log.includes(me);
         let before = self.cell.state.history().len();
-        let answer = self.cell.look(tickets, books, mine, task, accumulator);
+        let answer = self
+            .cell
+            .look(by.tickets, books, &mut by.mine, task, accumulator);
         self.log.follow(self.cell.state.history(), before);
         *me = self.log.front();
         me.is_legal();
@@ -198,33 +207,37 @@ impl<T, K: Naming> ReceiptCell<T, K> {
     /// The phaser's `signal`, with its refusals. The item comes back, or it is parked; those whom it
     /// wakes are put into `out`.
     #[inline(always)]
-    pub fn signal<B: Post<K>>(
+    pub fn signal<B: Post<K>, R>(
         &mut self,
-        me: &mut Front<K>,
-        tickets: &Tickets,
+        by: &mut Caller<'_, T, K, R>,
         books: &mut B,
-        mine: &mut Shares<K>,
-        out: &mut Out<T>,
+        me: &mut Front<K>,
         task: u32,
         number: Option<u32>,
         item: T,
     ) -> SignalAnswer<T>
         requires log { me.old.log ≡ K.Logs.logs self.old.number }
-        requires empty { out.old ≡ [] }
+        requires empty { by.old.out ≡ [] }
         ensures told { IsAnswered (λ _ r. IsSignalAnswer item (signal_result r) result) (signal task number) me.old.story me.new.story }
         ensures item { IsBackFromSignal item result }
-        ensures out { out.new ≡ freed self.new.cell.state.story self.old.cell.parked.items }
-        ensures nobody { has_signalled result ≡ false → out.new ≡ [] }
+        ensures out { by.new.out ≡ freed self.new.cell.state.story self.old.cell.parked.items }
+        ensures nobody { has_signalled result ≡ false → by.new.out ≡ [] }
         ensures now { me.new.story ≡ self.new.cell.state.story }
         ensures log { me.new.log ≡ me.old.log }
         ensures number { self.new.number ≡ self.old.number }
-        ensures mine { mine.new ≡ plus (amount_if (has_signalled result) (Event.Sig task number)) mine.old }
+        ensures mine { by.new.mine ≡ plus (amount_if (has_signalled result) (Event.Sig task number)) by.old.mine }
     {
         self.log.includes(me);
         let before = self.cell.state.history().len();
-        let answer = self
-            .cell
-            .signal(tickets, books, mine, out, task, number, item);
+        let answer = self.cell.signal(
+            by.tickets,
+            books,
+            &mut by.mine,
+            &mut by.out,
+            task,
+            number,
+            item,
+        );
         self.log.follow(self.cell.state.history(), before);
         *me = self.log.front();
         answer
@@ -234,31 +247,31 @@ impl<T, K: Naming> ReceiptCell<T, K> {
     /// are put into `out`. Where a task that can wait has passed a phase, each who was registered
     /// then, and can signal, had signalled that phase.
     #[inline(always)]
-    pub fn pass<B: Post<K>>(
+    pub fn pass<B: Post<K>, R>(
         &mut self,
-        me: &mut Front<K>,
-        tickets: &Tickets,
+        by: &mut Caller<'_, T, K, R>,
         books: &mut B,
-        mine: &mut Shares<K>,
-        out: &mut Out<T>,
+        me: &mut Front<K>,
         task: u32,
         item: T,
     ) -> PassAnswer<T>
         requires log { me.old.log ≡ K.Logs.logs self.old.number }
-        requires empty { out.old ≡ [] }
+        requires empty { by.old.out ≡ [] }
         ensures told { IsAnswered (λ h r. IsPassAnswer item (pass_result h r) result) (pass task) me.old.story me.new.story }
         ensures closed { IfPassed result (λ p. has_mode can_wait task me.new.story.past ≡ true → IsClosed p me.new.story.past) }
         ensures item { IsBack item result }
-        ensures out { out.new ≡ freed self.new.cell.state.story self.old.cell.parked.items }
-        ensures nobody { goes_on result ≡ false → out.new ≡ [] }
+        ensures out { by.new.out ≡ freed self.new.cell.state.story self.old.cell.parked.items }
+        ensures nobody { goes_on result ≡ false → by.new.out ≡ [] }
         ensures now { me.new.story ≡ self.new.cell.state.story }
         ensures log { me.new.log ≡ me.old.log }
         ensures number { self.new.number ≡ self.old.number }
-        ensures mine { mine.new ≡ plus (amount_if (goes_on result) (Event.Pass task)) mine.old }
+        ensures mine { by.new.mine ≡ plus (amount_if (goes_on result) (Event.Pass task)) by.old.mine }
     {
         self.log.includes(me);
         let before = self.cell.state.history().len();
-        let answer = self.cell.pass(tickets, books, mine, out, task, item);
+        let answer = self
+            .cell
+            .pass(by.tickets, books, &mut by.mine, &mut by.out, task, item);
         self.log.follow(self.cell.state.history(), before);
         *me = self.log.front();
         me.is_legal();
@@ -267,28 +280,28 @@ impl<T, K: Naming> ReceiptCell<T, K> {
 
     /// The phaser's `single_done`, with its refusals. Those whom it wakes are put into `out`.
     #[inline(always)]
-    pub fn single_done<B: Post<K>>(
+    pub fn single_done<B: Post<K>, R>(
         &mut self,
-        me: &mut Front<K>,
-        tickets: &Tickets,
+        by: &mut Caller<'_, T, K, R>,
         books: &mut B,
-        mine: &mut Shares<K>,
-        out: &mut Out<T>,
+        me: &mut Front<K>,
         task: u32,
     ) -> Result<(), Refusal>
         requires log { me.old.log ≡ K.Logs.logs self.old.number }
-        requires empty { out.old ≡ [] }
+        requires empty { by.old.out ≡ [] }
         ensures told { IsAnswered (λ _ r. result ≡ done_result r) (single_done task) me.old.story me.new.story }
-        ensures out { out.new ≡ freed self.new.cell.state.story self.old.cell.parked.items }
-        ensures refused { OnErr result (out.new ≡ []) }
+        ensures out { by.new.out ≡ freed self.new.cell.state.story self.old.cell.parked.items }
+        ensures refused { OnErr result (by.new.out ≡ []) }
         ensures now { me.new.story ≡ self.new.cell.state.story }
         ensures log { me.new.log ≡ me.old.log }
         ensures number { self.new.number ≡ self.old.number }
-        ensures mine { mine.new ≡ plus (amount_if (is_ok result) (Event.Did task)) mine.old }
+        ensures mine { by.new.mine ≡ plus (amount_if (is_ok result) (Event.Did task)) by.old.mine }
     {
         self.log.includes(me);
         let before = self.cell.state.history().len();
-        let answer = self.cell.single_done(tickets, books, mine, out, task);
+        let answer = self
+            .cell
+            .single_done(by.tickets, books, &mut by.mine, &mut by.out, task);
         self.log.follow(self.cell.state.history(), before);
         *me = self.log.front();
         answer
@@ -296,28 +309,28 @@ impl<T, K: Naming> ReceiptCell<T, K> {
 
     /// The phaser's `drop_task`, with its refusals. Those whom it wakes are put into `out`.
     #[inline(always)]
-    pub fn drop_task<B: Post<K>>(
+    pub fn drop_task<B: Post<K>, R>(
         &mut self,
-        me: &mut Front<K>,
-        tickets: &Tickets,
+        by: &mut Caller<'_, T, K, R>,
         books: &mut B,
-        mine: &mut Shares<K>,
-        out: &mut Out<T>,
+        me: &mut Front<K>,
         task: u32,
     ) -> Result<(), Refusal>
         requires log { me.old.log ≡ K.Logs.logs self.old.number }
-        requires empty { out.old ≡ [] }
+        requires empty { by.old.out ≡ [] }
         ensures told { IsAnswered (λ _ r. result ≡ done_result r) (drop_task task) me.old.story me.new.story }
-        ensures out { out.new ≡ freed self.new.cell.state.story self.old.cell.parked.items }
-        ensures refused { OnErr result (out.new ≡ []) }
+        ensures out { by.new.out ≡ freed self.new.cell.state.story self.old.cell.parked.items }
+        ensures refused { OnErr result (by.new.out ≡ []) }
         ensures now { me.new.story ≡ self.new.cell.state.story }
         ensures log { me.new.log ≡ me.old.log }
         ensures number { self.new.number ≡ self.old.number }
-        ensures mine { mine.new ≡ plus (amount_if (is_ok result) (Event.Drop task)) mine.old }
+        ensures mine { by.new.mine ≡ plus (amount_if (is_ok result) (Event.Drop task)) by.old.mine }
     {
         self.log.includes(me);
         let before = self.cell.state.history().len();
-        let answer = self.cell.drop_task(tickets, books, mine, out, task);
+        let answer = self
+            .cell
+            .drop_task(by.tickets, books, &mut by.mine, &mut by.out, task);
         self.log.follow(self.cell.state.history(), before);
         *me = self.log.front();
         answer

@@ -27,7 +27,7 @@ use crate::front::{Front, PhaserLog};
 use crate::logs::{NumberedLog, PhaserLogs};
 use crate::naming::Naming;
 use crossbeam_utils::CachePadded;
-use phase_model::{Bound, Event, Look, Ops};
+use phase_model::{Event, Look, Terms};
 use phase_modes::{Limits, Mode, Refusal};
 use scope_locks::{PassAnswer, PhaserCell, Post, SignalAnswer};
 use share_book::{Books, Ledgers, PhaserBook, Shares, post};
@@ -286,12 +286,11 @@ impl<T, K: Naming> ReceiptTable<T, K> {
         phaser: usize,
         task: u32,
         mode: Mode,
-        ops: Ops,
-        bound: Option<Bound>,
+        terms: &Terms,
     ) -> Result<(), Refusal>
         requires phaser { phaser < self.now.phasers }
         requires log { me.old.log ≡ K.Logs.logs phaser }
-        ensures told { IsMade result (make task mode) (record { ops = ops; bound = bound }) me.old.story me.new.story }
+        ensures told { IsMade result (make task mode) terms.now me.old.story me.new.story }
         ensures log { me.new.log ≡ me.old.log }
         ensures mine { by.new.mine ≡ plus (amount_if (is_ok result) (Event.Make task mode)) by.old.mine }
         ensures out { by.new.out ≡ by.old.out }
@@ -302,16 +301,7 @@ impl<T, K: Naming> ReceiptTable<T, K> {
             rt,
             books: &self.books,
         };
-        cell.make(
-            me,
-            by.tickets,
-            &mut books,
-            &mut by.mine,
-            task,
-            mode,
-            ops,
-            bound,
-        )
+        cell.make(by, &mut books, me, task, mode, terms)
     }
 
     /// The cell's `register`, under the phaser's lock.
@@ -337,15 +327,7 @@ impl<T, K: Naming> ReceiptTable<T, K> {
             rt,
             books: &self.books,
         };
-        cell.register(
-            me,
-            by.tickets,
-            &mut books,
-            &mut by.mine,
-            parent,
-            child,
-            mode,
-        )
+        cell.register(by, &mut books, me, parent, child, mode)
     }
 
     /// The cell's `send`, under the phaser's lock.
@@ -371,15 +353,7 @@ impl<T, K: Naming> ReceiptTable<T, K> {
             rt,
             books: &self.books,
         };
-        cell.send(
-            me,
-            by.tickets,
-            &mut books,
-            &mut by.mine,
-            task,
-            accumulator,
-            value,
-        )
+        cell.send(by, &mut books, me, task, accumulator, value)
     }
 
     /// The cell's `look`, under the phaser's lock. What was seen is the fold of all values that were
@@ -406,7 +380,7 @@ impl<T, K: Naming> ReceiptTable<T, K> {
             rt,
             books: &self.books,
         };
-        cell.look(me, by.tickets, &mut books, &mut by.mine, task, accumulator)
+        cell.look(by, &mut books, me, task, accumulator)
     }
 
     /// The cell's `signal`, under the phaser's lock. The item comes back, or it is parked.
@@ -434,16 +408,7 @@ impl<T, K: Naming> ReceiptTable<T, K> {
             rt,
             books: &self.books,
         };
-        cell.signal(
-            me,
-            by.tickets,
-            &mut books,
-            &mut by.mine,
-            &mut by.out,
-            task,
-            proposed,
-            item,
-        )
+        cell.signal(by, &mut books, me, task, proposed, item)
     }
 
     /// The cell's `pass`, under the phaser's lock. The item comes back, or it is parked. Where a task
@@ -473,15 +438,7 @@ impl<T, K: Naming> ReceiptTable<T, K> {
             rt,
             books: &self.books,
         };
-        cell.pass(
-            me,
-            by.tickets,
-            &mut books,
-            &mut by.mine,
-            &mut by.out,
-            task,
-            item,
-        )
+        cell.pass(by, &mut books, me, task, item)
     }
 
     /// The cell's `single_done`, under the phaser's lock.
@@ -506,7 +463,7 @@ impl<T, K: Naming> ReceiptTable<T, K> {
             rt,
             books: &self.books,
         };
-        cell.single_done(me, by.tickets, &mut books, &mut by.mine, &mut by.out, task)
+        cell.single_done(by, &mut books, me, task)
     }
 
     /// The cell's `drop_task`, under the phaser's lock.
@@ -531,6 +488,6 @@ impl<T, K: Naming> ReceiptTable<T, K> {
             rt,
             books: &self.books,
         };
-        cell.drop_task(me, by.tickets, &mut books, &mut by.mine, &mut by.out, task)
+        cell.drop_task(by, &mut books, me, task)
     }
 }

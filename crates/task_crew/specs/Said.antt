@@ -33,7 +33,7 @@ abbrev pub has_end : List Entry → Bool
 has_end [] = false
 has_end (e ∷ es) = is_end e.1 || has_end es
 
--- a body says this of a task, whose it is, that has seen this of each phaser, where it has asked for the task's end
+-- there is a body which says this of the task, that has seen this of each phaser, where it has asked for the task's end
 abbrev pub IsSaidOf : {B : Type 0} → Saying B → ℕ → (ℕ → Story) → Type 0
 IsSaidOf {B} Shows task seen = (b : B) × Shows b task ends seen
 

@@ -1,9 +1,12 @@
 //! How a task's act is begun, and made where it is one event.
-ghost use Rattle.std.specs.Prelude.{◌≡◌, ℕ, Ok, Some};
+ghost use Rattle.std.specs.Prelude.{◌≡◌, ℕ, Ok, Some, IfOk, OnOk, if◌then◌else◌};
 ghost use Rattle.job_script.specs.declared.act.Answer.TheVariants.{Done, Spawned};
+ghost use Rattle.world_model.specs.declared.event.WorldEvent.{WorldEvent};
 ghost use Rattle.table_receipts.specs.Seen.{story_at};
+ghost use Rattle.task_standing.specs.Noted.{noted};
 ghost use Rattle.task_queue.specs.Accounts.{IsSeatOf};
 ghost use Rattle.task_crew.specs.Heard.{nothing, make, send, look, ends, asked_by, IsSpawned};
+ghost use Rattle.task_crew.specs.inner.Driven.{HasActed, given_up, tried_by};
 ghost use Rattle.task_crew.specs.inner.Ready.{Says, IsReady};
 
 use crate::body::{Body, Gate};
@@ -20,7 +23,9 @@ use world_model::{Begun, Tried};
 
 impl<B: Body, K: RunNaming> Shared<B, K> {
     /// The task gives up what it is about, and comes to its end.
-    pub(crate) fn fail(&self, task: &mut Task<B, K>, refusal: Refusal) -> Result<(), Refusal> {
+    pub(crate) fn fail(&self, task: &mut Task<B, K>, refusal: Refusal) -> Result<(), Refusal>
+        ensures { OnOk result (task.new.standing ≡ given_up task.old.standing) }
+    {
         task.log_failed(self.tickets.draw(), refusal)?;
         task.standing.give_up();
         Ok(())
@@ -31,6 +36,7 @@ impl<B: Body, K: RunNaming> Shared<B, K> {
         ensures body { task.new.body ≡ task.old.body }
         ensures task { task.new.log.task ≡ task.old.log.task }
         ensures fronts { task.new.fronts ≡ task.old.fronts }
+        ensures standing { OnOk result (task.new.standing ≡ given_up task.old.standing) }
     {
         task.log_refused(self.tickets.draw(), tried, refusal)?;
         task.standing.give_up();
@@ -43,6 +49,7 @@ impl<B: Body, K: RunNaming> Shared<B, K> {
         ensures body { task.new.body ≡ task.old.body }
         ensures task { task.new.log.task ≡ task.old.log.task }
         ensures fronts { task.new.fronts ≡ task.old.fronts }
+        ensures standing { IfOk result (λ may. task.new.standing ≡ tried_by may task.old.standing) }
     {
         match task.standing.may_try(self.limits, &tried) {
             Ok(()) => Ok(true),
@@ -62,28 +69,31 @@ impl<B: Body, K: RunNaming> Shared<B, K> {
         terms: &Terms,
     ) -> Result<(), Refusal>
         requires says { ∥ (K.Supposing.supposed → B.Body.shows task.old.body task.old.log.task (make mode terms.now) (λ n. story_at task.old.fronts n)) ∥₁ }
+        ensures acted { OnOk result (HasActed (λ n. story_at task.old.fronts n) task.old.standing task.new.standing) }
         ensures out { by.new.out ≡ by.old.out }
     {
         let phaser = self.numbers.phaser();
-        if self.may_try(task, Tried::New(phaser, mode, *terms))? {
-            self.make_on(by, task, phaser, mode, terms)?;
+        if !self.may_try(task, Tried::New(phaser, mode, *terms))? {
+            return Ok(());
         }
-        Ok(())
+        self.make_on(by, task, phaser, mode, terms)
     }
 
     /// Opens a finish. The memory that the task needs to know it is taken before.
     fn open<R: Wait>(&self, rt: &R, task: &mut Task<B, K>) -> Result<(), Refusal>
         requires ready { ∥ (K.Supposing.supposed → IsReady B.Body.shows task.old.body task.old.log.task (Some Done) (λ n. story_at task.old.fronts n)) ∥₁ }
+        ensures acted { OnOk result (HasActed (λ n. story_at task.old.fronts n) task.old.standing task.new.standing) }
     {
         if task.standing.reserve_opening().is_err() {
             return self.fail(task, Refusal::Memory);
         }
         let finish = self.numbers.finish();
-        if self.may_try(task, Tried::Open(finish))? {
-            self.open_on(rt, task.number(), finish)?;
-            task.standing.note_opening(finish)?;
-            task.answer = Some(Answer::Done);
+        if !self.may_try(task, Tried::Open(finish))? {
+            return Ok(());
         }
+        self.open_on(rt, task.number(), finish)?;
+        task.standing.note_opening(finish)?;
+        task.answer = Some(Answer::Done);
         Ok(())
     }
 
@@ -97,6 +107,7 @@ impl<B: Body, K: RunNaming> Shared<B, K> {
         value: i32,
     ) -> Result<(), Refusal>
         requires says { ∥ (K.Supposing.supposed → B.Body.shows task.old.body task.old.log.task (send phaser accumulator value) (λ n. story_at task.old.fronts n)) ∥₁ }
+        ensures acted { OnOk result (HasActed (λ n. story_at task.old.fronts n) task.old.standing task.new.standing) }
         ensures out { by.new.out ≡ by.old.out }
     {
         let tried = Tried::Send(phaser, accumulator, value);
@@ -118,6 +129,7 @@ impl<B: Body, K: RunNaming> Shared<B, K> {
         accumulator: u8,
     ) -> Result<(), Refusal>
         requires says { ∥ (K.Supposing.supposed → B.Body.shows task.old.body task.old.log.task (look phaser accumulator) (λ n. story_at task.old.fronts n)) ∥₁ }
+        ensures acted { OnOk result (HasActed (λ n. story_at task.old.fronts n) task.old.standing task.new.standing) }
         ensures out { by.new.out ≡ by.old.out }
     {
         let tried = Tried::Look(phaser, accumulator);
@@ -130,23 +142,25 @@ impl<B: Body, K: RunNaming> Shared<B, K> {
         }
     }
 
-    /// Begins an act that goes on by this plan, where it isn't refused. Once it has come to its end the
+    /// Begins an act that goes on by a plan, where it isn't refused. Once it has come to its end the
     /// body hears this answer, if it hears one.
     fn begin(
         &self,
         task: &mut Task<B, K>,
         begun: Begun,
-        plan: Plan,
         answer: Option<Answer>,
     ) -> Result<bool, Refusal>
         requires ready { ∥ (K.Supposing.supposed → IsReady B.Body.shows task.old.body task.old.log.task answer (λ n. story_at task.old.fronts n)) ∥₁ }
         requires end { begun ≡ Begun.End → ∥ (K.Supposing.supposed → Says B.Body.shows task.old.body task.old.log.task ends (λ n. story_at task.old.fronts n)) ∥₁ }
+        ensures begun { IfOk result (λ has_begun. task.new.standing
+            ≡ if has_begun then noted (WorldEvent.Begin task.old.standing.number begun) task.old.standing
+            else given_up task.old.standing) }
     {
         if !self.may_try(task, Tried::Begun(begun))? {
             return Ok(false);
         }
         task.log_begun(self.tickets.draw(), begun)?;
-        task.standing.begin(plan);
+        task.standing.begin(Plan::of(&begun));
         task.answer = answer;
         Ok(true)
     }
@@ -156,13 +170,13 @@ impl<B: Body, K: RunNaming> Shared<B, K> {
         &self,
         task: &mut Task<B, K>,
         begun: Begun,
-        plan: Plan,
         answer: Option<Answer>,
     ) -> Result<(), Refusal>
         requires ready { ∥ (K.Supposing.supposed → IsReady B.Body.shows task.old.body task.old.log.task answer (λ n. story_at task.old.fronts n)) ∥₁ }
         requires end { begun ≡ Begun.End → ∥ (K.Supposing.supposed → Says B.Body.shows task.old.body task.old.log.task ends (λ n. story_at task.old.fronts n)) ∥₁ }
+        ensures acted { OnOk result (HasActed (λ n. story_at task.old.fronts n) task.old.standing task.new.standing) }
     {
-        let _begun = self.begin(task, begun, plan, answer)?;
+        let _begun = self.begin(task, begun, answer)?;
         Ok(())
     }
 
@@ -170,15 +184,16 @@ impl<B: Body, K: RunNaming> Shared<B, K> {
     fn spawn(&self, item: &mut Item<B, K>, body: B, pairs: Phased) -> Result<(), Refusal>
         requires ready { (its : ℕ) → ∥ (K.Supposing.supposed → IsReady B.Body.shows item.old.task.value.body item.old.task.value.log.task (Some (Spawned its)) (λ n. story_at item.old.task.value.fronts n)) ∥₁ }
         requires child { (its : ℕ) → ∥ (K.Supposing.supposed → B.Body.shows body its nothing (λ n. story_at item.old.task.value.fronts n)) ∥₁ }
+        ensures acted { OnOk result (HasActed (λ n. story_at item.old.task.value.fronts n)
+            item.old.task.value.standing item.new.task.value.standing) }
     {
         let number = self.numbers.task();
         let Ok(child) = item.task.child(self.alloc, number, body, self.limits.acts) else {
             return self.fail(&mut item.task, Refusal::Memory);
         };
         let begun = Begun::Async(number, pairs);
-        let plan = Plan::Spawning(number, pairs, 0);
         let born = Some(Answer::Spawned(number));
-        if self.begin(&mut item.task, begun, plan, born)? {
+        if self.begin(&mut item.task, begun, born)? {
             item.unborn = Some(child);
         }
         Ok(())
@@ -194,6 +209,8 @@ impl<B: Body, K: RunNaming> Shared<B, K> {
         requires says { ∥ (K.Supposing.supposed → B.Body.shows item.old.task.value.body item.old.task.value.log.task (asked_by (Ok act)) (λ n. story_at item.old.task.value.fronts n)) ∥₁ }
         requires child { (child : B) (its : ℕ) → IsSpawned child (Ok act)
             → ∥ (K.Supposing.supposed → B.Body.shows child its nothing (λ n. story_at item.old.task.value.fronts n)) ∥₁ }
+        ensures acted { OnOk result (HasActed (λ n. story_at item.old.task.value.fronts n)
+            item.old.task.value.standing item.new.task.value.standing) }
         ensures out { by.new.out ≡ by.old.out }
     {
         let done = Some(Answer::Done);
@@ -204,29 +221,22 @@ impl<B: Body, K: RunNaming> Shared<B, K> {
                 self.spawn(item, body, pairs)
             }
             Act::OpenFinish => self.open(by.rt, &mut item.task),
-            Act::ShutFinish => self.enter(&mut item.task, Begun::Shut, Plan::Shutting, done),
+            Act::ShutFinish => self.enter(&mut item.task, Begun::Shut, done),
             Act::New(mode, ops, bound) => {
                 let terms = Terms { ops, bound };
                 self.make(by, &mut item.task, mode, &terms)
             }
-            Act::Signal => {
-                let plan = Plan::Signalling(None, false);
-                self.enter(&mut item.task, Begun::Signal, plan, done)
-            }
-            Act::Wait => self.enter(&mut item.task, Begun::Wait, Plan::Turning(0), done),
-            Act::Next => {
-                let plan = Plan::Signalling(None, true);
-                self.enter(&mut item.task, Begun::Next, plan, done)
-            }
+            Act::Signal => self.enter(&mut item.task, Begun::Signal, done),
+            Act::Wait => self.enter(&mut item.task, Begun::Wait, done),
+            Act::Next => self.enter(&mut item.task, Begun::Next, done),
             Act::NextSingle(number) => {
-                let plan = Plan::Signalling(Some(number), true);
-                self.enter(&mut item.task, Begun::NextSingle(number), plan, done)
+                self.enter(&mut item.task, Begun::NextSingle(number), done)
             }
             Act::Send(phaser, accumulator, value) => {
                 self.send(by, &mut item.task, phaser, accumulator, value)
             }
             Act::Look(phaser, accumulator) => self.look(by, &mut item.task, phaser, accumulator),
-            Act::End => self.enter(&mut item.task, Begun::End, Plan::Ending, None),
+            Act::End => self.enter(&mut item.task, Begun::End, None),
         }
     }
 
@@ -237,6 +247,8 @@ impl<B: Body, K: RunNaming> Shared<B, K> {
         busy: &mut Busy<'_, B, K, R>,
         item: &mut Item<B, K>,
     ) -> Result<(), Refusal>
+        ensures acted { OnOk result (HasActed (λ n. story_at item.old.task.value.fronts n)
+            item.old.task.value.standing item.new.task.value.standing) }
         ensures seat { IsSeatOf busy.old.seat busy.new.seat }
     {
         // No clause says that a task which has begun to end isn't due to be stepped.

@@ -1,9 +1,12 @@
 //! The calls on phasers and finishes behind their locks, by number. Those whom a call wakes are
 //! given to the queue before it answers. A number past the tables is nobody's.
-ghost use Rattle.std.specs.Prelude.{◌≡◌};
+ghost use Rattle.std.specs.Prelude.{◌≡◌, IfOk, OnOk, OnErr};
+ghost use Rattle.world_model.specs.declared.event.Step.TheVariants.{Reg, Sig, Drop};
+ghost use Rattle.scope_locks.specs.Shutting.{IsBackFromShut};
 ghost use Rattle.table_receipts.specs.Seen.{story_at};
 ghost use Rattle.task_queue.specs.Accounts.{IsSeatOf};
 ghost use Rattle.task_crew.specs.Heard.{make, send, look};
+ghost use Rattle.task_crew.specs.inner.Driven.{HasActed, IsReplied, IsOfSignal, IsOfPass};
 
 use crate::body::Body;
 use crate::naming::RunNaming;
@@ -27,13 +30,13 @@ impl<B: Body, K: RunNaming> Shared<B, K> {
         terms: &Terms,
     ) -> Result<(), Refusal>
         requires says { ∥ (K.Supposing.supposed → B.Body.shows task.old.body task.old.log.task (make mode terms.now) (λ n. story_at task.old.fronts n)) ∥₁ }
+        ensures acted { OnOk result (HasActed (λ n. story_at task.old.fronts n) task.old.standing task.new.standing) }
         ensures out { by.new.out ≡ by.old.out }
     {
         let number = self.place(phaser, Refusal::PhasersFull)?;
         let maker = task.number();
         let mut me = task.front(number);
-        self.phasers
-            .make(by, &mut me, number, maker, mode, terms.ops, terms.bound)?;
+        self.phasers.make(by, &mut me, number, maker, mode, terms)?;
         task.standing.note_making(phaser, mode)?;
         task.fronts.set(number, me);
         task.answer = Some(Answer::Made(phaser));
@@ -47,6 +50,9 @@ impl<B: Body, K: RunNaming> Shared<B, K> {
         child: u32,
         pair: Pair,
     ) -> Result<(), Refusal>
+        ensures told { OnOk result (IsReplied (story_at task.old.fronts pair.phaser)
+            (Reg task.old.standing.number child pair.mode)) }
+        ensures standing { task.new.standing ≡ task.old.standing }
         ensures out { by.new.out ≡ by.old.out }
     {
         let number = self.place(pair.phaser, Refusal::NotRegistered)?;
@@ -68,6 +74,8 @@ impl<B: Body, K: RunNaming> Shared<B, K> {
         value: i32,
     ) -> Result<(), Refusal>
         requires says { ∥ (K.Supposing.supposed → B.Body.shows task.old.body task.old.log.task (send phaser accumulator value) (λ n. story_at task.old.fronts n)) ∥₁ }
+        ensures acted { OnOk result (HasActed (λ n. story_at task.old.fronts n) task.old.standing task.new.standing) }
+        ensures refused { OnErr result (task.new.standing ≡ task.old.standing) }
         ensures out { by.new.out ≡ by.old.out }
     {
         let number = self.place(phaser, Refusal::NotRegistered)?;
@@ -90,6 +98,8 @@ impl<B: Body, K: RunNaming> Shared<B, K> {
         accumulator: u8,
     ) -> Result<(), Refusal>
         requires says { ∥ (K.Supposing.supposed → B.Body.shows task.old.body task.old.log.task (look phaser accumulator) (λ n. story_at task.old.fronts n)) ∥₁ }
+        ensures acted { OnOk result (HasActed (λ n. story_at task.old.fronts n) task.old.standing task.new.standing) }
+        ensures refused { OnErr result (task.new.standing ≡ task.old.standing) }
         ensures out { by.new.out ≡ by.old.out }
     {
         let number = self.place(phaser, Refusal::NotRegistered)?;
@@ -110,6 +120,8 @@ impl<B: Body, K: RunNaming> Shared<B, K> {
         phaser: u32,
         proposed: Option<u32>,
     ) -> Result<SignalAnswer<Item<B, K>>, Refusal>
+        ensures told { IfOk result (IsOfSignal (λ i. i.task.value.standing) item.task.value.standing
+            (story_at item.task.value.fronts phaser) (Sig item.task.value.standing.number proposed)) }
         ensures seat { IsSeatOf busy.old.seat busy.new.seat }
     {
         let number = match self.place(phaser, Refusal::NotRegistered) {
@@ -120,14 +132,18 @@ impl<B: Body, K: RunNaming> Shared<B, K> {
         let task = item.task.number();
         let mut me = item.task.front(number);
         let Busy { seat, by, kept, .. } = busy;
-        let mut answer = self
+        let answer = self
             .phasers
             .signal(by, &mut me, number, task, proposed, item);
-        if let SignalAnswer::Signalled(item) = &mut answer {
-            item.task.note_own(number, me);
-        }
         self.flush(by.rt, seat, kept, &mut by.out)?;
-        Ok(answer)
+        match answer {
+            SignalAnswer::Signalled(signalled) => {
+                let mut item = signalled;
+                item.task.note_own(number, me);
+                Ok(SignalAnswer::Signalled(item))
+            }
+            other => Ok(other),
+        }
     }
 
     /// The item comes back, or it is parked.
@@ -137,6 +153,8 @@ impl<B: Body, K: RunNaming> Shared<B, K> {
         item: Item<B, K>,
         phaser: u32,
     ) -> Result<PassAnswer<Item<B, K>>, Refusal>
+        ensures told { IfOk result (IsOfPass (λ i. i.task.value.standing) item.task.value.standing
+            (story_at item.task.value.fronts phaser) item.task.value.standing.number) }
         ensures seat { IsSeatOf busy.old.seat busy.new.seat }
     {
         let number = match self.place(phaser, Refusal::NotRegistered) {
@@ -147,12 +165,16 @@ impl<B: Body, K: RunNaming> Shared<B, K> {
         let task = item.task.number();
         let mut me = item.task.front(number);
         let Busy { seat, by, kept, .. } = busy;
-        let mut answer = self.phasers.pass(by, &mut me, number, task, item);
-        if let PassAnswer::Passed(item, _) = &mut answer {
-            item.task.note_own(number, me);
-        }
+        let answer = self.phasers.pass(by, &mut me, number, task, item);
         self.flush(by.rt, seat, kept, &mut by.out)?;
-        Ok(answer)
+        match answer {
+            PassAnswer::Passed(passed, phase) => {
+                let mut item = passed;
+                item.task.note_own(number, me);
+                Ok(PassAnswer::Passed(item, phase))
+            }
+            other => Ok(other),
+        }
     }
 
     pub(crate) fn report_on<R: Wait>(
@@ -163,6 +185,7 @@ impl<B: Body, K: RunNaming> Shared<B, K> {
     ) -> Result<(), Refusal>
         ensures seat { IsSeatOf busy.old.seat busy.new.seat }
         ensures body { task.new.body ≡ task.old.body }
+        ensures standing { task.new.standing ≡ task.old.standing }
     {
         let number = self.place(phaser, Refusal::NotRegistered)?;
         let reporter = task.number();
@@ -180,6 +203,8 @@ impl<B: Body, K: RunNaming> Shared<B, K> {
         phaser: u32,
         leaver: u32,
     ) -> Result<(), Refusal>
+        ensures told { OnOk result (IsReplied (story_at task.old.fronts phaser) (Drop leaver)) }
+        ensures standing { task.new.standing ≡ task.old.standing }
         ensures seat { IsSeatOf busy.old.seat busy.new.seat }
     {
         let number = self.place(phaser, Refusal::NotRegistered)?;
@@ -231,7 +256,9 @@ impl<B: Body, K: RunNaming> Shared<B, K> {
         rt: &R,
         item: Item<B, K>,
         finish: u32,
-    ) -> ShutAnswer<Item<B, K>> {
+    ) -> ShutAnswer<Item<B, K>>
+        ensures item { IsBackFromShut item result }
+    {
         let number = match self.finishes.place(finish, Refusal::NotNow) {
             Ok(number) => number,
             Err(refusal) => return ShutAnswer::Refused(item, refusal),

@@ -1,6 +1,8 @@
 //! How a worker drives a task, event by event.
-ghost use Rattle.std.specs.Prelude.{IfOk, IfErr, IfSome};
+ghost use Rattle.std.specs.Prelude.{◌≡◌, IfOk, IfErr, option_map};
+ghost use Rattle.table_receipts.specs.Seen.{story_at};
 ghost use Rattle.task_crew.specs.Refused.{IsRunRefused};
+ghost use Rattle.task_crew.specs.inner.Driven.{IfGoesOn, GoesBy, HasGoneOn, given_up};
 ghost use Rattle.task_queue.specs.Accounts.{IsSeatOf};
 
 use crate::body::{Body, Gate};
@@ -39,7 +41,9 @@ impl<B: Body, K: RunNaming> Shared<B, K> {
         item: Item<B, K>,
         refusal: Refusal,
         may_fail: bool,
-    ) -> Result<Next<B, K>, Refusal> {
+    ) -> Result<Next<B, K>, Refusal>
+        ensures { IfGoesOn result (λ next. next.task.value.standing ≡ given_up item.task.value.standing) }
+    {
         let mut item = item;
         if !may_fail {
             return Err(refusal);
@@ -56,6 +60,8 @@ impl<B: Body, K: RunNaming> Shared<B, K> {
         phaser: u32,
         number: Option<u32>,
     ) -> Result<Next<B, K>, Refusal>
+        ensures made { IfGoesOn result (λ next. GoesBy (λ n. story_at item.task.value.fronts n) (Due.Signal phaser number)
+            item.task.value.standing next.task.value.standing) }
         ensures seat { IsSeatOf busy.old.seat busy.new.seat }
     {
         match self.signal_on(busy, item, phaser, number)? {
@@ -81,7 +87,8 @@ impl<B: Body, K: RunNaming> Shared<B, K> {
         number: u32,
     ) -> Result<Next<B, K>, Refusal>
         ensures seat { IsSeatOf busy.old.seat busy.new.seat }
-        ensures ran { IfOk result (λ next. IfSome next (λ after. B.Body.ran item.task.value.body number after.task.value.body)) }
+        ensures ran { IfGoesOn result (λ next. B.Body.ran item.task.value.body number next.task.value.body) }
+        ensures standing { IfGoesOn result (λ next. next.task.value.standing ≡ item.task.value.standing) }
     {
         let mut item = item;
         item.task.run_single(number);
@@ -95,6 +102,8 @@ impl<B: Body, K: RunNaming> Shared<B, K> {
         item: Item<B, K>,
         phaser: u32,
     ) -> Result<Next<B, K>, Refusal>
+        ensures made { IfGoesOn result (λ next. GoesBy (λ n. story_at item.task.value.fronts n) (Due.Pass phaser)
+            item.task.value.standing next.task.value.standing) }
         ensures seat { IsSeatOf busy.old.seat busy.new.seat }
     {
         match self.pass_on(busy, item, phaser)? {
@@ -119,6 +128,8 @@ impl<B: Body, K: RunNaming> Shared<B, K> {
         child: u32,
         pair: Pair,
     ) -> Result<Next<B, K>, Refusal>
+        ensures made { IfGoesOn result (λ next. GoesBy (λ n. story_at item.task.value.fronts n) (Due.Register child pair)
+            item.task.value.standing next.task.value.standing) }
         ensures seat { IsSeatOf busy.old.seat busy.new.seat }
     {
         let mut item = item;
@@ -139,19 +150,21 @@ impl<B: Body, K: RunNaming> Shared<B, K> {
         &self,
         busy: &mut Busy<'_, B, K, R>,
         item: Item<B, K>,
+        child: u32,
         finish: u32,
     ) -> Result<Next<B, K>, Refusal>
+        ensures made { IfGoesOn result (λ next. GoesBy (λ n. story_at item.task.value.fronts n) (Due.Spawn child finish)
+            item.task.value.standing next.task.value.standing) }
         ensures seat { IsSeatOf busy.old.seat busy.new.seat }
     {
         let Item { task, unborn } = item;
         let mut task = task;
-        let Some(child) = unborn else {
+        let Some(born) = unborn else {
             return Err(Refusal::NotNow);
         };
-        let number = child.number();
-        self.spawn_on(busy.by.rt, number, finish)?;
+        self.spawn_on(busy.by.rt, child, finish)?;
         task.standing.note_birth();
-        self.give(busy, Item::of(child))?;
+        self.give(busy, Item::of(born))?;
         Ok(Some(Item::of(task)))
     }
 
@@ -162,6 +175,8 @@ impl<B: Body, K: RunNaming> Shared<B, K> {
         item: Item<B, K>,
         phaser: u32,
     ) -> Result<Next<B, K>, Refusal>
+        ensures made { IfGoesOn result (λ next. GoesBy (λ n. story_at item.task.value.fronts n) (Due.Leave phaser)
+            item.task.value.standing next.task.value.standing) }
         ensures seat { IsSeatOf busy.old.seat busy.new.seat }
     {
         let mut item = item;
@@ -179,6 +194,8 @@ impl<B: Body, K: RunNaming> Shared<B, K> {
         phaser: u32,
         child: u32,
     ) -> Result<Next<B, K>, Refusal>
+        ensures made { IfGoesOn result (λ next. GoesBy (λ n. story_at item.task.value.fronts n) (Due.DropChild phaser child)
+            item.task.value.standing next.task.value.standing) }
         ensures seat { IsSeatOf busy.old.seat busy.new.seat }
     {
         let mut item = item;
@@ -187,7 +204,10 @@ impl<B: Body, K: RunNaming> Shared<B, K> {
         Ok(Some(item))
     }
 
-    fn shut<R: Wait>(&self, rt: &R, item: Item<B, K>, finish: u32) -> Result<Next<B, K>, Refusal> {
+    fn shut<R: Wait>(&self, rt: &R, item: Item<B, K>, finish: u32) -> Result<Next<B, K>, Refusal>
+        ensures made { IfGoesOn result (λ next. GoesBy (λ n. story_at item.task.value.fronts n) (Due.Shut finish)
+            item.task.value.standing next.task.value.standing) }
+    {
         match self.shut_on(rt, item, finish) {
             ShutAnswer::Done(shut) => {
                 let mut item = shut;
@@ -206,6 +226,7 @@ impl<B: Body, K: RunNaming> Shared<B, K> {
         item: Item<B, K>,
         finish: u32,
     ) -> Result<Next<B, K>, Refusal>
+        ensures over { IfGoesOn result (λ _. ⊥) }
         ensures seat { IsSeatOf busy.old.seat busy.new.seat }
     {
         let Item { task, unborn: _ } = item;
@@ -222,6 +243,7 @@ impl<B: Body, K: RunNaming> Shared<B, K> {
         busy: &mut Busy<'_, B, K, R>,
         item: Item<B, K>,
     ) -> Result<Next<B, K>, Refusal>
+        ensures over { IfGoesOn result (λ _. ⊥) }
         ensures seat { IsSeatOf busy.old.seat busy.new.seat }
     {
         match self.shut_on(busy.by.rt, item, 0) {
@@ -255,6 +277,8 @@ impl<B: Body, K: RunNaming> Shared<B, K> {
         busy: &mut Busy<'_, B, K, R>,
         item: Item<B, K>,
     ) -> Result<Next<B, K>, Refusal>
+        ensures goes { IfGoesOn result (λ next. HasGoneOn (λ n. story_at item.task.value.fronts n)
+            (option_map (λ c. c.value.standing) item.unborn) item.task.value.standing next.task.value.standing) }
         ensures seat { IsSeatOf busy.old.seat busy.new.seat }
     {
         let mut item = item;
@@ -266,8 +290,8 @@ impl<B: Body, K: RunNaming> Shared<B, K> {
             Due::Signal(phaser, number) => self.signal(busy, item, phaser, number),
             Due::Pass(phaser) => self.pass(busy, item, phaser),
             Due::Register(child, pair) => self.register(busy, item, child, pair),
-            Due::Spawn(_, finish) => self.bear(busy, item, finish),
-            Due::DropChild(child, phaser) => self.drop_child(busy, item, phaser, child),
+            Due::Spawn(child, finish) => self.bear(busy, item, child, finish),
+            Due::DropChild(phaser, child) => self.drop_child(busy, item, phaser, child),
             Due::Leave(phaser) => self.leave(busy, item, phaser),
             Due::Shut(finish) => self.shut(busy.by.rt, item, finish),
             Due::End(finish) => self.end(busy, item, finish),

@@ -27,6 +27,13 @@ use std::thread::Threads;
 use table_receipts::{Fronts, Logs, Named, Noted, PhaserLogs, ReceiptTable, new_logs};
 use task_queue::RunQueue;
 
+/// What a run's ledgers and logs are to be named by.
+#[derive(Drop)]
+struct Unnamed {
+    blanks: Blanks,
+    logs: Vec<Whole<Noted>>,
+}
+
 /// The root, before its first act.
 fn root_of<K: RunNaming, B: Body, R: Wait>(
     rt: &R,
@@ -49,21 +56,20 @@ fn run_in<K: RunNaming + SharedLedgers, B: Body + Send, G: Gate + Sync, R: Threa
     alloc: Global,
     root: B,
     limits: Limits,
-    blanks: Blanks,
-    logs: Vec<Whole<Noted>>,
+    unnamed: Unnamed,
     gate: &G,
 ) -> Result<Remains<B>, Refusal>
-    requires names { IsNamed blanks K.EventsByPhaser.name K.EventsByWorker.name K.UpByPhaser.name
+    requires names { IsNamed unnamed.blanks K.EventsByPhaser.name K.EventsByWorker.name K.UpByPhaser.name
         K.UpByWorker.name K.DownByPhaser.name K.DownByWorker.name K.Room.name }
-    requires parts { IsParted blanks K.EventsByPhaser.parts K.EventsByWorker.parts K.UpByPhaser.parts
+    requires parts { IsParted unnamed.blanks K.EventsByPhaser.parts K.EventsByWorker.parts K.UpByPhaser.parts
         K.UpByWorker.parts K.DownByPhaser.parts K.DownByWorker.parts K.Room.parts }
-    requires blanks { blanks.phasers ≡ limits.phasers }
-    requires workers { (0 < blanks.workers) × (blanks.workers ≤ 16) }
+    requires blanks { unnamed.blanks.phasers ≡ limits.phasers }
+    requires workers { (0 < unnamed.blanks.workers) × (unnamed.blanks.workers ≤ 16) }
     requires limits { limits_fit limits ≡ true }
     requires limited { limits ≡ K.Logs.limits }
-    requires logs { (i : ℕ) → IfSome (slice_get logs.items i) (λ w. w.name ≡ K.Logs.logs i) }
-    requires empty { All (λ w. w.items ≡ []) logs.items }
-    requires each { vec_len logs ≡ limits.phasers }
+    requires logs { (i : ℕ) → IfSome (slice_get unnamed.logs.items i) (λ w. w.name ≡ K.Logs.logs i) }
+    requires empty { All (λ w. w.items ≡ []) unnamed.logs.items }
+    requires each { vec_len unnamed.logs ≡ limits.phasers }
     requires root { K.Supposing.supposed → (seen : ℕ → Story) → B.Body.shows root 0 nothing seen }
     requires tells { ∥ Tells B.Body.shows K.Supposing.told ∥₁ }
     ensures remains { IfOk result (λ r. AreRemains limits r.phasers.items r.finishes.items r.logs.items r.totals) }
@@ -71,6 +77,7 @@ fn run_in<K: RunNaming + SharedLedgers, B: Body + Send, G: Gate + Sync, R: Threa
     ensures each { IfOk result (λ r. K.Supposing.supposed → AreSaid K.Supposing.told limits r.phasers.items r.logs.items) }
     ensures refused { IfErr result (λ e. IsRunRefused e) }
 {
+    let Unnamed { blanks, logs } = unnamed;
     let workers = blanks.workers;
     let (books, phasers, shares) = open::<K>(alloc, blanks)?;
     let logs = PhaserLogs::<K>::of(alloc, logs)?;
@@ -110,19 +117,18 @@ fn run_over<
     alloc: Global,
     root: B,
     limits: Limits,
-    blanks: Blanks,
-    logs: Vec<Whole<Noted>>,
+    unnamed: Unnamed,
     gate: &G,
 ) -> Result<Remains<B>, Refusal>
-    requires names { IsNamed blanks EP.name EW.name UP.name UW.name DP.name DW.name RM.name }
-    requires parts { IsParted blanks EP.parts EW.parts UP.parts UW.parts DP.parts DW.parts RM.parts }
-    requires blanks { blanks.phasers ≡ limits.phasers }
-    requires workers { (0 < blanks.workers) × (blanks.workers ≤ 16) }
+    requires names { IsNamed unnamed.blanks EP.name EW.name UP.name UW.name DP.name DW.name RM.name }
+    requires parts { IsParted unnamed.blanks EP.parts EW.parts UP.parts UW.parts DP.parts DW.parts RM.parts }
+    requires blanks { unnamed.blanks.phasers ≡ limits.phasers }
+    requires workers { (0 < unnamed.blanks.workers) × (unnamed.blanks.workers ≤ 16) }
     requires limits { limits_fit limits ≡ true }
     requires limited { limits ≡ L.Logs.limits }
-    requires logs { (i : ℕ) → IfSome (slice_get logs.items i) (λ w. w.name ≡ L.Logs.logs i) }
-    requires empty { All (λ w. w.items ≡ []) logs.items }
-    requires each { vec_len logs ≡ limits.phasers }
+    requires logs { (i : ℕ) → IfSome (slice_get unnamed.logs.items i) (λ w. w.name ≡ L.Logs.logs i) }
+    requires empty { All (λ w. w.items ≡ []) unnamed.logs.items }
+    requires each { vec_len unnamed.logs ≡ limits.phasers }
     requires root { L.Supposing.supposed → (seen : ℕ → Story) → B.Body.shows root 0 nothing seen }
     requires tells { ∥ Tells B.Body.shows L.Supposing.told ∥₁ }
     ensures remains { IfOk result (λ r. AreRemains limits r.phasers.items r.finishes.items r.logs.items r.totals) }
@@ -131,7 +137,7 @@ fn run_over<
     ensures refused { IfErr result (λ e. IsRunRefused e) }
 {
     run_in::<Named<Seven<EP, EW, UP, UW, DP, DW, RM>, L>, B, G, R>(
-        rt, alloc, root, limits, blanks, logs, gate,
+        rt, alloc, root, limits, unnamed, gate,
     )
 }
 
@@ -160,13 +166,11 @@ pub fn run_tasks<B: Body + Send, G: Gate + Sync, R: Threads + Wait + Sync>(
     ensures refused { IfErr result (λ e. IsRunRefused e) }
 {
     let logs = new_logs(alloc, limits.phasers)?;
-    run_over::<B, G, R, Brand, Brand, Brand, Brand, Brand, Brand, Brand, Brand>(
-        rt,
-        alloc,
-        root,
-        limits,
-        Blanks::new(limits.phasers, workers),
+    let unnamed = Unnamed {
+        blanks: Blanks::new(limits.phasers, workers),
         logs,
-        gate,
+    };
+    run_over::<B, G, R, Brand, Brand, Brand, Brand, Brand, Brand, Brand, Brand>(
+        rt, alloc, root, limits, unnamed, gate,
     )
 }

@@ -11,13 +11,13 @@ ghost use Rattle.task_crew.specs.Said.{IsSaid, AreSaid};
 use crate::body::Body;
 use crate::logs::logs_of;
 use crate::naming::RunNaming;
-use crate::task::{Item, RootLeft, TaskLeft};
+use crate::task::{RootLeft, TaskLeft};
 use phase_modes::{Limits, Refusal};
-use scope_locks::{FinishParts, FinishTable};
+use scope_locks::FinishParts;
 use share_book::{Shares, Totals, gather};
 use std::alloc::Global;
-use std::sync::{Mutex, Wait};
-use table_receipts::{ReceiptParts, ReceiptTable};
+use std::sync::Mutex;
+use table_receipts::ReceiptParts;
 use trace_model::Part;
 
 /// What a run leaves: the histories of its phasers and finishes with their tickets, each kind in
@@ -32,8 +32,9 @@ pub struct Remains<B> {
     pub root: B,
 }
 
-/// What a run leaves, by what its tables and its workers leave.
-fn gathered<K: RunNaming, B: Body>(
+/// What a run leaves, by what its tables and its workers leave. `NotExplained` where two logs are of one
+/// task.
+pub(crate) fn gathered<K: RunNaming, B: Body>(
     alloc: Global,
     limits: Limits,
     phasers: ReceiptParts<K>,
@@ -83,34 +84,4 @@ fn gathered<K: RunNaming, B: Body>(
         totals,
         root: body,
     })
-}
-
-/// The same, where the tables are still whole. `NotExplained` where the root has left nothing, or two
-/// logs are of one task.
-pub(crate) fn remains_of<K: RunNaming, B: Body, R: Wait>(
-    rt: &R,
-    alloc: Global,
-    limits: Limits,
-    phasers: ReceiptTable<Item<B, K>, K>,
-    finishes: FinishTable<Item<B, K>, Mutex<TaskLeft<K>>>,
-    shares: Vec<Shares<K>>,
-    root: Option<RootLeft<B, K>>,
-) -> Result<Remains<B>, Refusal>
-    requires fit { limits_fit limits ≡ true }
-    requires limits { limits ≡ K.Logs.limits }
-    requires phasers { phasers.phasers ≡ limits.phasers }
-    requires finishes { finishes.finishes ≡ limits.finishes }
-    requires workers { AreAllParts (vec_len shares) K.EventsByWorker.parts K.UpByWorker.parts K.DownByWorker.parts }
-    requires books { AreAllParts limits.phasers K.EventsByPhaser.parts K.UpByPhaser.parts K.DownByPhaser.parts }
-    ensures remains { IfOk result (λ r. AreRemains limits r.phasers.items r.finishes.items r.logs.items r.totals) }
-    ensures says { IfOk result (λ r. K.Supposing.supposed → IsSaid B.Body.shows limits r.phasers.items r.root) }
-    ensures each { IfOk result (λ r. K.Supposing.supposed → AreSaid K.Supposing.told limits r.phasers.items r.logs.items) }
-    ensures refused { IfErr result (λ e. IsRunRefused e) }
-{
-    let Some(root) = root else {
-        return Err(Refusal::NotExplained(0));
-    };
-    let of_phasers = phasers.into_parts(rt);
-    let of_finishes = finishes.into_parts();
-    gathered(alloc, limits, of_phasers, of_finishes, shares, root)
 }

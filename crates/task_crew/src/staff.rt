@@ -12,7 +12,7 @@ use crate::body::{Body, Gate};
 use crate::crew::in_threads;
 use crate::driver::Team;
 use crate::naming::RunNaming;
-use crate::remains::{Remains, remains_of};
+use crate::remains::{Remains, gathered};
 use crate::task::{Item, RootLeft};
 use crate::worker::{Shared, Worker};
 use phase_modes::{Limits, Refusal};
@@ -176,7 +176,8 @@ fn work_all<K: RunNaming + SharedLedgers, B: Body + Send, G: Gate + Sync, R: Thr
     left_of(shared.alloc, done)
 }
 
-/// Runs the workers, and gathers what they leave.
+/// Runs the workers, and gathers what they leave. `NotExplained` where the root has left nothing, or
+/// where two logs are of one task.
 pub(crate) fn run_staff<
     K: RunNaming + SharedLedgers,
     B: Body + Send,
@@ -209,5 +210,10 @@ pub(crate) fn run_staff<
         ..
     } = shared;
     none_left(queue, seats)?;
-    remains_of(rt, alloc, limits, phasers, finishes, shares, root)
+    let Some(root) = root else {
+        return Err(Refusal::NotExplained(0));
+    };
+    let of_phasers = phasers.into_parts(rt);
+    let of_finishes = finishes.into_parts();
+    gathered(alloc, limits, of_phasers, of_finishes, shares, root)
 }

@@ -1,8 +1,11 @@
 //! A task in flight: its body, what it knows of itself, what it has seen, and what it notes.
-ghost use Rattle.std.specs.Prelude.{◌≡◌, ◌<◌, ℕ, true, false, IfErr, IfSome, length};
+ghost use Rattle.std.specs.Prelude.{◌≡◌, ◌<◌, ℕ, true, false, IfErr, IfSome, OnOk, length, option_map, slice_get};
 ghost use Rattle.table_receipts.specs.Logs.{GoesOn};
 ghost use Rattle.table_receipts.specs.Seen.{story_at};
 ghost use Rattle.task_crew.specs.Heard.{nothing, ends, asked_by, IsSpawned, IsOwn};
+ghost use Rattle.task_standing.specs.Standing.{registered_by};
+ghost use Rattle.task_standing.specs.StillToMake.{event_of};
+ghost use Rattle.task_crew.specs.inner.Driven.{still_of};
 ghost use Rattle.task_crew.specs.inner.Ready.{Says, IsReady, HasSaid, IsTold, is_of_each};
 
 use crate::body::Body;
@@ -26,6 +29,7 @@ pub(crate) struct Task<B: Body, K: RunNaming> {
     /// Which phasers it holds, which finishes it has open, and what it is about.
     pub(crate) standing: Standing,
     pub(crate) log: Diary,
+    ghost own: { standing.number ≡ log.task },
     ghost all: { length fronts ≡ K.Logs.limits.phasers },
     ghost ready: { ∥ (K.Supposing.supposed → IsReady B.Body.shows body log.task answer (λ n. story_at fronts n)) ∥₁ },
     ghost end: { log.ended ≡ true → ∥ (K.Supposing.supposed → Says B.Body.shows body log.task ends (λ n. story_at fronts n)) ∥₁ },
@@ -98,6 +102,7 @@ impl<B: Body, K: RunNaming> Task<B, K> {
         ensures body { self.new.body ≡ self.old.body }
         ensures task { self.new.log.task ≡ self.old.log.task }
         ensures fronts { self.new.fronts ≡ self.old.fronts }
+        ensures standing { self.new.standing ≡ self.old.standing }
         ensures memory { IfErr result (λ e. e ≡ Refusal.Memory) }
     {
         let fronts = self.fronts.again(alloc)?;
@@ -112,13 +117,15 @@ impl<B: Body, K: RunNaming> Task<B, K> {
         ensures body { self.new.body ≡ self.old.body }
         ensures task { self.new.log.task ≡ self.old.log.task }
         ensures fronts { self.new.fronts ≡ self.old.fronts }
+        ensures standing { self.new.standing ≡ self.old.standing }
     {
         self.fronts.get(phaser)
     }
 
     /// Its number, by which its log stands in the trace.
     pub(crate) fn number(&self) -> u32
-        ensures { result ≡ self.now.log.task }
+        ensures log { result ≡ self.now.log.task }
+        ensures standing { result ≡ self.now.standing.number }
     {
         self.log.task()
     }
@@ -133,6 +140,8 @@ impl<B: Body, K: RunNaming> Task<B, K> {
     /// The body's next act, after what came of its last one; none where nothing did yet.
     pub(crate) fn next_act(&mut self) -> Option<Result<Act<B>, Refusal>>
         requires goes_on { self.old.log.ended ≡ false }
+        ensures fronts { self.new.fronts ≡ self.old.fronts }
+        ensures standing { self.new.standing ≡ self.old.standing }
         ensures says { IfSome result (λ act. ∥ (K.Supposing.supposed → B.Body.shows self.new.body self.new.log.task (asked_by act) (λ n. story_at self.new.fronts n)) ∥₁) }
         ensures child { IfSome result (λ act. (child : B) (its : ℕ) → IsSpawned child act
             → ∥ (K.Supposing.supposed → B.Body.shows child its nothing (λ n. story_at self.new.fronts n)) ∥₁) }
@@ -146,7 +155,8 @@ impl<B: Body, K: RunNaming> Task<B, K> {
 
     /// Runs the statement that the task has claimed.
     pub(crate) fn run_single(&mut self, number: u32)
-        ensures { B.Body.ran self.old.body number self.new.body }
+        ensures ran { B.Body.ran self.old.body number self.new.body }
+        ensures standing { self.new.standing ≡ self.old.standing }
     {
         self.body.single(number);
     }
@@ -166,6 +176,7 @@ impl<B: Body, K: RunNaming> Task<B, K> {
         requires more { GoesOn (story_at self.old.fronts phaser) seen.story }
         requires own { IsOwn self.old.log.task seen.story.past }
         ensures body { self.new.body ≡ self.old.body }
+        ensures standing { self.new.standing ≡ self.old.standing }
     {
         if self.hears_of_each() {
             self.fronts.set(phaser, seen);
@@ -178,6 +189,7 @@ impl<B: Body, K: RunNaming> Task<B, K> {
         ensures body { self.new.body ≡ self.old.body }
         ensures task { self.new.log.task ≡ self.old.log.task }
         ensures fronts { self.new.fronts ≡ self.old.fronts }
+        ensures standing { self.new.standing ≡ self.old.standing }
     {
         self.log.note_begun(ticket, begun)
     }
@@ -192,6 +204,7 @@ impl<B: Body, K: RunNaming> Task<B, K> {
         ensures body { self.new.body ≡ self.old.body }
         ensures task { self.new.log.task ≡ self.old.log.task }
         ensures fronts { self.new.fronts ≡ self.old.fronts }
+        ensures standing { self.new.standing ≡ self.old.standing }
     {
         self.log.note_refused(ticket, tried, refusal)
     }
@@ -201,6 +214,7 @@ impl<B: Body, K: RunNaming> Task<B, K> {
         ensures body { self.new.body ≡ self.old.body }
         ensures task { self.new.log.task ≡ self.old.log.task }
         ensures fronts { self.new.fronts ≡ self.old.fronts }
+        ensures standing { self.new.standing ≡ self.old.standing }
     {
         self.log.note_failed(ticket, refusal)
     }
@@ -208,12 +222,17 @@ impl<B: Body, K: RunNaming> Task<B, K> {
 
 impl<B: Body, K: RunNaming> Item<B, K> {
     /// A task that is spawning nobody.
-    pub(crate) fn of(task: Box<Task<B, K>>) -> Item<B, K> {
+    pub(crate) fn of(task: Box<Task<B, K>>) -> Item<B, K>
+        ensures { result.task ≡ task }
+    {
         Item { task, unborn: None }
     }
 
     /// The event that comes next.
-    pub(crate) fn due(&self) -> Due {
+    pub(crate) fn due(&self) -> Due
+        ensures { event_of self.now.task.value.standing.number result
+            ≡ slice_get (still_of self.now.task.value.standing (option_map (λ c. c.value.standing) self.now.unborn)) 0 }
+    {
         match &self.unborn {
             Some(child) => self.task.standing.due_with(&child.standing),
             None => self.task.standing.due(),
@@ -222,7 +241,10 @@ impl<B: Body, K: RunNaming> Item<B, K> {
 
     /// Notes that the unborn child is registered on the phaser of this pair. `NotNow` where there is
     /// none, or the pair isn't the task's to hand on.
-    pub(crate) fn note_registration(&mut self, pair: Pair) -> Result<(), Refusal> {
+    pub(crate) fn note_registration(&mut self, pair: Pair) -> Result<(), Refusal>
+        ensures { OnOk result (self.new.task.value.standing
+            ≡ record self.old.task.value.standing { plan = registered_by self.old.task.value.standing.plan }) }
+    {
         let Some(held) = self.task.standing.held(pair.phaser) else {
             return Err(Refusal::NotNow);
         };
@@ -235,7 +257,9 @@ impl<B: Body, K: RunNaming> Item<B, K> {
     }
 
     /// Notes that the unborn child has left this phaser.
-    pub(crate) fn note_child_gone(&mut self, phaser: u32) {
+    pub(crate) fn note_child_gone(&mut self, phaser: u32)
+        ensures { self.new.task ≡ self.old.task }
+    {
         if let Some(child) = &mut self.unborn {
             child.standing.leave(phaser);
         }

@@ -1,6 +1,8 @@
--- What a task in flight knows of itself, which events it has still to make, and what a world's history says of both.
+-- What a task in flight knows of itself, which events it has still to make, what it notes of them, and what a world's
+-- history says of it.
 pub mod Known
 pub mod Standing
 pub mod StillToMake
+pub mod Noted
 pub mod Histories
 pub mod inner

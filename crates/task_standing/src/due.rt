@@ -137,7 +137,7 @@ impl Standing {
     {
         if matches!(self.plan, Plan::Ending) {
             if let Some(held) = unborn.held_at(0) {
-                return Due::DropChild(unborn.number, held.phaser);
+                return Due::DropChild(held.phaser, unborn.number);
             }
         }
         self.due()

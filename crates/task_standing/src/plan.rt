@@ -1,5 +1,9 @@
 //! What a task is about, and the event that comes next of it.
+ghost use Rattle.std.specs.Prelude.{◌≡◌};
+ghost use Rattle.task_standing.specs.Noted.{plan_of};
+
 use phase_modes::{Pair, Phased};
+use world_model::Begun;
 
 /// What a task is about. Where nothing is left to make of it the task may begin an act, whatever
 /// plan it has.
@@ -20,6 +24,23 @@ pub enum Plan {
     Ending,
 }
 
+impl Plan {
+    /// The plan by which an act goes on that is begun.
+    pub fn of(begun: &Begun) -> Plan
+        ensures { result ≡ plan_of begun.now }
+    {
+        match begun {
+            Begun::Async(child, pairs) => Plan::Spawning(*child, *pairs, 0),
+            Begun::Signal => Plan::Signalling(None, false),
+            Begun::Wait => Plan::Turning(0),
+            Begun::Next => Plan::Signalling(None, true),
+            Begun::NextSingle(number) => Plan::Signalling(Some(*number), true),
+            Begun::Shut => Plan::Shutting,
+            Begun::End => Plan::Ending,
+        }
+    }
+}
+
 /// The event that comes next of a task.
 #[derive(Clone, Copy, Debug, PartialEq, Eq)]
 pub enum Due {
@@ -34,7 +55,7 @@ pub enum Due {
     Register(u32, Pair),
     /// The birth of the child of the first number, in the finish of the second.
     Spawn(u32, u32),
-    /// The child of the first number, which was never born, leaves the phaser of the second.
+    /// The child of the second number, which was never born, leaves the phaser of the first.
     DropChild(u32, u32),
     /// The task leaves the phaser of this number.
     Leave(u32),

@@ -7,7 +7,7 @@ use super::calls::{Calls, call_all, is_drained};
 use super::job::LocksJob;
 use super::threads::{LIMITS, given_back, numbered, phasers_of};
 use ghost_log::Whole;
-use phase_model::Ops;
+use phase_model::{Ops, Terms};
 use phase_modes::{Limits, Mode, Refusal};
 use scope_locks::{Out, Tickets};
 use share_book::{Blanks, Seven, SharedLedgers, Shares, gather, open};
@@ -47,15 +47,8 @@ impl<'a, K: Naming, R: Wait> Calls for Receipted<'a, K, R> {
     }
 
     fn make(&mut self, task: u32, mode: Mode, ops: Ops) -> Result<(), Refusal> {
-        self.table.make(
-            &mut self.by,
-            &mut self.me,
-            self.number,
-            task,
-            mode,
-            ops,
-            None,
-        )
+        let terms = Terms { ops, bound: None };
+        self.table.make(&mut self.by, &mut self.me, self.number, task, mode, &terms)
     }
 
     fn register(&mut self, parent: u32, child: u32, mode: Mode) -> Result<(), Refusal> {

@@ -8,6 +8,9 @@ use Rattle.table_receipts.specs.Told.{IsAnswered}
 use Rattle.table_receipts.proofs.Goes.{answered_goes}
 use Rattle.task_crew.specs.Heard.{IsOwn}
 use Rattle.task_crew.proofs.Heard.{registration_is_own}
+use Rattle.world_model.specs.declared.event.Step.TheVariants as steps
+use Rattle.task_crew.specs.inner.Driven.{IsReplied}
+use Rattle.task_crew.proofs.Replied.{registration_replied}
 use Rattle.task_crew.proofs.worker.Shared.register_on.Goals as goal
 
 pub note_own-requires-clause-more : goal.note_own-requires-clause-more
@@ -24,5 +27,19 @@ note_own-requires-clause-own g c =
     let told : IsAnswered (λ _ r. Ok tt ≡ done_result r) (calls.Register parent c.args.child c.args.pair.mode) c.front-me.result.story c.register.new.me.story =
     subst (λ (x : _). IsAnswered (λ _ r. x ≡ done_result r) (calls.Register parent c.args.child c.args.pair.mode) c.front-me.result.story c.register.new.me.story)
     c.in_ok-register.was c.register.ensures.told in
-    subst (λ (t : ℕ). IsOwn t c.register.new.me.story.past) (c.number-parent.ensures ∙ sym c.front-me.ensures.task)
+    subst (λ (t : ℕ). IsOwn t c.register.new.me.story.past) (c.number-parent.ensures.log ∙ sym c.front-me.ensures.task)
     (registration_is_own c.front-me.result.story c.register.new.me.story parent c.args.child c.args.pair.mode told)
+
+pub returns-clause-told : goal.returns-clause-told
+returns-clause-told g c =
+    let fronts = c.args.task.now.fronts in
+    let p = c.args.pair in
+    let parent = c.number-parent.result in
+    let told : IsAnswered (λ _ r. Ok tt ≡ done_result r) (calls.Register parent c.args.child p.mode) c.front-me.result.story c.register.new.me.story =
+    subst (λ (x : _). IsAnswered (λ _ r. x ≡ done_result r) (calls.Register parent c.args.child p.mode) c.front-me.result.story c.register.new.me.story)
+    c.in_ok-register.was c.register.ensures.told in
+    let there : c.front-me.result.story ≡ story_at fronts p.phaser =
+    c.front-me.ensures.story ∙ ap (λ (n : ℕ). story_at fronts n) c.in_ok-number.ensures.same in
+    subst (λ (t : ℕ). IsReplied (story_at fronts p.phaser) (steps.Reg t c.args.child p.mode)) c.number-parent.ensures.standing
+    (subst (λ (s : Story). IsReplied s (steps.Reg parent c.args.child p.mode)) there
+    (registration_replied c.front-me.result.story c.register.new.me.story parent c.args.child p.mode told))

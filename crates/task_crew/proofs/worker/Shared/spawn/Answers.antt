@@ -1,8 +1,13 @@
-use Rattle.std.proofs.Common.{Some, ap, ◌∙◌}
+use Rattle.std.proofs.Common.{Some, ap, ◌∙◌, ℕ, subst}
 use Rattle.job_script.specs.declared.act.Answer.TheVariants.{Spawned}
 use Rattle.table_receipts.specs.Seen.{story_at}
 use Rattle.task_crew.specs.Heard.{nothing}
 use Rattle.task_crew.proofs.Saying.{says_now, says_there, ready_kept}
+use Rattle.phase_model.specs.Rules.{Story}
+use Rattle.world_model.specs.declared.event.Begun.TheVariants.{Async}
+use Rattle.task_standing.specs.Known.{Known}
+use Rattle.task_crew.specs.inner.Driven.{HasActed}
+use Rattle.task_crew.proofs.Driven.{begins, gave_up}
 use Rattle.task_crew.proofs.worker.Shared.spawn.Goals as goal
 
 pub child-requires : goal.child-requires
@@ -22,4 +27,37 @@ begin-requires g c =
           (ap (λ t. t.log.task) c.deref_mut-2.ensures.value ∙ (c.child.ensures.task ∙ ap (λ t. t.log.task) c.deref_mut.ensures.value))
           (ap (λ t. t.fronts) c.deref_mut-2.ensures.value ∙ (c.child.ensures.fronts ∙ ap (λ t. t.fronts) c.deref_mut.ensures.value)) (c.requires.ready c.task-number.result);
       end = λ is. absurd (cc is);
+    }
+
+pub returns-in_default : goal.returns-in_default
+returns-in_default g c =
+    let task = c.args.item.now.task.value in
+    record {
+      acted = gave_up (λ n. story_at task.fronts n) c.deref_mut-in_default.result.now.standing task.standing c.fail.new.task.standing
+          (ap (λ t. t.standing) c.deref_mut-in_default.ensures.value ∙ (c.child.ensures.standing ∙ ap (λ t. t.standing) c.deref_mut.ensures.value))
+          c.fail.result c.fail.ensures;
+    }
+
+pub returns-then-branch : goal.returns-then-branch
+returns-then-branch g c =
+    let task = c.args.item.now.task.value in
+    let seen : ℕ → Story = λ n. story_at task.fronts n in
+    let mid = c.deref_mut-2.result.now.standing in
+    let new = c.begin.new.task.standing in
+    record {
+      acted = subst (λ (k : Known). HasActed seen k new)
+          (ap (λ t. t.standing) c.deref_mut-2.ensures.value ∙ (c.child.ensures.standing ∙ ap (λ t. t.standing) c.deref_mut.ensures.value))
+          (begins seen (Async c.task-number.result c.args.pairs) c.in_ok-begin.field-0 mid new c.in_ok-begin.ensures.begun);
+    }
+
+pub returns-else-branch : goal.returns-else-branch
+returns-else-branch g c =
+    let task = c.args.item.now.task.value in
+    let seen : ℕ → Story = λ n. story_at task.fronts n in
+    let mid = c.deref_mut-2.result.now.standing in
+    let new = c.begin.new.task.standing in
+    record {
+      acted = subst (λ (k : Known). HasActed seen k new)
+          (ap (λ t. t.standing) c.deref_mut-2.ensures.value ∙ (c.child.ensures.standing ∙ ap (λ t. t.standing) c.deref_mut.ensures.value))
+          (begins seen (Async c.task-number.result c.args.pairs) c.in_ok-begin.field-0 mid new c.in_ok-begin.ensures.begun);
     }
