@@ -12,7 +12,7 @@ use Rattle.task_standing.specs.Known.{Known}
 use Rattle.task_standing.specs.Noted.{noted}
 use Rattle.table_receipts.specs.Logs.{Sight}
 use Rattle.table_receipts.specs.Seen.{story_at}
-use Rattle.task_crew.specs.inner.Driven.{IsReplied, HasMade, HasActed, GoesBy, IfGoesOn, given_up, tried_by}
+use Rattle.task_crew.specs.inner.Driven.{IsReplied, HasTried, HasActed, GoesBy, IfGoesOn, given_up, tried_by}
 
 -- what holds of a task that goes on holds also as what follows from it
 goes_as : {T : Type 0} (r : Result (Option T) Refusal) (P Q : T → Type 0) → ((x : T) → P x → Q x) → IfGoesOn r P → IfGoesOn r Q
@@ -22,9 +22,9 @@ goes_as (Err e) P Q implied is = tt
 
 -- who gives up has made no event
 pub gives_up : {T : Type 0} (r : Result (Option T) Refusal) (known : T → Known) (seen : ℕ → Story) (e : WorldEvent) (mid k : Known)
-    → mid ≡ k → IfGoesOn r (λ x. known x ≡ given_up mid) → IfGoesOn r (λ x. HasMade seen e k (known x))
+    → mid ≡ k → IfGoesOn r (λ x. known x ≡ given_up mid) → IfGoesOn r (λ x. HasTried seen e k (known x))
 gives_up r known seen e mid k same =
-    goes_as r (λ x. known x ≡ given_up mid) (λ x. HasMade seen e k (known x)) (λ x is. inr (is ∙ ap given_up same))
+    goes_as r (λ x. known x ≡ given_up mid) (λ x. HasTried seen e k (known x)) (λ x is. inr (is ∙ ap given_up same))
 
 -- the same in place of a pass
 pub gives_up_turn : {T : Type 0} (r : Result (Option T) Refusal) (known : T → Known) (seen : ℕ → Story) (n : ℕ) (mid k : Known)

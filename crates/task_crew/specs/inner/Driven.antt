@@ -53,9 +53,13 @@ IsMade seen _ = Unit {0}
 abbrev pub given_up : Known → Known
 given_up k = record k { plan = plan.Ending }
 
--- the event was made and noted; or the task gives up
+-- the event was made and noted
 abbrev pub HasMade : (ℕ → Story) → WorldEvent → Known → Known → Type 0
-HasMade seen e k k' = (IsMade seen e × (k' ≡ noted e k)) ⊎ (k' ≡ given_up k)
+HasMade seen e k k' = IsMade seen e × (k' ≡ noted e k)
+
+-- the same of an event that the phaser may refuse: then the task gives up
+abbrev pub HasTried : (ℕ → Story) → WorldEvent → Known → Known → Type 0
+HasTried seen e k k' = HasMade seen e k k' ⊎ (k' ≡ given_up k)
 
 -- the task has claimed the single of phaser n, of which nothing is noted
 abbrev pub HasClaimed : (ℕ → Story) → ℕ → Known → Known → Type 0
@@ -84,9 +88,9 @@ tried_by false k = given_up k
 -- what comes of what is due, where the task goes on: of its end nothing, since it doesn't
 abbrev pub GoesBy : (ℕ → Story) → Due → Known → Known → Type 0
 GoesBy seen due.Step k k' = HasActed seen k k'
-GoesBy seen (due.Signal n x) k k' = HasMade seen (Phaser n (Sig k.number x)) k k'
-GoesBy seen (due.Pass n) k k' = HasMade seen (Phaser n (Pass k.number)) k k' ⊎ HasClaimed seen n k k'
-GoesBy seen (due.Register c p) k k' = HasMade seen (Phaser p.phaser (Reg k.number c p.mode)) k k'
+GoesBy seen (due.Signal n x) k k' = HasTried seen (Phaser n (Sig k.number x)) k k'
+GoesBy seen (due.Pass n) k k' = HasTried seen (Phaser n (Pass k.number)) k k' ⊎ HasClaimed seen n k k'
+GoesBy seen (due.Register c p) k k' = HasTried seen (Phaser p.phaser (Reg k.number c p.mode)) k k'
 GoesBy seen (due.Spawn c f) k k' = HasMade seen (Finish f (Spawned c)) k k'
 GoesBy seen (due.DropChild n c) k k' = IsReplied (seen n) (Drop c) × (k' ≡ k)
 GoesBy seen (due.Leave n) k k' = HasMade seen (Phaser n (Drop k.number)) k k'

@@ -1,4 +1,4 @@
-use Rattle.std.proofs.Common.{ℕ, ◌≡◌, inl, ap, subst, ◌∙◌}
+use Rattle.std.proofs.Common.{ℕ, ◌≡◌, ap, subst, ◌∙◌}
 use Rattle.world_model.specs.declared.event.WorldEvent.TheVariants.{Phaser}
 use Rattle.world_model.specs.declared.event.Step.TheVariants as steps
 use Rattle.table_receipts.specs.Seen.{story_at}
@@ -12,8 +12,7 @@ returns-clause-made g c =
     let task = c.args.item.task.value in
     let n = c.args.phaser in
     let first = c.deref_mut.ensures.value in
-    let leaver : c.number-leaver.result ≡ task.standing.number = c.number-leaver.ensures.standing ∙ ap (λ t. t.standing.number) c.deref.ensures in
-    inl (
+    let leaver : c.number-leaver.result ≡ task.standing.number = c.number-leaver.ensures.standing ∙ ap (λ t. t.standing.number) c.deref.ensures in (
       subst (λ (u : ℕ). IsReplied (story_at task.fronts n) (steps.Drop u)) leaver
           (subst (λ (t : _). IsReplied (story_at t.fronts n) (steps.Drop c.number-leaver.result)) first c.in_ok-drop_on.ensures.told),
       c.leave.ensures
