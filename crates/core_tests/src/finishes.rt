@@ -1,6 +1,7 @@
 //! Each public call by hand, and many calls side by side with the slow plain function.
 ghost use Rattle.std.specs.Prelude.{◌<◌};
 
+use crate::asserted::{equal, equal_at, holds_at};
 use finish_core::{FinishEvent, FinishState, allowed};
 use phase_modes::Refusal;
 use std::alloc::Global;
@@ -35,14 +36,14 @@ type Row = (FinishEvent, Result<(), Refusal>, Standing);
 
 fn answers(rt: &impl Abort, finish: &mut FinishState, rows: &[Row]) {
     for (call, reply, expected) in rows {
-        assert_eq!(rt; make(finish, *call), *reply, "at {call:?}");
-        assert_eq!(rt; stands(finish), Some(*expected), "after {call:?}");
+        equal_at(rt, ("at", call), make(finish, *call), *reply);
+        equal_at(rt, ("after", call), stands(finish), Some(*expected));
     }
 }
 
 /// The finish is for so many tasks, and has this history.
 fn holds(rt: &impl Abort, finish: &FinishState, tasks: u32, events: &[FinishEvent]) {
-    assert_eq!(rt; finish.tasks(), tasks);
+    equal(rt, finish.tasks(), tasks);
     assert!(rt; finish.history() == events);
 }
 
@@ -118,7 +119,7 @@ fn plain_function_by_hand(rt: HostRuntime) {
         (allowed(&running, 8, FinishEvent::Shut), false),
     ];
     for (is_allowed, expected) in rows {
-        assert_eq!(rt; is_allowed, expected);
+        equal(&rt, is_allowed, expected);
     }
 }
 
@@ -196,9 +197,9 @@ fn is_answered_alike(
     call: FinishEvent,
 ) -> Result<Result<(), Refusal>, Fail> {
     let may_shut = allowed(events, 8, FinishEvent::Shut);
-    assert_eq!(rt; finish.may_shut(), may_shut, "before {call:?}");
+    equal_at(rt, ("before", call), finish.may_shut(), may_shut);
     let expected = reply_by(events, 8, call);
-    assert_eq!(rt; make(finish, call), expected, "at {call:?}");
+    equal_at(rt, ("at", call), make(finish, call), expected);
     if expected.is_ok() {
         events.push(call)?;
     }
@@ -232,8 +233,12 @@ fn side_by_side_with_the_plain_function(rt: HostRuntime) -> Result<(), Fail> {
         sixty_calls(&rt, rt.alloc(), &mut seed, &mut counts)?;
     }
     for kind in 0..4 {
-        assert!(rt; counts.done[kind] > 0, "none done of kind {kind}");
-        assert!(rt; counts.not_now[kind] > 0, "none refused of kind {kind}");
+        holds_at(&rt, ("none done of kind", kind), counts.done[kind] > 0);
+        holds_at(
+            &rt,
+            ("none refused of kind", kind),
+            counts.not_now[kind] > 0,
+        );
     }
     assert!(rt; counts.full > 0, "none at the limit");
     Ok(())

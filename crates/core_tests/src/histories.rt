@@ -1,4 +1,5 @@
 //! The plain functions on histories that are written out by hand.
+use crate::asserted::{equal, equal_at};
 use phase_model::{
     Event, History, Look, Op, Ops, Reply, allowed, claimed, closed, did, down_of, explain, fold,
     live, proposed, signals, up_of, waits,
@@ -41,9 +42,9 @@ fn three_ops() -> Ops {
 #[test]
 fn operators_are_a_list(rt: HostRuntime) -> Result<(), Fail> {
     let ops = three_ops();
-    assert_eq!(rt; ops.len(), 3);
-    assert_eq!(rt; ops.get(2), Some(Op::Greatest));
-    assert_eq!(rt; ops.get(3), None);
+    equal(&rt, ops.len(), 3);
+    equal(&rt, ops.get(2), Some(Op::Greatest));
+    equal(&rt, ops.get(3), None);
     assert!(rt; ops.as_slice() == [Op::Sum, Op::Least, Op::Greatest].as_slice());
     assert!(rt; ops == three_ops());
     Ok(())
@@ -65,10 +66,10 @@ const VALUES: [Event; 9] = [
 
 /// The history is of nine events, with three operators, and explained.
 fn is_of_values(rt: &impl Abort, history: &History) {
-    assert_eq!(rt; history.len(), 9);
-    assert_eq!(rt; history.events().len(), 9);
-    assert_eq!(rt; history.ops().len(), 3);
-    assert_eq!(rt; explain(history), Ok(()));
+    equal(rt, history.len(), 9);
+    equal(rt, history.events().len(), 9);
+    equal(rt, history.ops().len(), 3);
+    equal(rt, explain(history), Ok(()));
 }
 
 #[test]
@@ -82,10 +83,11 @@ fn values_count_for_the_phase_not_yet_signalled(rt: HostRuntime) -> Result<(), F
     let history = history_of(rt.alloc(), 100, three_ops(), VALUES.as_slice())?;
     is_of_values(&rt, &history);
     for ((accumulator, phase), expected) in FOLDS {
-        assert_eq!(rt;
+        equal_at(
+            &rt,
+            ("phase", phase),
             fold(&history, accumulator, phase),
             expected,
-            "phase {phase}"
         );
     }
     Ok(())
@@ -95,9 +97,9 @@ fn values_count_for_the_phase_not_yet_signalled(rt: HostRuntime) -> Result<(), F
 fn tasks_stand(rt: &impl Abort, history: &History) {
     assert!(rt; live(history, 1));
     assert!(rt; !live(history, 2));
-    assert_eq!(rt; signals(history, 0), 1);
-    assert_eq!(rt; waits(history, 0), 1);
-    assert_eq!(rt; waits(history, 1), 0);
+    equal(rt, signals(history, 0), 1);
+    equal(rt, waits(history, 0), 1);
+    equal(rt, waits(history, 1), 0);
     assert!(rt; closed(history, 0));
     assert!(rt; !closed(history, 1));
 }
@@ -105,7 +107,7 @@ fn tasks_stand(rt: &impl Abort, history: &History) {
 /// Each event may follow the history, or may not.
 fn allows(rt: &impl Abort, history: &History, rows: &[(Event, bool)]) {
     for (event, may_follow) in rows {
-        assert_eq!(rt; allowed(history, *event), *may_follow, "{event:?}");
+        equal_at(rt, event, allowed(history, *event), *may_follow);
     }
 }
 
@@ -124,9 +126,9 @@ fn tasks_come_this_far(rt: HostRuntime) -> Result<(), Fail> {
 
 /// Of phase 0: the number that was proposed, and whether it is claimed and done.
 fn single_stands(rt: &impl Abort, history: &History, is_claimed: bool, is_done: bool) {
-    assert_eq!(rt; proposed(history, 0), Some(7));
-    assert_eq!(rt; claimed(history, 0), is_claimed);
-    assert_eq!(rt; did(history, 0), is_done);
+    equal(rt, proposed(history, 0), Some(7));
+    equal(rt, claimed(history, 0), is_claimed);
+    equal(rt, did(history, 0), is_done);
     assert!(rt; !did(history, 1));
 }
 
@@ -165,7 +167,7 @@ fn first_fault_is_found(rt: HostRuntime) -> Result<(), Fail> {
         Event::Drop(9),
     ];
     let history = history_of(rt.alloc(), 100, Ops::none(), EVENTS.as_slice())?;
-    assert_eq!(rt; explain(&history), Err(Refusal::NotExplained(4)));
+    equal(&rt, explain(&history), Err(Refusal::NotExplained(4)));
     Ok(())
 }
 
@@ -178,7 +180,7 @@ fn last_places_are_for_drops(rt: HostRuntime) -> Result<(), Fail> {
     ];
     const NEXT: [(Event, bool); 2] = [(Event::Sig(0, None), false), (Event::Drop(0), true)];
     let history = history_of(rt.alloc(), 4, Ops::none(), EVENTS.as_slice())?;
-    assert_eq!(rt; history.limits().history, 4);
+    equal(&rt, history.limits().history, 4);
     allows(&rt, &history, NEXT.as_slice());
     Ok(())
 }
@@ -192,9 +194,9 @@ fn operators_have_names(rt: HostRuntime) -> Result<(), Fail> {
     ];
     for (op, name) in NAMES {
         assert!(rt; op.name() == name);
-        assert_eq!(rt; Op::of_name(name), Some(op));
+        equal(&rt, Op::of_name(name), Some(op));
     }
-    assert_eq!(rt; Op::of_name("Sum"), None);
+    equal(&rt, Op::of_name("Sum"), None);
     Ok(())
 }
 
@@ -214,16 +216,16 @@ fn replies_are_printed(rt: HostRuntime) -> Result<(), Fail> {
     ];
     for (reply, line) in LINES {
         let printed = reply.to_string(rt.alloc())?;
-        assert_eq!(rt; printed.as_str(), line);
+        equal(&rt, printed.as_str(), line);
     }
     Ok(())
 }
 
 #[test]
 fn values_weigh_upwards_or_downwards(rt: HostRuntime) -> Result<(), Fail> {
-    assert_eq!(rt; (up_of(5), down_of(5)), (5, 0));
-    assert_eq!(rt; (up_of(0), down_of(0)), (0, 0));
-    assert_eq!(rt; (up_of(-5), down_of(-5)), (0, 5));
-    assert_eq!(rt; down_of(i32::MIN), 2_147_483_648);
+    equal(&rt, (up_of(5), down_of(5)), (5, 0));
+    equal(&rt, (up_of(0), down_of(0)), (0, 0));
+    equal(&rt, (up_of(-5), down_of(-5)), (0, 5));
+    equal(&rt, down_of(i32::MIN), 2_147_483_648);
     Ok(())
 }

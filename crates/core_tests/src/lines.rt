@@ -2,6 +2,7 @@
 ghost use Rattle.std.specs.Prelude.{◌≡◌, ◌≤◌};
 ghost use Rattle.reg_table.specs.Lines.{HasNext};
 
+use crate::asserted::equal;
 use phase_modes::{LongReg, Mode, Refusal};
 use reg_table::{Comparisons, Entry, Table, TaskNumber};
 use std::alloc::Global;
@@ -61,11 +62,11 @@ fn found(table: &Table, task: u64) -> (Option<(usize, u64)>, u32) {
 #[test]
 fn each_line_is_found(rt: HostRuntime) -> Result<(), Fail> {
     let table = filled(rt.alloc(), 0)?;
-    assert_eq!(rt; table.len(), 256);
+    equal(&rt, table.len(), 256);
     for task in 0..256 {
-        assert_eq!(rt; found(&table, task), (Some((task as usize, task)), 1));
+        equal(&rt, found(&table, task), (Some((task as usize, task)), 1));
     }
-    assert_eq!(rt; found(&table, 256).0, None);
+    equal(&rt, found(&table, 256).0, None);
     Ok(())
 }
 
@@ -76,11 +77,11 @@ fn the_dearest_line_takes_nine_comparisons(rt: HostRuntime) -> Result<(), Fail> 
     let table = filled(rt.alloc(), 1)?;
     for task in 1..257 {
         let (place, made) = found(&table, task);
-        assert_eq!(rt; place, Some((task as usize - 1, task)));
+        equal(&rt, place, Some((task as usize - 1, task)));
         assert!(rt; made <= 9);
     }
-    assert_eq!(rt; found(&table, 255).1, 9);
-    assert_eq!(rt; found(&table, 0).0, None);
+    equal(&rt, found(&table, 255).1, 9);
+    equal(&rt, found(&table, 0).0, None);
     Ok(())
 }
 
@@ -114,26 +115,26 @@ fn put_last(table: &mut Table, task: u64) -> u32 {
 #[test]
 fn lines_come_and_go_at_the_end(rt: HostRuntime) -> Result<(), Fail> {
     let mut table = Table::new(rt.alloc())?;
-    assert_eq!(rt; put_last(&mut table, 5), 0);
-    assert_eq!(rt; put_last(&mut table, 9), 1);
-    assert_eq!(rt; put_last(&mut table, 7), 1);
-    assert_eq!(rt; table.len(), 2);
+    equal(&rt, put_last(&mut table, 5), 0);
+    equal(&rt, put_last(&mut table, 9), 1);
+    equal(&rt, put_last(&mut table, 7), 1);
+    equal(&rt, table.len(), 2);
     let mut comparisons = Comparisons::none();
     let guessed = table.guess(9, &mut comparisons).map(|(place, _)| place);
-    assert_eq!(rt; guessed, Some(1));
+    equal(&rt, guessed, Some(1));
     assert!(rt; table.guess(5, &mut comparisons).is_none());
     assert!(rt; table.last_of(9, &mut comparisons).is_some());
     assert!(rt; table.last_of(5, &mut comparisons).is_none());
-    assert_eq!(rt; comparisons.made(), 4);
+    equal(&rt, comparisons.made(), 4);
     // The last of two lines has a number above 0.
     assert!(rt; table.last_of(0, &mut comparisons).is_none());
-    assert_eq!(rt; comparisons.made(), 4);
+    equal(&rt, comparisons.made(), 4);
     let halved = table.find_by_halving(5, &mut comparisons);
-    assert_eq!(rt; halved.map(|(place, _)| place), Some(0));
-    assert_eq!(rt; comparisons.made(), 6);
+    equal(&rt, halved.map(|(place, _)| place), Some(0));
+    equal(&rt, comparisons.made(), 6);
     if table.len() > 0 {
         table.pop();
     }
-    assert_eq!(rt; table.len(), 1);
+    equal(&rt, table.len(), 1);
     Ok(())
 }

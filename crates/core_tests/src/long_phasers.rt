@@ -1,5 +1,6 @@
 //! A phaser that stores no history, called from outside: by the rows of the worked examples, by
 //! drawn calls beside a stored phaser, and through lives of thousands of phases.
+use crate::asserted::{equal, equal_at};
 use crate::drawn::{Dice, without_number};
 use long_phaser::LongPhaser;
 use phase_model::{Bound, Call, LongLook, Look, Ops, Reply};
@@ -40,7 +41,7 @@ fn short(number: u64) -> u32 {
 fn given(rt: &impl Abort, number: u32, answer: Result<u64, Refusal>) -> Reply {
     match answer {
         Ok(task) => {
-            assert_eq!(rt; task, u64::from(number));
+            equal(rt, task, u64::from(number));
             Reply::Done
         }
         Err(refusal) => Reply::Refused(refusal),
@@ -104,7 +105,7 @@ fn reply_of(rt: &impl Abort, phaser: &mut LongPhaser, call: Call) -> Reply {
 
 /// The call is replied to as it has to be.
 fn replies(rt: &impl Abort, phaser: &mut LongPhaser, call: Call, wanted: Reply) {
-    assert_eq!(rt; reply_of(rt, phaser, call), wanted, "{call:?}");
+    equal_at(rt, call, reply_of(rt, phaser, call), wanted);
 }
 
 /// Each call is replied to as its row says.

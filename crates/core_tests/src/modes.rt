@@ -1,4 +1,5 @@
 //! Each public function once, against the table of modes, refusals and limits.
+use crate::asserted::equal;
 use phase_modes::{Limits, Mode, Refusal, Reg};
 use std::alloc::{AllocError, AllocFailed, Global};
 use std::process::Abort;
@@ -13,9 +14,9 @@ fn capabilities_of_modes(rt: HostRuntime) -> Result<(), Fail> {
         (Mode::Single, true, true, true),
     ];
     for (mode, signal, wait, single) in ROWS {
-        assert_eq!(rt; mode.can_signal(), signal);
-        assert_eq!(rt; mode.can_wait(), wait);
-        assert_eq!(rt; mode.can_single(), single);
+        equal(&rt, mode.can_signal(), signal);
+        equal(&rt, mode.can_wait(), wait);
+        equal(&rt, mode.can_single(), single);
     }
     Ok(())
 }
@@ -23,10 +24,10 @@ fn capabilities_of_modes(rt: HostRuntime) -> Result<(), Fail> {
 /// Whether a child in this mode may have a parent in the modes SIG, WAIT, SIG_WAIT and SINGLE.
 fn is_within(rt: &impl Abort, child: Mode, parents: [bool; 4]) {
     let [sig, wait, sig_wait, single] = parents;
-    assert_eq!(rt; Mode::within(child, Mode::Sig), sig);
-    assert_eq!(rt; Mode::within(child, Mode::Wait), wait);
-    assert_eq!(rt; Mode::within(child, Mode::SigWait), sig_wait);
-    assert_eq!(rt; Mode::within(child, Mode::Single), single);
+    equal(rt, Mode::within(child, Mode::Sig), sig);
+    equal(rt, Mode::within(child, Mode::Wait), wait);
+    equal(rt, Mode::within(child, Mode::SigWait), sig_wait);
+    equal(rt, Mode::within(child, Mode::Single), single);
 }
 
 #[test]
@@ -48,16 +49,16 @@ fn names_of_modes(rt: HostRuntime) -> Result<(), Fail> {
     ];
     for (mode, name) in NAMES {
         assert!(rt; mode.name() == name);
-        assert_eq!(rt; Mode::of_name(name), Some(mode));
+        equal(&rt, Mode::of_name(name), Some(mode));
     }
-    assert_eq!(rt; Mode::of_name("sig"), None);
+    equal(&rt, Mode::of_name("sig"), None);
     Ok(())
 }
 
 /// How many phases the registration has signalled, and how many it has passed.
 fn stands(rt: &impl Abort, reg: Reg, signals: u64, waits: u32) {
-    assert_eq!(rt; reg.signals(), signals);
-    assert_eq!(rt; reg.waits(), waits);
+    equal(rt, reg.signals(), signals);
+    equal(rt, reg.waits(), waits);
 }
 
 /// A task that has signalled phase 7, in which it still is.
@@ -71,16 +72,20 @@ const PARENT: Reg = Reg {
 fn child_begins_where_its_parent_stands(rt: HostRuntime) -> Result<(), Fail> {
     stands(&rt, PARENT, 8, 7);
     let signaller = PARENT.child_of(Mode::Sig).ok().ok_or("refused")?;
-    assert_eq!(rt; signaller.signals(), 8);
+    equal(&rt, signaller.signals(), 8);
     Ok(())
 }
 
 #[test]
 fn waiting_child_has_not_signalled(rt: HostRuntime) -> Result<(), Fail> {
     let waiter = PARENT.child_of(Mode::Wait).ok().ok_or("refused")?;
-    assert_eq!(rt; waiter.waits(), 7);
+    equal(&rt, waiter.waits(), 7);
     assert!(rt; !waiter.ahead);
-    assert_eq!(rt; waiter.child_of(Mode::Sig), Err(Refusal::MoreThanParent));
+    equal(
+        &rt,
+        waiter.child_of(Mode::Sig),
+        Err(Refusal::MoreThanParent),
+    );
     Ok(())
 }
 
@@ -92,7 +97,7 @@ fn registration_goes_step_by_step(rt: HostRuntime) -> Result<(), Fail> {
     stands(&rt, ahead, 1, 0);
     let next = ahead.passed();
     stands(&rt, next, 1, 1);
-    assert_eq!(rt; next.mode, Mode::SigWait);
+    equal(&rt, next.mode, Mode::SigWait);
     Ok(())
 }
 
@@ -105,9 +110,13 @@ fn one_number(alloc: Global) -> Result<Vec<u32>, Refusal> {
 
 #[test]
 fn refused_memory_is_a_refusal(rt: HostRuntime) -> Result<(), Fail> {
-    assert_eq!(rt; Refusal::from(AllocError), Refusal::Memory);
-    assert_eq!(rt; Refusal::from(AllocFailed { value: 7 }), Refusal::Memory);
-    assert_eq!(rt; one_number(rt.alloc())?.len(), 1);
+    equal(&rt, Refusal::from(AllocError), Refusal::Memory);
+    equal(
+        &rt,
+        Refusal::from(AllocFailed { value: 7 }),
+        Refusal::Memory,
+    );
+    equal(&rt, one_number(rt.alloc())?.len(), 1);
     Ok(())
 }
 
@@ -135,13 +144,13 @@ fn refusals_have_numbers_and_names(rt: HostRuntime) -> Result<(), Fail> {
         (Refusal::NotExplained(7), 25),
     ];
     for (refusal, number) in NUMBERS {
-        assert_eq!(rt; refusal.number(), number);
+        equal(&rt, refusal.number(), number);
     }
     assert!(rt; Refusal::of_number(1) == Some(Refusal::NotRegistered));
     assert!(rt; Refusal::of_number(25) == Some(Refusal::NotExplained(0)));
     assert!(rt; Refusal::of_number(0).is_none() && Refusal::of_number(27).is_none());
-    assert_eq!(rt; Refusal::BadText(2).place(), Some(2));
-    assert_eq!(rt; Refusal::Memory.place(), None);
+    equal(&rt, Refusal::BadText(2).place(), Some(2));
+    equal(&rt, Refusal::Memory.place(), None);
     assert!(rt; Refusal::Memory.name() == "Memory");
     Ok(())
 }

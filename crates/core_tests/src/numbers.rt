@@ -1,4 +1,5 @@
 //! Numbers at both ends of a word.
+use crate::asserted::equal;
 use number_set::NumberSet;
 use std::test::Fail;
 
@@ -12,9 +13,10 @@ fn each_number_has_a_bit_of_its_own(rt: HostRuntime) -> Result<(), Fail> {
     set.insert(64);
     set.insert(129);
     for number in 0..130 {
-        assert_eq!(rt;
+        equal(
+            &rt,
             set.contains(number),
-            number == 63 || number == 64 || number == 129
+            number == 63 || number == 64 || number == 129,
         );
     }
     Ok(())

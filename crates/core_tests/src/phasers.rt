@@ -1,5 +1,6 @@
 //! A phaser called from outside: each call is a row of a table beside its reply, and the state that
 //! the calls leave is compared with the plain functions over its history.
+use crate::asserted::{equal, equal_at, holds_at};
 use crate::drawn::Dice;
 use phase_model::{
     Bound, Call, Event, History, Look, Ops, Reply, Terms, allowed, claimed, closed, did, explain,
@@ -39,7 +40,7 @@ fn play(rt: &impl Abort, alloc: Global, example: &Example) -> Result<PhaserState
     let Terms { ops, bound } = example.terms();
     let mut state = fresh(alloc, example.limits(), ops, bound)?;
     for (call, expected) in example.rows {
-        assert_eq!(rt; state.apply(*call), *expected, "{call:?}");
+        equal_at(rt, call, state.apply(*call), *expected);
     }
     agrees_with_plain(rt, &state);
     Ok(state)
@@ -96,17 +97,19 @@ fn is_needed(history: &History, phase: u32) -> bool {
 /// history, which keeps to every rule.
 fn agrees_with_plain(rt: &impl Abort, state: &PhaserState) {
     let history = state.history();
-    assert_eq!(rt; explain(history), Ok(()));
+    equal(rt, explain(history), Ok(()));
     for phase in 0..4 {
-        assert_eq!(rt;
+        equal_at(
+            rt,
+            ("phase", phase),
             state.closed(phase),
             closed(history, phase),
-            "phase {phase}"
         );
         for task in 0..4 {
-            assert!(rt;
+            holds_at(
+                rt,
+                ("task", task),
                 !(state.closed(phase) && keeps_open(history, task, phase)),
-                "task {task}"
             );
         }
         let needed = is_needed(history, phase);
@@ -114,10 +117,10 @@ fn agrees_with_plain(rt: &impl Abort, state: &PhaserState) {
             let seen = state.fold_at(accumulator, phase);
             let sent = fold(history, accumulator, phase);
             if state.closed(phase) {
-                assert!(rt; seen == sent || seen.is_none(), "phase {phase}");
+                holds_at(rt, ("phase", phase), seen == sent || seen.is_none());
             }
             if needed {
-                assert_eq!(rt; seen.is_some(), sent.is_some(), "phase {phase}");
+                equal_at(rt, ("phase", phase), seen.is_some(), sent.is_some());
             }
         }
     }
@@ -125,8 +128,9 @@ fn agrees_with_plain(rt: &impl Abort, state: &PhaserState) {
         + 1
         + u64::from(live_count(history))
         + u64::from(reserve(history));
-    assert_eq!(rt;
+    equal(
+        rt,
         state.is_full(),
-        needed > u64::from(history.limits().history)
+        needed > u64::from(history.limits().history),
     );
 }

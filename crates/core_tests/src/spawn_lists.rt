@@ -1,4 +1,5 @@
 //! The list of a spawn's phasers, by hand.
+use crate::asserted::equal;
 use phase_modes::{Mode, Pair, Phased};
 use std::process::Abort;
 use std::test::Fail;
@@ -16,17 +17,17 @@ const SECOND: Pair = Pair {
 #[test]
 fn none_is_named_at_first(rt: HostRuntime) -> Result<(), Fail> {
     let named = Phased::none();
-    assert_eq!(rt; named.len(), 0);
-    assert_eq!(rt; named.get(0), None);
+    equal(&rt, named.len(), 0);
+    equal(&rt, named.get(0), None);
     Ok(())
 }
 
 /// Two phasers are named, the first before the second.
 fn are_two(rt: &impl Abort, named: &Phased) {
-    assert_eq!(rt; named.len(), 2);
-    assert_eq!(rt; named.get(0), Some(FIRST));
-    assert_eq!(rt; named.get(1), Some(SECOND));
-    assert_eq!(rt; named.get(2), None);
+    equal(rt, named.len(), 2);
+    equal(rt, named.get(0), Some(FIRST));
+    equal(rt, named.get(1), Some(SECOND));
+    equal(rt, named.get(2), None);
 }
 
 #[test]
@@ -37,7 +38,7 @@ fn phasers_are_named_in_order(rt: HostRuntime) -> Result<(), Fail> {
     named.push(SECOND);
     are_two(&rt, &named);
     assert!(rt; named.as_slice() == [FIRST, SECOND].as_slice());
-    assert_eq!(rt; one.len(), 1);
+    equal(&rt, one.len(), 1);
     assert!(rt; one != named);
     Ok(())
 }
@@ -53,7 +54,7 @@ fn sixteen_phasers_have_room(rt: HostRuntime) -> Result<(), Fail> {
             });
         }
     }
-    assert_eq!(rt; named.len(), 16);
-    assert_eq!(rt; named.get(15).map(|pair| pair.phaser), Some(15));
+    equal(&rt, named.len(), 16);
+    equal(&rt, named.get(15).map(|pair| pair.phaser), Some(15));
     Ok(())
 }

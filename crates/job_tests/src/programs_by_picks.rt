@@ -5,6 +5,7 @@ use phase_model::{Look, Ops, Terms};
 use phase_modes::{Limits, Mode, Pair, Phased};
 use schedule_run::{actor, is_given};
 use std::alloc::Global;
+use std::process::Abort;
 use std::test::Fail;
 use trace_model::{EventView, LongEvent, ShortAct, Trace, TracedEvent, TracedStep};
 use world_model::{Begun, Tried};
@@ -79,12 +80,27 @@ fn is_tried_so(
     Ok(is_roots(trace, lent, act) && is_roots(trace, EventView::Long(&refused), act))
 }
 
+/// The root of the program of this text gives the rows' acts, one after the other; each is answered as a
+/// making is.
+fn gives(rt: &impl Abort, alloc: Global, text: &str, rows: &[Row]) -> Result<(), Fail> {
+    let program = program_of(alloc, text)?;
+    let trace = one_making(alloc)?;
+    let mut root = program.root();
+    let mut answer = Answer::Started;
+    for row in rows {
+        let Ok(act) = root.step(answer) else {
+            return Err(Fail::from("an act"));
+        };
+        assert!(rt; is_tried_so(alloc, &trace, row, &act)?);
+        answer = Answer::Made(7);
+    }
+    Ok(())
+}
+
 #[test]
 fn acts_are_tried(rt: HostRuntime) -> Result<(), Fail> {
-    let program = program_of(
-        rt.alloc(),
-        r#"{"main":[["new","p","SIG",[]],["open"],["send","p",1,-2],["look","p",1],["next"],["async_all",[]]]}"#,
-    )?;
+    const TEXT: &str =
+        r#"{"main":[["new","p","SIG",[]],["open"],["send","p",1,-2],["look","p",1],["next"],["async_all",[]]]}"#;
     let making = TracedStep::Make(0, Mode::Sig, unbounded());
     let child = Begun::Async(4, one_phaser());
     let rows = [
@@ -111,18 +127,7 @@ fn acts_are_tried(rt: HostRuntime) -> Result<(), Fail> {
         (TracedEvent::Begin(0, child), Tried::Begun(child)),
         (TracedEvent::Begin(0, Begun::End), Tried::Begun(Begun::End)),
     ];
-    let trace = one_making(rt.alloc())?;
-    let mut root = program.root();
-    let mut answer = Answer::Started;
-    for row in rows {
-        let act = match root.step(answer) {
-            Ok(act) => act,
-            Err(_) => return Err(Fail::from("an act")),
-        };
-        assert!(rt; is_tried_so(rt.alloc(), &trace, &row, &act)?);
-        answer = Answer::Made(7);
-    }
-    Ok(())
+    gives(&rt, rt.alloc(), TEXT, rows.as_slice())
 }
 
 /// Whether nobody acts by this event, and it isn't the end that a body gives.

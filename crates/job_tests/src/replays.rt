@@ -1,4 +1,5 @@
 //! The smallest trace, and texts that are none.
+use crate::asserted::{equal, equal_at};
 use crate::entries::entry_of;
 use job_ends::{Failure, Status};
 use phase_modes::{Limits, Refusal};
@@ -55,7 +56,7 @@ fn check(rt: &impl Abort, alloc: Global, text: &str, status: Status, wanted: Wri
         &mut faults,
         &mut trace_out,
     );
-    assert_eq!(rt; ended, status, "{text}");
+    equal_at(rt, text, ended, status);
     are_bytes(rt, &out, wanted.0, text);
     is_trace(rt, trace_out.as_ref(), wanted.1, text);
     are_bytes(rt, &faults, wanted.2, text);
@@ -66,7 +67,7 @@ fn reports(rt: &impl Abort, alloc: Global, text: &str, lines: &str) {
     let mut out = Vec::new(alloc);
     let mut nowhere: Option<Vec<u8>> = None;
     let done = replay_bytes(alloc, text.as_bytes(), &mut out, &mut nowhere);
-    assert_eq!(rt; done, Ok(()), "{text}");
+    equal_at(rt, text, done, Ok(()));
     are_bytes(rt, &out, lines, text);
 }
 
@@ -80,7 +81,7 @@ fn is_trace(rt: &impl Abort, trace: Option<&Vec<u8>>, wanted: &str, text: &str) 
 
 /// What was written for this text.
 fn are_bytes(rt: &impl Abort, written: &[u8], wanted: &str, text: &str) {
-    assert_eq!(rt; written, wanted.as_bytes(), "{text}");
+    equal_at(rt, text, written, wanted.as_bytes());
 }
 
 /// The text of a trace in this form: the first event of the smallest, and these after it.
@@ -195,7 +196,7 @@ fn has_no_room(rt: &impl Abort, alloc: Global, text: &str) {
         &mut faults,
         &mut trace_out,
     );
-    assert_eq!(rt; ended.status, Status::Fault);
+    equal(rt, ended.status, Status::Fault);
     assert!(rt; ended.reported);
     is_trace(rt, trace_out.as_ref(), SMALLEST, text);
     are_bytes(rt, &faults, "fault write\n", text);
@@ -222,7 +223,7 @@ fn has_no_room_in_out(rt: &impl Abort, alloc: Global, text: &str) {
         &mut faults,
         &mut trace_out,
     );
-    assert_eq!(rt; ended.status, Status::Fault);
+    equal(rt, ended.status, Status::Fault);
     are_bytes(rt, &out, "", text);
     are_bytes(rt, &faults, "fault write\n", text);
 }
@@ -241,7 +242,7 @@ fn text_that_is_none(rt: HostRuntime) {
     let mut trace_out = Some(Vec::new(rt.alloc()));
     let refused = Err(Failure::Refused(Refusal::BadText(0)));
     let answer = replay_bytes(rt.alloc(), b"7", &mut out, &mut trace_out);
-    assert_eq!(rt; answer, refused);
+    equal(&rt, answer, refused);
     is_trace(&rt, trace_out.as_ref(), "", "7");
 }
 
@@ -284,6 +285,6 @@ fn have_same_events(one: &Trace, other: &Trace) -> bool {
 
 /// The trace has the events of the other, and the limits of a file that names none.
 fn are_alike(rt: &impl Abort, trace: &Trace, other: &Trace) {
-    assert_eq!(rt; trace.limits(), Limits::default());
+    equal(rt, trace.limits(), Limits::default());
     assert!(rt; have_same_events(trace, other));
 }

@@ -1,4 +1,5 @@
 //! Worked examples of schedules, with the lines that they are to print.
+use crate::asserted::{equal, equal_at};
 use job_ends::{Failure, Status};
 use phase_modes::Refusal;
 use schedule_job::{ending_on, schedule_bytes, schedule_on};
@@ -16,7 +17,7 @@ struct Ended<'a> {
 }
 
 fn is_written(rt: &impl Abort, bytes: &[u8], text: &str) {
-    assert_eq!(rt; bytes, text.as_bytes());
+    equal(rt, bytes, text.as_bytes());
 }
 
 /// Runs the text by the picks, and compares how that ends.
@@ -32,7 +33,7 @@ fn check(rt: &impl Abort, alloc: Global, text: &str, picks: &[u32], wanted: &End
         &mut reported,
         &mut nowhere,
     );
-    assert_eq!(rt; ended, wanted.status, "{text}");
+    equal_at(rt, text, ended, wanted.status);
     is_written(rt, &out, wanted.lines);
     is_written(rt, &reported, wanted.faults);
 }
@@ -137,7 +138,7 @@ fn smallest_trace(rt: HostRuntime) {
         &mut out,
         &mut trace_out,
     );
-    assert_eq!(rt; done, Ok(()));
+    equal(&rt, done, Ok(()));
     is_written(&rt, &out, SMALLEST_REPORT);
     is_trace(&rt, trace_out.as_ref(), SMALLEST_TRACE);
 }
@@ -157,9 +158,9 @@ fn trace_fails(rt: HostRuntime) {
         &mut faults,
         &mut trace_out,
     );
-    assert_eq!(rt; ended.status, Status::Fault);
-    assert_eq!(rt; out.len(), 0);
-    assert_eq!(rt; faults.as_slice(), b"fault write\n".as_slice());
+    equal(&rt, ended.status, Status::Fault);
+    equal(&rt, out.len(), 0);
+    equal(&rt, faults.as_slice(), b"fault write\n".as_slice());
 }
 
 /// The trace begins with this text.
@@ -185,7 +186,7 @@ fn trace_of_a_bounded_run(rt: HostRuntime) {
         &mut out,
         &mut trace_out,
     );
-    assert_eq!(rt; done, Ok(()));
+    equal(&rt, done, Ok(()));
     is_written(&rt, &out, BOUNDED_REPORT);
     begins(&rt, trace_out.as_ref(), BOUNDED_START);
 }
@@ -211,6 +212,6 @@ fn a_text_that_is_refused_has_no_trace(rt: HostRuntime) {
     let mut out = Vec::new(rt.alloc());
     let mut trace_out = Some(Vec::new(rt.alloc()));
     let answer = schedule_bytes(rt.alloc(), b"7", &[], &mut out, &mut trace_out);
-    assert_eq!(rt; answer, Err(Failure::Refused(Refusal::BadText(0))));
+    equal(&rt, answer, Err(Failure::Refused(Refusal::BadText(0))));
     is_trace(&rt, trace_out.as_ref(), "");
 }

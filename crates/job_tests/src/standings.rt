@@ -1,4 +1,5 @@
 //! Tasks that go through their acts event by event, and acts that are refused.
+use crate::asserted::equal;
 use phase_model::Terms;
 use phase_modes::{Limits, Mode, Pair, Phased, Refusal};
 use std::test::Fail;
@@ -23,15 +24,15 @@ fn named(phaser: u32, mode: Mode) -> Phased {
 #[test]
 fn turn_goes_from_phaser_to_phaser(rt: HostRuntime) -> Result<(), Fail> {
     let mut task = on_two_phasers(&rt)?;
-    assert_eq!(rt; task.due(), Due::Step);
+    equal(&rt, task.due(), Due::Step);
     task.begin(Plan::of(&Begun::Next));
-    assert_eq!(rt; task.due(), Due::Signal(4, None));
+    equal(&rt, task.due(), Due::Signal(4, None));
     task.note_signal(4);
-    assert_eq!(rt; task.due(), Due::Pass(4));
+    equal(&rt, task.due(), Due::Pass(4));
     task.note_pass(4);
-    assert_eq!(rt; task.due(), Due::Pass(5));
+    equal(&rt, task.due(), Due::Pass(5));
     task.note_pass(5);
-    assert_eq!(rt; task.due(), Due::Step);
+    equal(&rt, task.due(), Due::Step);
     Ok(())
 }
 
@@ -40,16 +41,16 @@ fn nothing_is_due_on_a_phaser_that_is_made_after_a_signal(rt: HostRuntime) -> Re
     let mut task = on_two_phasers(&rt)?;
     task.begin(Plan::Signalling(None, false));
     task.note_signal(4);
-    assert_eq!(rt; task.due(), Due::Step);
+    equal(&rt, task.due(), Due::Step);
     task.note_making(6, Mode::SigWait)?;
-    assert_eq!(rt; task.due(), Due::Step);
+    equal(&rt, task.due(), Due::Step);
     task.begin(Plan::Turning(0));
     task.note_pass(4);
     task.note_pass(5);
     task.note_pass(6);
-    assert_eq!(rt; task.due(), Due::Step);
+    equal(&rt, task.due(), Due::Step);
     task.note_making(7, Mode::SigWait)?;
-    assert_eq!(rt; task.due(), Due::Step);
+    equal(&rt, task.due(), Due::Step);
     Ok(())
 }
 
@@ -58,15 +59,15 @@ fn finish_is_left_before_it_is_shut(rt: HostRuntime) -> Result<(), Fail> {
     let mut task = on_two_phasers(&rt)?;
     task.reserve_opening()?;
     task.note_opening(2)?;
-    assert_eq!(rt; task.inner(), 2);
+    equal(&rt, task.inner(), 2);
     task.note_making(6, Mode::Sig)?;
     task.begin(Plan::Shutting);
-    assert_eq!(rt; task.due(), Due::Leave(6));
+    equal(&rt, task.due(), Due::Leave(6));
     task.leave(6);
-    assert_eq!(rt; task.due(), Due::Shut(2));
+    equal(&rt, task.due(), Due::Shut(2));
     task.note_shut();
-    assert_eq!(rt; task.due(), Due::Step);
-    assert_eq!(rt; task.inner(), 0);
+    equal(&rt, task.due(), Due::Step);
+    equal(&rt, task.inner(), 0);
     Ok(())
 }
 
@@ -74,14 +75,14 @@ fn finish_is_left_before_it_is_shut(rt: HostRuntime) -> Result<(), Fail> {
 fn end_leaves_all_phasers(rt: HostRuntime) -> Result<(), Fail> {
     let mut task = on_two_phasers(&rt)?;
     task.begin(Plan::Ending);
-    assert_eq!(rt; task.due(), Due::Leave(4));
+    equal(&rt, task.due(), Due::Leave(4));
     task.leave(4);
-    assert_eq!(rt; task.due(), Due::Leave(5));
+    equal(&rt, task.due(), Due::Leave(5));
     task.leave(5);
-    assert_eq!(rt; task.due(), Due::End(0));
+    equal(&rt, task.due(), Due::End(0));
     let mut root = Standing::new(rt.alloc(), 0, 0)?;
     root.begin(Plan::Ending);
-    assert_eq!(rt; root.due(), Due::Close);
+    equal(&rt, root.due(), Due::Close);
     Ok(())
 }
 
@@ -95,15 +96,15 @@ fn child_that_is_never_born_leaves_first(rt: HostRuntime) -> Result<(), Fail> {
         phaser: 4,
         mode: Mode::Sig,
     };
-    assert_eq!(rt; task.due(), Due::Register(9, pair));
+    equal(&rt, task.due(), Due::Register(9, pair));
     let held = task.held(4).expect(&rt, "the task holds phaser 4");
     child.join(held.handed(Mode::Sig))?;
     task.note_registration();
-    assert_eq!(rt; task.due_with(&child), Due::Spawn(9, 0));
+    equal(&rt, task.due_with(&child), Due::Spawn(9, 0));
     task.give_up();
-    assert_eq!(rt; task.due_with(&child), Due::DropChild(4, 9));
+    equal(&rt, task.due_with(&child), Due::DropChild(4, 9));
     child.leave(4);
-    assert_eq!(rt; task.due_with(&child), Due::Leave(4));
+    equal(&rt, task.due_with(&child), Due::Leave(4));
     Ok(())
 }
 
@@ -111,11 +112,11 @@ fn child_that_is_never_born_leaves_first(rt: HostRuntime) -> Result<(), Fail> {
 fn child_is_born_and_the_task_goes_on(rt: HostRuntime) -> Result<(), Fail> {
     let mut task = on_two_phasers(&rt)?;
     task.begin(Plan::Spawning(9, Phased::none(), 0));
-    assert_eq!(rt; task.due(), Due::Spawn(9, 0));
+    equal(&rt, task.due(), Due::Spawn(9, 0));
     task.note_birth();
-    assert_eq!(rt; task.due(), Due::Step);
-    assert_eq!(rt; task.number(), 1);
-    assert_eq!(rt; task.pairs().len(), 2);
+    equal(&rt, task.due(), Due::Step);
+    equal(&rt, task.number(), 1);
+    equal(&rt, task.pairs().len(), 2);
     Ok(())
 }
 
@@ -165,7 +166,7 @@ fn acts_are_refused_by_the_first_condition(rt: HostRuntime) -> Result<(), Fail> 
         (Tried::Send(4, 0, 1), None),
     ];
     for (tried, refusal) in rows {
-        assert_eq!(rt; refusal_of(&rt, tried)?, refusal);
+        equal(&rt, refusal_of(&rt, tried)?, refusal);
     }
     Ok(())
 }
@@ -179,7 +180,7 @@ fn acts_are_counted(rt: HostRuntime) -> Result<(), Fail> {
     };
     task.begin(Plan::Signalling(None, true));
     let next = Tried::Begun(Begun::Next);
-    assert_eq!(rt; task.may_try(limits, &next), Err(Refusal::ActsFull));
-    assert_eq!(rt; task.may_try(limits, &Tried::Begun(Begun::End)), Ok(()));
+    equal(&rt, task.may_try(limits, &next), Err(Refusal::ActsFull));
+    equal(&rt, task.may_try(limits, &Tried::Begun(Begun::End)), Ok(()));
     Ok(())
 }

@@ -3,6 +3,7 @@
 ghost use Rattle.std.specs.Prelude.{◌≡◌, ◌<◌, ◌≤◌};
 ghost use Rattle.share_book.specs.Opening.{IsNamed, IsParted};
 
+use crate::asserted::equal;
 use phase_model::Event;
 use phase_modes::Refusal;
 use share_book::{Blanks, Books, Ledgers, PhaserBook, Seven, Shares, Totals, gather, open, post};
@@ -35,7 +36,7 @@ fn posted_is_gathered(rt: HostRuntime) -> Result<(), Fail> {
         Blanks::new(2, 3),
         3,
     );
-    assert_eq!(rt; totals, Ok(TOTALS));
+    equal(&rt, totals, Ok(TOTALS));
     Ok(())
 }
 
@@ -47,7 +48,7 @@ fn missing_share_is_noticed(rt: HostRuntime) -> Result<(), Fail> {
         Blanks::new(2, 3),
         2,
     );
-    assert_eq!(rt; totals, Err(Refusal::SharesDiffer));
+    equal(&rt, totals, Err(Refusal::SharesDiffer));
     Ok(())
 }
 
@@ -111,5 +112,5 @@ fn post_one<K: Ledgers>(
         post(books, phaser, mine, &event);
     }
     let so_far = books.so_far(mine);
-    assert_eq!(rt; [so_far.events, so_far.up, so_far.down], totals);
+    equal(rt, [so_far.events, so_far.up, so_far.down], totals);
 }

@@ -1,6 +1,7 @@
 //! An owner that waits for two children, and the logs that they leave.
 ghost use Rattle.std.specs.Prelude.{◌≡◌, ◌<◌, IfOk};
 
+use crate::asserted::{equal, equal_at};
 use finish_core::FinishEvent;
 use phase_modes::{Limits, Refusal};
 use scope_locks::{FinishParts, FinishTable, Out, ShutAnswer, Tickets};
@@ -59,9 +60,9 @@ fn root_is_open<R: Abort + Wait>(rt: &R, table: &FinishTable<u32, u32>, tickets:
     requires { table.now.finishes ≡ 2 }
 {
     const NOT_OPEN: Shutting = Shutting::Refused(100, Refusal::NotNow);
-    assert_eq!(rt; shut(rt, table, tickets, 1, 100), NOT_OPEN);
-    assert_eq!(rt; table.opened(rt, 0, tickets, 0), Err(Refusal::NotNow));
-    assert_eq!(rt; shut(rt, table, tickets, 0, 100), Shutting::Done(100));
+    equal(rt, shut(rt, table, tickets, 1, 100), NOT_OPEN);
+    equal(rt, table.opened(rt, 0, tickets, 0), Err(Refusal::NotNow));
+    equal(rt, shut(rt, table, tickets, 0, 100), Shutting::Done(100));
 }
 
 /// The root's finish is open from the start; before the other is opened it can't be shut.
@@ -77,18 +78,20 @@ fn take_two_tasks<R: Abort + Wait>(rt: &R, table: &FinishTable<u32, u32>, ticket
     requires { table.now.finishes ≡ 3 }
 {
     const PAST: Result<(), Refusal> = Err(Refusal::TasksFull);
-    assert_eq!(rt; table.opened(rt, 1, tickets, 0), Ok(()));
-    assert_eq!(rt; table.opened(rt, 2, tickets, 0), Ok(()));
+    equal(rt, table.opened(rt, 1, tickets, 0), Ok(()));
+    equal(rt, table.opened(rt, 2, tickets, 0), Ok(()));
     for finish in 0..3 {
-        assert_eq!(rt;
+        equal_at(
+            rt,
+            ("finish", finish),
             table.spawned(rt, finish, tickets, 2),
             PAST,
-            "finish {finish}"
         );
-        assert_eq!(rt;
+        equal_at(
+            rt,
+            ("finish", finish),
             table.spawned(rt, finish, tickets, 1),
             Ok(()),
-            "finish {finish}"
         );
     }
 }
@@ -98,7 +101,7 @@ fn take_two_tasks<R: Abort + Wait>(rt: &R, table: &FinishTable<u32, u32>, ticket
 fn finishes_have_the_limits(rt: HostRuntime) -> Result<(), Fail> {
     let table = table_for(rt.alloc(), 3, 2)?;
     take_two_tasks(&rt, &table, &Tickets::new());
-    assert_eq!(rt; table.into_parts().parts.len(), 3);
+    equal(&rt, table.into_parts().parts.len(), 3);
     Ok(())
 }
 
@@ -106,9 +109,9 @@ fn finishes_have_the_limits(rt: HostRuntime) -> Result<(), Fail> {
 fn opens_with_two<R: Abort + Wait>(rt: &R, table: &FinishTable<u32, u32>, tickets: &Tickets)
     requires { table.now.finishes ≡ 2 }
 {
-    assert_eq!(rt; table.opened(rt, 1, tickets, 0), Ok(()));
-    assert_eq!(rt; table.spawned(rt, 1, tickets, 1), Ok(()));
-    assert_eq!(rt; table.spawned(rt, 1, tickets, 2), Ok(()));
+    equal(rt, table.opened(rt, 1, tickets, 0), Ok(()));
+    equal(rt, table.spawned(rt, 1, tickets, 1), Ok(()));
+    equal(rt, table.spawned(rt, 1, tickets, 2), Ok(()));
 }
 
 /// The owner is parked, and has its item back where it asks again.
@@ -116,8 +119,8 @@ fn parks_its_owner<R: Abort + Wait>(rt: &R, table: &FinishTable<u32, u32>, ticke
     requires { table.now.finishes ≡ 2 }
 {
     const AGAIN: Shutting = Shutting::Refused(101, Refusal::NotNow);
-    assert_eq!(rt; shut(rt, table, tickets, 1, 100), Shutting::Parked);
-    assert_eq!(rt; shut(rt, table, tickets, 1, 101), AGAIN);
+    equal(rt, shut(rt, table, tickets, 1, 100), Shutting::Parked);
+    equal(rt, shut(rt, table, tickets, 1, 101), AGAIN);
 }
 
 /// The log that a task's end gives back, where it is refused, and the owner that it wakes.
@@ -151,7 +154,7 @@ fn end_all<R: Abort + Wait>(
 {
     for (task, log, back) in rows {
         let came = end(rt, alloc, table, tickets, *task, *log);
-        assert_eq!(rt; came, Ok(*back), "task {task}");
+        equal_at(rt, ("task", task), came, Ok(*back));
     }
 }
 
@@ -167,8 +170,8 @@ fn are_logs(parts: &FinishParts<u32>, finish: usize, logs: &[u32]) -> bool {
 /// tickets that were drawn.
 fn tell_five(rt: &impl Abort, parts: &[Part]) {
     assert_eq!(rt; parts.len(), 2);
-    assert_eq!(rt; parts[0].len(), 0);
-    assert_eq!(rt; parts[1].len(), 5);
+    equal(rt, parts[0].len(), 0);
+    equal(rt, parts[1].len(), 5);
     let opened = TracedEvent::Finish(1, FinishEvent::Opened(0));
     let ended = TracedEvent::Finish(1, FinishEvent::Ended(1));
     assert!(rt; parts[1].entry(0) == (1, opened));
@@ -192,10 +195,11 @@ fn parked_owner(rt: HostRuntime) -> Result<(), Fail> {
     ];
     let table = table_for(rt.alloc(), 2, 4)?;
     let tickets = Tickets::new();
-    assert_eq!(rt; table.place(1, Refusal::FinishesFull), Ok(1));
-    assert_eq!(rt;
+    equal(&rt, table.place(1, Refusal::FinishesFull), Ok(1));
+    equal(
+        &rt,
         table.place(2, Refusal::FinishesFull),
-        Err(Refusal::FinishesFull)
+        Err(Refusal::FinishesFull),
     );
     opens_with_two(&rt, &table, &tickets);
     parks_its_owner(&rt, &table, &tickets);

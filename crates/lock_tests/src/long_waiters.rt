@@ -1,5 +1,6 @@
 //! Those who wait at a phaser that lives long: on one cell a waiter whom the last signal wakes, a
 //! signaller whom a pass wakes, and one whom a task wakes that leaves; and each call of its lock.
+use crate::asserted::equal;
 use long_locks::{LongCell, LongLock, Out, PassAnswer, SignalAnswer};
 use long_phaser::{Phase, Task};
 use phase_model::{Bound, Look, Op, Ops};
@@ -71,7 +72,7 @@ fn leave(alloc: Global, cell: &mut LongCell<u32>, task: Task) -> Result<Option<u
 fn made(rt: &impl Abort, alloc: Global, bound: u32) -> Result<LongCell<u32>, Refusal> {
     let bound = Bound::of(bound).ok_or(Refusal::NotNow)?;
     let mut cell = LongCell::new(alloc, Ops::none(), bound)?;
-    assert_eq!(rt; cell.make(Mode::SigWait), Ok(0));
+    equal(rt, cell.make(Mode::SigWait), Ok(0));
     Ok(cell)
 }
 
@@ -80,25 +81,29 @@ fn made(rt: &impl Abort, alloc: Global, bound: u32) -> Result<LongCell<u32>, Ref
 fn waiter_wakes(rt: HostRuntime) -> Result<(), Fail> {
     let alloc = rt.alloc();
     let mut cell = made(&rt, alloc, 2)?;
-    assert_eq!(&rt; cell.register(0, Mode::SigWait), Ok(1));
-    assert_eq!(&rt;
+    equal(&rt, cell.register(0, Mode::SigWait), Ok(1));
+    equal(
+        &rt,
         signal(alloc, &mut cell, 0, 10)?,
-        (Answer::Signalled(10), None)
+        (Answer::Signalled(10), None),
     );
-    assert_eq!(&rt; pass(alloc, &mut cell, 0, 11)?, (Answer::Parked, None));
+    equal(&rt, pass(alloc, &mut cell, 0, 11)?, (Answer::Parked, None));
     let again = Answer::Refused(12, Refusal::NotNow);
-    assert_eq!(&rt; pass(alloc, &mut cell, 0, 12)?, (again, None));
-    assert_eq!(&rt;
+    equal(&rt, pass(alloc, &mut cell, 0, 12)?, (again, None));
+    equal(
+        &rt,
         signal(alloc, &mut cell, 1, 20)?,
-        (Answer::Signalled(20), Some(11))
+        (Answer::Signalled(20), Some(11)),
     );
-    assert_eq!(&rt;
+    equal(
+        &rt,
         pass(alloc, &mut cell, 0, 13)?,
-        (Answer::Passed(13, 0), None)
+        (Answer::Passed(13, 0), None),
     );
-    assert_eq!(&rt;
+    equal(
+        &rt,
         pass(alloc, &mut cell, 1, 21)?,
-        (Answer::Passed(21, 0), None)
+        (Answer::Passed(21, 0), None),
     );
     Ok(())
 }
@@ -108,25 +113,33 @@ fn waiter_wakes(rt: HostRuntime) -> Result<(), Fail> {
 fn signaller_wakes(rt: HostRuntime) -> Result<(), Fail> {
     let alloc = rt.alloc();
     let mut cell = made(&rt, alloc, 1)?;
-    assert_eq!(&rt; cell.register(0, Mode::Sig), Ok(1));
-    assert_eq!(&rt; cell.register(0, Mode::Wait), Ok(2));
-    assert_eq!(&rt; leave(alloc, &mut cell, 0)?, None);
-    assert_eq!(&rt;
+    equal(&rt, cell.register(0, Mode::Sig), Ok(1));
+    equal(&rt, cell.register(0, Mode::Wait), Ok(2));
+    equal(&rt, leave(alloc, &mut cell, 0)?, None);
+    equal(
+        &rt,
         signal(alloc, &mut cell, 1, 10)?,
-        (Answer::Signalled(10), None)
+        (Answer::Signalled(10), None),
     );
-    assert_eq!(&rt;
+    equal(
+        &rt,
         pass(alloc, &mut cell, 1, 11)?,
-        (Answer::Passed(11, 0), None)
+        (Answer::Passed(11, 0), None),
     );
-    assert_eq!(&rt; signal(alloc, &mut cell, 1, 12)?, (Answer::Parked, None));
-    assert_eq!(&rt;
+    equal(
+        &rt,
+        signal(alloc, &mut cell, 1, 12)?,
+        (Answer::Parked, None),
+    );
+    equal(
+        &rt,
         pass(alloc, &mut cell, 2, 20)?,
-        (Answer::Passed(20, 0), Some(12))
+        (Answer::Passed(20, 0), Some(12)),
     );
-    assert_eq!(&rt;
+    equal(
+        &rt,
         signal(alloc, &mut cell, 1, 13)?,
-        (Answer::Signalled(13), None)
+        (Answer::Signalled(13), None),
     );
     Ok(())
 }
@@ -136,20 +149,27 @@ fn signaller_wakes(rt: HostRuntime) -> Result<(), Fail> {
 fn leaving_wakes(rt: HostRuntime) -> Result<(), Fail> {
     let alloc = rt.alloc();
     let mut cell = made(&rt, alloc, 1)?;
-    assert_eq!(&rt; cell.register(0, Mode::Wait), Ok(1));
-    assert_eq!(&rt;
+    equal(&rt, cell.register(0, Mode::Wait), Ok(1));
+    equal(
+        &rt,
         signal(alloc, &mut cell, 0, 10)?,
-        (Answer::Signalled(10), None)
+        (Answer::Signalled(10), None),
     );
-    assert_eq!(&rt;
+    equal(
+        &rt,
         pass(alloc, &mut cell, 0, 11)?,
-        (Answer::Passed(11, 0), None)
+        (Answer::Passed(11, 0), None),
     );
-    assert_eq!(&rt; signal(alloc, &mut cell, 0, 12)?, (Answer::Parked, None));
-    assert_eq!(&rt; leave(alloc, &mut cell, 1)?, Some(12));
-    assert_eq!(&rt;
+    equal(
+        &rt,
+        signal(alloc, &mut cell, 0, 12)?,
+        (Answer::Parked, None),
+    );
+    equal(&rt, leave(alloc, &mut cell, 1)?, Some(12));
+    equal(
+        &rt,
         signal(alloc, &mut cell, 0, 13)?,
-        (Answer::Signalled(13), None)
+        (Answer::Signalled(13), None),
     );
     Ok(())
 }
@@ -160,9 +180,9 @@ fn with_sum<R: Abort + Wait>(rt: &R, alloc: Global) -> Result<LongLock<u32>, Ref
     ops.push(Op::Sum);
     let bound = Bound::of(2).ok_or(Refusal::NotNow)?;
     let lock = LongLock::new(alloc, ops, bound)?;
-    assert_eq!(rt; lock.make(rt, Mode::Single), Ok(0));
-    assert_eq!(rt; lock.register(rt, 0, Mode::SigWait), Ok(1));
-    assert_eq!(rt; lock.leave(rt, &mut Out::new(alloc)?, 1), Ok(()));
+    equal(rt, lock.make(rt, Mode::Single), Ok(0));
+    equal(rt, lock.register(rt, 0, Mode::SigWait), Ok(1));
+    equal(rt, lock.leave(rt, &mut Out::new(alloc)?, 1), Ok(()));
     Ok(lock)
 }
 
@@ -173,20 +193,21 @@ fn locked_calls(rt: HostRuntime) -> Result<(), Fail> {
     let alloc = rt.alloc();
     let lock = with_sum(&rt, alloc)?;
     let mut out = Out::new(alloc)?;
-    assert_eq!(&rt; lock.send(&rt, 0, 0, 7), Ok(()));
+    equal(&rt, lock.send(&rt, 0, 0, 7), Ok(()));
     let signalled = of_signal(lock.signal(&rt, &mut out, 0, Some(3), 10));
-    assert_eq!(&rt; signalled, Answer::Signalled(10));
+    equal(&rt, signalled, Answer::Signalled(10));
     let mut out = Out::new(alloc)?;
     let claimed = of_pass(lock.pass(&rt, &mut out, 0, 11));
-    assert_eq!(&rt; claimed, Answer::Claimed(11, 3));
-    assert_eq!(&rt;
+    equal(&rt, claimed, Answer::Claimed(11, 3));
+    equal(
+        &rt,
         lock.single_done(&rt, &mut Out::<u32>::new(alloc)?, 0),
-        Ok(())
+        Ok(()),
     );
     let mut out = Out::new(alloc)?;
     let passed = of_pass(lock.pass(&rt, &mut out, 0, 12));
-    assert_eq!(&rt; passed, Answer::Passed(12, 0));
-    assert_eq!(&rt; lock.look(&rt, 0, 0), Ok(Look::Value(7)));
-    assert_eq!(&rt; lock.lock(&rt).parked.len(), 0);
+    equal(&rt, passed, Answer::Passed(12, 0));
+    equal(&rt, lock.look(&rt, 0, 0), Ok(Look::Value(7)));
+    equal(&rt, lock.lock(&rt).parked.len(), 0);
     Ok(())
 }

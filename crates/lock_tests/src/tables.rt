@@ -4,6 +4,7 @@ ghost use Rattle.std.specs.Prelude.{◌≡◌, [], ◌<◌, ◌≤◌, true, IfO
 ghost use Rattle.phase_modes.specs.Limits.{limits_fit};
 ghost use Rattle.share_book.specs.Opening.{IsNamed, IsParted};
 
+use crate::asserted::equal;
 use merging::merged;
 use phase_model::Reply;
 use phase_modes::{Limits, Refusal};
@@ -80,7 +81,7 @@ fn of_events(
     events: u64,
 ) -> Result<Totals, Refusal> {
     let totals = totals?;
-    assert_eq!(rt; totals.events, events);
+    equal(rt, totals.events, events);
     Ok(totals)
 }
 

@@ -4,6 +4,7 @@ ghost use Rattle.std.specs.Prelude.{◌≡◌, All};
 ghost use Rattle.share_book.specs.Accounts.{nothing};
 ghost use Rattle.share_book.specs.Opening.{IsNamed, IsParted};
 
+use crate::asserted::equal;
 use phase_model::{Bound, Ops};
 use phase_modes::{Limits, Mode, Refusal};
 use scope_locks::{Out, PassAnswer, PhaserCell, SignalAnswer, Tickets};
@@ -117,13 +118,15 @@ impl<K: Ledgers> CalledCell<K> {
             mine,
         } = self;
         let ops = Ops::none();
-        assert_eq!(rt;
+        equal(
+            rt,
             cell.make(tickets, books, mine, 0, Mode::SigWait, ops, Bound::of(1)),
-            Ok(())
+            Ok(()),
         );
-        assert_eq!(rt;
+        equal(
+            rt,
             cell.register(tickets, books, mine, 0, 1, Mode::SigWait),
-            Ok(())
+            Ok(()),
         );
     }
 
@@ -133,17 +136,17 @@ impl<K: Ledgers> CalledCell<K> {
         const SIGNALLED: (Signalling, Option<u32>) = (Signalling::Signalled(99), None);
         const PARKED: (Passing, Option<u32>) = (Passing::Parked, None);
         const AGAIN: (Passing, Option<u32>) = (Passing::Refused(102, Refusal::NotNow), None);
-        assert_eq!(rt; self.signal(alloc, 0, 99), Ok(SIGNALLED));
-        assert_eq!(rt; self.pass(alloc, 0, 100), Ok(PARKED));
-        assert_eq!(rt; self.pass(alloc, 0, 102), Ok(AGAIN));
+        equal(rt, self.signal(alloc, 0, 99), Ok(SIGNALLED));
+        equal(rt, self.pass(alloc, 0, 100), Ok(PARKED));
+        equal(rt, self.pass(alloc, 0, 102), Ok(AGAIN));
     }
 
     /// The other's signal wakes it.
     fn let_go(&mut self, rt: &impl Abort, alloc: Global) {
         const FREED: (Signalling, Option<u32>) = (Signalling::Signalled(101), Some(100));
         const PASSED: (Passing, Option<u32>) = (Passing::Passed(100, 0), None);
-        assert_eq!(rt; self.signal(alloc, 1, 101), Ok(FREED));
-        assert_eq!(rt; self.pass(alloc, 0, 100), Ok(PASSED));
+        equal(rt, self.signal(alloc, 1, 101), Ok(FREED));
+        equal(rt, self.pass(alloc, 0, 100), Ok(PASSED));
     }
 
     /// The other hasn't passed yet, so task 0 waits to signal. The other's pass wakes it, and the
@@ -153,11 +156,11 @@ impl<K: Ledgers> CalledCell<K> {
         const AGAIN: (Signalling, Option<u32>) = (Signalling::Refused(104, Refusal::NotNow), None);
         const FREED: (Passing, Option<u32>) = (Passing::Passed(101, 0), Some(103));
         const SIGNALLED: (Signalling, Option<u32>) = (Signalling::Signalled(103), None);
-        assert_eq!(rt; self.signal(alloc, 0, 103), Ok(HELD));
-        assert_eq!(rt; self.signal(alloc, 0, 104), Ok(AGAIN));
-        assert_eq!(rt; self.pass(alloc, 1, 101), Ok(FREED));
-        assert_eq!(rt; self.signal(alloc, 0, 103), Ok(SIGNALLED));
-        assert_eq!(rt; self.drop_task(alloc, 1), Ok(None));
+        equal(rt, self.signal(alloc, 0, 103), Ok(HELD));
+        equal(rt, self.signal(alloc, 0, 104), Ok(AGAIN));
+        equal(rt, self.pass(alloc, 1, 101), Ok(FREED));
+        equal(rt, self.signal(alloc, 0, 103), Ok(SIGNALLED));
+        equal(rt, self.drop_task(alloc, 1), Ok(None));
     }
 
     /// Task 0 waits for task 1, and goes on.
@@ -250,6 +253,6 @@ fn parked_waiter(rt: HostRuntime) -> Result<(), Fail> {
         rt.alloc(),
         Blanks::new(1, 1),
     )?;
-    assert_eq!(rt; totals, TOTALS);
+    equal(&rt, totals, TOTALS);
     Ok(())
 }

@@ -2,6 +2,7 @@
 //! holds, a single that a freed task claims, and tasks that leave. Each is a table of calls.
 ghost use Rattle.std.specs.Prelude.{◌≡◌, []};
 
+use crate::asserted::equal;
 use long_phaser::Task;
 use phase_model::{Bound, Look, Op, Ops};
 use phase_modes::{Mode, Refusal};
@@ -83,9 +84,9 @@ fn run(
 ) -> Result<(), Refusal> {
     let bound = Bound::of(bound).ok_or(Refusal::NotNow)?;
     let mut cell = WaitingCell::new(alloc, Ops::none(), bound)?;
-    assert_eq!(rt; cell.make(mode), Ok(0));
+    equal(rt, cell.make(mode), Ok(0));
     for (act, want) in rows {
-        assert_eq!(rt; heard(alloc, &mut cell, *act)?, *want);
+        equal(rt, heard(alloc, &mut cell, *act)?, *want);
     }
     Ok(())
 }
@@ -241,10 +242,10 @@ fn sum_seen(rt: HostRuntime) -> Result<(), Fail> {
     ops.push(Op::Sum);
     let bound = Bound::of(2).ok_or(Refusal::NotNow)?;
     let mut cell = WaitingCell::new(alloc, ops, bound)?;
-    assert_eq!(&rt; cell.make(Mode::SigWait), Ok(0));
-    assert_eq!(&rt; cell.send(0, 0, 7), Ok(()));
-    assert_eq!(&rt; heard(alloc, &mut cell, Act::Signal(0))?, SIGNALLED);
-    assert_eq!(&rt; heard(alloc, &mut cell, Act::Pass(0))?, PASSED_0);
-    assert_eq!(&rt; cell.look(0, 0), Ok(Look::Value(7)));
+    equal(&rt, cell.make(Mode::SigWait), Ok(0));
+    equal(&rt, cell.send(0, 0, 7), Ok(()));
+    equal(&rt, heard(alloc, &mut cell, Act::Signal(0))?, SIGNALLED);
+    equal(&rt, heard(alloc, &mut cell, Act::Pass(0))?, PASSED_0);
+    equal(&rt, cell.look(0, 0), Ok(Look::Value(7)));
     Ok(())
 }

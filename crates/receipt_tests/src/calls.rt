@@ -2,6 +2,7 @@
 //! and leave.
 ghost use Rattle.std.specs.Prelude.{◌≡◌, [], Some};
 
+use crate::asserted::equal;
 use ghost_log::Whole;
 use long_locks::{Out, PassAnswer, SignalAnswer};
 use long_phaser::{Phase, Task};
@@ -102,35 +103,40 @@ fn calls<J: Naming, R: Wait + Abort>(
 {
     let (lock, front) = ReceiptLock::<J, u32>::new(alloc, ops, bound, whole)?;
     let mut me = front;
-    assert_eq!(rt; lock.make(rt, &mut me, Mode::Single), Ok(0));
-    assert_eq!(rt; lock.register(rt, &mut me, 0, Mode::Single), Ok(1));
-    assert_eq!(rt; lock.send(rt, &mut me, 0, 0, 3), Ok(()));
-    assert_eq!(rt; lock.send(rt, &mut me, 1, 0, 4), Ok(()));
-    assert_eq!(rt;
+    equal(rt, lock.make(rt, &mut me, Mode::Single), Ok(0));
+    equal(rt, lock.register(rt, &mut me, 0, Mode::Single), Ok(1));
+    equal(rt, lock.send(rt, &mut me, 0, 0, 3), Ok(()));
+    equal(rt, lock.send(rt, &mut me, 1, 0, 4), Ok(()));
+    equal(
+        rt,
         signal(rt, alloc, &lock, &mut me, 0, 10)?,
-        (Ended::Signalled(10), None)
+        (Ended::Signalled(10), None),
     );
-    assert_eq!(rt; pass(rt, alloc, &lock, &mut me, 0, 11)?, Ended::Parked);
-    assert_eq!(rt;
+    equal(rt, pass(rt, alloc, &lock, &mut me, 0, 11)?, Ended::Parked);
+    equal(
+        rt,
         signal(rt, alloc, &lock, &mut me, 1, 20)?,
-        (Ended::Signalled(20), Some(11))
+        (Ended::Signalled(20), Some(11)),
     );
-    assert_eq!(rt;
+    equal(
+        rt,
         pass(rt, alloc, &lock, &mut me, 0, 12)?,
-        Ended::Claimed(12, SINGLE)
+        Ended::Claimed(12, SINGLE),
     );
-    assert_eq!(rt; pass(rt, alloc, &lock, &mut me, 1, 21)?, Ended::Parked);
-    assert_eq!(rt; single_done(rt, alloc, &lock, &mut me, 0)?, Some(21));
-    assert_eq!(rt;
+    equal(rt, pass(rt, alloc, &lock, &mut me, 1, 21)?, Ended::Parked);
+    equal(rt, single_done(rt, alloc, &lock, &mut me, 0)?, Some(21));
+    equal(
+        rt,
         pass(rt, alloc, &lock, &mut me, 0, 13)?,
-        Ended::Passed(13, 0)
+        Ended::Passed(13, 0),
     );
-    assert_eq!(rt;
+    equal(
+        rt,
         pass(rt, alloc, &lock, &mut me, 1, 22)?,
-        Ended::Passed(22, 0)
+        Ended::Passed(22, 0),
     );
-    assert_eq!(rt; lock.look(rt, &mut me, 0, 0), Ok(Look::Value(7)));
-    assert_eq!(rt; lock.look(rt, &mut me, 1, 0), Ok(Look::Value(7)));
+    equal(rt, lock.look(rt, &mut me, 0, 0), Ok(Look::Value(7)));
+    equal(rt, lock.look(rt, &mut me, 1, 0), Ok(Look::Value(7)));
     leave(rt, alloc, &lock, &mut me, 0)?;
     leave(rt, alloc, &lock, &mut me, 1)?;
     Ok(lock.into_cell().cell.state.history().len())
@@ -144,6 +150,6 @@ fn each_call_of_the_lock(rt: HostRuntime) -> Result<(), Fail> {
     one_sum.push(Op::Sum);
     let bound = Bound::of(2).ok_or(Refusal::NotNow)?;
     let events = calls::<Brand, HostRuntime>(&rt, rt.alloc(), one_sum, bound, Whole::new())?;
-    assert_eq!(&rt; events, 14);
+    equal(&rt, events, 14);
     Ok(())
 }

@@ -1,5 +1,6 @@
 //! Numbers with types: each gives back the number that it was made of, at both ends of its type
 //! too, and two are equal where their numbers are.
+use crate::asserted::equal;
 use std::test::Fail;
 use task_numbers::{AccumulatorIndex, LongTaskNumber, PhaserNumber, TaskNumber};
 
@@ -15,30 +16,31 @@ const TINY: [u8; 3] = [0, 7, 255];
 #[test]
 fn numbers_are_given_back(rt: HostRuntime) -> Result<(), Fail> {
     for number in SHORT {
-        assert_eq!(rt; PhaserNumber::of(number).get(), number);
-        assert_eq!(rt; TaskNumber::of(number).get(), number);
+        equal(&rt, PhaserNumber::of(number).get(), number);
+        equal(&rt, TaskNumber::of(number).get(), number);
     }
     for number in LONG {
-        assert_eq!(rt; LongTaskNumber::of(number).get(), number);
+        equal(&rt, LongTaskNumber::of(number).get(), number);
     }
     for number in TINY {
-        assert_eq!(rt; AccumulatorIndex::of(number).get(), number);
+        equal(&rt, AccumulatorIndex::of(number).get(), number);
     }
     Ok(())
 }
 
 #[test]
 fn equal_numbers_are_equal(rt: HostRuntime) -> Result<(), Fail> {
-    assert_eq!(rt; PhaserNumber::of(3), PhaserNumber::of(3));
+    equal(&rt, PhaserNumber::of(3), PhaserNumber::of(3));
     assert_ne!(rt; PhaserNumber::of(3), PhaserNumber::of(4));
-    assert_eq!(rt; TaskNumber::of(70_000), TaskNumber::of(70_000));
+    equal(&rt, TaskNumber::of(70_000), TaskNumber::of(70_000));
     assert_ne!(rt; TaskNumber::of(70_000), TaskNumber::of(4_464));
-    assert_eq!(rt;
+    equal(
+        &rt,
         LongTaskNumber::of(4_294_967_296),
-        LongTaskNumber::of(4_294_967_296)
+        LongTaskNumber::of(4_294_967_296),
     );
     assert_ne!(rt; LongTaskNumber::of(4_294_967_296), LongTaskNumber::of(0));
-    assert_eq!(rt; AccumulatorIndex::of(7), AccumulatorIndex::of(7));
+    equal(&rt, AccumulatorIndex::of(7), AccumulatorIndex::of(7));
     assert_ne!(rt; AccumulatorIndex::of(7), AccumulatorIndex::of(8));
     Ok(())
 }

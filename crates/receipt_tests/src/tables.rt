@@ -4,6 +4,7 @@ ghost use Rattle.std.specs.Prelude.{◌≡◌, ◌<◌, ℕ, [], true, All, IfSo
 ghost use Rattle.phase_modes.specs.Limits.{limits_fit};
 ghost use Rattle.share_book.specs.Opening.{IsNamed, IsParted};
 
+use crate::asserted::equal;
 use ghost_log::Whole;
 use phase_model::{Look, Op, Ops, Reply, Terms};
 use phase_modes::{Limits, Mode, Refusal};
@@ -162,16 +163,20 @@ fn turn_of_two<K: Naming, R: Wait + Abort>(
     phaser.register(by, 0, 1, Mode::Single)?;
     phaser.send(by, 0, 3)?;
     phaser.send(by, 1, 4)?;
-    assert_eq!(rt; phaser.signal(alloc, by, 0, 10)?, (Reply::Done, None));
-    assert_eq!(rt; phaser.pass(alloc, by, 0, 11)?, Reply::NotYet);
-    assert_eq!(rt; phaser.signal(alloc, by, 1, 20)?, (Reply::Done, Some(11)));
-    assert_eq!(rt; phaser.pass(alloc, by, 0, 12)?, Reply::Claim(SINGLE));
-    assert_eq!(rt; phaser.pass(alloc, by, 1, 21)?, Reply::NotYet);
-    assert_eq!(rt; phaser.single_done(alloc, by, 0)?, Some(21));
-    assert_eq!(rt; phaser.pass(alloc, by, 0, 13)?, Reply::Phase(0));
-    assert_eq!(rt; phaser.pass(alloc, by, 1, 22)?, Reply::Phase(0));
-    assert_eq!(rt; phaser.look(by, 0), Ok(Look::Value(7)));
-    assert_eq!(rt; phaser.look(by, 1), Ok(Look::Value(7)));
+    equal(rt, phaser.signal(alloc, by, 0, 10)?, (Reply::Done, None));
+    equal(rt, phaser.pass(alloc, by, 0, 11)?, Reply::NotYet);
+    equal(
+        rt,
+        phaser.signal(alloc, by, 1, 20)?,
+        (Reply::Done, Some(11)),
+    );
+    equal(rt, phaser.pass(alloc, by, 0, 12)?, Reply::Claim(SINGLE));
+    equal(rt, phaser.pass(alloc, by, 1, 21)?, Reply::NotYet);
+    equal(rt, phaser.single_done(alloc, by, 0)?, Some(21));
+    equal(rt, phaser.pass(alloc, by, 0, 13)?, Reply::Phase(0));
+    equal(rt, phaser.pass(alloc, by, 1, 22)?, Reply::Phase(0));
+    equal(rt, phaser.look(by, 0), Ok(Look::Value(7)));
+    equal(rt, phaser.look(by, 1), Ok(Look::Value(7)));
     phaser.drop_task(alloc, by, 0)?;
     phaser.drop_task(alloc, by, 1)
 }
@@ -224,17 +229,18 @@ fn calls<K: Naming, R: Wait + Abort>(
         mine,
         out: Out::new(alloc)?,
     };
-    assert_eq!(rt; table.place(1, Refusal::NotRegistered), Ok(1));
-    assert_eq!(rt;
+    equal(rt, table.place(1, Refusal::NotRegistered), Ok(1));
+    equal(
+        rt,
         table.place(2, Refusal::NotRegistered),
-        Err(Refusal::NotRegistered)
+        Err(Refusal::NotRegistered),
     );
     turn_of_two(rt, alloc, &table, &mut by)?;
     made_and_left(rt, alloc, &table, &mut by)?;
     shares.push(by.mine)?;
     let left = table.into_parts(rt);
     assert_eq!(rt; left.parts.len(), 2);
-    assert_eq!(rt; [left.parts[0].len(), left.parts[1].len()], [14, 2]);
+    equal(rt, [left.parts[0].len(), left.parts[1].len()], [14, 2]);
     gather(shares, left.phasers, left.books)
 }
 
@@ -292,6 +298,6 @@ fn each_call_of_the_table(rt: HostRuntime) -> Result<(), Fail> {
         Blanks::new(2, 1),
         logs,
     );
-    assert_eq!(rt; totals, Ok(TOTALS));
+    equal(&rt, totals, Ok(TOTALS));
     Ok(())
 }

@@ -1,6 +1,7 @@
 //! Runs of programs that have to be certain: the lines are the certificate's, by any number of workers.
 ghost use Rattle.std.specs.Prelude.{◌<◌, ◌≤◌};
 
+use crate::asserted::{equal, equal_at};
 use crate::certificates::{CROWD, TWO_MAKERS, TWO_SENDERS, TWO_SENDERS_CERTIFICATE};
 use crate::ended::Ended;
 use certain_job::{certain_bytes, certain_on, ending_on};
@@ -35,11 +36,11 @@ fn check_by<R: Abort + Threads + Wait + Sync>(
         &mut reported,
         &mut trace,
     );
-    assert_eq!(rt; ended, wanted.status, "{text}");
-    assert_eq!(rt; out.as_slice(), wanted.lines.as_bytes(), "{text}");
-    assert_eq!(rt; reported.as_slice(), wanted.faults.as_bytes(), "{text}");
+    equal_at(rt, text, ended, wanted.status);
+    equal_at(rt, text, out.as_slice(), wanted.lines.as_bytes());
+    equal_at(rt, text, reported.as_slice(), wanted.faults.as_bytes());
     let is_traced = trace.is_some_and(|written| !written.is_empty());
-    assert_eq!(rt; is_traced, wanted.status == Status::Done, "{text}");
+    equal_at(rt, text, is_traced, wanted.status == Status::Done);
 }
 
 /// By 1, 2 and 16 workers the text's run ends so.
@@ -81,8 +82,8 @@ fn why_a_program_is_not_run(rt: HostRuntime) {
         place: 8,
         luck: Luck::Registered(0, 2, 0),
     };
-    assert_eq!(&rt; answer, Err(NoCertificate::Luck(at)));
-    assert_eq!(&rt; out.len(), 0);
+    equal(&rt, answer, Err(NoCertificate::Luck(at)));
+    equal(&rt, out.len(), 0);
 }
 
 // Lines that can't be written are a fault.
@@ -100,6 +101,6 @@ fn a_certain_run_that_cannot_be_written(rt: HostRuntime) {
         &mut faults,
         &mut nowhere,
     );
-    assert_eq!(&rt; ended.status, Status::Fault);
-    assert_eq!(&rt; faults.as_slice(), b"fault write\n".as_slice());
+    equal(&rt, ended.status, Status::Fault);
+    equal(&rt, faults.as_slice(), b"fault write\n".as_slice());
 }

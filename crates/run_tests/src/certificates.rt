@@ -1,4 +1,5 @@
 //! What programs are certified to come to, and the first event in which luck has a part.
+use crate::asserted::{equal, equal_at};
 use certify_job::{NoCertificate, certify_bytes, certify_on, ending_on};
 use job_ends::Status;
 use job_script::read_program;
@@ -97,10 +98,10 @@ fn luck_of(alloc: Global, text: &str) -> Result<Option<LuckAt>, Fail> {
 #[test]
 fn one_run_tells_all(rt: HostRuntime) -> Result<(), Fail> {
     match certified(rt.alloc(), TWO_SENDERS)? {
-        Ok(report) => assert_eq!(&rt; report.as_str(), TWO_SENDERS_REPORT),
+        Ok(report) => equal(&rt, report.as_str(), TWO_SENDERS_REPORT),
         Err(_) => return Err(Fail::from("it isn't certain")),
     }
-    assert_eq!(&rt; luck_of(rt.alloc(), TWO_SENDERS)?, None);
+    equal(&rt, luck_of(rt.alloc(), TWO_SENDERS)?, None);
     Ok(())
 }
 
@@ -108,10 +109,10 @@ fn one_run_tells_all(rt: HostRuntime) -> Result<(), Fail> {
 fn luck_has_a_part(rt: HostRuntime) -> Result<(), Fail> {
     for (text, place, luck, _) in LUCKY {
         let at = LuckAt { place, luck };
-        assert_eq!(&rt; luck_of(rt.alloc(), text)?, Some(at), "{text}");
+        equal_at(&rt, text, luck_of(rt.alloc(), text)?, Some(at));
         match certified(rt.alloc(), text)? {
             Ok(_) => return Err(Fail::from("it is certain")),
-            Err(why) => assert_eq!(&rt; why, NoAnswer::Luck(at), "{text}"),
+            Err(why) => equal_at(&rt, text, why, NoAnswer::Luck(at)),
         }
     }
     Ok(())
@@ -122,9 +123,9 @@ fn ends(rt: &impl Abort, alloc: Global, text: &str, status: Status, lines: &str,
     let mut out = Vec::new(alloc);
     let mut reported = Vec::new(alloc);
     let ended = certify_on(alloc, text.as_bytes(), &mut out, &mut reported);
-    assert_eq!(rt; ended, status, "{text}");
-    assert_eq!(rt; out.as_slice(), lines.as_bytes(), "{text}");
-    assert_eq!(rt; reported.as_slice(), faults.as_bytes(), "{text}");
+    equal_at(rt, text, ended, status);
+    equal_at(rt, text, out.as_slice(), lines.as_bytes());
+    equal_at(rt, text, reported.as_slice(), faults.as_bytes());
 }
 
 #[test]
@@ -162,8 +163,8 @@ fn a_certificate_that_cannot_be_written(rt: HostRuntime) {
         &mut &mut full[..],
         &mut faults,
     );
-    assert_eq!(&rt; ended.status, Status::Fault);
-    assert_eq!(&rt; faults.as_slice(), b"fault write\n".as_slice());
+    equal(&rt, ended.status, Status::Fault);
+    equal(&rt, faults.as_slice(), b"fault write\n".as_slice());
 }
 
 #[test]
@@ -174,6 +175,6 @@ fn why_there_is_no_certificate(rt: HostRuntime) {
         place: 8,
         luck: Luck::Registered(0, 2, 0),
     };
-    assert_eq!(&rt; answer, Err(NoCertificate::Luck(at)));
-    assert_eq!(&rt; out.len(), 0);
+    equal(&rt, answer, Err(NoCertificate::Luck(at)));
+    equal(&rt, out.len(), 0);
 }

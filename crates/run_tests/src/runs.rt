@@ -2,6 +2,7 @@
 //! order, and runs that print none.
 ghost use Rattle.std.specs.Prelude.{◌<◌, ◌≤◌};
 
+use crate::asserted::{equal, equal_at};
 use crate::ended::Ended;
 use job_ends::{Failure, Status};
 use phase_modes::Refusal;
@@ -19,7 +20,7 @@ mod singles;
 mod unlocked;
 
 fn is_written(rt: &impl Abort, bytes: &[u8], text: &str) {
-    assert_eq!(rt; bytes, text.as_bytes());
+    equal(rt, bytes, text.as_bytes());
 }
 
 /// Runs the text by as many workers, and compares how that ends.
@@ -44,7 +45,7 @@ fn check_by<R: Abort + Threads + Wait + Sync>(
         &mut reported,
         &mut nowhere,
     );
-    assert_eq!(rt; ended, wanted.status, "{text}");
+    equal_at(rt, text, ended, wanted.status);
     is_written(rt, &out, wanted.lines);
     is_written(rt, &reported, wanted.faults);
 }
@@ -216,7 +217,7 @@ fn smallest_trace(rt: HostRuntime) {
         &mut out,
         &mut trace_out,
     );
-    assert_eq!(rt; done, Ok(()));
+    equal(&rt, done, Ok(()));
     is_written(&rt, &out, SMALLEST_REPORT);
     is_trace(&rt, trace_out.as_ref(), SMALLEST_TRACE);
 }
@@ -237,9 +238,9 @@ fn trace_fails(rt: HostRuntime) {
         &mut faults,
         &mut trace_out,
     );
-    assert_eq!(rt; ended.status, Status::Fault);
-    assert_eq!(rt; out.len(), 0);
-    assert_eq!(rt; faults.as_slice(), b"fault write\n".as_slice());
+    equal(&rt, ended.status, Status::Fault);
+    equal(&rt, out.len(), 0);
+    equal(&rt, faults.as_slice(), b"fault write\n".as_slice());
 }
 
 #[test]
@@ -258,6 +259,6 @@ fn a_text_that_is_refused_has_no_trace(rt: HostRuntime) {
     let mut out = Vec::new(rt.alloc());
     let mut trace_out = Some(Vec::new(rt.alloc()));
     let answer = run_bytes(&rt, rt.alloc(), b"7", 1, &mut out, &mut trace_out);
-    assert_eq!(rt; answer, Err(Failure::Refused(Refusal::BadText(0))));
+    equal(&rt, answer, Err(Failure::Refused(Refusal::BadText(0))));
     is_trace(&rt, trace_out.as_ref(), "");
 }

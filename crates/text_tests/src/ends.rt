@@ -1,4 +1,5 @@
 //! Readers that fail, and the line of a failure.
+use crate::asserted::{equal, equal_at, holds_at};
 use job_ends::{Failure, ReadAll, Reads, Status, bytes_of, put_text, read_all, write_text};
 use phase_modes::Refusal;
 use std::io;
@@ -63,10 +64,10 @@ fn no_read_after_a_fault(rt: HostRuntime) {
         };
         let mut reads = Reads::none();
         let bytes = read_all(rt.alloc(), &mut reader, &mut reads, INPUT.len());
-        assert!(rt; matches!(bytes, ReadAll::Fault), "{fails_at}");
-        assert_eq!(rt; reader.calls, fails_at);
-        assert_eq!(rt; reads.made as usize, fails_at);
-        assert!(rt; reads.failed, "{fails_at}");
+        holds_at(&rt, fails_at, matches!(bytes, ReadAll::Fault));
+        equal(&rt, reader.calls, fails_at);
+        equal(&rt, reads.made as usize, fails_at);
+        holds_at(&rt, fails_at, reads.failed);
     }
 }
 
@@ -76,7 +77,7 @@ fn bytes_within(rt: HostRuntime) -> Result<(), Fail> {
     let mut reads = Reads::none();
     let bytes = bytes_of(rt.alloc(), &mut &INPUT[..], &mut reads, INPUT.len());
     let bytes = bytes.ok().ok_or("bytes")?;
-    assert_eq!(rt; bytes.as_slice(), INPUT);
+    equal(&rt, bytes.as_slice(), INPUT);
     let mut reads = Reads::none();
     let bytes = bytes_of(rt.alloc(), &mut &INPUT[..], &mut reads, INPUT.len() - 1);
     let refused = Failure::Refused(Refusal::BadText(0));
@@ -99,13 +100,13 @@ fn one_write_a_line(rt: HostRuntime) {
     for (failure, line) in lines {
         let mut faults = CountsWrites { taken: 0, calls: 0 };
         let ended = failure.end(rt.alloc(), &mut faults);
-        assert!(rt; ended.reported, "{line}");
-        assert_eq!(rt; faults.calls, 1, "{line}");
-        assert_eq!(rt; faults.taken, line.len());
+        holds_at(&rt, line, ended.reported);
+        equal_at(&rt, line, faults.calls, 1);
+        equal(&rt, faults.taken, line.len());
         let mut text = Vec::new(rt.alloc());
         let ended = failure.end(rt.alloc(), &mut text);
-        assert!(rt; ended.reported, "{line}");
-        assert_eq!(rt; text.as_slice(), line.as_bytes());
+        holds_at(&rt, line, ended.reported);
+        equal(&rt, text.as_slice(), line.as_bytes());
     }
 }
 
@@ -113,18 +114,18 @@ fn one_write_a_line(rt: HostRuntime) {
 #[test]
 fn whole_text(rt: HostRuntime) {
     let mut text = Vec::new(rt.alloc());
-    assert_eq!(rt; put_text(&mut text, "two\nlines\n"), Ok(()));
-    assert_eq!(rt; text.as_slice(), b"two\nlines\n".as_slice());
+    equal(&rt, put_text(&mut text, "two\nlines\n"), Ok(()));
+    equal(&rt, text.as_slice(), b"two\nlines\n".as_slice());
     let mut full = [0u8; 3];
     let mut out = &mut full[..];
-    assert_eq!(rt; put_text(&mut out, "four"), Err(Failure::Write));
+    equal(&rt, put_text(&mut out, "four"), Err(Failure::Write));
 }
 
 #[test]
 fn texts_and_statuses(rt: HostRuntime) {
     let mut text = Vec::new(rt.alloc());
     assert!(rt; write_text(&mut text, "a line\n"));
-    assert_eq!(rt; text.as_slice(), b"a line\n".as_slice());
+    equal(&rt, text.as_slice(), b"a line\n".as_slice());
     let codes = [
         (Status::Done, 0),
         (Status::Refused, 1),
@@ -132,6 +133,6 @@ fn texts_and_statuses(rt: HostRuntime) {
         (Status::Fault, 3),
     ];
     for (status, code) in codes {
-        assert_eq!(rt; status.code(), code);
+        equal(&rt, status.code(), code);
     }
 }

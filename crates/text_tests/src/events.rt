@@ -2,6 +2,7 @@
 mod edges;
 mod texts;
 
+use crate::asserted::equal_at;
 use events_job::events_on;
 use job_ends::Status;
 use std::alloc::Global;
@@ -12,14 +13,14 @@ fn check(rt: &impl Abort, alloc: Global, text: &str, status: Status, lines: &str
     let mut out = Vec::new(alloc);
     let mut reported = Vec::new(alloc);
     let ended = events_on(alloc, text.as_bytes(), &mut out, &mut reported);
-    assert_eq!(rt; ended, status, "{text}");
+    equal_at(rt, text, ended, status);
     are_bytes(rt, &out, lines, text);
     are_bytes(rt, &reported, faults, text);
 }
 
 /// What was written for this text.
 fn are_bytes(rt: &impl Abort, written: &[u8], wanted: &str, text: &str) {
-    assert_eq!(rt; written, wanted.as_bytes(), "{text}");
+    equal_at(rt, text, written, wanted.as_bytes());
 }
 
 /// The text is answered by these lines.

@@ -1,4 +1,5 @@
 //! Each word once where it is of the form, and at the edges of what it takes.
+use crate::asserted::equal;
 use phase_model::Op;
 use phase_modes::{Limits, Mode, Refusal};
 use serde_json::Value;
@@ -34,25 +35,25 @@ fn numbers_within_their_ranges(rt: HostRuntime) -> Result<(), Fail> {
         "[0,1000,4294967295,4294967296,255,256,-1,1.0,-0,\"1\"]",
     )?;
     let first = list.get(1).ok_or("an item")?;
-    assert_eq!(rt; number_of(first, 1_000), Some(1_000));
-    assert_eq!(rt; number_of(first, 999), None);
-    assert_eq!(rt; number_at(&list, 0), Some(0));
-    assert_eq!(rt; number_at(&list, 2), Some(4_294_967_295));
+    equal(&rt, number_of(first, 1_000), Some(1_000));
+    equal(&rt, number_of(first, 999), None);
+    equal(&rt, number_at(&list, 0), Some(0));
+    equal(&rt, number_at(&list, 2), Some(4_294_967_295));
     for place in [3, 6, 7, 8, 9, 10] {
-        assert_eq!(rt; number_at(&list, place), None);
+        equal(&rt, number_at(&list, place), None);
     }
-    assert_eq!(rt; accumulator_at(&list, 4), Some(255));
-    assert_eq!(rt; accumulator_at(&list, 5), None);
+    equal(&rt, accumulator_at(&list, 4), Some(255));
+    equal(&rt, accumulator_at(&list, 5), None);
     Ok(())
 }
 
 #[test]
 fn values_of_32_bits(rt: HostRuntime) -> Result<(), Fail> {
     let list = json(&rt, "[-2147483648,2147483647,-2147483649,2147483648,1.0]")?;
-    assert_eq!(rt; value_at(&list, 0), Some(-2_147_483_648));
-    assert_eq!(rt; value_at(&list, 1), Some(2_147_483_647));
+    equal(&rt, value_at(&list, 0), Some(-2_147_483_648));
+    equal(&rt, value_at(&list, 1), Some(2_147_483_647));
     for place in [2, 3, 4, 5] {
-        assert_eq!(rt; value_at(&list, place), None);
+        equal(&rt, value_at(&list, place), None);
     }
     Ok(())
 }
@@ -60,14 +61,14 @@ fn values_of_32_bits(rt: HostRuntime) -> Result<(), Fail> {
 #[test]
 fn words_and_modes(rt: HostRuntime) -> Result<(), Fail> {
     let list = json(&rt, r#"["next","SIG","WAIT","SIG_WAIT","SINGLE","sig",7]"#)?;
-    assert_eq!(rt; word_at(&list, 0), Some("next"));
-    assert_eq!(rt; word_at(&list, 6), None);
-    assert_eq!(rt; mode_at(&list, 1), Some(Mode::Sig));
-    assert_eq!(rt; mode_at(&list, 2), Some(Mode::Wait));
-    assert_eq!(rt; mode_at(&list, 3), Some(Mode::SigWait));
-    assert_eq!(rt; mode_at(&list, 4), Some(Mode::Single));
+    equal(&rt, word_at(&list, 0), Some("next"));
+    equal(&rt, word_at(&list, 6), None);
+    equal(&rt, mode_at(&list, 1), Some(Mode::Sig));
+    equal(&rt, mode_at(&list, 2), Some(Mode::Wait));
+    equal(&rt, mode_at(&list, 3), Some(Mode::SigWait));
+    equal(&rt, mode_at(&list, 4), Some(Mode::Single));
     for place in [0, 5, 6, 7] {
-        assert_eq!(rt; mode_at(&list, place), None);
+        equal(&rt, mode_at(&list, place), None);
     }
     Ok(())
 }
@@ -101,9 +102,9 @@ fn known_keys_and_limits(rt: HostRuntime) -> Result<(), Fail> {
         regs: 3,
         tasks: 9,
     };
-    assert_eq!(rt; limits_of(&text), Some(limits));
+    equal(&rt, limits_of(&text), Some(limits));
     let none = json(&rt, "{}")?;
-    assert_eq!(rt; limits_of(&none), Some(Limits::default()));
+    equal(&rt, limits_of(&none), Some(Limits::default()));
     let bad = [
         r#"{"limits":null}"#,
         r#"{"limits":{"regs":257}}"#,
@@ -111,7 +112,7 @@ fn known_keys_and_limits(rt: HostRuntime) -> Result<(), Fail> {
     ];
     for text in bad {
         let text = json(&rt, text)?;
-        assert_eq!(rt; limits_of(&text), None);
+        equal(&rt, limits_of(&text), None);
     }
     Ok(())
 }

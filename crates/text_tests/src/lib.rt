@@ -6,6 +6,8 @@
 #![tactic(auto)]
 
 #[cfg(test)]
+mod asserted;
+#[cfg(test)]
 mod ends;
 #[cfg(test)]
 mod events;

@@ -1,6 +1,7 @@
 //! Words that name a job, and words that name none.
 mod bad_words;
 
+use crate::asserted::{equal, equal_at, holds_at};
 use command_words::{Job, NoJob, Value, job_of};
 use std::alloc::Global;
 use std::process::Abort;
@@ -9,9 +10,10 @@ use std::test::Fail;
 /// The words name the events job of this file.
 fn answers<'a>(rt: &impl Abort, alloc: Global, arguments: &'a [&'a str], file: &str) {
     let job = job_of(alloc, arguments);
-    assert!(rt;
+    holds_at(
+        rt,
+        arguments,
         matches!(&job, Ok(Job::Events { file: named }) if *named == file),
-        "{arguments:?}"
     );
 }
 
@@ -25,8 +27,8 @@ fn replays<'a>(
 ) {
     match job_of(alloc, arguments) {
         Ok(Job::Replay { file, upgrade }) => {
-            assert_eq!(rt; file, wanted);
-            assert_eq!(rt; upgrade, out);
+            equal(rt, file, wanted);
+            equal(rt, upgrade, out);
         }
         _ => panic!(rt; "no replay: {arguments:?}"),
     }
@@ -59,7 +61,7 @@ fn certify_words(rt: HostRuntime) {
     ];
     for (arguments, wanted) in ROWS {
         match job_of(rt.alloc(), arguments) {
-            Ok(Job::Certify { file }) => assert_eq!(&rt; file, wanted),
+            Ok(Job::Certify { file }) => equal(&rt, file, wanted),
             _ => panic!(&rt; "no certificate: {arguments:?}"),
         }
     }
@@ -111,9 +113,9 @@ fn schedules<'a>(
 ) {
     match job_of(alloc, arguments) {
         Ok(Job::Schedule { file, picks, trace }) => {
-            assert_eq!(rt; file, "p");
-            assert_eq!(rt; picks.as_slice(), wanted);
-            assert_eq!(rt; trace, out);
+            equal(rt, file, "p");
+            equal(rt, picks.as_slice(), wanted);
+            equal(rt, trace, out);
         }
         _ => panic!(rt; "no schedule: {arguments:?}"),
     }
@@ -174,10 +176,10 @@ fn runs<'a>(
                 certain,
             },
         ) => {
-            assert_eq!(rt; file, "p");
-            assert_eq!(rt; workers, wanted);
-            assert_eq!(rt; trace, out);
-            assert_eq!(rt; certain, has_to_be_certain);
+            equal(rt, file, "p");
+            equal(rt, workers, wanted);
+            equal(rt, trace, out);
+            equal(rt, certain, has_to_be_certain);
         }
         _ => panic!(rt; "no run: {arguments:?}"),
     }
@@ -240,9 +242,9 @@ fn is_stencil<'a>(
                 workers,
             },
         ) => {
-            assert_eq!(rt; first.as_slice(), wanted.0);
-            assert_eq!(rt; steps, wanted.1);
-            assert_eq!(rt; workers, wanted.2);
+            equal(rt, first.as_slice(), wanted.0);
+            equal(rt, steps, wanted.1);
+            equal(rt, workers, wanted.2);
         }
         _ => panic!(rt; "no stencil: {arguments:?}"),
     }
@@ -263,9 +265,9 @@ fn is_pipeline<'a>(
                 workers,
             },
         ) => {
-            assert_eq!(rt; stages, wanted.0);
-            assert_eq!(rt; items, wanted.1);
-            assert_eq!(rt; workers, wanted.2);
+            equal(rt, stages, wanted.0);
+            equal(rt, items, wanted.1);
+            equal(rt, workers, wanted.2);
         }
         _ => panic!(rt; "no pipeline: {arguments:?}"),
     }
@@ -340,7 +342,7 @@ fn length(alloc: Global, list: &str) -> Result<Option<usize>, Fail> {
 /// LIST spells no picks.
 fn is_no_list(rt: &impl Abort, alloc: Global, list: &str) -> Result<(), Fail> {
     let picks = length(alloc, list)?;
-    assert_eq!(rt; picks, None, "{list:?}");
+    equal_at(rt, list, picks, None);
     Ok(())
 }
 
@@ -383,7 +385,7 @@ fn ones(alloc: Global, count: usize) -> Result<String, Fail> {
 #[test]
 fn many_picks(rt: HostRuntime) -> Result<(), Fail> {
     let most = ones(rt.alloc(), 10_000)?;
-    assert_eq!(rt; length(rt.alloc(), most.as_str())?, Some(10_000));
+    equal(&rt, length(rt.alloc(), most.as_str())?, Some(10_000));
     let more = ones(rt.alloc(), 10_001)?;
     is_no_list(&rt, rt.alloc(), more.as_str())
 }

@@ -1,4 +1,5 @@
 //! The types as another crate builds them. What holds of them is proved by the laws.
+use crate::asserted::equal;
 use finish_core::FinishEvent;
 use phase_model::{Look, Terms};
 use phase_modes::{Mode, Phased};
@@ -77,10 +78,10 @@ fn first_refused(report: &WorldReport) -> Option<u8> {
 
 /// The fields of the report above.
 fn is_read(rt: &impl Abort, report: &WorldReport) {
-    assert_eq!(rt; report.phasers.len(), 1);
-    assert_eq!(rt; first_refused(report), Some(12));
-    assert_eq!(rt; report.finishes.len(), 0);
-    assert_eq!(rt; report.totals.up, 3);
+    equal(rt, report.phasers.len(), 1);
+    equal(rt, first_refused(report), Some(12));
+    equal(rt, report.finishes.len(), 0);
+    equal(rt, report.totals.up, 3);
 }
 
 /// A report with something of each kind.
@@ -136,7 +137,7 @@ fn is_printed(
     expected: &str,
 ) -> Result<(), Fail> {
     let printed = report.to_string(alloc)?;
-    assert_eq!(rt; printed.as_str(), expected);
+    equal(rt, printed.as_str(), expected);
     Ok(())
 }
 

@@ -1,6 +1,7 @@
 //! The world and the slow world side by side, over 3,000 events.
 ghost use Rattle.std.specs.Prelude.{◌<◌};
 
+use crate::asserted::{equal_at, holds_at};
 use finish_core::FinishEvent;
 use generator::Dice;
 use peer::{Answer, Plain};
@@ -134,7 +135,7 @@ fn limits_of(world: u32) -> Limits {
 /// What both say of the task.
 fn agrees_on(rt: &impl Abort, world: &World, plain: &Plain, task: u32) {
     let expected = plain.next_event(task);
-    assert_eq!(rt; world.next_event(task), expected, "task {task}");
+    equal_at(rt, ("task", task), world.next_event(task), expected);
 }
 
 /// Both say the same of each task.
@@ -146,7 +147,7 @@ fn agree(rt: &impl Abort, world: &World, plain: &Plain) {
 
 /// Hands an event to the world, which gives the reply of its peer.
 fn replies(rt: &impl Abort, world: &mut World, event: &WorldEvent, reply: Answer) {
-    assert_eq!(rt; world.step(event), reply, "{event:?}");
+    equal_at(rt, event, world.step(event), reply);
 }
 
 /// Hands an event to the world and to its peer, and compares what they reply and what they say of
@@ -240,7 +241,7 @@ fn side_by_side(rt: HostRuntime) -> Result<(), Refusal> {
     };
     play_all(&rt, rt.alloc(), &mut counts)?;
     for kind in 0..16 {
-        assert!(rt; counts.made[kind] > 0, "none made of kind {kind}");
+        holds_at(&rt, ("none made of kind", kind), counts.made[kind] > 0);
     }
     assert!(rt; counts.waiting > 100);
     assert!(rt; counts.held > 20);

@@ -1,4 +1,5 @@
 //! Each public function once, with values worked out by hand.
+use crate::asserted::equal;
 use finish_core::FinishEvent;
 use phase_model::{Event, History, Look, Op, Ops, explain};
 use phase_modes::{Limits, Mode, Refusal};
@@ -81,15 +82,15 @@ fn sums_of(alloc: Global, events: &[Event]) -> Result<PhaserSums, Refusal> {
 }
 
 fn lines_are(rt: &impl Abort, lines: &PhaserLines, folds: &[FoldLine]) {
-    assert_eq!(rt; lines.phaser, 7);
-    assert_eq!(rt; lines.phases, 2);
+    equal(rt, lines.phaser, 7);
+    equal(rt, lines.phases, 2);
     assert!(rt; lines.folds.as_slice() == folds);
 }
 
 fn totals_are(rt: &impl Abort, totals: TotalsLine) {
-    assert_eq!(rt; totals, TOTALS);
-    assert_eq!(rt; plus(no_totals(), totals), TOTALS);
-    assert_eq!(rt; plus(TOTALS, TOTALS).up, 14);
+    equal(rt, totals, TOTALS);
+    equal(rt, plus(no_totals(), totals), TOTALS);
+    equal(rt, plus(TOTALS, TOTALS).up, 14);
 }
 
 #[test]
@@ -112,5 +113,5 @@ fn a_finish_is_counted(rt: HostRuntime) {
         finish: 3,
         tasks: 2,
     };
-    assert_eq!(rt; finish_line(3, FINISHED.as_slice()), LINE);
+    equal(&rt, finish_line(3, FINISHED.as_slice()), LINE);
 }

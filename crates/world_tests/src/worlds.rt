@@ -1,5 +1,6 @@
 //! A world driven from outside: a table has each event beside its reply, and each question beside
 //! its answer.
+use crate::asserted::equal_at;
 use finish_core::FinishEvent;
 use phase_model::{Look, Op, Ops, Terms};
 use phase_modes::{Limits, Mode, Pair, Phased, Refusal};
@@ -137,7 +138,7 @@ fn event_of(event: TableEvent) -> WorldEvent {
 /// The world gives this reply to the event.
 fn replies(rt: &impl Abort, world: &mut World, event: TableEvent, reply: Result<Reply, Refusal>) {
     let event = event_of(event);
-    assert_eq!(rt; world.step(&event), reply, "{event:?}");
+    equal_at(rt, event, world.step(&event), reply);
 }
 
 /// The row's event and its reply; none where the row is a question.
@@ -163,19 +164,19 @@ fn event_in(row: &Row) -> Option<(TableEvent, Result<Reply, Refusal>)> {
 }
 
 fn is_about(rt: &impl Abort, world: &World, task: u32, condition: Option<Condition>) {
-    assert_eq!(rt; world.condition(task), condition, "task {task}");
+    equal_at(rt, ("task", task), world.condition(task), condition);
 }
 
 fn has_turned(rt: &impl Abort, world: &World, task: u32, turns: u32) {
-    assert_eq!(rt; world.clock(task), turns, "task {task}");
+    equal_at(rt, ("task", task), world.clock(task), turns);
 }
 
 fn is_able(rt: &impl Abort, world: &World, task: u32, able: bool) {
-    assert_eq!(rt; world.able(task), able, "task {task}");
+    equal_at(rt, ("task", task), world.able(task), able);
 }
 
 fn has_none_due(rt: &impl Abort, world: &World, task: u32) {
-    assert_eq!(rt; world.next_event(task), None, "task {task}");
+    equal_at(rt, ("task", task), world.next_event(task), None);
 }
 
 /// The world answers the row's question so.

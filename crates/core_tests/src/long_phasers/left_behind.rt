@@ -1,5 +1,6 @@
 //! Tasks that the others leave far behind, or that are gone.
 use super::*;
+use crate::asserted::equal;
 
 /// The value of the sum in the phase: 3 for each phase before it and 7 more.
 fn sum_of(phase: u32) -> i64 {
@@ -103,8 +104,8 @@ fn all_waiters_are_gone(rt: HostRuntime) -> Result<(), Fail> {
         signallers_go_on(&rt, &mut phaser, phase);
     }
     let reg = Some(after_ten_thousand(Mode::Sig));
-    assert_eq!(&rt; phaser.registration(1), reg);
-    assert_eq!(&rt; phaser.registration(2), reg);
+    equal(&rt, phaser.registration(1), reg);
+    equal(&rt, phaser.registration(2), reg);
     assert!(&rt; phaser.closed(9_999));
     assert!(&rt; !phaser.closed(10_000));
     Ok(())
@@ -138,7 +139,7 @@ fn all_signallers_are_gone(rt: HostRuntime) -> Result<(), Fail> {
         waiters_go_on(&rt, &mut phaser, phase);
     }
     let reg = Some(after_ten_thousand(Mode::Wait));
-    assert_eq!(&rt; phaser.registration(1), reg);
-    assert_eq!(&rt; phaser.registration(2), reg);
+    equal(&rt, phaser.registration(1), reg);
+    equal(&rt, phaser.registration(2), reg);
     Ok(())
 }

@@ -1,6 +1,7 @@
 //! A phaser that stores no history and one that does, side by side, over many calls.
 use super::drawing::Seats;
 use super::*;
+use crate::asserted::{equal, equal_at, holds_at};
 
 /// Each reply that comes, numbers made 0. `RegsFull` needs 256 tasks, `HistoryFull` and `TasksFull`
 /// need longer lives, and `RegisteredTwice` never comes.
@@ -80,17 +81,19 @@ impl Pair {
     /// Both say the same of each task, and of the first phases.
     fn agree(&self, rt: &impl Abort, tasks: u32) {
         for task in 0..tasks {
-            assert_eq!(rt;
+            equal_at(
+                rt,
+                ("task", task),
                 self.long.registration(u64::from(task)),
                 self.stored.registration(task).map(widened),
-                "task {task}"
             );
         }
         for phase in 0..64 {
-            assert_eq!(rt;
+            equal_at(
+                rt,
+                ("phase", phase),
                 self.long.closed(u64::from(phase)),
                 self.stored.closed(phase),
-                "phase {phase}"
             );
         }
     }
@@ -132,9 +135,9 @@ fn bound_of(pair: u32) -> Result<Bound, Refusal> {
 /// Every kind came, and each of the calls was of one.
 fn all_came(rt: &impl Abort, tally: &Tally) {
     for (count, kind) in tally.counts.iter().zip(KINDS.iter()) {
-        assert!(rt; *count > 0, "none of {kind:?}");
+        holds_at(rt, ("none of", kind), *count > 0);
     }
-    assert_eq!(rt; tally.total(), 600_000);
+    equal(rt, tally.total(), 600_000);
 }
 
 #[test]

@@ -1,6 +1,7 @@
 //! The worked examples. Their tasks are numbered in the order in which they are registered, so these
 //! are the numbers that have to be given out.
 use super::*;
+use crate::asserted::equal_at;
 
 /// The bound of an example that has none: in none of them a signaller is so far ahead of a waiter.
 const FAR: u32 = 65_536;
@@ -48,7 +49,7 @@ fn play(rt: &impl Abort, alloc: Global, example: &Example) -> Result<u32, Refusa
 #[test]
 fn examples_are_replied_to_as_their_rows_say(rt: HostRuntime) -> Result<(), Fail> {
     for (example, rows) in PLAYED.iter() {
-        assert_eq!(&rt; play(&rt, rt.alloc(), example)?, *rows, "{example:?}");
+        equal_at(&rt, example, play(&rt, rt.alloc(), example)?, *rows);
     }
     Ok(())
 }

@@ -2,6 +2,7 @@
 ghost use Rattle.std.specs.Prelude.{◌≡◌, IfOk};
 
 use super::*;
+use crate::asserted::equal;
 use phase_modes::Reg;
 
 /// A phaser that nobody has made yet, without accumulators and unbounded; `NotNow` where the limits
@@ -16,40 +17,41 @@ fn blank(alloc: Global) -> Result<PhaserState, Refusal> {
 
 /// What is known of a phaser that nobody has made yet.
 fn is_blank(rt: &impl Abort, state: &PhaserState) {
-    assert_eq!(rt; state.history().ops().len(), 0);
-    assert_eq!(rt; state.history().bound(), None);
-    assert_eq!(rt; state.registration(0), None);
+    equal(rt, state.history().ops().len(), 0);
+    equal(rt, state.history().bound(), None);
+    equal(rt, state.registration(0), None);
 }
 
 /// Task 0 makes the phaser, with two accumulators and a bound.
 fn made_with_two(rt: &impl Abort, state: &mut PhaserState) {
     let ops = first_ops(2);
     assert_eq!(rt; ops.len(), 2);
-    assert_eq!(rt;
+    equal(
+        rt,
         state.make_with(0, Mode::SigWait, ops, Bound::of(3)),
-        Ok(())
+        Ok(()),
     );
-    assert_eq!(rt; state.history().ops().len(), 2);
-    assert_eq!(rt; state.history().bound(), Bound::of(3));
+    equal(rt, state.history().ops().len(), 2);
+    equal(rt, state.history().bound(), Bound::of(3));
 }
 
 /// Task 0 sends to the second accumulator, which is the last, and signals.
 fn sends_and_signals(rt: &impl Abort, state: &mut PhaserState) {
-    assert_eq!(rt; state.send(0, 1, -7), Ok(()));
-    assert_eq!(rt; state.send(0, 2, 1), Err(Refusal::NoAccumulator));
-    assert_eq!(rt; state.signal(0, None), Ok(Signalling::Signalled));
+    equal(rt, state.send(0, 1, -7), Ok(()));
+    equal(rt, state.send(0, 2, 1), Err(Refusal::NoAccumulator));
+    equal(rt, state.signal(0, None), Ok(Signalling::Signalled));
     let ahead = Reg {
         mode: Mode::SigWait,
         phase: 0,
         ahead: true,
     };
-    assert_eq!(rt; state.registration(0), Some(ahead));
+    equal(rt, state.registration(0), Some(ahead));
 }
 
 /// Task 0 passes, and sees the value of the phase that it passed.
 fn passes_and_looks(rt: &impl Abort, state: &mut PhaserState) {
-    assert_eq!(rt; state.pass(0), Ok(Passing::Passed(0)));
-    assert_eq!(rt; state.look(0, 1), Ok(Look::Value(-7)));
+    equal(rt, state.pass(0), Ok(Passing::Passed(0)));
+    equal(rt, state.look(0, 1), Ok(Look::Value(-7)));
 }
 
 #[test]
@@ -66,21 +68,21 @@ fn operators_come_with_the_making(rt: HostRuntime) -> Result<(), Fail> {
 fn made_for_singles(rt: &impl Abort, state: &mut PhaserState) {
     let ops = Ops::none();
     assert_eq!(rt; ops.len(), 0);
-    assert_eq!(rt; state.make_with(0, Mode::Single, ops, None), Ok(()));
+    equal(rt, state.make_with(0, Mode::Single, ops, None), Ok(()));
 }
 
 /// Whether task 0 may claim the single, and whether it may report it.
 fn may(rt: &impl Abort, state: &PhaserState, claim: bool, report: bool) {
-    assert_eq!(rt; state.may_claim(0), claim);
-    assert_eq!(rt; state.may_report(0), report);
+    equal(rt, state.may_claim(0), claim);
+    equal(rt, state.may_report(0), report);
 }
 
 /// Nothing is proposed, then nothing is claimed, and then the single runs.
 fn runs_a_single(rt: &impl Abort, state: &mut PhaserState) {
     may(rt, state, false, false);
-    assert_eq!(rt; state.signal(0, Some(5)), Ok(Signalling::Signalled));
+    equal(rt, state.signal(0, Some(5)), Ok(Signalling::Signalled));
     may(rt, state, true, false);
-    assert_eq!(rt; state.pass(0), Ok(Passing::Claimed(5)));
+    equal(rt, state.pass(0), Ok(Passing::Claimed(5)));
     may(rt, state, false, true);
 }
 

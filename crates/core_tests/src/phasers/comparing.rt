@@ -1,5 +1,6 @@
 //! How many comparisons of task numbers the last call made, counted by hand.
 use super::*;
+use crate::asserted::equal_at;
 
 /// A call, the reply to it, and how many comparisons it makes.
 type Counted = (Call, Reply, u32);
@@ -7,8 +8,8 @@ type Counted = (Call, Reply, u32);
 /// Each call is replied to, and makes as many comparisons, as its row says.
 fn counts(rt: &impl Abort, state: &mut PhaserState, rows: &[Counted]) {
     for (call, reply, compared) in rows {
-        assert_eq!(rt; state.apply(*call), *reply, "{call:?}");
-        assert_eq!(rt; state.compared(), *compared, "{call:?}");
+        equal_at(rt, call, state.apply(*call), *reply);
+        equal_at(rt, call, state.compared(), *compared);
     }
 }
 

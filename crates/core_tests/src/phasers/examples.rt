@@ -1,6 +1,7 @@
 //! The worked examples, on a phaser alone: what each call is replied, and of some what the calls
 //! leave.
 use super::*;
+use crate::asserted::{equal, equal_at};
 use worked_examples::*;
 
 /// An accumulator and a phase, and the fold there.
@@ -15,7 +16,12 @@ fn replies(rt: &impl Abort, alloc: Global, example: &Example) -> Result<(), Fail
 /// The phaser has these folds.
 fn folds(rt: &impl Abort, state: &PhaserState, rows: &[Seen]) {
     for ((accumulator, phase), fold) in rows {
-        assert_eq!(rt; state.fold_at(*accumulator, *phase), *fold, "phase {phase}");
+        equal_at(
+            rt,
+            ("phase", phase),
+            state.fold_at(*accumulator, *phase),
+            *fold,
+        );
     }
 }
 
@@ -42,15 +48,15 @@ fn replies_and_events(
 ) -> Result<(), Fail> {
     let state = play(rt, alloc, example)?;
     assert!(rt; state.history().events() == events);
-    assert_eq!(rt; state.is_full(), is_full);
+    equal(rt, state.is_full(), is_full);
     Ok(())
 }
 
 /// What a new phaser with four accumulators says of itself.
 fn is_new(rt: &impl Abort, state: &PhaserState) {
-    assert_eq!(rt; state.history().len(), 0);
-    assert_eq!(rt; state.history().ops(), first_ops(4));
-    assert_eq!(rt; state.history().limits(), Limits::default());
+    equal(rt, state.history().len(), 0);
+    equal(rt, state.history().ops(), first_ops(4));
+    equal(rt, state.history().limits(), Limits::default());
     assert!(rt; !state.is_full());
     assert!(rt; state.closed(0), "nobody is registered");
 }

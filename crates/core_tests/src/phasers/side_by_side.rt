@@ -2,6 +2,7 @@
 use super::generator::call;
 use super::peer::expected;
 use super::*;
+use crate::asserted::{equal, equal_at, holds_at};
 use crate::drawn::without_number;
 
 /// Which call it is. A signal with a number proposes.
@@ -113,15 +114,16 @@ impl Tally {
 /// Makes one call on both, which reply alike and add the same event.
 fn step(rt: &impl Abort, state: &mut PhaserState, peer: &mut History, call: Call) -> Reply {
     let (wanted, event) = expected(peer, call);
-    assert_eq!(rt; state.apply(call), wanted, "{call:?}");
+    equal_at(rt, call, state.apply(call), wanted);
     if let Some(event) = event {
         assert!(rt; peer.len() < peer.limits().history);
         peer.add(event);
     }
-    assert_eq!(rt; state.history().len(), peer.len(), "{call:?}");
-    assert!(rt;
+    equal_at(rt, call, state.history().len(), peer.len());
+    holds_at(
+        rt,
+        call,
         state.history().events().last() == peer.events().last(),
-        "{call:?}"
     );
     wanted
 }
@@ -187,9 +189,9 @@ fn play_both(
 /// Every kind came, and each of the calls was of one.
 fn all_came(rt: &impl Abort, tally: &Tally) {
     for (count, kind) in tally.counts.iter().zip(KINDS.iter()) {
-        assert!(rt; *count > 0, "none of {kind:?}");
+        holds_at(rt, ("none of", kind), *count > 0);
     }
-    assert_eq!(rt; tally.total(), 2_880);
+    equal(rt, tally.total(), 2_880);
 }
 
 #[test]

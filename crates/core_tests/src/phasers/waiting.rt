@@ -1,17 +1,19 @@
 //! Who waits: the first of two tasks has signalled and the second hasn't, then both have. What
 //! calls would be answered is asked before.
 use super::*;
+use crate::asserted::{equal, equal_at};
 
 /// A task, whether it would wait, and whether it stands in an open phase.
 type Stand = (u32, bool, bool);
 
 fn stands(rt: &impl Abort, state: &PhaserState, rows: &[Stand]) {
     for (task, would_wait, is_in_open_phase) in rows {
-        assert_eq!(rt; state.would_wait(*task), *would_wait, "task {task}");
-        assert_eq!(rt;
+        equal_at(rt, ("task", task), state.would_wait(*task), *would_wait);
+        equal_at(
+            rt,
+            ("task", task),
             state.is_in_open_phase(*task),
             *is_in_open_phase,
-            "task {task}"
         );
     }
 }
@@ -19,7 +21,7 @@ fn stands(rt: &impl Abort, state: &PhaserState, rows: &[Stand]) {
 /// Each call would be replied to as its row says.
 fn would_be(rt: &impl Abort, state: &PhaserState, rows: &[Row]) {
     for (call, reply) in rows {
-        assert_eq!(rt; state.reply_to(*call), *reply, "{call:?}");
+        equal_at(rt, call, state.reply_to(*call), *reply);
     }
 }
 
@@ -46,7 +48,7 @@ fn first_of_two_waits(rt: HostRuntime) -> Result<(), Fail> {
     let mut state = play(&rt, rt.alloc(), &SIGNALLED)?;
     stands(&rt, &state, ONE_SIGNALLED.as_slice());
     would_be(&rt, &state, REPLIES.as_slice());
-    assert_eq!(rt; state.signal(1, None), Ok(Signalling::Signalled));
+    equal(&rt, state.signal(1, None), Ok(Signalling::Signalled));
     stands(&rt, &state, BOTH_SIGNALLED.as_slice());
     Ok(())
 }

@@ -1,4 +1,5 @@
 //! Programs run by picks: the worked examples, with the events and the reports that they come to.
+use crate::asserted::{equal, equal_at, holds_at};
 use crate::entries::entry_of;
 use finish_core::FinishEvent;
 use job_script::read_program;
@@ -32,9 +33,9 @@ fn event_is(run: &Run, place: usize, event: TracedEvent) -> bool {
 
 /// The trace has so many events, and at these places these ones.
 fn trace_is(rt: &impl Abort, run: &Run, len: usize, rows: &[Placed]) {
-    assert_eq!(rt; run.trace.len(), len);
+    equal(rt, run.trace.len(), len);
     for (place, event) in rows {
-        assert!(rt; event_is(run, *place, *event), "place {place}");
+        holds_at(rt, ("place", place), event_is(run, *place, *event));
     }
 }
 
@@ -57,7 +58,7 @@ fn smallest_trace(rt: HostRuntime) -> Result<(), Fail> {
     ];
     let run = run_of(rt.alloc(), text, &[])?;
     trace_is(&rt, &run, 7, events.as_slice());
-    assert_eq!(rt; run.report.phasers.len(), 1);
+    equal(&rt, run.report.phasers.len(), 1);
     Ok(())
 }
 
@@ -71,8 +72,8 @@ fn two_of_three_in_finish_1(rt: &impl Abort, run: &Run) {
         finish: 1,
         tasks: 2,
     };
-    assert_eq!(rt; run.report.tasks.len(), 3);
-    assert_eq!(rt; run.report.finishes.get(1).copied(), Some(INNER));
+    equal(rt, run.report.tasks.len(), 3);
+    equal(rt, run.report.finishes.get(1).copied(), Some(INNER));
 }
 
 #[test]
@@ -183,9 +184,10 @@ const SENDERS_TOTALS: TotalsLine = TotalsLine {
 /// The run by these picks of the two senders.
 fn two_senders_by(rt: &impl Abort, alloc: Global, picks: &[u32]) -> Result<(), Fail> {
     let run = run_of(alloc, TWO_SENDERS, picks)?;
-    assert!(rt;
+    holds_at(
+        rt,
+        picks,
         run.report.totals == SENDERS_TOTALS && are_two_senders(&run),
-        "{picks:?}"
     );
     Ok(())
 }
@@ -209,7 +211,7 @@ fn root_refused(alloc: Global, text: &str) -> Result<Option<u8>, Fail> {
 fn roots_refused(rt: &impl Abort, alloc: Global, rows: &[(&str, Option<u8>)]) -> Result<(), Fail> {
     for (text, number) in rows {
         let refused = root_refused(alloc, text)?;
-        assert_eq!(rt; refused, *number, "{text}");
+        equal_at(rt, text, refused, *number);
     }
     Ok(())
 }

@@ -1,5 +1,6 @@
 //! Traces held against programs. The worked examples' traces are written out by hand.
 use super::{program_of, unbounded};
+use crate::asserted::equal;
 use finish_core::FinishEvent;
 use phase_modes::{Limits, Mode, Pair, Phased, Refusal};
 use schedule_run::follows;
@@ -36,7 +37,7 @@ fn leaves_at(
     expected: Option<u64>,
 ) -> Result<(), Fail> {
     let place = place_in(alloc, text, events)?;
-    assert_eq!(rt; place, expected);
+    equal(rt, place, expected);
     Ok(())
 }
 

@@ -1,4 +1,5 @@
 //! The log of a task that is run without a world.
+use crate::asserted::holds_at;
 use phase_modes::Refusal;
 use std::alloc::Global;
 use std::process::Abort;
@@ -8,7 +9,7 @@ use world_model::Begun;
 
 /// The entry is added where the log has room, as it has.
 fn adds(rt: &impl Abort, log: &mut Log, ticket: u64, entry: &TracedEvent) {
-    assert!(rt; log.has_room(), "{entry:?}");
+    holds_at(rt, entry, log.has_room());
     if log.has_room() {
         log.add(ticket, *entry);
     }

@@ -1,5 +1,6 @@
 //! Parts that are merged, and parts that can't be; and traces that are replayed.
 use super::{Entry, are_alike, trace_of};
+use crate::asserted::equal;
 use phase_modes::{Limits, Phased, Refusal};
 use std::alloc::Global;
 use std::process::Abort;
@@ -97,7 +98,7 @@ fn is_at(
     second: &[u64],
     place: Option<u64>,
 ) -> Result<(), Fail> {
-    assert_eq!(rt; place_of(alloc, first, second)?, place);
+    equal(rt, place_of(alloc, first, second)?, place);
     Ok(())
 }
 

@@ -1,6 +1,7 @@
 //! The text of the smallest trace, every form of an event there and back, texts of the first
 //! version, and where damaged texts are refused.
 use super::{Entry, are_alike, read, trace_of};
+use crate::asserted::{equal, equal_at};
 use finish_core::FinishEvent;
 use phase_model::{Bound, Look, Op, Ops, Terms};
 use phase_modes::{Mode, Pair, Phased, Refusal};
@@ -25,7 +26,7 @@ fn place_of(alloc: Global, text: &str) -> Result<Option<u64>, Fail> {
 
 /// The text has its first fault at this place, or is of the form.
 fn is_at(rt: &impl Abort, alloc: Global, text: &str, place: Option<u64>) -> Result<(), Fail> {
-    assert_eq!(rt; place_of(alloc, text)?, place, "{text}");
+    equal_at(rt, text, place_of(alloc, text)?, place);
     Ok(())
 }
 
@@ -36,7 +37,7 @@ fn written(alloc: Global, trace: &Trace) -> Result<String, Fail> {
 /// The trace is written as this text.
 fn is_written(rt: &impl Abort, alloc: Global, trace: &Trace, text: &str) -> Result<(), Fail> {
     let lines = written(alloc, trace)?;
-    assert_eq!(rt; lines.as_str(), text);
+    equal(rt, lines.as_str(), text);
     Ok(())
 }
 
@@ -219,7 +220,7 @@ fn is_read_again(rt: &impl Abort, alloc: Global, entries: &[Entry]) -> Result<()
 #[test]
 fn most_pairs(rt: HostRuntime) -> Result<(), Fail> {
     let pairs = all_pairs();
-    assert_eq!(rt; pairs.len(), 16);
+    equal(&rt, pairs.len(), 16);
     let spawn = Tried::Begun(Begun::Async(1, pairs));
     let make = Tried::New(5, Mode::Sig, one_least());
     let look = TracedStep::Look(1, 2, Look::Value(-5));

@@ -1,5 +1,6 @@
 //! A trace and a part as another crate builds them, and their events in a world.
 use super::{fill, trace_of};
+use crate::asserted::equal;
 use crate::entries::entry_of;
 use finish_core::FinishEvent;
 use phase_model::Look;
@@ -21,8 +22,8 @@ fn shut(finish: u32) -> TracedEvent {
 
 /// The trace has so many events, and these limits.
 fn has_events(rt: &impl Abort, trace: &Trace, events: usize, limits: Limits) {
-    assert_eq!(rt; trace.len(), events);
-    assert_eq!(rt; trace.limits(), limits);
+    equal(rt, trace.len(), events);
+    equal(rt, trace.limits(), limits);
 }
 
 /// The trace has one event, which is the part's first too.

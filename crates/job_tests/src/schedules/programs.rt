@@ -1,4 +1,5 @@
 //! Texts by their bytes, and programs that are stepped through.
+use crate::asserted::{equal, equal_at};
 use job_script::{Act, Answer, Program, ScriptBody, read_program};
 use phase_model::Look;
 use phase_modes::{Limits, Mode, Pair, Refusal};
@@ -30,7 +31,7 @@ fn place_beside(alloc: Global, act: &str) -> Result<Option<u64>, Fail> {
 /// Each text has its first fault at this place.
 fn all_at(rt: &impl Abort, alloc: Global, texts: &[&str], place: Option<u64>) -> Result<(), Fail> {
     for text in texts {
-        assert_eq!(rt; place_of(alloc, text)?, place, "{text}");
+        equal_at(rt, text, place_of(alloc, text)?, place);
     }
     Ok(())
 }
@@ -79,7 +80,7 @@ fn acts_of_the_form(rt: HostRuntime) -> Result<(), Fail> {
         r#"["repeat",1000,[["next"]]]"#,
     ];
     for act in ACTS {
-        assert_eq!(rt; place_alone(rt.alloc(), act)?, None, "{act}");
+        equal_at(&rt, act, place_alone(rt.alloc(), act)?, None);
     }
     Ok(())
 }
@@ -113,11 +114,12 @@ fn items_that_are_no_acts(rt: HostRuntime) -> Result<(), Fail> {
         r#"["repeat",-1,[]]"#,
     ];
     for item in ITEMS {
-        assert_eq!(rt; place_beside(rt.alloc(), item)?, Some(2), "{item}");
+        equal_at(&rt, item, place_beside(rt.alloc(), item)?, Some(2));
     }
-    assert_eq!(rt;
+    equal(
+        &rt,
         place_beside(rt.alloc(), r#"["repeat",1,["next"]]"#)?,
-        Some(3)
+        Some(3),
     );
     Ok(())
 }
@@ -128,9 +130,9 @@ const SIXTEEN: &str =
 #[test]
 fn a_spawn_on_seventeen_phasers(rt: HostRuntime) -> Result<(), Fail> {
     let most = format!(in rt.alloc(); "[\"async\",[{SIXTEEN}],[]]")?;
-    assert_eq!(rt; place_alone(rt.alloc(), most.as_str())?, None);
+    equal(&rt, place_alone(rt.alloc(), most.as_str())?, None);
     let past = format!(in rt.alloc(); "[\"async\",[{SIXTEEN},[\"p\",\"SIG\"]],[]]")?;
-    assert_eq!(rt; place_alone(rt.alloc(), past.as_str())?, Some(1));
+    equal(&rt, place_alone(rt.alloc(), past.as_str())?, Some(1));
     Ok(())
 }
 
@@ -147,9 +149,9 @@ fn place_in_brackets(alloc: Global) -> Result<Option<u64>, Fail> {
 fn oversized_texts(rt: HostRuntime) -> Result<(), Fail> {
     const MILLION_ACTS: &str = r#"{"main":[["repeat",1000,[["repeat",1000,[["next"]]]]]]}"#;
     const LONG_NAME: &str = r#"{"main":[["new","aaaaaaaaaaaaaaaaaaaaaaaaaaaaaaaaa","SIG",[]]]}"#;
-    assert_eq!(rt; place_of(rt.alloc(), MILLION_ACTS)?, Some(1));
-    assert_eq!(rt; place_in_brackets(rt.alloc())?, Some(0));
-    assert_eq!(rt; place_of(rt.alloc(), LONG_NAME)?, Some(1));
+    equal(&rt, place_of(rt.alloc(), MILLION_ACTS)?, Some(1));
+    equal(&rt, place_in_brackets(rt.alloc())?, Some(0));
+    equal(&rt, place_of(rt.alloc(), LONG_NAME)?, Some(1));
     Ok(())
 }
 
@@ -158,8 +160,8 @@ fn acts_are_counted_before_those_inside(rt: HostRuntime) -> Result<(), Fail> {
     const INSIDE: &str =
         r#"{"main":[["new","p","SIG",[]],["async",[["p","SIG"]],[["next"],["wait",1]]]]}"#;
     const AFTER: &str = r#"{"main":[["repeat",2,[["next"],["wait"]]],["wait",1]]}"#;
-    assert_eq!(rt; place_of(rt.alloc(), INSIDE)?, Some(4));
-    assert_eq!(rt; place_of(rt.alloc(), AFTER)?, Some(4));
+    equal(&rt, place_of(rt.alloc(), INSIDE)?, Some(4));
+    equal(&rt, place_of(rt.alloc(), AFTER)?, Some(4));
     Ok(())
 }
 
@@ -182,7 +184,7 @@ fn limits_of_a_program(rt: HostRuntime) -> Result<(), Fail> {
     };
     let text = r#"{"limits":{"acts":2},"main":[["next"],["next"],["next"]]}"#;
     let program = program_of(rt.alloc(), text)?;
-    assert_eq!(rt; program.limits(), LIMITS);
+    equal(&rt, program.limits(), LIMITS);
     Ok(())
 }
 
@@ -233,7 +235,7 @@ type Row = (Answer, Shown);
 
 fn steps(rt: &impl Abort, task: &mut ScriptBody<'_>, rows: &[Row]) {
     for (answer, act) in rows {
-        assert_eq!(rt; step(task, *answer), Some(*act));
+        equal(rt, step(task, *answer), Some(*act));
     }
 }
 
@@ -291,7 +293,7 @@ fn spawned<'p>(
 ) -> Result<ScriptBody<'p>, Fail> {
     match task.step(Answer::Made(5)) {
         Ok(Act::Async(child, named)) => {
-            assert_eq!(rt; named.as_slice(), phasers);
+            equal(rt, named.as_slice(), phasers);
             Ok(child)
         }
         _ => Err(Fail::from("a spawn")),

@@ -5,6 +5,7 @@ ghost use Rattle.phase_modes.specs.Limits.{limits_fit};
 ghost use Rattle.share_book.specs.Opening.{IsNamed, IsParted};
 
 use super::*;
+use crate::asserted::{equal, equal_at};
 use phase_model::{Call, Look, Terms};
 use share_book::Seven;
 use std::marker::Brand;
@@ -102,7 +103,7 @@ impl<'a, K: Ledgers, R: Abort + Wait> Caller<'a, K, R> {
     {
         for (call, expected) in rows {
             let answer = self.answer_alone(alloc, table, *terms, *call);
-            assert_eq!(self.rt; answer, *expected, "{call:?}");
+            equal_at(self.rt, call, answer, *expected);
         }
     }
 }
@@ -118,7 +119,7 @@ fn answers_the_one<K: Ledgers, R: Abort + Wait>(
 ) -> Result<Vec<Shares<K>>, Refusal>
     requires { 0 < table.now.phasers }
 {
-    assert_eq!(rt; shares.len(), 1);
+    equal(rt, shares.len(), 1);
     let mine = shares.pop().ok_or(Refusal::SharesDiffer)?;
     let tickets = Tickets::new();
     let mut by = Caller {
@@ -164,7 +165,7 @@ fn answers_as_worked_out<R: Abort + Wait>(
         example.terms(),
         example.rows,
     )?;
-    assert_eq!(rt; totals.events, events_of_rows(example.rows));
+    equal(rt, totals.events, events_of_rows(example.rows));
     Ok(())
 }
 

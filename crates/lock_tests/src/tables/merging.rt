@@ -3,6 +3,7 @@ ghost use Rattle.std.specs.Prelude.{◌≡◌, true};
 ghost use Rattle.phase_modes.specs.Limits.{limits_fit};
 
 use super::*;
+use crate::asserted::{equal, holds_at};
 use phase_model::{Event, History, Ops, Terms, explain};
 use trace_model::{Part, Trace, TracedEvent, TracedStep};
 use trace_replay::merge;
@@ -104,7 +105,7 @@ fn has_in_order(trace: &Trace, phaser: u32, part: &Part) -> bool {
 /// Each event has the next ticket, from 1 on: whoever drew one kept it.
 fn tickets_rise(rt: &impl Abort, trace: &Trace) {
     for place in 0..trace.len() {
-        assert_eq!(rt; trace.entry(place).0, place as u64 + 1);
+        equal(rt, trace.entry(place).0, place as u64 + 1);
     }
 }
 
@@ -120,9 +121,9 @@ fn is_each_told(
 {
     let mut phaser = 0u32;
     for part in parts {
-        assert!(rt; has_in_order(trace, phaser, part), "phaser {phaser}");
+        holds_at(rt, ("phaser", phaser), has_in_order(trace, phaser, part));
         let history = projection(alloc, limits, trace, phaser, part)?;
-        assert_eq!(rt; explain(&history), Ok(()));
+        equal(rt, explain(&history), Ok(()));
         phaser = phaser.saturating_add(1);
     }
     Ok(())
@@ -148,7 +149,7 @@ pub(super) fn merged(
 {
     let events = events_in(parts);
     let trace = merge(alloc, limits, parts)?;
-    assert_eq!(rt; trace.len() as u64, events);
+    equal(rt, trace.len() as u64, events);
     tickets_rise(rt, &trace);
     is_each_told(rt, alloc, limits, &trace, parts)?;
     Ok(events)

@@ -4,6 +4,7 @@ ghost use Rattle.std.specs.Prelude.{◌≡◌, [], ◌<◌, true};
 ghost use Rattle.share_book.specs.Opening.{IsNamed, IsParted};
 
 use super::*;
+use crate::asserted::{equal, equal_at};
 use phase_model::Ops;
 use phase_modes::Mode;
 use share_book::{Seven, SharedLedgers};
@@ -191,9 +192,10 @@ fn held_while_signalled<R: Threads + Wait + Sync>(
 /// While one thread holds phaser 0's lock, another's signal on phaser 1 answers.
 #[test]
 fn two_phasers_lock_apart(rt: HostRuntime) -> Result<(), Fail> {
-    assert_eq!(rt;
+    equal(
+        &rt,
         held_while_signalled(&rt, rt.alloc(), 1, MOST_TURNS),
-        Ok((true, true))
+        Ok((true, true)),
     );
     Ok(())
 }
@@ -202,9 +204,10 @@ fn two_phasers_lock_apart(rt: HostRuntime) -> Result<(), Fail> {
 /// if one lock were for the whole table.
 #[test]
 fn one_phaser_locks_once(rt: HostRuntime) -> Result<(), Fail> {
-    assert_eq!(rt;
+    equal(
+        &rt,
         held_while_signalled(&rt, rt.alloc(), 0, 10_000),
-        Ok((false, true))
+        Ok((false, true)),
     );
     Ok(())
 }
@@ -337,10 +340,10 @@ fn register_all<K: Ledgers, R: Abort + Wait>(
         first_ops(1),
         None,
     );
-    assert_eq!(rt; made, Ok(()));
+    equal(rt, made, Ok(()));
     for task in 1..WORKERS {
         let registered = table.register(rt, number, tickets, mine, 0, task, Mode::SigWait);
-        assert_eq!(rt; registered, Ok(()), "task {task}");
+        equal_at(rt, ("task", task), registered, Ok(()));
     }
 }
 
@@ -353,7 +356,7 @@ fn set_up<K: Ledgers, R: Abort + Wait>(
 )
     requires { table.now.phasers ≡ 8 }
 {
-    assert_eq!(rt; shares.len(), WORKERS as usize);
+    equal(rt, shares.len(), WORKERS as usize);
     if let Some(mine) = shares.get_mut(0) {
         for number in 0..PHASERS as usize {
             register_all(rt, table, number, tickets, mine);

@@ -1,6 +1,7 @@
 //! Whether the trace of a run goes by the body that was run, and by another, and is replayed.
 ghost use Rattle.std.specs.Prelude.{◌≤◌, ◌<◌};
 
+use crate::asserted::{equal, equal_at};
 use body_follows::goes_by;
 use job_kernels::{PipelineBody, StencilBody};
 use phase_modes::{Limits, Refusal};
@@ -42,17 +43,19 @@ fn cells_go<R: Threads + Wait + Sync + Abort>(
 {
     let root = StencilBody::root(&[4], 2);
     let report = run(rt, alloc, root, Limits::default(), workers, &OpenGate)?;
-    assert_eq!(rt;
+    equal_at(
+        rt,
+        ("workers", workers),
         goes_by(alloc, root, &report.trace),
         Ok(()),
-        "{workers} workers"
     );
     let other = goes_by(alloc, StencilBody::root(&[5], 2), &report.trace);
     let place = first_send(&report.trace);
-    assert_eq!(rt;
+    equal_at(
+        rt,
+        ("workers", workers),
         other,
         Err(Refusal::NotExplained(place)),
-        "{workers} workers"
     );
     Ok(())
 }
@@ -65,7 +68,7 @@ fn stencil_eight_cells_is_replayed(rt: HostRuntime) -> Result<(), Fail> {
     let replayed = replay(rt.alloc(), &report.trace)?;
     let ours = text_of(rt.alloc(), &report.world)?;
     let theirs = text_of(rt.alloc(), &replayed)?;
-    assert_eq!(&rt; theirs.as_str(), ours.as_str());
+    equal(&rt, theirs.as_str(), ours.as_str());
     Ok(())
 }
 
@@ -83,8 +86,8 @@ fn stencil_goes_by_its_body(rt: HostRuntime) -> Result<(), Fail> {
 fn pipeline_goes_by_its_body(rt: HostRuntime) -> Result<(), Fail> {
     let root = PipelineBody::root(2, 3);
     let report = run(&rt, rt.alloc(), root, Limits::default(), 2, &OpenGate)?;
-    assert_eq!(&rt; goes_by(rt.alloc(), root, &report.trace), Ok(()));
+    equal(&rt, goes_by(rt.alloc(), root, &report.trace), Ok(()));
     let other = goes_by(rt.alloc(), PipelineBody::root(3, 3), &report.trace);
-    assert_eq!(&rt; other, Err(Refusal::NotExplained(4)));
+    equal(&rt, other, Err(Refusal::NotExplained(4)));
     Ok(())
 }

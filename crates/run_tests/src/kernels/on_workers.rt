@@ -2,6 +2,7 @@
 ghost use Rattle.std.specs.Prelude.{◌≤◌, ◌<◌, length};
 
 use super::ends;
+use crate::asserted::holds_at;
 use crate::ended::Ended;
 use job_ends::Status;
 use job_kernels::{PipelineBody, StencilBody, cells_of, items_of, pipeline_plain, stencil_plain};
@@ -48,7 +49,7 @@ fn stencil_prints<R: Threads + Wait + Sync + Abort>(
     for workers in [1, 2, 16] {
         let world = world_of(rt, alloc, StencilBody::root(first, steps), workers)?;
         let cells = cells_of(alloc, &world, steps)?;
-        assert!(rt; are_same(&plain, &cells), "{workers} workers");
+        holds_at(rt, ("workers", workers), are_same(&plain, &cells));
         ends(
             rt,
             alloc,
@@ -59,8 +60,8 @@ fn stencil_prints<R: Threads + Wait + Sync + Abort>(
         let mut out = Vec::new(alloc);
         let mut faults = Vec::new(alloc);
         let status = stencil_on(rt, alloc, first, steps, workers, &mut out, &mut faults);
-        assert!(rt; status == Status::Done, "{workers} workers");
-        assert!(rt; out.as_slice() == lines.as_bytes(), "{workers} workers");
+        holds_at(rt, ("workers", workers), status == Status::Done);
+        holds_at(rt, ("workers", workers), out.as_slice() == lines.as_bytes());
     }
     Ok(())
 }
@@ -81,7 +82,7 @@ fn pipeline_prints<R: Threads + Wait + Sync + Abort>(
     for workers in [1, 2, 16] {
         let world = world_of(rt, alloc, PipelineBody::root(stages, items), workers)?;
         let seen = items_of(alloc, &world, stages)?;
-        assert!(rt; are_same(&plain, &seen), "{workers} workers");
+        holds_at(rt, ("workers", workers), are_same(&plain, &seen));
         ends(
             rt,
             alloc,
@@ -92,8 +93,8 @@ fn pipeline_prints<R: Threads + Wait + Sync + Abort>(
         let mut out = Vec::new(alloc);
         let mut faults = Vec::new(alloc);
         let status = pipeline_on(rt, alloc, stages, items, workers, &mut out, &mut faults);
-        assert!(rt; status == Status::Done, "{workers} workers");
-        assert!(rt; out.as_slice() == lines.as_bytes(), "{workers} workers");
+        holds_at(rt, ("workers", workers), status == Status::Done);
+        holds_at(rt, ("workers", workers), out.as_slice() == lines.as_bytes());
     }
     Ok(())
 }

@@ -2,6 +2,7 @@
 //! events on from which the question has a thread of its own where there are two workers.
 ghost use Rattle.std.specs.Prelude.{◌<◌, ◌≤◌};
 
+use crate::asserted::equal_at;
 use job_script::{Program, read_program};
 use phase_modes::Refusal;
 use phased_rt::{OpenGate, Question, run_and_ask};
@@ -64,8 +65,8 @@ fn check_row<R: Abort + Threads + Wait + Sync>(
         &OpenGate,
         &question,
     )?;
-    assert_eq!(rt; answer, wanted, "{workers} workers");
-    assert_eq!(rt; report.trace.len(), wanted.0, "{workers} workers");
+    equal_at(rt, ("workers", workers), answer, wanted);
+    equal_at(rt, ("workers", workers), report.trace.len(), wanted.0);
     Ok(())
 }
 

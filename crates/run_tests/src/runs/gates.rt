@@ -1,4 +1,5 @@
 //! Two workers step two tasks at once: a gate holds the one until the other's step is over.
+use crate::asserted::equal;
 use job_script::read_program;
 use phased_rt::{Gate, run};
 use std::sync::atomic::{AtomicBool, AtomicU64, Ordering};
@@ -53,7 +54,7 @@ fn two_workers_step_at_once(rt: HostRuntime) -> Result<(), Fail> {
         turns: AtomicU64::new(0),
     };
     let report = run(&rt, rt.alloc(), program.root(), program.limits(), 2, &gate)?;
-    assert_eq!(rt; report.world.tasks.len(), 3);
+    equal(&rt, report.world.tasks.len(), 3);
     assert!(rt; gate.held.load(Ordering::SeqCst), "task 1 was held");
     assert!(rt;
         gate.turns.load(Ordering::SeqCst) < MOST_TURNS,

@@ -1,6 +1,7 @@
 //! A run hands its root's body back, with what that has kept.
 ghost use Rattle.std.specs.Prelude.{◌<◌, ◌≤◌};
 
+use crate::asserted::equal_at;
 use phase_model::{Look, Op, Ops};
 use phase_modes::{Limits, Mode, Refusal};
 use phased_rt::{Act, Answer, Body, OpenGate, run};
@@ -79,8 +80,8 @@ fn keeps_the_sum<R: Abort + Threads + Wait + Sync>(
         seen: None,
     };
     let report = run(rt, alloc, root, Limits::default(), workers, &OpenGate)?;
-    assert_eq!(rt; report.root.number, 40, "{workers} workers");
-    assert_eq!(rt; report.root.seen, Some(42), "{workers} workers");
+    equal_at(rt, ("workers", workers), report.root.number, 40);
+    equal_at(rt, ("workers", workers), report.root.seen, Some(42));
     Ok(())
 }
 

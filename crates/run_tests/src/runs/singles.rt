@@ -1,6 +1,7 @@
 //! A statement is run once for each phase in which it was proposed, by whichever task claims it.
 ghost use Rattle.std.specs.Prelude.{◌≡◌, ◌<◌, ◌≤◌, IfErr};
 
+use crate::asserted::{equal, equal_at};
 use phase_model::Ops;
 use phase_modes::{Limits, Mode, Refusal};
 use phased_rt::{Act, Answer, Body, OpenGate, run};
@@ -77,8 +78,8 @@ fn runs_once_a_turn<R: Abort + Threads + Wait + Sync>(
         runs: Arc::try_clone(&runs)?,
     };
     let report = run(rt, alloc, root, Limits::default(), workers, &OpenGate)?;
-    assert_eq!(rt; runs.load(Ordering::SeqCst), 5, "{workers} workers");
-    assert_eq!(rt; report.world.totals.passes, 15);
+    equal_at(rt, ("workers", workers), runs.load(Ordering::SeqCst), 5);
+    equal(rt, report.world.totals.passes, 15);
     Ok(())
 }
 

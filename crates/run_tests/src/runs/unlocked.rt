@@ -1,5 +1,6 @@
 //! No lock is held while a body runs: a task's `step` waits until another's `single` has begun, and
 //! that until the first has gone on at the same phaser and the same finish.
+use crate::asserted::equal;
 use phase_model::Ops;
 use phase_modes::{Limits, Mode, Pair, Phased, Refusal};
 use phased_rt::{Act, Answer, Body, OpenGate, run};
@@ -117,7 +118,7 @@ fn no_lock_while_a_body_runs(rt: HostRuntime) -> Result<(), Fail> {
         meeting: &meeting,
     };
     let report = run(&rt, rt.alloc(), root, Limits::default(), 2, &OpenGate)?;
-    assert_eq!(rt; report.world.tasks.len(), 3);
+    equal(&rt, report.world.tasks.len(), 3);
     assert!(rt;
         meeting.step_saw.load(Ordering::SeqCst),
         "the single began while a step ran"

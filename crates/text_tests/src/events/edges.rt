@@ -1,4 +1,5 @@
 //! Readers and writers that fail, and input that is too long.
+use crate::asserted::{equal, equal_at};
 use events_job::{MOST_BYTES, answer, ending_from, ending_on, events_from, events_on};
 use job_ends::{Ending, Failure, Reads, Status};
 use phase_modes::Refusal;
@@ -94,12 +95,12 @@ const TOO_LONG: Outcome<'static> = (Status::Refused, b"", b"refused 24 BadText a
 
 /// Compares an outcome with the one that is wanted.
 fn is_outcome(rt: &impl Abort, came: Outcome<'_>, wanted: Outcome<'_>, calls: usize) {
-    assert_eq!(rt; came, wanted, "{calls}");
+    equal_at(rt, calls, came, wanted);
 }
 
 /// Compares a status with the one that is wanted.
 fn is_status(rt: &impl Abort, status: Status, wanted: Status, calls: usize) {
-    assert_eq!(rt; status, wanted, "{calls}");
+    equal_at(rt, calls, status, wanted);
 }
 
 /// The lines can't be written to `out`, and that is reported.
@@ -107,7 +108,7 @@ fn is_write_fault<W: Write>(rt: &impl Abort, alloc: Global, out: &mut W, calls: 
     let mut faults = Vec::new(alloc);
     let status = events_on(alloc, INPUT, out, &mut faults);
     is_status(rt, status, Status::Fault, calls);
-    assert_eq!(rt; faults.as_slice(), b"fault write\n".as_slice(), "{calls}");
+    equal_at(rt, calls, faults.as_slice(), b"fault write\n".as_slice());
 }
 
 #[test]
@@ -191,7 +192,7 @@ fn no_read_after_a_fault(rt: HostRuntime) {
         calls: 0,
     };
     is_read_fault(&rt, rt.alloc(), &mut reader);
-    assert_eq!(rt; reader.calls, 9);
+    equal(&rt, reader.calls, 9);
 }
 
 /// How the text is refused, where its line is written to a writer that fails after these calls.
@@ -210,7 +211,7 @@ fn line_not_reported(rt: HostRuntime) {
             status: Status::Refused,
             reported: calls == line.len(),
         };
-        assert_eq!(rt; refused_to(rt.alloc(), calls), wanted, "{calls}");
+        equal_at(&rt, calls, refused_to(rt.alloc(), calls), wanted);
     }
 }
 
@@ -246,7 +247,7 @@ fn is_refused(rt: &impl Abort, alloc: Global, text: &[u8]) {
     let mut out = Vec::new(alloc);
     let refused = Err(Failure::Refused(Refusal::BadText(0)));
     let came = answer(alloc, text, &mut out);
-    assert_eq!(rt; (came, out.len()), (refused, 0));
+    equal(rt, (came, out.len()), (refused, 0));
 }
 
 // The same of bytes that are here.

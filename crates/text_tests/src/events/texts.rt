@@ -1,4 +1,5 @@
 //! The places at which texts are refused, and what is read where they are not.
+use crate::asserted::{equal, equal_at};
 use events_text::{EventsFile, read_events};
 use phase_model::{Bound, Call, Op};
 use phase_modes::{Limits, Mode, Refusal};
@@ -17,7 +18,7 @@ fn place_of(alloc: Global, text: &str) -> Result<Option<u64>, Fail> {
 
 /// The text has its first fault at this place, or is of the form.
 fn is_at(rt: &impl Abort, alloc: Global, text: &str, place: Option<u64>) -> Result<(), Fail> {
-    assert_eq!(rt; place_of(alloc, text)?, place, "{text}");
+    equal_at(rt, text, place_of(alloc, text)?, place);
     Ok(())
 }
 
@@ -246,10 +247,10 @@ const EVERY_CALL: [Call; 9] = [
 
 /// What was read is what stands in that text.
 fn has_contents(rt: &impl Abort, file: &EventsFile) {
-    assert_eq!(rt; file.limits, LIMITS);
+    equal(rt, file.limits, LIMITS);
     assert!(rt; file.ops.as_slice() == [Op::Greatest, Op::Sum].as_slice());
-    assert_eq!(rt; file.bound, Bound::of(65));
-    assert_eq!(rt; file.calls.as_slice(), EVERY_CALL.as_slice());
+    equal(rt, file.bound, Bound::of(65));
+    equal(rt, file.calls.as_slice(), EVERY_CALL.as_slice());
 }
 
 #[test]

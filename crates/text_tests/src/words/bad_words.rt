@@ -1,4 +1,5 @@
 //! Words that name no job, and what is said of them.
+use crate::asserted::{equal_at, holds_at};
 use command_words::job_of;
 use job_ends::Status;
 use std::alloc::Global;
@@ -11,7 +12,7 @@ type Row = (&'static [&'static str], &'static str);
 /// The message has this part, and ends its line.
 fn is_message(rt: &impl Abort, text: &str, part: &str) {
     assert!(rt; text.contains(part), "{part}: {text}");
-    assert!(rt; text.ends_with("\n"), "{text}");
+    holds_at(rt, text, text.ends_with("\n"));
 }
 
 /// The words name no job; the message has this part.
@@ -24,7 +25,7 @@ fn is_bad<'a>(
     match job_of(alloc, arguments) {
         Ok(_) => panic!(rt; "a job: {arguments:?}"),
         Err(no_job) => {
-            assert_eq!(rt; no_job.status(), Status::Usage, "{arguments:?}");
+            equal_at(rt, arguments, no_job.status(), Status::Usage);
             let text = no_job.to_string(alloc)?;
             is_message(rt, text.as_str(), part);
             Ok(())

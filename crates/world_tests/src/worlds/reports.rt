@@ -2,6 +2,7 @@
 use super::Row::*;
 use super::TableEvent::*;
 use super::*;
+use crate::asserted::equal;
 
 /// A line of a report, the totals aside.
 #[derive(Clone, Copy, Debug, PartialEq, Eq)]
@@ -72,7 +73,7 @@ fn lines_are(
 ) -> Result<(), Refusal> {
     let mut list = Vec::new(alloc);
     add_lines(&mut list, report)?;
-    assert_eq!(rt; list.as_slice(), expected);
+    equal(rt, list.as_slice(), expected);
     Ok(())
 }
 
@@ -85,7 +86,7 @@ fn is_reported(
     totals: TotalsLine,
 ) -> Result<(), Refusal> {
     let report = world.report(alloc)?;
-    assert_eq!(rt; report.totals, totals);
+    equal(rt, report.totals, totals);
     lines_are(rt, alloc, &report, lines)
 }
 

@@ -1,5 +1,6 @@
 //! Traces that a world explains, each with its report, and changed ones, each with its first fault.
 use super::*;
+use crate::asserted::equal;
 use finish_core::FinishEvent;
 use phase_model::{Look, Op, Ops, Terms};
 use phase_modes::Mode;
@@ -33,7 +34,7 @@ fn lines_of(alloc: Global, entries: &[Entry]) -> Result<String, Fail> {
 /// The trace of these entries is explained, and these are the lines of its report.
 fn has_lines(rt: &impl Abort, alloc: Global, entries: &[Entry], lines: &str) -> Result<(), Fail> {
     let reported = lines_of(alloc, entries)?;
-    assert_eq!(rt; reported.as_str(), lines);
+    equal(rt, reported.as_str(), lines);
     Ok(())
 }
 
@@ -53,7 +54,7 @@ fn is_at(
     entries: &[Entry],
     place: Option<u64>,
 ) -> Result<(), Fail> {
-    assert_eq!(rt; fault_of(alloc, entries)?, place);
+    equal(rt, fault_of(alloc, entries)?, place);
     Ok(())
 }
 
