@@ -4,7 +4,7 @@ ghost use Rattle.job_script.specs.declared.act.Answer as answers;
 ghost use Rattle.body_follows.specs.Going.{Does};
 
 use job_script::{Act, Answer};
-use task_crew::Body;
+use tasks_in_flight::Body;
 
 /// A body of which it is told what it does: a function of what it is and of what it hears, and of
 /// nothing else.

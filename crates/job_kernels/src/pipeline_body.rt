@@ -8,7 +8,7 @@ use body_follows::Goes;
 use job_script::{Act, Answer};
 use phase_model::Op;
 use phase_modes::{Mode, Phased, Refusal};
-use task_crew::Body;
+use tasks_in_flight::Body;
 
 /// The most that an item comes to.
 const GREATEST: u32 = 1_000_000;

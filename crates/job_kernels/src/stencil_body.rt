@@ -9,7 +9,7 @@ use body_follows::Goes;
 use job_script::{Act, Answer};
 use phase_model::Op;
 use phase_modes::{Mode, Phased, Refusal};
-use task_crew::Body;
+use tasks_in_flight::Body;
 
 /// The most that a cell holds.
 const GREATEST: u32 = 1_000_000;

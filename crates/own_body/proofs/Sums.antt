@@ -18,8 +18,8 @@ use Rattle.long_receipts.specs.Told.{HasLooked}
 use Rattle.table_receipts.specs.Logs.{GoesOn}
 use Rattle.job_script.specs.declared.act.Answer.{Answer}
 use Rattle.job_script.specs.declared.act.Answer.TheVariants.{Started, Done, Made, Spawned, Saw}
-use Rattle.task_crew.specs.Heard.{Asked, look, ends, IsAnswerTo}
-use Rattle.task_crew.specs.Said.{Saying}
+use Rattle.tasks_in_flight.specs.Heard.{Asked, look, ends, IsAnswerTo}
+use Rattle.tasks_in_flight.specs.Said.{Saying}
 use Rattle.phased_rt.specs.Says.{story_in, SaysOfTrace, SaysOfEach, HasEnded}
 use Rattle.own_body.specs.Sums.{IsSeen, IsSum, HasLookedOnce, HasSeenSum}
 

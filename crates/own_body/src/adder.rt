@@ -1,7 +1,7 @@
 //! Tasks that add up: what each does, and what it says of the sum that it saw.
 ghost use Rattle.std.specs.Prelude.{◌≡◌, ℕ, Ok, IfOk};
 ghost use Rattle.phase_model.specs.Rules.{Story};
-ghost use Rattle.task_crew.specs.Heard.{Asked, look, ends, asked_by, IsSpawned, IsAnswerTo};
+ghost use Rattle.tasks_in_flight.specs.Heard.{Asked, look, ends, asked_by, IsSpawned, IsAnswerTo};
 ghost use Rattle.phased_rt.specs.Says.{story_in, HasEnded};
 ghost use Rattle.own_body.specs.Sums.{IsSeen, IsSum, HasSeenSum};
 
@@ -39,7 +39,7 @@ impl Body for Adder {
     ghost use Rattle.own_body.specs.declared.adder.Next.{Next};
     ghost use Rattle.own_body.specs.declared.adder.Next.TheVariants.{Hears};
     ghost use Rattle.std.specs.Prelude.{◌≡◌};
-    ghost use Rattle.task_crew.specs.Heard.{look, ends};
+    ghost use Rattle.tasks_in_flight.specs.Heard.{look, ends};
 
     /// What it saw its task saw on phaser 0; where it is about to hear, it has asked for a look there; and
     /// where it asks for its end, its task has looked.

@@ -7,8 +7,8 @@ use Rattle.trace_model.specs.Explained.{past}
 use Rattle.trace_model.specs.Projections.{log, projection}
 use Rattle.trace_model.specs.Run.{Entry}
 use Rattle.table_receipts.specs.Parts.{HasShown}
-use Rattle.task_crew.specs.Heard.{Asked}
-use Rattle.task_crew.specs.Said.{Saying, IsSaidOf, has_end}
+use Rattle.tasks_in_flight.specs.Heard.{Asked}
+use Rattle.tasks_in_flight.specs.Said.{Saying, IsSaidOf, has_end}
 
 -- the story that the trace tells of phaser n
 abbrev pub story_in : Limits → List Entry → ℕ → Story

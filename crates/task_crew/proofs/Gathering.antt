@@ -9,7 +9,7 @@ use Rattle.trace_model.specs.Projections.{log, whose, AreOf}
 use Rattle.trace_model.specs.Run.{Entry}
 use Rattle.table_receipts.specs.Logs.{Sight}
 use Rattle.task_crew.specs.Remaining.{AreLogsOf, AreDifferent}
-use Rattle.task_crew.specs.Said.{has_end}
+use Rattle.tasks_in_flight.specs.Said.{has_end}
 use Rattle.task_crew.specs.inner.Logs.{AreGathered, AreAllLogs, IsToldIn}
 
 logs_more : (ts : List ℕ) (ps : List (List Entry)) (t : ℕ) (p : List Entry) → AreLogsOf ts ps → AreOf (log t) p

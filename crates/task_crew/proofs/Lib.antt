@@ -1,7 +1,6 @@
 pub mod Driven
 pub mod Gathering
-pub mod Heard
 pub mod Replied
-pub mod Saying
 pub mod Seats
 pub mod Sums
+pub mod Told

@@ -2,4 +2,3 @@
 pub mod Back
 pub mod Driven
 pub mod Logs
-pub mod Ready

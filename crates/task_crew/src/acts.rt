@@ -5,13 +5,10 @@ ghost use Rattle.world_model.specs.declared.event.WorldEvent.{WorldEvent};
 ghost use Rattle.table_receipts.specs.Seen.{story_at};
 ghost use Rattle.task_standing.specs.Noted.{noted};
 ghost use Rattle.task_queue.specs.Accounts.{IsSeatOf};
-ghost use Rattle.task_crew.specs.Heard.{nothing, make, send, look, ends, asked_by, IsSpawned};
+ghost use Rattle.tasks_in_flight.specs.Heard.{nothing, make, send, look, ends, asked_by, IsSpawned};
 ghost use Rattle.task_crew.specs.inner.Driven.{HasActed, given_up, tried_by};
-ghost use Rattle.task_crew.specs.inner.Ready.{Says, IsReady};
+ghost use Rattle.tasks_in_flight.specs.inner.Ready.{Says, IsReady};
 
-use crate::body::{Body, Gate};
-use crate::naming::RunNaming;
-use crate::task::{Item, Task};
 use crate::worker::{Busy, Shared};
 use job_script::{Act, Answer};
 use phase_model::Terms;
@@ -19,6 +16,7 @@ use phase_modes::{Mode, Phased, Refusal};
 use std::sync::Wait;
 use table_receipts::Caller;
 use task_standing::Plan;
+use tasks_in_flight::{Body, Gate, Item, RunNaming, Task};
 use world_model::{Begun, Tried};
 
 impl<B: Body, K: RunNaming> Shared<B, K> {

@@ -5,12 +5,9 @@ ghost use Rattle.world_model.specs.declared.event.Step.TheVariants.{Reg, Sig, Dr
 ghost use Rattle.scope_locks.specs.Shutting.{IsBackFromShut};
 ghost use Rattle.table_receipts.specs.Seen.{story_at};
 ghost use Rattle.task_queue.specs.Accounts.{IsSeatOf};
-ghost use Rattle.task_crew.specs.Heard.{make, send, look};
+ghost use Rattle.tasks_in_flight.specs.Heard.{make, send, look};
 ghost use Rattle.task_crew.specs.inner.Driven.{HasActed, IsReplied, IsOfSignal, IsOfPass};
 
-use crate::body::Body;
-use crate::naming::RunNaming;
-use crate::task::{Item, Task, TaskLeft};
 use crate::worker::{Busy, Shared};
 use job_script::Answer;
 use phase_model::Terms;
@@ -18,6 +15,7 @@ use phase_modes::{Mode, Pair, Refusal};
 use scope_locks::{PassAnswer, ShutAnswer, SignalAnswer};
 use std::sync::{Mutex, Wait};
 use table_receipts::Caller;
+use tasks_in_flight::{Body, Item, RunNaming, Task, TaskLeft};
 
 impl<B: Body, K: RunNaming> Shared<B, K> {
     /// The body hears of the phaser that was made.

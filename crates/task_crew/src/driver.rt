@@ -5,15 +5,13 @@ ghost use Rattle.task_crew.specs.Refused.{IsRunRefused};
 ghost use Rattle.task_crew.specs.inner.Driven.{IfGoesOn, GoesBy, HasGoneOn, given_up};
 ghost use Rattle.task_queue.specs.Accounts.{IsSeatOf};
 
-use crate::body::{Body, Gate};
 use crate::crew::Crew;
-use crate::naming::RunNaming;
-use crate::task::{Item, RootLeft, Task, TaskLeft};
 use crate::worker::{Busy, Shared, Worker};
 use phase_modes::{Pair, Refusal};
 use scope_locks::{PassAnswer, ShutAnswer, SignalAnswer};
 use std::sync::Wait;
 use task_standing::Due;
+use tasks_in_flight::{Body, Gate, Item, RootLeft, RunNaming, Task, TaskLeft};
 
 /// How many steps and events of a task a worker makes before it takes another, if there is one. A
 /// task that parks or ends comes to fewer. So the queue is asked once for many events, and whoever

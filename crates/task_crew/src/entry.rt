@@ -3,17 +3,14 @@ ghost use Rattle.std.specs.Prelude.{◌≡◌, ◌<◌, ◌≤◌, ℕ, [], true
 ghost use Rattle.phase_modes.specs.Limits.{limits_fit};
 ghost use Rattle.phase_model.specs.Rules.{Story};
 ghost use Rattle.share_book.specs.Opening.{IsNamed, IsParted};
-ghost use Rattle.task_crew.specs.Heard.{nothing};
+ghost use Rattle.tasks_in_flight.specs.Heard.{nothing};
 ghost use Rattle.task_crew.specs.Refused.{IsRunRefused};
 ghost use Rattle.task_crew.specs.Remaining.{AreRemains};
-ghost use Rattle.task_crew.specs.Said.{IsSaid, AreSaid, IsSaidOf};
-ghost use Rattle.task_crew.specs.inner.Ready.{Tells};
+ghost use Rattle.tasks_in_flight.specs.Said.{IsSaid, AreSaid, IsSaidOf};
+ghost use Rattle.tasks_in_flight.specs.inner.Ready.{Tells};
 
-use crate::body::{Body, Gate};
-use crate::naming::{RunNaming, Supposing};
 use crate::remains::Remains;
 use crate::staff::{put_root, run_staff, staff_of};
-use crate::task::{Item, Task};
 use crate::worker::{Numbers, Shared};
 use ghost_log::Whole;
 use phase_modes::{Limits, Refusal};
@@ -26,6 +23,7 @@ use std::sync::ledger::Ledger;
 use std::thread::Threads;
 use table_receipts::{Fronts, Logs, Named, Noted, PhaserLogs, ReceiptTable, new_logs};
 use task_queue::RunQueue;
+use tasks_in_flight::{Body, Gate, Item, RunNaming, Supposing, Task};
 
 /// What a run's ledgers and logs are to be named by.
 #[derive(Drop)]

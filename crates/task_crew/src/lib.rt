@@ -16,19 +16,15 @@
 #![tactic(auto)]
 
 mod acts;
-mod body;
 mod calls;
 mod crew;
-mod diary;
 mod driver;
 mod entry;
 mod logs;
-mod naming;
 mod remains;
 mod staff;
-mod task;
 mod worker;
 
-pub use body::{Body, Gate, OpenGate};
 pub use entry::run_tasks;
 pub use remains::Remains;
+pub use tasks_in_flight::{Body, Gate, OpenGate};

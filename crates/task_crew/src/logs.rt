@@ -6,13 +6,12 @@ ghost use Rattle.task_crew.specs.Refused.{IsRunRefused};
 ghost use Rattle.task_crew.specs.Remaining.{AreLogsOf, AreDifferent};
 ghost use Rattle.task_crew.specs.inner.Logs.{AreGathered, AreAllLogs, IsToldIn};
 
-use crate::naming::RunNaming;
-use crate::task::TaskLeft;
 use number_set::NumberSet;
 use phase_modes::Refusal;
 use std::alloc::Global;
 use std::sync::Mutex;
 use table_receipts::PhaserLog;
+use tasks_in_flight::{RunNaming, TaskLeft};
 use trace_model::Part;
 
 /// The parts of the logs so far, and whose they are.

@@ -6,18 +6,16 @@ ghost use Rattle.scope_locks.specs.Telling.{ArePhaserParts, AreFinishParts};
 ghost use Rattle.table_receipts.specs.Parts.{AreLogged};
 ghost use Rattle.task_crew.specs.Refused.{IsRunRefused};
 ghost use Rattle.task_crew.specs.Remaining.{AreRemains};
-ghost use Rattle.task_crew.specs.Said.{IsSaid, AreSaid};
+ghost use Rattle.tasks_in_flight.specs.Said.{IsSaid, AreSaid};
 
-use crate::body::Body;
 use crate::logs::logs_of;
-use crate::naming::RunNaming;
-use crate::task::{RootLeft, TaskLeft};
 use phase_modes::{Limits, Refusal};
 use scope_locks::FinishParts;
 use share_book::{Shares, Totals, gather};
 use std::alloc::Global;
 use std::sync::Mutex;
 use table_receipts::ReceiptParts;
+use tasks_in_flight::{Body, RootLeft, RunNaming, TaskLeft};
 use trace_model::Part;
 
 /// What a run leaves: the histories of its phasers and finishes with their tickets, each kind in

@@ -6,14 +6,11 @@ ghost use Rattle.task_queue.specs.Accounts.{AreTogether, IsConserved};
 ghost use Rattle.task_crew.specs.inner.Back.{AreBack, AreSeatsIn};
 ghost use Rattle.task_crew.specs.Refused.{IsRunRefused};
 ghost use Rattle.task_crew.specs.Remaining.{AreRemains};
-ghost use Rattle.task_crew.specs.Said.{IsSaid, AreSaid};
+ghost use Rattle.tasks_in_flight.specs.Said.{IsSaid, AreSaid};
 
-use crate::body::{Body, Gate};
 use crate::crew::in_threads;
 use crate::driver::Team;
-use crate::naming::RunNaming;
 use crate::remains::{Remains, gathered};
-use crate::task::{Item, RootLeft};
 use crate::worker::{Shared, Worker};
 use phase_modes::{Limits, Refusal};
 use scope_locks::Out;
@@ -23,6 +20,7 @@ use std::collections::VecDeque;
 use std::sync::Wait;
 use std::thread::Threads;
 use task_queue::{RunQueue, Seat};
+use tasks_in_flight::{Body, Gate, Item, RootLeft, RunNaming};
 
 /// What the workers hand back: their seats and shares, and what the root leaves.
 #[derive(Drop)]

@@ -1,11 +1,8 @@
 //! What the workers share, and what each has for itself.
 ghost use Rattle.std.specs.Prelude.{◌≡◌, ◌<◌, [], IfOk};
-ghost use Rattle.task_crew.specs.inner.Ready.{Tells};
+ghost use Rattle.tasks_in_flight.specs.inner.Ready.{Tells};
 ghost use Rattle.task_queue.specs.Accounts.{IsSeatOf};
 
-use crate::body::Body;
-use crate::naming::RunNaming;
-use crate::task::{Item, RootLeft, TaskLeft};
 use crossbeam_utils::CachePadded;
 use phase_modes::{Limits, Refusal};
 use scope_locks::{FinishTable, Out, Tickets};
@@ -16,6 +13,7 @@ use std::sync::atomic::{AtomicU64, Ordering};
 use std::sync::{Mutex, Wait};
 use table_receipts::{Caller, ReceiptTable};
 use task_queue::{RunQueue, Seat};
+use tasks_in_flight::{Body, Item, RootLeft, RunNaming, TaskLeft};
 
 /// The next numbers of phasers, tasks and finishes, each drawn from a word of its own.
 #[derive(Drop)]

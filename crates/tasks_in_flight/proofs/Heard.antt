@@ -27,8 +27,8 @@ use Rattle.long_receipts.specs.Told.{IsSignalAnswer, IsPassAnswer}
 use Rattle.table_receipts.specs.Logs.{GoesOn}
 use Rattle.table_receipts.specs.Seen.{HasSeenMore}
 use Rattle.table_receipts.specs.Told.{IsAnswered, IsMade}
-use Rattle.task_crew.specs.Heard.{Asked, nothing, make, send, look, turn, spawn, finish, ends, HasMade, HasSent, IsOwn, IsOwnOfEach, IsAnswerTo}
-use Rattle.task_crew.specs.inner.Ready.{IsAnswer, is_of_each}
+use Rattle.tasks_in_flight.specs.Heard.{Asked, nothing, make, send, look, turn, spawn, finish, ends, HasMade, HasSent, IsOwn, IsOwnOfEach, IsAnswerTo}
+use Rattle.tasks_in_flight.specs.inner.Ready.{IsAnswer, is_of_each}
 
 -- ---- by what was answered
 

@@ -8,7 +8,7 @@ use Rattle.trace_model.specs.declared.event.TracedEvent.TheVariants.{Begin}
 use Rattle.trace_model.specs.Projections.{log, AreOf}
 use Rattle.trace_model.specs.Run.{Entry}
 use Rattle.table_receipts.specs.Parts.{IsToldAt, HasShown}
-use Rattle.task_crew.specs.Heard.{Asked, ends}
+use Rattle.tasks_in_flight.specs.Heard.{Asked, ends}
 
 -- what bodies say: of the number of the task that each is the body of, what it asked for, and what was seen of each
 -- phaser

@@ -1,6 +1,6 @@
 //! What is run: a body of a task, and a gate round its steps.
 ghost use Rattle.std.specs.Prelude.{◌≡◌, IfErr};
-ghost use Rattle.task_crew.specs.Heard.{nothing, asked_by, IsHeard, IsSpawned};
+ghost use Rattle.tasks_in_flight.specs.Heard.{nothing, asked_by, IsHeard, IsSpawned};
 
 use job_script::{Act, Answer, ScriptBody};
 use phase_modes::Refusal;
@@ -18,7 +18,7 @@ use phase_modes::Refusal;
 pub trait Body: Drop {
     ghost use Rattle.std.specs.Prelude.{ℕ};
     ghost use Rattle.phase_model.specs.Rules.{Story};
-    ghost use Rattle.task_crew.specs.Heard.{Asked};
+    ghost use Rattle.tasks_in_flight.specs.Heard.{Asked};
 
     /// What the body says, where it is the body of the task of this number, this is what it asked for
     /// by its last act, and its task has seen this of each phaser: nothing where nobody says.

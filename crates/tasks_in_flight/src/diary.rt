@@ -1,7 +1,7 @@
 //! What a task notes of itself.
 ghost use Rattle.std.specs.Prelude.{◌≡◌, ◌⊎◌, ◌||◌, true, false, All, IfErr, IfOk};
 ghost use Rattle.trace_model.specs.Projections.{log as log_of, whose, AreOf};
-ghost use Rattle.task_crew.specs.Said.{is_end, has_end};
+ghost use Rattle.tasks_in_flight.specs.Said.{is_end, has_end};
 
 use phase_modes::Refusal;
 use std::alloc::Global;
@@ -11,11 +11,11 @@ use world_model::{Begun, Tried};
 /// A task's log: what it began, was refused and gave up. What it made on phasers and finishes is in
 /// their own histories.
 #[derive(Drop)]
-pub(crate) struct Diary {
-    task: u32,
-    log: Log,
+pub struct Diary {
+    pub task: u32,
+    pub log: Log,
     /// Whether it has begun to end.
-    ended: bool,
+    pub ended: bool,
     ghost own: { All (λ e. whose e.1 ≡ log_of task) log.entries },
     ghost end: { ended ≡ has_end log.entries },
 }
@@ -30,7 +30,7 @@ fn is_end(event: &TracedEvent) -> bool
 impl Diary {
     /// The log of the task of this number, with no entries yet, for so many acts at most. `Memory`
     /// where that is refused.
-    pub(crate) fn new(alloc: Global, task: u32, acts: u32) -> Result<Diary, Refusal>
+    pub fn new(alloc: Global, task: u32, acts: u32) -> Result<Diary, Refusal>
         ensures task { IfOk result (λ d. d.task ≡ task) }
         ensures end { IfOk result (λ d. d.ended ≡ false) }
         ensures memory { IfErr result (λ e. e ≡ Refusal.Memory) }
@@ -43,14 +43,14 @@ impl Diary {
     }
 
     /// The task whose log it is.
-    pub(crate) fn task(&self) -> u32
+    pub fn task(&self) -> u32
         ensures { result ≡ self.now.task }
     {
         self.task
     }
 
     /// Whether the task has begun to end.
-    pub(crate) fn has_ended(&self) -> bool
+    pub fn has_ended(&self) -> bool
         ensures { result ≡ self.now.ended }
     {
         self.ended
@@ -80,7 +80,7 @@ impl Diary {
     }
 
     /// Notes that the task begins this act. `ActsFull` where there is no room for it.
-    pub(crate) fn note_begun(&mut self, ticket: u64, begun: Begun) -> Result<(), Refusal>
+    pub fn note_begun(&mut self, ticket: u64, begun: Begun) -> Result<(), Refusal>
         ensures task { self.new.task ≡ self.old.task }
         ensures end { self.new.ended ≡ true → (self.old.ended ≡ true) ⊎ (begun ≡ Begun.End) }
     {
@@ -88,7 +88,7 @@ impl Diary {
     }
 
     /// Notes that this act is refused. `ActsFull` where there is no room for it.
-    pub(crate) fn note_refused(
+    pub fn note_refused(
         &mut self,
         ticket: u64,
         tried: Tried,
@@ -104,7 +104,7 @@ impl Diary {
     }
 
     /// Notes that the task gives up what it is about. `ActsFull` where there is no room for it.
-    pub(crate) fn note_failed(&mut self, ticket: u64, refusal: Refusal) -> Result<(), Refusal>
+    pub fn note_failed(&mut self, ticket: u64, refusal: Refusal) -> Result<(), Refusal>
         ensures task { self.new.task ≡ self.old.task }
         ensures end { self.new.ended ≡ true → self.old.ended ≡ true }
     {
@@ -112,7 +112,7 @@ impl Diary {
     }
 
     /// The entries as a part of a trace.
-    pub(crate) fn into_part(self) -> Part
+    pub fn into_part(self) -> Part
         ensures own { AreOf (log_of self.task) result }
         ensures end { has_end result ≡ self.ended }
     {

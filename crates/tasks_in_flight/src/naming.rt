@@ -5,7 +5,7 @@ use table_receipts::{Logs, Named, Naming};
 
 /// What has to hold for what a run's bodies say: that its root says nothing false at its start. And what
 /// they say of their tasks.
-pub(crate) trait Supposing {
+pub trait Supposing {
     ghost use Rattle.std.specs.Prelude.{ℕ};
     ghost use Rattle.phase_model.specs.Rules.{Story};
 
@@ -29,6 +29,6 @@ impl<S: Ledgers, L: Logs + Supposing> Supposing for Named<S, L> {
 }
 
 /// The ledgers and the logs of a run, and what its bodies suppose.
-pub(crate) trait RunNaming: Naming + Supposing {}
+pub trait RunNaming: Naming + Supposing {}
 
 impl<S: Ledgers, L: Logs + Supposing> RunNaming for Named<S, L> {}

@@ -2,11 +2,11 @@
 ghost use Rattle.std.specs.Prelude.{◌≡◌, ◌<◌, ℕ, true, false, IfErr, IfSome, OnOk, length, option_map, slice_get};
 ghost use Rattle.table_receipts.specs.Logs.{GoesOn};
 ghost use Rattle.table_receipts.specs.Seen.{story_at};
-ghost use Rattle.task_crew.specs.Heard.{nothing, ends, asked_by, IsSpawned, IsOwn};
+ghost use Rattle.tasks_in_flight.specs.Heard.{nothing, ends, asked_by, IsSpawned, IsOwn};
 ghost use Rattle.task_standing.specs.Standing.{registered_by};
 ghost use Rattle.task_standing.specs.StillToMake.{event_of};
-ghost use Rattle.task_crew.specs.inner.Driven.{still_of};
-ghost use Rattle.task_crew.specs.inner.Ready.{Says, IsReady, HasSaid, IsTold, is_of_each};
+ghost use Rattle.tasks_in_flight.specs.inner.Due.{still_of};
+ghost use Rattle.tasks_in_flight.specs.inner.Ready.{Says, IsReady, HasSaid, IsTold, is_of_each};
 
 use crate::body::Body;
 use crate::diary::Diary;
@@ -20,15 +20,15 @@ use world_model::{Begun, Tried};
 
 /// A task in flight.
 #[derive(Drop)]
-pub(crate) struct Task<B: Body, K: RunNaming> {
-    pub(crate) body: B,
+pub struct Task<B: Body, K: RunNaming> {
+    pub body: B,
     /// What the body hears before its next act; nothing until something came of its last one.
-    pub(crate) answer: Option<Answer>,
+    pub answer: Option<Answer>,
     /// What it has seen of the phasers.
-    pub(crate) fronts: Fronts<K>,
+    pub fronts: Fronts<K>,
     /// Which phasers it holds, which finishes it has open, and what it is about.
-    pub(crate) standing: Standing,
-    pub(crate) log: Diary,
+    pub standing: Standing,
+    pub log: Diary,
     ghost own: { standing.number ≡ log.task },
     ghost all: { length fronts ≡ K.Logs.limits.phasers },
     ghost ready: { ∥ (K.Supposing.supposed → IsReady B.Body.shows body log.task answer (λ n. story_at fronts n)) ∥₁ },
@@ -38,33 +38,33 @@ pub(crate) struct Task<B: Body, K: RunNaming> {
 /// What moves between the queue, the locks and the workers: a task, with the child that it is
 /// spawning, which nobody else knows yet.
 #[derive(Drop)]
-pub(crate) struct Item<B: Body, K: RunNaming> {
-    pub(crate) task: Box<Task<B, K>>,
-    pub(crate) unborn: Option<Box<Task<B, K>>>,
+pub struct Item<B: Body, K: RunNaming> {
+    pub task: Box<Task<B, K>>,
+    pub unborn: Option<Box<Task<B, K>>>,
 }
 
 /// What a task leaves where it ends: its log, and what it has seen. Where it ends by itself, what its
 /// body said of that stays told.
 #[derive(Drop)]
-pub(crate) struct TaskLeft<K: RunNaming> {
-    pub(crate) log: Diary,
-    pub(crate) fronts: Fronts<K>,
+pub struct TaskLeft<K: RunNaming> {
+    pub log: Diary,
+    pub fronts: Fronts<K>,
     ghost all: { length fronts ≡ K.Logs.limits.phasers },
     ghost told: { log.ended ≡ true → ∥ (K.Supposing.supposed → IsTold K.Supposing.told log.task (λ n. story_at fronts n)) ∥₁ },
 }
 
 /// What the root leaves where the run is over: what each task does, and its body as it stands then.
 #[derive(Drop)]
-pub(crate) struct RootLeft<B: Body, K: RunNaming> {
-    pub(crate) left: TaskLeft<K>,
-    pub(crate) body: B,
+pub struct RootLeft<B: Body, K: RunNaming> {
+    pub left: TaskLeft<K>,
+    pub body: B,
     ghost says: { ∥ (K.Supposing.supposed → HasSaid B.Body.shows body 0 (λ n. story_at left.fronts n)) ∥₁ },
 }
 
 impl<B: Body, K: RunNaming> Task<B, K> {
     /// A task before its first act. All memory that it needs to be run is taken here, but for the
     /// finishes that it opens; `Memory` where that is refused.
-    pub(crate) fn new(
+    pub fn new(
         alloc: Global,
         number: u32,
         body: B,
@@ -91,7 +91,7 @@ impl<B: Body, K: RunNaming> Task<B, K> {
     }
 
     /// Its child, which has seen what it has seen.
-    pub(crate) fn child(
+    pub fn child(
         &mut self,
         alloc: Global,
         number: u32,
@@ -110,7 +110,7 @@ impl<B: Body, K: RunNaming> Task<B, K> {
     }
 
     /// What it has seen of this phaser.
-    pub(crate) fn front(&mut self, phaser: usize) -> Front<K>
+    pub fn front(&mut self, phaser: usize) -> Front<K>
         requires { phaser < K.Logs.limits.phasers }
         ensures log { result.log ≡ K.Logs.logs phaser }
         ensures story { result.story ≡ story_at self.old.fronts phaser }
@@ -123,7 +123,7 @@ impl<B: Body, K: RunNaming> Task<B, K> {
     }
 
     /// Its number, by which its log stands in the trace.
-    pub(crate) fn number(&self) -> u32
+    pub fn number(&self) -> u32
         ensures log { result ≡ self.now.log.task }
         ensures standing { result ≡ self.now.standing.number }
     {
@@ -131,14 +131,14 @@ impl<B: Body, K: RunNaming> Task<B, K> {
     }
 
     /// Whether it has begun to end: then its body gives no act more.
-    pub(crate) fn has_ended(&self) -> bool
+    pub fn has_ended(&self) -> bool
         ensures { result ≡ self.now.log.ended }
     {
         self.log.has_ended()
     }
 
     /// The body's next act, after what came of its last one; none where nothing did yet.
-    pub(crate) fn next_act(&mut self) -> Option<Result<Act<B>, Refusal>>
+    pub fn next_act(&mut self) -> Option<Result<Act<B>, Refusal>>
         requires goes_on { self.old.log.ended ≡ false }
         ensures fronts { self.new.fronts ≡ self.old.fronts }
         ensures standing { self.new.standing ≡ self.old.standing }
@@ -154,7 +154,7 @@ impl<B: Body, K: RunNaming> Task<B, K> {
     }
 
     /// Runs the statement that the task has claimed.
-    pub(crate) fn run_single(&mut self, number: u32)
+    pub fn run_single(&mut self, number: u32)
         ensures ran { B.Body.ran self.old.body number self.new.body }
         ensures standing { self.new.standing ≡ self.old.standing }
     {
@@ -170,7 +170,7 @@ impl<B: Body, K: RunNaming> Task<B, K> {
 
     /// Of this phaser it has seen so much, up to its own newest event, where its body is about to hear of
     /// that. Where it isn't, no more is seen.
-    pub(crate) fn note_own(&mut self, phaser: usize, seen: Front<K>)
+    pub fn note_own(&mut self, phaser: usize, seen: Front<K>)
         requires phaser { phaser < K.Logs.limits.phasers }
         requires log { seen.log ≡ K.Logs.logs phaser }
         requires more { GoesOn (story_at self.old.fronts phaser) seen.story }
@@ -184,7 +184,7 @@ impl<B: Body, K: RunNaming> Task<B, K> {
     }
 
     /// Logs that it begins this act. `ActsFull` where the log has no room for it.
-    pub(crate) fn log_begun(&mut self, ticket: u64, begun: Begun) -> Result<(), Refusal>
+    pub fn log_begun(&mut self, ticket: u64, begun: Begun) -> Result<(), Refusal>
         requires end { begun ≡ Begun.End → ∥ (K.Supposing.supposed → Says B.Body.shows self.old.body self.old.log.task ends (λ n. story_at self.old.fronts n)) ∥₁ }
         ensures body { self.new.body ≡ self.old.body }
         ensures task { self.new.log.task ≡ self.old.log.task }
@@ -195,7 +195,7 @@ impl<B: Body, K: RunNaming> Task<B, K> {
     }
 
     /// Logs that this act is refused. `ActsFull` where the log has no room for it.
-    pub(crate) fn log_refused(
+    pub fn log_refused(
         &mut self,
         ticket: u64,
         tried: Tried,
@@ -210,7 +210,7 @@ impl<B: Body, K: RunNaming> Task<B, K> {
     }
 
     /// Logs that it gives up what it is about. `ActsFull` where the log has no room for it.
-    pub(crate) fn log_failed(&mut self, ticket: u64, refusal: Refusal) -> Result<(), Refusal>
+    pub fn log_failed(&mut self, ticket: u64, refusal: Refusal) -> Result<(), Refusal>
         ensures body { self.new.body ≡ self.old.body }
         ensures task { self.new.log.task ≡ self.old.log.task }
         ensures fronts { self.new.fronts ≡ self.old.fronts }
@@ -222,14 +222,14 @@ impl<B: Body, K: RunNaming> Task<B, K> {
 
 impl<B: Body, K: RunNaming> Item<B, K> {
     /// A task that is spawning nobody.
-    pub(crate) fn of(task: Box<Task<B, K>>) -> Item<B, K>
+    pub fn of(task: Box<Task<B, K>>) -> Item<B, K>
         ensures { result.task ≡ task }
     {
         Item { task, unborn: None }
     }
 
     /// The event that comes next.
-    pub(crate) fn due(&self) -> Due
+    pub fn due(&self) -> Due
         ensures { event_of self.now.task.value.standing.number result
             ≡ slice_get (still_of self.now.task.value.standing (option_map (λ c. c.value.standing) self.now.unborn)) 0 }
     {
@@ -241,7 +241,7 @@ impl<B: Body, K: RunNaming> Item<B, K> {
 
     /// Notes that the unborn child is registered on the phaser of this pair. `NotNow` where there is
     /// none, or the pair isn't the task's to hand on.
-    pub(crate) fn note_registration(&mut self, pair: Pair) -> Result<(), Refusal>
+    pub fn note_registration(&mut self, pair: Pair) -> Result<(), Refusal>
         ensures { OnOk result (self.new.task.value.standing
             ≡ record self.old.task.value.standing { plan = registered_by self.old.task.value.standing.plan }) }
     {
@@ -257,7 +257,7 @@ impl<B: Body, K: RunNaming> Item<B, K> {
     }
 
     /// Notes that the unborn child has left this phaser.
-    pub(crate) fn note_child_gone(&mut self, phaser: u32)
+    pub fn note_child_gone(&mut self, phaser: u32)
         ensures { self.new.task ≡ self.old.task }
     {
         if let Some(child) = &mut self.unborn {

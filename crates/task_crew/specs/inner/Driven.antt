@@ -1,5 +1,5 @@
 -- How a task goes on that a worker drives: it notes the event that was due, and nothing else.
-use Rattle.std.specs.Prelude.{ℕ, ◌≡◌, ◌⊎◌, Bool, true, false, List, Option, Some, None, Result, IfOk, IfSome, slice_get}
+use Rattle.std.specs.Prelude.{ℕ, ◌≡◌, ◌⊎◌, Bool, true, false, List, Option, Some, Result, IfOk, IfSome, slice_get}
 use Rattle.phase_modes.specs.declared.refusal.Refusal.{Refusal}
 use Rattle.phase_model.specs.Replies.{reply, done}
 use Rattle.phase_model.specs.Rules.{Story}
@@ -20,7 +20,8 @@ use Rattle.task_standing.specs.declared.plan.Due.TheVariants as due
 use Rattle.task_standing.specs.declared.plan.Plan.TheVariants as plan
 use Rattle.task_standing.specs.Known.{Known}
 use Rattle.task_standing.specs.Noted.{noted}
-use Rattle.task_standing.specs.StillToMake.{still_to_make, still_with, event_of}
+use Rattle.task_standing.specs.StillToMake.{event_of}
+use Rattle.tasks_in_flight.specs.inner.Due.{still_of}
 
 -- ---- what a call was answered
 
@@ -101,11 +102,6 @@ GoesBy seen due.Close k k' = ⊥
 -- this holds of the task that goes on, if it does
 abbrev pub IfGoesOn : {T : Type 0} → Result (Option T) Refusal → (T → Type 0) → Type 0
 IfGoesOn result Holds = IfOk result (λ next. IfSome next Holds)
-
--- the events that a task has still to make, beside its child that was never born, if it has one
-abbrev pub still_of : Known → Option Known → List WorldEvent
-still_of k None = still_to_make k
-still_of k (Some child) = still_with child k
 
 -- it goes on by the first of them
 abbrev pub HasGoneOn : (ℕ → Story) → Option Known → Known → Known → Type 0

@@ -7,7 +7,7 @@ use Rattle.trace_model.specs.Run.{Entry}
 use Rattle.table_receipts.specs.Logs.{Sight, GoesOn}
 use Rattle.table_receipts.specs.Seen.{story_at, IsNamed}
 use Rattle.task_crew.specs.Remaining.{AreLogsOf, AreDifferent}
-use Rattle.task_crew.specs.Said.{has_end}
+use Rattle.tasks_in_flight.specs.Said.{has_end}
 
 -- each part is the log of a task of its own, which is in the set
 abbrev pub AreGathered : Numbers → List (List Entry) → Type 0

@@ -4,8 +4,8 @@ use Rattle.phase_model.specs.Rules.{Story}
 use Rattle.job_script.specs.declared.act.Answer.{Answer}
 use Rattle.job_script.specs.declared.act.Answer.TheVariants.{Done, Spawned}
 use Rattle.table_receipts.specs.Logs.{GoesOn}
-use Rattle.task_crew.specs.Heard.{Asked, ends, IsAnswerTo}
-use Rattle.task_crew.specs.Said.{Saying}
+use Rattle.tasks_in_flight.specs.Heard.{Asked, ends, IsAnswerTo}
+use Rattle.tasks_in_flight.specs.Said.{Saying}
 
 -- by its last act it asked for this; and it says this of what it had seen then, of which now no less is seen
 abbrev pub Says : {B : Type 0} → Saying B → B → ℕ → Asked → (ℕ → Story) → Type 0

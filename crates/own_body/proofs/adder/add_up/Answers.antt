@@ -2,8 +2,8 @@ use Rattle.std.proofs.Common.{◌≡◌, ◌<◌, refl, sym, subst, ◌∙◌, a
 use Rattle.phase_modes.specs.Limits.{default_limits}
 use Rattle.phase_modes.specs.declared.limits.Limits.{Limits}
 use Rattle.trace_model.proofs.Legal.{explained_legal}
-use Rattle.task_crew.specs.Heard.{nothing, look, ends}
-use Rattle.task_crew.specs.Said.{Saying}
+use Rattle.tasks_in_flight.specs.Heard.{nothing, look, ends}
+use Rattle.tasks_in_flight.specs.Said.{Saying}
 use Rattle.phased_rt.specs.Says.{SaysOfTrace, SaysOfEach}
 use Rattle.own_body.specs.declared.adder.Adder.{Adder}
 use Rattle.own_body.specs.declared.adder.Next.TheVariants.{Makes, Hears}

@@ -1,8 +1,8 @@
 use Rattle.std.proofs.Common.{ℕ}
 use Rattle.std.proofs.lemmas.Result.{IfOk-weaker}
 use Rattle.phase_model.specs.Rules.{Story}
-use Rattle.task_crew.specs.Heard.{nothing}
-use Rattle.task_crew.specs.Said.{IsSaid, AreSaid, IsSaidOf}
+use Rattle.tasks_in_flight.specs.Heard.{nothing}
+use Rattle.tasks_in_flight.specs.Said.{IsSaid, AreSaid, IsSaidOf}
 use Rattle.phased_rt.specs.Says.{SaysOfTrace, SaysOfEach}
 use Rattle.phased_rt.proofs.asking.run_and_ask.Goals as goal
 

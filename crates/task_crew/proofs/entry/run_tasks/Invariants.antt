@@ -1,8 +1,8 @@
 use Rattle.std.proofs.Common.{ℕ}
 use Rattle.phase_model.specs.Rules.{Story}
 use Rattle.table_receipts.proofs.Names.{name_at}
-use Rattle.task_crew.specs.Heard.{nothing}
-use Rattle.task_crew.specs.Said.{IsSaidOf}
+use Rattle.tasks_in_flight.specs.Heard.{nothing}
+use Rattle.tasks_in_flight.specs.Said.{IsSaidOf}
 use Rattle.task_crew.proofs.entry.run_tasks.Given as goal
 
 abbrev pub ghosts-run_over-EP-Ledger : goal.ghosts-run_over-EP-Ledger

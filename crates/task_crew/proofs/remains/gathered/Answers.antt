@@ -3,9 +3,10 @@ use Rattle.phase_modes.specs.declared.limits.Limits.{Limits}
 use Rattle.table_receipts.specs.Logs.{Sight}
 use Rattle.table_receipts.specs.Seen.{story_at}
 use Rattle.table_receipts.proofs.Logged.{are_named}
-use Rattle.task_crew.specs.inner.Ready.{IsTold}
+use Rattle.tasks_in_flight.specs.inner.Ready.{IsTold}
 use Rattle.task_crew.proofs.Gathering.{all_logs, told_there}
-use Rattle.task_crew.proofs.Saying.{is_said, are_said}
+use Rattle.tasks_in_flight.proofs.Saying.{is_said}
+use Rattle.task_crew.proofs.Told.{are_said}
 use Rattle.task_crew.proofs.Sums.{books_sum}
 use Rattle.task_crew.proofs.remains.gathered.Goals as goal
 

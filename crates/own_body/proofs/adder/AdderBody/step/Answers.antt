@@ -3,7 +3,7 @@ use Rattle.std.specs.Prelude.{ℤ}
 use Rattle.phase_model.specs.declared.op.Look.{Look}
 use Rattle.own_body.specs.declared.adder.Next.TheVariants.{Sends, Hears}
 use Rattle.own_body.specs.Sums.{IsSeen}
-use Rattle.task_crew.specs.Heard.{nothing, ends}
+use Rattle.tasks_in_flight.specs.Heard.{nothing, ends}
 use Rattle.own_body.proofs.Sums.{still_seen, heard_has_looked}
 use Rattle.own_body.proofs.adder.AdderBody.step.Goals as goal
 

@@ -5,7 +5,7 @@ use Rattle.trace_model.specs.Projections.{log, AreOf}
 use Rattle.trace_model.specs.Run.{Entry}
 use Rattle.task_crew.specs.inner.Logs.{AreGathered, IsToldIn}
 use Rattle.task_crew.proofs.Gathering.{one_gathered}
-use Rattle.task_crew.proofs.Saying.{told_in_logs}
+use Rattle.task_crew.proofs.Told.{told_in_logs}
 use Rattle.task_crew.proofs.logs.Gathered.add.Goals as goal
 
 pub begin-requires-clause-all : goal.begin-requires-clause-all

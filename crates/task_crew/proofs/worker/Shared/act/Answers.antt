@@ -3,8 +3,8 @@ use Rattle.std.specs.Prelude.{ℤ}
 use Rattle.std.proofs.lemmas.Int.{to_z-of_z}
 use Rattle.job_script.specs.declared.act.Answer.TheVariants.{Done, Spawned}
 use Rattle.table_receipts.specs.Seen.{story_at}
-use Rattle.task_crew.specs.Heard.{make, send, look, turn, spawn, finish, ends, asked_by}
-use Rattle.task_crew.proofs.Saying.{shows_of, ready_of, says_now}
+use Rattle.tasks_in_flight.specs.Heard.{make, send, look, turn, spawn, finish, ends, asked_by}
+use Rattle.tasks_in_flight.proofs.Saying.{shows_of, ready_of, says_now}
 use Rattle.task_crew.proofs.worker.Shared.act.Goals as goal
 
 pub spawn-requires : goal.spawn-requires

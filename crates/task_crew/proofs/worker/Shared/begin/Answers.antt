@@ -1,6 +1,6 @@
 use Rattle.std.proofs.Common.{◌∙◌}
-use Rattle.task_crew.specs.Heard.{ends}
-use Rattle.task_crew.proofs.Saying.{ready_kept, says_kept}
+use Rattle.tasks_in_flight.specs.Heard.{ends}
+use Rattle.tasks_in_flight.proofs.Saying.{ready_kept, says_kept}
 use Rattle.task_crew.proofs.worker.Shared.begin.Goals as goal
 
 pub invariant_of-task-clause-ready : goal.invariant_of-task-clause-ready

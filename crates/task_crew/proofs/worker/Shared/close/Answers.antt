@@ -1,6 +1,6 @@
 use Rattle.std.proofs.Common.{arith}
 use Rattle.table_receipts.specs.Seen.{story_at}
-use Rattle.task_crew.proofs.Saying.{has_said, told_at_end}
+use Rattle.tasks_in_flight.proofs.Saying.{has_said, told_at_end}
 use Rattle.task_crew.proofs.worker.Shared.close.Goals as goal
 
 pub invariant_of-root : goal.invariant_of-root

@@ -1,5 +1,5 @@
 use Rattle.table_receipts.specs.Seen.{story_at}
-use Rattle.task_crew.proofs.Saying.{told_at_end}
+use Rattle.tasks_in_flight.proofs.Saying.{told_at_end}
 use Rattle.task_crew.proofs.worker.Shared.end.Goals as goal
 
 pub invariant_of-left-clause-told : goal.invariant_of-left-clause-told

@@ -1,6 +1,6 @@
 use Rattle.std.proofs.Common.{Bool, ap, ◌∙◌}
-use Rattle.task_crew.specs.Heard.{look}
-use Rattle.task_crew.proofs.Saying.{shows_kept}
+use Rattle.tasks_in_flight.specs.Heard.{look}
+use Rattle.tasks_in_flight.proofs.Saying.{shows_kept}
 use Rattle.table_receipts.specs.Seen.{story_at}
 use Rattle.task_crew.specs.inner.Driven.{tried_by}
 use Rattle.task_crew.proofs.Driven.{not_tried, acts_since, gave_up}

@@ -7,8 +7,8 @@ use Rattle.long_receipts.specs.Told.{HasLooked}
 use Rattle.table_receipts.specs.Seen.{story_at}
 use Rattle.table_receipts.proofs.Goes.{answered_goes}
 use Rattle.table_receipts.proofs.Stories.{seen_more}
-use Rattle.task_crew.specs.Heard.{look, ends}
-use Rattle.task_crew.proofs.Saying.{shows_kept, ready_seen, says_kept, says_more}
+use Rattle.tasks_in_flight.specs.Heard.{look, ends}
+use Rattle.tasks_in_flight.proofs.Saying.{shows_kept, ready_seen, says_kept, says_more}
 use Rattle.world_model.specs.declared.event.WorldEvent.TheVariants.{Phaser}
 use Rattle.world_model.specs.declared.event.Step.TheVariants as steps
 use Rattle.task_standing.specs.Known.{Known}

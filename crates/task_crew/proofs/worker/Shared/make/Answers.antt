@@ -1,6 +1,6 @@
 use Rattle.std.proofs.Common.{}
-use Rattle.task_crew.specs.Heard.{make}
-use Rattle.task_crew.proofs.Saying.{shows_kept}
+use Rattle.tasks_in_flight.specs.Heard.{make}
+use Rattle.tasks_in_flight.proofs.Saying.{shows_kept}
 use Rattle.table_receipts.specs.Seen.{story_at}
 use Rattle.task_crew.proofs.Driven.{not_tried}
 use Rattle.task_crew.proofs.worker.Shared.make.Goals as goal

@@ -1,6 +1,6 @@
 use Rattle.std.proofs.Common.{Some, ℕ, Bool, refl, ap, subst, ◌∙◌}
 use Rattle.job_script.specs.declared.act.Answer.TheVariants.{Done}
-use Rattle.task_crew.proofs.Saying.{ready_kept}
+use Rattle.tasks_in_flight.proofs.Saying.{ready_kept}
 use Rattle.phase_model.specs.Rules.{Story}
 use Rattle.finish_core.specs.declared.event.FinishEvent.TheVariants.{Opened}
 use Rattle.world_model.specs.declared.event.WorldEvent.TheVariants.{Finish}

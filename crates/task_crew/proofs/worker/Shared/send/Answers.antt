@@ -2,8 +2,8 @@ use Rattle.std.proofs.Common.{sym, subst, w32, Bool, ap, ◌∙◌}
 use Rattle.std.specs.Prelude.{ℤ}
 use Rattle.std.proofs.lemmas.Int.{to_z-of_z}
 use Rattle.table_receipts.specs.Seen.{story_at}
-use Rattle.task_crew.specs.Heard.{send}
-use Rattle.task_crew.proofs.Saying.{shows_kept}
+use Rattle.tasks_in_flight.specs.Heard.{send}
+use Rattle.tasks_in_flight.proofs.Saying.{shows_kept}
 use Rattle.task_crew.specs.inner.Driven.{tried_by}
 use Rattle.task_crew.proofs.Driven.{not_tried, acts_since, gave_up}
 use Rattle.task_crew.proofs.worker.Shared.send.Goals as goal

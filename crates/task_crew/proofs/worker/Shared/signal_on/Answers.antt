@@ -8,8 +8,8 @@ use Rattle.table_receipts.specs.Logs.{GoesOn}
 use Rattle.table_receipts.specs.Seen.{story_at}
 use Rattle.table_receipts.specs.Told.{IsAnswered}
 use Rattle.table_receipts.proofs.Goes.{answered_goes}
-use Rattle.task_crew.specs.Heard.{IsOwn}
-use Rattle.task_crew.proofs.Heard.{signal_is_own}
+use Rattle.tasks_in_flight.specs.Heard.{IsOwn}
+use Rattle.tasks_in_flight.proofs.Heard.{signal_is_own}
 use Rattle.world_model.specs.declared.event.Step.TheVariants as steps
 use Rattle.task_crew.specs.inner.Driven.{IsReplied}
 use Rattle.task_crew.proofs.Replied.{signal_replied}

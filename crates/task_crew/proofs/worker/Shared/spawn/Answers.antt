@@ -1,8 +1,8 @@
 use Rattle.std.proofs.Common.{Some, ap, ◌∙◌, ℕ, subst}
 use Rattle.job_script.specs.declared.act.Answer.TheVariants.{Spawned}
 use Rattle.table_receipts.specs.Seen.{story_at}
-use Rattle.task_crew.specs.Heard.{nothing}
-use Rattle.task_crew.proofs.Saying.{says_now, says_there, ready_kept}
+use Rattle.tasks_in_flight.specs.Heard.{nothing}
+use Rattle.tasks_in_flight.proofs.Saying.{says_now, says_there, ready_kept}
 use Rattle.phase_model.specs.Rules.{Story}
 use Rattle.world_model.specs.declared.event.Begun.TheVariants.{Async}
 use Rattle.task_standing.specs.Known.{Known}

@@ -2,7 +2,7 @@ use Rattle.std.proofs.Common.{ℕ, Result, subst, ap, ◌∙◌}
 use Rattle.phase_modes.specs.declared.refusal.Refusal.{Refusal}
 use Rattle.job_script.specs.declared.act.Act.{Act}
 use Rattle.table_receipts.specs.Seen.{story_at}
-use Rattle.task_crew.specs.Heard.{nothing, asked_by, IsSpawned}
+use Rattle.tasks_in_flight.specs.Heard.{nothing, asked_by, IsSpawned}
 use Rattle.task_crew.proofs.Driven.{acts_as, gave_up}
 use Rattle.task_crew.proofs.worker.Shared.step.Goals as goal
 

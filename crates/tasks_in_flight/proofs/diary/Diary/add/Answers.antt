@@ -2,8 +2,8 @@ use Rattle.std.proofs.Common.{ap, refl, sym, ◌∙◌, inl, inr}
 use Rattle.std.specs.Prelude.{◌||◌}
 use Rattle.std.proofs.lemmas.Bool.{cases_Bool}
 use Rattle.std.proofs.lemmas.List.Recursion.{or_push}
-use Rattle.task_crew.specs.Said.{is_end, has_end}
-use Rattle.task_crew.proofs.diary.Diary.add.Goals as goal
+use Rattle.tasks_in_flight.specs.Said.{is_end, has_end}
+use Rattle.tasks_in_flight.proofs.diary.Diary.add.Goals as goal
 
 pub invariant_of-self-clause-end : goal.invariant_of-self-clause-end
 invariant_of-self-clause-end c =

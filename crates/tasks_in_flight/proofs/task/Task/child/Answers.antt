@@ -1,8 +1,8 @@
 use Rattle.std.proofs.Common.{refl}
 use Rattle.table_receipts.specs.Seen.{story_at}
-use Rattle.task_crew.specs.Heard.{nothing, ends}
-use Rattle.task_crew.proofs.Saying.{says_there, ready_kept, says_kept}
-use Rattle.task_crew.proofs.task.Task.child.Goals as goal
+use Rattle.tasks_in_flight.specs.Heard.{nothing, ends}
+use Rattle.tasks_in_flight.proofs.Saying.{says_there, ready_kept, says_kept}
+use Rattle.tasks_in_flight.proofs.task.Task.child.Goals as goal
 
 pub new-requires-clause-says : goal.new-requires-clause-says
 new-requires-clause-says g c =

@@ -1,7 +1,7 @@
 use Rattle.std.proofs.Common.{refl}
-use Rattle.task_crew.specs.Heard.{ends}
-use Rattle.task_crew.proofs.Saying.{ready_kept, says_kept}
-use Rattle.task_crew.proofs.task.Task.log_refused.Goals as goal
+use Rattle.tasks_in_flight.specs.Heard.{ends}
+use Rattle.tasks_in_flight.proofs.Saying.{ready_kept, says_kept}
+use Rattle.tasks_in_flight.proofs.task.Task.log_refused.Goals as goal
 
 pub invariant_of-self-clause-ready : goal.invariant_of-self-clause-ready
 invariant_of-self-clause-ready g c =

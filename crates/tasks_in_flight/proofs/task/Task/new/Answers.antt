@@ -2,8 +2,8 @@ use Rattle.std.proofs.Common.{Some, refl, sym, ◌∙◌}
 use Rattle.std.proofs.lemmas.Bool.{true≢false}
 use Rattle.job_script.specs.declared.act.Answer.TheVariants.{Started}
 use Rattle.table_receipts.specs.Seen.{story_at}
-use Rattle.task_crew.proofs.Saying.{ready_at_first, ready_kept}
-use Rattle.task_crew.proofs.task.Task.new.Goals as goal
+use Rattle.tasks_in_flight.proofs.Saying.{ready_at_first, ready_kept}
+use Rattle.tasks_in_flight.proofs.task.Task.new.Goals as goal
 
 -- it asked for nothing yet
 pub invariant_of-task-2-clause-ready : goal.invariant_of-task-2-clause-ready

@@ -3,10 +3,10 @@ use Rattle.std.proofs.lemmas.Bool.{true≢false}
 use Rattle.phase_model.specs.Rules.{Story}
 use Rattle.job_script.specs.declared.act.Answer.{Answer}
 use Rattle.table_receipts.specs.Seen.{story_at}
-use Rattle.task_crew.specs.Heard.{nothing, asked_by}
-use Rattle.task_crew.specs.inner.Ready.{IsReady}
-use Rattle.task_crew.proofs.Saying.{ready_now, shows_next}
-use Rattle.task_crew.proofs.task.Task.next_act.Goals as goal
+use Rattle.tasks_in_flight.specs.Heard.{nothing, asked_by}
+use Rattle.tasks_in_flight.specs.inner.Ready.{IsReady}
+use Rattle.tasks_in_flight.proofs.Saying.{ready_now, shows_next}
+use Rattle.tasks_in_flight.proofs.task.Task.next_act.Goals as goal
 
 pub returns-clause-says : goal.returns-clause-says
 returns-clause-says g c =

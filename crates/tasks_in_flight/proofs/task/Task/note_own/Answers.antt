@@ -2,9 +2,9 @@ use Rattle.std.proofs.Common.{refl, sym, subst, ◌∙◌}
 use Rattle.phase_model.specs.Rules.{Story}
 use Rattle.table_receipts.specs.Seen.{story_at}
 use Rattle.table_receipts.proofs.Stories.{seen_more}
-use Rattle.task_crew.specs.Heard.{IsOwn, ends}
-use Rattle.task_crew.proofs.Saying.{ready_own, says_more}
-use Rattle.task_crew.proofs.task.Task.note_own.Goals as goal
+use Rattle.tasks_in_flight.specs.Heard.{IsOwn, ends}
+use Rattle.tasks_in_flight.proofs.Saying.{ready_own, says_more}
+use Rattle.tasks_in_flight.proofs.task.Task.note_own.Goals as goal
 
 pub invariant_of-self-clause-ready : goal.invariant_of-self-clause-ready
 invariant_of-self-clause-ready g c =

@@ -1,7 +1,7 @@
 use Rattle.table_receipts.specs.Seen.{story_at}
-use Rattle.task_crew.specs.Heard.{ends}
-use Rattle.task_crew.proofs.Saying.{ready_single, says_single}
-use Rattle.task_crew.proofs.task.Task.run_single.Goals as goal
+use Rattle.tasks_in_flight.specs.Heard.{ends}
+use Rattle.tasks_in_flight.proofs.Saying.{ready_single, says_single}
+use Rattle.tasks_in_flight.proofs.task.Task.run_single.Goals as goal
 
 pub invariant_of-self-clause-ready : goal.invariant_of-self-clause-ready
 invariant_of-self-clause-ready g c =
