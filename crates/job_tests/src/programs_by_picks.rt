@@ -97,12 +97,16 @@ fn gives(rt: &impl Abort, alloc: Global, text: &str, rows: &[Row]) -> Result<(),
     Ok(())
 }
 
+/// The beginning of a spawn of task 4 on the one phaser.
+fn one_child() -> Begun {
+    Begun::Async(4, one_phaser())
+}
+
 #[test]
 fn acts_are_tried(rt: HostRuntime) -> Result<(), Fail> {
     const TEXT: &str =
         r#"{"main":[["new","p","SIG",[]],["open"],["send","p",1,-2],["look","p",1],["next"],["async_all",[]]]}"#;
     let making = TracedStep::Make(0, Mode::Sig, unbounded());
-    let child = Begun::Async(4, one_phaser());
     let rows = [
         (
             TracedEvent::Phaser(3, making),
@@ -124,7 +128,10 @@ fn acts_are_tried(rt: HostRuntime) -> Result<(), Fail> {
             TracedEvent::Begin(0, Begun::Next),
             Tried::Begun(Begun::Next),
         ),
-        (TracedEvent::Begin(0, child), Tried::Begun(child)),
+        (
+            TracedEvent::Begin(0, one_child()),
+            Tried::Begun(one_child()),
+        ),
         (TracedEvent::Begin(0, Begun::End), Tried::Begun(Begun::End)),
     ];
     gives(&rt, rt.alloc(), TEXT, rows.as_slice())

@@ -88,7 +88,7 @@ fn lines_are(rt: &impl Abort, lines: &PhaserLines, folds: &[FoldLine]) {
 }
 
 fn totals_are(rt: &impl Abort, totals: TotalsLine) {
-    equal(rt, totals, TOTALS);
+    assert_eq!(rt; totals, TOTALS);
     equal(rt, plus(no_totals(), totals), TOTALS);
     equal(rt, plus(TOTALS, TOTALS).up, 14);
 }
