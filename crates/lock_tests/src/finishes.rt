@@ -171,7 +171,7 @@ fn are_logs(parts: &FinishParts<u32>, finish: usize, logs: &[u32]) -> bool {
 fn tell_five(rt: &impl Abort, parts: &[Part]) {
     assert_eq!(rt; parts.len(), 2);
     equal(rt, parts[0].len(), 0);
-    equal(rt, parts[1].len(), 5);
+    assert_eq!(rt; parts[1].len(), 5);
     let opened = TracedEvent::Finish(1, FinishEvent::Opened(0));
     let ended = TracedEvent::Finish(1, FinishEvent::Ended(1));
     assert!(rt; parts[1].entry(0) == (1, opened));
