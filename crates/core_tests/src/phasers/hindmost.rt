@@ -13,6 +13,8 @@ enum Line {
     Closed(u32, u32),
     /// In phases 0, 1 and 2 the first accumulator has these folds.
     Folds([Option<Look>; 3]),
+    /// The phaser says what the plain functions say of its history.
+    AsPlain,
 }
 
 /// The phases from 0 on are closed up to the one that is still open.
@@ -38,6 +40,7 @@ fn goes_by(rt: &impl Abort, state: &mut PhaserState, line: Line) {
             holds_at(rt, other, state.closed(other));
         }
         Line::Folds(folds) => has_folds(rt, state, folds),
+        Line::AsPlain => agrees_with_plain(rt, state),
     }
 }
 
@@ -60,7 +63,7 @@ fn goes_by_all(
 
 #[test]
 fn slow_signaller_catches_up(rt: HostRuntime) -> Result<(), Fail> {
-    const LINES: [Line; 20] = [
+    const LINES: [Line; 21] = [
         Line::Replied(Call::Make(0, Mode::SigWait), Reply::Done),
         Line::Replied(Call::Register(0, 1, Mode::Sig), Reply::Done),
         Line::Replied(Call::Register(0, 2, Mode::Sig), Reply::Done),
@@ -71,6 +74,7 @@ fn slow_signaller_catches_up(rt: HostRuntime) -> Result<(), Fail> {
         Line::Replied(Call::Signal(1, None), Reply::Done),
         Line::Replied(Call::Signal(0, None), Reply::Done),
         Line::Replied(Call::Pass(0), Reply::NotYet),
+        Line::AsPlain,
         // Task 2 has signalled nothing, task 0 one phase, task 1 three.
         Line::FirstOpen(0),
         Line::Replied(Call::Signal(2, None), Reply::Done),
@@ -89,7 +93,7 @@ fn slow_signaller_catches_up(rt: HostRuntime) -> Result<(), Fail> {
 
 #[test]
 fn last_signaller_is_dropped(rt: HostRuntime) -> Result<(), Fail> {
-    const LINES: [Line; 15] = [
+    const LINES: [Line; 16] = [
         Line::Replied(Call::Make(0, Mode::SigWait), Reply::Done),
         Line::Replied(Call::Register(0, 1, Mode::Sig), Reply::Done),
         Line::Replied(Call::Register(0, 2, Mode::Wait), Reply::Done),
@@ -99,6 +103,7 @@ fn last_signaller_is_dropped(rt: HostRuntime) -> Result<(), Fail> {
         Line::Replied(Call::Pass(0), Reply::Phase(0)),
         Line::Replied(Call::Signal(0, None), Reply::Done),
         Line::Replied(Call::Pass(0), Reply::Phase(1)),
+        Line::AsPlain,
         // Task 0 has signalled two phases, and is the only signaller that is left.
         Line::FirstOpen(2),
         Line::Replied(Call::Drop(0), Reply::Done),
@@ -113,7 +118,7 @@ fn last_signaller_is_dropped(rt: HostRuntime) -> Result<(), Fail> {
 
 #[test]
 fn slow_waiter_is_dropped(rt: HostRuntime) -> Result<(), Fail> {
-    const LINES: [Line; 14] = [
+    const LINES: [Line; 15] = [
         Line::Replied(Call::Make(0, Mode::SigWait), Reply::Done),
         Line::Replied(Call::Register(0, 1, Mode::Wait), Reply::Done),
         Line::Replied(Call::Send(0, 0, 5), Reply::Done),
@@ -125,6 +130,7 @@ fn slow_waiter_is_dropped(rt: HostRuntime) -> Result<(), Fail> {
         Line::Replied(Call::Send(0, 0, 7), Reply::Done),
         Line::Replied(Call::Signal(0, None), Reply::Done),
         Line::Replied(Call::Pass(0), Reply::Phase(2)),
+        Line::AsPlain,
         // Task 1 still stands at phase 0, so each phase may be read.
         Line::Folds([
             Some(Look::Value(5)),
@@ -140,7 +146,7 @@ fn slow_waiter_is_dropped(rt: HostRuntime) -> Result<(), Fail> {
 
 #[test]
 fn last_waiter_is_dropped(rt: HostRuntime) -> Result<(), Fail> {
-    const LINES: [Line; 21] = [
+    const LINES: [Line; 22] = [
         Line::Replied(Call::Make(0, Mode::SigWait), Reply::Done),
         Line::Replied(Call::Register(0, 1, Mode::Sig), Reply::Done),
         Line::Replied(Call::Register(0, 2, Mode::Wait), Reply::Done),
@@ -154,8 +160,9 @@ fn last_waiter_is_dropped(rt: HostRuntime) -> Result<(), Fail> {
         Line::Replied(Call::Signal(1, None), Reply::Done),
         Line::Replied(Call::Pass(1), Reply::Phase(2)),
         Line::Replied(Call::Signal(1, None), Reply::NotYet),
-        // Nobody waits any more, so nothing holds the signaller.
         Line::Replied(Call::Drop(2), Reply::Done),
+        Line::AsPlain,
+        // Nobody waits any more, so nothing holds the signaller.
         Line::Replied(Call::Signal(1, None), Reply::Done),
         Line::Replied(Call::Pass(1), Reply::Phase(3)),
         Line::Replied(Call::Signal(1, None), Reply::Done),
