@@ -33,4 +33,10 @@ impl PhaserNumber {
     {
         self.number
     }
+    /// Its place in a list with a line for each phaser.
+    pub fn place(self) -> usize
+        ensures { result ≡ self }
+    {
+        self.number as usize
+    }
 }

@@ -34,6 +34,13 @@ impl TaskNumber {
     {
         self.number
     }
+
+    /// Its place in a list with a line for each task.
+    pub fn place(self) -> usize
+        ensures { result ≡ self }
+    {
+        self.number as usize
+    }
 }
 
 /// The number of a task at a phaser that lives long, which gives its numbers out. Contracts see the

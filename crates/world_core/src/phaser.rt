@@ -15,6 +15,7 @@ use phase_modes::{Limits, Mode, Refusal, Reg};
 use phaser_core::{Passing, PhaserState, Signalling};
 use std::alloc::Global;
 use std::marker::Model;
+use task_numbers::TaskNumber;
 
 /// A phaser of a world.
 #[derive(Drop)]
@@ -42,67 +43,87 @@ impl KeptPhaser {
     }
 
     /// Makes it with these operators and this bound, and registers its maker.
-    pub(crate) fn make_with(&mut self, task: u32, mode: Mode, terms: Terms) -> Result<(), Refusal>
+    pub(crate) fn make_with(
+        &mut self,
+        task: TaskNumber,
+        mode: Mode,
+        terms: Terms,
+    ) -> Result<(), Refusal>
         ensures reply { result ≡ done_result (reply self.old (make task mode)) }
         ensures history { self.new ≡ made_with self.old terms (reply self.old (make task mode)) }
     {
-        self.state.make_with(task, mode, terms.ops, terms.bound)
+        self.state
+            .make_with(task.get(), mode, terms.ops, terms.bound)
     }
 
     /// Registers a child where its parent stands.
-    pub(crate) fn register(&mut self, parent: u32, child: u32, mode: Mode) -> Result<(), Refusal>
+    pub(crate) fn register(
+        &mut self,
+        parent: TaskNumber,
+        child: TaskNumber,
+        mode: Mode,
+    ) -> Result<(), Refusal>
         ensures reply { result ≡ done_result (reply self.old (register parent child mode)) }
         ensures history { self.new ≡ after self.old (reply self.old (register parent child mode)) }
     {
-        self.state.register(parent, child, mode)
+        self.state.register(parent.get(), child.get(), mode)
     }
 
     /// Asks to signal the task's phase.
-    pub(crate) fn signal(&mut self, task: u32, number: Option<u32>) -> Result<Signalling, Refusal>
+    pub(crate) fn signal(
+        &mut self,
+        task: TaskNumber,
+        number: Option<u32>,
+    ) -> Result<Signalling, Refusal>
         ensures reply { result ≡ signal_result (reply self.old (signal task number)) }
         ensures history { self.new ≡ after self.old (reply self.old (signal task number)) }
     {
-        self.state.signal(task, number)
+        self.state.signal(task.get(), number)
     }
 
     /// Asks to end the task's turn.
-    pub(crate) fn pass(&mut self, task: u32) -> Result<Passing, Refusal>
+    pub(crate) fn pass(&mut self, task: TaskNumber) -> Result<Passing, Refusal>
         ensures reply { result ≡ pass_result self.old.past (reply self.old (pass task)) }
         ensures history { self.new ≡ after self.old (reply self.old (pass task)) }
     {
-        self.state.pass(task)
+        self.state.pass(task.get())
     }
 
     /// Reports the single done that the task had claimed.
-    pub(crate) fn single_done(&mut self, task: u32) -> Result<(), Refusal>
+    pub(crate) fn single_done(&mut self, task: TaskNumber) -> Result<(), Refusal>
         ensures reply { result ≡ done_result (reply self.old (single_done task)) }
         ensures history { self.new ≡ after self.old (reply self.old (single_done task)) }
     {
-        self.state.single_done(task)
+        self.state.single_done(task.get())
     }
 
     /// Sends a value to an accumulator.
-    pub(crate) fn send(&mut self, task: u32, accumulator: u8, value: i32) -> Result<(), Refusal>
+    pub(crate) fn send(
+        &mut self,
+        task: TaskNumber,
+        accumulator: u8,
+        value: i32,
+    ) -> Result<(), Refusal>
         ensures reply { result ≡ done_result (reply self.old (send task accumulator value)) }
         ensures history { self.new ≡ after self.old (reply self.old (send task accumulator value)) }
     {
-        self.state.send(task, accumulator, value)
+        self.state.send(task.get(), accumulator, value)
     }
 
     /// What an accumulator holds for the task.
-    pub(crate) fn look(&mut self, task: u32, accumulator: u8) -> Result<Look, Refusal>
+    pub(crate) fn look(&mut self, task: TaskNumber, accumulator: u8) -> Result<Look, Refusal>
         ensures reply { result ≡ look_result (reply self.old (look task accumulator)) }
         ensures history { self.new ≡ after self.old (reply self.old (look task accumulator)) }
     {
-        self.state.look(task, accumulator)
+        self.state.look(task.get(), accumulator)
     }
 
     /// Drops the task.
-    pub(crate) fn drop_task(&mut self, task: u32) -> Result<(), Refusal>
+    pub(crate) fn drop_task(&mut self, task: TaskNumber) -> Result<(), Refusal>
         ensures reply { result ≡ done_result (reply self.old (drop_task task)) }
         ensures history { self.new ≡ after self.old (reply self.old (drop_task task)) }
     {
-        self.state.drop_task(task)
+        self.state.drop_task(task.get())
     }
 
     /// What a call would be answered now.
@@ -113,38 +134,38 @@ impl KeptPhaser {
     }
 
     /// Whether a pass of the task would be answered not yet.
-    pub(crate) fn would_wait(&self, task: u32) -> bool
+    pub(crate) fn would_wait(&self, task: TaskNumber) -> bool
         ensures { result ≡ would_wait self.now task }
     {
-        self.state.would_wait(task)
+        self.state.would_wait(task.get())
     }
 
     /// Whether a signal of the task with this number would be answered not yet.
-    pub(crate) fn signal_would_wait(&self, task: u32, number: Option<u32>) -> bool
+    pub(crate) fn signal_would_wait(&self, task: TaskNumber, number: Option<u32>) -> bool
         ensures { result ≡ signal_would_wait self.now task number }
     {
-        self.state.signal_would_wait(task, number)
+        self.state.signal_would_wait(task.get(), number)
     }
 
     /// How the task is registered now.
-    pub(crate) fn registration(&self, task: u32) -> Option<Reg>
+    pub(crate) fn registration(&self, task: TaskNumber) -> Option<Reg>
         ensures { result ≡ registration task self.now.past }
     {
-        self.state.registration(task)
+        self.state.registration(task.get())
     }
 
     /// Whether the task may claim the single of its phase.
-    pub(crate) fn may_claim(&self, task: u32) -> bool
+    pub(crate) fn may_claim(&self, task: TaskNumber) -> bool
         ensures { result ≡ is_permitted self.now.limits self.now.terms self.now.past (Event.Claim task) }
     {
-        self.state.may_claim(task)
+        self.state.may_claim(task.get())
     }
 
     /// Whether the task may report the single done that it claimed.
-    pub(crate) fn may_report(&self, task: u32) -> bool
+    pub(crate) fn may_report(&self, task: TaskNumber) -> bool
         ensures { result ≡ is_permitted self.now.limits self.now.terms self.now.past (Event.Did task) }
     {
-        self.state.may_report(task)
+        self.state.may_report(task.get())
     }
 
     /// Whether nobody has made it.

@@ -15,6 +15,7 @@ use finish_core::FinishState;
 use phase_modes::{Limits, Refusal};
 use std::alloc::Global;
 use std::marker::Model;
+use task_numbers::TaskNumber;
 
 mod begins;
 mod drops;
@@ -181,31 +182,31 @@ impl Tables {
     }
 
     /// Whether the task may begin an act.
-    fn is_ready(&self, task: u32) -> bool
+    fn is_ready(&self, task: TaskNumber) -> bool
         ensures ready { result ≡ is_ready (task_at self.now task) }
         ensures place { result ≡ true → task < length self.now.tasks }
     {
-        if task as usize >= self.tasks.len() {
+        if task.place() >= self.tasks.len() {
             return false;
         }
-        let line = &self.tasks[task as usize];
+        let line = &self.tasks[task.place()];
         line.is_idle()
     }
 
     /// Whether the task's acts are at their limit.
-    fn is_worn(&self, task: u32) -> bool
+    fn is_worn(&self, task: TaskNumber) -> bool
         ensures { result ≡ not (nat_lt (task_at self.now task).acts self.now.limits.acts) }
     {
-        if task as usize >= self.tasks.len() {
+        if task.place() >= self.tasks.len() {
             return self.limits.acts == 0;
         }
-        let line = &self.tasks[task as usize];
+        let line = &self.tasks[task.place()];
         line.acts() >= self.limits.acts
     }
 
     /// What an act is refused by before it is looked at for itself: `used` is whether the number
     /// that it wants to give is in use, `counted` whether it is a counted act.
-    fn may_act(&self, task: u32, used: bool, counted: bool) -> Result<(), Refusal>
+    fn may_act(&self, task: TaskNumber, used: bool, counted: bool) -> Result<(), Refusal>
         ensures answer { result ≡ free_unless (first_refusal (first_conditions self.now task used counted)) }
         ensures place { IfOk result (λ _. task < length self.now.tasks) }
     {

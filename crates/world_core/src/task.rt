@@ -7,6 +7,7 @@ use crate::phaser::KeptPhaser;
 use phase_modes::Refusal;
 use std::alloc::Global;
 use std::marker::Model;
+use task_numbers::{FinishNumber, PhaserNumber, TaskNumber};
 use world_steps::Plan;
 
 pub(crate) mod begins;
@@ -113,7 +114,7 @@ impl Task {
     }
 
     /// Notes the phasers on which the task owes a signal as those that are left.
-    pub(crate) fn owe(&mut self, task: u32, phasers: &[KeptPhaser])
+    pub(crate) fn owe(&mut self, task: TaskNumber, phasers: &[KeptPhaser])
         ensures { self.new
             ≡ record self.old { left = filter (λ n. owes task (past_in phasers.now n)) self.old.phasers } }
     {
@@ -133,21 +134,21 @@ impl Task {
     }
 
     /// Whether its next event is to signal with this number on this phaser.
-    pub(crate) fn is_to_signal(&self, phaser: u32, number: Option<u32>) -> bool
+    pub(crate) fn is_to_signal(&self, phaser: PhaserNumber, number: Option<u32>) -> bool
         ensures { result ≡ is_to_signal self.now phaser number }
     {
         match self.plan {
-            Plan::Signalling(wanted, _) => self.left.first().copied() == Some(phaser)
+            Plan::Signalling(wanted, _) => self.left.first().copied() == Some(phaser.get())
                 && wanted == number,
             _ => false,
         }
     }
 
     /// Whether its next event is to pass this phaser, the single aside.
-    pub(crate) fn is_to_pass(&self, phaser: u32) -> bool
+    pub(crate) fn is_to_pass(&self, phaser: PhaserNumber) -> bool
         ensures { result ≡ is_to_pass self.now phaser }
     {
-        matches!(self.plan, Plan::Turning) && self.left.first().copied() == Some(phaser)
+        matches!(self.plan, Plan::Turning) && self.left.first().copied() == Some(phaser.get())
     }
 
     /// Its innermost own open finish.
@@ -158,17 +159,17 @@ impl Task {
     }
 
     /// Its innermost open finish: the one that it was spawned in, where it has none of its own.
-    pub(crate) fn inner(&self) -> u32
+    pub(crate) fn inner(&self) -> FinishNumber
         ensures { result ≡ inner_at self.now }
     {
-        self.innermost.unwrap_or(self.home)
+        FinishNumber::of(self.innermost.unwrap_or(self.home))
     }
 
     /// Notes that it opened this finish.
-    pub(crate) fn note_opening(&mut self, finish: u32)
+    pub(crate) fn note_opening(&mut self, finish: FinishNumber)
         ensures { self.new ≡ opening finish self.old }
     {
-        self.innermost = Some(finish);
+        self.innermost = Some(finish.get());
         self.acts = self.acts.saturating_add(1);
     }
 
@@ -217,7 +218,7 @@ impl Task {
 }
 
 /// Lists those of the numbers on whose phasers the task owes a signal.
-fn list_owed(left: &mut Vec<u32>, own: &[u32], phasers: &[KeptPhaser], task: u32)
+fn list_owed(left: &mut Vec<u32>, own: &[u32], phasers: &[KeptPhaser], task: TaskNumber)
     requires few { length own.now ≤ 16 }
     requires room { 16 ≤ vec_capacity left.old }
     ensures left { left.new.items ≡ filter (λ n. owes task (past_in phasers.now n)) own.now }
@@ -225,7 +226,7 @@ fn list_owed(left: &mut Vec<u32>, own: &[u32], phasers: &[KeptPhaser], task: u32
 {
     left.clear();
     for i in 0..own.len() {
-        if is_owed(phasers, own[i], task) {
+        if is_owed(phasers, PhaserNumber::of(own[i]), task) {
             left.push_reserved(own[i]);
         }
     }
@@ -245,13 +246,13 @@ fn list_all(left: &mut Vec<u32>, own: &[u32])
 }
 
 /// Whether the task owes a signal on this phaser. A number without a phaser is owed none.
-fn is_owed(phasers: &[KeptPhaser], phaser: u32, task: u32) -> bool
+fn is_owed(phasers: &[KeptPhaser], phaser: PhaserNumber, task: TaskNumber) -> bool
     ensures { result ≡ owes task (past_in phasers.now phaser) }
 {
-    if phaser as usize >= phasers.len() {
+    if phaser.place() >= phasers.len() {
         return false;
     }
-    let state = &phasers[phaser as usize];
+    let state = &phasers[phaser.place()];
     match state.registration(task) {
         Some(reg) => reg.mode.can_signal() && !reg.ahead,
         None => false,

@@ -17,6 +17,7 @@ use crate::tables::{Tables, Unused};
 use phase_modes::{Limits, Phased, Refusal};
 use std::alloc::Global;
 use std::marker::Model;
+use task_numbers::TaskNumber;
 use trace_model::EventView;
 use world_model::{Condition, Reply, WorldEvent, WorldReport};
 
@@ -73,14 +74,14 @@ impl World {
     pub fn condition(&self, task: u32) -> Option<Condition>
         ensures { (w : List Event) → StandsFor w self.now → result ≡ condition_of task w }
     {
-        self.tables.condition(task)
+        self.tables.condition(TaskNumber::of(task))
     }
 
     /// How many turns the task has completed, those of its spawner at the spawn among them.
     pub fn clock(&self, task: u32) -> u32
         ensures { (w : List Event) → StandsFor w self.now → result ≡ clock task w }
     {
-        self.tables.clock(task)
+        self.tables.clock(TaskNumber::of(task))
     }
 
     /// Whether the task can go on now: some event of its own would be made. It can't where it has
@@ -88,7 +89,7 @@ impl World {
     pub fn able(&self, task: u32) -> bool
         ensures { (w : List Event) → StandsFor w self.now → result ≡ is_able self.now.limits w task }
     {
-        self.tables.able(task)
+        self.tables.able(TaskNumber::of(task))
     }
 
     /// The event that continues the task's act, if it is in the middle of one.
@@ -96,7 +97,7 @@ impl World {
         ensures { (w : List Event) → StandsFor w self.now
             → result ≡ next_event self.now.limits task w }
     {
-        self.tables.next_event(task)
+        self.tables.next_event(TaskNumber::of(task))
     }
 
     /// The least numbers that aren't in use.
@@ -116,7 +117,7 @@ impl World {
     pub fn own_pairs(&self, task: u32) -> Phased
         ensures { (w : List Event) → StandsFor w self.now → result ≡ own_pairs task w }
     {
-        self.tables.own_pairs(task)
+        self.tables.own_pairs(TaskNumber::of(task))
     }
 
     /// What the phasers, the tasks and the finishes came to, by rising number. Each phaser's

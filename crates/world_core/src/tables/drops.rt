@@ -8,49 +8,50 @@ ghost use Rattle.world_steps.specs.inner.DropSteps.{dropper_at, is_to_drop, task
 ghost use Rattle.world_steps.specs.StandsFor.{IsStep};
 
 use super::*;
+use task_numbers::{PhaserNumber, TaskNumber};
 use world_model::{Reply, Step, WorldEvent};
 
 impl Tables {
     /// Who drops the task: itself, or the spawner of a child that was never spawned.
-    fn dropper(&self, task: u32) -> u32
+    fn dropper(&self, task: TaskNumber) -> TaskNumber
         ensures { result ≡ dropper_at self.now task }
     {
-        if task as usize >= self.tasks.len() {
-            return 0;
+        if task.place() >= self.tasks.len() {
+            return TaskNumber::of(0);
         }
-        let line = &self.tasks[task as usize];
+        let line = &self.tasks[task.place()];
         if line.is_born() { task } else { line.spawner() }
     }
 
     /// Whether the actor's next event is that the task leaves the phaser.
-    fn is_to_drop(&self, actor: u32, phaser: u32, task: u32) -> bool
+    fn is_to_drop(&self, actor: TaskNumber, phaser: PhaserNumber, task: TaskNumber) -> bool
         ensures to { result ≡ is_to_drop (task_at self.now actor) actor phaser task }
         ensures place { result ≡ true → actor < length self.now.tasks }
     {
-        if actor as usize >= self.tasks.len() {
+        if actor.place() >= self.tasks.len() {
             return false;
         }
-        let line = &self.tasks[actor as usize];
+        let line = &self.tasks[actor.place()];
         line.is_to_drop(actor, phaser, task)
     }
 
     /// Drops a task from a phaser. A number without a phaser knows no task.
-    fn drop_on(&mut self, phaser: u32, task: u32) -> Result<(), Refusal>
+    fn drop_on(&mut self, phaser: PhaserNumber, task: TaskNumber) -> Result<(), Refusal>
         ensures reply { result ≡ done_result (reply (story_at self.old phaser) (drop_task task)) }
         ensures state { IfOk result (λ _. self.new ≡ phaser_called self.old phaser (drop_task task)) }
         ensures place { IfOk result (λ _. phaser < length self.old.phasers) }
         ensures kept { IfErr result (λ _. self.new ≡ self.old) }
     {
-        if phaser as usize >= self.phasers.len() {
+        if phaser.place() >= self.phasers.len() {
             return Err(Refusal::NotRegistered);
         }
-        let state = &mut self.phasers[phaser as usize];
+        let state = &mut self.phasers[phaser.place()];
         state.drop_task(task)?;
         Ok(())
     }
 
     /// A drop of an act under way.
-    fn drop_due(&mut self, phaser: u32, task: u32) -> Result<Reply, Refusal>
+    fn drop_due(&mut self, phaser: PhaserNumber, task: TaskNumber) -> Result<Reply, Refusal>
         ensures answer { result ≡ drop_answer self.old phaser task }
         ensures state { self.new ≡ drop_state self.old phaser task }
     {
@@ -59,17 +60,21 @@ impl Tables {
             return Err(Refusal::NotNow);
         }
         self.drop_on(phaser, task)?;
-        if (task as usize) < self.tasks.len() {
-            let gone = &mut self.tasks[task as usize];
+        if task.place() < self.tasks.len() {
+            let gone = &mut self.tasks[task.place()];
             gone.note_gone(phaser);
         }
-        let line = &mut self.tasks[actor as usize];
+        let line = &mut self.tasks[actor.place()];
         line.note_drop();
         Ok(Reply::Done)
     }
 
     /// The step that makes a drop of an act under way.
-    pub(super) fn step_drop(&mut self, phaser: u32, task: u32) -> Result<Reply, Refusal>
+    pub(super) fn step_drop(
+        &mut self,
+        phaser: PhaserNumber,
+        task: TaskNumber,
+    ) -> Result<Reply, Refusal>
         ensures { IsStep (WorldEvent.Phaser phaser (Step.Drop task)) self.old self.new result }
     {
         self.drop_due(phaser, task)

@@ -9,6 +9,7 @@ use super::Tables;
 use crate::task::Task;
 use finish_core::FinishEvent;
 use phase_modes::Refusal;
+use task_numbers::{FinishNumber, TaskNumber};
 use world_model::{Reply, WorldEvent};
 use world_steps::Plan;
 
@@ -23,7 +24,7 @@ impl Task {
 
     /// Notes that it shut this finish: where that was its innermost one, the one that it had open
     /// before is innermost now. The shut of finish 0 is the root's end.
-    fn note_shut(&mut self, finish: u32, own: u32, outers: &[Option<u32>])
+    fn note_shut(&mut self, finish: FinishNumber, own: TaskNumber, outers: &[Option<u32>])
         requires { finish < length outers.now }
         ensures { self.new ≡ shut_noted outers.now finish own self.old }
     {
@@ -32,9 +33,9 @@ impl Task {
             _ => self.plan = Plan::Idle,
         }
         if self.innermost.is_some() {
-            self.innermost = outers[finish as usize];
+            self.innermost = outers[finish.place()];
         }
-        if finish == 0 && own == 0 {
+        if finish.get() == 0 && own.get() == 0 {
             self.ended = true;
         }
     }
@@ -42,35 +43,36 @@ impl Task {
 
 impl Tables {
     /// Whether the task's next event is to end in this finish.
-    fn is_to_end(&self, finish: u32, task: u32) -> bool
+    fn is_to_end(&self, finish: FinishNumber, task: TaskNumber) -> bool
         ensures to { result ≡ end_asked self.now finish task }
         ensures place { result ≡ true → task < length self.now.tasks }
     {
-        if task as usize >= self.tasks.len() {
+        if task.place() >= self.tasks.len() {
             return false;
         }
         match self.kept_next(task) {
-            Some(WorldEvent::Finish(f, FinishEvent::Ended(t))) => f == finish && t == task,
+            Some(WorldEvent::Finish(f, FinishEvent::Ended(t))) => f == finish.get()
+                && t == task.get(),
             _ => false,
         }
     }
 
     /// Notes in a finish that the task has ended.
-    fn end_in(&mut self, finish: u32, task: u32) -> Result<(), Refusal>
+    fn end_in(&mut self, finish: FinishNumber, task: TaskNumber) -> Result<(), Refusal>
         ensures reply { result ≡ said (finish_at self.old finish) (FinishEvent.Ended task) }
         ensures state { IfOk result (λ _. self.new ≡ finish_called self.old finish (FinishEvent.Ended task)) }
         ensures kept { IfErr result (λ _. self.new ≡ self.old) }
     {
-        if finish as usize >= self.finishes.len() {
+        if finish.place() >= self.finishes.len() {
             return Err(Refusal::NotNow);
         }
-        let state = &mut self.finishes[finish as usize];
-        state.ended(task)?;
+        let state = &mut self.finishes[finish.place()];
+        state.ended(task.get())?;
         Ok(())
     }
 
     /// The end of a task.
-    fn end_due(&mut self, finish: u32, task: u32) -> Result<Reply, Refusal>
+    fn end_due(&mut self, finish: FinishNumber, task: TaskNumber) -> Result<Reply, Refusal>
         ensures answer { result ≡ end_answer self.old finish task }
         ensures state { self.new ≡ end_state self.old finish task }
     {
@@ -78,71 +80,75 @@ impl Tables {
             return Err(Refusal::NotNow);
         }
         self.end_in(finish, task)?;
-        let line = &mut self.tasks[task as usize];
+        let line = &mut self.tasks[task.place()];
         line.note_end();
         Ok(Reply::Done)
     }
 
     /// The step that ends a task.
-    pub(super) fn step_end(&mut self, finish: u32, task: u32) -> Result<Reply, Refusal>
+    pub(super) fn step_end(
+        &mut self,
+        finish: FinishNumber,
+        task: TaskNumber,
+    ) -> Result<Reply, Refusal>
         ensures { IsStep (WorldEvent.Finish finish (FinishEvent.Ended task)) self.old self.new result }
     {
         self.end_due(finish, task)
     }
 
     /// Who opened the finish.
-    fn owner(&self, finish: u32) -> u32
+    fn owner(&self, finish: FinishNumber) -> TaskNumber
         ensures { result ≡ owner_in self.now finish }
     {
-        if finish as usize >= self.owners.len() {
-            return 0;
+        if finish.place() >= self.owners.len() {
+            return TaskNumber::of(0);
         }
-        self.owners[finish as usize]
+        TaskNumber::of(self.owners[finish.place()])
     }
 
     /// Whether the next event of the finish's owner is to shut it.
-    fn is_to_shut(&self, finish: u32) -> bool
+    fn is_to_shut(&self, finish: FinishNumber) -> bool
         ensures to { result ≡ shut_asked self.now finish }
         ensures place { result ≡ true → owner_in self.now finish < length self.now.tasks }
     {
         let owner = self.owner(finish);
-        if owner as usize >= self.tasks.len() {
+        if owner.place() >= self.tasks.len() {
             return false;
         }
         match self.kept_next(owner) {
-            Some(WorldEvent::Finish(f, FinishEvent::Shut)) => f == finish,
+            Some(WorldEvent::Finish(f, FinishEvent::Shut)) => f == finish.get(),
             _ => false,
         }
     }
 
     /// Whether each task in the finish has ended.
-    pub(super) fn all_ended(&self, finish: u32) -> bool
+    pub(super) fn all_ended(&self, finish: FinishNumber) -> bool
         ensures { result ≡ all_ended (finish_at self.now finish).past }
     {
-        if finish as usize >= self.finishes.len() {
+        if finish.place() >= self.finishes.len() {
             return true;
         }
-        let state = &self.finishes[finish as usize];
+        let state = &self.finishes[finish.place()];
         state.all_ended()
     }
 
     /// Shuts a finish in which all tasks have ended.
-    fn shut_in(&mut self, finish: u32) -> Result<(), Refusal>
+    fn shut_in(&mut self, finish: FinishNumber) -> Result<(), Refusal>
         ensures reply { result ≡ said (finish_at self.old finish) FinishEvent.Shut }
         ensures state { IfOk result (λ _. self.new ≡ finish_called self.old finish FinishEvent.Shut) }
         ensures place { IfOk result (λ _. finish < length self.old.outers) }
         ensures kept { IfErr result (λ _. self.new ≡ self.old) }
     {
-        if finish as usize >= self.finishes.len() {
+        if finish.place() >= self.finishes.len() {
             return Err(Refusal::NotNow);
         }
-        let state = &mut self.finishes[finish as usize];
+        let state = &mut self.finishes[finish.place()];
         state.shut()?;
         Ok(())
     }
 
     /// The shut of a finish: it has to wait for the tasks in it.
-    fn shut_due(&mut self, finish: u32) -> Result<Reply, Refusal>
+    fn shut_due(&mut self, finish: FinishNumber) -> Result<Reply, Refusal>
         ensures answer { result ≡ shut_answer self.old finish }
         ensures state { self.new ≡ shut_state self.old finish }
     {
@@ -154,13 +160,13 @@ impl Tables {
         }
         let owner = self.owner(finish);
         self.shut_in(finish)?;
-        let line = &mut self.tasks[owner as usize];
+        let line = &mut self.tasks[owner.place()];
         line.note_shut(finish, owner, &self.outers);
         Ok(Reply::Done)
     }
 
     /// The step that shuts a finish.
-    pub(super) fn step_shut(&mut self, finish: u32) -> Result<Reply, Refusal>
+    pub(super) fn step_shut(&mut self, finish: FinishNumber) -> Result<Reply, Refusal>
         ensures { IsStep (WorldEvent.Finish finish FinishEvent.Shut) self.old self.new result }
     {
         self.shut_due(finish)

@@ -12,6 +12,7 @@ use super::Tables;
 use crate::task::MOST_PHASERS;
 use phase_model::Call;
 use phase_modes::Refusal;
+use task_numbers::{PhaserNumber, TaskNumber};
 use world_model::{Reply, Step, WorldEvent};
 use world_steps::Plan;
 
@@ -69,11 +70,11 @@ impl Tables {
         if is_make(call) {
             return None;
         }
-        self.may_call(phaser, call).err()
+        self.may_call(PhaserNumber::of(phaser), call).err()
     }
 
     /// Whether the task may give up by the refusal of this number.
-    fn may_fail(&self, task: u32, number: u8) -> bool
+    fn may_fail(&self, task: TaskNumber, number: u8) -> bool
         ensures { result ≡ may_fail_by self.now task number }
     {
         match number {
@@ -89,43 +90,43 @@ impl Tables {
 
     /// Copies the numbers of the phasers on which the task is to the front of the array, and
     /// returns how many they are.
-    fn copy_phasers(&self, task: u32, numbers: &mut [u32; MOST_PHASERS]) -> usize
+    fn copy_phasers(&self, task: TaskNumber, numbers: &mut [u32; MOST_PHASERS]) -> usize
         ensures held { take result numbers.new ≡ (task_at self.now task).phasers }
         ensures few { result ≤ 16 }
     {
-        if task as usize >= self.tasks.len() {
+        if task.place() >= self.tasks.len() {
             return 0;
         }
-        let line = &self.tasks[task as usize];
+        let line = &self.tasks[task.place()];
         line.copy_phasers(numbers)
     }
 
     /// Gives up the spawn of this child.
-    fn give_up_spawn(&mut self, task: u32, child: u32, number: u8)
+    fn give_up_spawn(&mut self, task: TaskNumber, child: TaskNumber, number: u8)
         requires { task < length self.old.tasks }
         ensures { self.new ≡ spawn_failed self.old task child number }
     {
         let mut numbers = [0; MOST_PHASERS];
         let count = self.copy_phasers(child, &mut numbers);
-        let line = &mut self.tasks[task as usize];
+        let line = &mut self.tasks[task.place()];
         line.give_up_spawn(child, &numbers[..count], number);
     }
 
     /// Gives up what the task is about.
-    fn give_in(&mut self, task: u32, number: u8)
+    fn give_in(&mut self, task: TaskNumber, number: u8)
         requires { task < length self.old.tasks }
         ensures { self.new ≡ failed self.old task number }
     {
-        let line = &mut self.tasks[task as usize];
+        let line = &mut self.tasks[task.place()];
         match line.plan {
-            Plan::Spawning(child, _, _) => self.give_up_spawn(task, child, number),
+            Plan::Spawning(child, _, _) => self.give_up_spawn(task, TaskNumber::of(child), number),
             _ => line.give_up(task, number),
         }
     }
 
     #[tactic(auto, using(world_steps::proofs::FailMade::fail_within))]
     /// Gives up what the task is about, where it may by the refusal of this number.
-    fn fail(&mut self, task: u32, number: u8) -> Result<Reply, Refusal>
+    fn fail(&mut self, task: TaskNumber, number: u8) -> Result<Reply, Refusal>
         ensures answer { result ≡ done_where (may_fail_by self.old task number) }
         ensures state { self.new ≡ fail_state self.old task number }
     {
@@ -137,7 +138,7 @@ impl Tables {
     }
 
     /// The step by which a task gives up.
-    pub(super) fn step_fail(&mut self, task: u32, number: u8) -> Result<Reply, Refusal>
+    pub(super) fn step_fail(&mut self, task: TaskNumber, number: u8) -> Result<Reply, Refusal>
         ensures { IsStep (WorldEvent.Fail task number) self.old self.new result }
     {
         self.fail(task, number)

@@ -12,18 +12,19 @@ ghost use Rattle.world_steps.specs.StandsFor.{IsStep};
 use super::*;
 use phase_model::Terms;
 use phase_modes::Mode;
+use task_numbers::{PhaserNumber, TaskNumber};
 use world_model::{Reply, Step, WorldEvent};
 
 impl Tables {
     #[tactic(auto, using(world_steps::proofs::PhasersKept::some_at_all))]
     /// Whether the number is a phaser's.
-    fn is_phaser(&self, phaser: u32) -> bool
+    fn is_phaser(&self, phaser: PhaserNumber) -> bool
         ensures { result ≡ not (is_empty (story_at self.now phaser).past) }
     {
-        if phaser as usize >= self.phasers.len() {
+        if phaser.place() >= self.phasers.len() {
             return false;
         }
-        let state = &self.phasers[phaser as usize];
+        let state = &self.phasers[phaser.place()];
         state.history().len() > 0
     }
 
@@ -37,7 +38,7 @@ impl Tables {
     }
 
     /// What the making of a phaser is refused by before the phaser is asked.
-    pub(super) fn may_make(&self, phaser: u32, task: u32) -> Result<(), Refusal>
+    pub(super) fn may_make(&self, phaser: PhaserNumber, task: TaskNumber) -> Result<(), Refusal>
         ensures answer { result ≡ free_unless (first_refusal (make_conditions self.now phaser task)) }
         ensures free { IfOk result (λ _. first_refusal (make_conditions self.now phaser task) ≡ None) }
         ensures refused { IfErr result (λ r. first_refusal (make_conditions self.now phaser task) ≡ Some r) }
@@ -47,8 +48,8 @@ impl Tables {
         ensures room { IfOk result (λ _. length (task_at self.now task).phasers < 16) }
     {
         self.may_act(task, self.is_phaser(phaser), true)?;
-        let line = &self.tasks[task as usize];
-        if phaser >= self.most_phasers() {
+        let line = &self.tasks[task.place()];
+        if phaser.get() >= self.most_phasers() {
             return Err(Refusal::PhasersFull);
         }
         if !line.has_room() {
@@ -58,13 +59,19 @@ impl Tables {
     }
 
     /// Asks a phaser to be made.
-    fn make_on(&mut self, phaser: u32, task: u32, mode: Mode, terms: Terms) -> Result<(), Refusal>
+    fn make_on(
+        &mut self,
+        phaser: PhaserNumber,
+        task: TaskNumber,
+        mode: Mode,
+        terms: Terms,
+    ) -> Result<(), Refusal>
         requires { phaser < length self.old.phasers }
         ensures reply { result ≡ done_result (reply (story_at self.old phaser) (make task mode)) }
         ensures state { IfOk result (λ _. self.new ≡ phaser_made self.old phaser task mode terms) }
         ensures kept { IfErr result (λ _. self.new ≡ self.old) }
     {
-        let state = &mut self.phasers[phaser as usize];
+        let state = &mut self.phasers[phaser.place()];
         state.make_with(task, mode, terms)?;
         Ok(())
     }
@@ -72,8 +79,8 @@ impl Tables {
     /// Makes a phaser.
     fn make_phaser(
         &mut self,
-        phaser: u32,
-        task: u32,
+        phaser: PhaserNumber,
+        task: TaskNumber,
         mode: Mode,
         terms: Terms,
     ) -> Result<Reply, Refusal>
@@ -85,18 +92,18 @@ impl Tables {
         let _most = self.most_phasers();
         self.may_make(phaser, task)?;
         self.make_on(phaser, task, mode, terms)?;
-        let line = &mut self.tasks[task as usize];
+        let line = &mut self.tasks[task.place()];
         let inner = line.inner();
         line.note_making(phaser);
-        self.enclosing[phaser as usize] = inner;
+        self.enclosing[phaser.place()] = inner.get();
         Ok(Reply::Done)
     }
 
     /// The step that makes a phaser.
     pub(super) fn step_make(
         &mut self,
-        phaser: u32,
-        task: u32,
+        phaser: PhaserNumber,
+        task: TaskNumber,
         mode: Mode,
         terms: Terms,
     ) -> Result<Reply, Refusal>

@@ -11,55 +11,58 @@ use super::Tables;
 use crate::phaser::KeptPhaser;
 use crate::task::begins::enclosing_of;
 use phase_modes::{Mode, Pair, Phased, Refusal, Reg};
+use task_numbers::{FinishNumber, PhaserNumber, TaskNumber};
 use world_model::Begun;
 
 /// How the task is registered on this phaser now. A number without a phaser knows no task.
-fn registration_on(phasers: &[KeptPhaser], phaser: u32, task: u32) -> Option<Reg>
+fn registration_on(phasers: &[KeptPhaser], phaser: PhaserNumber, task: TaskNumber) -> Option<Reg>
     ensures { result ≡ registration task (past_in phasers.now phaser) }
 {
-    if phaser as usize >= phasers.len() {
+    if phaser.place() >= phasers.len() {
         return None;
     }
-    let state = &phasers[phaser as usize];
+    let state = &phasers[phaser.place()];
     state.registration(task)
 }
 
 /// Whether one of the pairs is on this phaser.
-fn is_among(pairs: &[Pair], phaser: u32) -> bool
+fn is_among(pairs: &[Pair], phaser: PhaserNumber) -> bool
     ensures { result ≡ list_any (is_on phaser) pairs.now }
 {
     let mut any = false;
     for i in 0..pairs.len() {
-        any = any || pairs[i].phaser == phaser;
+        any = any || pairs[i].phaser == phaser.get();
     }
     any
 }
 
 impl Tables {
     /// The innermost open finish of a task.
-    fn inner_of(&self, task: u32) -> u32
+    fn inner_of(&self, task: TaskNumber) -> FinishNumber
         requires { task < length self.now.tasks }
         ensures { result ≡ inner_at (task_at self.now task) }
     {
-        let line = &self.tasks[task as usize];
+        let line = &self.tasks[task.place()];
         line.inner()
     }
 
     /// What handing on the phaser of a pair is refused by, where the spawn has named others before.
-    fn may_hand(&self, task: u32, before: &[Pair], pair: Pair) -> Result<(), Refusal>
+    fn may_hand(&self, task: TaskNumber, before: &[Pair], pair: Pair) -> Result<(), Refusal>
         requires { task < length self.now.tasks }
         ensures { result ≡ free_unless (first_refusal (hand_conditions self.now task before.now pair)) }
     {
-        let Some(reg) = registration_on(&self.phasers, pair.phaser, task) else {
+        let Some(reg) = registration_on(&self.phasers, PhaserNumber::of(pair.phaser), task) else {
             return Err(Refusal::NotRegistered);
         };
         if !Mode::within(pair.mode, reg.mode) {
             return Err(Refusal::MoreThanParent);
         }
-        if enclosing_of(&self.enclosing, pair.phaser) != self.inner_of(task) {
+        if enclosing_of(&self.enclosing, PhaserNumber::of(pair.phaser)).get()
+            != self.inner_of(task).get()
+        {
             return Err(Refusal::OutsideScope);
         }
-        if is_among(before, pair.phaser) {
+        if is_among(before, PhaserNumber::of(pair.phaser)) {
             return Err(Refusal::RegisteredTwice);
         }
         Ok(())
@@ -67,7 +70,7 @@ impl Tables {
 
     #[tactic(auto, using(world_steps::proofs::Handing::pair_met))]
     /// What handing on these phasers is refused by, pair by pair.
-    fn may_hand_on(&self, task: u32, pairs: &[Pair]) -> Result<(), Refusal>
+    fn may_hand_on(&self, task: TaskNumber, pairs: &[Pair]) -> Result<(), Refusal>
         requires { task < length self.now.tasks }
         ensures { result ≡ free_unless (first_refusal (pair_conditions self.now task [] pairs.now)) }
     {
@@ -80,13 +83,13 @@ impl Tables {
     }
 
     /// Whether the number is a task's, or that of a child that was never spawned.
-    fn is_named(&self, child: u32) -> bool
+    fn is_named(&self, child: TaskNumber) -> bool
         ensures { result ≡ (task_at self.now child).is_named }
     {
-        if child as usize >= self.tasks.len() {
+        if child.place() >= self.tasks.len() {
             return false;
         }
-        let line = &self.tasks[child as usize];
+        let line = &self.tasks[child.place()];
         line.is_named()
     }
 
@@ -99,13 +102,18 @@ impl Tables {
     }
 
     /// What a spawn is refused by.
-    pub(super) fn may_spawn(&self, task: u32, child: u32, pairs: Phased) -> Result<(), Refusal>
+    pub(super) fn may_spawn(
+        &self,
+        task: TaskNumber,
+        child: TaskNumber,
+        pairs: Phased,
+    ) -> Result<(), Refusal>
         ensures answer { result ≡ free_unless (begin_refusal self.now task (Begun.Async child pairs)) }
         ensures place { IfOk result (λ _. task < length self.now.tasks) }
         ensures child { IfOk result (λ _. child < length self.now.tasks) }
     {
         self.may_act(task, self.is_named(child), true)?;
-        if child >= self.most_tasks() {
+        if child.get() >= self.most_tasks() {
             return Err(Refusal::TasksFull);
         }
         self.may_hand_on(task, pairs.as_slice())

@@ -13,6 +13,7 @@ ghost use Rattle.world_steps.specs.StandsFor.{StandsFor, end_of};
 use super::Tables;
 use crate::task::Task;
 use finish_core::FinishEvent;
+use task_numbers::{FinishNumber, PhaserNumber, TaskNumber};
 use world_model::{Condition, Step, WorldEvent};
 use world_steps::Plan;
 
@@ -45,27 +46,27 @@ impl Task {
     }
 
     /// The event with which it ends.
-    fn end(&self, own: u32) -> WorldEvent
+    fn end(&self, own: TaskNumber) -> WorldEvent
         ensures { result ≡ end_of own self.now }
     {
-        if own == 0 {
+        if own.get() == 0 {
             WorldEvent::Finish(0, FinishEvent::Shut)
         } else {
-            WorldEvent::Finish(self.home, FinishEvent::Ended(own))
+            WorldEvent::Finish(self.home, FinishEvent::Ended(own.get()))
         }
     }
 
     /// The next event of a task that comes to its end, where it drops this child first.
-    fn ending(&self, own: u32, child: u32) -> WorldEvent
+    fn ending(&self, own: TaskNumber, child: TaskNumber) -> WorldEvent
         ensures { result ≡ drop_or child (slice_get self.now.left 0)
             (drop_or own (slice_get self.now.phasers 0)
             (shut_or self.now.innermost (end_of own self.now))) }
     {
         if let Some(phaser) = self.left.first().copied() {
-            return WorldEvent::Phaser(phaser, Step::Drop(child));
+            return WorldEvent::Phaser(phaser, Step::Drop(child.get()));
         }
         if let Some(phaser) = self.phasers.first().copied() {
-            return WorldEvent::Phaser(phaser, Step::Drop(own));
+            return WorldEvent::Phaser(phaser, Step::Drop(own.get()));
         }
         match self.innermost {
             Some(finish) => WorldEvent::Finish(finish, FinishEvent::Shut),
@@ -76,41 +77,41 @@ impl Task {
 
 impl Tables {
     /// What the task is about; `None` where it hasn't been spawned.
-    pub(crate) fn condition(&self, task: u32) -> Option<Condition>
+    pub(crate) fn condition(&self, task: TaskNumber) -> Option<Condition>
         ensures { (w : List Event) → StandsFor w self.now → result ≡ condition_of task w }
     {
         self.kept_condition(task)
     }
 
-    fn kept_condition(&self, task: u32) -> Option<Condition>
+    fn kept_condition(&self, task: TaskNumber) -> Option<Condition>
         ensures { result ≡ kept_condition (task_at self.now task) }
     {
-        if task as usize >= self.tasks.len() {
+        if task.place() >= self.tasks.len() {
             return None;
         }
-        let line = &self.tasks[task as usize];
+        let line = &self.tasks[task.place()];
         line.condition()
     }
 
     /// How many turns the task has completed, those of its spawner at the spawn among them.
-    pub(crate) fn clock(&self, task: u32) -> u32
+    pub(crate) fn clock(&self, task: TaskNumber) -> u32
         ensures { (w : List Event) → StandsFor w self.now → result ≡ clock task w }
     {
         self.kept_clock(task)
     }
 
-    fn kept_clock(&self, task: u32) -> u32
+    fn kept_clock(&self, task: TaskNumber) -> u32
         ensures { result ≡ (task_at self.now task).clock }
     {
-        if task as usize >= self.tasks.len() {
+        if task.place() >= self.tasks.len() {
             return 0;
         }
-        let line = &self.tasks[task as usize];
+        let line = &self.tasks[task.place()];
         line.clock()
     }
 
     /// The event that continues the task's act, if it is in the middle of one.
-    pub(crate) fn next_event(&self, task: u32) -> Option<WorldEvent>
+    pub(crate) fn next_event(&self, task: TaskNumber) -> Option<WorldEvent>
         ensures { (w : List Event) → StandsFor w self.now → result ≡ next_event self.now.limits task w }
     {
         self.kept_next(task)
@@ -118,19 +119,19 @@ impl Tables {
 
     /// Whether the task can go on now: some event of its own would be made. It can't where it has
     /// to wait for others, and where it has ended or was never spawned.
-    pub(crate) fn able(&self, task: u32) -> bool
+    pub(crate) fn able(&self, task: TaskNumber) -> bool
         ensures { (w : List Event) → StandsFor w self.now → result ≡ is_able self.now.limits w task }
     {
         self.kept_able(task)
     }
 
-    fn kept_able(&self, task: u32) -> bool
+    fn kept_able(&self, task: TaskNumber) -> bool
         ensures { result ≡ able_at self.now task }
     {
-        if task as usize >= self.tasks.len() {
+        if task.place() >= self.tasks.len() {
             return false;
         }
-        let line = &self.tasks[task as usize];
+        let line = &self.tasks[task.place()];
         line.goes_on() && !self.waits(self.kept_next(task))
     }
 
@@ -139,77 +140,85 @@ impl Tables {
         ensures { result ≡ waits_at self.now next }
     {
         match next {
-            Some(WorldEvent::Phaser(phaser, Step::Pass(task))) => self.would_wait(phaser, task),
+            Some(WorldEvent::Phaser(phaser, Step::Pass(task))) => self.would_wait(
+                PhaserNumber::of(phaser),
+                TaskNumber::of(task),
+            ),
             Some(WorldEvent::Phaser(phaser, Step::Sig(task, number))) => {
-                self.signal_would_wait(phaser, task, number)
+                self.signal_would_wait(PhaserNumber::of(phaser), TaskNumber::of(task), number)
             }
-            Some(WorldEvent::Finish(finish, FinishEvent::Shut)) => !self.all_ended(finish),
+            Some(WorldEvent::Finish(finish, FinishEvent::Shut)) => !self.all_ended(FinishNumber::of(
+                finish,
+            )),
             _ => false,
         }
     }
 
     /// Whether a pass of the task would be answered not yet. A number without a phaser refuses it.
-    fn would_wait(&self, phaser: u32, task: u32) -> bool
+    fn would_wait(&self, phaser: PhaserNumber, task: TaskNumber) -> bool
         ensures { result ≡ would_wait (story_at self.now phaser) task }
     {
-        if phaser as usize >= self.phasers.len() {
+        if phaser.place() >= self.phasers.len() {
             return false;
         }
-        let state = &self.phasers[phaser as usize];
+        let state = &self.phasers[phaser.place()];
         state.would_wait(task)
     }
 
     /// The same of a signal with this number.
-    fn signal_would_wait(&self, phaser: u32, task: u32, number: Option<u32>) -> bool
+    fn signal_would_wait(&self, phaser: PhaserNumber, task: TaskNumber, number: Option<u32>) -> bool
         ensures { result ≡ signal_would_wait (story_at self.now phaser) task number }
     {
-        if phaser as usize >= self.phasers.len() {
+        if phaser.place() >= self.phasers.len() {
             return false;
         }
-        let state = &self.phasers[phaser as usize];
+        let state = &self.phasers[phaser.place()];
         state.signal_would_wait(task, number)
     }
 
     /// What comes where a pass is due: the single may come first.
-    fn turn_event(&self, phaser: u32, task: u32) -> WorldEvent
+    fn turn_event(&self, phaser: PhaserNumber, task: TaskNumber) -> WorldEvent
         ensures { result ≡ turn_event self.now task phaser }
     {
         if self.may_claim(phaser, task) {
-            WorldEvent::Phaser(phaser, Step::Claim(task))
+            WorldEvent::Phaser(phaser.get(), Step::Claim(task.get()))
         } else if self.may_report(phaser, task) {
-            WorldEvent::Phaser(phaser, Step::Did(task))
+            WorldEvent::Phaser(phaser.get(), Step::Did(task.get()))
         } else {
-            WorldEvent::Phaser(phaser, Step::Pass(task))
+            WorldEvent::Phaser(phaser.get(), Step::Pass(task.get()))
         }
     }
 
-    pub(crate) fn kept_next(&self, task: u32) -> Option<WorldEvent>
+    pub(crate) fn kept_next(&self, task: TaskNumber) -> Option<WorldEvent>
         ensures { result ≡ kept_next self.now task }
     {
-        if task as usize >= self.tasks.len() {
+        if task.place() >= self.tasks.len() {
             return None;
         }
-        let line = &self.tasks[task as usize];
+        let line = &self.tasks[task.place()];
         let first = line.left.first().copied();
         match line.plan {
             Plan::Idle => None,
             Plan::Signalling(number, _) => {
                 let phaser = first?;
-                Some(WorldEvent::Phaser(phaser, Step::Sig(task, number)))
+                Some(WorldEvent::Phaser(phaser, Step::Sig(task.get(), number)))
             }
             Plan::Turning => {
                 let phaser = first?;
-                Some(self.turn_event(phaser, task))
+                Some(self.turn_event(PhaserNumber::of(phaser), task))
             }
             Plan::Spawning(child, pairs, made) => Some(match pairs.get(made) {
-                Some(pair) => WorldEvent::Phaser(pair.phaser, Step::Reg(task, child, pair.mode)),
-                None => WorldEvent::Finish(line.inner(), FinishEvent::Spawned(child)),
+                Some(pair) => WorldEvent::Phaser(
+                    pair.phaser,
+                    Step::Reg(task.get(), child, pair.mode),
+                ),
+                None => WorldEvent::Finish(line.inner().get(), FinishEvent::Spawned(child)),
             }),
             Plan::Shutting => Some(match first {
-                Some(phaser) => WorldEvent::Phaser(phaser, Step::Drop(task)),
-                None => WorldEvent::Finish(line.inner(), FinishEvent::Shut),
+                Some(phaser) => WorldEvent::Phaser(phaser, Step::Drop(task.get())),
+                None => WorldEvent::Finish(line.inner().get(), FinishEvent::Shut),
             }),
-            Plan::Ending(child) => Some(line.ending(task, child)),
+            Plan::Ending(child) => Some(line.ending(task, TaskNumber::of(child))),
         }
     }
 }

@@ -9,19 +9,20 @@ ghost use Rattle.world_steps.specs.StandsFor.{IsStep};
 use super::Tables;
 use phase_model::{Call, Reply as Returned};
 use phase_modes::{Mode, Refusal};
+use task_numbers::{FinishNumber, PhaserNumber, TaskNumber};
 use world_model::{Reply, Tried, WorldEvent};
 
 impl Tables {
     #[tactic(auto, using(world_steps::proofs::CallsAsked::past_refused))]
     /// What a phaser would refuse the call by. A number without a phaser knows no task.
-    pub(super) fn may_call(&self, phaser: u32, call: Call) -> Result<(), Refusal>
+    pub(super) fn may_call(&self, phaser: PhaserNumber, call: Call) -> Result<(), Refusal>
         requires { is_make call ≡ true → phaser < length self.now.phasers }
         ensures { result ≡ free_unless (phaser_refusal self.now phaser call) }
     {
-        if phaser as usize >= self.phasers.len() {
+        if phaser.place() >= self.phasers.len() {
             return Err(Refusal::NotRegistered);
         }
-        let state = &self.phasers[phaser as usize];
+        let state = &self.phasers[phaser.place()];
         match state.reply_to(call) {
             Returned::Refused(refusal) => Err(refusal),
             _ => Ok(()),
@@ -29,7 +30,12 @@ impl Tables {
     }
 
     /// What an act is refused by that asks this of a phaser, and makes none.
-    fn may_try_call(&self, phaser: u32, task: u32, call: Call) -> Result<(), Refusal>
+    fn may_try_call(
+        &self,
+        phaser: PhaserNumber,
+        task: TaskNumber,
+        call: Call,
+    ) -> Result<(), Refusal>
         requires { is_make call ≡ true → phaser < length self.now.phasers }
         ensures { result ≡ free_unless (call_refusal self.now task phaser call) }
     {
@@ -38,36 +44,41 @@ impl Tables {
     }
 
     /// What the making of a phaser is refused by.
-    fn may_try_make(&self, phaser: u32, task: u32, mode: Mode) -> Result<(), Refusal>
+    fn may_try_make(
+        &self,
+        phaser: PhaserNumber,
+        task: TaskNumber,
+        mode: Mode,
+    ) -> Result<(), Refusal>
         ensures { result ≡ free_unless (make_refusal self.now task phaser mode) }
     {
         self.may_make(phaser, task)?;
-        self.may_call(phaser, Call::Make(task, mode))
+        self.may_call(phaser, Call::Make(task.get(), mode))
     }
 
     /// What the act is refused by.
-    fn may_try(&self, task: u32, tried: &Tried) -> Result<(), Refusal>
+    fn may_try(&self, task: TaskNumber, tried: &Tried) -> Result<(), Refusal>
         ensures { result ≡ free_unless (act_refusal self.now task tried.now) }
     {
         match *tried {
             Tried::Begun(begun) => self.may_begin(task, &begun),
-            Tried::New(phaser, mode, _) => self.may_try_make(phaser, task, mode),
-            Tried::Open(finish) => self.may_open(finish, task),
+            Tried::New(phaser, mode, _) => self.may_try_make(PhaserNumber::of(phaser), task, mode),
+            Tried::Open(finish) => self.may_open(FinishNumber::of(finish), task),
             Tried::Send(phaser, accumulator, value) => self.may_try_call(
-                phaser,
+                PhaserNumber::of(phaser),
                 task,
-                Call::Send(task, accumulator, value),
+                Call::Send(task.get(), accumulator, value),
             ),
             Tried::Look(phaser, accumulator) => self.may_try_call(
-                phaser,
+                PhaserNumber::of(phaser),
                 task,
-                Call::Look(task, accumulator),
+                Call::Look(task.get(), accumulator),
             ),
         }
     }
 
     /// Ends the task by the refusal of this number, where it may be noted.
-    fn give_up(&mut self, task: u32, noted: bool, number: u8) -> Result<Reply, Refusal>
+    fn give_up(&mut self, task: TaskNumber, noted: bool, number: u8) -> Result<Reply, Refusal>
         requires { noted ≡ true → task < length self.old.tasks }
         ensures answer { result ≡ done_where noted }
         ensures state { self.new ≡ refuse_state self.old task number noted }
@@ -75,14 +86,14 @@ impl Tables {
         if !noted {
             return Err(Refusal::NotNow);
         }
-        let line = &mut self.tasks[task as usize];
+        let line = &mut self.tasks[task.place()];
         line.give_up(task, number);
         Ok(Reply::Done)
     }
 
     #[tactic(auto, using(world_steps::proofs::RefuseMade::noted_within))]
     /// Notes that the act is refused by this number.
-    fn refuse(&mut self, task: u32, tried: Tried, number: u8) -> Result<Reply, Refusal>
+    fn refuse(&mut self, task: TaskNumber, tried: Tried, number: u8) -> Result<Reply, Refusal>
         ensures answer { result ≡ done_where (refuse_noted self.old task tried number) }
         ensures state { self.new
             ≡ refuse_state self.old task number (refuse_noted self.old task tried number) }
@@ -95,7 +106,7 @@ impl Tables {
     /// The step that notes that an act is refused.
     pub(super) fn step_refuse(
         &mut self,
-        task: u32,
+        task: TaskNumber,
         tried: Tried,
         number: u8,
     ) -> Result<Reply, Refusal>

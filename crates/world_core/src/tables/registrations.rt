@@ -9,38 +9,45 @@ ghost use Rattle.world_steps.specs.StandsFor.{IsStep};
 
 use super::*;
 use phase_modes::Mode;
+use task_numbers::{PhaserNumber, TaskNumber};
 use world_model::{Reply, Step, WorldEvent};
 
 impl Tables {
     /// Whether the parent's next event is to register the child on the phaser in the mode.
-    fn is_to_register(&self, phaser: u32, parent: u32, child: u32, mode: Mode) -> bool
+    fn is_to_register(
+        &self,
+        phaser: PhaserNumber,
+        parent: TaskNumber,
+        child: TaskNumber,
+        mode: Mode,
+    ) -> bool
         ensures to { result ≡ is_to_register (task_at self.now parent) phaser child mode }
         ensures place { result ≡ true → parent < length self.now.tasks }
     {
-        if parent as usize >= self.tasks.len() {
+        if parent.place() >= self.tasks.len() {
             return false;
         }
-        let line = &self.tasks[parent as usize];
+        let line = &self.tasks[parent.place()];
         line.is_to_register(phaser, child, mode)
     }
 
     /// Whether the task has a line, and room for another phaser in it.
-    fn has_place(&self, task: u32) -> bool
+    fn has_place(&self, task: TaskNumber) -> bool
         ensures { result ≡ has_place self.now task }
     {
-        if task as usize >= self.tasks.len() {
+        if task.place() >= self.tasks.len() {
             return false;
         }
-        let line = &self.tasks[task as usize];
+        let line = &self.tasks[task.place()];
         line.has_room()
     }
 
     /// Registers a child on a phaser. A number without a phaser knows no task.
     fn register_on(
         &mut self,
-        phaser: u32,
-        parent: u32,
-        child: u32,
+        phaser: PhaserNumber,
+        parent: TaskNumber,
+        child: TaskNumber,
         mode: Mode,
     ) -> Result<(), Refusal>
         ensures reply { result ≡ done_result (reply (story_at self.old phaser) (register parent child mode)) }
@@ -49,10 +56,10 @@ impl Tables {
         ensures place { IfOk result (λ _. phaser < length self.old.phasers) }
         ensures kept { IfErr result (λ _. self.new ≡ self.old) }
     {
-        if phaser as usize >= self.phasers.len() {
+        if phaser.place() >= self.phasers.len() {
             return Err(Refusal::NotRegistered);
         }
-        let state = &mut self.phasers[phaser as usize];
+        let state = &mut self.phasers[phaser.place()];
         state.register(parent, child, mode)?;
         Ok(())
     }
@@ -60,9 +67,9 @@ impl Tables {
     /// A registration of a spawn under way.
     fn register_child(
         &mut self,
-        phaser: u32,
-        parent: u32,
-        child: u32,
+        phaser: PhaserNumber,
+        parent: TaskNumber,
+        child: TaskNumber,
         mode: Mode,
     ) -> Result<Reply, Refusal>
         ensures answer { result ≡ register_answer self.old phaser parent child mode }
@@ -72,9 +79,9 @@ impl Tables {
             return Err(Refusal::NotNow);
         }
         self.register_on(phaser, parent, child, mode)?;
-        let joined = &mut self.tasks[child as usize];
+        let joined = &mut self.tasks[child.place()];
         joined.note_joining(phaser);
-        let line = &mut self.tasks[parent as usize];
+        let line = &mut self.tasks[parent.place()];
         line.note_registration();
         Ok(Reply::Done)
     }
@@ -82,9 +89,9 @@ impl Tables {
     /// The step that registers a child.
     pub(super) fn step_register(
         &mut self,
-        phaser: u32,
-        parent: u32,
-        child: u32,
+        phaser: PhaserNumber,
+        parent: TaskNumber,
+        child: TaskNumber,
         mode: Mode,
     ) -> Result<Reply, Refusal>
         ensures { IsStep (WorldEvent.Phaser phaser (Step.Reg parent child mode)) self.old self.new result }

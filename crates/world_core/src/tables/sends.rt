@@ -11,6 +11,7 @@ ghost use Rattle.world_steps.specs.StandsFor.{IsStep};
 use super::Tables;
 use phase_model::Look;
 use phase_modes::Refusal;
+use task_numbers::{PhaserNumber, TaskNumber};
 use world_model::{Reply, Step, WorldEvent};
 
 impl Tables {
@@ -18,8 +19,8 @@ impl Tables {
     /// task.
     fn send_on(
         &mut self,
-        phaser: u32,
-        task: u32,
+        phaser: PhaserNumber,
+        task: TaskNumber,
         accumulator: u8,
         value: i32,
     ) -> Result<(), Refusal>
@@ -29,24 +30,29 @@ impl Tables {
             ≡ phaser_called self.old phaser (send task accumulator value)) }
         ensures kept { IfErr result (λ _. self.new ≡ self.old) }
     {
-        if phaser as usize >= self.phasers.len() {
+        if phaser.place() >= self.phasers.len() {
             return Err(Refusal::NotRegistered);
         }
-        let state = &mut self.phasers[phaser as usize];
+        let state = &mut self.phasers[phaser.place()];
         state.send(task, accumulator, value)?;
         Ok(())
     }
 
     /// Looks at an accumulator of a phaser for a task. A number without a phaser knows no task.
-    fn look_on(&mut self, phaser: u32, task: u32, accumulator: u8) -> Result<Look, Refusal>
+    fn look_on(
+        &mut self,
+        phaser: PhaserNumber,
+        task: TaskNumber,
+        accumulator: u8,
+    ) -> Result<Look, Refusal>
         ensures reply { result ≡ look_result (reply (story_at self.old phaser) (look task accumulator)) }
         ensures state { IfOk result (λ _. self.new ≡ phaser_called self.old phaser (look task accumulator)) }
         ensures kept { IfErr result (λ _. self.new ≡ self.old) }
     {
-        if phaser as usize >= self.phasers.len() {
+        if phaser.place() >= self.phasers.len() {
             return Err(Refusal::NotRegistered);
         }
-        let state = &mut self.phasers[phaser as usize];
+        let state = &mut self.phasers[phaser.place()];
         let seen = state.look(task, accumulator)?;
         Ok(seen)
     }
@@ -54,8 +60,8 @@ impl Tables {
     /// Sends a value.
     fn send_value(
         &mut self,
-        phaser: u32,
-        task: u32,
+        phaser: PhaserNumber,
+        task: TaskNumber,
         accumulator: u8,
         value: i32,
     ) -> Result<Reply, Refusal>
@@ -64,19 +70,24 @@ impl Tables {
     {
         self.may_act(task, false, true)?;
         self.send_on(phaser, task, accumulator, value)?;
-        let line = &mut self.tasks[task as usize];
+        let line = &mut self.tasks[task.place()];
         line.note_act();
         Ok(Reply::Done)
     }
 
     /// Looks at a value.
-    fn look_at(&mut self, phaser: u32, task: u32, accumulator: u8) -> Result<Reply, Refusal>
+    fn look_at(
+        &mut self,
+        phaser: PhaserNumber,
+        task: TaskNumber,
+        accumulator: u8,
+    ) -> Result<Reply, Refusal>
         ensures answer { result ≡ look_answer self.old phaser task accumulator }
         ensures state { self.new ≡ look_state self.old phaser task accumulator }
     {
         self.may_act(task, false, true)?;
         let seen = self.look_on(phaser, task, accumulator)?;
-        let line = &mut self.tasks[task as usize];
+        let line = &mut self.tasks[task.place()];
         line.note_act();
         Ok(Reply::Value(seen))
     }
@@ -84,8 +95,8 @@ impl Tables {
     /// The step that sends a value.
     pub(super) fn step_send(
         &mut self,
-        phaser: u32,
-        task: u32,
+        phaser: PhaserNumber,
+        task: TaskNumber,
         accumulator: u8,
         value: i32,
     ) -> Result<Reply, Refusal>
@@ -98,8 +109,8 @@ impl Tables {
     /// The step that looks at a value.
     pub(super) fn step_look(
         &mut self,
-        phaser: u32,
-        task: u32,
+        phaser: PhaserNumber,
+        task: TaskNumber,
         accumulator: u8,
     ) -> Result<Reply, Refusal>
         ensures { IsStep (WorldEvent.Phaser phaser (Step.Look task accumulator)) self.old self.new result }

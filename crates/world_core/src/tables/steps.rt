@@ -7,6 +7,7 @@ ghost use Rattle.trace_model.specs.Views.{long_event, short_step, viewed};
 use super::Tables;
 use finish_core::FinishEvent;
 use phase_modes::Refusal;
+use task_numbers::{FinishNumber, PhaserNumber, TaskNumber};
 use trace_model::{EventView, LongEvent, ShortStep};
 use world_model::{Begun, Reply, Step, WorldEvent};
 
@@ -16,11 +17,15 @@ impl Tables {
         ensures { IsStep event.now self.old self.new result }
     {
         match *event {
-            WorldEvent::Phaser(phaser, step) => self.step_on_phaser(phaser, step),
-            WorldEvent::Finish(finish, step) => self.step_in_finish(finish, step),
-            WorldEvent::Begin(task, begun) => self.step_begin(task, begun),
-            WorldEvent::Refuse(task, tried, number) => self.step_refuse(task, tried, number),
-            WorldEvent::Fail(task, number) => self.step_fail(task, number),
+            WorldEvent::Phaser(phaser, step) => self.step_on_phaser(PhaserNumber::of(phaser), step),
+            WorldEvent::Finish(finish, step) => self.step_in_finish(FinishNumber::of(finish), step),
+            WorldEvent::Begin(task, begun) => self.step_begin(TaskNumber::of(task), begun),
+            WorldEvent::Refuse(task, tried, number) => self.step_refuse(
+                TaskNumber::of(task),
+                tried,
+                number,
+            ),
+            WorldEvent::Fail(task, number) => self.step_fail(TaskNumber::of(task), number),
         }
     }
 
@@ -30,10 +35,10 @@ impl Tables {
         ensures { IsStep (event_of (viewed event.entry)) self.old self.new result }
     {
         match event {
-            EventView::Phaser(phaser, step) => self.step_short(phaser, step),
-            EventView::Finish(finish, step) => self.step_in_finish(finish, step),
-            EventView::Begin(task, act) => self.step_begin(task, act.act()),
-            EventView::Fail(task, number) => self.step_fail(task, number),
+            EventView::Phaser(phaser, step) => self.step_short(PhaserNumber::of(phaser), step),
+            EventView::Finish(finish, step) => self.step_in_finish(FinishNumber::of(finish), step),
+            EventView::Begin(task, act) => self.step_begin(TaskNumber::of(task), act.act()),
+            EventView::Fail(task, number) => self.step_fail(TaskNumber::of(task), number),
             EventView::Long(event) => self.step_long(event),
         }
     }
@@ -43,58 +48,94 @@ impl Tables {
         ensures { IsStep (event_of (long_event event.now)) self.old self.new result }
     {
         match *event {
-            LongEvent::Make(phaser, task, mode, terms) => self.step_make(phaser, task, mode, terms),
+            LongEvent::Make(phaser, task, mode, terms) => self.step_make(
+                PhaserNumber::of(phaser),
+                TaskNumber::of(task),
+                mode,
+                terms,
+            ),
             LongEvent::Async(task, child, pairs) => {
-                self.step_begin(task, Begun::Async(child, pairs))
+                self.step_begin(TaskNumber::of(task), Begun::Async(child, pairs))
             }
-            LongEvent::Refuse(task, tried, number) => self.step_refuse(task, tried, number),
+            LongEvent::Refuse(task, tried, number) => self.step_refuse(
+                TaskNumber::of(task),
+                tried,
+                number,
+            ),
         }
     }
 
     /// A short step, handed on as it is kept: a step made of it would be taken apart again.
-    fn step_short(&mut self, phaser: u32, step: ShortStep) -> Result<Reply, Refusal>
+    fn step_short(&mut self, phaser: PhaserNumber, step: ShortStep) -> Result<Reply, Refusal>
         ensures { IsStep (WorldEvent.Phaser phaser (step_of (short_step step))) self.old self.new result }
     {
         match step {
-            ShortStep::Reg(parent, child, mode) => self.step_register(phaser, parent, child, mode),
-            ShortStep::Sig(task, number) => self.step_signal(phaser, task, number),
-            ShortStep::Claim(task) => self.step_claim(phaser, task),
-            ShortStep::Did(task) => self.step_report(phaser, task),
-            ShortStep::Pass(task) => self.step_pass(phaser, task),
+            ShortStep::Reg(parent, child, mode) => self.step_register(
+                phaser,
+                TaskNumber::of(parent),
+                TaskNumber::of(child),
+                mode,
+            ),
+            ShortStep::Sig(task, number) => self.step_signal(phaser, TaskNumber::of(task), number),
+            ShortStep::Claim(task) => self.step_claim(phaser, TaskNumber::of(task)),
+            ShortStep::Did(task) => self.step_report(phaser, TaskNumber::of(task)),
+            ShortStep::Pass(task) => self.step_pass(phaser, TaskNumber::of(task)),
             ShortStep::Send(task, accumulator, value) => {
-                self.step_send(phaser, task, accumulator, value)
+                self.step_send(phaser, TaskNumber::of(task), accumulator, value)
             }
-            ShortStep::Saw(accumulator, task, _) => self.step_look(phaser, task, accumulator),
-            ShortStep::SawNothing(task, accumulator) => self.step_look(phaser, task, accumulator),
-            ShortStep::Drop(task) => self.step_drop(phaser, task),
+            ShortStep::Saw(accumulator, task, _) => self.step_look(
+                phaser,
+                TaskNumber::of(task),
+                accumulator,
+            ),
+            ShortStep::SawNothing(task, accumulator) => self.step_look(
+                phaser,
+                TaskNumber::of(task),
+                accumulator,
+            ),
+            ShortStep::Drop(task) => self.step_drop(phaser, TaskNumber::of(task)),
         }
     }
 
-    fn step_on_phaser(&mut self, phaser: u32, step: Step) -> Result<Reply, Refusal>
+    fn step_on_phaser(&mut self, phaser: PhaserNumber, step: Step) -> Result<Reply, Refusal>
         ensures { IsStep (WorldEvent.Phaser phaser step) self.old self.new result }
     {
         match step {
-            Step::Make(task, mode, terms) => self.step_make(phaser, task, mode, terms),
-            Step::Reg(parent, child, mode) => self.step_register(phaser, parent, child, mode),
-            Step::Sig(task, number) => self.step_signal(phaser, task, number),
-            Step::Claim(task) => self.step_claim(phaser, task),
-            Step::Did(task) => self.step_report(phaser, task),
-            Step::Pass(task) => self.step_pass(phaser, task),
+            Step::Make(task, mode, terms) => self.step_make(
+                phaser,
+                TaskNumber::of(task),
+                mode,
+                terms,
+            ),
+            Step::Reg(parent, child, mode) => self.step_register(
+                phaser,
+                TaskNumber::of(parent),
+                TaskNumber::of(child),
+                mode,
+            ),
+            Step::Sig(task, number) => self.step_signal(phaser, TaskNumber::of(task), number),
+            Step::Claim(task) => self.step_claim(phaser, TaskNumber::of(task)),
+            Step::Did(task) => self.step_report(phaser, TaskNumber::of(task)),
+            Step::Pass(task) => self.step_pass(phaser, TaskNumber::of(task)),
             Step::Send(task, accumulator, value) => {
-                self.step_send(phaser, task, accumulator, value)
+                self.step_send(phaser, TaskNumber::of(task), accumulator, value)
             }
-            Step::Look(task, accumulator) => self.step_look(phaser, task, accumulator),
-            Step::Drop(task) => self.step_drop(phaser, task),
+            Step::Look(task, accumulator) => self.step_look(
+                phaser,
+                TaskNumber::of(task),
+                accumulator,
+            ),
+            Step::Drop(task) => self.step_drop(phaser, TaskNumber::of(task)),
         }
     }
 
-    fn step_in_finish(&mut self, finish: u32, step: FinishEvent) -> Result<Reply, Refusal>
+    fn step_in_finish(&mut self, finish: FinishNumber, step: FinishEvent) -> Result<Reply, Refusal>
         ensures { IsStep (WorldEvent.Finish finish step) self.old self.new result }
     {
         match step {
-            FinishEvent::Opened(task) => self.step_open(finish, task),
-            FinishEvent::Spawned(child) => self.step_spawn(finish, child),
-            FinishEvent::Ended(task) => self.step_end(finish, task),
+            FinishEvent::Opened(task) => self.step_open(finish, TaskNumber::of(task)),
+            FinishEvent::Spawned(child) => self.step_spawn(finish, TaskNumber::of(child)),
+            FinishEvent::Ended(task) => self.step_end(finish, TaskNumber::of(task)),
             FinishEvent::Shut => self.step_shut(finish),
         }
     }

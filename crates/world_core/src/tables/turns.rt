@@ -9,14 +9,15 @@ ghost use Rattle.world_steps.specs.StandsFor.{IsStep};
 use super::Tables;
 use phase_modes::Refusal;
 use phaser_core::{Passing, Signalling};
+use task_numbers::{PhaserNumber, TaskNumber};
 use world_model::{Reply, Step, WorldEvent};
 
 impl Tables {
     /// Asks to signal on a phaser for a task. A number without a phaser knows no task.
     fn signal_on(
         &mut self,
-        phaser: u32,
-        task: u32,
+        phaser: PhaserNumber,
+        task: TaskNumber,
         number: Option<u32>,
     ) -> Result<Signalling, Refusal>
         ensures reply { result ≡ signalled_on self.old phaser task number }
@@ -24,28 +25,33 @@ impl Tables {
         ensures place { IfOk result (λ _. phaser < length self.old.phasers) }
         ensures kept { IfErr result (λ _. self.new ≡ self.old) }
     {
-        if phaser as usize >= self.phasers.len() {
+        if phaser.place() >= self.phasers.len() {
             return Err(Refusal::NotRegistered);
         }
-        let state = &mut self.phasers[phaser as usize];
+        let state = &mut self.phasers[phaser.place()];
         let signalling = state.signal(task, number)?;
         Ok(signalling)
     }
 
     /// Whether the task's next event is to signal with this number on this phaser.
-    fn is_to_signal(&self, phaser: u32, task: u32, number: Option<u32>) -> bool
+    fn is_to_signal(&self, phaser: PhaserNumber, task: TaskNumber, number: Option<u32>) -> bool
         ensures to { result ≡ is_to_signal (task_at self.now task) phaser number }
         ensures place { result ≡ true → task < length self.now.tasks }
     {
-        if task as usize >= self.tasks.len() {
+        if task.place() >= self.tasks.len() {
             return false;
         }
-        let line = &self.tasks[task as usize];
+        let line = &self.tasks[task.place()];
         line.is_to_signal(phaser, number)
     }
 
     /// A signal of an act under way.
-    fn signal_due(&mut self, phaser: u32, task: u32, number: Option<u32>) -> Result<Reply, Refusal>
+    fn signal_due(
+        &mut self,
+        phaser: PhaserNumber,
+        task: TaskNumber,
+        number: Option<u32>,
+    ) -> Result<Reply, Refusal>
         ensures answer { result ≡ signal_answer self.old phaser task number }
         ensures state { self.new ≡ signal_state self.old phaser task number }
     {
@@ -54,7 +60,7 @@ impl Tables {
         }
         match self.signal_on(phaser, task, number)? {
             Signalling::Signalled => {
-                let line = &mut self.tasks[task as usize];
+                let line = &mut self.tasks[task.place()];
                 line.note_signal();
                 Ok(Reply::Done)
             }
@@ -65,8 +71,8 @@ impl Tables {
     /// The step that makes a signal of an act under way.
     pub(super) fn step_signal(
         &mut self,
-        phaser: u32,
-        task: u32,
+        phaser: PhaserNumber,
+        task: TaskNumber,
         number: Option<u32>,
     ) -> Result<Reply, Refusal>
         ensures { IsStep (WorldEvent.Phaser phaser (Step.Sig task number)) self.old self.new result }
@@ -75,56 +81,56 @@ impl Tables {
     }
 
     /// Passes a phaser for a task, or claims its single.
-    fn pass_on(&mut self, phaser: u32, task: u32) -> Result<Passing, Refusal>
+    fn pass_on(&mut self, phaser: PhaserNumber, task: TaskNumber) -> Result<Passing, Refusal>
         ensures reply { result ≡ passed_on self.old phaser task }
         ensures state { IfOk result (λ _. self.new ≡ phaser_called self.old phaser (pass task)) }
         ensures place { IfOk result (λ _. phaser < length self.old.phasers) }
         ensures kept { IfErr result (λ _. self.new ≡ self.old) }
     {
-        if phaser as usize >= self.phasers.len() {
+        if phaser.place() >= self.phasers.len() {
             return Err(Refusal::NotRegistered);
         }
-        let state = &mut self.phasers[phaser as usize];
+        let state = &mut self.phasers[phaser.place()];
         let passing = state.pass(task)?;
         Ok(passing)
     }
 
     /// Whether the task may claim the single of a phaser.
-    pub(super) fn may_claim(&self, phaser: u32, task: u32) -> bool
+    pub(super) fn may_claim(&self, phaser: PhaserNumber, task: TaskNumber) -> bool
         ensures { result ≡ may_claim (story_at self.now phaser) task }
     {
-        if phaser as usize >= self.phasers.len() {
+        if phaser.place() >= self.phasers.len() {
             return false;
         }
-        let state = &self.phasers[phaser as usize];
+        let state = &self.phasers[phaser.place()];
         state.may_claim(task)
     }
 
     /// Whether the task may report the single of a phaser done.
-    pub(super) fn may_report(&self, phaser: u32, task: u32) -> bool
+    pub(super) fn may_report(&self, phaser: PhaserNumber, task: TaskNumber) -> bool
         ensures { result ≡ may_report (story_at self.now phaser) task }
     {
-        if phaser as usize >= self.phasers.len() {
+        if phaser.place() >= self.phasers.len() {
             return false;
         }
-        let state = &self.phasers[phaser as usize];
+        let state = &self.phasers[phaser.place()];
         state.may_report(task)
     }
 
     /// Whether the task's next event is to pass this phaser, the single aside.
-    fn is_to_pass(&self, phaser: u32, task: u32) -> bool
+    fn is_to_pass(&self, phaser: PhaserNumber, task: TaskNumber) -> bool
         ensures to { result ≡ is_to_pass (task_at self.now task) phaser }
         ensures place { result ≡ true → task < length self.now.tasks }
     {
-        if task as usize >= self.tasks.len() {
+        if task.place() >= self.tasks.len() {
             return false;
         }
-        let line = &self.tasks[task as usize];
+        let line = &self.tasks[task.place()];
         line.is_to_pass(phaser)
     }
 
     /// A pass of an act under way.
-    fn pass_due(&mut self, phaser: u32, task: u32) -> Result<Reply, Refusal>
+    fn pass_due(&mut self, phaser: PhaserNumber, task: TaskNumber) -> Result<Reply, Refusal>
         ensures answer { result ≡ pass_answer self.old phaser task }
         ensures state { self.new ≡ pass_state self.old phaser task }
     {
@@ -136,7 +142,7 @@ impl Tables {
         }
         match self.pass_on(phaser, task)? {
             Passing::Passed(phase) => {
-                let line = &mut self.tasks[task as usize];
+                let line = &mut self.tasks[task.place()];
                 line.note_pass();
                 Ok(Reply::Phase(phase))
             }
@@ -146,28 +152,32 @@ impl Tables {
     }
 
     /// The step that makes a pass of an act under way.
-    pub(super) fn step_pass(&mut self, phaser: u32, task: u32) -> Result<Reply, Refusal>
+    pub(super) fn step_pass(
+        &mut self,
+        phaser: PhaserNumber,
+        task: TaskNumber,
+    ) -> Result<Reply, Refusal>
         ensures { IsStep (WorldEvent.Phaser phaser (Step.Pass task)) self.old self.new result }
     {
         self.pass_due(phaser, task)
     }
 
     /// Reports the single of a phaser done for a task.
-    fn report_on(&mut self, phaser: u32, task: u32) -> Result<(), Refusal>
+    fn report_on(&mut self, phaser: PhaserNumber, task: TaskNumber) -> Result<(), Refusal>
         ensures reply { result ≡ done_result (reply (story_at self.old phaser) (single_done task)) }
         ensures state { IfOk result (λ _. self.new ≡ phaser_called self.old phaser (single_done task)) }
         ensures kept { IfErr result (λ _. self.new ≡ self.old) }
     {
-        if phaser as usize >= self.phasers.len() {
+        if phaser.place() >= self.phasers.len() {
             return Err(Refusal::NotRegistered);
         }
-        let state = &mut self.phasers[phaser as usize];
+        let state = &mut self.phasers[phaser.place()];
         state.single_done(task)?;
         Ok(())
     }
 
     /// A claim in a turn under way.
-    fn claim_due(&mut self, phaser: u32, task: u32) -> Result<Reply, Refusal>
+    fn claim_due(&mut self, phaser: PhaserNumber, task: TaskNumber) -> Result<Reply, Refusal>
         ensures answer { result ≡ claim_answer self.old phaser task }
         ensures state { self.new ≡ claim_state self.old phaser task }
     {
@@ -182,7 +192,7 @@ impl Tables {
     }
 
     /// A report in a turn under way.
-    fn report_due(&mut self, phaser: u32, task: u32) -> Result<Reply, Refusal>
+    fn report_due(&mut self, phaser: PhaserNumber, task: TaskNumber) -> Result<Reply, Refusal>
         ensures answer { result ≡ report_answer self.old phaser task }
         ensures state { self.new ≡ report_state self.old phaser task }
     {
@@ -197,14 +207,22 @@ impl Tables {
     }
 
     /// The step that claims a single in a turn under way.
-    pub(super) fn step_claim(&mut self, phaser: u32, task: u32) -> Result<Reply, Refusal>
+    pub(super) fn step_claim(
+        &mut self,
+        phaser: PhaserNumber,
+        task: TaskNumber,
+    ) -> Result<Reply, Refusal>
         ensures { IsStep (WorldEvent.Phaser phaser (Step.Claim task)) self.old self.new result }
     {
         self.claim_due(phaser, task)
     }
 
     /// The step that reports a single done in a turn under way.
-    pub(super) fn step_report(&mut self, phaser: u32, task: u32) -> Result<Reply, Refusal>
+    pub(super) fn step_report(
+        &mut self,
+        phaser: PhaserNumber,
+        task: TaskNumber,
+    ) -> Result<Reply, Refusal>
         ensures { IsStep (WorldEvent.Phaser phaser (Step.Did task)) self.old self.new result }
     {
         self.report_due(phaser, task)

@@ -14,6 +14,7 @@ use crate::phaser::KeptPhaser;
 use crate::task::Task;
 use finish_core::FinishState;
 use phase_modes::{Mode, Pair, Phased};
+use task_numbers::{PhaserNumber, TaskNumber};
 
 /// The least numbers of each kind that aren't in use; where all are, the limit itself, under which
 /// an act that names it is refused.
@@ -27,19 +28,19 @@ pub struct Unused {
 impl Tables {
     /// All phasers of the task, in the order in which it came to them, each in its own mode: what a
     /// spawn names that hands them all on.
-    pub(crate) fn own_pairs(&self, task: u32) -> Phased
+    pub(crate) fn own_pairs(&self, task: TaskNumber) -> Phased
         ensures { (w : List Event) → StandsFor w self.now → result ≡ own_pairs task w }
     {
         self.kept_pairs(task)
     }
 
-    fn kept_pairs(&self, task: u32) -> Phased
+    fn kept_pairs(&self, task: TaskNumber) -> Phased
         ensures { result ≡ pairs_at self.now task }
     {
-        if task as usize >= self.tasks.len() {
+        if task.place() >= self.tasks.len() {
             return Phased::none();
         }
-        let line = &self.tasks[task as usize];
+        let line = &self.tasks[task.place()];
         line.pairs(task, &self.phasers)
     }
 
@@ -83,7 +84,7 @@ impl Tables {
 
 impl Task {
     /// Its phasers, each in its own mode.
-    fn pairs(&self, own: u32, phasers: &[KeptPhaser]) -> Phased
+    fn pairs(&self, own: TaskNumber, phasers: &[KeptPhaser]) -> Phased
         ensures { result ≡ map (λ n. record { phaser = n; mode = mode_at own (past_in phasers.now n) })
             self.now.phasers }
     {
@@ -92,7 +93,7 @@ impl Task {
 }
 
 /// The numbers, each with the task's mode on its phaser.
-fn list_pairs(own: &[u32], phasers: &[KeptPhaser], task: u32) -> Phased
+fn list_pairs(own: &[u32], phasers: &[KeptPhaser], task: TaskNumber) -> Phased
     requires { length own.now ≤ 16 }
     ensures { result ≡ map (λ n. record { phaser = n; mode = mode_at task (past_in phasers.now n) }) own.now }
 {
@@ -100,7 +101,7 @@ fn list_pairs(own: &[u32], phasers: &[KeptPhaser], task: u32) -> Phased
     for i in 0..own.len() {
         pairs.push(Pair {
             phaser: own[i],
-            mode: mode_on(phasers, own[i], task),
+            mode: mode_on(phasers, PhaserNumber::of(own[i]), task),
         });
     }
     pairs
@@ -108,13 +109,13 @@ fn list_pairs(own: &[u32], phasers: &[KeptPhaser], task: u32) -> Phased
 
 /// The task's mode on this phaser.
 /// On a number without a phaser it has none, and is read as a waiter.
-fn mode_on(phasers: &[KeptPhaser], phaser: u32, task: u32) -> Mode
+fn mode_on(phasers: &[KeptPhaser], phaser: PhaserNumber, task: TaskNumber) -> Mode
     ensures { result ≡ mode_at task (past_in phasers.now phaser) }
 {
-    if phaser as usize >= phasers.len() {
+    if phaser.place() >= phasers.len() {
         return Mode::Wait;
     }
-    let state = &phasers[phaser as usize];
+    let state = &phasers[phaser.place()];
     match state.registration(task) {
         Some(reg) => reg.mode,
         None => Mode::Wait,

@@ -9,25 +9,26 @@ ghost use Rattle.world_steps.specs.inner.Begins.{leads, has_single, counted, sig
 use super::{Task, is_owed};
 use crate::phaser::KeptPhaser;
 use phase_modes::Phased;
+use task_numbers::{FinishNumber, PhaserNumber, TaskNumber};
 use world_steps::Plan;
 
 impl Task {
     /// Whether it has signalled on one of its phasers since its last turn there.
-    pub(crate) fn leads_anywhere(&self, task: u32, phasers: &[KeptPhaser]) -> bool
+    pub(crate) fn leads_anywhere(&self, task: TaskNumber, phasers: &[KeptPhaser]) -> bool
         ensures { result ≡ list_any (λ n. leads task (past_in phasers.now n)) self.now.phasers }
     {
         any_leading(&self.phasers, phasers, task)
     }
 
     /// Whether it owes a signal on one of its phasers.
-    pub(crate) fn owes_anywhere(&self, task: u32, phasers: &[KeptPhaser]) -> bool
+    pub(crate) fn owes_anywhere(&self, task: TaskNumber, phasers: &[KeptPhaser]) -> bool
         ensures { result ≡ list_any (λ n. owes task (past_in phasers.now n)) self.now.phasers }
     {
         any_owed(&self.phasers, phasers, task)
     }
 
     /// Whether it may propose no single on one of its phasers.
-    pub(crate) fn lacks_single(&self, task: u32, phasers: &[KeptPhaser]) -> bool
+    pub(crate) fn lacks_single(&self, task: TaskNumber, phasers: &[KeptPhaser]) -> bool
         ensures { result ≡ list_any (λ n. not (has_single task (past_in phasers.now n))) self.now.phasers }
     {
         any_without_single(&self.phasers, phasers, task)
@@ -83,19 +84,19 @@ impl Task {
     }
 
     /// Begins to spawn this child on these phasers.
-    pub(crate) fn begin_spawn(&mut self, child: u32, pairs: Phased)
+    pub(crate) fn begin_spawn(&mut self, child: TaskNumber, pairs: Phased)
         ensures { self.new ≡ spawn_begun child pairs self.old }
     {
         self.acts = self.acts.saturating_add(1);
-        self.plan = Plan::Spawning(child, pairs, 0);
+        self.plan = Plan::Spawning(child.get(), pairs, 0);
     }
 
     /// Notes that this task begins to spawn it.
-    pub(crate) fn note_name(&mut self, spawner: u32)
+    pub(crate) fn note_name(&mut self, spawner: TaskNumber)
         ensures { self.new ≡ named_for spawner self.old }
     {
         self.named = true;
-        self.spawner = spawner;
+        self.spawner = spawner.get();
     }
 
     /// Begins to shut its innermost finish; the phasers that this encloses are left.
@@ -109,56 +110,56 @@ impl Task {
     }
 
     /// Begins its end; this child is dropped from no phaser.
-    pub(crate) fn begin_end(&mut self, child: u32)
+    pub(crate) fn begin_end(&mut self, child: TaskNumber)
         ensures { self.new ≡ end_begun child self.old }
     {
         self.left.clear();
-        self.plan = Plan::Ending(child);
+        self.plan = Plan::Ending(child.get());
     }
 }
 
 /// Whether the task leads on one of the numbers' phasers.
-fn any_leading(own: &[u32], phasers: &[KeptPhaser], task: u32) -> bool
+fn any_leading(own: &[u32], phasers: &[KeptPhaser], task: TaskNumber) -> bool
     ensures { result ≡ list_any (λ n. leads task (past_in phasers.now n)) own.now }
 {
     let mut any = false;
     for i in 0..own.len() {
-        any = any || is_leading(phasers, own[i], task);
+        any = any || is_leading(phasers, PhaserNumber::of(own[i]), task);
     }
     any
 }
 
 /// Whether the task owes a signal on one of the numbers' phasers.
-fn any_owed(own: &[u32], phasers: &[KeptPhaser], task: u32) -> bool
+fn any_owed(own: &[u32], phasers: &[KeptPhaser], task: TaskNumber) -> bool
     ensures { result ≡ list_any (λ n. owes task (past_in phasers.now n)) own.now }
 {
     let mut any = false;
     for i in 0..own.len() {
-        any = any || is_owed(phasers, own[i], task);
+        any = any || is_owed(phasers, PhaserNumber::of(own[i]), task);
     }
     any
 }
 
 /// Whether the task may propose no single on one of the numbers' phasers.
-fn any_without_single(own: &[u32], phasers: &[KeptPhaser], task: u32) -> bool
+fn any_without_single(own: &[u32], phasers: &[KeptPhaser], task: TaskNumber) -> bool
     ensures { result ≡ list_any (λ n. not (has_single task (past_in phasers.now n))) own.now }
 {
     let mut any = false;
     for i in 0..own.len() {
-        any = any || !may_single(phasers, own[i], task);
+        any = any || !may_single(phasers, PhaserNumber::of(own[i]), task);
     }
     any
 }
 
 /// Whether the task has signalled on this phaser since its last turn. On a number without a phaser
 /// it has not.
-fn is_leading(phasers: &[KeptPhaser], phaser: u32, task: u32) -> bool
+fn is_leading(phasers: &[KeptPhaser], phaser: PhaserNumber, task: TaskNumber) -> bool
     ensures { result ≡ leads task (past_in phasers.now phaser) }
 {
-    if phaser as usize >= phasers.len() {
+    if phaser.place() >= phasers.len() {
         return false;
     }
-    let state = &phasers[phaser as usize];
+    let state = &phasers[phaser.place()];
     match state.registration(task) {
         Some(reg) => reg.ahead,
         None => false,
@@ -166,13 +167,13 @@ fn is_leading(phasers: &[KeptPhaser], phaser: u32, task: u32) -> bool
 }
 
 /// Whether the task's mode on this phaser has singles. A number without a phaser has no mode.
-fn may_single(phasers: &[KeptPhaser], phaser: u32, task: u32) -> bool
+fn may_single(phasers: &[KeptPhaser], phaser: PhaserNumber, task: TaskNumber) -> bool
     ensures { result ≡ has_single task (past_in phasers.now phaser) }
 {
-    if phaser as usize >= phasers.len() {
+    if phaser.place() >= phasers.len() {
         return false;
     }
-    let state = &phasers[phaser as usize];
+    let state = &phasers[phaser.place()];
     match state.registration(task) {
         Some(reg) => reg.mode.can_single(),
         None => false,
@@ -180,17 +181,17 @@ fn may_single(phasers: &[KeptPhaser], phaser: u32, task: u32) -> bool
 }
 
 /// The finish that encloses this phaser, as it is read: finish 0 for a number without a phaser.
-pub(crate) fn enclosing_of(enclosing: &[u32], phaser: u32) -> u32
+pub(crate) fn enclosing_of(enclosing: &[u32], phaser: PhaserNumber) -> FinishNumber
     ensures { result ≡ get_or enclosing.now phaser 0 }
 {
-    if phaser as usize >= enclosing.len() {
-        return 0;
+    if phaser.place() >= enclosing.len() {
+        return FinishNumber::of(0);
     }
-    enclosing[phaser as usize]
+    FinishNumber::of(enclosing[phaser.place()])
 }
 
 /// Lists those of the numbers that the finish encloses.
-fn list_enclosed(left: &mut Vec<u32>, own: &[u32], enclosing: &[u32], finish: u32)
+fn list_enclosed(left: &mut Vec<u32>, own: &[u32], enclosing: &[u32], finish: FinishNumber)
     requires few { length own.now ≤ 16 }
     requires room { 16 ≤ vec_capacity left.old }
     ensures left { left.new.items ≡ enclosed enclosing.now finish own.now }
@@ -198,7 +199,7 @@ fn list_enclosed(left: &mut Vec<u32>, own: &[u32], enclosing: &[u32], finish: u3
 {
     left.clear();
     for i in 0..own.len() {
-        if enclosing_of(enclosing, own[i]) == finish {
+        if enclosing_of(enclosing, PhaserNumber::of(own[i])).get() == finish.get() {
             left.push_reserved(own[i]);
         }
     }

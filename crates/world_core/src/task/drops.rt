@@ -3,19 +3,21 @@ ghost use Rattle.std.specs.Prelude.{◌≡◌, ◌≤◌, ◌==◌, not, length,
 ghost use Rattle.world_steps.specs.inner.DropSteps.{is_to_drop, gone_from, drop_noted};
 
 use super::*;
+use task_numbers::{PhaserNumber, TaskNumber};
 
 impl Task {
     /// Whether its next event is that this task leaves this phaser; the first number is its own.
-    pub(crate) fn is_to_drop(&self, own: u32, phaser: u32, task: u32) -> bool
+    pub(crate) fn is_to_drop(&self, own: TaskNumber, phaser: PhaserNumber, task: TaskNumber) -> bool
         ensures { result ≡ is_to_drop self.now own phaser task }
     {
         match self.plan {
-            Plan::Shutting => self.left.first().copied() == Some(phaser) && own == task,
+            Plan::Shutting => self.left.first().copied() == Some(phaser.get())
+                && own.get() == task.get(),
             Plan::Ending(child) => {
                 if self.left.is_empty() {
-                    self.phasers.first().copied() == Some(phaser) && own == task
+                    self.phasers.first().copied() == Some(phaser.get()) && own.get() == task.get()
                 } else {
-                    self.left[0] == phaser && child == task
+                    self.left[0] == phaser.get() && child == task.get()
                 }
             }
             _ => false,
@@ -30,10 +32,10 @@ impl Task {
     }
 
     /// Notes that it has left this phaser.
-    pub(crate) fn note_gone(&mut self, phaser: u32)
+    pub(crate) fn note_gone(&mut self, phaser: PhaserNumber)
         ensures { self.new ≡ gone_from phaser self.old }
     {
-        take_off(&mut self.phasers, phaser);
+        take_off(&mut self.phasers, phaser.get());
     }
 
     /// Notes that the first drop was made.
@@ -47,10 +49,10 @@ impl Task {
 }
 
 /// Takes a number off the list.
-fn take_off(list: &mut Vec<u32>, phaser: u32)
-    ensures left { list.new.items ≡ filter (λ m. not (m == phaser)) list.old.items }
+fn take_off(list: &mut Vec<u32>, number: u32)
+    ensures left { list.new.items ≡ filter (λ m. not (m == number)) list.old.items }
     ensures few { length list.new.items ≤ length list.old.items }
     ensures room { vec_capacity list.new ≡ vec_capacity list.old }
 {
-    list.retain(|m| *m != phaser);
+    list.retain(|m| *m != number);
 }

@@ -4,11 +4,12 @@ ghost use Rattle.world_steps.specs.inner.Refusals.{given_up};
 ghost use Rattle.world_steps.specs.inner.Failures.{spawn_given_up};
 
 use super::{MOST_PHASERS, Task, list_all};
+use task_numbers::TaskNumber;
 use world_steps::Plan;
 
 impl Task {
     /// Comes to its end by the refusal of this number; this child is dropped from no phaser.
-    pub(crate) fn give_up(&mut self, child: u32, number: u8)
+    pub(crate) fn give_up(&mut self, child: TaskNumber, number: u8)
         ensures { self.new ≡ given_up child number self.old }
     {
         self.begin_end(child);
@@ -17,12 +18,12 @@ impl Task {
 
     /// Gives up the spawn of this child by the refusal of this number; the child is to be dropped
     /// from these phasers.
-    pub(crate) fn give_up_spawn(&mut self, child: u32, held: &[u32], number: u8)
+    pub(crate) fn give_up_spawn(&mut self, child: TaskNumber, held: &[u32], number: u8)
         requires { length held.now ≤ 16 }
         ensures { self.new ≡ spawn_given_up child held.now number self.old }
     {
         list_all(&mut self.left, held);
-        self.plan = Plan::Ending(child);
+        self.plan = Plan::Ending(child.get());
         self.refused = Some(number);
     }
 

@@ -3,6 +3,7 @@ ghost use Rattle.std.specs.Prelude.{◌≡◌, ◌<◌, nat_lt, length};
 ghost use Rattle.world_steps.specs.inner.Registering.{making};
 
 use super::*;
+use task_numbers::PhaserNumber;
 
 impl Task {
     /// Whether it may come to another phaser.
@@ -13,11 +14,11 @@ impl Task {
     }
 
     /// Notes that it made this phaser.
-    pub(crate) fn note_making(&mut self, phaser: u32)
+    pub(crate) fn note_making(&mut self, phaser: PhaserNumber)
         requires { length self.old.phasers < 16 }
         ensures { self.new ≡ making phaser self.old }
     {
-        self.phasers.push_reserved(phaser);
+        self.phasers.push_reserved(phaser.get());
         self.acts = self.acts.saturating_add(1);
     }
 }

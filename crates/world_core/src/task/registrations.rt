@@ -5,15 +5,18 @@ ghost use Rattle.world_steps.specs.inner.RegisterSteps.{is_to_register, joining,
 
 use super::*;
 use phase_modes::Mode;
+use task_numbers::{PhaserNumber, TaskNumber};
 
 impl Task {
     /// Whether its next event is to register this child on this phaser in this mode.
-    pub(crate) fn is_to_register(&self, phaser: u32, child: u32, mode: Mode) -> bool
+    pub(crate) fn is_to_register(&self, phaser: PhaserNumber, child: TaskNumber, mode: Mode) -> bool
         ensures { result ≡ is_to_register self.now phaser child mode }
     {
         match self.plan {
             Plan::Spawning(named, pairs, made) => match pairs.get(made) {
-                Some(pair) => pair.phaser == phaser && is_same(pair.mode, mode) && named == child,
+                Some(pair) => pair.phaser == phaser.get()
+                    && is_same(pair.mode, mode)
+                    && named == child.get(),
                 None => false,
             },
             _ => false,
@@ -21,11 +24,11 @@ impl Task {
     }
 
     /// Notes that its spawner registered it on this phaser.
-    pub(crate) fn note_joining(&mut self, phaser: u32)
+    pub(crate) fn note_joining(&mut self, phaser: PhaserNumber)
         requires { length self.old.phasers < 16 }
         ensures { self.new ≡ joining phaser self.old }
     {
-        self.phasers.push_reserved(phaser);
+        self.phasers.push_reserved(phaser.get());
     }
 
     /// Notes that it has registered its child on the phaser of the next pair.

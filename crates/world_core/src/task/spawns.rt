@@ -3,26 +3,27 @@ ghost use Rattle.std.specs.Prelude.{◌≡◌};
 ghost use Rattle.world_steps.specs.inner.SpawnSteps.{is_to_spawn, born_in, spawn_noted};
 
 use super::Task;
+use task_numbers::{FinishNumber, TaskNumber};
 use world_steps::Plan;
 
 impl Task {
     /// Whether its next event is to spawn this child in this finish.
-    pub(crate) fn is_to_spawn(&self, finish: u32, child: u32) -> bool
+    pub(crate) fn is_to_spawn(&self, finish: FinishNumber, child: TaskNumber) -> bool
         ensures { result ≡ is_to_spawn self.now finish child }
     {
         match self.plan {
             Plan::Spawning(named, pairs, made) => made as usize >= pairs.len()
-                && self.inner() == finish
-                && named == child,
+                && self.inner().get() == finish.get()
+                && named == child.get(),
             _ => false,
         }
     }
 
     /// Who began to spawn it.
-    pub(crate) fn spawner(&self) -> u32
+    pub(crate) fn spawner(&self) -> TaskNumber
         ensures { result ≡ self.now.spawner }
     {
-        self.spawner
+        TaskNumber::of(self.spawner)
     }
 
     /// How many turns it has completed.
@@ -33,11 +34,11 @@ impl Task {
     }
 
     /// Notes that it was spawned in this finish, by a task with this clock.
-    pub(crate) fn note_birth(&mut self, finish: u32, clock: u32)
+    pub(crate) fn note_birth(&mut self, finish: FinishNumber, clock: u32)
         ensures { self.new ≡ born_in finish clock self.old }
     {
         self.born = true;
-        self.home = finish;
+        self.home = finish.get();
         self.clock = clock;
     }
 

@@ -5,6 +5,6 @@ use Rattle.world_core.proofs.tables.Tables.make_on.Goals as goal
 
 pub returns-in_err-make_with-clause-kept : goal.returns-in_err-make_with-clause-kept
 returns-in_err-make_with-clause-kept c =
-    let same : set c.self.inside.phasers.items c.args.phaser c.make_with.new.self ≡ c.self.inside.phasers.items =
-    make_kept _ c.args.phaser _ c.make_with.new.self _ _ _ c.in_err-make_with.ensures.reply c.make_with.ensures.history c.index_mut-state.ensures.value in
+    let same : set c.self.inside.phasers.items c.place.result c.make_with.new.self ≡ c.self.inside.phasers.items =
+    make_kept _ c.place.result _ c.make_with.new.self _ _ _ c.in_err-make_with.ensures.reply c.make_with.ensures.history c.index_mut-state.ensures.value in
     if_err c.from_residual.result _ (same_phasers (the_view c.self.inside) _ same ∙ c.self.view_is)

@@ -6,6 +6,6 @@ use Rattle.world_core.proofs.tables.Tables.signal_on.Goals as goal
 
 pub returns-in_err-signalling-clause-kept : goal.returns-in_err-signalling-clause-kept
 returns-in_err-signalling-clause-kept c =
-    let same : set c.self.inside.phasers.items c.args.phaser c.signal.new.self ≡ c.self.inside.phasers.items =
-    signal_kept _ c.args.phaser _ c.signal.new.self c.args.task c.args.number _ c.in_err-signalling.ensures.reply c.signal.ensures.history c.index_mut-state.ensures.value in
+    let same : set c.self.inside.phasers.items c.place-2.result c.signal.new.self ≡ c.self.inside.phasers.items =
+    signal_kept _ c.place-2.result _ c.signal.new.self c.args.task c.args.number _ c.in_err-signalling.ensures.reply c.signal.ensures.history c.index_mut-state.ensures.value in
     if_err c.from_residual.result _ (same_phasers (the_view c.self.inside) _ same ∙ c.self.view_is)

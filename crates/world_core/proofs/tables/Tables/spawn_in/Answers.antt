@@ -6,6 +6,6 @@ use Rattle.world_core.proofs.tables.Tables.spawn_in.Goals as goal
 
 pub returns-in_err-spawned-clause-kept : goal.returns-in_err-spawned-clause-kept
 returns-in_err-spawned-clause-kept c =
-    let same : set c.self.inside.finishes.items c.args.finish c.spawned.new.self ≡ c.self.inside.finishes.items =
-    finish_kept _ c.args.finish _ c.spawned.new.self c.in_err-spawned.ensures.history c.index_mut-state.ensures.value in
+    let same : set c.self.inside.finishes.items c.place-2.result c.spawned.new.self ≡ c.self.inside.finishes.items =
+    finish_kept _ c.place-2.result _ c.spawned.new.self c.in_err-spawned.ensures.history c.index_mut-state.ensures.value in
     if_err c.from_residual.result _ (same_finishes (the_view c.self.inside) _ same ∙ c.self.view_is)
