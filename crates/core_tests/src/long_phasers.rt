@@ -10,6 +10,7 @@ use phaser_core::{Passing, PhaserState, Signalling};
 use std::alloc::Global;
 use std::process::Abort;
 use std::test::Fail;
+use task_numbers::TaskNumber;
 use worked_examples::*;
 
 mod drawing;
@@ -116,7 +117,8 @@ fn all_reply(rt: &impl Abort, phaser: &mut LongPhaser, rows: &[Row]) {
 }
 
 /// The task ends its turn of the phase, and sees this sum.
-fn goes_on(rt: &impl Abort, phaser: &mut LongPhaser, task: u32, phase: u32, sum: i64) {
+fn goes_on(rt: &impl Abort, phaser: &mut LongPhaser, task: TaskNumber, phase: u32, sum: i64) {
+    let task = task.get();
     replies(rt, phaser, Call::Pass(task), Reply::Phase(phase));
     sees(rt, phaser, task, sum);
 }

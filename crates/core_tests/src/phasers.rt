@@ -11,7 +11,8 @@ use phaser_core::{Passing, PhaserState, Signalling};
 use std::alloc::Global;
 use std::process::Abort;
 use std::test::Fail;
-use worked_examples::{Example, PLAIN, Row, first_ops, limits_with};
+use task_numbers::TaskNumber;
+use worked_examples::{Example, PLAIN, Row, first_ops};
 
 mod blank;
 mod comparing;
@@ -62,7 +63,8 @@ fn is_signaller(history: &History, task: u32) -> bool {
 }
 
 /// Whether the task keeps the phase open: it is registered now, can signal and hasn't signalled it.
-fn keeps_open(history: &History, task: u32, phase: u32) -> bool {
+fn keeps_open(history: &History, task: TaskNumber, phase: u32) -> bool {
+    let task = task.get();
     live(history, task) && is_signaller(history, task) && signals(history, task) <= phase
 }
 
@@ -109,7 +111,7 @@ fn agrees_with_plain(rt: &impl Abort, state: &PhaserState) {
             holds_at(
                 rt,
                 ("task", task),
-                !(state.closed(phase) && keeps_open(history, task, phase)),
+                !(state.closed(phase) && keeps_open(history, TaskNumber::of(task), phase)),
             );
         }
         let needed = is_needed(history, phase);

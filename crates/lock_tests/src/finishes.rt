@@ -9,6 +9,7 @@ use std::alloc::Global;
 use std::process::Abort;
 use std::sync::Wait;
 use std::test::Fail;
+use task_numbers::TaskNumber;
 use trace_model::{Part, TracedEvent};
 
 /// What a shut answered, with the item that came back.
@@ -27,15 +28,10 @@ fn answer_of(answer: ShutAnswer<u32>) -> Shutting {
     }
 }
 
-/// A table of so many finishes, for so many tasks.
-fn table_for(alloc: Global, finishes: u32, tasks: u32) -> Result<FinishTable<u32, u32>, Refusal>
-    ensures { IfOk result (λ t. t.finishes ≡ finishes) }
+/// A table of as many finishes, and for as many tasks, as these limits allow.
+fn table_for(alloc: Global, limits: Limits) -> Result<FinishTable<u32, u32>, Refusal>
+    ensures { IfOk result (λ t. t.finishes ≡ limits.finishes) }
 {
-    let limits = Limits {
-        finishes,
-        tasks,
-        ..Limits::default()
-    };
     if !limits.fits() {
         return Err(Refusal::NotNow);
     }
@@ -68,7 +64,12 @@ fn root_is_open<R: Abort + Wait>(rt: &R, table: &FinishTable<u32, u32>, tickets:
 /// The root's finish is open from the start; before the other is opened it can't be shut.
 #[test]
 fn finishes_at_first(rt: HostRuntime) -> Result<(), Fail> {
-    let table = table_for(rt.alloc(), 2, 4)?;
+    let limits = Limits {
+        finishes: 2,
+        tasks: 4,
+        ..Limits::default()
+    };
+    let table = table_for(rt.alloc(), limits)?;
     root_is_open(&rt, &table, &Tickets::new());
     Ok(())
 }
@@ -99,7 +100,12 @@ fn take_two_tasks<R: Abort + Wait>(rt: &R, table: &FinishTable<u32, u32>, ticket
 /// Of its limits a table takes how many finishes there are, and each finish the limit of task numbers.
 #[test]
 fn finishes_have_the_limits(rt: HostRuntime) -> Result<(), Fail> {
-    let table = table_for(rt.alloc(), 3, 2)?;
+    let limits = Limits {
+        finishes: 3,
+        tasks: 2,
+        ..Limits::default()
+    };
+    let table = table_for(rt.alloc(), limits)?;
     take_two_tasks(&rt, &table, &Tickets::new());
     equal(&rt, table.into_parts().parts.len(), 3);
     Ok(())
@@ -132,13 +138,13 @@ fn end<R: Wait>(
     alloc: Global,
     table: &FinishTable<u32, u32>,
     tickets: &Tickets,
-    task: u32,
+    task: TaskNumber,
     log: u32,
 ) -> Result<Back, Refusal>
     requires { table.now.finishes ≡ 2 }
 {
     let mut out = Out::new(alloc)?;
-    let refused = table.ended(rt, 1, tickets, task, log, &mut out).err();
+    let refused = table.ended(rt, 1, tickets, task.get(), log, &mut out).err();
     Ok((refused, out.take()))
 }
 
@@ -153,7 +159,7 @@ fn end_all<R: Abort + Wait>(
     requires { table.now.finishes ≡ 2 }
 {
     for (task, log, back) in rows {
-        let came = end(rt, alloc, table, tickets, *task, *log);
+        let came = end(rt, alloc, table, tickets, TaskNumber::of(*task), *log);
         equal_at(rt, ("task", task), came, Ok(*back));
     }
 }
@@ -193,7 +199,12 @@ fn parked_owner(rt: HostRuntime) -> Result<(), Fail> {
         (2, 22, (None, None)),
         (1, 11, (None, Some(100))),
     ];
-    let table = table_for(rt.alloc(), 2, 4)?;
+    let limits = Limits {
+        finishes: 2,
+        tasks: 4,
+        ..Limits::default()
+    };
+    let table = table_for(rt.alloc(), limits)?;
     let tickets = Tickets::new();
     equal(&rt, table.place(1, Refusal::FinishesFull), Ok(1));
     equal(

@@ -14,6 +14,7 @@ use std::marker::Brand;
 use std::process::Abort;
 use std::sync::ledger::Ledger;
 use std::test::Fail;
+use task_numbers::TaskNumber;
 
 /// What a pass is answered. The items are told apart by their numbers.
 #[derive(Clone, Copy, Debug, PartialEq, Eq)]
@@ -64,7 +65,7 @@ impl<K: Ledgers> CalledCell<K> {
     fn pass(
         &mut self,
         alloc: Global,
-        task: u32,
+        task: TaskNumber,
         item: u32,
     ) -> Result<(Passing, Option<u32>), Refusal> {
         let CalledCell {
@@ -74,7 +75,7 @@ impl<K: Ledgers> CalledCell<K> {
             mine,
         } = self;
         let mut out = Out::new(alloc)?;
-        let answer = answer_of(cell.pass(tickets, books, mine, &mut out, task, item));
+        let answer = answer_of(cell.pass(tickets, books, mine, &mut out, task.get(), item));
         Ok((answer, out.take()))
     }
 
@@ -82,7 +83,7 @@ impl<K: Ledgers> CalledCell<K> {
     fn signal(
         &mut self,
         alloc: Global,
-        task: u32,
+        task: TaskNumber,
         item: u32,
     ) -> Result<(Signalling, Option<u32>), Refusal> {
         let CalledCell {
@@ -92,7 +93,15 @@ impl<K: Ledgers> CalledCell<K> {
             mine,
         } = self;
         let mut out = Out::new(alloc)?;
-        let answer = signalling_of(cell.signal(tickets, books, mine, &mut out, task, None, item));
+        let answer = signalling_of(cell.signal(
+            tickets,
+            books,
+            mine,
+            &mut out,
+            task.get(),
+            None,
+            item,
+        ));
         Ok((answer, out.take()))
     }
 
@@ -136,17 +145,18 @@ impl<K: Ledgers> CalledCell<K> {
         const SIGNALLED: (Signalling, Option<u32>) = (Signalling::Signalled(99), None);
         const PARKED: (Passing, Option<u32>) = (Passing::Parked, None);
         const AGAIN: (Passing, Option<u32>) = (Passing::Refused(102, Refusal::NotNow), None);
-        equal(rt, self.signal(alloc, 0, 99), Ok(SIGNALLED));
-        equal(rt, self.pass(alloc, 0, 100), Ok(PARKED));
-        equal(rt, self.pass(alloc, 0, 102), Ok(AGAIN));
+        let task = TaskNumber::of(0);
+        equal(rt, self.signal(alloc, task, 99), Ok(SIGNALLED));
+        equal(rt, self.pass(alloc, task, 100), Ok(PARKED));
+        equal(rt, self.pass(alloc, task, 102), Ok(AGAIN));
     }
 
     /// The other's signal wakes it.
     fn let_go(&mut self, rt: &impl Abort, alloc: Global) {
         const FREED: (Signalling, Option<u32>) = (Signalling::Signalled(101), Some(100));
         const PASSED: (Passing, Option<u32>) = (Passing::Passed(100, 0), None);
-        equal(rt, self.signal(alloc, 1, 101), Ok(FREED));
-        equal(rt, self.pass(alloc, 0, 100), Ok(PASSED));
+        equal(rt, self.signal(alloc, TaskNumber::of(1), 101), Ok(FREED));
+        equal(rt, self.pass(alloc, TaskNumber::of(0), 100), Ok(PASSED));
     }
 
     /// The other hasn't passed yet, so task 0 waits to signal. The other's pass wakes it, and the
@@ -156,10 +166,11 @@ impl<K: Ledgers> CalledCell<K> {
         const AGAIN: (Signalling, Option<u32>) = (Signalling::Refused(104, Refusal::NotNow), None);
         const FREED: (Passing, Option<u32>) = (Passing::Passed(101, 0), Some(103));
         const SIGNALLED: (Signalling, Option<u32>) = (Signalling::Signalled(103), None);
-        equal(rt, self.signal(alloc, 0, 103), Ok(HELD));
-        equal(rt, self.signal(alloc, 0, 104), Ok(AGAIN));
-        equal(rt, self.pass(alloc, 1, 101), Ok(FREED));
-        equal(rt, self.signal(alloc, 0, 103), Ok(SIGNALLED));
+        let task = TaskNumber::of(0);
+        equal(rt, self.signal(alloc, task, 103), Ok(HELD));
+        equal(rt, self.signal(alloc, task, 104), Ok(AGAIN));
+        equal(rt, self.pass(alloc, TaskNumber::of(1), 101), Ok(FREED));
+        equal(rt, self.signal(alloc, task, 103), Ok(SIGNALLED));
         equal(rt, self.drop_task(alloc, 1), Ok(None));
     }
 

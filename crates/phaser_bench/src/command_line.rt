@@ -10,12 +10,55 @@ use crate::phasers::kind::Kind as CoreKind;
 use crate::worlds::job::WorldsJob;
 use crate::worlds::kind::Kind as WorldsKind;
 
-/// The number that the argument spells, where it is from the first of these to the second.
-fn number_of(argument: &str, least: u32, most: u32) -> Option<u32>
-    ensures { SomeIff result (IsNumberFrom least most argument.now) (number_in argument.now) }
+/// The bounds of a number, both within.
+#[derive(Clone, Copy)]
+struct Bounds {
+    least: u32,
+    most: u32,
+}
+
+/// How many tasks are registered on each phaser.
+const TASKS: Bounds = Bounds {
+    least: 1,
+    most: 256,
+};
+
+/// How many phasers a job of the core calls.
+const CORE_PHASERS: Bounds = Bounds {
+    least: 1,
+    most: 1_000,
+};
+
+/// How many phasers of a table each thread calls.
+const TABLE_PHASERS: Bounds = Bounds { least: 1, most: 32 };
+
+/// For how many phases each of these is called.
+const PHASES: Bounds = Bounds {
+    least: 1,
+    most: 32_768,
+};
+
+/// How many threads call them.
+const THREADS: Bounds = Bounds { least: 1, most: 2 };
+
+/// How many turns the tasks of a world make.
+const TURNS: Bounds = Bounds {
+    least: 0,
+    most: 65_536,
+};
+
+/// How many worlds are made.
+const WORLDS: Bounds = Bounds {
+    least: 1,
+    most: 1_000,
+};
+
+/// The number that the argument spells, where it is within these bounds.
+fn number_of(argument: &str, bounds: Bounds) -> Option<u32>
+    ensures { SomeIff result (IsNumberFrom bounds.least bounds.most argument.now) (number_in argument.now) }
 {
     match argument.parse::<u32>() {
-        Ok(number) if least <= number && number <= most => Some(number),
+        Ok(number) if bounds.least <= number && number <= bounds.most => Some(number),
         _ => None,
     }
 }
@@ -31,8 +74,8 @@ fn core_job(words: &[&str]) -> Option<CoreJob>
     };
     Some(CoreJob {
         kind: CoreKind::of_name(kind)?,
-        tasks: number_of(tasks, 1, 256)?,
-        phasers: number_of(phasers, 1, 1_000)?,
+        tasks: number_of(tasks, TASKS)?,
+        phasers: number_of(phasers, CORE_PHASERS)?,
     })
 }
 
@@ -48,10 +91,10 @@ fn locks_job(words: &[&str]) -> Option<LocksJob>
     };
     Some(LocksJob {
         kind: LocksKind::of_name(kind)?,
-        tasks: number_of(tasks, 1, 256)?,
-        phases: number_of(phases, 1, 32_768)?,
-        phasers: number_of(phasers, 1, 32)?,
-        threads: number_of(threads, 1, 2)?,
+        tasks: number_of(tasks, TASKS)?,
+        phases: number_of(phases, PHASES)?,
+        phasers: number_of(phasers, TABLE_PHASERS)?,
+        threads: number_of(threads, THREADS)?,
     })
 }
 
@@ -67,10 +110,10 @@ fn receipts_job(words: &[&str]) -> Option<LocksJob>
     };
     Some(LocksJob {
         kind: LocksKind::of_name(kind)?,
-        tasks: number_of(tasks, 1, 256)?,
-        phases: number_of(phases, 1, 32_768)?,
-        phasers: number_of(phasers, 1, 32)?,
-        threads: number_of(threads, 1, 2)?,
+        tasks: number_of(tasks, TASKS)?,
+        phases: number_of(phases, PHASES)?,
+        phasers: number_of(phasers, TABLE_PHASERS)?,
+        threads: number_of(threads, THREADS)?,
     })
 }
 
@@ -85,8 +128,8 @@ fn worlds_job(words: &[&str]) -> Option<WorldsJob>
     };
     Some(WorldsJob {
         kind: WorldsKind::of_name(kind)?,
-        turns: number_of(turns, 0, 65_536)?,
-        worlds: number_of(worlds, 1, 1_000)?,
+        turns: number_of(turns, TURNS)?,
+        worlds: number_of(worlds, WORLDS)?,
     })
 }
 

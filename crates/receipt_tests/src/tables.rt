@@ -19,6 +19,7 @@ use std::test::Fail;
 use table_receipts::{
     Caller, Front, Logs, Named, Naming, Noted, PhaserLogs, ReceiptTable, new_logs,
 };
+use task_numbers::TaskNumber;
 
 /// The single that both propose.
 const SINGLE: u32 = 5;
@@ -45,43 +46,49 @@ impl<'a, K: Naming> SeenPhaser<'a, K> {
     fn make<R: Wait>(
         &mut self,
         by: &mut Caller<'_, u32, K, R>,
-        task: u32,
+        task: TaskNumber,
         mode: Mode,
     ) -> Result<(), Refusal> {
-        self.table
-            .make(by, &mut self.me, self.number, task, mode, &one_sum())
+        self.table.make(by, &mut self.me, self.number, task.get(), mode, &one_sum())
     }
 
     /// The parent registers the child.
     fn register<R: Wait>(
         &mut self,
         by: &mut Caller<'_, u32, K, R>,
-        parent: u32,
-        child: u32,
+        parent: TaskNumber,
+        child: TaskNumber,
         mode: Mode,
     ) -> Result<(), Refusal> {
-        self.table
-            .register(by, &mut self.me, self.number, parent, child, mode)
+        self.table.register(
+            by,
+            &mut self.me,
+            self.number,
+            parent.get(),
+            child.get(),
+            mode,
+        )
     }
 
     /// The task sends this value.
     fn send<R: Wait>(
         &mut self,
         by: &mut Caller<'_, u32, K, R>,
-        task: u32,
+        task: TaskNumber,
         value: i32,
     ) -> Result<(), Refusal> {
         self.table
-            .send(by, &mut self.me, self.number, task, 0, value)
+            .send(by, &mut self.me, self.number, task.get(), 0, value)
     }
 
     /// What the task sees of the sum.
     fn look<R: Wait>(
         &mut self,
         by: &mut Caller<'_, u32, K, R>,
-        task: u32,
+        task: TaskNumber,
     ) -> Result<Look, Refusal> {
-        self.table.look(by, &mut self.me, self.number, task, 0)
+        self.table
+            .look(by, &mut self.me, self.number, task.get(), 0)
     }
 
     /// The task signals, with this item. The item of whom this wakes too.
@@ -89,13 +96,18 @@ impl<'a, K: Naming> SeenPhaser<'a, K> {
         &mut self,
         alloc: Global,
         by: &mut Caller<'_, u32, K, R>,
-        task: u32,
+        task: TaskNumber,
         item: u32,
     ) -> Result<(Reply, Option<u32>), Refusal> {
         by.out = Out::new(alloc)?;
-        let answer = self
-            .table
-            .signal(by, &mut self.me, self.number, task, Some(SINGLE), item);
+        let answer = self.table.signal(
+            by,
+            &mut self.me,
+            self.number,
+            task.get(),
+            Some(SINGLE),
+            item,
+        );
         let reply = match answer {
             SignalAnswer::Signalled(_) => Reply::Done,
             SignalAnswer::Parked => Reply::NotYet,
@@ -109,11 +121,14 @@ impl<'a, K: Naming> SeenPhaser<'a, K> {
         &mut self,
         alloc: Global,
         by: &mut Caller<'_, u32, K, R>,
-        task: u32,
+        task: TaskNumber,
         item: u32,
     ) -> Result<Reply, Refusal> {
         by.out = Out::new(alloc)?;
-        match self.table.pass(by, &mut self.me, self.number, task, item) {
+        match self
+            .table
+            .pass(by, &mut self.me, self.number, task.get(), item)
+        {
             PassAnswer::Passed(_, phase) => Ok(Reply::Phase(phase)),
             PassAnswer::Claimed(_, number) => Ok(Reply::Claim(number)),
             PassAnswer::Parked => Ok(Reply::NotYet),
@@ -126,10 +141,11 @@ impl<'a, K: Naming> SeenPhaser<'a, K> {
         &mut self,
         alloc: Global,
         by: &mut Caller<'_, u32, K, R>,
-        task: u32,
+        task: TaskNumber,
     ) -> Result<Option<u32>, Refusal> {
         by.out = Out::new(alloc)?;
-        self.table.single_done(by, &mut self.me, self.number, task)?;
+        self.table
+            .single_done(by, &mut self.me, self.number, task.get())?;
         Ok(by.out.take())
     }
 
@@ -138,10 +154,11 @@ impl<'a, K: Naming> SeenPhaser<'a, K> {
         &mut self,
         alloc: Global,
         by: &mut Caller<'_, u32, K, R>,
-        task: u32,
+        task: TaskNumber,
     ) -> Result<(), Refusal> {
         by.out = Out::new(alloc)?;
-        self.table.drop_task(by, &mut self.me, self.number, task)
+        self.table
+            .drop_task(by, &mut self.me, self.number, task.get())
     }
 }
 
@@ -159,26 +176,32 @@ fn turn_of_two<K: Naming, R: Wait + Abort>(
         number: 0,
         me: table.front(rt, 0),
     };
-    phaser.make(by, 0, Mode::Single)?;
-    phaser.register(by, 0, 1, Mode::Single)?;
-    phaser.send(by, 0, 3)?;
-    phaser.send(by, 1, 4)?;
-    equal(rt, phaser.signal(alloc, by, 0, 10)?, (Reply::Done, None));
-    equal(rt, phaser.pass(alloc, by, 0, 11)?, Reply::NotYet);
+    let first = TaskNumber::of(0);
+    let second = TaskNumber::of(1);
+    phaser.make(by, first, Mode::Single)?;
+    phaser.register(by, first, second, Mode::Single)?;
+    phaser.send(by, first, 3)?;
+    phaser.send(by, second, 4)?;
     equal(
         rt,
-        phaser.signal(alloc, by, 1, 20)?,
+        phaser.signal(alloc, by, first, 10)?,
+        (Reply::Done, None),
+    );
+    equal(rt, phaser.pass(alloc, by, first, 11)?, Reply::NotYet);
+    equal(
+        rt,
+        phaser.signal(alloc, by, second, 20)?,
         (Reply::Done, Some(11)),
     );
-    equal(rt, phaser.pass(alloc, by, 0, 12)?, Reply::Claim(SINGLE));
-    equal(rt, phaser.pass(alloc, by, 1, 21)?, Reply::NotYet);
-    equal(rt, phaser.single_done(alloc, by, 0)?, Some(21));
-    equal(rt, phaser.pass(alloc, by, 0, 13)?, Reply::Phase(0));
-    equal(rt, phaser.pass(alloc, by, 1, 22)?, Reply::Phase(0));
-    equal(rt, phaser.look(by, 0), Ok(Look::Value(7)));
-    equal(rt, phaser.look(by, 1), Ok(Look::Value(7)));
-    phaser.drop_task(alloc, by, 0)?;
-    phaser.drop_task(alloc, by, 1)
+    equal(rt, phaser.pass(alloc, by, first, 12)?, Reply::Claim(SINGLE));
+    equal(rt, phaser.pass(alloc, by, second, 21)?, Reply::NotYet);
+    equal(rt, phaser.single_done(alloc, by, first)?, Some(21));
+    equal(rt, phaser.pass(alloc, by, first, 13)?, Reply::Phase(0));
+    equal(rt, phaser.pass(alloc, by, second, 22)?, Reply::Phase(0));
+    equal(rt, phaser.look(by, first), Ok(Look::Value(7)));
+    equal(rt, phaser.look(by, second), Ok(Look::Value(7)));
+    phaser.drop_task(alloc, by, first)?;
+    phaser.drop_task(alloc, by, second)
 }
 
 /// Phaser 1 is made and left: 2 events.
@@ -195,8 +218,9 @@ fn made_and_left<K: Naming, R: Wait + Abort>(
         number: 1,
         me: table.lock(rt, 1).front(),
     };
-    phaser.make(by, 0, Mode::SigWait)?;
-    phaser.drop_task(alloc, by, 0)
+    let task = TaskNumber::of(0);
+    phaser.make(by, task, Mode::SigWait)?;
+    phaser.drop_task(alloc, by, task)
 }
 
 /// What is gathered once both phasers were called.

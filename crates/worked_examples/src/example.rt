@@ -32,24 +32,6 @@ pub const PLAIN: Example = Example {
     rows: &[],
 };
 
-/// The default limits, but for the events of a history and the registrations at once.
-pub fn limits_with(history: u32, regs: u32) -> Limits
-    ensures { result ≡ record {
-      acts = 4096;
-      finishes = 64;
-      history = history;
-      phasers = 64;
-      regs = regs;
-      tasks = 256;
-    } }
-{
-    Limits {
-        history,
-        regs,
-        ..Limits::default()
-    }
-}
-
 /// The first so many of a sum, a least, a greatest and another sum.
 pub fn first_ops(count: usize) -> Ops
     ensures { result ≡ take count (Sum ∷ Least ∷ Greatest ∷ Sum ∷ []) }
@@ -82,7 +64,11 @@ impl Example {
           tasks = 256;
         } }
     {
-        limits_with(self.history, self.regs)
+        Limits {
+            history: self.history,
+            regs: self.regs,
+            ..Limits::default()
+        }
     }
 
     /// What the example's phaser is made with.

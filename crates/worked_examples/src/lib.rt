@@ -8,7 +8,7 @@
 mod example;
 mod rows;
 
-pub use example::{Example, PLAIN, Row, first_ops, limits_with};
+pub use example::{Example, PLAIN, Row, first_ops};
 pub use rows::{
     ASKED_AGAIN_WHILE_PARKED, BOUND_AND_REFUSALS, BOUNDED_SIGNALLER, EMPTY_FOLDS, EXTREME_VALUES,
     HISTORY_FULL, LATE_READER, NO_ROOM_FOR_A_SINGLE, ONE_TASK_TURN, PLAIN_WAITER_HOLDS_STILL,

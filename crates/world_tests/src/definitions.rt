@@ -6,6 +6,7 @@ use phase_modes::{Mode, Phased};
 use std::alloc::Global;
 use std::process::Abort;
 use std::test::Fail;
+use task_numbers::PhaserNumber;
 use world_model::{
     Begun, FinishLine, FoldLine, PhaserLines, Reply, Step, TaskLine, TotalsLine, Tried, WorldEvent,
     WorldReport,
@@ -28,13 +29,13 @@ fn events_are_values(rt: HostRuntime) -> Result<(), Fail> {
 /// The lines of one phaser.
 fn one_phaser(
     alloc: Global,
-    phaser: u32,
+    phaser: PhaserNumber,
     phases: u32,
     folds: &[FoldLine],
 ) -> Result<Vec<PhaserLines>, Fail> {
     let mut phasers = Vec::with_capacity(alloc, 1)?;
     phasers.push(PhaserLines {
-        phaser,
+        phaser: phaser.get(),
         phases,
         folds: folds.to_vec(alloc)?,
     })?;
@@ -62,7 +63,7 @@ fn reports_are_lists_of_lines(rt: HostRuntime) -> Result<(), Fail> {
         down: 0,
     };
     let report = WorldReport {
-        phasers: one_phaser(rt.alloc(), 0, 1, FOLDS.as_slice())?,
+        phasers: one_phaser(rt.alloc(), PhaserNumber::of(0), 1, FOLDS.as_slice())?,
         tasks: TASKS.to_vec(rt.alloc())?,
         finishes: Vec::new(rt.alloc()),
         totals: TOTALS,
@@ -122,7 +123,7 @@ fn two_phases(alloc: Global) -> Result<WorldReport, Fail> {
         down: 3,
     };
     Ok(WorldReport {
-        phasers: one_phaser(alloc, 4, 2, FOLDS.as_slice())?,
+        phasers: one_phaser(alloc, PhaserNumber::of(4), 2, FOLDS.as_slice())?,
         tasks: TASKS.to_vec(alloc)?,
         finishes: FINISHES.to_vec(alloc)?,
         totals: TOTALS,

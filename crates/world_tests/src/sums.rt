@@ -50,19 +50,29 @@ fn history_of(alloc: Global, events: &[Event]) -> Result<History, Refusal> {
     Ok(history)
 }
 
-fn fold(phase: u32, acc: u32, value: Look) -> FoldLine {
-    FoldLine { phase, acc, value }
-}
-
 /// What the accumulators come to.
-fn folds() -> [FoldLine; 4] {
-    [
-        fold(0, 0, Look::Value(3)),
-        fold(0, 1, Look::Value(-5)),
-        fold(1, 0, Look::Value(4)),
-        fold(1, 1, Look::Nothing),
-    ]
-}
+const FOLDS: [FoldLine; 4] = [
+    FoldLine {
+        phase: 0,
+        acc: 0,
+        value: Look::Value(3),
+    },
+    FoldLine {
+        phase: 0,
+        acc: 1,
+        value: Look::Value(-5),
+    },
+    FoldLine {
+        phase: 1,
+        acc: 0,
+        value: Look::Value(4),
+    },
+    FoldLine {
+        phase: 1,
+        acc: 1,
+        value: Look::Nothing,
+    },
+];
 
 const TOTALS: TotalsLine = TotalsLine {
     registered: 2,
@@ -96,7 +106,7 @@ fn totals_are(rt: &impl Abort, totals: TotalsLine) {
 #[test]
 fn a_phaser_is_summed(rt: HostRuntime) -> Result<(), Fail> {
     let sums = sums_of(rt.alloc(), EVENTS.as_slice())?;
-    lines_are(&rt, &sums.lines, folds().as_slice());
+    lines_are(&rt, &sums.lines, FOLDS.as_slice());
     totals_are(&rt, sums.totals);
     Ok(())
 }

@@ -6,6 +6,7 @@ use phase_model::{Look, Op, Ops, Terms};
 use phase_modes::{Limits, Mode, Pair, Phased, Refusal};
 use std::alloc::Global;
 use std::process::Abort;
+use task_numbers::TaskNumber;
 use world_core::World;
 use world_model::{
     Begun, Condition, FoldLine, PhaserLines, Reply, Step, TotalsLine, Tried, WorldEvent,
@@ -167,7 +168,8 @@ fn is_about(rt: &impl Abort, world: &World, task: u32, condition: Option<Conditi
     equal_at(rt, ("task", task), world.condition(task), condition);
 }
 
-fn has_turned(rt: &impl Abort, world: &World, task: u32, turns: u32) {
+fn has_turned(rt: &impl Abort, world: &World, task: TaskNumber, turns: u32) {
+    let task = task.get();
     equal_at(rt, ("task", task), world.clock(task), turns);
 }
 
@@ -183,7 +185,7 @@ fn has_none_due(rt: &impl Abort, world: &World, task: u32) {
 fn answers(rt: &impl Abort, world: &World, row: &Row) {
     match *row {
         Row::Is(task, condition) => is_about(rt, world, task, condition),
-        Row::Clock(task, turns) => has_turned(rt, world, task, turns),
+        Row::Clock(task, turns) => has_turned(rt, world, TaskNumber::of(task), turns),
         Row::Able(task, able) => is_able(rt, world, task, able),
         Row::NoneDue(task) => has_none_due(rt, world, task),
         Row::Done(_)

@@ -20,19 +20,21 @@ fn signed(number: u32) -> i32 {
     i32::try_from(number).unwrap_or(0)
 }
 
-fn sends_early(rt: &impl Abort, phaser: &mut LongPhaser, task: u32, phase: u32) {
+fn sends_early(rt: &impl Abort, phaser: &mut LongPhaser, task: TaskNumber, phase: u32) {
+    let task = task.get();
     let value = signed(phase).saturating_mul(3).saturating_add(signed(task));
     sends(rt, phaser, task, value);
 }
 
-fn sends_late(rt: &impl Abort, phaser: &mut LongPhaser, task: u32, phase: u32) {
+fn sends_late(rt: &impl Abort, phaser: &mut LongPhaser, task: TaskNumber, phase: u32) {
+    let task = task.get();
     let value = signed(task).saturating_sub(signed(phase));
     sends(rt, phaser, task, value);
 }
 
 /// The task signals the phase, and sends for the next.
-fn arrives(rt: &impl Abort, phaser: &mut LongPhaser, task: u32, phase: u32) {
-    signals(rt, phaser, task);
+fn arrives(rt: &impl Abort, phaser: &mut LongPhaser, task: TaskNumber, phase: u32) {
+    signals(rt, phaser, task.get());
     sends_early(rt, phaser, task, phase.saturating_add(1));
 }
 
@@ -45,9 +47,10 @@ fn begun(rt: &impl Abort, alloc: Global, bound: u32) -> Result<LongPhaser, Refus
     let mut phaser = made(alloc, 1, bound)?;
     all_reply(rt, &mut phaser, OTHERS.as_slice());
     for task in 0..3 {
-        sends_early(rt, &mut phaser, task, 0);
+        sends_early(rt, &mut phaser, TaskNumber::of(task), 0);
     }
-    for task in 0..SLOW {
+    for quick in 0..SLOW {
+        let task = TaskNumber::of(quick);
         sends_late(rt, &mut phaser, task, 0);
         arrives(rt, &mut phaser, task, 0);
     }
@@ -57,9 +60,11 @@ fn begun(rt: &impl Abort, alloc: Global, bound: u32) -> Result<LongPhaser, Refus
 /// The slow task arrives, and each quick one ends its turn of the phase and sends the last of what it
 /// has for the next.
 fn quick_ones_go_on(rt: &impl Abort, phaser: &mut LongPhaser, phase: u32) {
-    sends_late(rt, phaser, SLOW, phase);
-    arrives(rt, phaser, SLOW, phase);
-    for task in 0..SLOW {
+    let slow = TaskNumber::of(SLOW);
+    sends_late(rt, phaser, slow, phase);
+    arrives(rt, phaser, slow, phase);
+    for quick in 0..SLOW {
+        let task = TaskNumber::of(quick);
         goes_on(rt, phaser, task, phase, sum_of(phase));
         sends_late(rt, phaser, task, phase.saturating_add(1));
     }
@@ -70,7 +75,7 @@ fn slow_one_goes_on(rt: &impl Abort, phaser: &mut LongPhaser, phase: u32) {
     if let Some(before) = phase.checked_sub(1) {
         sees(rt, phaser, SLOW, sum_of(before));
     }
-    goes_on(rt, phaser, SLOW, phase, sum_of(phase));
+    goes_on(rt, phaser, TaskNumber::of(SLOW), phase, sum_of(phase));
 }
 
 /// By a bound of 1 the quick ones are held until the slow one has gone on, so three phases are in use.
@@ -84,7 +89,7 @@ fn three_phases_are_in_use(rt: HostRuntime) -> Result<(), Fail> {
         }
         slow_one_goes_on(&rt, &mut phaser, phase);
         for task in 0..SLOW {
-            arrives(&rt, &mut phaser, task, phase + 1);
+            arrives(&rt, &mut phaser, TaskNumber::of(task), phase + 1);
         }
     }
     Ok(())
@@ -98,7 +103,7 @@ fn four_phases_are_in_use(rt: HostRuntime) -> Result<(), Fail> {
     for phase in 0..PHASES {
         quick_ones_go_on(&rt, &mut phaser, phase);
         for task in 0..SLOW {
-            arrives(&rt, &mut phaser, task, phase + 1);
+            arrives(&rt, &mut phaser, TaskNumber::of(task), phase + 1);
         }
         slow_one_goes_on(&rt, &mut phaser, phase);
     }
@@ -148,8 +153,20 @@ fn a_task_leaves_a_value_at_the_edge(rt: HostRuntime) -> Result<(), Fail> {
         if let Some(before) = phase.checked_sub(1) {
             sees(&rt, &mut phaser, 1, sum_with_guest(before));
         }
-        goes_on(&rt, &mut phaser, 0, phase, sum_with_guest(phase));
-        goes_on(&rt, &mut phaser, 1, phase, sum_with_guest(phase));
+        goes_on(
+            &rt,
+            &mut phaser,
+            TaskNumber::of(0),
+            phase,
+            sum_with_guest(phase),
+        );
+        goes_on(
+            &rt,
+            &mut phaser,
+            TaskNumber::of(1),
+            phase,
+            sum_with_guest(phase),
+        );
     }
     Ok(())
 }

@@ -14,8 +14,8 @@ fn quick_phase(rt: &impl Abort, phaser: &mut LongPhaser, phase: u32) {
     sends(rt, phaser, 1, change.saturating_mul(2).saturating_add(7));
     signals(rt, phaser, 0);
     signals(rt, phaser, 1);
-    goes_on(rt, phaser, 0, phase, sum_of(phase));
-    goes_on(rt, phaser, 1, phase, sum_of(phase));
+    goes_on(rt, phaser, TaskNumber::of(0), phase, sum_of(phase));
+    goes_on(rt, phaser, TaskNumber::of(1), phase, sum_of(phase));
 }
 
 /// Tasks 0 and 1, which signal and wait, and task 2, which only waits, where a signaller may be
@@ -38,8 +38,9 @@ fn a_slow_waiter_leaves(rt: HostRuntime) -> Result<(), Fail> {
     for phase in 0..1_000 {
         quick_phase(&rt, &mut phaser, phase);
     }
+    let slow = TaskNumber::of(2);
     for phase in 0..300 {
-        goes_on(&rt, &mut phaser, 2, phase, sum_of(phase));
+        goes_on(&rt, &mut phaser, slow, phase, sum_of(phase));
     }
     replies(&rt, &mut phaser, Call::Drop(2), Reply::Done);
     sees(&rt, &mut phaser, 0, sum_of(999));
@@ -114,7 +115,7 @@ fn all_waiters_are_gone(rt: HostRuntime) -> Result<(), Fail> {
 /// Two waiters end their turn of the phase, in which nothing was sent.
 fn waiters_go_on(rt: &impl Abort, phaser: &mut LongPhaser, phase: u32) {
     for task in 1..3 {
-        goes_on(rt, phaser, task, phase, 0);
+        goes_on(rt, phaser, TaskNumber::of(task), phase, 0);
         replies(rt, phaser, Call::Look(task, 1), Reply::Saw(Look::Nothing));
     }
 }

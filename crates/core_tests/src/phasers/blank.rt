@@ -5,10 +5,17 @@ use super::*;
 use crate::asserted::equal;
 use phase_modes::Reg;
 
+/// What such a phaser has room for.
+const SMALL: Example = Example {
+    history: 16,
+    regs: 4,
+    ..PLAIN
+};
+
 /// A phaser that nobody has made yet, without accumulators and unbounded; `NotNow` where the limits
 /// are none.
 fn blank(alloc: Global) -> Result<PhaserState, Refusal> {
-    let limits = limits_with(16, 4);
+    let limits = SMALL.limits();
     if !limits.fits() {
         return Err(Refusal::NotNow);
     }

@@ -63,7 +63,7 @@ fn is_new(rt: &impl Abort, state: &PhaserState) {
 
 #[test]
 fn new_is_not_always_out_of_memory(rt: HostRuntime) -> Result<(), Fail> {
-    let state = fresh(rt.alloc(), limits_with(4_096, 256), first_ops(4), None)?;
+    let state = fresh(rt.alloc(), PLAIN.limits(), first_ops(4), None)?;
     is_new(&rt, &state);
     agrees_with_plain(&rt, &state);
     Ok(())

@@ -32,7 +32,20 @@ fn is_mismatch(history: &History, phase: u32, number: Option<u32>) -> bool {
     number.is_some() && proposed(history, phase).is_some_and(|other| Some(other) != number)
 }
 
-fn register_causes(history: &History, parent: u32, child: u32, mode: Mode) -> Option<Refusal> {
+/// A registration that is asked for.
+#[derive(Clone, Copy)]
+struct Registering {
+    parent: u32,
+    child: u32,
+    mode: Mode,
+}
+
+fn register_causes(history: &History, asked: Registering) -> Option<Refusal> {
+    let Registering {
+        parent,
+        child,
+        mode,
+    } = asked;
     let limits = history.limits();
     let causes = [
         (!live(history, parent), Refusal::NotRegistered),
@@ -101,7 +114,14 @@ fn cause(history: &History, call: Call) -> Option<Refusal> {
             ];
             first_of(causes.as_slice())
         }
-        Call::Register(parent, child, mode) => register_causes(history, parent, child, mode),
+        Call::Register(parent, child, mode) => {
+            let asked = Registering {
+                parent,
+                child,
+                mode,
+            };
+            register_causes(history, asked)
+        }
         Call::Signal(task, number) => signal_causes(history, task, number),
         Call::Pass(task) => pass_causes(history, task),
         Call::SingleDone(task) | Call::Drop(task) => {
@@ -124,7 +144,8 @@ fn is_early(history: &History, task: u32) -> bool {
 }
 
 /// Whether a signal of this phase would leave the task as many phases behind as the bound is.
-fn falls_behind(history: &History, bound: Bound, phase: u32, task: u32) -> bool {
+fn falls_behind(history: &History, bound: Bound, phase: u32, task: TaskNumber) -> bool {
+    let task = task.get();
     let least = u64::from(waits(history, task)) + u64::from(bound.phases());
     live(history, task) && is_waiter(history, task) && least <= u64::from(phase)
 }
@@ -135,7 +156,12 @@ fn is_too_far(history: &History, task: u32) -> bool {
         return false;
     };
     let phase = signals(history, task);
-    (0..history.limits().tasks).any(|other| falls_behind(history, bound, phase, other))
+    (0..history.limits().tasks).any(|other| falls_behind(
+        history,
+        bound,
+        phase,
+        TaskNumber::of(other),
+    ))
 }
 
 /// Whether the call has to wait, where no refusal stands.

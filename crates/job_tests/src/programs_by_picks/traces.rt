@@ -7,6 +7,7 @@ use schedule_run::follows;
 use std::alloc::Global;
 use std::process::Abort;
 use std::test::Fail;
+use task_numbers::TaskNumber;
 use trace_model::{Trace, TracedEvent, TracedStep};
 use world_model::{Begun, Tried};
 
@@ -53,8 +54,9 @@ fn begin(task: u32, begun: Begun) -> TracedEvent {
     TracedEvent::Begin(task, begun)
 }
 
-fn made(n: u32, task: u32, mode: Mode) -> TracedEvent {
-    TracedEvent::Phaser(n, TracedStep::Make(task, mode, unbounded()))
+/// The root makes the phaser.
+fn made(n: u32, mode: Mode) -> TracedEvent {
+    TracedEvent::Phaser(n, TracedStep::Make(0, mode, unbounded()))
 }
 
 /// The pairs of these phasers, each in its mode.
@@ -75,7 +77,7 @@ const SMALLEST: &str = r#"{"main":[["new","p","SIG_WAIT",[]],["next"]]}"#;
 
 fn smallest_trace() -> [TracedEvent; 7] {
     [
-        made(0, 0, Mode::SigWait),
+        made(0, Mode::SigWait),
         begin(0, Begun::Next),
         of_phaser(0, TracedStep::Sig(0, None)),
         of_phaser(0, TracedStep::Pass(0)),
@@ -118,12 +120,12 @@ const OUTSIDE_SCOPE: &str =
     r#"{"main":[["new","p","SIG_WAIT",[]],["open"],["async",[["p","SIG"]],[["next"]]],["shut"]]}"#;
 
 /// The spawn on a phaser from outside the finish, on this phaser, is refused by this task.
-fn refused_spawn(phaser: u32, task: u32) -> [TracedEvent; 6] {
+fn refused_spawn(phaser: u32, task: TaskNumber) -> [TracedEvent; 6] {
     [
-        made(0, 0, Mode::SigWait),
+        made(0, Mode::SigWait),
         of_finish(1, FinishEvent::Opened(0)),
         TracedEvent::Refuse(
-            task,
+            task.get(),
             Tried::Begun(Begun::Async(1, pairs(&[(phaser, Mode::Sig)]))),
             12,
         ),
@@ -135,19 +137,26 @@ fn refused_spawn(phaser: u32, task: u32) -> [TracedEvent; 6] {
 
 #[test]
 fn refusals_are_the_tasks_own(rt: HostRuntime) -> Result<(), Fail> {
-    leaves_at(&rt, rt.alloc(), OUTSIDE_SCOPE, &refused_spawn(0, 0), None)?;
+    let root = TaskNumber::of(0);
     leaves_at(
         &rt,
         rt.alloc(),
         OUTSIDE_SCOPE,
-        &refused_spawn(0, 1),
+        &refused_spawn(0, root),
+        None,
+    )?;
+    leaves_at(
+        &rt,
+        rt.alloc(),
+        OUTSIDE_SCOPE,
+        &refused_spawn(0, TaskNumber::of(1)),
         Some(3),
     )?;
     leaves_at(
         &rt,
         rt.alloc(),
         OUTSIDE_SCOPE,
-        &refused_spawn(1, 0),
+        &refused_spawn(1, root),
         Some(3),
     )
 }
@@ -158,8 +167,8 @@ const SENDERS: &str =
 /// A name that is given again means the later phaser; one without a meaning means none.
 fn named_twice(meant: u32, value: i32) -> [TracedEvent; 5] {
     [
-        made(4, 0, Mode::Sig),
-        made(9, 0, Mode::Sig),
+        made(4, Mode::Sig),
+        made(9, Mode::Sig),
         of_phaser(9, TracedStep::Send(0, 0, 7)),
         of_phaser(meant, TracedStep::Send(0, 0, value)),
         TracedEvent::Refuse(0, Tried::Look(u32::MAX, 1), 1),
@@ -179,8 +188,8 @@ const ALL: &str =
 /// Two spawns on all phasers, the second after the root has left phaser 1.
 fn all_twice(first: &[(u32, Mode)], second: &[(u32, Mode)]) -> [TracedEvent; 5] {
     [
-        made(0, 0, Mode::SigWait),
-        made(1, 0, Mode::Sig),
+        made(0, Mode::SigWait),
+        made(1, Mode::Sig),
         begin(0, Begun::Async(1, pairs(first))),
         of_phaser(1, TracedStep::Drop(0)),
         begin(0, Begun::Async(2, pairs(second))),

@@ -51,8 +51,9 @@ impl<'a, K: Naming, R: Wait> Calls for Receipted<'a, K, R> {
         self.table.make(&mut self.by, &mut self.me, self.number, task, mode, &terms)
     }
 
-    fn register(&mut self, parent: u32, child: u32, mode: Mode) -> Result<(), Refusal> {
-        self.table.register(&mut self.by, &mut self.me, self.number, parent, child, mode)
+    fn register(&mut self, child: u32, mode: Mode) -> Result<(), Refusal> {
+        self.table
+            .register(&mut self.by, &mut self.me, self.number, 0, child, mode)
     }
 
     fn signal(&mut self, task: u32) {

@@ -10,19 +10,21 @@ use std::alloc::Global;
 /// How many calls a turn of both tasks takes.
 const TURN: u64 = 6;
 
-/// A phaser with a signaller and a waiter, whose maker has left.
-fn phaser(
-    alloc: Global,
-    limits: Limits,
+/// The two tasks of a phaser.
+#[derive(Clone, Copy)]
+struct Ends {
     signaller: u32,
     waiter: u32,
-) -> Result<PhaserState, Refusal>
+}
+
+/// A phaser with a signaller and a waiter, whose maker has left.
+fn phaser(alloc: Global, limits: Limits, ends: Ends) -> Result<PhaserState, Refusal>
     requires { limits_fit limits ≡ true }
 {
     let mut state = PhaserState::new(alloc, limits, Ops::none(), None)?;
     state.make(0, Mode::SigWait)?;
-    state.register(0, signaller, Mode::Sig)?;
-    state.register(0, waiter, Mode::Wait)?;
+    state.register(0, ends.signaller, Mode::Sig)?;
+    state.register(0, ends.waiter, Mode::Wait)?;
     state.drop_task(0)?;
     Ok(state)
 }
@@ -51,8 +53,16 @@ fn turn(first: &mut PhaserState, second: &mut PhaserState) -> u64 {
 pub fn calls_of_turns(alloc: Global, limits: Limits, turns: u32) -> Result<u64, Refusal>
     requires { limits_fit limits ≡ true }
 {
-    let mut first = phaser(alloc, limits, 1, 2)?;
-    let mut second = phaser(alloc, limits, 2, 1)?;
+    let there = Ends {
+        signaller: 1,
+        waiter: 2,
+    };
+    let back = Ends {
+        signaller: 2,
+        waiter: 1,
+    };
+    let mut first = phaser(alloc, limits, there)?;
+    let mut second = phaser(alloc, limits, back)?;
     let mut calls: u64 = 0;
     for _ in 0..turns {
         let done = turn(&mut first, &mut second);

@@ -6,6 +6,7 @@ use finish_core::FinishEvent;
 use phase_model::Terms;
 use phase_modes::{Limits, Mode, Pair, Phased, Refusal};
 use std::alloc::Global;
+use task_numbers::TaskNumber;
 use world_core::World;
 use world_model::{Begun, Reply, Step, WorldEvent};
 
@@ -20,8 +21,8 @@ fn on(phaser: u32, step: Step) -> WorldEvent {
 }
 
 /// The task makes the phaser, without accumulators and unbounded.
-fn made(phaser: u32, task: u32) -> WorldEvent {
-    on(phaser, Step::Make(task, Mode::SigWait, Terms::none()))
+fn made(phaser: u32, task: TaskNumber) -> WorldEvent {
+    on(phaser, Step::Make(task.get(), Mode::SigWait, Terms::none()))
 }
 
 /// The pairs of a spawn on these phasers.
@@ -40,8 +41,16 @@ fn is_made(answer: Result<Reply, Refusal>) -> bool {
     !matches!(answer, Err(_) | Ok(Reply::NotYet))
 }
 
+/// A task that is spawned, and by whom.
+#[derive(Clone, Copy)]
+struct Spawned {
+    parent: u32,
+    child: u32,
+}
+
 /// The parent spawns the child, with the phasers of these pairs.
-fn spawn(world: &mut World, parent: u32, child: u32, pairs: &[Pair]) -> Result<(), Refusal> {
+fn spawn(world: &mut World, spawned: Spawned, pairs: &[Pair]) -> Result<(), Refusal> {
+    let Spawned { parent, child } = spawned;
     world.step(&WorldEvent::Begin(parent, Begun::Async(child, named(pairs))))?;
     for pair in pairs {
         world.step(&on(pair.phaser, Step::Reg(parent, child, pair.mode)))?;
@@ -53,8 +62,9 @@ fn spawn(world: &mut World, parent: u32, child: u32, pairs: &[Pair]) -> Result<(
 /// The root makes both phasers, spawns task 1, which signals on the first, and task 2, which
 /// signals on the second, and each waits on the other's.
 fn spawn_both(world: &mut World) -> Result<(), Refusal> {
-    world.step(&made(0, 0))?;
-    world.step(&made(1, 0))?;
+    let root = TaskNumber::of(0);
+    world.step(&made(0, root))?;
+    world.step(&made(1, root))?;
     let signals = |phaser| Pair {
         phaser,
         mode: Mode::Sig,
@@ -63,8 +73,16 @@ fn spawn_both(world: &mut World) -> Result<(), Refusal> {
         phaser,
         mode: Mode::Wait,
     };
-    spawn(world, 0, 1, &[signals(0), waits(1)])?;
-    spawn(world, 0, 2, &[signals(1), waits(0)])
+    let first = Spawned {
+        parent: 0,
+        child: 1,
+    };
+    let second = Spawned {
+        parent: 0,
+        child: 2,
+    };
+    spawn(world, first, &[signals(0), waits(1)])?;
+    spawn(world, second, &[signals(1), waits(0)])
 }
 
 /// The root leaves both phasers, and waits for its tasks.
@@ -77,16 +95,24 @@ fn leave(world: &mut World) -> Result<(), Refusal> {
 
 /// The keeper makes 15 phasers and spawns 199 tasks, each on one of these. All of them stand by.
 fn stand_by(world: &mut World) -> Result<(), Refusal> {
-    spawn(world, 0, KEEPER, &[])?;
+    let keeper = Spawned {
+        parent: 0,
+        child: KEEPER,
+    };
+    spawn(world, keeper, &[])?;
     for phaser in 2..17 {
-        world.step(&made(phaser, KEEPER))?;
+        world.step(&made(phaser, TaskNumber::of(KEEPER)))?;
     }
     for child in 4..203 {
         let pair = Pair {
             phaser: 2 + child % 15,
             mode: Mode::SigWait,
         };
-        spawn(world, KEEPER, child, &[pair])?;
+        let other = Spawned {
+            parent: KEEPER,
+            child,
+        };
+        spawn(world, other, &[pair])?;
     }
     Ok(())
 }

@@ -1,7 +1,7 @@
 //! The worked examples by 1, 2 and 16 workers, as their commands print them.
 ghost use Rattle.std.specs.Prelude.{◌≤◌, ◌<◌, length};
 
-use super::ends;
+use super::{Shape, ends};
 use crate::asserted::holds_at;
 use crate::ended::Ended;
 use job_ends::Status;
@@ -71,13 +71,13 @@ fn stencil_prints<R: Threads + Wait + Sync + Abort>(
 fn pipeline_prints<R: Threads + Wait + Sync + Abort>(
     rt: &R,
     alloc: Global,
-    stages: u32,
-    items: u32,
+    shape: Shape,
     lines: &str,
 ) -> Result<(), Fail>
-    requires stages { stages ≤ 15 }
-    requires items { items ≤ 100 }
+    requires stages { shape.stages ≤ 15 }
+    requires items { shape.items ≤ 100 }
 {
+    let Shape { stages, items } = shape;
     let plain = pipeline_plain(alloc, stages, items)?;
     for workers in [1, 2, 16] {
         let world = world_of(rt, alloc, PipelineBody::root(stages, items), workers)?;
@@ -151,8 +151,10 @@ fn pipeline_two_stages(rt: HostRuntime) -> Result<(), Fail> {
     pipeline_prints(
         &rt,
         rt.alloc(),
-        2,
-        3,
+        Shape {
+            stages: 2,
+            items: 3,
+        },
         "items 4 5 6\ntotals registered 9 signals 10 passes 22 drops 9 sends 9 up 30 down 0\n",
     )
 }
@@ -168,8 +170,10 @@ fn pipeline_three_stages(rt: HostRuntime) -> Result<(), Fail> {
     pipeline_prints(
         &rt,
         rt.alloc(),
-        3,
-        2,
+        Shape {
+            stages: 3,
+            items: 2,
+        },
         "items 7 8\ntotals registered 12 signals 11 passes 25 drops 12 sends 8 up 32 down 0\n",
     )
 }
@@ -179,8 +183,10 @@ fn pipeline_no_items(rt: HostRuntime) -> Result<(), Fail> {
     pipeline_prints(
         &rt,
         rt.alloc(),
-        1,
-        0,
+        Shape {
+            stages: 1,
+            items: 0,
+        },
         "items\ntotals registered 6 signals 0 passes 1 drops 6 sends 0 up 0 down 0\n",
     )
 }

@@ -2,6 +2,7 @@
 //! of one thread. What is to come out was set down before the code was written.
 ghost use Rattle.std.specs.Prelude.{◌≤◌, length};
 
+use super::Shape;
 use job_kernels::{
     PipelineBody, StencilBody, cells_of, items_of, lowest_refused, pipeline_plain, refusal_of,
     stencil_plain,
@@ -142,14 +143,11 @@ fn stencil(
 }
 
 /// The pipeline by its tasks and in one thread.
-fn pipeline(
-    alloc: Global,
-    stages: u32,
-    items: u32,
-) -> Result<(Vec<u32>, Vec<i64>, TotalsLine), Refusal>
-    requires stages { stages ≤ 15 }
-    requires items { items ≤ 100 }
+fn pipeline(alloc: Global, shape: Shape) -> Result<(Vec<u32>, Vec<i64>, TotalsLine), Refusal>
+    requires stages { shape.stages ≤ 15 }
+    requires items { shape.items ≤ 100 }
 {
+    let Shape { stages, items } = shape;
     let plain = pipeline_plain(alloc, stages, items)?;
     let report = report_of(alloc, PipelineBody::root(stages, items))?;
     let values = items_of(alloc, &report, stages)?;
@@ -232,9 +230,13 @@ fn no_step(rt: HostRuntime) -> Result<(), Fail> {
 
 #[test]
 fn two_stages(rt: HostRuntime) -> Result<(), Fail> {
+    let shape = Shape {
+        stages: 2,
+        items: 3,
+    };
     gave(
         &rt,
-        pipeline(rt.alloc(), 2, 3),
+        pipeline(rt.alloc(), shape),
         &[4, 5, 6],
         TotalsLine {
             registered: 9,
@@ -251,9 +253,13 @@ fn two_stages(rt: HostRuntime) -> Result<(), Fail> {
 
 #[test]
 fn no_item(rt: HostRuntime) -> Result<(), Fail> {
+    let shape = Shape {
+        stages: 1,
+        items: 0,
+    };
     gave(
         &rt,
-        pipeline(rt.alloc(), 1, 0),
+        pipeline(rt.alloc(), shape),
         &[],
         TotalsLine {
             registered: 6,

@@ -58,6 +58,14 @@ fn first_in_first_out(rt: HostRuntime) -> Result<(), Refusal> {
     Ok(())
 }
 
+// What a worker puts first, so many items from the first on, of the first half of all.
+#[derive(Clone, Copy)]
+struct Part {
+    first: u32,
+    share: u32,
+    half: u32,
+}
+
 // Puts the first half of what there is to put from this seat, and then takes until the queue is
 // closed. Whoever takes an item of the first half puts its fellow, that many further on, and whoever
 // is done with the last of all closes the queue. Nobody takes while it still owes a put, so not all
@@ -67,10 +75,10 @@ fn work<R: Wait>(
     alloc: Global,
     queue: &RunQueue<u32>,
     left: &AtomicU64,
-    job: (u32, u32, u32, Seat<u32>),
+    job: (Part, Seat<u32>),
 ) -> Result<Vec<u32>, Refusal> {
-    let (first, share, half, mut seat) = job;
-    let worked = put_and_take(rt, alloc, queue, left, (first, share, half), &mut seat);
+    let (part, mut seat) = job;
+    let worked = put_and_take(rt, alloc, queue, left, part, &mut seat);
     if worked.is_err() {
         queue.close(rt);
     }
@@ -82,10 +90,10 @@ fn put_and_take<R: Wait>(
     alloc: Global,
     queue: &RunQueue<u32>,
     left: &AtomicU64,
-    range: (u32, u32, u32),
+    part: Part,
     seat: &mut Seat<u32>,
 ) -> Result<Vec<u32>, Refusal> {
-    let (first, share, half) = range;
+    let Part { first, share, half } = part;
     let mut items = Vec::new(alloc);
     for step in 0..share {
         put_one(rt, queue, seat, first.wrapping_add(step))?;
@@ -121,16 +129,19 @@ fn count_down<R: Wait>(rt: &R, queue: &RunQueue<u32>, left: &AtomicU64) {
     }
 }
 
-// Each worker puts this many items, and each of them brings a second one: each comes out once, and
-// nothing is left.
-fn each_once<R: Threads + Wait + Sync>(
-    rt: &R,
-    alloc: Global,
+// How many workers there are, and how many items each of them puts.
+#[derive(Clone, Copy)]
+struct Crowd {
     workers: u32,
     share: u32,
-) -> Result<bool, Refusal>
-    requires { workers ≤ 16 }
+}
+
+// Each worker puts its items, and each of them brings a second one: each comes out once, and
+// nothing is left.
+fn each_once<R: Threads + Wait + Sync>(rt: &R, alloc: Global, crowd: Crowd) -> Result<bool, Refusal>
+    requires { crowd.workers ≤ 16 }
 {
+    let Crowd { workers, share } = crowd;
     let (queue, seats) = RunQueue::new(alloc, workers, 4)?;
     let half = workers.wrapping_mul(share);
     let all = half.wrapping_mul(2);
@@ -138,7 +149,8 @@ fn each_once<R: Threads + Wait + Sync>(
     let mut jobs = Vec::new(alloc);
     let mut first = 0u32;
     for seat in seats {
-        jobs.push((first, share, half, seat))?;
+        let part = Part { first, share, half };
+        jobs.push((part, seat))?;
         first = first.wrapping_add(share);
     }
     let done = thread::map_vec(rt, jobs, &|job| work(rt, alloc, &queue, &left, job))?;
@@ -159,19 +171,31 @@ fn each_once<R: Threads + Wait + Sync>(
 
 #[test]
 fn one_worker_takes_each_once(rt: HostRuntime) -> Result<(), Refusal> {
-    assert!(rt; each_once(&rt, rt.alloc(), 1, 5_000)?);
+    let crowd = Crowd {
+        workers: 1,
+        share: 5_000,
+    };
+    assert!(rt; each_once(&rt, rt.alloc(), crowd)?);
     Ok(())
 }
 
 #[test]
 fn two_workers_take_each_once(rt: HostRuntime) -> Result<(), Refusal> {
-    assert!(rt; each_once(&rt, rt.alloc(), 2, 2_500)?);
+    let crowd = Crowd {
+        workers: 2,
+        share: 2_500,
+    };
+    assert!(rt; each_once(&rt, rt.alloc(), crowd)?);
     Ok(())
 }
 
 #[test]
 fn sixteen_workers_take_each_once(rt: HostRuntime) -> Result<(), Refusal> {
-    assert!(rt; each_once(&rt, rt.alloc(), 16, 312)?);
+    let crowd = Crowd {
+        workers: 16,
+        share: 312,
+    };
+    assert!(rt; each_once(&rt, rt.alloc(), crowd)?);
     Ok(())
 }
 
@@ -205,25 +229,38 @@ fn sleep_or_close<R: Wait>(
     queue.take(rt, &mut seat).is_none()
 }
 
+// So many rows, of so many items each.
+#[derive(Clone, Copy)]
+struct Rows {
+    count: u32,
+    length: u32,
+}
+
 #[test]
 fn each_put_wakes_one(rt: HostRuntime) -> Result<(), Refusal> {
-    assert!(rt; rows_are_taken(&rt, rt.alloc(), 200, 1)?);
+    let rows = Rows {
+        count: 200,
+        length: 1,
+    };
+    assert!(rt; rows_are_taken(&rt, rt.alloc(), rows)?);
     Ok(())
 }
 
 #[test]
 fn a_row_of_puts_wakes_as_many(rt: HostRuntime) -> Result<(), Refusal> {
-    assert!(rt; rows_are_taken(&rt, rt.alloc(), 50, 4)?);
+    let rows = Rows {
+        count: 50,
+        length: 4,
+    };
+    assert!(rt; rows_are_taken(&rt, rt.alloc(), rows)?);
     Ok(())
 }
 
-// Whether each of 200 items, given in so many rows of so many by one of four workers, is taken by
-// another.
+// Whether each of 200 items, given in these rows by one of four workers, is taken by another.
 fn rows_are_taken<R: Threads + Wait + Sync>(
     rt: &R,
     alloc: Global,
-    rows: u32,
-    row: u32,
+    rows: Rows,
 ) -> Result<bool, Refusal> {
     let (queue, seats) = RunQueue::new(alloc, 4, 4)?;
     let turns = AtomicU64::new(0);
@@ -234,7 +271,7 @@ fn rows_are_taken<R: Threads + Wait + Sync>(
         seats,
         &|seat| {
             if turns.fetch_add(1, Ordering::SeqCst) == 0 {
-                give(rt, queue_in, &taken, (rows, row), seat)
+                give(rt, queue_in, &taken, rows, seat)
             } else {
                 take_all(rt, queue_in, &taken, seat)
             }
@@ -243,21 +280,20 @@ fn rows_are_taken<R: Threads + Wait + Sync>(
     Ok(done.iter().all(|&none| none) && taken.load(Ordering::SeqCst) == 200)
 }
 
-// Gives so many rows of so many items to the others, each row only once the one before was taken, so
-// that mostly the others sleep, and closes the queue. It takes none itself: an item whose put wakes
-// nobody would never be taken. Whether nothing is left then.
+// Gives these rows to the others, each only once the one before was taken, so that mostly the others
+// sleep, and closes the queue. It takes none itself: an item whose put wakes nobody would never be
+// taken. Whether nothing is left then.
 fn give<R: Wait>(
     rt: &R,
     queue: &RunQueue<u32>,
     taken: &AtomicU64,
-    rows: (u32, u32),
+    rows: Rows,
     mut seat: Seat<u32>,
 ) -> bool {
-    let (rows, row) = rows;
     let mut given = 0u64;
-    for _ in 0..rows {
-        put_row(rt, queue, row, &mut seat);
-        given = given.saturating_add(u64::from(row));
+    for _ in 0..rows.count {
+        put_row(rt, queue, rows.length, &mut seat);
+        given = given.saturating_add(u64::from(rows.length));
         wait_for(rt, taken, given);
     }
     queue.close(rt);

@@ -82,7 +82,7 @@ impl Dice {
     fn pair(&mut self, plain: &Plain, task: u32) -> Pair {
         let phaser = self.phaser();
         let drawn = self.mode();
-        let mode = match plain.registration(phaser, task) {
+        let mode = match plain.registration(PhaserNumber::of(phaser), task) {
             Some(reg) => reg.mode,
             None => drawn,
         };

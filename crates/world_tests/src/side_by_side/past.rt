@@ -121,7 +121,8 @@ pub(super) fn all_ended(events: &[WorldEvent], finish: u32) -> bool {
     true
 }
 
-pub(super) fn is_live(events: &[WorldEvent], phaser: u32, task: u32) -> bool {
+pub(super) fn is_live(events: &[WorldEvent], phaser: PhaserNumber, task: u32) -> bool {
+    let phaser = phaser.get();
     let left = on(phaser, Step::Drop(task));
     let joined = events
         .iter()
@@ -138,7 +139,7 @@ fn add_phaser(
 ) -> Result<(), Refusal> {
     if let Some((phaser, joined)) = registered_by(event)
         && joined == task
-        && is_live(events, phaser, task)
+        && is_live(events, PhaserNumber::of(phaser), task)
     {
         list.push(phaser)?;
     }

@@ -146,8 +146,8 @@ impl Plain {
     }
 
     /// How the task is registered now.
-    pub(super) fn registration(&self, phaser: u32, task: u32) -> Option<Reg> {
-        let state = self.phasers.get(phaser as usize)?;
+    pub(super) fn registration(&self, phaser: PhaserNumber, task: u32) -> Option<Reg> {
+        let state = self.phasers.get(phaser.place())?;
         state.registration(task)
     }
 
@@ -218,7 +218,7 @@ impl Plain {
         let events = self.events.as_slice();
         for i in 0..pairs.len() {
             let pair = pairs[i];
-            let Some(reg) = self.registration(pair.phaser, task) else {
+            let Some(reg) = self.registration(PhaserNumber::of(pair.phaser), task) else {
                 return Some(Refusal::NotRegistered);
             };
             let before = &pairs[..i];
@@ -243,12 +243,12 @@ impl Plain {
     /// Whether one of the task's phasers has it signal ahead of its last turn.
     fn leads(&self, task: u32, own: &[u32]) -> bool {
         own.iter().any(|phaser| self
-            .registration(*phaser, task)
+            .registration(PhaserNumber::of(*phaser), task)
             .is_some_and(|reg| reg.ahead))
     }
 
     /// Whether it owes a signal on the phaser.
-    fn is_behind(&self, phaser: u32, task: u32) -> bool {
+    fn is_behind(&self, phaser: PhaserNumber, task: u32) -> bool {
         self.registration(phaser, task)
             .is_some_and(|reg| reg.mode.can_signal() && !reg.ahead)
     }
@@ -256,7 +256,7 @@ impl Plain {
     /// The refusal of a single statement, of a task that is on these phasers.
     fn refusal_of_single(&self, task: u32, own: &[u32]) -> Option<Refusal> {
         let single = own.iter().all(|phaser| {
-            self.registration(*phaser, task)
+            self.registration(PhaserNumber::of(*phaser), task)
                 .is_some_and(|reg| reg.mode.can_single())
         });
         let conditions = [
@@ -287,7 +287,9 @@ impl Plain {
                 first_of([(!self.leads(task, own), Refusal::AlreadySignalled)].as_slice())
             }
             Begun::Wait => {
-                let owes = own.iter().any(|phaser| self.is_behind(*phaser, task));
+                let owes = own
+                    .iter()
+                    .any(|phaser| self.is_behind(PhaserNumber::of(*phaser), task));
                 first_of([(!owes, Refusal::NotSignalled)].as_slice())
             }
             Begun::Next => None,
@@ -314,11 +316,12 @@ impl Plain {
     /// The reply to a phaser that the task may make.
     fn new_reply(
         &self,
-        phaser: u32,
+        phaser: PhaserNumber,
         task: u32,
         mode: Mode,
         terms: Terms,
     ) -> Result<Answer, Refusal> {
+        let phaser = phaser.get();
         if phaser >= self.limits.phasers || self.is_on_many(task)? {
             return Ok(Err(Refusal::PhasersFull));
         }
@@ -343,7 +346,12 @@ impl Plain {
                 Some(refusal) => Err(refusal),
                 None => Ok(Reply::Done),
             }),
-            Tried::New(phaser, mode, terms) => self.new_reply(phaser, task, mode, terms),
+            Tried::New(phaser, mode, terms) => self.new_reply(
+                PhaserNumber::of(phaser),
+                task,
+                mode,
+                terms,
+            ),
             Tried::Open(finish) => {
                 if finish >= self.limits.finishes {
                     return Ok(Err(Refusal::FinishesFull));
@@ -450,7 +458,7 @@ impl Plain {
     ) -> Result<(), Refusal> {
         let own = phasers_of(self.events.as_slice(), task, self.alloc)?;
         for phaser in own.as_slice() {
-            if self.is_behind(*phaser, task) {
+            if self.is_behind(PhaserNumber::of(*phaser), task) {
                 due.push(on(*phaser, Step::Sig(task, number)))?;
             }
         }
