@@ -67,13 +67,13 @@ impl Task {
 }
 
 /// Whose turn it is: the tasks at both ends come first, since other threads wait for them.
-fn turn(number: usize, tasks: usize) -> usize
-    requires { number < tasks }
-    ensures { result < tasks }
+fn turn(number: usize, tasks: &[Task]) -> usize
+    requires { number < length tasks.now }
+    ensures { result < length tasks.now }
 {
     match number {
         0 => 0,
-        1 => tasks - 1,
+        1 => tasks.len() - 1,
         _ => number - 1,
     }
 }
@@ -89,7 +89,7 @@ fn show_all<R: Wait>(me: &mut Caller<R>, tasks: &[Task]) -> Result<(), Refusal> 
 /// Each of the tasks goes a step.
 fn step_all<R: Wait>(me: &mut Caller<R>, tasks: &mut [Task]) -> Result<(), Refusal> {
     for number in 0..tasks.len() {
-        let place = turn(number, tasks.len());
+        let place = turn(number, tasks);
         tasks[place].go(me)?;
     }
     Ok(())

@@ -1,7 +1,9 @@
 //! What the program's words ask for.
 ghost use Rattle.std.specs.Prelude.{◌≡◌, ◌≤◌, ◌<◌, IfOk};
+ghost use Rattle.std.specs.Range.{range_inclusive_start, range_inclusive_end};
 
 use anyhow::{bail, ensure};
+use std::ops::RangeInclusive;
 
 /// What is printed where the words ask for nothing that can be done.
 pub const USAGE: &str = "
@@ -28,10 +30,11 @@ pub struct Job {
     ghost some_size: { 0 < size },
 }
 
-/// The number that the word is. An error where it is none from the least to the most.
-fn number(name: &str, word: &str, least: u32, most: u32) -> anyhow::Result<u32>
-    ensures { IfOk result (λ n. (least ≤ n) × (n ≤ most)) }
+/// The number that the word is. An error where it is none of the range.
+fn number(name: &str, word: &str, range: RangeInclusive<u32>) -> anyhow::Result<u32>
+    ensures { IfOk result (λ n. (range_inclusive_start range ≤ n) × (n ≤ range_inclusive_end range)) }
 {
+    let (least, most) = range.into_inner();
     match word.parse::<u32>() {
         Ok(number) if least <= number && number <= most => Ok(number),
         _ => bail!("{name} is a number from {least} to {most}, and not {word}"),
@@ -52,17 +55,17 @@ pub fn job_of(words: &[&str]) -> anyhow::Result<Job> {
         ),
         _ => bail!("there are {} words", words.len()),
     };
-    let workers = number("WORKERS", workers, 1, 16)?;
-    let cells = number("CELLS", cells, 1, 1_000_000)?;
-    let pieces = number("PIECES", pieces, 1, 64)?;
-    let steps = number("STEPS", steps, 0, 100_000)?;
+    let workers = number("WORKERS", workers, 1..=16)?;
+    let cells = number("CELLS", cells, 1..=1_000_000)?;
+    let pieces = number("PIECES", pieces, 1..=64)?;
+    let steps = number("STEPS", steps, 0..=100_000)?;
     let size = cells / pieces;
     ensure!(
         size > 0 && cells % pieces == 0,
         "{cells} cells make no {pieces} pieces of as many each"
     );
     let rounds = match rounds {
-        Some(rounds) => Some(number("ROUNDS", rounds, 1, 1_000)?),
+        Some(rounds) => Some(number("ROUNDS", rounds, 1..=1_000)?),
         None => None,
     };
     Ok(Job {

@@ -165,7 +165,7 @@ fn stencil_for<'a>(
     ensures none { IfErr result (IsNoJobFor (stencil first.now steps.now (option_map (λ t. t.now) workers.entry))) }
 {
     let first = first_of(alloc, first)?;
-    let steps = value_of(Value::Steps, 0, 100, steps)?;
+    let steps = value_of(Value::Steps, 0..=100, steps)?;
     let workers = workers_of(workers)?;
     Ok(Job::Stencil {
         first,
@@ -185,8 +185,8 @@ fn pipeline_for<'a>(
     ensures range { IfOk result (λ job. IsInRange (work_of job)) }
     ensures none { IfErr result (IsNoJobFor (pipeline stages.now items.now (option_map (λ t. t.now) workers.entry))) }
 {
-    let stages = value_of(Value::Stages, 1, 15, stages)?;
-    let items = value_of(Value::Items, 0, 100, items)?;
+    let stages = value_of(Value::Stages, 1..=15, stages)?;
+    let items = value_of(Value::Items, 0..=100, items)?;
     let workers = workers_of(workers)?;
     Ok(Job::Pipeline {
         stages,

@@ -2,11 +2,13 @@
 ghost use Rattle.std.specs.Prelude.{◌≡◌, ◌<◌, ◌≤◌, length, Some, IfErr, IfOk, option_map};
 ghost use Rattle.std.specs.Char.{is_ascii_digit};
 ghost use Rattle.std.specs.List.{list_all};
+ghost use Rattle.std.specs.Range.{range_inclusive_start, range_inclusive_end};
 ghost use Rattle.command_words.specs.CommandLine.{IsOfValue};
 ghost use Rattle.command_words.specs.Lists.{first_in, list_in, listed_in, number_in, number_within, workers_in};
 
 use crate::command_line::{NoJob, Value};
 use std::alloc::Global;
+use std::ops::RangeInclusive;
 
 /// How many picks a list has at most.
 pub(crate) const MOST_PICKS: usize = 10_000;
@@ -40,9 +42,10 @@ fn number_of(text: &str) -> Option<u32>
 }
 
 /// The same, where it isn't out of range.
-pub(crate) fn number_within(least: u32, greatest: u32, text: &str) -> Option<u32>
-    ensures { result ≡ number_within least greatest text.now }
+pub(crate) fn number_within(range: RangeInclusive<u32>, text: &str) -> Option<u32>
+    ensures { result ≡ number_within (range_inclusive_start range) (range_inclusive_end range) text.now }
 {
+    let (least, greatest) = range.into_inner();
     let number = number_of(text)?;
     if least <= number && number <= greatest {
         Some(number)
@@ -66,7 +69,7 @@ pub(crate) fn list_of(
 {
     let mut numbers = Vec::new(alloc);
     for piece in list.split(',') {
-        let Some(number) = number_within(0, greatest, piece) else {
+        let Some(number) = number_within(0..=greatest, piece) else {
             return Err(NoJob::BadValue(name));
         };
         if numbers.len() == most {
@@ -100,12 +103,14 @@ pub(crate) fn first_of(alloc: Global, list: &str) -> Result<Vec<u32>, NoJob>
 }
 
 /// The number that the text spells, where it isn't out of range; else the value of this name is bad.
-pub(crate) fn value_of(name: Value, least: u32, greatest: u32, text: &str) -> Result<u32, NoJob>
-    ensures number { IfOk result (λ n. number_within least greatest text.now ≡ Some n) }
-    ensures within { IfOk result (λ n. (least ≤ n) × (n ≤ greatest)) }
-    ensures none { IfErr result (IsOfValue name (number_within least greatest text.now)) }
+pub(crate) fn value_of(name: Value, range: RangeInclusive<u32>, text: &str) -> Result<u32, NoJob>
+    ensures number { IfOk result (λ n.
+        number_within (range_inclusive_start range) (range_inclusive_end range) text.now ≡ Some n) }
+    ensures within { IfOk result (λ n. (range_inclusive_start range ≤ n) × (n ≤ range_inclusive_end range)) }
+    ensures none { IfErr result (IsOfValue name
+        (number_within (range_inclusive_start range) (range_inclusive_end range) text.now)) }
 {
-    match number_within(least, greatest, text) {
+    match number_within(range, text) {
         Some(number) => Ok(number),
         None => Err(NoJob::BadValue(name)),
     }
@@ -118,7 +123,7 @@ pub(crate) fn workers_of(text: Option<&str>) -> Result<u32, NoJob>
     ensures none { IfErr result (IsOfValue Value.Workers (workers_in (option_map (λ t. t.now) text.entry))) }
 {
     match text {
-        Some(text) => value_of(Value::Workers, 1, 16, text),
+        Some(text) => value_of(Value::Workers, 1..=16, text),
         None => Ok(2),
     }
 }
