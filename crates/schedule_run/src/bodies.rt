@@ -17,6 +17,7 @@ ghost use Rattle.schedule_run.specs.inner.Bodies.{BodiesStand, IsAsked};
 use job_script::{Act, Answer, Program, ScriptBody};
 use phase_modes::Refusal;
 use std::alloc::Global;
+use task_numbers::{PhaserNumber, TaskNumber};
 
 /// A task's body, and what it hears before its next act.
 #[derive(Drop)]
@@ -96,19 +97,19 @@ impl<'p> Bodies<'p> {
     }
 
     /// Reports to a task that it made the phaser that its last act asked for.
-    pub(crate) fn report_made(&mut self, phaser: u32, task: u32)
+    pub(crate) fn report_made(&mut self, phaser: PhaserNumber, task: TaskNumber)
         ensures stand { (p : programs.Program) (w : List events.WorldEvent)
             (m : modes.Mode) (terms : Terms)
             → IsAsked p w task self.old.seats.items
             → BodiesStand p (Phaser phaser (Make task m terms) ∷ w) self.new.seats.items }
         ensures places { length self.new.seats.items ≡ length self.old.seats.items }
     {
-        let place = task as usize;
+        let place = task.place();
         if place >= self.seats.len() {
             return;
         }
         if let Some(seat) = &mut self.seats[place] {
-            seat.answer = Answer::Made(phaser);
+            seat.answer = Answer::Made(phaser.get());
         }
     }
 

@@ -25,6 +25,7 @@ use job_script::{Act, Answer, Program, ScriptBody};
 use phase_modes::Refusal;
 use std::alloc::Global;
 use std::collections::BTreeMap;
+use task_numbers::{PhaserNumber, TaskNumber};
 use trace_model::{EventView, LongEvent, Trace};
 
 /// The tasks of a trace by their numbers, which may be any. A task has a seat from its spawn on.
@@ -60,14 +61,14 @@ impl<'p> Followers<'p> {
     }
 
     /// Reports to a task that it made the phaser that its last act asked for.
-    fn report_made(&mut self, phaser: u32, task: u32)
+    fn report_made(&mut self, phaser: PhaserNumber, task: TaskNumber)
         ensures { (p : programs.Program) (w : List events.WorldEvent)
             (m : modes.Mode) (terms : Terms)
             → IsAskedOf p w task (seat_of self.old.seats)
             → SeatsStand p (Phaser phaser (Make task m terms) ∷ w) (seat_of self.new.seats) }
     {
-        if let Some(seat) = self.seats.get_mut(&task) {
-            seat.answer = Answer::Made(phaser);
+        if let Some(seat) = self.seats.get_mut(&task.get()) {
+            seat.answer = Answer::Made(phaser.get());
         }
     }
 
@@ -101,7 +102,7 @@ impl<'p> Followers<'p> {
     {
         match event {
             LongEvent::Make(phaser, _, _, _) => {
-                self.report_made(*phaser, task);
+                self.report_made(PhaserNumber::of(*phaser), TaskNumber::of(task));
                 Ok(())
             }
             LongEvent::Async(_, child, _) => match act {

@@ -30,6 +30,7 @@ use crate::record::{Outcome, Record};
 use job_script::{Act, Program, ScriptBody};
 use phase_modes::Refusal;
 use std::alloc::Global;
+use task_numbers::{PhaserNumber, TaskNumber};
 use trace_model::Trace;
 use world_model::{Condition, Tried, WorldEvent};
 
@@ -67,7 +68,9 @@ fn settle<'p>(bodies: &mut Bodies<'p>, task: u32, new: Numbers, act: Act<ScriptB
     match act {
         Act::Async(body, _) => seat(bodies, new.task, body),
         Act::AsyncAll(body) => seat(bodies, new.task, body),
-        Act::New(_, _, _) => bodies.report_made(new.phaser, task),
+        Act::New(_, _, _) => {
+            bodies.report_made(PhaserNumber::of(new.phaser), TaskNumber::of(task));
+        }
         _ => {}
     }
 }

@@ -11,6 +11,7 @@ use finish_core::FinishEvent;
 use phase_model::{Bound, Op, Terms};
 use phase_modes::{Limits, Mode, Pair, Refusal};
 use std::alloc::{AllocError, Global};
+use task_numbers::{PhaserNumber, TaskNumber};
 use trace_model::{EventView, LongEvent, ShortStep, Trace, TracedStep};
 use world_model::{Begun, Tried};
 
@@ -202,14 +203,15 @@ fn write_refuse(out: &mut String, task: u32, act: &Tried, number: u8) -> Result<
 #[tactic(auto, unfolding(json::specs::Print::escape_byte))]
 fn write_make(
     out: &mut String,
-    phaser: u32,
-    task: u32,
+    phaser: PhaserNumber,
+    task: TaskNumber,
     mode: Mode,
     terms: &Terms,
 ) -> Result<(), AllocError>
     ensures { Appends result out.old out.new
         (rest_text (event_items Second (Phaser phaser (TracedStep.Make task mode terms.now)))) }
 {
+    let (phaser, task) = (phaser.get(), task.get());
     write!(out, ",\"p\",{phaser},\"make\",{task}")?;
     write_terms(out, mode, terms)
 }
@@ -255,7 +257,10 @@ fn write_long(out: &mut String, event: &LongEvent) -> Result<(), AllocError>
     ensures { Appends result out.old out.new (rest_text (event_items Second (long_event event.now))) }
 {
     match event {
-        LongEvent::Make(phaser, task, mode, terms) => write_make(out, *phaser, *task, *mode, terms),
+        LongEvent::Make(phaser, task, mode, terms) => {
+            let (phaser, task) = (PhaserNumber::of(*phaser), TaskNumber::of(*task));
+            write_make(out, phaser, task, *mode, terms)
+        }
         LongEvent::Async(task, child, pairs) => {
             write_begin(out, *task, &Begun::Async(*child, *pairs))
         }
