@@ -73,23 +73,29 @@ fn worked<T: Send + Drop, C: LongCrew<T> + Sync, J: Naming + Send + Sync, R: Thr
     Ok(given)
 }
 
+/// A phaser that nobody has made yet: what it folds by, its bound, and the log of its history.
+struct Unmade {
+    ops: Ops,
+    bound: Bound,
+    log: Whole<LongEvent>,
+}
+
 // Names the phaser's log.
 fn named<T: Send + Drop, C: LongCrew<T> + Sync, R: Threads + Wait + Sync, J: Naming + Send + Sync>(
     rt: &R,
     alloc: Global,
-    ops: Ops,
-    bound: Bound,
-    log: Whole<LongEvent>,
+    unmade: Unmade,
     workers: u32,
     crew: &C,
 ) -> Result<Vec<C::Given>, Refusal>
-    requires name { log.name ≡ J.log }
-    requires empty { log.items ≡ [] }
-    requires terms { J.terms ≡ record { ops = ops; bound = Some bound } }
+    requires name { unmade.log.name ≡ J.log }
+    requires empty { unmade.log.items ≡ [] }
+    requires terms { J.terms ≡ record { ops = unmade.ops; bound = Some unmade.bound } }
     requires some { 0 < workers }
     ensures given { IfOk result (λ v. vec_len v ≡ workers) }
     ensures refused { IfErr result (λ e. (e ≡ Refusal.Memory) ⊎ C.refuses crew.now e) }
 {
+    let Unmade { ops, bound, log } = unmade;
     let (lock, front) = ReceiptLock::<J, T>::new(alloc, ops, bound, log)?;
     worked(rt, alloc, &lock, front, workers, crew)
 }
@@ -112,5 +118,10 @@ pub fn with_long_phaser<T: Send + Drop, C: LongCrew<T> + Sync, R: Threads + Wait
     ensures given { IfOk result (λ v. vec_len v ≡ workers) }
     ensures refused { IfErr result (λ e. (e ≡ Refusal.Memory) ⊎ C.refuses crew.now e) }
 {
-    named::<T, C, R, Brand>(rt, alloc, ops, bound, Whole::new(), workers, crew)
+    let unmade = Unmade {
+        ops,
+        bound,
+        log: Whole::new(),
+    };
+    named::<T, C, R, Brand>(rt, alloc, unmade, workers, crew)
 }
