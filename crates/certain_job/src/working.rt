@@ -12,7 +12,7 @@ use certify_job::{NoCertificate, certificate_of};
 use job_ends::{Ending, Failure, Status, put_text};
 use one_answer::{certify, first_luck};
 use program_texts::{program_of, put_trace};
-use run_job::run_program;
+use run_job::{Workers, run_program};
 use std::alloc::Global;
 use std::io::Write;
 use std::sync::Wait;
@@ -42,20 +42,19 @@ fn put_certain<W: Write, T: Write>(
     put_text(out, certificate.as_str())
 }
 
-/// Reads a program's text, certifies the program, and runs it by as many workers, each in a thread of
-/// its own. Then the trace of that run is written to OUT, where there is an OUT, and its report with
-/// the line `certain`: the certificate. Where luck has a part in the run by rounds no other run is
-/// made. Where it has one in this run, as by want of memory, the certificate isn't this run's. Nothing
-/// is written then. More than 1,048,576 bytes are refused at place 0.
+/// Reads a program's text, certifies the program, and runs it by these workers. Then the trace of that
+/// run is written to OUT, where there is an OUT, and its report with the line `certain`: the
+/// certificate. Where luck has a part in the run by rounds no other run is made. Where it has one in
+/// this run, as by want of memory, the certificate isn't this run's. Nothing is written then. More
+/// than 1,048,576 bytes are refused at place 0.
 pub fn certain_bytes<R: Threads + Wait + Sync, W: Write, T: Write>(
-    rt: &R,
+    workers: Workers<'_, R>,
     alloc: Global,
     input: &[u8],
-    workers: u32,
     out: &mut W,
     trace_out: &mut Option<T>,
 ) -> Result<(), NoCertificate>
-    requires { (0 < workers) × (workers ≤ 16) }
+    requires { (0 < workers.number) × (workers.number ≤ 16) }
     // Exactly the certificate, which is of one run's report, and the text of that run's trace.
     ensures done { OnOk result (RunsCertain input.now (λ r t.
         Appends (W.contents out.old) (W.contents out.new) (certificate_text r)
@@ -68,7 +67,7 @@ pub fn certain_bytes<R: Threads + Wait + Sync, W: Write, T: Write>(
 {
     let program = program_of(alloc, input)?;
     certify(alloc, &program)?;
-    let report = run_program(rt, alloc, &program, workers)?;
+    let report = run_program(workers, alloc, &program)?;
     if let Some(at) = first_luck(alloc, &report.trace)? {
         return Err(NoCertificate::Luck(at));
     }
@@ -76,18 +75,17 @@ pub fn certain_bytes<R: Threads + Wait + Sync, W: Write, T: Write>(
     Ok(())
 }
 
-/// Runs a program's text whose bytes are here by as many workers, where it is certified. The line that
+/// Runs a program's text whose bytes are here by these workers, where it is certified. The line that
 /// says why it isn't run goes to `faults`; where it can't be written, the status stays what it is.
 pub fn ending_on<R: Threads + Wait + Sync, W: Write, F: Write, T: Write>(
-    rt: &R,
+    workers: Workers<'_, R>,
     alloc: Global,
     input: &[u8],
-    workers: u32,
     out: &mut W,
     faults: &mut F,
     trace_out: &mut Option<T>,
 ) -> Ending
-    requires { (0 < workers) × (workers ≤ 16) }
+    requires { (0 < workers.number) × (workers.number ≤ 16) }
     ensures done { result.status ≡ Status.Done → RunsCertain input.now (λ r t.
         Appends (W.contents out.old) (W.contents out.new) (certificate_text r)
         × AppendsOut T.contents trace_out.old trace_out.new (trace_line t)) }
@@ -101,7 +99,7 @@ pub fn ending_on<R: Threads + Wait + Sync, W: Write, F: Write, T: Write>(
         (F.contents faults.old) (F.contents faults.new) }
     ensures usage { result.status ≢ Status.Usage }
 {
-    match certain_bytes(rt, alloc, input, workers, out, trace_out) {
+    match certain_bytes(workers, alloc, input, out, trace_out) {
         Ok(()) => Ending {
             status: Status::Done,
             reported: false,
@@ -112,15 +110,14 @@ pub fn ending_on<R: Threads + Wait + Sync, W: Write, F: Write, T: Write>(
 
 /// The status of `ending_on`.
 pub fn certain_on<R: Threads + Wait + Sync, W: Write, F: Write, T: Write>(
-    rt: &R,
+    workers: Workers<'_, R>,
     alloc: Global,
     input: &[u8],
-    workers: u32,
     out: &mut W,
     faults: &mut F,
     trace_out: &mut Option<T>,
 ) -> Status
-    requires { (0 < workers) × (workers ≤ 16) }
+    requires { (0 < workers.number) × (workers.number ≤ 16) }
     ensures done { result ≡ Status.Done → RunsCertain input.now (λ r t.
         Appends (W.contents out.old) (W.contents out.new) (certificate_text r)
         × AppendsOut T.contents trace_out.old trace_out.new (trace_line t)) }
@@ -132,5 +129,5 @@ pub fn certain_on<R: Threads + Wait + Sync, W: Write, F: Write, T: Write>(
         (F.contents faults.old) (F.contents faults.new) }
     ensures usage { result ≢ Status.Usage }
 {
-    ending_on(rt, alloc, input, workers, out, faults, trace_out).status
+    ending_on(workers, alloc, input, out, faults, trace_out).status
 }

@@ -17,7 +17,7 @@ pub use laws::{
     pipeline_stages_go_by_it, pipeline_tasks_send_it, stencil_cells_go_by_it,
     stencil_cells_send_it, stencil_root_spawns_cells, stencil_stays_at_most,
 };
-pub use pipeline::pipeline_plain;
+pub use pipeline::{PipelineSize, pipeline_plain};
 pub use pipeline_body::PipelineBody;
 pub use refused::{lowest_refused, refusal_of};
 pub use results::{cells_of, items_of};

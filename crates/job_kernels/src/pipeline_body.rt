@@ -4,6 +4,7 @@ ghost use Rattle.std.specs.Prelude.{◌≡◌, ◌≤◌, ◌<◌, ◌+◌, Some
 ghost use Rattle.job_kernels.specs.PipelineTasks.{source_next, stage_turns, stage_sends, stage_at, stage_next, sink_turns, sink_next, spawn_source, spawn_stage, spawn_sink, spawn, root_next, root_task, pipeline_next};
 
 use crate::heard::{operator, pair, seen_in};
+use crate::pipeline::PipelineSize;
 use body_follows::Goes;
 use job_script::{Act, Answer};
 use phase_model::Op;
@@ -89,64 +90,64 @@ impl Root {
             return Act::End;
         }
         self.spawned += 1;
-        spawn(self.items, self.stages, place)
+        self.spawn(place)
     }
-}
 
-/// The spawn of this place: that of the source, of a stage or of the sink.
-fn spawn(items: u8, stages: u8, place: u32) -> Act<PipelineBody>
-    requires { place ≤ stages + 1 }
-    ensures { result ≡ spawn items stages place }
-{
-    if place == 0 {
-        spawn_source(items)
-    } else if place <= u32::from(stages) {
-        spawn_stage(items, (place - 1) as u8)
-    } else {
-        spawn_sink(items, stages)
+    /// The spawn of this place: that of the source, of a stage or of the sink.
+    fn spawn(&self, place: u32) -> Act<PipelineBody>
+        requires { place ≤ self.now.stages + 1 }
+        ensures { result ≡ spawn self.now.items self.now.stages place }
+    {
+        if place == 0 {
+            self.spawn_source()
+        } else if place <= u32::from(self.stages) {
+            self.spawn_stage((place - 1) as u8)
+        } else {
+            self.spawn_sink()
+        }
     }
-}
 
-fn spawn_source(items: u8) -> Act<PipelineBody>
-    ensures { result ≡ spawn_source items }
-{
-    let source = Source {
-        items,
-        sent: 0,
-        sends: true,
-    };
-    let mut phasers = Phased::none();
-    phasers.push(pair(0, Mode::Sig));
-    spawned(Role::Source(source), phasers)
-}
+    fn spawn_source(&self) -> Act<PipelineBody>
+        ensures { result ≡ spawn_source self.now.items }
+    {
+        let source = Source {
+            items: self.items,
+            sent: 0,
+            sends: true,
+        };
+        let mut phasers = Phased::none();
+        phasers.push(pair(0, Mode::Sig));
+        spawned(Role::Source(source), phasers)
+    }
 
-fn spawn_stage(items: u8, before: u8) -> Act<PipelineBody>
-    ensures { result ≡ spawn_stage items before }
-{
-    let phaser = u32::from(before);
-    let stage = Stage {
-        before,
-        turns: u32::from(items) + phaser,
-        moment: Moment::Turns,
-    };
-    let mut phasers = Phased::none();
-    phasers.push(pair(phaser, Mode::Wait));
-    phasers.push(pair(phaser + 1, Mode::Sig));
-    spawned(Role::Stage(stage), phasers)
-}
+    fn spawn_stage(&self, before: u8) -> Act<PipelineBody>
+        ensures { result ≡ spawn_stage self.now.items before }
+    {
+        let phaser = u32::from(before);
+        let stage = Stage {
+            before,
+            turns: u32::from(self.items) + phaser,
+            moment: Moment::Turns,
+        };
+        let mut phasers = Phased::none();
+        phasers.push(pair(phaser, Mode::Wait));
+        phasers.push(pair(phaser + 1, Mode::Sig));
+        spawned(Role::Stage(stage), phasers)
+    }
 
-fn spawn_sink(items: u8, stages: u8) -> Act<PipelineBody>
-    ensures { result ≡ spawn_sink items stages }
-{
-    let phaser = u32::from(stages);
-    let sink = Sink {
-        phaser,
-        turns: u32::from(items) + phaser,
-        looks: false,
-    };
-    let mut phasers = Phased::none();
-    phasers.push(pair(phaser, Mode::Wait));
-    spawned(Role::Sink(sink), phasers)
+    fn spawn_sink(&self) -> Act<PipelineBody>
+        ensures { result ≡ spawn_sink self.now.items self.now.stages }
+    {
+        let phaser = u32::from(self.stages);
+        let sink = Sink {
+            phaser,
+            turns: u32::from(self.items) + phaser,
+            looks: false,
+        };
+        let mut phasers = Phased::none();
+        phasers.push(pair(phaser, Mode::Wait));
+        spawned(Role::Sink(sink), phasers)
+    }
 }
 
 /// The spawn of a task on these phasers.
@@ -246,16 +247,16 @@ impl Sink {
 }
 
 impl PipelineBody {
-    /// The root of a pipeline of so many stages, through which so many items go.
-    pub fn root(stages: u32, items: u32) -> PipelineBody
-        requires stages { stages ≤ 15 }
-        requires items { items ≤ 100 }
-        ensures { result ≡ root_task stages items }
+    /// The root of a pipeline of this size.
+    pub fn root(size: PipelineSize) -> PipelineBody
+        requires stages { size.stages ≤ 15 }
+        requires items { size.items ≤ 100 }
+        ensures { result ≡ root_task size.stages size.items }
     {
         PipelineBody {
             role: Role::Root(Root {
-                stages: stages as u8,
-                items: items as u8,
+                stages: size.stages as u8,
+                items: size.items as u8,
                 made: 0,
                 spawned: 0,
             }),

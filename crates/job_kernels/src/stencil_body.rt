@@ -76,7 +76,7 @@ impl Root {
         let place = self.spawned;
         if place < self.cells {
             self.spawned += 1;
-            return Act::Async(self.cell(place), phasers(self.cells, place));
+            return Act::Async(self.cell(place), self.phasers(place));
         }
         Act::End
     }
@@ -97,23 +97,23 @@ impl Root {
             }),
         }
     }
-}
 
-/// The phasers of the task at this place of a row: its own, and those of its neighbours, on which it
-/// only waits.
-fn phasers(cells: u32, place: u32) -> Phased
-    requires { place < cells }
-    ensures { result ≡ phasers_of cells place }
-{
-    let mut phasers = Phased::none();
-    phasers.push(pair(place, Mode::SigWait));
-    if place > 0 {
-        phasers.push(pair(place - 1, Mode::Wait));
+    /// The phasers of the task of the cell at this place: its own, and those of its neighbours, on
+    /// which it only waits.
+    fn phasers(&self, place: u32) -> Phased
+        requires { place < self.now.cells }
+        ensures { result ≡ phasers_of self.now.cells place }
+    {
+        let mut phasers = Phased::none();
+        phasers.push(pair(place, Mode::SigWait));
+        if place > 0 {
+            phasers.push(pair(place - 1, Mode::Wait));
+        }
+        if self.cells - place > 1 {
+            phasers.push(pair(place + 1, Mode::Wait));
+        }
+        phasers
     }
-    if cells - place > 1 {
-        phasers.push(pair(place + 1, Mode::Wait));
-    }
-    phasers
 }
 
 impl Cell {

@@ -14,9 +14,9 @@ ghost use Rattle.kernels_job.specs.Worked.{IsKernelRun, stencil_text, pipeline_t
 use crate::printing::{Kernel, ending_on};
 use body_follows::{Goes, goes_by};
 use job_ends::Status;
-use job_kernels::{PipelineBody, StencilBody};
+use job_kernels::{PipelineBody, PipelineSize, StencilBody};
 use phase_modes::{Limits, Refusal};
-use phased_rt::{OpenGate, Question, run_and_ask};
+use phased_rt::{OpenGate, Question, Workers, run_and_ask};
 use std::alloc::Global;
 use std::io::Write;
 use std::sync::Wait;
@@ -50,20 +50,18 @@ impl<B: Goes + Copy> Question for GoesBy<B> {
 /// The report of the root's run under the default limits, once its trace was seen to go by the root's
 /// body and those that come of it.
 fn report_of<B: Goes + Copy + Send + Sync, R: Threads + Wait + Sync>(
-    rt: &R,
+    workers: Workers<'_, R>,
     alloc: Global,
     root: B,
-    workers: u32,
 ) -> Result<WorldReport, Refusal>
-    requires { (0 < workers) × (workers ≤ 16) }
+    requires { (0 < workers.number) × (workers.number ≤ 16) }
     ensures { IsKernelRun B.next root result }
 {
     let (report, gone) = run_and_ask(
-        rt,
+        workers,
         alloc,
         root,
         Limits::default(),
-        workers,
         &OpenGate,
         &GoesBy { root },
     )?;
@@ -73,17 +71,16 @@ fn report_of<B: Goes + Copy + Send + Sync, R: Threads + Wait + Sync>(
     }
 }
 
-/// Runs the root by as many workers, and ends the command of its kernel.
+/// Runs the root by these workers, and ends the command of its kernel.
 fn kernel_on<B: Goes + Copy + Send + Sync, R: Threads + Wait + Sync, W: Write, F: Write>(
-    rt: &R,
+    workers: Workers<'_, R>,
     alloc: Global,
     kernel: Kernel,
     root: B,
-    workers: u32,
     out: &mut W,
     faults: &mut F,
 ) -> Status
-    requires { (0 < workers) × (workers ≤ 16) }
+    requires { (0 < workers.number) × (workers.number ≤ 16) }
     ensures done { result ≡ Status.Done → (r : Report) × IsKernelRun B.next root (Ok r) × (refusal_of r ≡ None)
         × Appends (W.contents out.old) (W.contents out.new) (kernel_text kernel r) }
     ensures quiet { result ≡ Status.Done → Keeps (F.contents faults.old) (F.contents faults.new) }
@@ -92,7 +89,7 @@ fn kernel_on<B: Goes + Copy + Send + Sync, R: Threads + Wait + Sync, W: Write, F
         × ReportsStatus (IsOfEnd ran) result (F.contents faults.old) (F.contents faults.new) }
     ensures usage { result ≢ Status.Usage }
 {
-    let ran = report_of(rt, alloc, root, workers);
+    let ran = report_of(workers, alloc, root);
     ending_on(alloc, kernel, ran, out, faults).status
 }
 
@@ -124,15 +121,11 @@ pub fn stencil_on<R: Threads + Wait + Sync, W: Write, F: Write>(
     ensures usage { result ≢ Status.Usage }
 {
     let root = StencilBody::root(first, steps);
-    kernel_on(
+    let workers = Workers {
         rt,
-        alloc,
-        Kernel::Stencil(steps),
-        root,
-        workers,
-        out,
-        faults,
-    )
+        number: workers,
+    };
+    kernel_on(workers, alloc, Kernel::Stencil(steps), root, out, faults)
 }
 
 /// Runs the pipeline of so many stages over so many items, by as many workers, each in a thread of
@@ -164,14 +157,10 @@ pub fn pipeline_on<R: Threads + Wait + Sync, W: Write, F: Write>(
         × ReportsStatus (IsOfEnd ran) result (F.contents faults.old) (F.contents faults.new) }
     ensures usage { result ≢ Status.Usage }
 {
-    let root = PipelineBody::root(stages, items);
-    kernel_on(
+    let root = PipelineBody::root(PipelineSize { stages, items });
+    let workers = Workers {
         rt,
-        alloc,
-        Kernel::Pipeline(stages),
-        root,
-        workers,
-        out,
-        faults,
-    )
+        number: workers,
+    };
+    kernel_on(workers, alloc, Kernel::Pipeline(stages), root, out, faults)
 }

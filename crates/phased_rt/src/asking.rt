@@ -14,6 +14,7 @@ ghost use Rattle.phased_rt.specs.Totals.{AreTotals};
 use crate::question::Question;
 use crate::report::Report;
 use crate::told::told_of;
+use crate::workers::Workers;
 use phase_modes::{Limits, Refusal};
 use std::alloc::Global;
 use std::sync::Wait;
@@ -24,16 +25,15 @@ use task_crew::{Body, Gate, run_tasks};
 /// own, while this one replays the trace, where there are two workers or more and 4,096 events or
 /// more; else once the trace is replayed. A run that can't be told is refused, whatever was answered.
 pub fn run_and_ask<B: Body + Send, G: Gate + Sync, Q: Question + Sync, R: Threads + Wait + Sync>(
-    rt: &R,
+    workers: Workers<'_, R>,
     alloc: Global,
     root: B,
     limits: Limits,
-    workers: u32,
     gate: &G,
     question: &Q,
 ) -> Result<(Report<B>, Q::Answer), Refusal>
     requires limits { limits_fit limits ≡ true }
-    requires workers { (0 < workers) × (workers ≤ 16) }
+    requires workers { (0 < workers.number) × (workers.number ≤ 16) }
     ensures limits { IfOk result (λ r. r.0.trace.limits ≡ limits) }
     ensures explained { IfOk result (λ r. is_explained r.0.trace ≡ true) }
     ensures world { IfOk result (λ r. r.0.world ≡ report_of limits (past (reverse r.0.trace.events))) }
@@ -45,6 +45,7 @@ pub fn run_and_ask<B: Body + Send, G: Gate + Sync, Q: Question + Sync, R: Thread
     ensures answered { IfOk result (λ r. Q.answers question.now r.0.trace r.1) }
     ensures refused { IfErr result (λ e. IsRunRefused e) }
 {
-    let remains = run_tasks(rt, alloc, root, limits, workers, gate)?;
-    told_of(rt, alloc, limits, workers, remains, question)
+    let Workers { rt, number } = workers;
+    let remains = run_tasks(rt, alloc, root, limits, number, gate)?;
+    told_of(rt, alloc, limits, number, remains, question)
 }

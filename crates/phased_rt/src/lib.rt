@@ -34,6 +34,7 @@ mod question;
 mod report;
 mod running;
 mod told;
+mod workers;
 
 pub use asking::run_and_ask;
 pub use job_script::{Act, Answer};
@@ -43,3 +44,4 @@ pub use question::Question;
 pub use report::Report;
 pub use running::run;
 pub use task_crew::{Body, Gate, OpenGate};
+pub use workers::Workers;

@@ -21,10 +21,11 @@ use certify_job::certify_on;
 use command_words::{Job, NoJob, job_of};
 use events_job::events_from;
 use job_ends::{Failure, Reads, Status, bytes_of, write_text};
+use job_kernels::PipelineSize;
 use kernels_job::{pipeline_on, stencil_on};
 use phase_modes::Refusal;
 use replay_job::replay_on;
-use run_job::run_on;
+use run_job::{Workers, run_on};
 use schedule_job::schedule_on;
 use std::alloc::{AllocError, Global};
 use std::env;
@@ -150,19 +151,41 @@ fn do_on<H: Threads + Wait + Sync, R: Read>(
             workers,
             trace,
             certain,
-        } => run_program(rt, threads, *workers, *certain, file, *trace, reader),
+        } => {
+            let workers = Workers {
+                rt: threads,
+                number: *workers,
+            };
+            run_program(rt, workers, *certain, file, *trace, reader)
+        }
         Job::Replay { upgrade, .. } => replay(rt, *upgrade, reader),
         Job::Certify { .. } => certify(rt, reader),
         Job::Stencil {
             first,
             steps,
             workers,
-        } => stencil(rt, threads, first, *steps, *workers),
+        } => {
+            let workers = Workers {
+                rt: threads,
+                number: *workers,
+            };
+            stencil(rt, workers, first, *steps)
+        }
         Job::Pipeline {
             stages,
             items,
             workers,
-        } => pipeline(rt, threads, *stages, *items, *workers),
+        } => {
+            let workers = Workers {
+                rt: threads,
+                number: *workers,
+            };
+            let size = PipelineSize {
+                stages: *stages,
+                items: *items,
+            };
+            pipeline(rt, workers, size)
+        }
     }
 }
 
@@ -224,14 +247,13 @@ fn schedule_into<R: Read>(
 /// where it has to be certain only if it is certified.
 fn run_program<H: Threads + Wait + Sync, R: Read>(
     rt: &HostRuntime,
-    threads: &H,
-    workers: u32,
+    workers: Workers<'_, H>,
     certain: bool,
     file: &str,
     out_name: Option<&str>,
     reader: &mut R,
 ) -> Status
-    requires { (0 < workers) × (workers ≤ 16) }
+    requires { (0 < workers.number) × (workers.number ≤ 16) }
     ensures done { result ≡ Status.Done → IfSome (R.remaining reader.old) (λ all.
         (p : Program) × (program_spelled all ≡ Ok p)) }
     // Where it has to be certain, it is.
@@ -240,10 +262,10 @@ fn run_program<H: Threads + Wait + Sync, R: Read>(
     ensures usage { result ≢ Status.Usage }
 {
     let Some(name) = out_name else {
-        return run_into(rt, threads, workers, certain, &mut None::<File>, reader);
+        return run_into(rt, workers, certain, &mut None::<File>, reader);
     };
     match make_out(rt, file, name) {
-        Ok(out) => run_into(rt, threads, workers, certain, &mut Some(out), reader),
+        Ok(out) => run_into(rt, workers, certain, &mut Some(out), reader),
         Err(failure) => failed(rt, failure),
     }
 }
@@ -251,13 +273,12 @@ fn run_program<H: Threads + Wait + Sync, R: Read>(
 /// Runs the program that the reader gives by workers, and prints the report on standard output.
 fn run_into<H: Threads + Wait + Sync, R: Read>(
     rt: &HostRuntime,
-    threads: &H,
-    workers: u32,
+    workers: Workers<'_, H>,
     certain: bool,
     trace_out: &mut Option<File>,
     reader: &mut R,
 ) -> Status
-    requires { (0 < workers) × (workers ≤ 16) }
+    requires { (0 < workers.number) × (workers.number ≤ 16) }
     ensures done { result ≡ Status.Done → IfSome (R.remaining reader.old) (λ all.
         (p : Program) × (program_spelled all ≡ Ok p)) }
     ensures certain { certain ≡ true → result ≡ Status.Done → IfSome (R.remaining reader.old) (λ all.
@@ -266,7 +287,7 @@ fn run_into<H: Threads + Wait + Sync, R: Read>(
 {
     let (alloc, mut reads) = (rt.alloc(), Reads::none());
     match bytes_of(alloc, reader, &mut reads, program_texts::MOST_BYTES) {
-        Ok(bytes) => run_bytes(rt, threads, workers, certain, trace_out, &bytes),
+        Ok(bytes) => run_bytes(rt, workers, certain, trace_out, &bytes),
         Err(failure) => failed(rt, failure),
     }
 }
@@ -274,34 +295,25 @@ fn run_into<H: Threads + Wait + Sync, R: Read>(
 /// Runs the program of these bytes by workers, and prints the report on standard output.
 fn run_bytes<H: Threads + Wait + Sync>(
     rt: &HostRuntime,
-    threads: &H,
-    workers: u32,
+    workers: Workers<'_, H>,
     certain: bool,
     trace_out: &mut Option<File>,
     bytes: &[u8],
 ) -> Status
-    requires { (0 < workers) × (workers ≤ 16) }
+    requires { (0 < workers.number) × (workers.number ≤ 16) }
     ensures done { result ≡ Status.Done → (p : Program) × (program_spelled bytes.now ≡ Ok p) }
     ensures certain { certain ≡ true → result ≡ Status.Done → Certifies bytes.now (λ r. ⊤) }
     ensures usage { result ≢ Status.Usage }
 {
     let (alloc, mut out, mut faults) = (rt.alloc(), rt.stdout(), rt.stderr());
     if certain {
-        certain_on(
-            threads,
-            alloc,
-            bytes,
-            workers,
-            &mut out,
-            &mut faults,
-            trace_out,
-        )
+        certain_on(workers, alloc, bytes, &mut out, &mut faults, trace_out)
     } else {
         run_on(
-            threads,
+            workers.rt,
             alloc,
             bytes,
-            workers,
+            workers.number,
             &mut out,
             &mut faults,
             trace_out,
@@ -329,22 +341,21 @@ fn certify<R: Read>(rt: &HostRuntime, reader: &mut R) -> Status
 /// Runs the stencil, and prints its cells on standard output.
 fn stencil<H: Threads + Wait + Sync>(
     rt: &HostRuntime,
-    threads: &H,
+    workers: Workers<'_, H>,
     first: &[u32],
     steps: u32,
-    workers: u32,
 ) -> Status
     requires few { length first.now ≤ 16 }
-    requires workers { (0 < workers) × (workers ≤ 16) }
+    requires workers { (0 < workers.number) × (workers.number ≤ 16) }
     ensures usage { result ≢ Status.Usage }
 {
     let (mut out, mut faults) = (rt.stdout(), rt.stderr());
     stencil_on(
-        threads,
+        workers.rt,
         rt.alloc(),
         first,
         steps,
-        workers,
+        workers.number,
         &mut out,
         &mut faults,
     )
@@ -353,23 +364,21 @@ fn stencil<H: Threads + Wait + Sync>(
 /// Runs the pipeline, and prints its items on standard output.
 fn pipeline<H: Threads + Wait + Sync>(
     rt: &HostRuntime,
-    threads: &H,
-    stages: u32,
-    items: u32,
-    workers: u32,
+    workers: Workers<'_, H>,
+    size: PipelineSize,
 ) -> Status
-    requires stages { stages ≤ 15 }
-    requires items { items ≤ 100 }
-    requires workers { (0 < workers) × (workers ≤ 16) }
+    requires stages { size.stages ≤ 15 }
+    requires items { size.items ≤ 100 }
+    requires workers { (0 < workers.number) × (workers.number ≤ 16) }
     ensures usage { result ≢ Status.Usage }
 {
     let (mut out, mut faults) = (rt.stdout(), rt.stderr());
     pipeline_on(
-        threads,
+        workers.rt,
         rt.alloc(),
-        stages,
-        items,
-        workers,
+        size.stages,
+        size.items,
+        workers.number,
         &mut out,
         &mut faults,
     )

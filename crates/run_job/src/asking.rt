@@ -7,7 +7,7 @@ ghost use Rattle.run_job.specs.Worked.{IsRunOf};
 
 use job_script::{Program, ScriptBody};
 use phase_modes::Refusal;
-use phased_rt::{OpenGate, Question, Report, run_and_ask};
+use phased_rt::{OpenGate, Question, Report, Workers, run_and_ask};
 use schedule_run::follows;
 use std::alloc::Global;
 use std::sync::Wait;
@@ -36,26 +36,23 @@ impl<'p> Question for Follows<'p> {
 }
 
 #[tactic(auto, using(crate::proofs::Answered::refused_so))]
-/// Runs a program by as many workers, each in a thread of its own. `NotExplained` where the run can't
-/// be told, or, at the place of the first event that isn't its task's next one, where it doesn't
-/// follow the program.
+/// Runs a program by these workers. `NotExplained` where the run can't be told, or, at the place of
+/// the first event that isn't its task's next one, where it doesn't follow the program.
 pub fn run_program<'p, R: Threads + Wait + Sync>(
-    rt: &R,
+    workers: Workers<'_, R>,
     alloc: Global,
     program: &'p Program,
-    workers: u32,
 ) -> Result<Report<ScriptBody<'p>>, Refusal>
-    requires { (0 < workers) × (workers ≤ 16) }
+    requires { (0 < workers.number) × (workers.number ≤ 16) }
     ensures ran { IfOk result (λ r. IsRunOf program.now r.trace) }
     ensures world { IfOk result (λ r. r.world ≡ report_of program.now.limits (past (reverse r.trace.events))) }
     ensures refused { IfErr result (λ e. IsRunRefused e) }
 {
     let (report, followed) = run_and_ask(
-        rt,
+        workers,
         alloc,
         program.root(),
         program.limits(),
-        workers,
         &OpenGate,
         &Follows { program },
     )?;

@@ -5,4 +5,5 @@ mod asking;
 mod working;
 
 pub use asking::run_program;
+pub use phased_rt::Workers;
 pub use working::{ending_on, run_bytes, run_on};

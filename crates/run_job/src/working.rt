@@ -9,25 +9,24 @@ ghost use Rattle.run_job.specs.Worked.{IsOfRun, Runs};
 
 use crate::asking::run_program;
 use job_ends::{Ending, Failure, Status};
+use phased_rt::Workers;
 use program_texts::{program_of, put_run};
 use std::alloc::Global;
 use std::io::Write;
 use std::sync::Wait;
 use std::thread::Threads;
 
-/// Reads a program's text, runs the program by as many workers, each in a thread of its own, and
-/// writes the trace to OUT, where there is an OUT, and then the report. Nothing is written before
-/// both texts are there, and nothing of a run that doesn't follow the program. More than 1,048,576
-/// bytes are refused at place 0.
+/// Reads a program's text, runs the program by these workers, and writes the trace to OUT, where
+/// there is an OUT, and then the report. Nothing is written before both texts are there, and nothing
+/// of a run that doesn't follow the program. More than 1,048,576 bytes are refused at place 0.
 pub fn run_bytes<R: Threads + Wait + Sync, W: Write, T: Write>(
-    rt: &R,
+    workers: Workers<'_, R>,
     alloc: Global,
     input: &[u8],
-    workers: u32,
     out: &mut W,
     trace_out: &mut Option<T>,
 ) -> Result<(), Failure>
-    requires { (0 < workers) × (workers ≤ 16) }
+    requires { (0 < workers.number) × (workers.number ≤ 16) }
     // Exactly the lines of the report and the text of the trace, of one run.
     ensures done { OnOk result (Runs input.now (λ p t.
         Appends (W.contents out.old) (W.contents out.new) (report_for p t)
@@ -41,23 +40,22 @@ pub fn run_bytes<R: Threads + Wait + Sync, W: Write, T: Write>(
     ensures failure { IfErr result (IsOfRun input.now) }
 {
     let program = program_of(alloc, input)?;
-    let report = run_program(rt, alloc, &program, workers)?;
+    let report = run_program(workers, alloc, &program)?;
     put_run(alloc, &report.world, &report.trace, out, trace_out)?;
     Ok(())
 }
 
-/// Runs a program's text whose bytes are here by as many workers. The line of a failure goes to
+/// Runs a program's text whose bytes are here by these workers. The line of a failure goes to
 /// `faults`; where it can't be written, the status stays what it is.
 pub fn ending_on<R: Threads + Wait + Sync, W: Write, F: Write, T: Write>(
-    rt: &R,
+    workers: Workers<'_, R>,
     alloc: Global,
     input: &[u8],
-    workers: u32,
     out: &mut W,
     faults: &mut F,
     trace_out: &mut Option<T>,
 ) -> Ending
-    requires { (0 < workers) × (workers ≤ 16) }
+    requires { (0 < workers.number) × (workers.number ≤ 16) }
     ensures done { result.status ≡ Status.Done → Runs input.now (λ p t.
         Appends (W.contents out.old) (W.contents out.new) (report_for p t)
         × AppendsOut T.contents trace_out.old trace_out.new (trace_line t)) }
@@ -71,7 +69,7 @@ pub fn ending_on<R: Threads + Wait + Sync, W: Write, F: Write, T: Write>(
         (F.contents faults.old) (F.contents faults.new) }
     ensures usage { result.status ≢ Status.Usage }
 {
-    match run_bytes(rt, alloc, input, workers, out, trace_out) {
+    match run_bytes(workers, alloc, input, out, trace_out) {
         Ok(()) => Ending {
             status: Status::Done,
             reported: false,
@@ -80,7 +78,7 @@ pub fn ending_on<R: Threads + Wait + Sync, W: Write, F: Write, T: Write>(
     }
 }
 
-/// The status of `ending_on`.
+/// The status of `ending_on` by as many workers, each in a thread of its own.
 pub fn run_on<R: Threads + Wait + Sync, W: Write, F: Write, T: Write>(
     rt: &R,
     alloc: Global,
@@ -102,5 +100,9 @@ pub fn run_on<R: Threads + Wait + Sync, W: Write, F: Write, T: Write>(
         (F.contents faults.old) (F.contents faults.new) }
     ensures usage { result ≢ Status.Usage }
 {
-    ending_on(rt, alloc, input, workers, out, faults, trace_out).status
+    let workers = Workers {
+        rt,
+        number: workers,
+    };
+    ending_on(workers, alloc, input, out, faults, trace_out).status
 }

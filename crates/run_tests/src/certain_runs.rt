@@ -8,6 +8,7 @@ use certain_job::{certain_bytes, certain_on, ending_on};
 use certify_job::NoCertificate;
 use job_ends::Status;
 use one_answer::{Luck, LuckAt};
+use run_job::Workers;
 use std::alloc::Global;
 use std::process::Abort;
 use std::sync::Wait;
@@ -28,10 +29,12 @@ fn check_by<R: Abort + Threads + Wait + Sync>(
     let mut reported = Vec::new(alloc);
     let mut trace: Option<Vec<u8>> = Some(Vec::new(alloc));
     let ended = certain_on(
-        rt,
+        Workers {
+            rt,
+            number: workers,
+        },
         alloc,
         text.as_bytes(),
-        workers,
         &mut out,
         &mut reported,
         &mut trace,
@@ -77,7 +80,14 @@ fn uncertain_programs_are_not_run(rt: HostRuntime) {
 fn why_a_program_is_not_run(rt: HostRuntime) {
     let mut out = Vec::new(rt.alloc());
     let mut nowhere: Option<Vec<u8>> = None;
-    let answer = certain_bytes(&rt, rt.alloc(), CROWD.as_bytes(), 2, &mut out, &mut nowhere);
+    let workers = Workers { rt: &rt, number: 2 };
+    let answer = certain_bytes(
+        workers,
+        rt.alloc(),
+        CROWD.as_bytes(),
+        &mut out,
+        &mut nowhere,
+    );
     let at = LuckAt {
         place: 8,
         luck: Luck::Registered(0, 2, 0),
@@ -93,10 +103,9 @@ fn a_certain_run_that_cannot_be_written(rt: HostRuntime) {
     let mut faults = Vec::new(rt.alloc());
     let mut nowhere: Option<Vec<u8>> = None;
     let ended = ending_on(
-        &rt,
+        Workers { rt: &rt, number: 2 },
         rt.alloc(),
         TWO_SENDERS.as_bytes(),
-        2,
         &mut &mut full[..],
         &mut faults,
         &mut nowhere,

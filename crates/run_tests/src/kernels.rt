@@ -13,13 +13,6 @@ use std::process::Abort;
 use std::test::Fail;
 use world_model::{FoldLine, PhaserLines, TaskLine, TotalsLine, WorldReport};
 
-/// How many stages a pipeline has, and how many items go through it.
-#[derive(Clone, Copy)]
-struct Shape {
-    stages: u32,
-    items: u32,
-}
-
 const ONE_CELL: TotalsLine = TotalsLine {
     registered: 2,
     signals: 1,

@@ -6,7 +6,7 @@ use crate::asserted::{equal, equal_at};
 use crate::ended::Ended;
 use job_ends::{Failure, Status};
 use phase_modes::Refusal;
-use run_job::{ending_on, run_bytes, run_on};
+use run_job::{Workers, ending_on, run_bytes, run_on};
 use std::alloc::Global;
 use std::process::Abort;
 use std::sync::Wait;
@@ -210,10 +210,9 @@ fn smallest_trace(rt: HostRuntime) {
     let mut out = Vec::new(rt.alloc());
     let mut trace_out = Some(Vec::new(rt.alloc()));
     let done = run_bytes(
-        &rt,
+        Workers { rt: &rt, number: 2 },
         rt.alloc(),
         SMALLEST.as_bytes(),
-        2,
         &mut out,
         &mut trace_out,
     );
@@ -230,10 +229,9 @@ fn trace_fails(rt: HostRuntime) {
     let mut full = [0u8; 20];
     let mut trace_out = Some(&mut full[..]);
     let ended = ending_on(
-        &rt,
+        Workers { rt: &rt, number: 2 },
         rt.alloc(),
         SMALLEST.as_bytes(),
-        2,
         &mut out,
         &mut faults,
         &mut trace_out,
@@ -258,7 +256,8 @@ fn bad_text(rt: HostRuntime) {
 fn a_text_that_is_refused_has_no_trace(rt: HostRuntime) {
     let mut out = Vec::new(rt.alloc());
     let mut trace_out = Some(Vec::new(rt.alloc()));
-    let answer = run_bytes(&rt, rt.alloc(), b"7", 1, &mut out, &mut trace_out);
+    let worker = Workers { rt: &rt, number: 1 };
+    let answer = run_bytes(worker, rt.alloc(), b"7", &mut out, &mut trace_out);
     equal(&rt, answer, Err(Failure::Refused(Refusal::BadText(0))));
     is_trace(&rt, trace_out.as_ref(), "");
 }

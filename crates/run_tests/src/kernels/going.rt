@@ -3,7 +3,7 @@ ghost use Rattle.std.specs.Prelude.{◌≤◌, ◌<◌};
 
 use crate::asserted::{equal, equal_at};
 use body_follows::goes_by;
-use job_kernels::{PipelineBody, StencilBody};
+use job_kernels::{PipelineBody, PipelineSize, StencilBody};
 use phase_modes::{Limits, Refusal};
 use phased_rt::{OpenGate, run};
 use std::alloc::Global;
@@ -84,10 +84,17 @@ fn stencil_goes_by_its_body(rt: HostRuntime) -> Result<(), Fail> {
 /// makes one phaser more: by that it does up to the root's first spawn, its fourth event.
 #[test]
 fn pipeline_goes_by_its_body(rt: HostRuntime) -> Result<(), Fail> {
-    let root = PipelineBody::root(2, 3);
+    let root = PipelineBody::root(PipelineSize {
+        stages: 2,
+        items: 3,
+    });
     let report = run(&rt, rt.alloc(), root, Limits::default(), 2, &OpenGate)?;
     equal(&rt, goes_by(rt.alloc(), root, &report.trace), Ok(()));
-    let other = goes_by(rt.alloc(), PipelineBody::root(3, 3), &report.trace);
+    let longer = PipelineBody::root(PipelineSize {
+        stages: 3,
+        items: 3,
+    });
+    let other = goes_by(rt.alloc(), longer, &report.trace);
     equal(&rt, other, Err(Refusal::NotExplained(4)));
     Ok(())
 }

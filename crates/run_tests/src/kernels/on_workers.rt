@@ -1,11 +1,13 @@
 //! The worked examples by 1, 2 and 16 workers, as their commands print them.
 ghost use Rattle.std.specs.Prelude.{◌≤◌, ◌<◌, length};
 
-use super::{Shape, ends};
+use super::ends;
 use crate::asserted::holds_at;
 use crate::ended::Ended;
 use job_ends::Status;
-use job_kernels::{PipelineBody, StencilBody, cells_of, items_of, pipeline_plain, stencil_plain};
+use job_kernels::{
+    PipelineBody, PipelineSize, StencilBody, cells_of, items_of, pipeline_plain, stencil_plain,
+};
 use kernels_job::{Kernel, pipeline_on, stencil_on};
 use phase_modes::{Limits, Refusal};
 use phased_rt::{Body, OpenGate, run};
@@ -71,28 +73,35 @@ fn stencil_prints<R: Threads + Wait + Sync + Abort>(
 fn pipeline_prints<R: Threads + Wait + Sync + Abort>(
     rt: &R,
     alloc: Global,
-    shape: Shape,
+    size: PipelineSize,
     lines: &str,
 ) -> Result<(), Fail>
-    requires stages { shape.stages ≤ 15 }
-    requires items { shape.items ≤ 100 }
+    requires stages { size.stages ≤ 15 }
+    requires items { size.items ≤ 100 }
 {
-    let Shape { stages, items } = shape;
-    let plain = pipeline_plain(alloc, stages, items)?;
+    let plain = pipeline_plain(alloc, size)?;
     for workers in [1, 2, 16] {
-        let world = world_of(rt, alloc, PipelineBody::root(stages, items), workers)?;
-        let seen = items_of(alloc, &world, stages)?;
+        let world = world_of(rt, alloc, PipelineBody::root(size), workers)?;
+        let seen = items_of(alloc, &world, size.stages)?;
         holds_at(rt, ("workers", workers), are_same(&plain, &seen));
         ends(
             rt,
             alloc,
-            Kernel::Pipeline(stages),
+            Kernel::Pipeline(size.stages),
             Ok(world),
             &Ended::done(lines),
         );
         let mut out = Vec::new(alloc);
         let mut faults = Vec::new(alloc);
-        let status = pipeline_on(rt, alloc, stages, items, workers, &mut out, &mut faults);
+        let status = pipeline_on(
+            rt,
+            alloc,
+            size.stages,
+            size.items,
+            workers,
+            &mut out,
+            &mut faults,
+        );
         holds_at(rt, ("workers", workers), status == Status::Done);
         holds_at(rt, ("workers", workers), out.as_slice() == lines.as_bytes());
     }
@@ -151,7 +160,7 @@ fn pipeline_two_stages(rt: HostRuntime) -> Result<(), Fail> {
     pipeline_prints(
         &rt,
         rt.alloc(),
-        Shape {
+        PipelineSize {
             stages: 2,
             items: 3,
         },
@@ -170,7 +179,7 @@ fn pipeline_three_stages(rt: HostRuntime) -> Result<(), Fail> {
     pipeline_prints(
         &rt,
         rt.alloc(),
-        Shape {
+        PipelineSize {
             stages: 3,
             items: 2,
         },
@@ -183,7 +192,7 @@ fn pipeline_no_items(rt: HostRuntime) -> Result<(), Fail> {
     pipeline_prints(
         &rt,
         rt.alloc(),
-        Shape {
+        PipelineSize {
             stages: 1,
             items: 0,
         },
@@ -199,8 +208,12 @@ fn largest(rt: HostRuntime) -> Result<(), Fail> {
     let world = world_of(&rt, rt.alloc(), StencilBody::root(&first, 100), 16)?;
     let cells = cells_of(rt.alloc(), &world, 100)?;
     assert!(rt; are_same(&plain, &cells));
-    let plain = pipeline_plain(rt.alloc(), 15, 100)?;
-    let world = world_of(&rt, rt.alloc(), PipelineBody::root(15, 100), 16)?;
+    let size = PipelineSize {
+        stages: 15,
+        items: 100,
+    };
+    let plain = pipeline_plain(rt.alloc(), size)?;
+    let world = world_of(&rt, rt.alloc(), PipelineBody::root(size), 16)?;
     let items = items_of(rt.alloc(), &world, 15)?;
     assert!(rt; are_same(&plain, &items));
     Ok(())

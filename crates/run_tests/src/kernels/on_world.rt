@@ -2,10 +2,9 @@
 //! of one thread. What is to come out was set down before the code was written.
 ghost use Rattle.std.specs.Prelude.{◌≤◌, length};
 
-use super::Shape;
 use job_kernels::{
-    PipelineBody, StencilBody, cells_of, items_of, lowest_refused, pipeline_plain, refusal_of,
-    stencil_plain,
+    PipelineBody, PipelineSize, StencilBody, cells_of, items_of, lowest_refused, pipeline_plain,
+    refusal_of, stencil_plain,
 };
 use job_script::{Act, Answer};
 use phase_model::Terms;
@@ -143,14 +142,13 @@ fn stencil(
 }
 
 /// The pipeline by its tasks and in one thread.
-fn pipeline(alloc: Global, shape: Shape) -> Result<(Vec<u32>, Vec<i64>, TotalsLine), Refusal>
-    requires stages { shape.stages ≤ 15 }
-    requires items { shape.items ≤ 100 }
+fn pipeline(alloc: Global, size: PipelineSize) -> Result<(Vec<u32>, Vec<i64>, TotalsLine), Refusal>
+    requires stages { size.stages ≤ 15 }
+    requires items { size.items ≤ 100 }
 {
-    let Shape { stages, items } = shape;
-    let plain = pipeline_plain(alloc, stages, items)?;
-    let report = report_of(alloc, PipelineBody::root(stages, items))?;
-    let values = items_of(alloc, &report, stages)?;
+    let plain = pipeline_plain(alloc, size)?;
+    let report = report_of(alloc, PipelineBody::root(size))?;
+    let values = items_of(alloc, &report, size.stages)?;
     Ok((plain, values, report.totals))
 }
 
@@ -230,13 +228,13 @@ fn no_step(rt: HostRuntime) -> Result<(), Fail> {
 
 #[test]
 fn two_stages(rt: HostRuntime) -> Result<(), Fail> {
-    let shape = Shape {
+    let size = PipelineSize {
         stages: 2,
         items: 3,
     };
     gave(
         &rt,
-        pipeline(rt.alloc(), shape),
+        pipeline(rt.alloc(), size),
         &[4, 5, 6],
         TotalsLine {
             registered: 9,
@@ -253,13 +251,13 @@ fn two_stages(rt: HostRuntime) -> Result<(), Fail> {
 
 #[test]
 fn no_item(rt: HostRuntime) -> Result<(), Fail> {
-    let shape = Shape {
+    let size = PipelineSize {
         stages: 1,
         items: 0,
     };
     gave(
         &rt,
-        pipeline(rt.alloc(), shape),
+        pipeline(rt.alloc(), size),
         &[],
         TotalsLine {
             registered: 6,

@@ -5,7 +5,7 @@ ghost use Rattle.std.specs.Prelude.{◌<◌, ◌≤◌};
 use crate::asserted::equal_at;
 use job_script::{Program, read_program};
 use phase_modes::Refusal;
-use phased_rt::{OpenGate, Question, run_and_ask};
+use phased_rt::{OpenGate, Question, Workers, run_and_ask};
 use schedule_run::follows;
 use std::alloc::Global;
 use std::process::Abort;
@@ -57,11 +57,13 @@ fn check_row<R: Abort + Threads + Wait + Sync>(
     let asked = read_program(alloc, texts.1.as_bytes())?;
     let question = CountAndFollow { program: &asked };
     let (report, answer) = run_and_ask(
-        rt,
+        Workers {
+            rt,
+            number: workers,
+        },
         alloc,
         program.root(),
         program.limits(),
-        workers,
         &OpenGate,
         &question,
     )?;

@@ -5,5 +5,5 @@ use Rattle.job_kernels.proofs.pipeline.pipeline_plain.Goals as goal
 
 pub loop-before-preserved : goal.loop-before-preserved
 loop-before-preserved c =
-    let more = map-range_with_len_more (pipeline_item c.args.stages) 1 c.loop-before.before (c.loop-before.before + 1) (omega arith) in
-    rw more (grind (arith, c.loop-before.invariant, c.pipeline_item.ensures, c.push.ensures.items))
+    let more = map-range_with_len_more (pipeline_item c.args.size.stages) 1 c.loop-before.before (c.loop-before.before + 1) (omega arith) in
+    rw more (grind (arith, c.loop-before.invariant, c.item.ensures, c.push.ensures.items))
