@@ -22,14 +22,6 @@ fn barrier(alloc: Global) -> Result<PhaserState, Refusal> {
     Ok(phaser)
 }
 
-/// The task signals, and proposes the statement. Without a bound it never waits for that.
-fn signals(phaser: &mut PhaserState, task: u32, statement: u32) -> anyhow::Result<()> {
-    match phaser.signal(task, Some(statement))? {
-        Signalling::Signalled => Ok(()),
-        Signalling::NotYet => Err(Refusal::NotNow.into()),
-    }
-}
-
 /// The task asks to end its turn. Whether it ended it: if not, it asks again after another's call.
 fn asks(rt: &impl Print, phaser: &mut PhaserState, task: u32) -> anyhow::Result<bool> {
     match phaser.pass(task)? {
@@ -53,7 +45,11 @@ fn phase(
     let mut ended = [false; TASKS];
     for (task, change) in changes.iter().enumerate() {
         phaser.send(task as u32, 0, *change)?;
-        signals(phaser, task as u32, statement)?;
+        // Each proposes the statement. Without a bound nobody waits to signal.
+        let signalling = phaser.signal(task as u32, Some(statement))?;
+        if signalling != Signalling::Signalled {
+            return Err(Refusal::NotNow.into());
+        }
         ended[task] = asks(rt, phaser, task as u32)?;
     }
     for (task, ended) in ended.iter_mut().enumerate() {
