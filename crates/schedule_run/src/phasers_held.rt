@@ -14,7 +14,7 @@ ghost use Rattle.schedule_run.specs.inner.Holding.{stay_in, stay_of, mode_on, pa
 
 use crate::same_act::is_same_pair;
 use phase_modes::{Mode, Pair};
-use task_numbers::{PhaserNumber, TaskNumber};
+use task_numbers::TaskNumber;
 use trace_model::{EventView, LongEvent, ShortStep, Trace};
 
 /// What events say of a task and a phaser: the mode in which it was last registered there, and
@@ -37,26 +37,25 @@ impl Stay {
     }
 
     /// The same after one short step more on the phaser.
-    fn after_step(self, task: u32, step: ShortStep) -> Stay
+    fn after_step(self, task: TaskNumber, step: ShortStep) -> Stay
         ensures { (terms : Terms) (h : List PhaserEvent) → self ≡ stay_in task h
             → result ≡ stay_in task (event_for terms h (step_of (short_step step)) ∷ h) }
     {
         match step {
-            ShortStep::Reg(_, t, mode) if t == task => self.in_mode(mode),
-            ShortStep::Drop(t) if t == task => Stay { left: true, ..self },
+            ShortStep::Reg(_, t, mode) if t == task.get() => self.in_mode(mode),
+            ShortStep::Drop(t) if t == task.get() => Stay { left: true, ..self },
             _ => self,
         }
     }
 
     /// The same after one event more.
-    fn after(self, phaser: PhaserNumber, task: TaskNumber, event: EventView<'_>) -> Stay
+    fn after(self, phaser: u32, task: TaskNumber, event: EventView<'_>) -> Stay
         ensures { (w : List events.WorldEvent) → self ≡ stay_of task phaser w
             → result ≡ stay_of task phaser (event_of (viewed event.entry) ∷ w) }
     {
-        let (phaser, task) = (phaser.get(), task.get());
         match event {
             EventView::Phaser(n, step) if n == phaser => self.after_step(task, step),
-            EventView::Long(LongEvent::Make(n, t, mode, _)) if *n == phaser && *t == task => {
+            EventView::Long(LongEvent::Make(n, t, mode, _)) if *n == phaser && *t == task.get() => {
                 self.in_mode(*mode)
             }
             _ => self,
@@ -66,7 +65,7 @@ impl Stay {
 
 /// The mode in which a task is registered on a phaser after so many events of a trace; none where
 /// it isn't.
-fn mode_on(trace: &Trace, count: usize, phaser: PhaserNumber, task: TaskNumber) -> Option<Mode>
+fn mode_on(trace: &Trace, count: usize, phaser: u32, task: TaskNumber) -> Option<Mode>
     requires { count ≤ length trace.now.events }
     ensures { result ≡ mode_on task phaser (history (take count trace.now.events)) }
 {
@@ -99,7 +98,7 @@ fn pair_by(trace: &Trace, count: usize, task: u32, event: EventView<'_>) -> Opti
     ensures { result ≡ pair_by task (history (take count trace.now.events)) (event_of (viewed event.entry)) }
 {
     let phaser = joined_by(task, event)?;
-    let mode = mode_on(trace, count, PhaserNumber::of(phaser), TaskNumber::of(task))?;
+    let mode = mode_on(trace, count, phaser, TaskNumber::of(task))?;
     Some(Pair { phaser, mode })
 }
 

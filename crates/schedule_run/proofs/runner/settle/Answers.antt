@@ -7,7 +7,7 @@ use Rattle.schedule_run.proofs.runner.settle.Goals as goal
 
 pub returns-in-New-clause-stand : goal.returns-in-New-clause-stand
 returns-in-New-clause-stand c p w asked places given accepted =
-    let made = rw (c.of.ensures, c.of-2.ensures) at c.report_made.ensures.stand p w c.in-New.field-0
+    let made = rw (c.of.ensures, c.of-in-New.ensures) at c.report_made.ensures.stand p w c.in-New.field-0
     (record { ops = c.in-New.field-1; bound = c.in-New.field-2 }) in
     subst (λ (e : WorldEvent). BodiesStand p (e ∷ w) c.report_made.new.self.seats.items) (makes_phaser p w c.args.task (numbers_view c.args.new) c.args.act c.in-New.field-0 c.in-New.field-1 c.in-New.field-2 given c.in-New.is)
     (made asked)

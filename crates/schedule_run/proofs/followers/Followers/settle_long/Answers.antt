@@ -29,6 +29,6 @@ made_by p w t n u m terms e at is own stand =
 pub returns-in-Make-clause-settled : goal.returns-in-Make-clause-settled
 returns-in-Make-clause-settled c = λ p w asked given own next.
     let a = c.in-Make in
-    let made = rw (c.of.ensures, c.of-2.ensures) at c.report_made.ensures p w a.field-2 a.field-3 in
+    let made = rw (c.of.ensures, c.of-in-Make.ensures) at c.report_made.ensures p w a.field-2 a.field-3 in
     made_by p w c.args.task _ _ a.field-2 a.field-3 c.args.event.now (seat_of c.report_made.new.self.seats) a.is own
     (made asked)
