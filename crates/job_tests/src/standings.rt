@@ -3,12 +3,13 @@ use crate::asserted::equal;
 use phase_model::Terms;
 use phase_modes::{Limits, Mode, Pair, Phased, Refusal};
 use std::test::Fail;
+use task_numbers::{FinishNumber, TaskNumber};
 use task_standing::{Due, Plan, Standing};
 use world_model::{Begun, Tried};
 
 /// A task on phaser 4, which it may signal, and on phaser 5, where it only waits.
 fn on_two_phasers(rt: &HostRuntime) -> Result<Standing, Fail> {
-    let mut task = Standing::new(rt.alloc(), 1, 0)?;
+    let mut task = Standing::new(rt.alloc(), TaskNumber::of(1), FinishNumber::of(0))?;
     task.note_making(4, Mode::SigWait)?;
     task.note_making(5, Mode::Wait)?;
     Ok(task)
@@ -80,7 +81,7 @@ fn end_leaves_all_phasers(rt: HostRuntime) -> Result<(), Fail> {
     equal(&rt, task.due(), Due::Leave(5));
     task.leave(5);
     equal(&rt, task.due(), Due::End(0));
-    let mut root = Standing::new(rt.alloc(), 0, 0)?;
+    let mut root = Standing::new(rt.alloc(), TaskNumber::of(0), FinishNumber::of(0))?;
     root.begin(Plan::Ending);
     equal(&rt, root.due(), Due::Close);
     Ok(())
@@ -89,7 +90,7 @@ fn end_leaves_all_phasers(rt: HostRuntime) -> Result<(), Fail> {
 #[test]
 fn child_that_is_never_born_leaves_first(rt: HostRuntime) -> Result<(), Fail> {
     let mut task = on_two_phasers(&rt)?;
-    let mut child = Standing::new(rt.alloc(), 9, 0)?;
+    let mut child = Standing::new(rt.alloc(), TaskNumber::of(9), FinishNumber::of(0))?;
     let pairs = named(4, Mode::Sig);
     task.begin(Plan::Spawning(9, pairs, 0));
     let pair = Pair {
@@ -123,7 +124,7 @@ fn child_is_born_and_the_task_goes_on(rt: HostRuntime) -> Result<(), Fail> {
 /// What the act of a task on phaser 4 is refused by, with room for three acts, of which it has
 /// begun two.
 fn refusal_of(rt: &HostRuntime, tried: Tried) -> Result<Option<Refusal>, Fail> {
-    let mut task = Standing::new(rt.alloc(), 1, 0)?;
+    let mut task = Standing::new(rt.alloc(), TaskNumber::of(1), FinishNumber::of(0))?;
     task.note_making(4, Mode::SigWait)?;
     task.note_act();
     let limits = Limits {
@@ -173,7 +174,7 @@ fn acts_are_refused_by_the_first_condition(rt: HostRuntime) -> Result<(), Fail> 
 
 #[test]
 fn acts_are_counted(rt: HostRuntime) -> Result<(), Fail> {
-    let mut task = Standing::new(rt.alloc(), 1, 0)?;
+    let mut task = Standing::new(rt.alloc(), TaskNumber::of(1), FinishNumber::of(0))?;
     let limits = Limits {
         acts: 1,
         ..Limits::default()

@@ -1,18 +1,21 @@
 -- How what a call came to tells how a task goes on.
-use Rattle.std.proofs.Common.{ℕ, ◌≡◌, inl, inr, Bool, true, false, if◌then◌else◌, Option, Some, None, Result, Ok, Err, refl, ap, subst, ◌∙◌}
-use Rattle.std.specs.Prelude.{List, OnOk}
+use Rattle.std.proofs.Common.{ℕ, ◌≡◌, inl, inr, Bool, true, false, if◌then◌else◌, Option, Some, None, Result, Ok, Err, refl, sym, ap, subst, ◌∙◌}
+use Rattle.std.specs.Prelude.{List, OnOk, slice_get}
 use Rattle.phase_modes.specs.declared.refusal.Refusal.{Refusal}
 use Rattle.phase_model.specs.Rules.{Story}
 use Rattle.world_model.specs.declared.event.Begun.{Begun}
 use Rattle.world_model.specs.declared.event.Step.TheVariants.{Claim}
 use Rattle.world_model.specs.declared.event.WorldEvent.{WorldEvent}
 use Rattle.world_model.specs.declared.event.WorldEvent.TheVariants.{Begin, Fail}
+use Rattle.task_standing.specs.declared.plan.Due.{Due}
 use Rattle.task_standing.specs.declared.plan.Due.TheVariants as due
 use Rattle.task_standing.specs.Known.{Known}
 use Rattle.task_standing.specs.Noted.{noted}
+use Rattle.task_standing.specs.StillToMake.{event_of}
+use Rattle.tasks_in_flight.specs.inner.Due.{still_of}
 use Rattle.table_receipts.specs.Logs.{Sight}
 use Rattle.table_receipts.specs.Seen.{story_at}
-use Rattle.task_crew.specs.inner.Driven.{IsReplied, HasTried, HasActed, GoesBy, IfGoesOn, given_up, tried_by}
+use Rattle.task_crew.specs.inner.Driven.{IsReplied, HasTried, HasActed, GoesBy, IfGoesOn, HasGoneOn, given_up, tried_by}
 
 -- what holds of a task that goes on holds also as what follows from it
 goes_as : {T : Type 0} (r : Result (Option T) Refusal) (P Q : T → Type 0) → ((x : T) → P x → Q x) → IfGoesOn r P → IfGoesOn r Q
@@ -38,6 +41,14 @@ pub claims : {T : Type 0} (r : Result (Option T) Refusal) (known : T → Known) 
     → IfGoesOn r (λ x. GoesBy seen (due.Pass n) k (known x))
 claims r known seen n mid k same claimed =
     goes_as r (λ x. known x ≡ mid) (λ x. GoesBy seen (due.Pass n) k (known x)) (λ x is. inr (claimed, is ∙ same))
+
+-- who goes on by what was due goes on by the first of what is still to make
+pub goes_by : {T : Type 0} (r : Result (Option T) Refusal) (known : T → Known) (seen : ℕ → Story) (child : Option Known) (k : Known)
+    (d named : Due) → event_of k.number d ≡ slice_get (still_of k child) 0 → d ≡ named
+    → IfGoesOn r (λ x. GoesBy seen named k (known x)) → IfGoesOn r (λ x. HasGoneOn seen child k (known x))
+goes_by r known seen child k d named first is =
+    goes_as r (λ x. GoesBy seen named k (known x)) (λ x. HasGoneOn seen child k (known x))
+    (λ x by. (named, sym (ap (λ (y : Due). event_of k.number y) is) ∙ first, by))
 
 -- ---- acts
 

@@ -2,3 +2,4 @@
 pub mod Back
 pub mod Driven
 pub mod Logs
+pub mod Posted

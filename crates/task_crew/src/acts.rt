@@ -7,6 +7,7 @@ ghost use Rattle.task_standing.specs.Noted.{noted};
 ghost use Rattle.task_queue.specs.Accounts.{IsSeatOf};
 ghost use Rattle.tasks_in_flight.specs.Heard.{nothing, make, send, look, ends, asked_by, IsSpawned};
 ghost use Rattle.task_crew.specs.inner.Driven.{HasActed, given_up, tried_by};
+ghost use Rattle.task_crew.specs.inner.Posted.{PostsAtMost};
 ghost use Rattle.tasks_in_flight.specs.inner.Ready.{Says, IsReady};
 
 use crate::worker::{Busy, Shared};
@@ -15,6 +16,7 @@ use phase_model::Terms;
 use phase_modes::{Mode, Phased, Refusal};
 use std::sync::Wait;
 use table_receipts::Caller;
+use task_numbers::{FinishNumber, TaskNumber};
 use task_standing::Plan;
 use tasks_in_flight::{Body, Gate, Item, RunNaming, Task};
 use world_model::{Begun, Tried};
@@ -69,6 +71,7 @@ impl<B: Body, K: RunNaming> Shared<B, K> {
         requires says { ∥ (K.Supposing.supposed → B.Body.shows task.old.body task.old.log.task (make mode terms.now) (λ n. story_at task.old.fronts n)) ∥₁ }
         ensures acted { OnOk result (HasActed (λ n. story_at task.old.fronts n) task.old.standing task.new.standing) }
         ensures out { by.new.out ≡ by.old.out }
+        ensures posted { PostsAtMost 1 by.old.mine by.new.mine }
     {
         let phaser = self.numbers.phaser();
         if !self.may_try(task, Tried::New(phaser, mode, *terms))? {
@@ -89,7 +92,8 @@ impl<B: Body, K: RunNaming> Shared<B, K> {
         if !self.may_try(task, Tried::Open(finish))? {
             return Ok(());
         }
-        self.open_on(rt, task.number(), finish)?;
+        let opener = TaskNumber::of(task.number());
+        self.open_on(rt, opener, FinishNumber::of(finish))?;
         task.standing.note_opening(finish)?;
         task.answer = Some(Answer::Done);
         Ok(())
@@ -107,6 +111,7 @@ impl<B: Body, K: RunNaming> Shared<B, K> {
         requires says { ∥ (K.Supposing.supposed → B.Body.shows task.old.body task.old.log.task (send phaser accumulator value) (λ n. story_at task.old.fronts n)) ∥₁ }
         ensures acted { OnOk result (HasActed (λ n. story_at task.old.fronts n) task.old.standing task.new.standing) }
         ensures out { by.new.out ≡ by.old.out }
+        ensures posted { PostsAtMost 1 by.old.mine by.new.mine }
     {
         let tried = Tried::Send(phaser, accumulator, value);
         if !self.may_try(task, tried)? {
@@ -129,6 +134,7 @@ impl<B: Body, K: RunNaming> Shared<B, K> {
         requires says { ∥ (K.Supposing.supposed → B.Body.shows task.old.body task.old.log.task (look phaser accumulator) (λ n. story_at task.old.fronts n)) ∥₁ }
         ensures acted { OnOk result (HasActed (λ n. story_at task.old.fronts n) task.old.standing task.new.standing) }
         ensures out { by.new.out ≡ by.old.out }
+        ensures posted { PostsAtMost 1 by.old.mine by.new.mine }
     {
         let tried = Tried::Look(phaser, accumulator);
         if !self.may_try(task, tried)? {
@@ -186,7 +192,8 @@ impl<B: Body, K: RunNaming> Shared<B, K> {
             item.old.task.value.standing item.new.task.value.standing) }
     {
         let number = self.numbers.task();
-        let Ok(child) = item.task.child(self.alloc, number, body, self.limits.acts) else {
+        let its = TaskNumber::of(number);
+        let Ok(child) = item.task.child(self.alloc, its, body, self.limits.acts) else {
             return self.fail(&mut item.task, Refusal::Memory);
         };
         let begun = Begun::Async(number, pairs);
@@ -210,6 +217,7 @@ impl<B: Body, K: RunNaming> Shared<B, K> {
         ensures acted { OnOk result (HasActed (λ n. story_at item.old.task.value.fronts n)
             item.old.task.value.standing item.new.task.value.standing) }
         ensures out { by.new.out ≡ by.old.out }
+        ensures posted { PostsAtMost 1 by.old.mine by.new.mine }
     {
         let done = Some(Answer::Done);
         match act {
@@ -248,6 +256,7 @@ impl<B: Body, K: RunNaming> Shared<B, K> {
         ensures acted { OnOk result (HasActed (λ n. story_at item.old.task.value.fronts n)
             item.old.task.value.standing item.new.task.value.standing) }
         ensures seat { IsSeatOf busy.old.seat busy.new.seat }
+        ensures posted { PostsAtMost 1 busy.old.by.mine busy.new.by.mine }
     {
         // No clause says that a task which has begun to end isn't due to be stepped.
         if item.task.has_ended() {

@@ -7,6 +7,7 @@ ghost use Rattle.table_receipts.specs.Seen.{story_at};
 ghost use Rattle.task_queue.specs.Accounts.{IsSeatOf};
 ghost use Rattle.tasks_in_flight.specs.Heard.{make, send, look};
 ghost use Rattle.task_crew.specs.inner.Driven.{HasActed, IsReplied, IsOfSignal, IsOfPass};
+ghost use Rattle.task_crew.specs.inner.Posted.{PostsAtMost};
 
 use crate::worker::{Busy, Shared};
 use job_script::Answer;
@@ -15,6 +16,7 @@ use phase_modes::{Mode, Pair, Refusal};
 use scope_locks::{PassAnswer, ShutAnswer, SignalAnswer};
 use std::sync::{Mutex, Wait};
 use table_receipts::Caller;
+use task_numbers::{FinishNumber, PhaserNumber, TaskNumber};
 use tasks_in_flight::{Body, Item, RunNaming, Task, TaskLeft};
 
 impl<B: Body, K: RunNaming> Shared<B, K> {
@@ -30,6 +32,7 @@ impl<B: Body, K: RunNaming> Shared<B, K> {
         requires says { ∥ (K.Supposing.supposed → B.Body.shows task.old.body task.old.log.task (make mode terms.now) (λ n. story_at task.old.fronts n)) ∥₁ }
         ensures acted { OnOk result (HasActed (λ n. story_at task.old.fronts n) task.old.standing task.new.standing) }
         ensures out { by.new.out ≡ by.old.out }
+        ensures posted { PostsAtMost 1 by.old.mine by.new.mine }
     {
         let number = self.place(phaser, Refusal::PhasersFull)?;
         let maker = task.number();
@@ -52,6 +55,7 @@ impl<B: Body, K: RunNaming> Shared<B, K> {
             (Reg task.old.standing.number child pair.mode)) }
         ensures standing { task.new.standing ≡ task.old.standing }
         ensures out { by.new.out ≡ by.old.out }
+        ensures posted { PostsAtMost 1 by.old.mine by.new.mine }
     {
         let number = self.place(pair.phaser, Refusal::NotRegistered)?;
         let parent = task.number();
@@ -75,6 +79,7 @@ impl<B: Body, K: RunNaming> Shared<B, K> {
         ensures acted { OnOk result (HasActed (λ n. story_at task.old.fronts n) task.old.standing task.new.standing) }
         ensures refused { OnErr result (task.new.standing ≡ task.old.standing) }
         ensures out { by.new.out ≡ by.old.out }
+        ensures posted { PostsAtMost 1 by.old.mine by.new.mine }
     {
         let number = self.place(phaser, Refusal::NotRegistered)?;
         let sender = task.number();
@@ -99,6 +104,7 @@ impl<B: Body, K: RunNaming> Shared<B, K> {
         ensures acted { OnOk result (HasActed (λ n. story_at task.old.fronts n) task.old.standing task.new.standing) }
         ensures refused { OnErr result (task.new.standing ≡ task.old.standing) }
         ensures out { by.new.out ≡ by.old.out }
+        ensures posted { PostsAtMost 1 by.old.mine by.new.mine }
     {
         let number = self.place(phaser, Refusal::NotRegistered)?;
         let reader = task.number();
@@ -121,6 +127,7 @@ impl<B: Body, K: RunNaming> Shared<B, K> {
         ensures told { IfOk result (IsOfSignal (λ i. i.task.value.standing) item.task.value.standing
             (story_at item.task.value.fronts phaser) (Sig item.task.value.standing.number proposed)) }
         ensures seat { IsSeatOf busy.old.seat busy.new.seat }
+        ensures posted { PostsAtMost 1 busy.old.by.mine busy.new.by.mine }
     {
         let number = match self.place(phaser, Refusal::NotRegistered) {
             Ok(number) => number,
@@ -154,6 +161,7 @@ impl<B: Body, K: RunNaming> Shared<B, K> {
         ensures told { IfOk result (IsOfPass (λ i. i.task.value.standing) item.task.value.standing
             (story_at item.task.value.fronts phaser) item.task.value.standing.number) }
         ensures seat { IsSeatOf busy.old.seat busy.new.seat }
+        ensures posted { PostsAtMost 1 busy.old.by.mine busy.new.by.mine }
     {
         let number = match self.place(phaser, Refusal::NotRegistered) {
             Ok(number) => number,
@@ -182,6 +190,7 @@ impl<B: Body, K: RunNaming> Shared<B, K> {
         phaser: u32,
     ) -> Result<(), Refusal>
         ensures seat { IsSeatOf busy.old.seat busy.new.seat }
+        ensures posted { PostsAtMost 1 busy.old.by.mine busy.new.by.mine }
         ensures body { task.new.body ≡ task.old.body }
         ensures standing { task.new.standing ≡ task.old.standing }
     {
@@ -198,28 +207,40 @@ impl<B: Body, K: RunNaming> Shared<B, K> {
         &self,
         busy: &mut Busy<'_, B, K, R>,
         task: &mut Task<B, K>,
-        phaser: u32,
-        leaver: u32,
+        phaser: PhaserNumber,
+        leaver: TaskNumber,
     ) -> Result<(), Refusal>
         ensures told { OnOk result (IsReplied (story_at task.old.fronts phaser) (Drop leaver)) }
         ensures standing { task.new.standing ≡ task.old.standing }
         ensures seat { IsSeatOf busy.old.seat busy.new.seat }
+        ensures posted { PostsAtMost 1 busy.old.by.mine busy.new.by.mine }
     {
-        let number = self.place(phaser, Refusal::NotRegistered)?;
+        let number = self.place(phaser.get(), Refusal::NotRegistered)?;
         let mut me = task.front(number);
         let Busy { seat, by, kept, .. } = busy;
-        self.phasers.drop_task(by, &mut me, number, leaver)?;
+        self.phasers.drop_task(by, &mut me, number, leaver.get())?;
         self.flush(by.rt, seat, kept, &mut by.out)
     }
 
-    pub(crate) fn open_on<R: Wait>(&self, rt: &R, task: u32, finish: u32) -> Result<(), Refusal> {
-        let number = self.finishes.place(finish, Refusal::FinishesFull)?;
-        self.finishes.opened(rt, number, &self.tickets, task)
+    pub(crate) fn open_on<R: Wait>(
+        &self,
+        rt: &R,
+        task: TaskNumber,
+        finish: FinishNumber,
+    ) -> Result<(), Refusal> {
+        let number = self.finishes.place(finish.get(), Refusal::FinishesFull)?;
+        self.finishes.opened(rt, number, &self.tickets, task.get())
     }
 
-    pub(crate) fn spawn_on<R: Wait>(&self, rt: &R, child: u32, finish: u32) -> Result<(), Refusal> {
-        let number = self.finishes.place(finish, Refusal::NotNow)?;
-        self.finishes.spawned(rt, number, &self.tickets, child)
+    pub(crate) fn spawn_on<R: Wait>(
+        &self,
+        rt: &R,
+        child: TaskNumber,
+        finish: FinishNumber,
+    ) -> Result<(), Refusal> {
+        let number = self.finishes.place(finish.get(), Refusal::NotNow)?;
+        self.finishes
+            .spawned(rt, number, &self.tickets, child.get())
     }
 
     pub(crate) fn end_on<R: Wait>(
@@ -230,6 +251,7 @@ impl<B: Body, K: RunNaming> Shared<B, K> {
         finish: u32,
     ) -> Result<(), Refusal>
         ensures seat { IsSeatOf busy.old.seat busy.new.seat }
+        ensures mine { busy.new.by.mine ≡ busy.old.by.mine }
     {
         let number = self.finishes.place(finish, Refusal::NotNow)?;
         let Busy { seat, by, kept, .. } = busy;

@@ -1,15 +1,18 @@
 //! How a worker drives a task, event by event.
-ghost use Rattle.std.specs.Prelude.{◌≡◌, IfOk, IfErr, option_map};
+ghost use Rattle.std.specs.Prelude.{◌≡◌, IfOk, IfErr, option_map, slice_get};
 ghost use Rattle.table_receipts.specs.Seen.{story_at};
 ghost use Rattle.task_crew.specs.Refused.{IsRunRefused};
 ghost use Rattle.task_crew.specs.inner.Driven.{IfGoesOn, GoesBy, HasGoneOn, given_up};
+ghost use Rattle.task_crew.specs.inner.Posted.{PostsAtMost, most_posted};
 ghost use Rattle.task_queue.specs.Accounts.{IsSeatOf};
+ghost use Rattle.tasks_in_flight.specs.inner.Due.{still_of};
 
 use crate::crew::Crew;
 use crate::worker::{Busy, Shared, Worker};
 use phase_modes::{Pair, Refusal};
 use scope_locks::{PassAnswer, ShutAnswer, SignalAnswer};
 use std::sync::Wait;
+use task_numbers::{FinishNumber, PhaserNumber, TaskNumber};
 use task_standing::Due;
 use tasks_in_flight::{Body, Gate, Item, RootLeft, RunNaming, Task, TaskLeft};
 
@@ -61,6 +64,7 @@ impl<B: Body, K: RunNaming> Shared<B, K> {
         ensures made { IfGoesOn result (λ next. GoesBy (λ n. story_at item.task.value.fronts n) (Due.Signal phaser number)
             item.task.value.standing next.task.value.standing) }
         ensures seat { IsSeatOf busy.old.seat busy.new.seat }
+        ensures posted { PostsAtMost 1 busy.old.by.mine busy.new.by.mine }
     {
         match self.signal_on(busy, item, phaser, number)? {
             SignalAnswer::Signalled(signalled) => {
@@ -85,6 +89,7 @@ impl<B: Body, K: RunNaming> Shared<B, K> {
         number: u32,
     ) -> Result<Next<B, K>, Refusal>
         ensures seat { IsSeatOf busy.old.seat busy.new.seat }
+        ensures posted { PostsAtMost 1 busy.old.by.mine busy.new.by.mine }
         ensures ran { IfGoesOn result (λ next. B.Body.ran item.task.value.body number next.task.value.body) }
         ensures standing { IfGoesOn result (λ next. next.task.value.standing ≡ item.task.value.standing) }
     {
@@ -103,6 +108,7 @@ impl<B: Body, K: RunNaming> Shared<B, K> {
         ensures made { IfGoesOn result (λ next. GoesBy (λ n. story_at item.task.value.fronts n) (Due.Pass phaser)
             item.task.value.standing next.task.value.standing) }
         ensures seat { IsSeatOf busy.old.seat busy.new.seat }
+        ensures posted { PostsAtMost 2 busy.old.by.mine busy.new.by.mine }
     {
         match self.pass_on(busy, item, phaser)? {
             PassAnswer::Passed(passed, _) => {
@@ -129,6 +135,7 @@ impl<B: Body, K: RunNaming> Shared<B, K> {
         ensures made { IfGoesOn result (λ next. GoesBy (λ n. story_at item.task.value.fronts n) (Due.Register child pair)
             item.task.value.standing next.task.value.standing) }
         ensures seat { IsSeatOf busy.old.seat busy.new.seat }
+        ensures posted { PostsAtMost 1 busy.old.by.mine busy.new.by.mine }
     {
         let mut item = item;
         match self.register_on(&mut busy.by, &mut item.task, child, pair) {
@@ -148,12 +155,13 @@ impl<B: Body, K: RunNaming> Shared<B, K> {
         &self,
         busy: &mut Busy<'_, B, K, R>,
         item: Item<B, K>,
-        child: u32,
-        finish: u32,
+        child: TaskNumber,
+        finish: FinishNumber,
     ) -> Result<Next<B, K>, Refusal>
         ensures made { IfGoesOn result (λ next. GoesBy (λ n. story_at item.task.value.fronts n) (Due.Spawn child finish)
             item.task.value.standing next.task.value.standing) }
         ensures seat { IsSeatOf busy.old.seat busy.new.seat }
+        ensures mine { busy.new.by.mine ≡ busy.old.by.mine }
     {
         let Item { task, unborn } = item;
         let mut task = task;
@@ -176,10 +184,11 @@ impl<B: Body, K: RunNaming> Shared<B, K> {
         ensures made { IfGoesOn result (λ next. GoesBy (λ n. story_at item.task.value.fronts n) (Due.Leave phaser)
             item.task.value.standing next.task.value.standing) }
         ensures seat { IsSeatOf busy.old.seat busy.new.seat }
+        ensures posted { PostsAtMost 1 busy.old.by.mine busy.new.by.mine }
     {
         let mut item = item;
-        let leaver = item.task.number();
-        self.drop_on(busy, &mut item.task, phaser, leaver)?;
+        let leaver = TaskNumber::of(item.task.number());
+        self.drop_on(busy, &mut item.task, PhaserNumber::of(phaser), leaver)?;
         item.task.standing.leave(phaser);
         Ok(Some(item))
     }
@@ -189,16 +198,17 @@ impl<B: Body, K: RunNaming> Shared<B, K> {
         &self,
         busy: &mut Busy<'_, B, K, R>,
         item: Item<B, K>,
-        phaser: u32,
-        child: u32,
+        phaser: PhaserNumber,
+        child: TaskNumber,
     ) -> Result<Next<B, K>, Refusal>
         ensures made { IfGoesOn result (λ next. GoesBy (λ n. story_at item.task.value.fronts n) (Due.DropChild phaser child)
             item.task.value.standing next.task.value.standing) }
         ensures seat { IsSeatOf busy.old.seat busy.new.seat }
+        ensures posted { PostsAtMost 1 busy.old.by.mine busy.new.by.mine }
     {
         let mut item = item;
         self.drop_on(busy, &mut item.task, phaser, child)?;
-        item.note_child_gone(phaser);
+        item.note_child_gone(phaser.get());
         Ok(Some(item))
     }
 
@@ -226,6 +236,7 @@ impl<B: Body, K: RunNaming> Shared<B, K> {
     ) -> Result<Next<B, K>, Refusal>
         ensures over { IfGoesOn result (λ _. ⊥) }
         ensures seat { IsSeatOf busy.old.seat busy.new.seat }
+        ensures mine { busy.new.by.mine ≡ busy.old.by.mine }
     {
         let Item { task, unborn: _ } = item;
         let number = task.number();
@@ -243,6 +254,7 @@ impl<B: Body, K: RunNaming> Shared<B, K> {
     ) -> Result<Next<B, K>, Refusal>
         ensures over { IfGoesOn result (λ _. ⊥) }
         ensures seat { IsSeatOf busy.old.seat busy.new.seat }
+        ensures mine { busy.new.by.mine ≡ busy.old.by.mine }
     {
         match self.shut_on(busy.by.rt, item, 0) {
             ShutAnswer::Done(item) => {
@@ -278,6 +290,8 @@ impl<B: Body, K: RunNaming> Shared<B, K> {
         ensures goes { IfGoesOn result (λ next. HasGoneOn (λ n. story_at item.task.value.fronts n)
             (option_map (λ c. c.value.standing) item.unborn) item.task.value.standing next.task.value.standing) }
         ensures seat { IsSeatOf busy.old.seat busy.new.seat }
+        ensures posted { PostsAtMost (most_posted (slice_get (still_of item.task.value.standing
+            (option_map (λ c. c.value.standing) item.unborn)) 0)) busy.old.by.mine busy.new.by.mine }
     {
         let mut item = item;
         match item.due() {
@@ -288,8 +302,12 @@ impl<B: Body, K: RunNaming> Shared<B, K> {
             Due::Signal(phaser, number) => self.signal(busy, item, phaser, number),
             Due::Pass(phaser) => self.pass(busy, item, phaser),
             Due::Register(child, pair) => self.register(busy, item, child, pair),
-            Due::Spawn(child, finish) => self.bear(busy, item, child, finish),
-            Due::DropChild(phaser, child) => self.drop_child(busy, item, phaser, child),
+            Due::Spawn(child, finish) => {
+                self.bear(busy, item, TaskNumber::of(child), FinishNumber::of(finish))
+            }
+            Due::DropChild(phaser, child) => {
+                self.drop_child(busy, item, PhaserNumber::of(phaser), TaskNumber::of(child))
+            }
             Due::Leave(phaser) => self.leave(busy, item, phaser),
             Due::Shut(finish) => self.shut(busy.by.rt, item, finish),
             Due::End(finish) => self.end(busy, item, finish),

@@ -22,6 +22,7 @@ use std::sync::Wait;
 use std::sync::ledger::Ledger;
 use std::thread::Threads;
 use table_receipts::{Fronts, Logs, Named, Noted, PhaserLogs, ReceiptTable, new_logs};
+use task_numbers::{FinishNumber, TaskNumber};
 use task_queue::RunQueue;
 use tasks_in_flight::{Body, Gate, Item, RunNaming, Supposing, Task};
 
@@ -45,7 +46,9 @@ fn root_of<K: RunNaming, B: Body, R: Wait>(
     ensures memory { IfErr result (λ e. e ≡ Refusal.Memory) }
 {
     let fronts = Fronts::of(alloc, rt, phasers)?;
-    Ok(Item::of(Task::new(alloc, 0, root, 0, limits.acts, fronts)?))
+    let number = TaskNumber::of(0);
+    let home = FinishNumber::of(0);
+    Ok(Item::of(Task::new(alloc, number, root, home, limits.acts, fronts)?))
 }
 
 /// The workers work, with books of these ledgers.

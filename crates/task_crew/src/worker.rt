@@ -156,6 +156,7 @@ impl<B: Body, K: RunNaming> Shared<B, K> {
     /// the queue is closed and empty.
     pub(crate) fn next<R: Wait>(&self, busy: &mut Busy<'_, B, K, R>) -> Option<Item<B, K>>
         ensures seat { IsSeatOf busy.old.seat busy.new.seat }
+        ensures mine { busy.new.by.mine ≡ busy.old.by.mine }
     {
         if let Some(item) = busy.kept.pop_front() {
             return Some(item);
@@ -189,6 +190,7 @@ impl<B: Body, K: RunNaming> Shared<B, K> {
         item: Item<B, K>,
     ) -> Result<(), Refusal>
         ensures seat { IsSeatOf busy.old.seat busy.new.seat }
+        ensures mine { busy.new.by.mine ≡ busy.old.by.mine }
     {
         let Busy { seat, by, kept, .. } = busy;
         let put = self.put(seat, kept, item)?;

@@ -5,7 +5,7 @@
 //! are what a world answers in each history that has the task so.
 //!
 //! ```rust
-//! let mut standing = Standing::new(alloc, 0, 0)?;
+//! let mut standing = Standing::new(alloc, TaskNumber::of(0), FinishNumber::of(0))?;
 //! standing.may_try(limits, &Tried::Begun(Begun::Next))?;
 //! standing.begin(Plan::Signalling(None, true));
 //! let due = standing.due();

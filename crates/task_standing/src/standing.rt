@@ -8,6 +8,7 @@ use crate::plan::Plan;
 use phase_modes::{Mode, Pair, Phased, Refusal};
 use std::alloc::{AllocError, Global};
 use std::marker::Model;
+use task_numbers::{FinishNumber, TaskNumber};
 
 /// How many phasers a task holds at once, at most.
 const MOST_HELD: usize = 16;
@@ -48,7 +49,7 @@ impl Model for Standing {
 impl Standing {
     /// A task before its first act, which is spawned in the finish `home`. `Memory` where there is
     /// none for the phasers that it may come to hold; the finishes that it opens take theirs later.
-    pub fn new(alloc: Global, number: u32, home: u32) -> Result<Standing, Refusal>
+    pub fn new(alloc: Global, number: TaskNumber, home: FinishNumber) -> Result<Standing, Refusal>
         ensures fresh { IfOk result (λ s. s ≡ fresh number home) }
         ensures memory { IfErr result (λ e. e ≡ Refusal.Memory) }
     {
@@ -56,11 +57,11 @@ impl Standing {
             return Err(Refusal::Memory);
         };
         Ok(Standing {
-            number,
+            number: number.get(),
             plan: Plan::Idle,
             holding,
             finishes: Vec::new(alloc),
-            home,
+            home: home.get(),
             acts: 0,
         })
     }

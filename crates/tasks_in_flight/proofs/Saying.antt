@@ -1,21 +1,18 @@
 -- What a body in flight says, from its task's start to the run's end.
 use Rattle.std.proofs.Common.{ℕ, ◌≡◌, ◌<◌, true, List, length, Option, Some, sym, subst, arith}
-use Rattle.std.specs.List.{All}
-use Rattle.std.proofs.lemmas.List.Elements.{All-weaker}
 use Rattle.std.proofs.Math.Logic.{∥∥₁_map, ∥∥₁_map₂}
 use Rattle.phase_modes.specs.declared.limits.Limits.{Limits}
 use Rattle.phase_model.specs.Rules.{Story}
-use Rattle.trace_model.specs.Projections.{log, AreOf}
 use Rattle.trace_model.specs.Run.{Entry}
 use Rattle.job_script.specs.declared.act.Answer.{Answer}
 use Rattle.job_script.specs.declared.act.Answer.TheVariants.{Started}
 use Rattle.table_receipts.specs.Logs.{GoesOn, Sight}
-use Rattle.table_receipts.specs.Parts.{AreLogged, HasShown}
+use Rattle.table_receipts.specs.Parts.{AreLogged}
 use Rattle.table_receipts.specs.Seen.{story_at, HasSeenMore}
 use Rattle.table_receipts.proofs.Goes.{goes_itself, goes_far}
 use Rattle.table_receipts.proofs.Logged.{told_at_each}
 use Rattle.tasks_in_flight.specs.Heard.{Asked, nothing, ends, IsOwn, IsHeard}
-use Rattle.tasks_in_flight.specs.Said.{Saying, IsSaid, AreSaid, has_end}
+use Rattle.tasks_in_flight.specs.Said.{Saying, IsSaid}
 use Rattle.tasks_in_flight.specs.inner.Ready.{Says, IsAnswer, IsReady, is_of_each, HasSaid, Tells, IsTold}
 use Rattle.tasks_in_flight.proofs.Heard.{hears_again}
 

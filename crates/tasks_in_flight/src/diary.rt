@@ -5,6 +5,7 @@ ghost use Rattle.tasks_in_flight.specs.Said.{is_end, has_end};
 
 use phase_modes::Refusal;
 use std::alloc::Global;
+use task_numbers::TaskNumber;
 use trace_model::{Log, Part, TracedEvent};
 use world_model::{Begun, Tried};
 
@@ -30,13 +31,13 @@ fn is_end(event: &TracedEvent) -> bool
 impl Diary {
     /// The log of the task of this number, with no entries yet, for so many acts at most. `Memory`
     /// where that is refused.
-    pub fn new(alloc: Global, task: u32, acts: u32) -> Result<Diary, Refusal>
+    pub fn new(alloc: Global, task: TaskNumber, acts: u32) -> Result<Diary, Refusal>
         ensures task { IfOk result (λ d. d.task ≡ task) }
         ensures end { IfOk result (λ d. d.ended ≡ false) }
         ensures memory { IfErr result (λ e. e ≡ Refusal.Memory) }
     {
         Ok(Diary {
-            task,
+            task: task.get(),
             log: Log::new(alloc, acts)?,
             ended: false,
         })

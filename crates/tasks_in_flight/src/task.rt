@@ -15,6 +15,7 @@ use job_script::{Act, Answer};
 use phase_modes::{Pair, Refusal};
 use std::alloc::Global;
 use table_receipts::{Front, Fronts};
+use task_numbers::{FinishNumber, TaskNumber};
 use task_standing::{Due, Standing};
 use world_model::{Begun, Tried};
 
@@ -66,9 +67,9 @@ impl<B: Body, K: RunNaming> Task<B, K> {
     /// finishes that it opens; `Memory` where that is refused.
     pub fn new(
         alloc: Global,
-        number: u32,
+        number: TaskNumber,
         body: B,
-        home: u32,
+        home: FinishNumber,
         acts: u32,
         fronts: Fronts<K>,
     ) -> Result<Box<Task<B, K>>, Refusal>
@@ -94,7 +95,7 @@ impl<B: Body, K: RunNaming> Task<B, K> {
     pub fn child(
         &mut self,
         alloc: Global,
-        number: u32,
+        number: TaskNumber,
         body: B,
         acts: u32,
     ) -> Result<Box<Task<B, K>>, Refusal>
@@ -106,7 +107,8 @@ impl<B: Body, K: RunNaming> Task<B, K> {
         ensures memory { IfErr result (λ e. e ≡ Refusal.Memory) }
     {
         let fronts = self.fronts.again(alloc)?;
-        Task::new(alloc, number, body, self.standing.inner(), acts, fronts)
+        let home = FinishNumber::of(self.standing.inner());
+        Task::new(alloc, number, body, home, acts, fronts)
     }
 
     /// What it has seen of this phaser.

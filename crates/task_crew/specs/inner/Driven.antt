@@ -1,5 +1,5 @@
 -- How a task goes on that a worker drives: it notes the event that was due, and nothing else.
-use Rattle.std.specs.Prelude.{ℕ, ◌≡◌, ◌⊎◌, Bool, true, false, List, Option, Some, Result, IfOk, IfSome, slice_get}
+use Rattle.std.specs.Prelude.{ℕ, ◌≡◌, ◌⊎◌, Bool, true, false, Option, Result, IfOk, IfSome, slice_get}
 use Rattle.phase_modes.specs.declared.refusal.Refusal.{Refusal}
 use Rattle.phase_model.specs.Replies.{reply, done}
 use Rattle.phase_model.specs.Rules.{Story}

@@ -8,12 +8,12 @@ pub returns-in_err-mode : goal.returns-in_err-mode
 returns-in_err-mode c =
     let w = history (take c.args.count c.args.trace.now.events) in
     let mode : c.mode_on.result ≡ mode_on c.args.task c.in_ok-phaser.phaser w =
-        c.mode_on.ensures ∙ ap (λ t. mode_on t c.in_ok-phaser.phaser w) c.of.ensures in
+    c.mode_on.ensures ∙ ap (λ t. mode_on t c.in_ok-phaser.phaser w) c.of.ensures in
     search (rules, mode)
 
 pub returns : goal.returns
 returns c =
     let w = history (take c.args.count c.args.trace.now.events) in
     let mode : c.mode_on.result ≡ mode_on c.args.task c.in_ok-phaser.phaser w =
-        c.mode_on.ensures ∙ ap (λ t. mode_on t c.in_ok-phaser.phaser w) c.of.ensures in
+    c.mode_on.ensures ∙ ap (λ t. mode_on t c.in_ok-phaser.phaser w) c.of.ensures in
     search (rules, mode)

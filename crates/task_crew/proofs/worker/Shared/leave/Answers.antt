@@ -12,9 +12,11 @@ returns-clause-made g c =
     let task = c.args.item.task.value in
     let n = c.args.phaser in
     let first = c.deref_mut.ensures.value in
-    let leaver : c.number-leaver.result ≡ task.standing.number = c.number-leaver.ensures.standing ∙ ap (λ t. t.standing.number) c.deref.ensures in (
+    let leaver : c.of-leaver.result ≡ task.standing.number =
+    c.of-leaver.ensures ∙ (c.number.ensures.standing ∙ ap (λ t. t.standing.number) c.deref.ensures) in (
       subst (λ (u : ℕ). IsReplied (story_at task.fronts n) (steps.Drop u)) leaver
-          (subst (λ (t : _). IsReplied (story_at t.fronts n) (steps.Drop c.number-leaver.result)) first c.in_ok-drop_on.ensures.told),
+          (subst (λ (m : ℕ). IsReplied (story_at task.fronts m) (steps.Drop c.of-leaver.result)) c.of.ensures
+          (subst (λ (t : _). IsReplied (story_at t.fronts c.of.result) (steps.Drop c.of-leaver.result)) first c.in_ok-drop_on.ensures.told)),
       c.leave.ensures
           ∙ ap (λ (k : Known). noted (Phaser n (steps.Drop task.standing.number)) k)
           (ap (λ t. t.standing) c.deref_mut-2.ensures.value ∙ (c.in_ok-drop_on.ensures.standing ∙ ap (λ t. t.standing) first)),

@@ -1,5 +1,7 @@
-use Rattle.std.proofs.Common.{ℕ, ◌≡◌, Some, refl, sym, ap, subst, ◌∙◌}
+use Rattle.std.proofs.Common.{ℕ, ◌≡◌, is_ok, Some, refl, sym, ap, subst, ◌∙◌}
 use Rattle.phase_model.specs.declared.call.Call.TheVariants as calls
+use Rattle.phase_model.specs.declared.history.Event.TheVariants as events
+use Rattle.phase_model.specs.declared.op.Look.TheVariants.{Nothing}
 use Rattle.phase_model.specs.Rules.{Story}
 use Rattle.phaser_answers.specs.Answers.{look_result}
 use Rattle.job_script.specs.declared.act.Answer.TheVariants.{Saw}
@@ -14,6 +16,7 @@ use Rattle.world_model.specs.declared.event.Step.TheVariants as steps
 use Rattle.task_standing.specs.Known.{Known}
 use Rattle.task_standing.specs.Noted.{noted}
 use Rattle.task_crew.specs.inner.Driven.{IsReplied}
+use Rattle.task_crew.proofs.Posted.{call_posts}
 use Rattle.task_crew.proofs.Replied.{look_replied}
 use Rattle.task_crew.proofs.worker.Shared.look_on.Goals as goal
 
@@ -71,3 +74,13 @@ returns-clause-acted g c =
           (subst (λ (s : Story). IsReplied s (steps.Look t a)) there (look_replied c.in_ok-seen.seen before now t a c.in_ok-seen.ensures.told)),
       c.note_act.ensures.acted ∙ ap (λ (k : Known). noted e k) c.front-me.ensures.standing,
     )
+
+pub returns-in_err-seen-clause-posted : goal.returns-in_err-seen-clause-posted
+returns-in_err-seen-clause-posted g c =
+    call_posts (is_ok c.look.result) (events.Look c.number-reader.result c.args.accumulator Nothing) c.args.by.now.mine c.look.new.by.mine
+    (c.look.ensures.mine Nothing)
+
+pub returns-clause-posted : goal.returns-clause-posted
+returns-clause-posted g c =
+    call_posts (is_ok c.look.result) (events.Look c.number-reader.result c.args.accumulator Nothing) c.args.by.now.mine c.look.new.by.mine
+    (c.look.ensures.mine Nothing)

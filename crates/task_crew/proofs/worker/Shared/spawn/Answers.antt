@@ -12,9 +12,9 @@ use Rattle.task_crew.proofs.worker.Shared.spawn.Goals as goal
 
 pub child-requires : goal.child-requires
 child-requires g c = record {
-  says = says_there g.B.Body.shows c.args.body c.task-number.result nothing (λ n. story_at c.args.item.now.task.value.fronts n) (λ n. story_at c.deref_mut.result.now.fronts n)
+  says = says_there g.B.Body.shows c.args.body c.of-its.result nothing (λ n. story_at c.args.item.now.task.value.fronts n) (λ n. story_at c.deref_mut.result.now.fronts n)
       (λ n. ap (λ t. story_at t.fronts n) c.deref_mut.ensures.value)
-      (says_now g.B.Body.shows c.args.body c.task-number.result nothing (λ n. story_at c.args.item.now.task.value.fronts n) (c.requires.child c.task-number.result));
+      (says_now g.B.Body.shows c.args.body c.of-its.result nothing (λ n. story_at c.args.item.now.task.value.fronts n) (c.requires.child c.of-its.result));
 }
 
 pub begin-requires : goal.begin-requires
