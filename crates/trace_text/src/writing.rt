@@ -3,7 +3,7 @@ ghost use Rattle.std.specs.Prelude.{◌≡◌, ◌++◌, ◌∷◌, [], map, str
 ghost use Rattle.trace_model.specs.Views.{long_event, short_step, viewed};
 ghost use Rattle.trace_model.specs.declared.event.TracedEvent.TheVariants.{Phaser, Finish, Begin, Refuse, Fail};
 ghost use Rattle.serde_json.specs.Written.{compact_text, comma_if};
-ghost use Rattle.trace_text.specs.inner.Writing.{Appends};
+ghost use Rattle.trace_text.specs.inner.Writing.{quoted, Appends};
 ghost use Rattle.trace_text.specs.Text.{list, rest_text, mode_data, op_data, ops_data, bound_items, terms_items, step_items, finish_items, pair_data, pairs_data, begun_items, tried_items, event_items, entry_data, limits_data, trace_text};
 ghost use Rattle.trace_text.specs.declared.version.Version.TheVariants.{Second};
 
@@ -25,27 +25,26 @@ fn write_comma(out: &mut String, index: usize) -> Result<(), AllocError>
     Ok(())
 }
 
-#[tactic(auto, unfolding(json::specs::Print::escape_byte))]
+/// A name between quotes. It is written as it stands, so it is to be one in which nothing is escaped.
+fn write_name(out: &mut String, name: &str) -> Result<(), AllocError>
+    ensures { Appends result out.old out.new (quoted name.now) }
+{
+    out.push_str("\"")?;
+    out.push_str(name)?;
+    out.push_str("\"")?;
+    Ok(())
+}
+
 fn write_mode(out: &mut String, mode: Mode) -> Result<(), AllocError>
     ensures { Appends result out.old out.new (compact_text (mode_data mode)) }
 {
-    match mode {
-        Mode::Sig => out.push_str("\"SIG\""),
-        Mode::Wait => out.push_str("\"WAIT\""),
-        Mode::SigWait => out.push_str("\"SIG_WAIT\""),
-        Mode::Single => out.push_str("\"SINGLE\""),
-    }
+    write_name(out, mode.name())
 }
 
-#[tactic(auto, unfolding(json::specs::Print::escape_byte))]
 fn write_op(out: &mut String, op: Op) -> Result<(), AllocError>
     ensures { Appends result out.old out.new (compact_text (op_data op)) }
 {
-    match op {
-        Op::Sum => out.push_str("\"sum\""),
-        Op::Least => out.push_str("\"least\""),
-        Op::Greatest => out.push_str("\"greatest\""),
-    }
+    write_name(out, op.name())
 }
 
 fn write_ops(out: &mut String, ops: &[Op]) -> Result<(), AllocError>
