@@ -1,6 +1,6 @@
 //! Those who wait at a phaser that lives long: on one cell a waiter whom the last signal wakes, a
 //! signaller whom a pass wakes, and one whom a task wakes that leaves; and each call of its lock.
-use crate::asserted::equal;
+use crate::asserted::{equal, equal_at};
 use long_locks::{LongCell, LongLock, Out, PassAnswer, SignalAnswer};
 use long_phaser::{Phase, Task};
 use phase_model::{Bound, Look, Op, Ops};
@@ -10,15 +10,27 @@ use std::process::Abort;
 use std::sync::Wait;
 use std::test::Fail;
 
-/// What a pass or a signal is answered. The items are told apart by their numbers.
+/// What a call is answered. The items are told apart by their numbers.
 #[derive(Clone, Copy, Debug, PartialEq, Eq)]
 enum Answer {
     Signalled(u32),
     Passed(u32, Phase),
     Claimed(u32, u32),
+    Left,
     Parked,
     Refused(u32, Refusal),
 }
+
+/// A call of a task. To a signal and to a pass it brings an item.
+#[derive(Clone, Copy, Debug, PartialEq, Eq)]
+enum Call {
+    Signal(Task, u32),
+    Pass(Task, u32),
+    Leave(Task),
+}
+
+/// A call, what it is answered, and the item of whom it wakes.
+type Row = (Call, Answer, Option<u32>);
 
 fn of_pass(answer: PassAnswer<u32, Phase>) -> Answer {
     match answer {
@@ -37,35 +49,35 @@ fn of_signal(answer: SignalAnswer<u32>) -> Answer {
     }
 }
 
-/// The task asks to pass, with this item. Returns the item of whom this wakes too.
-fn pass(
+/// Makes the call. Returns the item of whom it wakes too.
+fn answer_to(
     alloc: Global,
     cell: &mut LongCell<u32>,
-    task: Task,
-    item: u32,
+    call: Call,
 ) -> Result<(Answer, Option<u32>), Refusal> {
     let mut out = Out::new(alloc)?;
-    let answer = of_pass(cell.pass(&mut out, task, item));
+    let answer = match call {
+        Call::Signal(task, item) => of_signal(cell.signal(&mut out, task, None, item)),
+        Call::Pass(task, item) => of_pass(cell.pass(&mut out, task, item)),
+        Call::Leave(task) => {
+            cell.leave(&mut out, task)?;
+            Answer::Left
+        }
+    };
     Ok((answer, out.take()))
 }
 
-/// The task signals, with this item. Returns the item of whom this wakes too.
-fn signal(
+/// The calls are answered so, one after the other.
+fn are_answered(
+    rt: &impl Abort,
     alloc: Global,
     cell: &mut LongCell<u32>,
-    task: Task,
-    item: u32,
-) -> Result<(Answer, Option<u32>), Refusal> {
-    let mut out = Out::new(alloc)?;
-    let answer = of_signal(cell.signal(&mut out, task, None, item));
-    Ok((answer, out.take()))
-}
-
-/// The task leaves. Returns the item of whom this wakes.
-fn leave(alloc: Global, cell: &mut LongCell<u32>, task: Task) -> Result<Option<u32>, Refusal> {
-    let mut out = Out::new(alloc)?;
-    cell.leave(&mut out, task)?;
-    Ok(out.take())
+    rows: &[Row],
+) -> Result<(), Fail> {
+    for (call, answer, woken) in rows {
+        equal_at(rt, *call, answer_to(alloc, cell, *call)?, (*answer, *woken));
+    }
+    Ok(())
 }
 
 /// A phaser with this bound, made by task 0, who signals and waits.
@@ -79,99 +91,53 @@ fn made(rt: &impl Abort, alloc: Global, bound: u32) -> Result<LongCell<u32>, Ref
 /// Task 0 waits for the signal of task 1. While it is parked it has its second item back.
 #[test]
 fn waiter_wakes(rt: HostRuntime) -> Result<(), Fail> {
-    let alloc = rt.alloc();
-    let mut cell = made(&rt, alloc, 2)?;
+    const ROWS: [Row; 6] = [
+        (Call::Signal(0, 10), Answer::Signalled(10), None),
+        (Call::Pass(0, 11), Answer::Parked, None),
+        (
+            Call::Pass(0, 12),
+            Answer::Refused(12, Refusal::NotNow),
+            None,
+        ),
+        (Call::Signal(1, 20), Answer::Signalled(20), Some(11)),
+        (Call::Pass(0, 13), Answer::Passed(13, 0), None),
+        (Call::Pass(1, 21), Answer::Passed(21, 0), None),
+    ];
+    let mut cell = made(&rt, rt.alloc(), 2)?;
     equal(&rt, cell.register(0, Mode::SigWait), Ok(1));
-    equal(
-        &rt,
-        signal(alloc, &mut cell, 0, 10)?,
-        (Answer::Signalled(10), None),
-    );
-    equal(&rt, pass(alloc, &mut cell, 0, 11)?, (Answer::Parked, None));
-    let again = Answer::Refused(12, Refusal::NotNow);
-    equal(&rt, pass(alloc, &mut cell, 0, 12)?, (again, None));
-    equal(
-        &rt,
-        signal(alloc, &mut cell, 1, 20)?,
-        (Answer::Signalled(20), Some(11)),
-    );
-    equal(
-        &rt,
-        pass(alloc, &mut cell, 0, 13)?,
-        (Answer::Passed(13, 0), None),
-    );
-    equal(
-        &rt,
-        pass(alloc, &mut cell, 1, 21)?,
-        (Answer::Passed(21, 0), None),
-    );
-    Ok(())
+    are_answered(&rt, rt.alloc(), &mut cell, &ROWS)
 }
 
 /// A bound of 1: task 1, who only signals, is held until task 2, who only waits, has passed.
 #[test]
 fn signaller_wakes(rt: HostRuntime) -> Result<(), Fail> {
-    let alloc = rt.alloc();
-    let mut cell = made(&rt, alloc, 1)?;
+    const ROWS: [Row; 6] = [
+        (Call::Leave(0), Answer::Left, None),
+        (Call::Signal(1, 10), Answer::Signalled(10), None),
+        (Call::Pass(1, 11), Answer::Passed(11, 0), None),
+        (Call::Signal(1, 12), Answer::Parked, None),
+        (Call::Pass(2, 20), Answer::Passed(20, 0), Some(12)),
+        (Call::Signal(1, 13), Answer::Signalled(13), None),
+    ];
+    let mut cell = made(&rt, rt.alloc(), 1)?;
     equal(&rt, cell.register(0, Mode::Sig), Ok(1));
     equal(&rt, cell.register(0, Mode::Wait), Ok(2));
-    equal(&rt, leave(alloc, &mut cell, 0)?, None);
-    equal(
-        &rt,
-        signal(alloc, &mut cell, 1, 10)?,
-        (Answer::Signalled(10), None),
-    );
-    equal(
-        &rt,
-        pass(alloc, &mut cell, 1, 11)?,
-        (Answer::Passed(11, 0), None),
-    );
-    equal(
-        &rt,
-        signal(alloc, &mut cell, 1, 12)?,
-        (Answer::Parked, None),
-    );
-    equal(
-        &rt,
-        pass(alloc, &mut cell, 2, 20)?,
-        (Answer::Passed(20, 0), Some(12)),
-    );
-    equal(
-        &rt,
-        signal(alloc, &mut cell, 1, 13)?,
-        (Answer::Signalled(13), None),
-    );
-    Ok(())
+    are_answered(&rt, rt.alloc(), &mut cell, &ROWS)
 }
 
 /// A bound of 1: task 0 is held by task 1, who only waits, and goes on once that one has left.
 #[test]
 fn leaving_wakes(rt: HostRuntime) -> Result<(), Fail> {
-    let alloc = rt.alloc();
-    let mut cell = made(&rt, alloc, 1)?;
+    const ROWS: [Row; 5] = [
+        (Call::Signal(0, 10), Answer::Signalled(10), None),
+        (Call::Pass(0, 11), Answer::Passed(11, 0), None),
+        (Call::Signal(0, 12), Answer::Parked, None),
+        (Call::Leave(1), Answer::Left, Some(12)),
+        (Call::Signal(0, 13), Answer::Signalled(13), None),
+    ];
+    let mut cell = made(&rt, rt.alloc(), 1)?;
     equal(&rt, cell.register(0, Mode::Wait), Ok(1));
-    equal(
-        &rt,
-        signal(alloc, &mut cell, 0, 10)?,
-        (Answer::Signalled(10), None),
-    );
-    equal(
-        &rt,
-        pass(alloc, &mut cell, 0, 11)?,
-        (Answer::Passed(11, 0), None),
-    );
-    equal(
-        &rt,
-        signal(alloc, &mut cell, 0, 12)?,
-        (Answer::Parked, None),
-    );
-    equal(&rt, leave(alloc, &mut cell, 1)?, Some(12));
-    equal(
-        &rt,
-        signal(alloc, &mut cell, 0, 13)?,
-        (Answer::Signalled(13), None),
-    );
-    Ok(())
+    are_answered(&rt, rt.alloc(), &mut cell, &ROWS)
 }
 
 /// A phaser with one sum behind its lock, and tasks 0 and 1 on it, of which task 1 leaves.
@@ -186,27 +152,48 @@ fn with_sum<R: Abort + Wait>(rt: &R, alloc: Global) -> Result<LongLock<u32>, Ref
     Ok(lock)
 }
 
+/// Task 0 signals, and proposes the single of this number.
+fn proposed<R: Abort + Wait>(
+    rt: &R,
+    alloc: Global,
+    lock: &LongLock<u32>,
+    number: u32,
+) -> Result<Answer, Refusal> {
+    let mut out = Out::new(alloc)?;
+    Ok(of_signal(lock.signal(rt, &mut out, 0, Some(number), 10)))
+}
+
+/// Task 0 asks to pass, with this item.
+fn passed<R: Abort + Wait>(
+    rt: &R,
+    alloc: Global,
+    lock: &LongLock<u32>,
+    item: u32,
+) -> Result<Answer, Refusal> {
+    let mut out = Out::new(alloc)?;
+    Ok(of_pass(lock.pass(rt, &mut out, 0, item)))
+}
+
+/// Task 0 reports the single done.
+fn reported<R: Abort + Wait>(rt: &R, alloc: Global, lock: &LongLock<u32>) -> Result<(), Refusal> {
+    let mut out = Out::new(alloc)?;
+    lock.single_done(rt, &mut out, 0)
+}
+
 /// Task 0 sends 7 and proposes the single of number 3; it claims that, reports it done, ends its
 /// turn, and sees the sum.
 #[test]
 fn locked_calls(rt: HostRuntime) -> Result<(), Fail> {
     let alloc = rt.alloc();
     let lock = with_sum(&rt, alloc)?;
-    let mut out = Out::new(alloc)?;
     equal(&rt, lock.send(&rt, 0, 0, 7), Ok(()));
-    let signalled = of_signal(lock.signal(&rt, &mut out, 0, Some(3), 10));
+    let signalled = proposed(&rt, alloc, &lock, 3)?;
     equal(&rt, signalled, Answer::Signalled(10));
-    let mut out = Out::new(alloc)?;
-    let claimed = of_pass(lock.pass(&rt, &mut out, 0, 11));
+    let claimed = passed(&rt, alloc, &lock, 11)?;
     equal(&rt, claimed, Answer::Claimed(11, 3));
-    equal(
-        &rt,
-        lock.single_done(&rt, &mut Out::<u32>::new(alloc)?, 0),
-        Ok(()),
-    );
-    let mut out = Out::new(alloc)?;
-    let passed = of_pass(lock.pass(&rt, &mut out, 0, 12));
-    equal(&rt, passed, Answer::Passed(12, 0));
+    reported(&rt, alloc, &lock)?;
+    let gone = passed(&rt, alloc, &lock, 12)?;
+    equal(&rt, gone, Answer::Passed(12, 0));
     equal(&rt, lock.look(&rt, 0, 0), Ok(Look::Value(7)));
     equal(&rt, lock.lock(&rt).parked.len(), 0);
     Ok(())
