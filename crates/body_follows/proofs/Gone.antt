@@ -2,7 +2,6 @@
 use Rattle.std.proofs.Common.{ℕ, ◌≡◌, ◌≢◌, Bool, true, false, ◌==◌, ◌||◌, if◌then◌else◌, List, [], ◌∷◌, Option, Some, None, refl, sym, ap, subst, ◌∙◌}
 use Rattle.std.specs.List.{list_any}
 use Rattle.std.proofs.lemmas.Bool.{eqb-true, eq-eqb, true≢false, false≢true}
-use Rattle.job_script.specs.declared.act.Act.{Act}
 use Rattle.job_script.specs.declared.act.Answer.{Answer}
 use Rattle.job_script.specs.declared.act.Answer.TheVariants.{Started, Spawned}
 use Rattle.world_model.specs.declared.event.Begun.TheVariants.{Async}
@@ -10,9 +9,26 @@ use Rattle.world_model.specs.declared.event.WorldEvent.{WorldEvent}
 use Rattle.world_model.specs.declared.event.WorldEvent.TheVariants.{Begin}
 use Rattle.world_model.specs.Numbers.{is_named, names}
 use Rattle.schedule_model.specs.Scripts.{Made, act_of, is_of, parent_by}
-use Rattle.body_follows.specs.declared.bodies.Seat.{Seat}
-use Rattle.body_follows.specs.Going.{Does, does, does_after, child_does, heard}
-use Rattle.body_follows.specs.inner.Bodies.{BodiesGo, HaveGone, IsSeated}
+use Rattle.trace_walk.specs.declared.seats.Seat.{Seat}
+use Rattle.body_follows.specs.Going.{does, does_after, child_does, heard}
+use Rattle.trace_walk.specs.Walking.{Does}
+use Rattle.trace_walk.specs.inner.Seats.{IsSeated}
+
+-- each task that was named has a seat, and each seat gives what its task does by this
+pub record GoAs {B : Type 0} (next : Answer → B → Does B) (w : List WorldEvent) (does_now : ℕ → Does B)
+    (at : ℕ → Option (Seat B)) : Type 0 where
+  pub seated : (t : ℕ) → is_named t w ≡ true → (s : Seat B) × (at t ≡ Some s)
+  pub gives : (t : ℕ) (s : Seat B) → at t ≡ Some s → next s.heard s.body ≡ does_now t
+
+-- what it does next after this history
+abbrev pub BodiesGo : {B : Type 0} → (Answer → B → Does B) → B → List WorldEvent → (ℕ → Option (Seat B)) → Type 0
+BodiesGo next root w at = GoAs next w (does next root w) at
+
+-- the same, but that t has gone on, and hears this of it
+abbrev pub HaveGone : {B : Type 0} → (Answer → B → Does B) → B → List WorldEvent → ℕ → Answer
+    → (ℕ → Option (Seat B)) → Type 0
+HaveGone next root w t told at =
+    GoAs next w (λ u. if t == u then next told (does next root w t).1 else does next root w u) at
 
 -- two numbers that aren't equal by their test
 apart : (t u : ℕ) → (t == u) ≡ false → u ≢ t
@@ -176,16 +192,3 @@ module _ {B : Type 0} (next : Answer → B → Does B) (root : B) where
                   ap (λ (a : Answer). next a (does next root w t).1) hears
                   ∙ ap (λ (v : ℕ). next (Spawned c) (does next root w v).1) (eqb-true t u k)
               plain false k = refl
-
-  -- the act that a seat gives is its task's next
-  pub act_given : (w : List WorldEvent) (t : ℕ) (at : ℕ → Option (Seat B)) (result : Option (Act B)) (act : Act B)
-      → BodiesGo next root w at → is_named t w ≡ true
-      → ((s : Seat B) → at t ≡ Some s → result ≡ Some (next s.heard s.body).0) → result ≡ Some act
-      → act ≡ (does next root w t).0
-  act_given w t at result act go named own is =
-      let seat = go.seated t named in
-      same act (next seat.0.heard seat.0.body).0 (sym is ∙ own seat.0 seat.1)
-      ∙ ap (λ (d : Does B). d.0) (go.gives t seat.0 seat.1)
-    where
-      same : (x y : Act B) → Some x ≡ Some y → x ≡ y
-      same x y h = cc

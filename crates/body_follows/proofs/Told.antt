@@ -25,7 +25,8 @@ use Rattle.trace_model.specs.Explained.{event_of, is_answered, is_seen}
 use Rattle.trace_model.specs.declared.event.TracedEvent.{TracedEvent}
 use Rattle.trace_model.specs.declared.event.TracedEvent.TheVariants.{Phaser, Finish, Begin, Refuse, Fail}
 use Rattle.trace_model.specs.declared.event.TracedStep.TheVariants.{Make, Reg, Sig, Claim, Did, Pass, Send, Look as Seen, Drop}
-use Rattle.body_follows.specs.Going.{heard, told_by}
+use Rattle.body_follows.specs.Going.{heard}
+use Rattle.trace_walk.specs.Walking.{told_by}
 
 same_looks : (x y : Look ℤ) → same_look x y ≡ true → x ≡ y
 same_looks (looks.Value v) (looks.Value w) k = ap (λ z. looks.Value z) ((Decides-int_eq v w).0 k)

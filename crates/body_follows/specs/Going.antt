@@ -19,16 +19,10 @@ use Rattle.world_model.specs.Drawing.{own_pairs}
 use Rattle.world_model.specs.Parts.{phaser_past, ops_of}
 use Rattle.schedule_model.specs.Scripts.{Made as MadeAct, act_of, is_of, parent_by}
 use Rattle.schedule_model.specs.Follows.{drawn, same_act}
-use Rattle.schedule_run.specs.Following.{history}
-use Rattle.schedule_run.specs.Given.{tried_of}
+use Rattle.trace_walk.specs.History.{history}
+use Rattle.trace_walk.specs.Given.{tried_of}
 use Rattle.trace_model.specs.Run.{Entry}
-use Rattle.trace_model.specs.declared.event.TracedEvent.{TracedEvent}
-use Rattle.trace_model.specs.declared.event.TracedEvent.TheVariants as traced
-use Rattle.trace_model.specs.declared.event.TracedStep.TheVariants as steps
-
--- what a task does next, and what its body is after that
-abbrev pub Does : Type 0 → Type 0
-Does B = Act B × B
+use Rattle.trace_walk.specs.Walking.{Does}
 
 -- what its task hears of the event with which an act begins
 abbrev pub heard : List WorldEvent → WorldEvent → Answer
@@ -72,13 +66,6 @@ goes_by next root [] = true
 goes_by next root (e ∷ w) = is_next next root w (act_of e) && goes_by next root w
 
 -- ---- of a trace
-
--- what an event of a trace tells the task of its act
-abbrev pub told_by : TracedEvent → Answer
-told_by (traced.Phaser n (steps.Make t mode terms)) = Made n
-told_by (traced.Phaser n (steps.Look t a seen)) = Saw seen
-told_by (traced.Begin t (Async c pairs)) = Spawned c
-told_by _ = Done
 
 -- memory ran out, or up to this place, counted from 1, the trace goes by the body, and with the event there it
 -- no longer does

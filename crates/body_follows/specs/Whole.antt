@@ -6,7 +6,8 @@ use Rattle.world_model.specs.declared.event.WorldEvent.{WorldEvent}
 use Rattle.world_model.specs.Replies.{is_legal_world}
 use Rattle.world_model.specs.Report.{refused_by}
 use Rattle.world_model.specs.Tasks.{is_ended}
-use Rattle.body_follows.specs.Going.{Does, goes_by}
+use Rattle.body_follows.specs.Going.{goes_by}
+use Rattle.trace_walk.specs.Walking.{Does}
 
 -- the history is legal, its tasks go by this body, and none of them was refused or gave up
 pub record IsSmooth {B : Type 0} (next : Answer → B → Does B) (root : B) (l : Limits) (w : List WorldEvent) : Type 0 where

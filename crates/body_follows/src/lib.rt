@@ -2,9 +2,7 @@
 //! is the one that its body gives next, where the body hears what each act before it came to.
 #![tactic(auto)]
 
-mod bodies;
 mod following;
-mod going;
 
 pub use following::goes_by;
-pub use going::Goes;
+pub use trace_walk::Goes;

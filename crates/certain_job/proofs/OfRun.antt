@@ -4,7 +4,7 @@ use Rattle.job_script.specs.Program.{Program}
 use Rattle.job_ends.specs.declared.failure.Failure as failures
 use Rattle.world_model.specs.Report.{Report, report_of}
 use Rattle.trace_model.specs.Run.{Run}
-use Rattle.schedule_run.specs.Following as following
+use Rattle.trace_walk.specs.History as histories
 use Rattle.program_texts.specs.Texts.{IsOfTexts, history, program_spelled}
 use Rattle.one_answer.specs.Certified.{IsCertified}
 use Rattle.one_answer.specs.Luck.{is_all_steady}
@@ -12,7 +12,7 @@ use Rattle.one_answer.proofs.Whole.{has_certified_report, program_run}
 use Rattle.run_job.specs.Worked.{IsOfRun, IsRunOf}
 
 pub of_run : (p : Program) (t : Run) (r : Report) → IsCertified p r → IsRunOf p t
-    → is_all_steady t.limits (following.history t.events) ≡ true → IsCertified p (report_of p.limits (history t))
+    → is_all_steady t.limits (histories.history t.events) ≡ true → IsCertified p (report_of p.limits (history t))
 of_run p t r certified ran steady =
     subst (λ s. IsCertified p s)
     (sym (has_certified_report p r (history t) certified (program_run p t (record {

@@ -5,11 +5,11 @@ ghost use Rattle.job_kernels.specs.PipelineTasks.{source_next, stage_turns, stag
 
 use crate::heard::{operator, pair, seen_in};
 use crate::pipeline::PipelineSize;
-use body_follows::Goes;
 use job_script::{Act, Answer};
 use phase_model::Op;
 use phase_modes::{Mode, Phased, Refusal};
 use tasks_in_flight::Body;
+use trace_walk::Goes;
 
 /// The most that an item comes to.
 const GREATEST: u32 = 1_000_000;

@@ -5,11 +5,11 @@ ghost use Rattle.job_kernels.specs.StencilTasks.{right_of, left_of, sends, turns
 
 use crate::heard::{operator, pair, value_of};
 use crate::stencil::{cell_at, weighed};
-use body_follows::Goes;
 use job_script::{Act, Answer};
 use phase_model::Op;
 use phase_modes::{Mode, Phased, Refusal};
 use tasks_in_flight::Body;
+use trace_walk::Goes;
 
 /// The most that a cell holds.
 const GREATEST: u32 = 1_000_000;

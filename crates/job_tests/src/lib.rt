@@ -17,3 +17,5 @@ mod replays;
 mod schedules;
 #[cfg(test)]
 mod standings;
+#[cfg(test)]
+mod walks;

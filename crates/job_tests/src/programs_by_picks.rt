@@ -3,11 +3,11 @@ use finish_core::FinishEvent;
 use job_script::{Act, Answer, Program, ScriptBody, read_program};
 use phase_model::{Look, Ops, Terms};
 use phase_modes::{Limits, Mode, Pair, Phased};
-use schedule_run::{actor, is_given};
 use std::alloc::Global;
 use std::process::Abort;
 use std::test::Fail;
 use trace_model::{EventView, LongEvent, ShortAct, Trace, TracedEvent, TracedStep};
+use trace_walk::{actor, is_given};
 use world_model::{Begun, Tried};
 
 mod runs;

@@ -11,8 +11,9 @@ use Rattle.world_model.specs.Replies.{is_legal_world}
 use Rattle.world_model.specs.Report.{refused_by}
 use Rattle.schedule_model.specs.Follows.{drawn}
 use Rattle.schedule_model.specs.Scripts.{Made as MadeAct, Numbers, act_of}
-use Rattle.schedule_run.specs.Given.{tried_of}
-use Rattle.body_follows.specs.Going.{Does, does, goes_by, is_next}
+use Rattle.trace_walk.specs.Given.{tried_of}
+use Rattle.body_follows.specs.Going.{does, goes_by, is_next}
+use Rattle.trace_walk.specs.Walking.{Does}
 use Rattle.body_follows.specs.Whole.{IsSmooth}
 use Rattle.body_follows.proofs.SameActs.{act_is}
 

@@ -22,7 +22,7 @@ use Rattle.world_model.proofs.MadeMeans.{last_accepted}
 use Rattle.world_model.proofs.SpawnUnderWay.{names_fresh}
 use Rattle.schedule_model.specs.Follows.{drawn}
 use Rattle.schedule_model.specs.Scripts.{Numbers, parent_by}
-use Rattle.schedule_run.specs.Given.{tried_of}
+use Rattle.trace_walk.specs.Given.{tried_of}
 use Rattle.job_kernels.specs.Tasks.{Does}
 use Rattle.body_follows.specs.Going.{does, heard}
 use Rattle.kernel_laws.proofs.Goes.{tried_as, GoesSmoothly}

@@ -13,7 +13,8 @@ use Rattle.trace_model.specs.Explained.{all_follow, is_over, past}
 use Rattle.trace_model.specs.Run.{Entry}
 use Rattle.trace_model.proofs.Legal.{explained_legal}
 use Rattle.phased_rt.proofs.Emptied.{over_ended}
-use Rattle.body_follows.specs.Going.{Does, IsRefusedAt}
+use Rattle.body_follows.specs.Going.{IsRefusedAt}
+use Rattle.trace_walk.specs.Walking.{Does}
 use Rattle.job_kernels.specs.Results.{refusal_of}
 use Rattle.body_follows.specs.Whole.{IsWhole}
 use Rattle.kernels_job.specs.Worked.{IsKernelRun}

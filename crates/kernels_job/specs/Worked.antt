@@ -8,7 +8,8 @@ use Rattle.world_model.specs.Report.{Report, report_of}
 use Rattle.world_model.specs.ReportLines.{totals_row}
 use Rattle.trace_model.specs.Run.{Run}
 use Rattle.trace_model.specs.Explained.{past, is_explained}
-use Rattle.body_follows.specs.Going.{Does, goes_by}
+use Rattle.body_follows.specs.Going.{goes_by}
+use Rattle.trace_walk.specs.Walking.{Does}
 use Rattle.task_crew.specs.Refused.{IsRunRefused}
 use Rattle.job_kernels.specs.Pipeline.{pipeline}
 use Rattle.job_kernels.specs.Stencil.{stencil}

@@ -12,16 +12,17 @@ ghost use Rattle.kernels_job.specs.Printed.{kernel_text, IsOfEnd};
 ghost use Rattle.kernels_job.specs.Worked.{IsKernelRun, stencil_text, pipeline_text};
 
 use crate::printing::{Kernel, ending_on};
-use body_follows::{Goes, goes_by};
+use body_follows::goes_by;
 use job_ends::Status;
 use job_kernels::{PipelineBody, PipelineSize, StencilBody};
 use phase_modes::{Limits, Refusal};
-use phased_rt::{OpenGate, Question, Workers, run_and_ask};
+use phased_rt::{Body, OpenGate, Question, Workers, run_and_ask};
 use std::alloc::Global;
 use std::io::Write;
 use std::sync::Wait;
 use std::thread::Threads;
 use trace_model::Trace;
+use trace_walk::Goes;
 use world_model::WorldReport;
 
 /// Whether a trace goes by this root's body and those that come of it.
@@ -32,7 +33,7 @@ struct GoesBy<B: Drop> {
 
 impl<B: Goes + Copy> Question for GoesBy<B> {
     ghost use Rattle.std.specs.Prelude.{true, IfOk, IfErr};
-    ghost use Rattle.schedule_run.specs.Following.{history};
+    ghost use Rattle.trace_walk.specs.History.{history};
     ghost use Rattle.trace_model.specs.Explained.{is_explained};
     ghost use Rattle.body_follows.specs.Going as going;
 
@@ -49,7 +50,7 @@ impl<B: Goes + Copy> Question for GoesBy<B> {
 
 /// The report of the root's run under the default limits, once its trace was seen to go by the root's
 /// body and those that come of it.
-fn report_of<B: Goes + Copy + Send + Sync, R: Threads + Wait + Sync>(
+fn report_of<B: Body + Goes + Copy + Send + Sync, R: Threads + Wait + Sync>(
     workers: Workers<'_, R>,
     alloc: Global,
     root: B,
@@ -72,7 +73,7 @@ fn report_of<B: Goes + Copy + Send + Sync, R: Threads + Wait + Sync>(
 }
 
 /// Runs the root by these workers, and ends the command of its kernel.
-fn kernel_on<B: Goes + Copy + Send + Sync, R: Threads + Wait + Sync, W: Write, F: Write>(
+fn kernel_on<B: Body + Goes + Copy + Send + Sync, R: Threads + Wait + Sync, W: Write, F: Write>(
     workers: Workers<'_, R>,
     alloc: Global,
     kernel: Kernel,

@@ -9,8 +9,8 @@ use Rattle.trace_model.specs.Explained.{past, all_follow, is_explained, is_over}
 use Rattle.trace_model.specs.Run.{Entry, Run}
 use Rattle.trace_model.proofs.Legal.{explained_legal}
 use Rattle.schedule_model.specs.Follows.{follows}
-use Rattle.schedule_run.specs.Following.{history}
-use Rattle.body_follows.proofs.Prefixes.{past_reversed}
+use Rattle.trace_walk.specs.History.{history}
+use Rattle.trace_walk.proofs.Places.{past_reversed}
 use Rattle.run_laws.specs.Memory.{is_roomy}
 use Rattle.run_laws.specs.Programs.{IsProgramRun}
 use Rattle.run_laws.specs.Telling.{in_order}

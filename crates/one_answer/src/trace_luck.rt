@@ -1,6 +1,6 @@
 //! The first event of a trace in which luck has a part: one pass over its events.
 ghost use Rattle.std.specs.Prelude.{◌≡◌, true, None, IfOk, IfErr, IfSome};
-ghost use Rattle.schedule_run.specs.Following.{history};
+ghost use Rattle.trace_walk.specs.History.{history};
 ghost use Rattle.trace_model.specs.Explained.{is_explained};
 ghost use Rattle.one_answer.specs.Luck.{is_all_steady, IsFirstLuck};
 

@@ -2,7 +2,7 @@
 use Rattle.std.proofs.Common.{ℕ, Option, Err, inl, inr, refl}
 use Rattle.phase_modes.specs.declared.refusal.Refusal.{Refusal}
 use Rattle.phase_modes.specs.declared.refusal.Refusal.TheVariants.{Memory, NotExplained}
-use Rattle.schedule_run.specs.Following.{AnswersPlace}
+use Rattle.trace_walk.specs.Walking.{AnswersPlace}
 use Rattle.task_crew.specs.Refused.{IsRunRefused}
 
 pub refused_so : (o : Option ℕ) (e : Refusal) → AnswersPlace o (Err e) → IsRunRefused e

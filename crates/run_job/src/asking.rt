@@ -23,7 +23,9 @@ struct Follows<'p> {
 impl<'p> Question for Follows<'p> {
     ghost use Rattle.std.specs.Prelude.{◌≡◌, true, IfOk};
     ghost use Rattle.schedule_model.specs.Follows.{follows};
-    ghost use Rattle.schedule_run.specs.Following.{first_not_next, history, AnswersPlace};
+    ghost use Rattle.schedule_run.specs.Following.{first_not_next};
+    ghost use Rattle.trace_walk.specs.History.{history};
+    ghost use Rattle.trace_walk.specs.Walking.{AnswersPlace};
 
     type Answer = Result<(), Refusal>;
 

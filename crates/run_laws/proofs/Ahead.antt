@@ -12,7 +12,7 @@ use Rattle.world_model.specs.Actors.{actor}
 use Rattle.world_model.specs.Parts.{phaser_past, terms_of}
 use Rattle.world_model.specs.Tasks.{is_ended}
 use Rattle.world_model.proofs.PhasersLegal.{phasers_legal}
-use Rattle.body_follows.specs.Going.{Does}
+use Rattle.trace_walk.specs.Walking.{Does}
 use Rattle.schedule_model.specs.Scripts.{Numbers}
 use Rattle.run_laws.specs.Telling.{Told, told, told_of}
 use Rattle.run_laws.specs.Determinacy.{IsBeginning}

@@ -26,7 +26,7 @@ use Rattle.world_model.specs.Numbers.{is_phaser}
 use Rattle.world_model.specs.Parts.{phaser_past, terms_of, event_for}
 use Rattle.world_model.specs.Tasks.{is_ended}
 use Rattle.world_model.proofs.PhasersLegal.{phasers_legal}
-use Rattle.body_follows.specs.Going.{Does}
+use Rattle.trace_walk.specs.Walking.{Does}
 use Rattle.schedule_model.specs.Scripts.{Numbers}
 use Rattle.schedule_model.proofs.Used.{phaser_below}
 use Rattle.run_laws.specs.Telling.{Told}

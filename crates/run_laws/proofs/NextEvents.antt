@@ -29,9 +29,10 @@ use Rattle.world_model.proofs.AbleComputed.{idle_in_act}
 use Rattle.world_model.proofs.AbruptEnds.{nothing_due}
 use Rattle.world_model.proofs.DueStays.{IsFirstDue, first_is}
 use Rattle.world_model.proofs.SmallWords.{head_same}
-use Rattle.body_follows.specs.Going.{Does, does, is_next, goes_by}
+use Rattle.body_follows.specs.Going.{does, is_next, goes_by}
+use Rattle.trace_walk.specs.Walking.{Does}
 use Rattle.schedule_model.specs.Scripts.{Numbers, act_of}
-use Rattle.schedule_run.specs.Given.{tried_of}
+use Rattle.trace_walk.specs.Given.{tried_of}
 use Rattle.schedule_model.specs.Follows.{drawn}
 use Rattle.body_follows.specs.Whole.{IsSmooth}
 use Rattle.run_laws.specs.Telling.{Told, told, draws_as, draws_next, draws_by}

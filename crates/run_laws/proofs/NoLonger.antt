@@ -22,7 +22,7 @@ use Rattle.world_model.specs.Tasks.{is_ended}
 use Rattle.world_model.proofs.MadeMeans.{last_accepted}
 use Rattle.world_model.proofs.PhasersLegal.{phasers_legal}
 use Rattle.world_model.proofs.RootEndsLast.{ended_roots_leave_nobody}
-use Rattle.body_follows.specs.Going.{Does}
+use Rattle.trace_walk.specs.Walking.{Does}
 use Rattle.schedule_model.specs.Scripts.{Numbers}
 use Rattle.schedule_model.proofs.Used.{phaser_below}
 use Rattle.run_laws.specs.Memory.{HistoriesAreNoLonger}

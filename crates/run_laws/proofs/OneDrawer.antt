@@ -23,7 +23,7 @@ use Rattle.world_model.proofs.AbleComputed.{act_now}
 use Rattle.world_model.proofs.MadeMeans.{last_accepted}
 use Rattle.std.specs.List.{list_any}
 use Rattle.schedule_model.specs.Scripts.{Numbers, act_of}
-use Rattle.schedule_run.specs.Given.{tried_of}
+use Rattle.trace_walk.specs.Given.{tried_of}
 use Rattle.run_laws.specs.Telling.{Told, told, told_of, tells, makes, begins_child, opens, in_order, draws_next, draws_by}
 use Rattle.run_laws.proofs.Drawings.{lt_more, phaser_there, finish_there, some_or, some_finish_or, or_known, or_moves, zero_first, root_finish}
 use Rattle.run_laws.proofs.NextEvents.{event_by}

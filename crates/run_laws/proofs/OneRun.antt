@@ -1,7 +1,8 @@
 -- One whole run of a program tells the report of each other one that has memory.
 use Rattle.std.proofs.Common.{sym}
 use Rattle.run_laws.specs.OneRun.{OneRunTellsAll}
-use Rattle.run_laws.specs.Programs.{script_next, script_root}
+use Rattle.trace_walk.specs.Walking.{script_next}
+use Rattle.run_laws.specs.Programs.{script_root}
 use Rattle.run_laws.specs.Telling.{in_order}
 use Rattle.run_laws.proofs.Least.{least_hangs_on_memory_alone}
 use Rattle.run_laws.proofs.Scripts.{run_of, followers_go_by_scripts}

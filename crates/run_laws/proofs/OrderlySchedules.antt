@@ -21,7 +21,8 @@ use Rattle.schedule_model.proofs.Legal.{runs-legal}
 use Rattle.schedule_model.proofs.Rounds.{run_rounds_move}
 use Rattle.run_laws.specs.Determinacy.{IsRun}
 use Rattle.run_laws.specs.Memory.{has_memory, is_forced, is_next_refused}
-use Rattle.run_laws.specs.Programs.{script_next, script_root}
+use Rattle.trace_walk.specs.Walking.{script_next}
+use Rattle.run_laws.specs.Programs.{script_root}
 use Rattle.run_laws.specs.Schedules.{IsOrderly, OrderlySchedulesEnd, OrderlySchedulesForetell, RoomyTextsAreOrderly}
 use Rattle.run_laws.specs.Telling.{draws_least, in_order}
 use Rattle.run_laws.proofs.Drawings.{roots_draw_in_order}

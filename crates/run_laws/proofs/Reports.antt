@@ -33,7 +33,7 @@ use Rattle.world_model.specs.Report.{Report, PhaserReport, below, phase_count, f
 use Rattle.world_model.specs.Tasks.{is_born}
 use Rattle.world_model.proofs.OpenFinishes.{filter_same}
 use Rattle.world_model.proofs.PhasersLegal.{phasers_legal}
-use Rattle.body_follows.specs.Going.{Does}
+use Rattle.trace_walk.specs.Walking.{Does}
 use Rattle.schedule_model.specs.Scripts.{Numbers}
 use Rattle.run_laws.specs.Telling.{Told, told, told_of}
 use Rattle.run_laws.specs.Determinacy.{IsRun, RunsComeToTheSame}

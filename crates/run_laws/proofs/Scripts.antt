@@ -27,15 +27,17 @@ use Rattle.world_model.proofs.MadeMeans.{last_accepted}
 use Rattle.world_model.proofs.AbleComputed.{idle_in_act, refuse_idle, made_done_where}
 use Rattle.world_model.proofs.PassesInTurns.{idle_is_born}
 use Rattle.world_model.proofs.BornWhereNamed.{born_named}
-use Rattle.body_follows.specs.Going.{Does, does, heard, child_does, is_next, goes_by}
+use Rattle.body_follows.specs.Going.{does, heard, child_does, is_next, goes_by}
+use Rattle.trace_walk.specs.Walking.{Does, script_next}
 use Rattle.schedule_model.specs.Scripts.{Made, Numbers, act_of, is_of, parent_by}
-use Rattle.schedule_run.specs.Given.{tried_of}
+use Rattle.trace_walk.specs.Given.{tried_of}
 use Rattle.schedule_model.specs.Follows.{drawn, same_act}
 use Rattle.schedule_model.specs.Scripts.{body_of, acts_left, next_act, meanings, meant_after, tried_as, tried_next}
 use Rattle.schedule_model.specs.Follows.{is_next as is_its_next, follows}
-use Rattle.run_laws.specs.Programs.{script_next, script_root, FollowersGoByScripts, IsProgramRun, ProgramsComeToTheSame}
+use Rattle.run_laws.specs.Programs.{script_root, FollowersGoByScripts, IsProgramRun, ProgramsComeToTheSame}
 use Rattle.run_laws.specs.Determinacy.{IsRun}
 use Rattle.run_laws.specs.Telling.{Told}
+use Rattle.trace_walk.proofs.Giving.{next_given}
 use Rattle.run_laws.proofs.Main.{tasks_do_the_same}
 use Rattle.run_laws.proofs.Reports.{runs_come_to_the_same}
 
@@ -45,27 +47,6 @@ standing ms left = (
   next_for ms (slice_get left 0),
   record { left = drop 1 left; meanings = ms; naming = given_name (slice_get left 0) },
 )
-
--- the same act, told by the program and by the body
-same_tried : (w : List WorldEvent) (t : ℕ) (ms : List ℕ) (new : Numbers) (h : Head) (body : Acts)
-    → tried_as w t ms new h ≡ tried_of (own_pairs t w) new (act_for ms h body)
-same_tried w t ms new (heads.New name m terms) body = refl
-same_tried w t ms new (heads.Async xs) body = refl
-same_tried w t ms new heads.AsyncAll body = refl
-same_tried w t ms new heads.OpenFinish body = refl
-same_tried w t ms new heads.ShutFinish body = refl
-same_tried w t ms new heads.Signal body = refl
-same_tried w t ms new heads.Wait body = refl
-same_tried w t ms new heads.Next body = refl
-same_tried w t ms new (heads.NextSingle n) body = refl
-same_tried w t ms new (heads.Send name a v) body = refl
-same_tried w t ms new (heads.Look name a) body = refl
-same_tried w t ms new (heads.Repeat k) body = refl
-
-same_next : (w : List WorldEvent) (t : ℕ) (ms : List ℕ) (new : Numbers) (o : Option texts.Act)
-    → tried_next w t ms new o ≡ tried_of (own_pairs t w) new (next_for ms o)
-same_next w t ms new None = refl
-same_next w t ms new (Some a) = same_tried w t ms new a.head a.body
 
 -- the body that a spawn hands to its child
 spawned : (w : List WorldEvent) (u c : ℕ) (ps : List Pair) (ms : List ℕ) (new : Numbers) (h : Head) (body : Acts) (before : Does Script)
@@ -190,7 +171,7 @@ module _ (p : Program) where
           subst (λ (d : Does Script). same_act m.act (tried_of (own_pairs m.task w) (drawn m.act) d.0) ≡ true)
           (sym (at m.task (n m refl)))
           (subst (λ (x : Tried). same_act m.act x ≡ true)
-          (same_next w m.task (meanings p w m.task) (drawn m.act) (next_act p w m.task)) h)
+          (sym (next_given w m.task (meanings p w m.task) (drawn m.act) (next_act p w m.task))) h)
 
 pub followers_go_by_scripts : FollowersGoByScripts
 followers_go_by_scripts p w k f = goes p w k f

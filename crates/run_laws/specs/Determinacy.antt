@@ -9,7 +9,8 @@ use Rattle.std.specs.List.{list_all}
 use Rattle.world_model.specs.Replies.{is_legal_world}
 use Rattle.world_model.specs.Tasks.{is_ended}
 use Rattle.world_model.specs.Report.{report_of, refused_by}
-use Rattle.body_follows.specs.Going.{Does, goes_by}
+use Rattle.body_follows.specs.Going.{goes_by}
+use Rattle.trace_walk.specs.Walking.{Does}
 use Rattle.schedule_model.specs.Scripts.{Numbers}
 use Rattle.body_follows.specs.Whole.{IsSmooth, IsWhole}
 use Rattle.run_laws.specs.Telling.{Told, told, draws_by}

@@ -21,7 +21,8 @@ use Rattle.job_script.specs.Program.{Program}
 use Rattle.job_script.specs.declared.head.Head.TheVariants.{Async as AsyncHead, New as NewHead, Next as NextHead}
 use Rattle.schedule_model.specs.ExampleWords.{plain as plain_act, program, within}
 use Rattle.schedule_model.specs.RunExamples.{two_senders}
-use Rattle.body_follows.specs.Going.{Does, goes_by}
+use Rattle.body_follows.specs.Going.{goes_by}
+use Rattle.trace_walk.specs.Walking.{Does}
 use Rattle.body_follows.specs.Whole.{IsWhole}
 use Rattle.run_laws.specs.Telling.{in_order}
 use Rattle.run_laws.specs.Texts.{root_draws_alone}

@@ -1,22 +1,18 @@
 -- What a program comes to: the laws for programs that are texts, whose tasks go through lists of acts.
 use Rattle.std.specs.Prelude.{ℕ, ◌≡◌, true, List, None}
-use Rattle.job_script.specs.declared.act.Answer.{Answer}
 use Rattle.job_script.specs.Program.{Program}
-use Rattle.job_script.specs.Steps.{Script, begun, no_meanings, given, stepped}
+use Rattle.job_script.specs.Steps.{Script, begun, no_meanings}
 use Rattle.world_model.specs.declared.event.WorldEvent.{WorldEvent}
 use Rattle.world_model.specs.Report.{report_of, refused_by}
 use Rattle.world_model.specs.Replies.{is_legal_world}
 use Rattle.world_model.specs.Tasks.{is_ended}
-use Rattle.body_follows.specs.Going.{Does, goes_by}
+use Rattle.body_follows.specs.Going.{goes_by}
+use Rattle.trace_walk.specs.Walking.{script_next}
 use Rattle.schedule_model.specs.Scripts.{Numbers}
 use Rattle.schedule_model.specs.Follows.{follows}
 use Rattle.phase_modes.specs.declared.limits.Limits.{Limits}
 use Rattle.run_laws.specs.Texts.{root_draws_alone}
 use Rattle.run_laws.specs.Telling.{Told, told, draws_by, draws_least, root_draws, in_order}
-
--- what a body of a program does where it hears this, and what the body is after that
-abbrev pub script_next : Answer → Script → Does Script
-script_next x s = (given x s, stepped x s)
 
 -- the root's body, before its first act
 abbrev pub script_root : Program → Script

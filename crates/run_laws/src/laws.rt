@@ -8,7 +8,7 @@ ghost use Rattle.run_laws.specs.Memory.{HistoriesAlwaysFit, HistoriesAreNoLonger
 ghost use Rattle.run_laws.specs.OneRun.{OneRunTellsAll};
 ghost use Rattle.run_laws.specs.Schedules.{OrderlySchedulesEnd, OrderlySchedulesForetell, RoomyTextsAreOrderly, SchedulesComeToTheSame, SchedulesWithRoomComeToTheSame};
 
-use body_follows::Goes;
+use trace_walk::Goes;
 
 /// Each task does the same in both, and hears and sees the same; but for who runs a single.
 pub fn tasks_do_the_same<B: Goes>()

@@ -1,13 +1,10 @@
-pub mod Alike
-pub mod Giving
 pub mod Overs
 pub mod Picking
 pub mod Counting
 pub mod Entries
-pub mod Histories
 pub mod Leaving
+pub mod Scripted
 pub mod Noted
-pub mod OwnPairs
 pub mod Seats
 pub mod Settling
 pub mod Standing

@@ -33,14 +33,14 @@ use Rattle.schedule_model.specs.Scripts.{Numbers, meanings, next_act, tried}
 use Rattle.schedule_model.proofs.Begins.{Goes, is_reported, may_report, event_reply, next_goes}
 use Rattle.schedule_model.proofs.GoesOn.{asked_idle, asked_busy, next_replied}
 use Rattle.schedule_model.proofs.Rounds.{gapless_pick}
-use Rattle.schedule_run.specs.Given.{tried_of}
+use Rattle.trace_walk.specs.Given.{tried_of}
 use Rattle.schedule_run.specs.declared.bodies.Bodies.{Bodies}
 use Rattle.schedule_run.specs.declared.record.Outcome.TheVariants.{Made, Waits, Refused}
 use Rattle.schedule_run.specs.declared.runner.Runner.{Runner}
 use Rattle.schedule_run.specs.inner.Bodies.{BodiesStand, IsAsked, seat_at}
 use Rattle.schedule_run.specs.inner.Records.{outcome_of}
 use Rattle.schedule_run.specs.inner.Running.{Kept, RunStands}
-use Rattle.schedule_run.proofs.Giving.{given-is-tried}
+use Rattle.trace_walk.proofs.Giving.{given-is-tried}
 use Rattle.schedule_run.proofs.Seats.{quiet_stands, refused_stands, next_stands}
 
 -- ---- the reply, by its outcome

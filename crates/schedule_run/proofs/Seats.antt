@@ -1,5 +1,5 @@
 -- The seats of a run's tasks after a task was given an act, and after its event.
-use Rattle.std.proofs.Common.{Bor, ℕ, zero, suc, ◌≡◌, ◌≢◌, ◌<◌, Bool, true, false, ◌==◌, true≢false, List, [], ◌∷◌, ◌++◌, drop, slice_get, length, Option, Some, None, refl, sym, ap, subst, ◌∙◌, arith, le_of_suc-le-suc}
+use Rattle.std.proofs.Common.{ℕ, zero, suc, ◌≡◌, ◌≢◌, ◌<◌, Bool, true, false, ◌==◌, true≢false, List, [], ◌∷◌, ◌++◌, drop, slice_get, length, Option, Some, None, refl, sym, ap, subst, ◌∙◌, arith, le_of_suc-le-suc}
 use Rattle.std.proofs.Math.ListN.{set}
 use Rattle.std.proofs.lemmas.Bool.{eqb-true, false_from_ne_true}
 use Rattle.phase_modes.specs.declared.reg.Mode.{Mode}
@@ -20,20 +20,12 @@ use Rattle.world_model.specs.Due.{next_event}
 use Rattle.schedule_model.specs.Picks.{event_of}
 use Rattle.schedule_model.proofs.NoActs.{next-continues}
 use Rattle.world_model.specs.declared.event.WorldEvent.{WorldEvent}
-use Rattle.world_model.specs.declared.event.WorldEvent.TheVariants.{Phaser, Finish, Begin, Refuse, Fail}
-use Rattle.trace_model.specs.Explained.{step_of, event_of as event_in}
-use Rattle.trace_model.specs.Views.{short_act, short_step, viewed}
-use Rattle.trace_model.specs.declared.long.LongEvent.{LongEvent}
-use Rattle.trace_model.specs.declared.view.EventView.{EventView}
-use Rattle.trace_model.specs.declared.view.EventView.TheVariants as view
-use Rattle.trace_model.specs.declared.view.ShortAct.{ShortAct}
-use Rattle.trace_model.specs.declared.view.ShortAct.TheVariants.{Signal as Signalling, Wait as Waiting, Next as NextOne, NextSingle as NextWith, Shut as Shutting, End as Leaving}
-use Rattle.trace_model.specs.declared.view.ShortStep.{ShortStep}
-use Rattle.trace_model.specs.declared.view.ShortStep.TheVariants as short
+use Rattle.world_model.specs.declared.event.WorldEvent.TheVariants.{Phaser, Finish, Begin, Refuse}
 use Rattle.schedule_model.specs.Scripts.{act_of, is_of, parent_by, body_of, acts_left, meanings, next_act}
-use Rattle.schedule_run.specs.declared.bodies.Seat.{Seat}
+use Rattle.trace_walk.specs.declared.seats.Seat.{Seat}
 use Rattle.schedule_run.specs.inner.Bodies.{Standing, standing, seat_in, seat_at, standing_of, SeatsStand, BodiesStand, IsAskedSeat, IsAskedOf, IsAsked}
-use Rattle.schedule_run.proofs.Standing.{eq_self, one_task, is_making, unmoved, quiet, acted, making, naming}
+use Rattle.trace_walk.proofs.Events.{eq_self}
+use Rattle.schedule_run.proofs.Standing.{one_task, is_making, unmoved, quiet, acted, making, naming}
 
 -- ---- places of a list
 
@@ -53,21 +45,21 @@ get-set_other (y ∷ ys) (suc i) (suc j) x h = get-set_other ys i j x (λ e. h (
 
 -- ---- before the first event
 
-unnamed : (seats : List (Option Seat)) (t : ℕ) → standing_of (seat_at (seats ++ None ∷ []) t) ≡ standing_of
+unnamed : (seats : List (Option (Seat Script))) (t : ℕ) → standing_of (seat_at (seats ++ None ∷ []) t) ≡ standing_of
     (seat_at seats t)
 unnamed [] zero = refl
 unnamed [] (suc t) = refl
 unnamed (s ∷ seats) zero = refl
 unnamed (s ∷ seats) (suc t) = unnamed seats t
 
-pub place_more : (p : Program) (w : List WorldEvent) (seats : List (Option Seat)) → BodiesStand p w seats
+pub place_more : (p : Program) (w : List WorldEvent) (seats : List (Option (Seat Script))) → BodiesStand p w seats
     → BodiesStand p w (seats ++ None ∷ [])
 place_more p w seats s t = unnamed seats t ∙ s t
 
 not_zero : (t : ℕ) → (suc t == 0) ≡ false
 not_zero t = false_from_ne_true (suc t == 0) (λ e. omega (arith, eqb-true (suc t) 0 e))
 
-pub root_stands : (p : Program) (s : Seat) → s.body ≡ begun p.main no_meanings → s.answer ≡ Started
+pub root_stands : (p : Program) (s : Seat Script) → s.body ≡ begun p.main no_meanings → s.heard ≡ Started
     → BodiesStand p [] (Some s ∷ [])
 root_stands p s body answer zero = rw (body, answer) refl
 root_stands p s body answer (suc t) = rw (not_zero t) refl
@@ -79,8 +71,8 @@ by_standing : (p : Program) (w : List WorldEvent) (t : ℕ) (s : Standing) → s
 by_standing p w t s e = ap (λ (x : Standing). next_for x.meanings (slice_get x.left 0)) e
 
 -- by a body
-pub given_act : (p : Program) (w : List WorldEvent) (t : ℕ) (s : Seat)
-    → standing_of (Some s) ≡ standing p w t → given s.answer s.body ≡ next_for (meanings p w t)
+pub given_act : (p : Program) (w : List WorldEvent) (t : ℕ) (s : Seat Script)
+    → standing_of (Some s) ≡ standing p w t → given s.heard s.body ≡ next_for (meanings p w t)
     (next_act p w t)
 given_act p w t s e = by_standing p w t (standing_of (Some s)) e
 
@@ -90,8 +82,8 @@ pub given_end : (p : Program) (w : List WorldEvent) (t : ℕ) → standing_of No
 given_end p w t e = by_standing p w t (standing_of None) e
 
 -- a task that took a step is asked
-asked_seat : (p : Program) (w : List WorldEvent) (t : ℕ) (s : Seat) (after : Seat)
-    → standing_of (Some s) ≡ standing p w t → after.body ≡ stepped s.answer s.body → after.answer ≡ Done
+asked_seat : (p : Program) (w : List WorldEvent) (t : ℕ) (s : Seat Script) (after : Seat Script)
+    → standing_of (Some s) ≡ standing p w t → after.body ≡ stepped s.heard s.body → after.heard ≡ Done
     → IsAskedSeat p w t (Some after)
 asked_seat p w t s after e body answer = (
   ap (λ (b : Script). b.left) body ∙ ap (λ (x : Standing). drop 1 x.left) e,
@@ -105,9 +97,9 @@ asked_none : (p : Program) (w : List WorldEvent) (t : ℕ) → standing_of None 
 asked_none p w t e = (ap (λ (x : Standing). x.left) (sym e), ap (λ (x : Standing). x.meanings) (sym e))
 
 -- the task's seat goes past the act
-pub asked_with : (p : Program) (w : List WorldEvent) (t : ℕ) (at new : ℕ → Option Seat) (s after : Seat)
+pub asked_with : (p : Program) (w : List WorldEvent) (t : ℕ) (at new : ℕ → Option (Seat Script)) (s after : Seat Script)
     → SeatsStand p w at → at t ≡ Some s → new t ≡ Some after → ((u : ℕ) → u ≢ t → new u ≡ at u)
-    → after.body ≡ stepped s.answer s.body → after.answer ≡ Done → IsAskedOf p w t new
+    → after.body ≡ stepped s.heard s.body → after.heard ≡ Done → IsAskedOf p w t new
 asked_with p w t at new s after stand was is same body answer = record {
   others = λ u k. ap standing_of (same u k) ∙ stand u;
   own =
@@ -116,7 +108,7 @@ asked_with p w t at new s after stand was is same body answer = record {
 }
 
 -- a task without a seat
-pub asked_without : (p : Program) (w : List WorldEvent) (t : ℕ) (at : ℕ → Option Seat) → SeatsStand p w at
+pub asked_without : (p : Program) (w : List WorldEvent) (t : ℕ) (at : ℕ → Option (Seat Script)) → SeatsStand p w at
     → at t ≡ None → IsAskedOf p w t at
 asked_without p w t at stand none = record {
   others = λ u k. stand u;
@@ -125,7 +117,7 @@ asked_without p w t at stand none = record {
 
 -- ---- the event of an act that was given
 
-each_task : (p : Program) (w : List WorldEvent) (at : ℕ → Option Seat) (t : ℕ)
+each_task : (p : Program) (w : List WorldEvent) (at : ℕ → Option (Seat Script)) (t : ℕ)
     → standing_of (at t) ≡ standing p w t → ((u : ℕ) → u ≢ t → standing_of (at u) ≡ standing p w u)
     → SeatsStand p w at
 each_task p w at t own others u = by_case (u == t) refl
@@ -136,12 +128,12 @@ each_task p w at t own others u = by_case (u == t) refl
         others u (λ same. true≢false (sym (subst (λ (v : ℕ). (u == v) ≡ true) same (eq_self u)) ∙ e))
 
 -- an act that makes no phaser and names nobody
-own_settled : (p : Program) (w : List WorldEvent) (t : ℕ) (s : Option Seat) → IsAskedSeat p w t s → ◌≡◌ {A =
+own_settled : (p : Program) (w : List WorldEvent) (t : ℕ) (s : Option (Seat Script)) → IsAskedSeat p w t s → ◌≡◌ {A =
     Standing} (standing_of s) (record { left = drop 1 (acts_left p w t); meanings = meanings p w t })
 own_settled p w t None a = rw (a.0, a.1) refl
 own_settled p w t (Some s) a = rw (a.3, a.0, a.1) refl
 
-pub settled : (p : Program) (w : List WorldEvent) (t : ℕ) (at : ℕ → Option Seat) (e : WorldEvent)
+pub settled : (p : Program) (w : List WorldEvent) (t : ℕ) (at : ℕ → Option (Seat Script)) (e : WorldEvent)
     → IsAskedOf p w t at → is_of t (act_of e) ≡ true → ((u : ℕ) → parent_by u e ≡ None)
     → is_making e ≡ false → SeatsStand p (e ∷ w) at
 settled p w t at e a act alone plain =
@@ -149,46 +141,15 @@ settled p w t at e a act alone plain =
     (own_settled p w t (at t) a.own ∙ sym (acted p w t e act (alone t) plain))
     (λ u k. a.others u k ∙ sym (unmoved p w u e (one_task t u (act_of e) act k) (alone u)))
 
-begins_alone : (t : ℕ) (b : ShortAct) (u : ℕ) → parent_by u (Begin t (short_act b)) ≡ None
-begins_alone t Signalling u = refl
-begins_alone t Waiting u = refl
-begins_alone t NextOne u = refl
-begins_alone t (NextWith n) u = refl
-begins_alone t Shutting u = refl
-begins_alone t Leaving u = refl
-
-makes_none : (n : ℕ) (s : ShortStep) → is_making (Phaser n (step_of (short_step s))) ≡ false
-makes_none n (short.Reg q t m) = refl
-makes_none n (short.Sig t x) = refl
-makes_none n (short.Claim t) = refl
-makes_none n (short.Did t) = refl
-makes_none n (short.Pass t) = refl
-makes_none n (short.Send t a v) = refl
-makes_none n (short.Saw a t v) = refl
-makes_none n (short.SawNothing t a) = refl
-makes_none n (short.Drop t) = refl
-
--- an event that a trace keeps short leaves the seats as they are to stand
-pub short_settled : (p : Program) (w : List WorldEvent) (t : ℕ) (at : ℕ → Option Seat) (e : EventView)
-    → ((x : Bor LongEvent) → e ≡ view.Long x → ⊥) → IsAskedOf p w t at
-    → is_of t (act_of (event_in (viewed e))) ≡ true → SeatsStand p (event_in (viewed e) ∷ w) at
-short_settled p w t at (view.Phaser n s) short a act =
-    settled p w t at (Phaser n (step_of (short_step s))) a act (λ u. refl) (makes_none n s)
-short_settled p w t at (view.Finish f e) short a act = settled p w t at (Finish f e) a act (λ u. refl) refl
-short_settled p w t at (view.Begin u b) short a act =
-    settled p w t at (Begin u (short_act b)) a act (begins_alone u b) refl
-short_settled p w t at (view.Fail u n) short a act = settled p w t at (Fail u n) a act (λ v. refl) refl
-short_settled p w t at (view.Long x) short a act = absurd (short x refl)
-
 -- an event that is no act
-pub quiet_stands : (p : Program) (w : List WorldEvent) (at : ℕ → Option Seat) (e : WorldEvent)
+pub quiet_stands : (p : Program) (w : List WorldEvent) (at : ℕ → Option (Seat Script)) (e : WorldEvent)
     → SeatsStand p w at → act_of e ≡ None → SeatsStand p (e ∷ w) at
 quiet_stands p w at e s none u = s u ∙ sym (quiet p w u e none)
 
 -- ---- a phaser that was made
 
-made_seat : (p : Program) (w : List WorldEvent) (t n : ℕ) (s after : Seat) → after.body ≡ s.body
-    → after.answer ≡ MadeOf n → IsAskedSeat p w t (Some s)
+made_seat : (p : Program) (w : List WorldEvent) (t n : ℕ) (s after : Seat Script) → after.body ≡ s.body
+    → after.heard ≡ MadeOf n → IsAskedSeat p w t (Some s)
     → ◌≡◌ {A = Standing} (standing_of (Some after)) (record {
       left = drop 1 (acts_left p w t);
       meanings =
@@ -205,7 +166,7 @@ made_none : (p : Program) (w : List WorldEvent) (t n : ℕ) → IsAskedSeat p w 
 made_none p w t n a = rw (a.0, a.1) refl
 
 made_after : (p : Program) (w : List WorldEvent) (t n : ℕ) (m : Mode) (terms : Terms)
-    (at new : ℕ → Option Seat) → IsAskedOf p w t at → ((u : ℕ) → u ≢ t → new u ≡ at u)
+    (at new : ℕ → Option (Seat Script)) → IsAskedOf p w t at → ((u : ℕ) → u ≢ t → new u ≡ at u)
     → ◌≡◌ {A = Standing} (standing_of (new t)) (record {
       left = drop 1 (acts_left p w t);
       meanings =
@@ -222,8 +183,8 @@ made_after p w t n m terms at new a same own =
 
 -- the task's seat has the answer
 pub made_with : (p : Program) (w : List WorldEvent) (t n : ℕ) (m : Mode) (terms : Terms)
-    (at new : ℕ → Option Seat) (s after : Seat) → IsAskedOf p w t at → at t ≡ Some s → new t ≡ Some after
-    → ((u : ℕ) → u ≢ t → new u ≡ at u) → after.body ≡ s.body → after.answer ≡ MadeOf n
+    (at new : ℕ → Option (Seat Script)) (s after : Seat Script) → IsAskedOf p w t at → at t ≡ Some s → new t ≡ Some after
+    → ((u : ℕ) → u ≢ t → new u ≡ at u) → after.body ≡ s.body → after.heard ≡ MadeOf n
     → SeatsStand p (Phaser n (Make t m terms) ∷ w) new
 made_with p w t n m terms at new s after a was is same body answer =
     made_after p w t n m terms at new a same
@@ -231,7 +192,7 @@ made_with p w t n m terms at new s after a was is same body answer =
 
 -- a task without a seat
 pub made_without : (p : Program) (w : List WorldEvent) (t n : ℕ) (m : Mode) (terms : Terms)
-    (at : ℕ → Option Seat) → IsAskedOf p w t at → at t ≡ None → SeatsStand p (Phaser n (Make t m terms) ∷ w) at
+    (at : ℕ → Option (Seat Script)) → IsAskedOf p w t at → at t ≡ None → SeatsStand p (Phaser n (Make t m terms) ∷ w) at
 made_without p w t n m terms at a none =
     made_after p w t n m terms at at a (λ u k. refl)
     (ap standing_of none ∙ made_none p w t n (subst (IsAskedSeat p w t) none a.own))
@@ -242,9 +203,9 @@ not_named : (t c u : ℕ) (pairs : List Pair) → u ≢ c → parent_by u (Begin
 not_named t c u pairs k = rw (false_from_ne_true (c == u) (λ e. k (sym (eqb-true c u e)))) refl
 
 pub child_with : (p : Program) (w : List WorldEvent) (t c : ℕ) (pairs : List Pair)
-    (at new : ℕ → Option Seat) (s : Seat) → IsAskedOf p w t at → new c ≡ Some s
+    (at new : ℕ → Option (Seat Script)) (s : Seat Script) → IsAskedOf p w t at → new c ≡ Some s
     → ((u : ℕ) → u ≢ c → new u ≡ at u)
-    → s.body ≡ begun (body_of (next_act p w t)) (meanings p w t) → s.answer ≡ Started
+    → s.body ≡ begun (body_of (next_act p w t)) (meanings p w t) → s.heard ≡ Started
     → SeatsStand p (Begin t (Async c pairs) ∷ w) new
 child_with p w t c pairs at new s a is same body answer =
     each_task p (Begin t (Async c pairs) ∷ w) new c
@@ -282,7 +243,7 @@ child_with p w t c pairs at new s a is same body answer =
 -- ---- the other acts
 
 -- an act that was refused
-pub refused_stands : (p : Program) (w : List WorldEvent) (t : ℕ) (at : ℕ → Option Seat) (a : Tried) (n : ℕ)
+pub refused_stands : (p : Program) (w : List WorldEvent) (t : ℕ) (at : ℕ → Option (Seat Script)) (a : Tried) (n : ℕ)
     → IsAskedOf p w t at → SeatsStand p (Refuse t a n ∷ w) at
 refused_stands p w t at a n asked = settled p w t at (Refuse t a n) asked (eq_self t) (λ u. refl) refl
 
@@ -293,7 +254,7 @@ is_plain (Beginning (Async c pairs)) = false
 is_plain _ = true
 
 -- such an act that was made
-pub plain_stands : (p : Program) (w : List WorldEvent) (t : ℕ) (at : ℕ → Option Seat) (a : Tried)
+pub plain_stands : (p : Program) (w : List WorldEvent) (t : ℕ) (at : ℕ → Option (Seat Script)) (a : Tried)
     → is_plain a ≡ true → IsAskedOf p w t at → SeatsStand p (event_of t a ∷ w) at
 plain_stands p w t at (New n m terms) h asked = absurd cc
 plain_stands p w t at (Open f) h asked =
@@ -317,39 +278,39 @@ plain_stands p w t at (Beginning Ending) h asked =
     settled p w t at (Begin t Ending) asked (eq_self t) (λ u. refl) refl
 
 -- an event that continues an act
-pub next_stands : (p : Program) (l : Limits) (w : List WorldEvent) (t : ℕ) (at : ℕ → Option Seat)
+pub next_stands : (p : Program) (l : Limits) (w : List WorldEvent) (t : ℕ) (at : ℕ → Option (Seat Script))
     (e : WorldEvent) → next_event l t w ≡ Some e → SeatsStand p w at → SeatsStand p (e ∷ w) at
 next_stands p l w t at e next s = quiet_stands p w at e s (next-continues l t w e next)
 
 -- ---- seats in a list
 
-seat_set_same : (seats : List (Option Seat)) (i : ℕ) (s : Seat) → i < length seats
+seat_set_same : (seats : List (Option (Seat Script))) (i : ℕ) (s : Seat Script) → i < length seats
     → seat_at (set seats i (Some s)) i ≡ Some s
 seat_set_same seats i s h = ap seat_in (get-set_same seats i (Some s) h)
 
-seat_set_other : (seats : List (Option Seat)) (i : ℕ) (s : Seat) (u : ℕ) → u ≢ i
+seat_set_other : (seats : List (Option (Seat Script))) (i : ℕ) (s : Seat Script) (u : ℕ) → u ≢ i
     → seat_at (set seats i (Some s)) u ≡ seat_at seats u
 seat_set_other seats i s u k = ap seat_in (get-set_other seats i u (Some s) k)
 
-pub list_asked : (p : Program) (w : List WorldEvent) (t : ℕ) (seats : List (Option Seat)) (s after : Seat)
+pub list_asked : (p : Program) (w : List WorldEvent) (t : ℕ) (seats : List (Option (Seat Script))) (s after : Seat Script)
     → BodiesStand p w seats → t < length seats → seat_at seats t ≡ Some s
-    → after.body ≡ stepped s.answer s.body → after.answer ≡ Done
+    → after.body ≡ stepped s.heard s.body → after.heard ≡ Done
     → IsAsked p w t (set seats t (Some after))
 list_asked p w t seats s after stand below was body answer =
     asked_with p w t (seat_at seats) (seat_at (set seats t (Some after))) s after stand was
     (seat_set_same seats t after below) (seat_set_other seats t after) body answer
 
 pub list_made : (p : Program) (w : List WorldEvent) (t n : ℕ) (m : Mode) (terms : Terms)
-    (seats : List (Option Seat)) (s after : Seat) → IsAsked p w t seats → t < length seats
-    → seat_at seats t ≡ Some s → after.body ≡ s.body → after.answer ≡ MadeOf n
+    (seats : List (Option (Seat Script))) (s after : Seat Script) → IsAsked p w t seats → t < length seats
+    → seat_at seats t ≡ Some s → after.body ≡ s.body → after.heard ≡ MadeOf n
     → BodiesStand p (Phaser n (Make t m terms) ∷ w) (set seats t (Some after))
 list_made p w t n m terms seats s after a below was body answer =
     made_with p w t n m terms (seat_at seats) (seat_at (set seats t (Some after))) s after a was
     (seat_set_same seats t after below) (seat_set_other seats t after) body answer
 
 pub list_child : (p : Program) (w : List WorldEvent) (t c : ℕ) (pairs : List Pair)
-    (seats : List (Option Seat)) (s : Seat) → IsAsked p w t seats → c < length seats
-    → s.body ≡ begun (body_of (next_act p w t)) (meanings p w t) → s.answer ≡ Started
+    (seats : List (Option (Seat Script))) (s : Seat Script) → IsAsked p w t seats → c < length seats
+    → s.body ≡ begun (body_of (next_act p w t)) (meanings p w t) → s.heard ≡ Started
     → BodiesStand p (Begin t (Async c pairs) ∷ w) (set seats c (Some s))
 list_child p w t c pairs seats s a below body answer =
     child_with p w t c pairs (seat_at seats) (seat_at (set seats c (Some s))) s a

@@ -14,10 +14,10 @@ use Rattle.world_model.specs.declared.event.WorldEvent.TheVariants.{Phaser}
 use Rattle.world_model.specs.Drawing.{own_pairs}
 use Rattle.schedule_model.specs.Picks.{event_of}
 use Rattle.schedule_model.specs.Scripts.{Numbers, meanings, next_act, tried}
-use Rattle.schedule_run.specs.Given.{tried_of}
-use Rattle.schedule_run.specs.declared.bodies.Seat.{Seat}
+use Rattle.trace_walk.specs.Given.{tried_of}
+use Rattle.trace_walk.specs.declared.seats.Seat.{Seat}
 use Rattle.schedule_run.specs.inner.Bodies.{BodiesStand, IsAsked, seat_at}
-use Rattle.schedule_run.proofs.Giving.{given-is-tried}
+use Rattle.trace_walk.proofs.Giving.{given-is-tried}
 use Rattle.schedule_run.proofs.Seats.{is_plain, plain_stands}
 
 tried_by : (p : Program) (w : List WorldEvent) (t : ℕ) (new : Numbers) (act : tasks.Act Script) → act ≡ next_for (meanings p w t) (next_act p w t) → tried_of (own_pairs t w) new act ≡ tried p w t new
@@ -43,7 +43,7 @@ plain own new (acts.Look n i) a b c = refl
 plain own new acts.End a b c = refl
 
 -- an act that makes no phaser and spawns nobody leaves the seats
-pub plain_act : (p : Program) (w : List WorldEvent) (t : ℕ) (new : Numbers) (act : tasks.Act Script) (seats : List (Option Seat)) → IsAsked p w t seats → act ≡ next_for (meanings p w t) (next_act p w t)
+pub plain_act : (p : Program) (w : List WorldEvent) (t : ℕ) (new : Numbers) (act : tasks.Act Script) (seats : List (Option (Seat Script))) → IsAsked p w t seats → act ≡ next_for (meanings p w t) (next_act p w t)
     → ((s : Script) (ps : List Pair) → act ≡ acts.Async s ps → ⊥) → ((s : Script) → act ≡ acts.AsyncAll s → ⊥) → ((m : Mode) (ops : List Op) (b : Option ℕ) → act ≡ acts.New m ops b → ⊥)
     → BodiesStand p (event_of t (tried p w t new) ∷ w) seats
 plain_act p w t new act seats asked given a b c =

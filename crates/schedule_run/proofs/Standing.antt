@@ -1,6 +1,6 @@
 -- Where a task of a program stands after each event.
 use Rattle.std.proofs.Common.{ℕ, ◌≡◌, ◌≢◌, Bool, true, false, ◌==◌, List, ◌∷◌, drop, Option, Some, None, refl, sym, ◌∙◌}
-use Rattle.std.proofs.lemmas.Bool.{eq-eqb, eqb-true, false_from_ne_true}
+use Rattle.std.proofs.lemmas.Bool.{eqb-true, false_from_ne_true}
 use Rattle.phase_modes.specs.declared.reg.Mode.{Mode}
 use Rattle.phase_modes.specs.declared.phased.Pair.{Pair}
 use Rattle.phase_model.specs.declared.terms.Terms.{Terms}
@@ -13,10 +13,8 @@ use Rattle.world_model.specs.declared.event.Begun.TheVariants.{Async, Signal, Wa
 use Rattle.world_model.specs.declared.event.WorldEvent.{WorldEvent}
 use Rattle.world_model.specs.declared.event.WorldEvent.TheVariants.{Phaser, Finish, Begin, Refuse, Fail}
 use Rattle.schedule_model.specs.Scripts.{Made, act_of, is_of, parent_by, body_of, acts_left, meanings, next_act}
+use Rattle.trace_walk.proofs.Events.{eq_self}
 use Rattle.schedule_run.specs.inner.Bodies.{Standing, standing}
-
-pub eq_self : (n : ℕ) → n == n ≡ true
-eq_self n = eq-eqb n n refl
 
 -- an act has one task
 pub one_task : (t u : ℕ) (o : Option Made) → is_of t o ≡ true → u ≢ t → is_of u o ≡ false

@@ -1,12 +1,11 @@
-//! The tasks of a program while it runs: each task's body, and what it hears before its next act.
+//! The tasks of a program while it runs by picks, each with its seat.
 ghost use Rattle.std.specs.Prelude.{◌≡◌, ◌<◌, ◌∷◌, [], List, length, IfOk, IfErr};
 ghost use Rattle.phase_modes.specs.declared.reg.Mode as modes;
 ghost use Rattle.phase_modes.specs.declared.phased.Pair as phased;
 ghost use Rattle.phase_modes.specs.declared.refusal.Refusal.TheVariants.{Memory as NoMemory};
 ghost use Rattle.phase_model.specs.declared.terms.Terms.{Terms};
 ghost use Rattle.job_script.specs.Program as programs;
-ghost use Rattle.job_script.specs.Steps.{begun, given, next_for, stepped};
-ghost use Rattle.job_script.specs.declared.act.Answer.TheVariants.{Done, Started};
+ghost use Rattle.job_script.specs.Steps.{begun, next_for};
 ghost use Rattle.world_model.specs.declared.event.Begun.TheVariants.{Async};
 ghost use Rattle.world_model.specs.declared.event.Step.TheVariants.{Make};
 ghost use Rattle.world_model.specs.declared.event.WorldEvent as events;
@@ -18,45 +17,12 @@ use job_script::{Act, Answer, Program, ScriptBody};
 use phase_modes::Refusal;
 use std::alloc::Global;
 use task_numbers::{PhaserNumber, TaskNumber};
-
-/// A task's body, and what it hears before its next act.
-#[derive(Drop)]
-pub(crate) struct Seat<'p> {
-    pub body: ScriptBody<'p>,
-    pub answer: Answer,
-}
-
-impl<'p> Seat<'p> {
-    /// A task before its first act.
-    pub(crate) fn begun(body: ScriptBody<'p>) -> Seat<'p>
-        ensures body { result.body ≡ body.entry }
-        ensures answer { result.answer ≡ Started }
-    {
-        Seat {
-            body,
-            answer: Answer::Started,
-        }
-    }
-
-    /// The next act, which is done unless something else is reported of it.
-    pub(crate) fn next_act(&mut self) -> Act<ScriptBody<'p>>
-        ensures gives { result ≡ given self.old.answer self.old.body }
-        ensures body { self.new.body ≡ stepped self.old.answer self.old.body }
-        ensures answer { self.new.answer ≡ Done }
-    {
-        let act = self.body.step(self.answer);
-        self.answer = Answer::Done;
-        match act {
-            Ok(act) => act,
-            Err(_) => Act::End,
-        }
-    }
-}
+use trace_walk::Seat;
 
 /// The tasks of a program by number. A task has a seat from its spawn on.
 #[derive(Drop)]
 pub(crate) struct Bodies<'p> {
-    pub seats: Vec<Option<Seat<'p>>>,
+    pub seats: Vec<Option<Seat<ScriptBody<'p>>>>,
 }
 
 impl<'p> Bodies<'p> {
@@ -92,7 +58,7 @@ impl<'p> Bodies<'p> {
         }
         match &mut self.seats[place] {
             None => Act::End,
-            Some(seat) => seat.next_act(),
+            Some(seat) => seat.next_act(Answer::Done),
         }
     }
 
@@ -109,7 +75,7 @@ impl<'p> Bodies<'p> {
             return;
         }
         if let Some(seat) = &mut self.seats[place] {
-            seat.answer = Answer::Made(phaser.get());
+            seat.heard = Answer::Made(phaser.get());
         }
     }
 

@@ -1,18 +1,12 @@
-//! Runs of programs: the tasks of a program act by act, and acts as the world knows them.
+//! Runs of programs by picks, and whether a trace follows a program.
 #![tactic(auto)]
 
-mod acts;
 mod bodies;
-mod followers;
-mod given;
+mod following;
 mod notes;
-mod phasers_held;
 mod record;
 mod run;
 mod runner;
-mod same_act;
 
-pub use acts::actor;
-pub use followers::follows;
-pub use given::is_given;
+pub use following::follows;
 pub use run::{Run, run_picks};

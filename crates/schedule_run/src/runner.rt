@@ -18,12 +18,11 @@ ghost use Rattle.world_model.specs.Numbers.{is_named};
 ghost use Rattle.world_model.specs.Tasks.{is_born, is_ended};
 ghost use Rattle.schedule_model.specs.Picks.{unused, event_of, pick, picked, round_from, rounds, run_within};
 ghost use Rattle.schedule_model.specs.Scripts.{body_of, meanings, next_act, tried};
-ghost use Rattle.schedule_run.specs.Given.{numbers_view};
+ghost use Rattle.trace_walk.specs.Given.{numbers_view};
 ghost use Rattle.schedule_run.specs.inner.Bodies.{BodiesStand, IsAsked};
 ghost use Rattle.schedule_run.specs.inner.Records.{outcome_of};
 ghost use Rattle.schedule_run.specs.inner.Running.{Kept, RunStands};
 
-use crate::acts::{Numbers, event_of, tried_of};
 use crate::bodies::Bodies;
 use crate::notes::Notes;
 use crate::record::{Outcome, Record};
@@ -32,6 +31,7 @@ use phase_modes::Refusal;
 use std::alloc::Global;
 use task_numbers::{PhaserNumber, TaskNumber};
 use trace_model::Trace;
+use trace_walk::{Numbers, event_of, tried_of};
 use world_model::{Condition, Tried, WorldEvent};
 
 /// A run under way: its record, its tasks' bodies, and the notes of those that wait.

@@ -5,7 +5,7 @@ use Rattle.std.proofs.lemmas.Option.{get_or_from_slice_get}
 use Rattle.world_model.specs.declared.event.WorldEvent.{WorldEvent}
 use Rattle.trace_model.specs.Explained.{event_of, past}
 use Rattle.trace_model.specs.Run.{Entry}
-use Rattle.schedule_run.specs.Following.{history}
+use Rattle.trace_walk.specs.History.{history}
 
 -- with one event more
 pub history_more : (es : List Entry) (i : ℕ) (d : Entry) → i < length es

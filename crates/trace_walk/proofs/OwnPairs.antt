@@ -18,7 +18,7 @@ use Rattle.world_model.specs.Continuing.{same_mode}
 use Rattle.schedule_model.specs.Follows.{same_pairs}
 use Rattle.trace_model.specs.Explained.{event_of, past}
 use Rattle.trace_model.specs.Run.{Entry}
-use Rattle.schedule_run.specs.inner.Holding.{mode_on, pair_on, pair_by}
+use Rattle.trace_walk.specs.inner.Holding.{mode_on, pair_on, pair_by}
 
 -- ---- the mode in which a task is registered
 

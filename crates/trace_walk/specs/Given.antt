@@ -10,8 +10,8 @@ use Rattle.world_model.specs.declared.event.WorldEvent.{WorldEvent}
 use Rattle.world_model.specs.Drawing.{own_pairs}
 use Rattle.schedule_model.specs.Follows.{drawn, same_act}
 use Rattle.schedule_model.specs.Scripts.{Made, Numbers}
-use Rattle.schedule_run.specs.declared.acts.Numbers as stored
-use Rattle.schedule_run.specs.declared.acts.MadeAct.{MadeAct}
+use Rattle.trace_walk.specs.declared.acts.Numbers as stored
+use Rattle.trace_walk.specs.declared.acts.MadeAct.{MadeAct}
 
 -- the act as it is tried by a task that holds these phasers, where these numbers are drawn for it
 abbrev pub tried_of : {B : Type 0} → List Pair → Numbers → tasks.Act B → Tried

@@ -10,8 +10,8 @@ ghost use Rattle.schedule_model.specs.Scripts as acts;
 ghost use Rattle.schedule_model.specs.Scripts.{act_of};
 ghost use Rattle.trace_model.specs.Explained.{event_of, step_of};
 ghost use Rattle.trace_model.specs.Views.{long_event, short_act, short_step, viewed};
-ghost use Rattle.schedule_run.specs.Following.{history};
-ghost use Rattle.schedule_run.specs.Given.{gives, made_view, tried_of};
+ghost use Rattle.trace_walk.specs.History.{history};
+ghost use Rattle.trace_walk.specs.Given.{gives, made_view, tried_of};
 
 use crate::acts::{MadeAct, act_of, drawn, tried_of};
 use crate::phasers_held::are_own_pairs;

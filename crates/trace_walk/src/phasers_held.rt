@@ -9,8 +9,8 @@ ghost use Rattle.world_model.specs.Tasks.{joined_by};
 ghost use Rattle.schedule_model.specs.Follows.{same_pairs};
 ghost use Rattle.trace_model.specs.Explained.{step_of, event_of};
 ghost use Rattle.trace_model.specs.Views.{short_step, viewed};
-ghost use Rattle.schedule_run.specs.Following.{history};
-ghost use Rattle.schedule_run.specs.inner.Holding.{stay_in, stay_of, mode_on, pair_by};
+ghost use Rattle.trace_walk.specs.History.{history};
+ghost use Rattle.trace_walk.specs.inner.Holding.{stay_in, stay_of, mode_on, pair_by};
 
 use crate::same_act::is_same_pair;
 use phase_modes::{Mode, Pair};

@@ -7,7 +7,7 @@ use Rattle.phase_model.specs.Tasks.{is_dropped, is_live, mode_of}
 use Rattle.world_model.specs.declared.event.WorldEvent.{WorldEvent}
 use Rattle.world_model.specs.Parts.{phaser_past}
 use Rattle.world_model.specs.Tasks.{joined_by}
-use Rattle.schedule_run.specs.declared.phasers_held.Stay.{Stay}
+use Rattle.trace_walk.specs.declared.phasers_held.Stay.{Stay}
 
 -- the mode in which t was last registered, and whether it was dropped, by a phaser's history
 abbrev pub stay_in : ℕ → List Event → Stay

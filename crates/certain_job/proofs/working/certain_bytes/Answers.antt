@@ -2,7 +2,7 @@
 use Rattle.std.proofs.Common.{rules, ◌≡◌, true, inr, ap}
 use Rattle.std.proofs.lemmas.Result.{err_from_is_err_and}
 use Rattle.world_model.specs.Report.{Report}
-use Rattle.schedule_run.specs.Following as following
+use Rattle.trace_walk.specs.History as histories
 use Rattle.one_answer.specs.Certified.{IsCertified}
 use Rattle.one_answer.specs.Luck.{is_all_steady}
 use Rattle.certify_job.specs.Certificate.{certificate_text}
@@ -41,7 +41,7 @@ returns-clause-done g c =
     let trace = c.in_ok-report.report.trace in
     let made = c.in_ok-report.ensures in
     let certified : (r : Report) × IsCertified program r = search rules in
-    let steady : is_all_steady trace.limits (following.history trace.events) ≡ true = search rules in
+    let steady : is_all_steady trace.limits (histories.history trace.events) ≡ true = search rules in
     let lines = ap certificate_text made.world in (
       program,
       trace,

@@ -4,8 +4,8 @@ use Rattle.world_model.specs.Report.{report_of}
 use Rattle.world_model.specs.declared.event.WorldEvent.{WorldEvent}
 use Rattle.trace_model.specs.Explained.{past}
 use Rattle.body_follows.specs.Going.{goes_by, IsRefusedAt}
-use Rattle.schedule_run.specs.Following.{history}
-use Rattle.body_follows.proofs.Prefixes.{past_reversed}
+use Rattle.trace_walk.specs.History.{history}
+use Rattle.trace_walk.proofs.Places.{past_reversed}
 use Rattle.kernels_job.proofs.Whole.{refused_so}
 use Rattle.kernels_job.proofs.running.report_of.Goals as goal
 

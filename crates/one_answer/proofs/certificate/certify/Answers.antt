@@ -3,7 +3,7 @@ use Rattle.std.proofs.Common.{◌≡◌, true, List, reverse, rules, sym, ap, su
 use Rattle.world_model.specs.Report.{report_of}
 use Rattle.trace_model.specs.Explained.{past}
 use Rattle.trace_model.specs.Run.{Entry}
-use Rattle.body_follows.proofs.Prefixes.{past_reversed}
+use Rattle.trace_walk.proofs.Places.{past_reversed}
 use Rattle.run_laws.specs.Memory.{is_roomy}
 use Rattle.run_laws.specs.OneRun.{EachRunComesTo}
 use Rattle.run_laws.specs.Programs.{IsProgramRun}

@@ -4,8 +4,8 @@ use Rattle.world_model.specs.declared.event.WorldEvent.{WorldEvent}
 use Rattle.trace_model.specs.Explained.{event_of}
 use Rattle.trace_model.specs.Run.{Entry}
 use Rattle.trace_model.specs.Views.{viewed}
-use Rattle.schedule_run.specs.Following.{history}
-use Rattle.schedule_run.proofs.Histories.{entry_at, history_more}
+use Rattle.trace_walk.specs.History.{history}
+use Rattle.trace_walk.proofs.Histories.{entry_at, history_more}
 use Rattle.body_follows.proofs.Prefixes.{IsAfter, after_its_past}
 use Rattle.one_answer.specs.Luck.{is_all_steady, is_steady}
 use Rattle.one_answer.specs.inner.Watched.{is_taken, Watches}

@@ -1,5 +1,5 @@
 use Rattle.std.proofs.Common.{◌≡◌, true, take}
-use Rattle.schedule_run.specs.Following.{history}
+use Rattle.trace_walk.specs.History.{history}
 use Rattle.one_answer.specs.Luck.{is_all_steady}
 use Rattle.one_answer.specs.inner.Watched.{Watches}
 use Rattle.one_answer.proofs.trace_luck.first_luck.Given as goal

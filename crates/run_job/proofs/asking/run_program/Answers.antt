@@ -3,7 +3,7 @@ use Rattle.std.proofs.Common.{rules, ◌≡◌, true, reverse, ap, ◌∙◌}
 use Rattle.world_model.specs.Report.{report_of}
 use Rattle.trace_model.specs.Explained.{past}
 use Rattle.schedule_model.specs.Follows.{follows}
-use Rattle.schedule_run.specs.Following as following
+use Rattle.trace_walk.specs.History as histories
 use Rattle.run_job.proofs.Turned.{turned}
 use Rattle.run_job.proofs.asking.run_program.Goals as goal
 
@@ -12,7 +12,7 @@ returns-clause-ran g c =
     let program = c.args.program.now in
     let trace = c.in_ok-report.report.trace in
     let made = c.in_ok-report.ensures in
-    let followed : follows program (following.history trace.events) ≡ true = search rules in
+    let followed : follows program (histories.history trace.events) ≡ true = search rules in
     record {
       limits = made.limits ∙ c.limits.ensures.limits;
       explained = made.explained;

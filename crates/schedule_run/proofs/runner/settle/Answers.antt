@@ -1,6 +1,6 @@
 use Rattle.std.proofs.Common.{refl, ◌∷◌, subst}
 use Rattle.world_model.specs.declared.event.WorldEvent.{WorldEvent}
-use Rattle.schedule_run.specs.Given.{numbers_view}
+use Rattle.trace_walk.specs.Given.{numbers_view}
 use Rattle.schedule_run.specs.inner.Bodies.{BodiesStand}
 use Rattle.schedule_run.proofs.Settling.{makes_phaser, plain_act}
 use Rattle.schedule_run.proofs.runner.settle.Goals as goal

@@ -8,12 +8,12 @@ use Rattle.schedule_model.specs.Follows.{same_pairs}
 use Rattle.trace_model.specs.Explained.{event_of, past}
 use Rattle.trace_model.specs.Run.{Entry}
 use Rattle.trace_model.specs.Views.{viewed}
-use Rattle.schedule_run.specs.Following.{history}
-use Rattle.schedule_run.specs.inner.Holding.{pair_by}
-use Rattle.schedule_run.proofs.Histories.{entry_before}
-use Rattle.schedule_run.proofs.OwnPairs.{own_by_events, rest_same, none_given, too_many, other_given, pair_given}
-use Rattle.schedule_run.proofs.phasers_held.are_own_pairs.Goals as goal
-use Rattle.schedule_run.proofs.phasers_held.are_own_pairs.Goals.{then-found-pairs-via-then-found-pairs, then-found-pairs-via-else-found-pairs+then-not-is_same_pair, in-Some+else-found-pairs+else-not-is_same_pair, in_default}
+use Rattle.trace_walk.specs.History.{history}
+use Rattle.trace_walk.specs.inner.Holding.{pair_by}
+use Rattle.trace_walk.proofs.Histories.{entry_before}
+use Rattle.trace_walk.proofs.OwnPairs.{own_by_events, rest_same, none_given, too_many, other_given, pair_given}
+use Rattle.trace_walk.proofs.phasers_held.are_own_pairs.Goals as goal
+use Rattle.trace_walk.proofs.phasers_held.are_own_pairs.Goals.{then-found-pairs-via-then-found-pairs, then-found-pairs-via-else-found-pairs+then-not-is_same_pair, in-Some+else-found-pairs+else-not-is_same_pair, in_default}
 
 -- no pair is left where as many were found
 none_left : (xs : List Pair) (k : ℕ) → k ≤ length xs → nat_eq k (length xs) ≡ same_pairs (drop k xs) []

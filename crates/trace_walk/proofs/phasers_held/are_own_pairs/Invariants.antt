@@ -3,9 +3,9 @@ use Rattle.std.specs.List.{filter_map}
 use Rattle.world_model.specs.Drawing.{own_pairs}
 use Rattle.schedule_model.specs.Follows.{same_pairs}
 use Rattle.trace_model.specs.Explained.{past}
-use Rattle.schedule_run.specs.Following.{history}
-use Rattle.schedule_run.specs.inner.Holding.{pair_by}
-use Rattle.schedule_run.proofs.phasers_held.are_own_pairs.Given as goal
+use Rattle.trace_walk.specs.History.{history}
+use Rattle.trace_walk.specs.inner.Holding.{pair_by}
+use Rattle.trace_walk.proofs.phasers_held.are_own_pairs.Given as goal
 
 abbrev pub invariant-loop-place : goal.invariant-loop-place
 invariant-loop-place l = record {

@@ -5,12 +5,12 @@ use Rattle.trace_model.specs.Run.{Entry}
 use Rattle.trace_model.specs.Views.{viewed}
 use Rattle.world_model.specs.declared.event.WorldEvent.{WorldEvent}
 use Rattle.world_model.specs.Parts.{phaser_past}
-use Rattle.schedule_run.specs.Following.{history}
-use Rattle.schedule_run.specs.declared.phasers_held.Stay.{Stay}
-use Rattle.schedule_run.specs.inner.Holding.{mode_on, stay_of}
-use Rattle.schedule_run.proofs.Histories.{entry_at, history_more}
-use Rattle.schedule_run.proofs.OwnPairs.{mode_held}
-use Rattle.schedule_run.proofs.phasers_held.mode_on.Goals as goal
+use Rattle.trace_walk.specs.History.{history}
+use Rattle.trace_walk.specs.declared.phasers_held.Stay.{Stay}
+use Rattle.trace_walk.specs.inner.Holding.{mode_on, stay_of}
+use Rattle.trace_walk.proofs.Histories.{entry_at, history_more}
+use Rattle.trace_walk.proofs.OwnPairs.{mode_held}
+use Rattle.trace_walk.proofs.phasers_held.mode_on.Goals as goal
 
 pub loop-place-preserved : goal.loop-place-preserved
 loop-place-preserved c =

@@ -1,8 +1,8 @@
 -- The mode is asked of the trace by the task's number.
 use Rattle.std.proofs.Common.{ap, rules, take, ◌≡◌, ◌∙◌}
-use Rattle.schedule_run.specs.Following.{history}
-use Rattle.schedule_run.specs.inner.Holding.{mode_on}
-use Rattle.schedule_run.proofs.phasers_held.pair_by.Goals as goal
+use Rattle.trace_walk.specs.History.{history}
+use Rattle.trace_walk.specs.inner.Holding.{mode_on}
+use Rattle.trace_walk.proofs.phasers_held.pair_by.Goals as goal
 
 pub returns-in_err-mode : goal.returns-in_err-mode
 returns-in_err-mode c =

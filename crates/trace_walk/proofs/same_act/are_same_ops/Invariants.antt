@@ -1,6 +1,6 @@
 use Rattle.std.proofs.Common.{◌≡◌, drop, length}
 use Rattle.schedule_model.specs.Follows.{same_ops}
-use Rattle.schedule_run.proofs.same_act.are_same_ops.Given as goal
+use Rattle.trace_walk.proofs.same_act.are_same_ops.Given as goal
 
 abbrev pub invariant-loop-i : goal.invariant-loop-i
 invariant-loop-i l = record {

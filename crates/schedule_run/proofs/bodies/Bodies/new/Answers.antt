@@ -7,7 +7,7 @@ loop-unnamed-init c =
     rw (c.in_ok-push.ensures.items, c.new-seats.ensures.items) (record {
       stand =
           root_stands c.args.program.now c.begun.result (c.begun.ensures.body ∙ c.root.ensures)
-          c.begun.ensures.answer;
+          c.begun.ensures.heard;
       places = refl;
     })
 

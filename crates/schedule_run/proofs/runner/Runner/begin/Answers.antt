@@ -4,7 +4,7 @@ use Rattle.world_model.specs.Actors.{actor}
 use Rattle.world_model.specs.Replies.{after, reply, is_accepted}
 use Rattle.schedule_model.specs.Picks.{unused, event_of}
 use Rattle.schedule_model.specs.Scripts.{Numbers, tried}
-use Rattle.schedule_run.specs.Given.{numbers_view}
+use Rattle.trace_walk.specs.Given.{numbers_view}
 use Rattle.schedule_run.specs.declared.record.Outcome.TheVariants.{Made, Waits, Refused}
 use Rattle.schedule_run.specs.inner.Bodies.{BodiesStand}
 use Rattle.schedule_run.specs.inner.Records.{outcome_of}

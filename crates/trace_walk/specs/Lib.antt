@@ -1,0 +1,4 @@
+pub mod History
+pub mod Given
+pub mod Walking
+pub mod inner
