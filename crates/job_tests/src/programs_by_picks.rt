@@ -1,4 +1,5 @@
 //! Programs stepped through task by task, and acts as the world knows them.
+use crate::asserted::holds_at;
 use finish_core::FinishEvent;
 use job_script::{Act, Answer, Program, ScriptBody, read_program};
 use phase_model::{Look, Ops, Terms};
@@ -80,6 +81,23 @@ fn is_tried_so(
     Ok(is_roots(trace, lent, act) && is_roots(trace, EventView::Long(&refused), act))
 }
 
+/// The body's next act, after this answer, is the row's.
+fn gives_next(
+    rt: &impl Abort,
+    alloc: Global,
+    trace: &Trace,
+    body: &mut ScriptBody<'_>,
+    answer: Answer,
+    row: &Row,
+) -> Result<(), Fail> {
+    let Ok(act) = body.step(answer) else {
+        return Err(Fail::from("an act"));
+    };
+    let is_so = is_tried_so(alloc, trace, row, &act)?;
+    holds_at(rt, row.0, is_so);
+    Ok(())
+}
+
 /// The root of the program of this text gives the rows' acts, one after the other; each is answered as a
 /// making is.
 fn gives(rt: &impl Abort, alloc: Global, text: &str, rows: &[Row]) -> Result<(), Fail> {
@@ -88,10 +106,7 @@ fn gives(rt: &impl Abort, alloc: Global, text: &str, rows: &[Row]) -> Result<(),
     let mut root = program.root();
     let mut answer = Answer::Started;
     for row in rows {
-        let Ok(act) = root.step(answer) else {
-            return Err(Fail::from("an act"));
-        };
-        assert!(rt; is_tried_so(alloc, &trace, row, &act)?);
+        gives_next(rt, alloc, &trace, &mut root, answer, row)?;
         answer = Answer::Made(7);
     }
     Ok(())

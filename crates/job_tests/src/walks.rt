@@ -1,7 +1,7 @@
 //! Traces gone through by a body of the tests' own, and what a walk is made of.
 use crate::asserted::{equal, holds_at};
 use job_script::{Act, Answer};
-use phase_model::{Look, Ops, Terms};
+use phase_model::{Look, Ops};
 use phase_modes::{Limits, Mode, Phased, Refusal};
 use std::alloc::Global;
 use std::test::Fail;
@@ -91,14 +91,14 @@ fn an_act_is_tried_with_the_numbers_that_it_draws(rt: HostRuntime) -> Result<(),
         task: 4,
         finish: 5,
     };
-    let terms = Terms {
-        ops: Ops::none(),
-        bound: None,
-    };
-    let act: Act<Waiter> = Act::New(Mode::Sig, terms.ops, terms.bound);
+    let act: Act<Waiter> = Act::New(Mode::Sig, Ops::none(), None);
     let tried = tried_of(Phased::none(), numbers, &act);
-    equal(&rt, tried, Tried::New(3, Mode::Sig, terms));
-    let made = Step::Make(9, Mode::Sig, terms);
-    equal(&rt, event_of(9, tried), WorldEvent::Phaser(3, made));
+    holds_at(&rt, "act", matches!(tried, Tried::New(3, Mode::Sig, _)));
+    let event = event_of(9, tried);
+    holds_at(
+        &rt,
+        "event",
+        matches!(event, WorldEvent::Phaser(3, Step::Make(9, Mode::Sig, _))),
+    );
     Ok(())
 }

@@ -196,17 +196,31 @@ fn all_twice(first: &[(u32, Mode)], second: &[(u32, Mode)]) -> [TracedEvent; 5] 
     ]
 }
 
+/// The phasers of two spawns, one after the other, and the place at which that leaves the program.
+type Spawns = (&'static [(u32, Mode)], &'static [(u32, Mode)], Option<u64>);
+
+fn spawns_leave_at(rt: &impl Abort, alloc: Global, spawns: &Spawns) -> Result<(), Fail> {
+    let (first, second, expected) = spawns;
+    leaves_at(rt, alloc, ALL, &all_twice(first, second), *expected)
+}
+
 #[test]
 fn a_spawn_on_all_phasers_names_those_that_are_held(rt: HostRuntime) -> Result<(), Fail> {
-    let both = [(0, Mode::SigWait), (1, Mode::Sig)];
-    let turned = [(1, Mode::Sig), (0, Mode::SigWait)];
-    let other = [(0, Mode::SigWait), (1, Mode::SigWait)];
-    let one = [(0, Mode::SigWait)];
-    leaves_at(&rt, rt.alloc(), ALL, &all_twice(&both, &one), None)?;
-    leaves_at(&rt, rt.alloc(), ALL, &all_twice(&one, &one), Some(3))?;
-    leaves_at(&rt, rt.alloc(), ALL, &all_twice(&turned, &one), Some(3))?;
-    leaves_at(&rt, rt.alloc(), ALL, &all_twice(&other, &one), Some(3))?;
-    leaves_at(&rt, rt.alloc(), ALL, &all_twice(&both, &both), Some(5))
+    const BOTH: &[(u32, Mode)] = &[(0, Mode::SigWait), (1, Mode::Sig)];
+    const TURNED: &[(u32, Mode)] = &[(1, Mode::Sig), (0, Mode::SigWait)];
+    const OTHER: &[(u32, Mode)] = &[(0, Mode::SigWait), (1, Mode::SigWait)];
+    const ONE: &[(u32, Mode)] = &[(0, Mode::SigWait)];
+    const ROWS: [Spawns; 5] = [
+        (BOTH, ONE, None),
+        (ONE, ONE, Some(3)),
+        (TURNED, ONE, Some(3)),
+        (OTHER, ONE, Some(3)),
+        (BOTH, BOTH, Some(5)),
+    ];
+    for spawns in &ROWS {
+        spawns_leave_at(&rt, rt.alloc(), spawns)?;
+    }
+    Ok(())
 }
 
 #[test]
