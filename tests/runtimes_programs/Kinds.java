@@ -6,6 +6,7 @@ import java.util.concurrent.Phaser;
 import java.util.concurrent.ThreadLocalRandom;
 import java.util.concurrent.TimeUnit;
 import java.util.concurrent.TimeoutException;
+import java.util.concurrent.atomic.AtomicInteger;
 
 /**
  * Small programs on a phaser, one for each kind of use: java Kinds KIND
@@ -290,19 +291,41 @@ class Kinds {
         join();
     }
 
+    /** Three turns. Who comes while the phaser goes on is one too many, and comes again. */
+    static void turnsAmongMore(Phaser phaser) throws InterruptedException {
+        for (int turn = 0; turn < 3; turn++) {
+            boolean isOver = false;
+            while (!isOver) {
+                try {
+                    phaser.arriveAndAwaitAdvance();
+                    isOver = true;
+                } catch (IllegalStateException fault) {
+                    Thread.sleep(1);
+                }
+            }
+        }
+    }
+
     /** Six threads where three are meant: each phase has three arrivals, but not of the same three. */
     static void twoPools() throws Exception {
         Phaser phaser = phaser(3);
+        AtomicInteger done = new AtomicInteger();
         for (int number = 0; number < 6; number++) {
             start(() -> {
-                turns(phaser, 3);
+                turnsAmongMore(phaser);
+                done.incrementAndGet();
                 Thread.sleep(1_000_000);
             });
         }
-        // By the fourth phase a fourth thread has taken a turn: so there is something that can't be told.
-        for (int looks = 0; looks < 2_000 && phaser.getPhase() < 4; looks++) {
+        // Until each is done, or waits where too few are left: then four at least have taken a turn, which can't be told,
+        // and nobody is in the middle of a call, before which the trace could end.
+        int ended;
+        int waiting;
+        do {
             Thread.sleep(10);
-        }
+            ended = done.get();
+            waiting = phaser.getArrivedParties();
+        } while (waiting == 3 || ended + waiting < 6);
         System.exit(0);
     }
 

@@ -187,12 +187,18 @@ def hang():
 def two_pools():
     barrier = Barrier(3)
 
+    done = []
+
     def work():
         turns(barrier, 3)
+        done.append(True)
         time.sleep(1000)
 
     start(6, work, daemon=True)
-    time.sleep(0.2)
+    ended, waiting = 0, 3
+    while waiting == 3 or ended + waiting < 6:  # until each is done, or waits where too few are left
+        time.sleep(0.01)
+        ended, waiting = len(done), barrier.n_waiting
 
 
 def crowded():
