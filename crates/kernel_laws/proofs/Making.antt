@@ -25,7 +25,8 @@ use Rattle.world_model.specs.declared.event.WorldEvent.TheVariants.{Phaser}
 use Rattle.world_model.specs.Parts.{ops_of, phaser_past, terms_of}
 use Rattle.world_model.specs.Numbers.{is_phaser}
 use Rattle.world_model.specs.Tasks.{acts, phasers_of, spawns}
-use Rattle.world_model.specs.Acts.{is_counted, is_number_used, most_phasers_held}
+use Rattle.world_model.specs.ActConditions.{is_counted, most_phasers_held}
+use Rattle.world_model.specs.Acts.{is_number_used}
 use Rattle.world_model.specs.Due.{is_idle}
 use Rattle.world_model.specs.Replies.{is_legal_world, is_accepted}
 use Rattle.world_model.proofs.MadeMeans.{last_accepted, act_made, no_refusal}

@@ -30,7 +30,8 @@ use Rattle.world_model.specs.declared.event.Begun.TheVariants.{Async, Signal, Wa
 use Rattle.world_model.specs.declared.event.Tried.{Tried}
 use Rattle.world_model.specs.declared.event.Tried.TheVariants.{Begun as Beginning, New, Open, Send as Sending, Look as Looking}
 use Rattle.world_model.specs.declared.event.WorldEvent.{WorldEvent}
-use Rattle.world_model.specs.Acts.{act_conditions, act_done, act_reply, own_conditions, pair_conditions, unless}
+use Rattle.world_model.specs.ActConditions.{own_conditions, pair_conditions}
+use Rattle.world_model.specs.Acts.{facts, act_conditions, act_done, act_reply, unless}
 use Rattle.world_model.specs.GivingUp.{is_refused_by}
 use Rattle.world_model.specs.PartReplies.{returned, phaser_reply}
 use Rattle.world_model.specs.Parts.{phaser_past, terms_of, story_of}
@@ -127,11 +128,11 @@ phaser_full l n w c a k =
 -- ---- an act that is refused by 15
 
 pairs_keep : (w : List WorldEvent) (t : ℕ) (named : List ℕ) (ps : List Pair)
-    → keep_room (pair_conditions w t named ps) ≡ true
+    → keep_room (pair_conditions (facts w t) named ps) ≡ true
 pairs_keep w t named [] = refl
 pairs_keep w t named (p ∷ ps) = pairs_keep w t (p.phaser ∷ named) ps
 
-own_keep : (l : Limits) (w : List WorldEvent) (t : ℕ) (a : Tried) → keep_room (own_conditions l w t a) ≡ true
+own_keep : (l : Limits) (w : List WorldEvent) (t : ℕ) (a : Tried) → keep_room (own_conditions l (facts w t) a) ≡ true
 own_keep l w t (New n m terms) = refl
 own_keep l w t (Open f) = refl
 own_keep l w t (Sending n a v) = refl

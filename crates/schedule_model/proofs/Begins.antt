@@ -27,7 +27,8 @@ use Rattle.world_model.specs.declared.event.Tried.{Tried}
 use Rattle.world_model.specs.declared.event.Tried.TheVariants.{Begun as Beginning, New, Open, Send as Sending, Look as Looking}
 use Rattle.world_model.specs.declared.event.WorldEvent.{WorldEvent}
 use Rattle.world_model.specs.declared.reply.Reply.{Reply}
-use Rattle.world_model.specs.Acts.{act_reply, act_done, own_conditions, pair_conditions, is_number_used, is_counted, unless}
+use Rattle.world_model.specs.ActConditions.{own_conditions, pair_conditions, is_counted}
+use Rattle.world_model.specs.Acts.{facts, act_reply, act_done, is_number_used, unless}
 use Rattle.world_model.specs.Due.{is_idle}
 use Rattle.world_model.specs.GivingUp.{may_refuse}
 use Rattle.world_model.specs.PartReplies.{returned, finish_returned}
@@ -69,11 +70,11 @@ settled_goes h cs room e known = by (first_refusal cs) refl room
     by None is false = inr (HistoryFull, refl, refl)
 
 -- of the pairs of a spawn
-pairs_reported : (w : List WorldEvent) (t : ℕ) (named : List ℕ) (ps : List Pair) → all_reported (pair_conditions w t named ps) ≡ true
+pairs_reported : (w : List WorldEvent) (t : ℕ) (named : List ℕ) (ps : List Pair) → all_reported (pair_conditions (facts w t) named ps) ≡ true
 pairs_reported w t named [] = refl
 pairs_reported w t named (p ∷ ps) = pairs_reported w t (p.phaser ∷ named) ps
 
-own_reported : (l : Limits) (w : List WorldEvent) (t : ℕ) (a : Tried) → all_reported (own_conditions l w t a) ≡ true
+own_reported : (l : Limits) (w : List WorldEvent) (t : ℕ) (a : Tried) → all_reported (own_conditions l (facts w t) a) ≡ true
 own_reported l w t (Beginning (Async c ps)) = pairs_reported w t [] ps
 own_reported l w t (Beginning Signal) = refl
 own_reported l w t (Beginning Wait) = refl
@@ -120,7 +121,7 @@ unless_goes None r known g = g
 pub act_goes : (l : Limits) (w : List WorldEvent) (t : ℕ) (a : Tried) → is_idle t w ≡ true → is_number_used w a ≡ false → Goes (act_reply l w t a)
 act_goes l w t a idle free =
     let counted = not (is_counted a) || nat_lt (acts_begun t w) l.acts in
-    let own = own_conditions l w t a in
+    let own = own_conditions l (facts w t) a in
     subst (λ i. Goes (unless (first_refusal ((NotNow, i) ∷ (NotNow, not (is_number_used w a)) ∷ (ActsFull, counted) ∷ own)) (act_done l w t a))) (sym idle)
     (subst (λ u. Goes (unless (first_refusal ((NotNow, true) ∷ (NotNow, not u) ∷ (ActsFull, counted) ∷ own)) (act_done l w t a))) (sym free)
     (unless_goes (first_refusal ((ActsFull, counted) ∷ own)) (act_done l w t a)

@@ -26,7 +26,8 @@ use Rattle.world_model.specs.declared.reply.Reply.TheVariants.{NotYet}
 use Rattle.world_model.specs.Parts.{terms_of, event_for, phaser_past, finish_past}
 use Rattle.world_model.specs.PartReplies.{finish_returned}
 use Rattle.world_model.specs.Replies.{is_made, is_accepted, is_legal_world}
-use Rattle.world_model.specs.Acts.{act_reply, is_number_used, own_conditions, pair_conditions, is_counted, most_phasers_held}
+use Rattle.world_model.specs.ActConditions.{own_conditions, pair_conditions, is_counted, most_phasers_held}
+use Rattle.world_model.specs.Acts.{facts, act_reply, is_number_used}
 use Rattle.world_model.specs.Tasks.{acts, phasers_of}
 use Rattle.world_model.specs.Due.{is_idle}
 use Rattle.world_model.specs.Numbers.{is_phaser, is_finish, names, is_named}
@@ -37,13 +38,13 @@ use Rattle.world_model.proofs.PhasersLegal.{step_allowed}
 
 -- ---- the first condition of an act that is its own
 
-own_first : (l : Limits) (w : List WorldEvent) (t : ℕ) (a : Tried) → is_made (act_reply l w t a) ≡ true → first_refusal (own_conditions l w t a) ≡ None
+own_first : (l : Limits) (w : List WorldEvent) (t : ℕ) (a : Tried) → is_made (act_reply l w t a) ≡ true → first_refusal (own_conditions l (facts w t) a) ≡ None
 own_first l w t a k =
     let counted = not (is_counted a) || nat_lt (acts t w) l.acts in
     let free = not (is_number_used w a) in
-    (no_refusal ActsFull counted (own_conditions l w t a)
-    (no_refusal NotNow free ((ActsFull, counted) ∷ own_conditions l w t a)
-    (no_refusal NotNow (is_idle t w) ((NotNow, free) ∷ (ActsFull, counted) ∷ own_conditions l w t a) (act_made l w t a k).0).1).1).1
+    (no_refusal ActsFull counted (own_conditions l (facts w t) a)
+    (no_refusal NotNow free ((ActsFull, counted) ∷ own_conditions l (facts w t) a)
+    (no_refusal NotNow (is_idle t w) ((NotNow, free) ∷ (ActsFull, counted) ∷ own_conditions l (facts w t) a) (act_made l w t a k).0).1).1).1
 
 -- ---- phasers
 
@@ -165,7 +166,7 @@ finish_below l f (e ∷ w) fit k h =
 
 named_first : (l : Limits) (t : ℕ) (e : WorldEvent) (w : List WorldEvent) → is_accepted l w e ≡ true → names t e ≡ true → t < l.tasks
 named_first l t (Begin u (Async c ps)) w a h =
-    subst (λ v. v < l.tasks) (eqb-true c t h) (ltb-true c l.tasks (no_refusal TasksFull (nat_lt c l.tasks) (pair_conditions w u [] ps) (begin_asked l w u (Async c ps) a)).0)
+    subst (λ v. v < l.tasks) (eqb-true c t h) (ltb-true c l.tasks (no_refusal TasksFull (nat_lt c l.tasks) (pair_conditions (facts w u) [] ps) (begin_asked l w u (Async c ps) a)).0)
 named_first l t (Begin u b) w a h = absurd cc
 named_first l t (Phaser n s) w a h = absurd (false≢true h)
 named_first l t (Finish f e) w a h = absurd (false≢true h)

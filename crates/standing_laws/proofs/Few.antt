@@ -13,7 +13,8 @@ use Rattle.world_model.specs.declared.event.Begun.TheVariants.{Async, Signal, Wa
 use Rattle.world_model.specs.declared.event.Step.TheVariants.{Make, Reg, Sig, Claim, Did, Pass, Send, Look, Drop}
 use Rattle.world_model.specs.declared.event.WorldEvent.{WorldEvent}
 use Rattle.world_model.specs.declared.event.WorldEvent.TheVariants.{Phaser, Finish, Begin, Refuse, Fail}
-use Rattle.world_model.specs.Acts.{pair_conditions}
+use Rattle.world_model.specs.Acts.{facts}
+use Rattle.world_model.specs.ActConditions.{pair_conditions}
 use Rattle.world_model.specs.Actors.{actor}
 use Rattle.world_model.specs.Parts.{phaser_past}
 use Rattle.world_model.specs.Replies.{is_legal_world}
@@ -40,7 +41,7 @@ length_named (p ∷ ps) = ap (λ i. suc i) (length_named ps)
 
 module _ (w : List WorldEvent) (t n : ℕ) where
   -- a phaser that was named isn't named again
-  not_again : (named : List ℕ) (ps : List Pair) → first_refusal (pair_conditions w t named ps) ≡ None → has n named ≡ true
+  not_again : (named : List ℕ) (ps : List Pair) → first_refusal (pair_conditions (facts w t) named ps) ≡ None → has n named ≡ true
       → times n (named_in ps) ≡ 0
   not_again named [] k h = refl
   not_again named (p ∷ ps) k h =
@@ -52,7 +53,7 @@ module _ (w : List WorldEvent) (t n : ℕ) where
 
   -- and each that is named is held
   named_held : (held : ℕ) → held ≡ cond (is_live t (phaser_past n w)) 1 0 → (named : List ℕ) (ps : List Pair)
-      → first_refusal (pair_conditions w t named ps) ≡ None → times n (named_in ps) ≤ held
+      → first_refusal (pair_conditions (facts w t) named ps) ≡ None → times n (named_in ps) ≤ held
   named_held held by named [] k = omega arith
   named_held held by named (p ∷ ps) k =
       let s : PairStands w t named p ps = pair_stands w t named p ps k in
@@ -74,7 +75,7 @@ named_few : (l : Limits) (w : List WorldEvent) (t c : ℕ) (ps : List Pair) → 
 named_few l w t c ps legal =
     let a = last_accepted l (Begin t (Async c ps)) w legal in
     let asked =
-    (no_refusal TasksFull (nat_lt c l.tasks) (pair_conditions w t [] ps) (begin_asked l w t (Async c ps) a.0)).1 in
+    (no_refusal TasksFull (nat_lt c l.tasks) (pair_conditions (facts w t) [] ps) (begin_asked l w t (Async c ps) a.0)).1 in
     let within : length (named_in ps) ≤ length (phasers_of t w) =
     no_longer (named_in ps) (phasers_of t w) (λ n. named_held w t n (times n (phasers_of t w)) (phasers_once l w a.1 t n) [] ps asked) in
     let most : length (phasers_of t w) ≤ 16 = phasers_held_are_few l w a.1 t in

@@ -33,6 +33,7 @@ impl PhaserNumber {
     {
         self.number
     }
+
     /// Its place in a list with a line for each phaser.
     pub fn place(self) -> usize
         ensures { result ≡ self }

@@ -1,4 +1,3 @@
 pub mod Asked
 pub mod Finding
-pub mod Handing
 pub mod Marking

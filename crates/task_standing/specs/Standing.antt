@@ -1,9 +1,8 @@
 -- How what a task knows of itself is read, and how it changes.
-use Rattle.std.specs.Prelude.{ℕ, Bool, true, ◌&&◌, ◌==◌, ◌+◌, not, min, if◌then◌else◌, [], slice_index_or, Option, Some, None, Result, Ok, Err}
+use Rattle.std.specs.Prelude.{ℕ, Bool, true, ◌&&◌, ◌==◌, ◌+◌, not, min, if◌then◌else◌, [], slice_index_or}
 use Rattle.phase_modes.specs.Mode.{can_signal}
 use Rattle.phase_modes.specs.declared.reg.Mode.{Mode}
 use Rattle.phase_modes.specs.declared.phased.Pair.{Pair}
-use Rattle.phase_modes.specs.declared.refusal.Refusal.{Refusal}
 use Rattle.task_standing.specs.declared.held.Held.{Held}
 use Rattle.task_standing.specs.declared.plan.Plan.{Plan}
 use Rattle.task_standing.specs.declared.plan.Plan.TheVariants.{Idle, Signalling, Turning, Spawning, Shutting, Ending}
@@ -61,8 +60,3 @@ registered_by plan = plan
 abbrev pub shut_by : Plan → Plan
 shut_by Shutting = Idle
 shut_by plan = plan
-
--- the answer of a test that refuses
-abbrev pub free_unless : Option Refusal → Result Unit Refusal
-free_unless None = Ok tt
-free_unless (Some r) = Err r

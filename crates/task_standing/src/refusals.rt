@@ -3,13 +3,14 @@ ghost use Rattle.std.specs.Prelude.{◌≡◌, ◌∷◌, not, List, [], true, f
 ghost use Rattle.std.specs.List.{list_any, list_all};
 ghost use Rattle.phase_modes.specs.Mode.{can_single};
 ghost use Rattle.phase_modes.specs.Refusal.{first_refusal};
+ghost use Rattle.world_model.specs.ActConditions.{free_unless, pair_names, hand_conditions, pair_conditions, begin_conditions, own_conditions};
 ghost use Rattle.world_model.specs.Acts.{act_conditions, is_number_used};
 ghost use Rattle.world_model.specs.Due.{is_idle};
 ghost use Rattle.world_model.specs.Replies.{is_legal_world};
 ghost use Rattle.world_model.specs.declared.event.WorldEvent.{WorldEvent as Event};
-ghost use Rattle.task_standing.specs.Standing.{owes, free_unless};
+ghost use Rattle.task_standing.specs.Standing.{owes};
 ghost use Rattle.task_standing.specs.Histories.{IsOf};
-ghost use Rattle.task_standing.specs.inner.Conditions.{is_on, hand_conditions, pair_conditions, begin_conditions, own_conditions, try_conditions};
+ghost use Rattle.task_standing.specs.inner.Conditions.{facts, try_conditions};
 
 use crate::standing::Standing;
 use phase_modes::{Limits, Mode, Pair, Phased, Refusal};
@@ -17,7 +18,7 @@ use world_model::{Begun, Tried};
 
 /// Whether one of the pairs is on this phaser.
 fn is_among(pairs: &[Pair], phaser: u32) -> bool
-    ensures { result ≡ list_any (is_on phaser) pairs.now }
+    ensures { result ≡ list_any (pair_names phaser) pairs.now }
 {
     pairs.iter().any(|pair| pair.phaser == phaser)
 }
@@ -25,7 +26,7 @@ fn is_among(pairs: &[Pair], phaser: u32) -> bool
 impl Standing {
     /// What handing on the phaser of a pair is refused by, where the spawn has named others before.
     fn may_hand(&self, before: &[Pair], pair: Pair) -> Result<(), Refusal>
-        ensures { result ≡ free_unless (first_refusal (hand_conditions self.now before.now pair)) }
+        ensures { result ≡ free_unless (first_refusal (hand_conditions (facts self.now) (list_any (pair_names pair.phaser) before.now) pair)) }
     {
         let Some(held) = self.held(pair.phaser) else {
             return Err(Refusal::NotRegistered);
@@ -42,10 +43,9 @@ impl Standing {
         Ok(())
     }
 
-    #[tactic(auto, using(crate::proofs::Handing::pair_met))]
     /// What handing on these phasers is refused by, pair by pair.
     fn may_hand_on(&self, pairs: &[Pair]) -> Result<(), Refusal>
-        ensures { result ≡ free_unless (first_refusal (pair_conditions self.now [] pairs.now)) }
+        ensures { result ≡ free_unless (first_refusal (pair_conditions (facts self.now) [] pairs.now)) }
     {
         for i in 0..pairs.len() {
             if let Err(refusal) = self.may_hand(&pairs[..i], pairs[i]) {
@@ -58,7 +58,7 @@ impl Standing {
     /// What a spawn of this child is refused by.
     fn may_spawn(&self, limits: Limits, child: u32, pairs: &Phased) -> Result<(), Refusal>
         ensures { result
-            ≡ free_unless (first_refusal (begin_conditions limits self.now (Begun.Async child pairs.now))) }
+            ≡ free_unless (first_refusal (begin_conditions limits (facts self.now) (Begun.Async child pairs.now))) }
     {
         if child >= limits.tasks {
             return Err(Refusal::TasksFull);
@@ -90,7 +90,7 @@ impl Standing {
     /// What a `next` with a single is refused by.
     fn may_next_single(&self, limits: Limits, number: u32) -> Result<(), Refusal>
         ensures { result
-            ≡ free_unless (first_refusal (begin_conditions limits self.now (Begun.NextSingle number))) }
+            ≡ free_unless (first_refusal (begin_conditions limits (facts self.now) (Begun.NextSingle number))) }
     {
         if self.holding.len() != 1 {
             return Err(Refusal::OnePhaserOnly);
@@ -103,7 +103,7 @@ impl Standing {
 
     /// What the act is refused by.
     fn may_begin(&self, limits: Limits, begun: &Begun) -> Result<(), Refusal>
-        ensures { result ≡ free_unless (first_refusal (begin_conditions limits self.now begun.now)) }
+        ensures { result ≡ free_unless (first_refusal (begin_conditions limits (facts self.now) begun.now)) }
     {
         match begun {
             Begun::Async(child, pairs) => self.may_spawn(limits, *child, pairs),
@@ -118,7 +118,7 @@ impl Standing {
 
     /// What the act is refused by, as many as were begun aside.
     fn may_make(&self, limits: Limits, tried: &Tried) -> Result<(), Refusal>
-        ensures { result ≡ free_unless (first_refusal (own_conditions limits self.now tried.now)) }
+        ensures { result ≡ free_unless (first_refusal (own_conditions limits (facts self.now) tried.now)) }
     {
         match tried {
             Tried::Begun(begun) => self.may_begin(limits, begun),

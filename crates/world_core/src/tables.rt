@@ -6,7 +6,8 @@ ghost use Rattle.phase_modes.specs.Refusal.{first_refusal};
 ghost use Rattle.finish_core.specs.Finish.{fresh};
 ghost use Rattle.finish_core.specs.declared.event.FinishEvent.TheVariants.{Opened as opened};
 ghost use Rattle.world_steps.specs.Kept.{blank_task, root_task, blank_story, first_state, task_at, is_ready};
-ghost use Rattle.world_steps.specs.inner.Steps.{first_conditions, free_unless};
+ghost use Rattle.world_model.specs.ActConditions.{free_unless};
+ghost use Rattle.world_steps.specs.inner.Steps.{first_conditions};
 ghost use Rattle.world_steps.specs.StandsFor.{StandsFor};
 
 use crate::phaser::KeptPhaser;

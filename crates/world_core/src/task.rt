@@ -1,7 +1,8 @@
 //! What a world keeps of one task.
 ghost use Rattle.std.specs.Prelude.{◌≡◌, ◌≤◌, ◌&&◌, not, length, filter, vec_capacity, IfOk, IfErr, true};
 ghost use Rattle.world_steps.specs.Kept.{blank_task, inner_at, is_idle_plan, past_in};
-ghost use Rattle.world_steps.specs.inner.Steps.{owes, turn_begun, passing, is_to_signal, signal_noted, is_to_pass, pass_noted, opening};
+ghost use Rattle.world_steps.specs.inner.Facts.{owes};
+ghost use Rattle.world_steps.specs.inner.Steps.{turn_begun, passing, is_to_signal, signal_noted, is_to_pass, pass_noted, opening};
 
 use crate::phaser::KeptPhaser;
 use phase_modes::Refusal;

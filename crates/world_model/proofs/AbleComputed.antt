@@ -23,7 +23,8 @@ use Rattle.world_model.specs.Actors.{actor}
 use Rattle.world_model.specs.Due.{next_event, is_idle}
 use Rattle.world_model.specs.Replies.{is_accepted, is_made}
 use Rattle.world_model.specs.Continuing.{same_number, same_mode, same_step, same_finish_event, same_event, next_done, next_reply}
-use Rattle.world_model.specs.Acts.{act_reply, is_number_used, is_counted, own_conditions, unless, act_done}
+use Rattle.world_model.specs.Acts.{act_reply, facts, is_number_used, unless, act_done}
+use Rattle.world_model.specs.ActConditions.{is_counted, own_conditions}
 use Rattle.world_model.specs.GivingUp.{is_refused_by, may_fail, may_refuse, done_where, is_reg}
 use Rattle.world_model.specs.Able.{IsAble, is_able, candidates}
 use Rattle.world_model.specs.ProgressLaws.{AbleIsComputed}
@@ -171,10 +172,10 @@ act_now l w t a k =
     let counted : Refusal × Bool = (ActsFull, not (is_counted a) || nat_lt (acts t w) l.acts) in
     let free : Refusal × Bool = (NotNow, not (is_number_used w a)) in
     let idle =
-    no_refusal NotNow (is_idle t w) (free ∷ counted ∷ own_conditions l w t a) (act_made l w t a k).0 in (
+    no_refusal NotNow (is_idle t w) (free ∷ counted ∷ own_conditions l (facts w t) a) (act_made l w t a k).0 in (
       idle.0,
       not-true (is_number_used w a)
-          (no_refusal NotNow free.1 (counted ∷ own_conditions l w t a) idle.1).0,
+          (no_refusal NotNow free.1 (counted ∷ own_conditions l (facts w t) a) idle.1).0,
     )
 
 pub idle_in_act : (l : Limits) (w : List WorldEvent) (t : ℕ) (a : Tried) → is_made (act_reply l w t a) ≡ true
@@ -196,7 +197,7 @@ refuse_idle l w t a n k =
   where
     known : (i : Bool) → i ≡ false
         → is_refused_by n (unless (first_refusal ((NotNow, i) ∷ (NotNow, not (is_number_used w a))
-        ∷ (ActsFull, not (is_counted a) || nat_lt (acts t w) l.acts) ∷ own_conditions l w t a))
+        ∷ (ActsFull, not (is_counted a) || nat_lt (acts t w) l.acts) ∷ own_conditions l (facts w t) a))
         (act_done l w t a)) ≡ (22 == n)
     known true e = absurd (true≢false e)
     known false e = refl

@@ -19,7 +19,8 @@ use Rattle.world_model.specs.declared.event.WorldEvent.TheVariants.{Phaser, Fini
 use Rattle.world_model.specs.Tasks.{acts, is_act, is_born}
 use Rattle.world_model.specs.Numbers.{names}
 use Rattle.world_model.specs.Due.{is_idle}
-use Rattle.world_model.specs.Acts.{act_reply, is_counted, is_number_used, own_conditions, pair_conditions}
+use Rattle.world_model.specs.Acts.{act_reply, facts, is_number_used}
+use Rattle.world_model.specs.ActConditions.{is_counted, own_conditions, pair_conditions}
 use Rattle.world_model.specs.Replies.{is_accepted, is_legal_world, is_made}
 use Rattle.world_model.specs.Clock.{is_turn}
 use Rattle.world_model.proofs.SmallWords.{eq_self}
@@ -36,10 +37,10 @@ counted_below l w u a c m =
     let room = not (is_counted a) || nat_lt (acts u w) l.acts in
     let free : Refusal × Bool = (NotNow, not (is_number_used w a)) in
     let idle =
-    no_refusal NotNow (is_idle u w) (free ∷ (ActsFull, room) ∷ own_conditions l w u a)
+    no_refusal NotNow (is_idle u w) (free ∷ (ActsFull, room) ∷ own_conditions l (facts w u) a)
     (act_made l w u a m).0 in
-    let now = no_refusal NotNow free.1 ((ActsFull, room) ∷ own_conditions l w u a) idle.1 in
-    let has : room ≡ true = (no_refusal ActsFull room (own_conditions l w u a) now.1).0 in
+    let now = no_refusal NotNow free.1 ((ActsFull, room) ∷ own_conditions l (facts w u) a) idle.1 in
+    let has : room ≡ true = (no_refusal ActsFull room (own_conditions l (facts w u) a) now.1).0 in
     ltb-true (acts u w) l.acts (subst (λ b. (not b || nat_lt (acts u w) l.acts) ≡ true) c has)
 
 below_limit : (l : Limits) (w : List WorldEvent) (e : WorldEvent) (t : ℕ) → is_accepted l w e ≡ true
@@ -147,7 +148,7 @@ named_fits l (e ∷ w) k t n =
     by_event : (e : WorldEvent) → is_accepted l w e ≡ true → names t e ≡ true → t < l.tasks
     by_event (Begin u (Async c ps)) h b =
         let asked =
-        no_refusal TasksFull (nat_lt c l.tasks) (pair_conditions w u [] ps)
+        no_refusal TasksFull (nat_lt c l.tasks) (pair_conditions (facts w u) [] ps)
         (begin_asked l w u (Async c ps) h) in
         subst (λ v. v < l.tasks) (eqb-true c t b) (ltb-true c l.tasks asked.0)
     by_event e h b = absurd cc

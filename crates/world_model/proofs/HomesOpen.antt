@@ -16,7 +16,8 @@ use Rattle.world_model.specs.Tasks.{home, spawns, is_born, is_ended, ends}
 use Rattle.world_model.specs.Scopes.{inner}
 use Rattle.world_model.specs.Due.{is_entry}
 use Rattle.world_model.specs.Replies.{is_legal_world, is_accepted}
-use Rattle.world_model.specs.Acts.{pair_conditions}
+use Rattle.world_model.specs.Acts.{facts}
+use Rattle.world_model.specs.ActConditions.{pair_conditions}
 use Rattle.world_model.specs.TaskConditions.{last_entry}
 use Rattle.world_model.proofs.MadeMeans.{last_accepted, no_refusal, begin_asked}
 use Rattle.world_model.proofs.OthersLeave.{last_plain}
@@ -129,5 +130,5 @@ spawn_fits l q c (e ∷ w) k s =
         → nat_lt c l.tasks ≡ true
     at_entry (Begin u (Async x ps)) h y =
         subst (λ v. nat_lt v l.tasks ≡ true) (eqb-true x c y) (no_refusal TasksFull (nat_lt x l.tasks)
-        (pair_conditions w u [] ps) (begin_asked l w u (Async x ps) h)).0
+        (pair_conditions (facts w u) [] ps) (begin_asked l w u (Async x ps) h)).0
     at_entry d h y = absurd cc

@@ -24,7 +24,8 @@ use Rattle.world_model.specs.Due.{next_event, is_idle}
 use Rattle.world_model.specs.Tasks.{acts}
 use Rattle.world_model.specs.PartReplies.{returned}
 use Rattle.world_model.specs.Replies.{is_made, is_accepted, is_legal_world}
-use Rattle.world_model.specs.Acts.{unless, act_conditions, act_done, act_reply, begin_conditions, is_counted, is_number_used}
+use Rattle.world_model.specs.Acts.{unless, act_conditions, act_done, act_reply, facts, is_number_used}
+use Rattle.world_model.specs.ActConditions.{begin_conditions, is_counted}
 use Rattle.world_model.specs.Continuing.{same_event, next_done, next_reply}
 
 -- the last event of a legal world was accepted, and what came before it is legal
@@ -67,13 +68,13 @@ no_refusal r false cs k = absurd cc
 
 -- an accepted act met none of its own refusals
 pub begin_asked : (l : Limits) (w : List WorldEvent) (t : ℕ) (b : Begun) → is_accepted l w (Begin t b) ≡ true
-    → first_refusal (begin_conditions l w t b) ≡ None
+    → first_refusal (begin_conditions l (facts w t) b) ≡ None
 begin_asked l w t b a =
     let counted : Refusal × Bool = (ActsFull, not (is_counted (Beginning b)) || nat_lt (acts t w) l.acts) in
     let free : Refusal × Bool = (NotNow, not (is_number_used w (Beginning b))) in
-    (no_refusal ActsFull counted.1 (begin_conditions l w t b)
-    (no_refusal NotNow free.1 (counted ∷ begin_conditions l w t b)
-    (no_refusal NotNow (is_idle t w) (free ∷ counted ∷ begin_conditions l w t b)
+    (no_refusal ActsFull counted.1 (begin_conditions l (facts w t) b)
+    (no_refusal NotNow free.1 (counted ∷ begin_conditions l (facts w t) b)
+    (no_refusal NotNow (is_idle t w) (free ∷ counted ∷ begin_conditions l (facts w t) b)
     (act_made l w t (Beginning b) a).0).1).1).1
 
 made_where : (b : Bool) (r : Result Reply Refusal) → is_made (cond b r (Err NotNow)) ≡ true

@@ -16,7 +16,8 @@ use Rattle.world_model.specs.declared.event.WorldEvent.{WorldEvent}
 use Rattle.world_model.specs.declared.event.WorldEvent.TheVariants.{Phaser, Finish}
 use Rattle.world_model.specs.Parts.{phaser_past}
 use Rattle.world_model.specs.Scopes.{inner, enclosing}
-use Rattle.world_model.specs.Acts.{pair_conditions}
+use Rattle.world_model.specs.Acts.{facts}
+use Rattle.world_model.specs.ActConditions.{pair_conditions}
 
 -- a due registration of c by q can be made, and its spawn is in q's innermost finish
 abbrev pub may_join : ℕ → ℕ → List WorldEvent → WorldEvent → Bool
@@ -57,12 +58,12 @@ pub record PairStands (w : List WorldEvent) (t : ℕ) (named : List ℕ) (p : Pa
   pub within : is_within_task p.mode t (phaser_past p.phaser w) ≡ true
   pub scope : (enclosing p.phaser w == inner t w) ≡ true
   pub new : has p.phaser named ≡ false
-  pub rest : first_refusal (pair_conditions w t (p.phaser ∷ named) ps) ≡ None
+  pub rest : first_refusal (pair_conditions (facts w t) (p.phaser ∷ named) ps) ≡ None
 
 pub pair_stands : (w : List WorldEvent) (t : ℕ) (named : List ℕ) (p : Pair) (ps : List Pair)
-    → first_refusal (pair_conditions w t named (p ∷ ps)) ≡ None → PairStands w t named p ps
+    → first_refusal (pair_conditions (facts w t) named (p ∷ ps)) ≡ None → PairStands w t named p ps
 pair_stands w t named p ps k =
-    let o = first_refusal (pair_conditions w t (p.phaser ∷ named) ps) in
+    let o = first_refusal (pair_conditions (facts w t) (p.phaser ∷ named) ps) in
     let h = phaser_past p.phaser w in
     let f =
     four (is_live t h) (is_within_task p.mode t h) (enclosing p.phaser w == inner t w)
@@ -82,7 +83,7 @@ abbrev pub joining : ℕ → ℕ → ℕ → List Pair → List WorldEvent
 joining q c f ps = map (λ p. Phaser p.phaser (Reg q c p.mode)) ps ++ Finish f (Spawned c) ∷ []
 
 module _ (w : List WorldEvent) (q c : ℕ) (fresh : (n : ℕ) → is_registered c (phaser_past n w) ≡ false) where
-  pub pairs_join : (named : List ℕ) (ps : List Pair) → first_refusal (pair_conditions w q named ps) ≡ None
+  pub pairs_join : (named : List ℕ) (ps : List Pair) → first_refusal (pair_conditions (facts w q) named ps) ≡ None
       → list_all (may_join q c w) (joining q c (inner q w) ps) ≡ true
   pairs_join named [] k = and_from (inner q w == inner q w) true (eq-eqb (inner q w) (inner q w) refl) refl
   pairs_join named (p ∷ ps) k =
@@ -99,7 +100,7 @@ module _ (w : List WorldEvent) (q c : ℕ) (fresh : (n : ℕ) → is_registered 
 
   -- a phaser that was named isn't named again
   not_again : (n : ℕ) (named : List ℕ) (ps : List Pair) → has n named ≡ true → first_refusal
-      (pair_conditions w q named ps) ≡ None → list_any (registers_on n) (joining q c (inner q w) ps) ≡ false
+      (pair_conditions (facts w q) named ps) ≡ None → list_any (registers_on n) (joining q c (inner q w) ps) ≡ false
   not_again n named [] h k = refl
   not_again n named (p ∷ ps) h k =
       let s = pair_stands w q named p ps k in
@@ -108,7 +109,7 @@ module _ (w : List WorldEvent) (q c : ℕ) (fresh : (n : ℕ) → is_registered 
       (λ e. true≢false (sym h ∙ subst (λ v. has v named ≡ false) (eqb-true p.phaser n e) s.new)))
       (not_again n (p.phaser ∷ named) ps (or_right (p.phaser == n) (has n named) h) s.rest)
 
-  pub pairs_apart : (named : List ℕ) (ps : List Pair) → first_refusal (pair_conditions w q named ps) ≡ None
+  pub pairs_apart : (named : List ℕ) (ps : List Pair) → first_refusal (pair_conditions (facts w q) named ps) ≡ None
       → joins_apart (joining q c (inner q w) ps) ≡ true
   pairs_apart named [] k = refl
   pairs_apart named (p ∷ ps) k =

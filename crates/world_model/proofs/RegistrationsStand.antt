@@ -23,7 +23,8 @@ use Rattle.world_model.specs.Tasks.{is_born}
 use Rattle.world_model.specs.Actors.{actor}
 use Rattle.world_model.specs.Due.{due, fixed, is_entry, is_of_single}
 use Rattle.world_model.specs.Replies.{is_legal_world, is_accepted}
-use Rattle.world_model.specs.Acts.{pair_conditions}
+use Rattle.world_model.specs.Acts.{facts}
+use Rattle.world_model.specs.ActConditions.{pair_conditions}
 use Rattle.world_model.specs.TaskConditions.{last_entry}
 use Rattle.world_model.proofs.MadeMeans.{no_refusal, begin_asked}
 use Rattle.world_model.proofs.PhasersLegal.{new_past}
@@ -61,7 +62,7 @@ module _ (l : Limits) (q c : ℕ) where
       → is_entry q e ≡ true → begins_spawn c (Some e) ≡ true → MayJoin q c (e ∷ w) (fixed e w)
   entry_joins (Begin u (Async x ps)) w k a n s =
       let asked =
-      (no_refusal TasksFull (nat_lt x l.tasks) (pair_conditions w u [] ps)
+      (no_refusal TasksFull (nat_lt x l.tasks) (pair_conditions (facts w u) [] ps)
       (begin_asked l w u (Async x ps) a)).1 in
       let fresh = unregistered l w u x ps k a in
       subst (λ v. MayJoin v c (Begin u (Async x ps) ∷ w) (joining u x (inner u w) ps)) (eqb-true u q n)

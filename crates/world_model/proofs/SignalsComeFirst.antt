@@ -1,5 +1,5 @@
 -- The shape of what is due while a task signals or takes a turn: its signals come first, then its passes.
-use Rattle.std.proofs.Common.{◌≡◌, ℕ, Bool, true, false, ◌&&◌, ◌==◌, not, cond, List, [], ◌∷◌, ◌++◌, map, Option, Some, None, refl, subst, ap}
+use Rattle.std.proofs.Common.{◌≡◌, ℕ, Bool, true, false, ◌&&◌, ◌==◌, not, cond, List, [], ◌∷◌, ◌++◌, map, length, Option, Some, None, refl, sym, subst, ap, ◌∙◌, arith}
 use Rattle.std.specs.Prelude.{drop, filter}
 use Rattle.std.specs.List.{list_any, list_all}
 use Rattle.std.proofs.lemmas.Bool.{and_parts, and_from, eqb-true, eq-eqb, false≢true}
@@ -119,6 +119,12 @@ single_moves t x p (n ∷ []) k =
       | false ↦ pass_moves t (n ∷ [])
     ]
 
+-- a list is one long where it has one item
+pub one_long : {X : Type 0} → (xs : List X) → (length xs == 1) ≡ is_one xs
+one_long [] = refl
+one_long (x ∷ []) = refl
+one_long (x ∷ y ∷ zs) = grind arith
+
 -- what a next with a statement was asked
 pub record SingleAsked (t : ℕ) (w : List WorldEvent) : Type 0 where
   pub one : is_one (phasers_of t w) ≡ true
@@ -131,10 +137,10 @@ single_asked l w t x a =
     let single = list_all (λ n. has_mode can_single t (phaser_past n w)) ns in
     let ahead : Refusal × Bool = (AlreadySignalled, not (list_any (λ n. is_ahead t (phaser_past n w)) ns)) in
     let c =
-    no_refusal OnePhaserOnly (is_one ns) ((NoSingle, single) ∷ ahead ∷ [])
+    no_refusal OnePhaserOnly (length ns == 1) ((NoSingle, single) ∷ ahead ∷ [])
     (begin_asked l w t (NextSingle x) a) in
     let d = no_refusal NoSingle single (ahead ∷ []) c.1 in
-    record { one = c.0; single = none_fails (λ n. has_mode can_single t (phaser_past n w)) ns d.0 }
+    record { one = sym (one_long ns) ∙ c.0; single = none_fails (λ n. has_mode can_single t (phaser_past n w)) ns d.0 }
   where
     none_fails : (f : ℕ → Bool) (xs : List ℕ) → list_all f xs ≡ true → list_any (λ n. not (f n)) xs ≡ false
     none_fails f [] k = refl

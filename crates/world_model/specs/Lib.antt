@@ -8,6 +8,7 @@ pub mod Scopes
 pub mod Actors
 pub mod Due
 pub mod PartReplies
+pub mod ActConditions
 pub mod Acts
 pub mod Continuing
 pub mod GivingUp

@@ -12,7 +12,7 @@ use Rattle.world_model.specs.Laws.{OfEachWorld}
 use Rattle.world_model.specs.Scopes.{inner, owner, enclosing}
 use Rattle.world_model.specs.Parts.{phaser_past, finish_past}
 use Rattle.world_model.specs.Tasks.{is_born, is_ended, phasers_of}
-use Rattle.world_model.specs.Acts.{most_phasers_held}
+use Rattle.world_model.specs.ActConditions.{most_phasers_held}
 use Rattle.world_model.specs.Numbers.{is_finish}
 
 -- a child gets no capability that its spawner lacks,

@@ -1,15 +1,10 @@
 -- What an act that is refused, and one that is not, comes to.
-use Rattle.std.proofs.Common.{◌≡◌, ℕ, ◌==◌, List, [], ◌∷◌, Option, Some, None, Ok, Err, length, refl, ap, arith}
-use Rattle.phase_modes.specs.Lists.{is_one}
+use Rattle.std.proofs.Common.{◌≡◌, Option, Some, None, Ok, Err, refl, ap}
 use Rattle.phase_modes.specs.declared.refusal.Refusal.{Refusal}
 use Rattle.world_model.specs.declared.reply.Reply.TheVariants.{Done}
 use Rattle.world_steps.specs.WorldState.{WorldState}
-use Rattle.world_steps.specs.inner.Steps.{free_unless, done_unless, done_by, unless_refused}
-
-pub one_long : (xs : List ℕ) → (length xs == 1) ≡ is_one xs
-one_long [] = refl
-one_long (x ∷ []) = refl
-one_long (x ∷ y ∷ xs) = grind arith
+use Rattle.world_model.specs.ActConditions.{free_unless}
+use Rattle.world_steps.specs.inner.Steps.{done_unless, done_by, unless_refused}
 
 pub refused_state : (o : Option Refusal) (r : Refusal) (old new : WorldState) → Err r ≡ free_unless o → old ≡ unless_refused o old new
 refused_state None r old new e = absurd cc

@@ -19,7 +19,7 @@ use Rattle.world_model.specs.Scopes as scope
 use Rattle.world_model.specs.Scopes.{open_finishes}
 use Rattle.world_model.specs.Due.{due, fixed_by, is_behind, signals_due, passes_due, drops_due, ending}
 use Rattle.world_model.specs.Clock.{clock, is_turn}
-use Rattle.world_model.specs.Acts.{is_counted}
+use Rattle.world_model.specs.ActConditions.{is_counted}
 use Rattle.world_steps.specs.declared.plan.Plan.{Plan}
 use Rattle.world_steps.specs.declared.plan.Plan.TheVariants as plan
 use Rattle.world_steps.specs.TaskState.{TaskState}
@@ -27,7 +27,8 @@ use Rattle.world_steps.specs.WorldState.{WorldState}
 use Rattle.world_steps.specs.Kept.{task_at, inner_at, is_idle_plan, past_in}
 use Rattle.world_steps.specs.StandsFor.{TaskStands, StandsFor, due_by, end_of}
 use Rattle.world_steps.specs.Plans.{fits_plan, has_left}
-use Rattle.world_steps.specs.inner.Steps.{owes, passing_on, turn_begun}
+use Rattle.world_steps.specs.inner.Facts.{owes}
+use Rattle.world_steps.specs.inner.Steps.{passing_on, turn_begun}
 use Rattle.world_steps.specs.inner.Begins.{signals_begun, enclosed, shut_begun, end_begun, line_begun}
 use Rattle.world_steps.proofs.Entries.{IsPlain, spawner_plain, named_plain}
 use Rattle.world_steps.proofs.Owed.{signals_owed}

@@ -1,17 +1,14 @@
 -- What refuses an act that is begun is, by the world's state, what refuses it by the history.
-use Rattle.std.proofs.Common.{◌≡◌, ℕ, ◌==◌, Bool, true, false, ◌||◌, not, nat_lt, cond, List, [], ◌∷◌, ◌++◌, Option, Some, None, is_some, unwrap_or, Ok, get_or, refl, sym, ap, ◌∙◌, inl, inr}
+use Rattle.std.proofs.Common.{◌≡◌, ℕ, ◌==◌, Bool, true, false, ◌||◌, not, List, [], ◌∷◌, Option, Some, None, is_some, unwrap_or, Ok, length, refl, sym, ap, ◌∙◌, inl, inr}
 use Rattle.std.specs.Prelude.{filter, slice_index_or}
 use Rattle.std.specs.List.{list_any, list_all}
 use Rattle.std.specs.Option.{option_map_or}
 use Rattle.std.proofs.lemmas.Bool.{cases_Bool}
-use Rattle.std.proofs.lemmas.List.Folds.{list_any-append}
-use Rattle.phase_modes.specs.Lists.{is_empty, is_one}
+use Rattle.phase_modes.specs.Lists.{is_empty}
 use Rattle.phase_modes.specs.Mode.{can_single, is_within}
 use Rattle.phase_modes.specs.declared.reg.Mode.{Mode}
 use Rattle.phase_modes.specs.declared.reg.Mode.TheVariants.{Wait as Waiting}
-use Rattle.phase_modes.specs.declared.phased.Pair.{Pair}
 use Rattle.phase_modes.specs.declared.refusal.Refusal.{Refusal}
-use Rattle.phase_modes.specs.declared.refusal.Refusal.TheVariants.{NotRegistered, AlreadySignalled, NotSignalled, MoreThanParent, OutsideScope, RegisteredTwice, TasksFull, FinishOpen, NoFinish}
 use Rattle.phase_modes.specs.Refusal.{first_refusal}
 use Rattle.phase_model.specs.declared.history.Event.{Event}
 use Rattle.phase_model.specs.Tasks.{is_live, mode_of, has_mode}
@@ -29,14 +26,16 @@ use Rattle.world_model.specs.Tasks.{phasers_of}
 use Rattle.world_model.specs.Scopes.{open_finishes, inner, enclosing}
 use Rattle.world_model.specs.Due.{is_ahead, is_behind}
 use Rattle.world_model.specs.Acts as history
-use Rattle.world_model.specs.Acts.{act_conditions, is_number_used, is_counted, unless}
+use Rattle.world_model.specs.Acts.{act_conditions, is_number_used, unless}
 use Rattle.world_model.specs.Replies.{reply}
+use Rattle.world_model.proofs.FactsAlike.{Alike, own_alike}
 use Rattle.world_steps.specs.TaskState.{TaskState}
 use Rattle.world_steps.specs.WorldState.{WorldState}
 use Rattle.world_steps.specs.Kept.{task_at, inner_at, past_in}
 use Rattle.world_steps.specs.StandsFor.{TaskStands, StandsFor, IsChain}
-use Rattle.world_steps.specs.inner.Steps.{done_unless, owes}
-use Rattle.world_steps.specs.inner.Begins.{leads, has_single, may_give, any_leads, any_lacks, is_on, pair_conditions, is_child_named, own_conditions, begin_refusal, begin_answer}
+use Rattle.world_steps.specs.inner.Facts.{leads, owes, has_single, may_give, holds_somewhere, facts}
+use Rattle.world_steps.specs.inner.Steps.{done_unless}
+use Rattle.world_steps.specs.inner.Begins.{is_child_named, begin_refusal, begin_answer}
 use Rattle.world_steps.proofs.Ready.{ready_is_idle}
 use Rattle.world_steps.proofs.Owed.{owes_is_behind, past_stands}
 
@@ -81,10 +80,6 @@ none_without p [] = refl
 none_without p (x ∷ xs) = elim (cases_Bool (p x)) [ inl e ↦ rw e (none_without p xs) | inr e ↦ rw e refl ]
 
 -- the innermost open finish is the chain's first
-open_is : (outers : List (Option ℕ)) (top : Option ℕ) (fs : List ℕ) → IsChain outers top fs → is_some top ≡ not (is_empty fs)
-open_is outers top [] c = rw c refl
-open_is outers top (f ∷ fs) c = rw c.0 refl
-
 none_is : (outers : List (Option ℕ)) (top : Option ℕ) (fs : List ℕ) → IsChain outers top fs → not (is_some top) ≡ is_empty fs
 none_is outers top [] c = rw c refl
 none_is outers top (f ∷ fs) c = rw c.0 refl
@@ -96,53 +91,28 @@ inner_is outers top (f ∷ fs) home c = rw c.0 refl
 pub inner_stands : (outers : List (Option ℕ)) (w : List WorldEvent) (t : ℕ) (k : TaskState) → TaskStands outers w t k → inner_at k ≡ inner t w
 inner_stands outers w t k st = inner_is outers k.innermost (open_finishes t w) k.home st.chain ∙ ap (λ d. slice_index_or (open_finishes t w) 0 d) st.home
 
--- the pairs of a spawn: what matters of those before is the phasers that they name
-four : (a b c d e f : Bool) (o p : Option Refusal) (ra rb rc rd : Refusal) → (a ≡ true → b ≡ e) → o ≡ p → c ≡ f
-    → cond a (cond b (cond c (cond d o (Some rd)) (Some rc)) (Some rb)) (Some ra) ≡ cond a (cond e (cond f (cond d p (Some rd)) (Some rc)) (Some rb)) (Some ra)
-four false b c d e f o p ra rb rc rd x y z = refl
-four true b c d e f o p ra rb rc rd x y z = rw (x refl, y, z) refl
-
-named_before : (before : List Pair) (named : List ℕ) (p : Pair) → ((n : ℕ) → list_any (is_on n) before ≡ list_any (λ m. m == n) named)
-    → (n : ℕ) → list_any (is_on n) (before ++ p ∷ []) ≡ list_any (λ m. m == n) (p.phaser ∷ named)
-named_before before named p same n =
-    list_any-append (is_on n) before (p ∷ []) ∙ (ap (λ b. b || ((p.phaser == n) || false)) (same n) ∙ swapped (list_any (λ m. m == n) named) (p.phaser == n))
-  where
-    swapped : (a b : Bool) → (a || (b || false)) ≡ (b || a)
-    swapped true true = refl
-    swapped true false = refl
-    swapped false true = refl
-    swapped false false = refl
-
 module _ (s : WorldState) (w : List WorldEvent) (t : ℕ) (st : StandsFor w s) where
-  pairs_are : (before : List Pair) (named : List ℕ) (ps : List Pair) → ((n : ℕ) → list_any (is_on n) before ≡ list_any (λ m. m == n) named)
-      → first_refusal (pair_conditions s t before ps) ≡ first_refusal (history.pair_conditions w t named ps)
-  pairs_are before named [] same = refl
-  pairs_are before named (p ∷ ps) same =
-      let rest = pairs_are (before ++ p ∷ []) (p.phaser ∷ named) ps (named_before before named p same) in
-      let h = phaser_past p.phaser w in
-      let past : past_in s.phasers p.phaser ≡ h = past_stands s w p.phaser (st.phasers p.phaser) in
-      let scope : (get_or s.enclosing p.phaser 0 == inner_at (task_at s t)) ≡ (enclosing p.phaser w == inner t w) =
-      ap (λ f. f == inner_at (task_at s t)) (st.phasers p.phaser).enclosing ∙ ap (λ f. enclosing p.phaser w == f) (inner_stands s.outers w t (task_at s t) (st.tasks t))
-      in
-      rw (past, registered_is t h, same p.phaser)
-      (four (is_live t h) (may_give p.mode t h) (get_or s.enclosing p.phaser 0 == inner_at (task_at s t)) (not (list_any (λ m. m == p.phaser) named)) (is_within_task p.mode t h) (enclosing p.phaser w == inner t w)
-      _ _ NotRegistered MoreThanParent OutsideScope RegisteredTwice (gives_is p.mode t h) rest scope)
+  past : (n : ℕ) → past_in s.phasers n ≡ phaser_past n w
+  past n = past_stands s w n (st.phasers n)
 
-  -- the conditions of each act of its own
-  own_are : (b : Begun) → first_refusal (own_conditions s t b) ≡ first_refusal (history.begin_conditions s.limits w t b)
-  own_are (Async c pairs) = ap (λ o. cond (nat_lt c s.limits.tasks) o (Some TasksFull)) (pairs_are [] [] pairs (λ n. refl))
-  own_are Signal = ap (λ b. first_refusal ((AlreadySignalled, not b) ∷ [])) (any_stands s w t (leads t) (is_ahead t) st (leads_is_ahead t))
-  own_are Wait = ap (λ b. first_refusal ((NotSignalled, not b) ∷ [])) (any_stands s w t (owes t) (is_behind t) st (owes_is_behind t))
-  own_are Next = refl
-  own_are (NextSingle x) =
-      let one = ap (λ ns. is_one ns) (st.tasks t).phasers in
-      let all : not (any_lacks s t) ≡ list_all (λ n. has_mode can_single t (phaser_past n w)) (phasers_of t w) =
-      ap not (any_stands s w t (λ h. not (has_single t h)) (λ h. not (has_mode can_single t h)) st (lacks_is t)) ∙ none_without (λ n. has_mode can_single t (phaser_past n w)) (phasers_of t w)
-      in
-      let ahead : any_leads s t ≡ list_any (λ n. is_ahead t (phaser_past n w)) (phasers_of t w) = any_stands s w t (leads t) (is_ahead t) st (leads_is_ahead t) in
-      rw (one, all, ahead) refl
-  own_are Shut = ap (λ b. first_refusal ((NoFinish, b) ∷ [])) (open_is s.outers (task_at s t).innermost (open_finishes t w) (st.tasks t).chain)
-  own_are End = ap (λ b. first_refusal ((FinishOpen, b) ∷ [])) (none_is s.outers (task_at s t).innermost (open_finishes t w) (st.tasks t).chain)
+  somewhere : (f g : ℕ → List Event → Bool) → ((h : List Event) → is_live t h ≡ true → f t h ≡ g t h)
+      → holds_somewhere f s t ≡ list_any (λ n. g t (phaser_past n w)) (phasers_of t w)
+  somewhere f g same = any_stands s w t (f t) (g t) st same
+
+  pub alike : Alike (facts s t) (history.facts w t)
+  alike = record {
+    is_on = λ n. rw (past n) (registered_is t (phaser_past n w));
+    may_give = λ m n live. rw (past n) (gives_is m t (phaser_past n w) live);
+    is_inside = λ n live. ap (λ f. f == inner_at (task_at s t)) (st.phasers n).enclosing
+        ∙ ap (λ f. enclosing n w == f) (inner_stands s.outers w t (task_at s t) (st.tasks t));
+    phasers = ap (λ ns. length ns) (st.tasks t).phasers;
+    leads = somewhere leads is_ahead (leads_is_ahead t);
+    owes = somewhere owes is_behind (owes_is_behind t);
+    has_singles = ap not (somewhere (λ u h. not (has_single u h)) (λ u h. not (has_mode can_single u h)) (lacks_is t))
+        ∙ none_without (λ n. has_mode can_single t (phaser_past n w)) (phasers_of t w);
+    all_shut = none_is s.outers (task_at s t).innermost (open_finishes t w) (st.tasks t).chain;
+    acts = (st.tasks t).acts;
+  }
 
   named_is : (b : Begun) → is_child_named s b ≡ is_number_used w (Beginning b)
   named_is (Async c pairs) = (st.tasks c).named
@@ -154,7 +124,7 @@ module _ (s : WorldState) (w : List WorldEvent) (t : ℕ) (st : StandsFor w s) w
   named_is End = refl
 
   pub begin_is_refused : (b : Begun) → begin_refusal s t b ≡ first_refusal (act_conditions s.limits w t (Beginning b))
-  begin_is_refused b = rw (ready_is_idle s.outers w t (task_at s t) (st.tasks t), named_is b, (st.tasks t).acts, own_are b) refl
+  begin_is_refused b = rw (ready_is_idle s.outers w t (task_at s t) (st.tasks t), named_is b, (st.tasks t).acts, own_alike s.limits (facts s t) (history.facts w t) alike (Beginning b)) refl
 
 by_refusal : (o : Option Refusal) → done_unless o ≡ unless o (Ok Done)
 by_refusal None = refl

@@ -12,7 +12,7 @@ use Rattle.world_model.specs.PartReplies.{returned}
 use Rattle.world_model.specs.GivingUp.{is_refused_by}
 use Rattle.world_steps.specs.WorldState.{WorldState}
 use Rattle.world_steps.specs.Kept.{blank_story}
-use Rattle.world_steps.specs.inner.Steps.{free_unless}
+use Rattle.world_model.specs.ActConditions.{free_unless}
 use Rattle.world_steps.specs.inner.Refusals.{refusal_in, phaser_refusal, is_make}
 use Rattle.world_steps.specs.inner.Failures.{has_number}
 

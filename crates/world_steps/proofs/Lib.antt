@@ -23,7 +23,6 @@ pub mod ShutMade
 pub mod AbleRead
 pub mod ClockRead
 pub mod Acts
-pub mod Handing
 pub mod BeginsAsked
 pub mod Begins
 pub mod SpawnBegun

@@ -2,7 +2,7 @@
 use Rattle.std.proofs.Common.{◌≡◌, Option, Some, None, Result, refl, sym, subst}
 use Rattle.std.specs.Prelude.{IfErr}
 use Rattle.phase_modes.specs.declared.refusal.Refusal.{Refusal}
-use Rattle.world_steps.specs.inner.Steps.{free_unless}
+use Rattle.world_model.specs.ActConditions.{free_unless}
 
 refused_some : (o : Option Refusal) → IfErr (free_unless o) (λ r. o ≡ Some r)
 refused_some None = tt

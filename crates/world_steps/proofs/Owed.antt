@@ -13,7 +13,7 @@ use Rattle.phase_model.specs.Rules.{Story}
 use Rattle.world_model.specs.declared.event.WorldEvent.{WorldEvent}
 use Rattle.world_steps.specs.WorldState.{WorldState}
 use Rattle.world_steps.specs.Kept.{blank_story, past_in}
-use Rattle.world_steps.specs.inner.Steps.{owes}
+use Rattle.world_steps.specs.inner.Facts.{owes}
 use Rattle.world_steps.specs.StandsFor.{PhaserStands}
 use Rattle.world_model.specs.Parts.{phaser_past}
 use Rattle.world_model.specs.Tasks.{phasers_of}

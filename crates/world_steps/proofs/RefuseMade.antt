@@ -22,7 +22,8 @@ use Rattle.world_steps.specs.WorldState.{WorldState}
 use Rattle.world_steps.specs.Kept.{task_at, is_ready}
 use Rattle.world_steps.proofs.LimitsStay.{limits_where}
 use Rattle.world_steps.specs.StandsFor.{StandsFor, IsStep}
-use Rattle.world_steps.specs.inner.Steps.{with_task, free_unless, done_unless, first_conditions, open_conditions}
+use Rattle.world_model.specs.ActConditions.{free_unless}
+use Rattle.world_steps.specs.inner.Steps.{with_task, done_unless, first_conditions, open_conditions}
 use Rattle.world_steps.specs.inner.Refusals.{refusal_in, phaser_refusal, or_then, act_refusal, is_noted, refuse_noted, given_up, where_noted, refuse_state}
 use Rattle.world_steps.specs.inner.Failures.{has_number}
 use Rattle.world_steps.proofs.Ready.{ready_is_idle, ready_within}

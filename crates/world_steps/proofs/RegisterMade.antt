@@ -20,7 +20,7 @@ use Rattle.world_model.specs.declared.event.Step.TheVariants.{Reg, Sig, Claim, D
 use Rattle.world_model.specs.declared.event.Begun.TheVariants.{Async}
 use Rattle.world_model.specs.declared.event.WorldEvent.{WorldEvent}
 use Rattle.world_model.specs.declared.event.WorldEvent.TheVariants.{Phaser, Finish, Begin}
-use Rattle.world_model.specs.Acts.{most_phasers_held}
+use Rattle.world_model.specs.ActConditions.{most_phasers_held}
 use Rattle.world_model.specs.Due.{due}
 use Rattle.world_model.specs.Continuing.{same_event, same_mode}
 use Rattle.world_model.specs.Parts.{terms_of, phaser_past}

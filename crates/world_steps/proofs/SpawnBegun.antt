@@ -21,7 +21,7 @@ use Rattle.world_model.specs.Numbers.{is_named}
 use Rattle.world_model.specs.Scopes.{open_finishes, inner}
 use Rattle.world_model.specs.Due.{due, is_idle}
 use Rattle.world_model.specs.Clock.{clock}
-use Rattle.world_model.specs.Acts.{is_counted}
+use Rattle.world_model.specs.ActConditions.{is_counted, pair_conditions, begin_conditions}
 use Rattle.world_model.specs.Replies.{is_accepted, is_legal_world, is_made, reply}
 use Rattle.world_model.proofs.BornWhereNamed.{born_named}
 use Rattle.world_model.proofs.PassesInTurns.{idle_is_born}
@@ -34,7 +34,8 @@ use Rattle.world_steps.specs.Kept.{blank_task, task_at, is_ready}
 use Rattle.world_steps.proofs.LimitsStay.{limits_unless, entered_limits}
 use Rattle.world_steps.specs.StandsFor.{TaskStands, StandsFor, IsStep, due_by, inner_of}
 use Rattle.world_steps.specs.inner.Steps.{done_unless, unless_refused}
-use Rattle.world_steps.specs.inner.Begins.{is_child_named, pair_conditions, own_conditions, begin_refusal, spawn_begun, named_for, line_begun, entered, begin_answer, begin_state}
+use Rattle.world_steps.specs.inner.Facts.{facts}
+use Rattle.world_steps.specs.inner.Begins.{is_child_named, begin_refusal, spawn_begun, named_for, line_begun, entered, begin_answer, begin_state}
 use Rattle.world_steps.proofs.Fits.{fitting}
 use Rattle.world_steps.proofs.TableReads.{read_set}
 use Rattle.world_steps.proofs.Ready.{ready_is_idle, ready_within}
@@ -221,10 +222,10 @@ module _ (s : WorldState) (w : List WorldEvent) (t c : ℕ) (ps : List Pair) (st
 
 -- the world once an act is begun that was not refused
 entered_stands : (s : WorldState) (w : List WorldEvent) (t : ℕ) (b : Begun) → length s.tasks ≡ s.limits.tasks → StandsFor w s → is_ready (task_at s t) ≡ true → is_child_named s b ≡ false
-    → (is_counted (Beginning b) ≡ true → (task_at s t).acts < 65536) → first_refusal (own_conditions s t b) ≡ None → is_accepted s.limits w (Begin t b) ≡ true
+    → (is_counted (Beginning b) ≡ true → (task_at s t).acts < 65536) → first_refusal (begin_conditions s.limits (facts s t) b) ≡ None → is_accepted s.limits w (Begin t b) ≡ true
     → StandsFor (Begin t b ∷ w) (entered s t b)
 entered_stands s w t (Async c ps) size st ready new few met accepted =
-    let below : c < s.limits.tasks = ltb-true c s.limits.tasks (first_met (nat_lt c s.limits.tasks) TasksFull (pair_conditions s t [] ps) met) in
+    let below : c < s.limits.tasks = ltb-true c s.limits.tasks (first_met (nat_lt c s.limits.tasks) TasksFull (pair_conditions (facts s t) [] ps) met) in
     spawn_stands s w t c ps st ready new (few refl) (omega (arith, below, size)) accepted
 entered_stands s w t Signal size st ready new few met accepted = entry_stands s w t (line_begun s t Signal) Signal tt st (ready_within s.tasks t ready) accepted (line_stands s w t Signal tt st few)
 entered_stands s w t Wait size st ready new few met accepted = entry_stands s w t (line_begun s t Wait) Wait tt st (ready_within s.tasks t ready) accepted (line_stands s w t Wait tt st few)
@@ -242,7 +243,7 @@ begin_is_step s t b size = record {
   stands = λ w st made.
       let k = task_at s t in
       let free : begin_refusal s t b ≡ None = made_is_free (begin_refusal s t b) made in
-      let may = free_parts (is_ready k) (is_child_named s b) (not (is_counted (Beginning b)) || nat_lt k.acts s.limits.acts) (own_conditions s t b) free in
+      let may = free_parts (is_ready k) (is_child_named s b) (not (is_counted (Beginning b)) || nat_lt k.acts s.limits.acts) (begin_conditions s.limits (facts s t) b) free in
       let accepted : is_made (reply s.limits w (Begin t b)) ≡ true = ap (λ r. is_made r) (sym (begin_answers s w t b st)) ∙ made in
       let few : is_counted (Beginning b) ≡ true → k.acts < 65536 =
       (λ many.

@@ -1,5 +1,6 @@
 -- What the private functions of `world_core` say, by the state alone: no public contract cites it.
 pub mod Sizes
+pub mod Facts
 pub mod Steps
 pub mod SpawnSteps
 pub mod Queries

@@ -1,7 +1,8 @@
 //! The beginnings of acts: what each is refused by, and what it leaves.
 ghost use Rattle.std.specs.Prelude.{◌≡◌, ◌<◌, length, IfOk};
 ghost use Rattle.phase_modes.specs.Refusal.{first_refusal};
-ghost use Rattle.world_steps.specs.inner.Steps.{free_unless, owing, turn_begun, with_task};
+ghost use Rattle.world_model.specs.ActConditions.{free_unless};
+ghost use Rattle.world_steps.specs.inner.Steps.{owing, turn_begun, with_task};
 ghost use Rattle.world_steps.specs.inner.Begins.{begin_refusal, begin_answer, begin_state, entered, line_begun, IsChildWithin};
 ghost use Rattle.world_steps.specs.StandsFor.{IsStep};
 

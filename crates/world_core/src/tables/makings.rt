@@ -5,7 +5,7 @@ ghost use Rattle.phase_modes.specs.Refusal.{first_refusal};
 ghost use Rattle.phase_model.specs.Replies.{reply, done_result};
 ghost use Rattle.phase_model.specs.declared.call.Call.TheVariants.{Make as make};
 ghost use Rattle.world_steps.specs.Kept.{story_at, task_at};
-ghost use Rattle.world_steps.specs.inner.Steps.{free_unless};
+ghost use Rattle.world_model.specs.ActConditions.{free_unless};
 ghost use Rattle.world_steps.specs.inner.Registering.{make_conditions, make_answer, make_state, phaser_made};
 ghost use Rattle.world_steps.specs.StandsFor.{IsStep};
 

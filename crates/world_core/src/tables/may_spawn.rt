@@ -4,8 +4,9 @@ ghost use Rattle.std.specs.List.{list_any};
 ghost use Rattle.phase_modes.specs.Refusal.{first_refusal};
 ghost use Rattle.phaser_answers.specs.Registration.{registration};
 ghost use Rattle.world_steps.specs.Kept.{task_at, past_in, inner_at};
-ghost use Rattle.world_steps.specs.inner.Steps.{free_unless};
-ghost use Rattle.world_steps.specs.inner.Begins.{begin_refusal, hand_conditions, pair_conditions, is_on};
+ghost use Rattle.world_model.specs.ActConditions.{free_unless, pair_names, hand_conditions, pair_conditions};
+ghost use Rattle.world_steps.specs.inner.Facts.{facts};
+ghost use Rattle.world_steps.specs.inner.Begins.{begin_refusal};
 
 use super::Tables;
 use crate::phaser::KeptPhaser;
@@ -27,7 +28,7 @@ fn registration_on(phasers: &[KeptPhaser], phaser: PhaserNumber, task: TaskNumbe
 
 /// Whether one of the pairs is on this phaser.
 fn is_among(pairs: &[Pair], phaser: PhaserNumber) -> bool
-    ensures { result ≡ list_any (is_on phaser) pairs.now }
+    ensures { result ≡ list_any (pair_names phaser) pairs.now }
 {
     let mut any = false;
     for i in 0..pairs.len() {
@@ -49,7 +50,7 @@ impl Tables {
     /// What handing on the phaser of a pair is refused by, where the spawn has named others before.
     fn may_hand(&self, task: TaskNumber, before: &[Pair], pair: Pair) -> Result<(), Refusal>
         requires { task < length self.now.tasks }
-        ensures { result ≡ free_unless (first_refusal (hand_conditions self.now task before.now pair)) }
+        ensures { result ≡ free_unless (first_refusal (hand_conditions (facts self.now task) (list_any (pair_names pair.phaser) before.now) pair)) }
     {
         let Some(reg) = registration_on(&self.phasers, PhaserNumber::of(pair.phaser), task) else {
             return Err(Refusal::NotRegistered);
@@ -68,11 +69,10 @@ impl Tables {
         Ok(())
     }
 
-    #[tactic(auto, using(world_steps::proofs::Handing::pair_met))]
     /// What handing on these phasers is refused by, pair by pair.
     fn may_hand_on(&self, task: TaskNumber, pairs: &[Pair]) -> Result<(), Refusal>
         requires { task < length self.now.tasks }
-        ensures { result ≡ free_unless (first_refusal (pair_conditions self.now task [] pairs.now)) }
+        ensures { result ≡ free_unless (first_refusal (pair_conditions (facts self.now task) [] pairs.now)) }
     {
         for i in 0..pairs.len() {
             if let Err(refusal) = self.may_hand(task, &pairs[..i], pairs[i]) {

@@ -3,7 +3,8 @@ ghost use Rattle.std.specs.Prelude.{◌≡◌, ◌<◌, not, length, IfOk};
 ghost use Rattle.phase_modes.specs.Lists.{is_empty};
 ghost use Rattle.phase_modes.specs.Refusal.{first_refusal};
 ghost use Rattle.world_steps.specs.Kept.{finish_at};
-ghost use Rattle.world_steps.specs.inner.Steps.{free_unless, open_conditions, open_answer, open_state};
+ghost use Rattle.world_model.specs.ActConditions.{free_unless};
+ghost use Rattle.world_steps.specs.inner.Steps.{open_conditions, open_answer, open_state};
 ghost use Rattle.world_steps.specs.StandsFor.{IsStep};
 
 use super::Tables;

@@ -1,7 +1,7 @@
 //! A task notes that an act of its own is refused, and comes to its end.
 ghost use Rattle.std.specs.Prelude.{◌≡◌, ◌<◌, length, true};
 ghost use Rattle.world_steps.specs.Kept.{story_at};
-ghost use Rattle.world_steps.specs.inner.Steps.{free_unless};
+ghost use Rattle.world_model.specs.ActConditions.{free_unless};
 ghost use Rattle.world_steps.specs.inner.Refusals.{is_make, phaser_refusal, call_refusal, make_refusal, act_refusal, is_noted, refuse_noted, refuse_state};
 ghost use Rattle.world_model.specs.GivingUp.{done_where};
 ghost use Rattle.world_steps.specs.StandsFor.{IsStep};

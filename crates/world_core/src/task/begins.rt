@@ -1,10 +1,10 @@
 //! What a task's record says and notes of an act that the task begins.
 ghost use Rattle.std.specs.Prelude.{◌≡◌, ◌≤◌, ◌==◌, not, get_or, length, vec_capacity, is_some};
 ghost use Rattle.std.specs.List.{list_any};
-ghost use Rattle.phase_modes.specs.Lists.{is_one};
 ghost use Rattle.world_steps.specs.Kept.{past_in};
-ghost use Rattle.world_steps.specs.inner.Steps.{owes, passing};
-ghost use Rattle.world_steps.specs.inner.Begins.{leads, has_single, counted, signals_begun, enclosed, shut_begun, end_begun, spawn_begun, named_for};
+ghost use Rattle.world_steps.specs.inner.Facts.{leads, owes, has_single};
+ghost use Rattle.world_steps.specs.inner.Steps.{passing};
+ghost use Rattle.world_steps.specs.inner.Begins.{counted, signals_begun, enclosed, shut_begun, end_begun, spawn_begun, named_for};
 
 use super::{Task, is_owed};
 use crate::phaser::KeptPhaser;
@@ -34,10 +34,9 @@ impl Task {
         any_without_single(&self.phasers, phasers, task)
     }
 
-    #[tactic(auto, using(world_steps::proofs::Acts::one_long))]
     /// Whether it is on exactly one phaser.
     pub(crate) fn is_on_one(&self) -> bool
-        ensures { result ≡ is_one self.now.phasers }
+        ensures { result ≡ (length self.now.phasers == 1) }
     {
         self.phasers.len() == 1
     }

@@ -13,7 +13,8 @@ use Rattle.world_model.specs.declared.event.Tried.TheVariants.{Begun as Beginnin
 use Rattle.world_steps.specs.TaskState.{TaskState}
 use Rattle.world_steps.specs.WorldState.{WorldState}
 use Rattle.world_steps.specs.Kept.{task_at, story_at}
-use Rattle.world_steps.specs.inner.Steps.{with_task, free_unless, first_conditions, open_conditions}
+use Rattle.world_model.specs.ActConditions.{free_unless}
+use Rattle.world_steps.specs.inner.Steps.{with_task, first_conditions, open_conditions}
 use Rattle.world_steps.specs.inner.Begins.{begin_refusal, end_begun}
 use Rattle.world_steps.specs.inner.Registering.{make_conditions}
 

@@ -8,7 +8,7 @@ use Rattle.phase_model.specs.Replies as phaser
 use Rattle.phase_model.specs.Replies.{done_result}
 use Rattle.phase_model.specs.declared.call.Call.TheVariants.{Register as register}
 use Rattle.world_model.specs.declared.reply.Reply.{Reply}
-use Rattle.world_model.specs.Acts.{most_phasers_held}
+use Rattle.world_model.specs.ActConditions.{most_phasers_held}
 use Rattle.world_model.specs.Continuing.{same_mode}
 use Rattle.world_steps.specs.declared.plan.Plan.{Plan}
 use Rattle.world_steps.specs.declared.plan.Plan.TheVariants as plan

@@ -1,9 +1,8 @@
 -- What a world answers and how it changes at the steps that change who is registered: by its state alone.
-use Rattle.std.specs.Prelude.{ℕ, ◌+◌, Bool, true, ◌||◌, not, nat_lt, min, List, [], ◌∷◌, ◌++◌, length, set, Option, Some, None, Result, Err}
+use Rattle.std.specs.Prelude.{ℕ, ◌+◌, Bool, true, not, min, List, [], ◌∷◌, ◌++◌, set, Option, Some, None, Result, Err}
 use Rattle.phase_modes.specs.Lists.{is_empty}
 use Rattle.phase_modes.specs.declared.reg.Mode.{Mode}
 use Rattle.phase_modes.specs.declared.refusal.Refusal.{Refusal}
-use Rattle.phase_modes.specs.declared.refusal.Refusal.TheVariants.{NotNow, ActsFull, PhasersFull}
 use Rattle.phase_modes.specs.Refusal.{first_refusal}
 use Rattle.phase_model.specs.declared.terms.Terms.{Terms}
 use Rattle.phase_model.specs.Replies as phaser
@@ -13,18 +12,15 @@ use Rattle.phaser_answers.specs.Answers.{made_with}
 use Rattle.world_model.specs.declared.reply.Reply.{Reply}
 use Rattle.world_steps.specs.TaskState.{TaskState}
 use Rattle.world_steps.specs.WorldState.{WorldState}
-use Rattle.world_steps.specs.Kept.{task_at, story_at, is_ready, inner_at}
-use Rattle.world_steps.specs.inner.Steps.{done_by, state_by}
+use Rattle.world_steps.specs.Kept.{task_at, story_at, inner_at}
+use Rattle.world_model.specs.ActConditions.{new_conditions}
+use Rattle.world_steps.specs.inner.Facts.{facts}
+use Rattle.world_steps.specs.inner.Steps.{first_conditions, done_by, state_by}
 
 -- the conditions of the making of phaser n before the phaser is asked
 abbrev pub make_conditions : WorldState → ℕ → ℕ → List (Refusal × Bool)
 make_conditions s n t =
-    (NotNow, is_ready (task_at s t))
-    ∷ (NotNow, not (not (is_empty (story_at s n).past)))
-    ∷ (ActsFull, not true || nat_lt (task_at s t).acts s.limits.acts)
-    ∷ (PhasersFull, nat_lt n s.limits.phasers)
-    ∷ (PhasersFull, nat_lt (length (task_at s t).phasers) 16)
-    ∷ []
+    first_conditions s t (not (is_empty (story_at s n).past)) true ++ new_conditions s.limits (facts s t) n
 
 abbrev pub result_unless : Option Refusal → Result (Unit {0}) Refusal → Result (Unit {0}) Refusal
 result_unless None u = u

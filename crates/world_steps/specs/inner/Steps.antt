@@ -1,12 +1,9 @@
 -- What a world answers and how it changes, by its state alone. That this is what the history asks for is proved apart, in proofs/.
-use Rattle.std.specs.Prelude.{ℕ, ◌+◌, Bool, true, false, ◌&&◌, ◌||◌, ◌==◌, not, nat_lt, min, if◌then◌else◌, List, [], ◌∷◌, filter, set, Option, Some, None, Result, Ok, Err}
-use Rattle.std.specs.Option.{option_map_or}
+use Rattle.std.specs.Prelude.{ℕ, ◌+◌, Bool, true, false, ◌&&◌, ◌==◌, not, min, if◌then◌else◌, List, [], ◌∷◌, ◌++◌, filter, set, Option, Some, None, Result, Ok, Err}
 use Rattle.phase_modes.specs.Lists.{is_empty}
 use Rattle.phase_modes.specs.declared.refusal.Refusal.{Refusal}
-use Rattle.phase_modes.specs.declared.refusal.Refusal.TheVariants.{NotNow, ActsFull, FinishesFull}
-use Rattle.phase_modes.specs.Mode.{can_signal}
+use Rattle.phase_modes.specs.declared.refusal.Refusal.TheVariants.{NotNow}
 use Rattle.phase_modes.specs.Refusal.{first_refusal}
-use Rattle.phase_model.specs.declared.history.Event.{Event}
 use Rattle.phase_model.specs.declared.history.Event.TheVariants.{Claim as Claimed, Did as Reported}
 use Rattle.phase_model.specs.Rules.{Story, is_permitted}
 use Rattle.phaser_answers.specs.declared.answer.Passing.{Passing}
@@ -14,12 +11,12 @@ use Rattle.phaser_answers.specs.declared.answer.Passing.TheVariants.{Passed, Cla
 use Rattle.phaser_answers.specs.declared.answer.Signalling.{Signalling}
 use Rattle.phaser_answers.specs.declared.answer.Signalling.TheVariants.{Signalled, NotYet as Holds}
 use Rattle.phaser_answers.specs.Answers.{signal_result, pass_result}
-use Rattle.phaser_answers.specs.Registration.{registration}
 use Rattle.phase_model.specs.Replies as phaser
 use Rattle.phase_model.specs.declared.call.Call.{Call}
 use Rattle.phase_model.specs.Replies.{after, done_result}
 use Rattle.phase_model.specs.declared.call.Call.TheVariants.{Signal as signal, Pass as pass, SingleDone as single_done}
 use Rattle.world_model.specs.Continuing.{same_number}
+use Rattle.world_model.specs.ActConditions.{count_condition, opening_conditions}
 use Rattle.world_steps.specs.declared.plan.Plan.{Plan}
 use Rattle.world_steps.specs.declared.plan.Plan.TheVariants as plan
 use Rattle.world_model.specs.declared.reply.Reply.{Reply}
@@ -27,6 +24,7 @@ use Rattle.world_model.specs.declared.reply.Reply.TheVariants.{Done, Phase, NotY
 use Rattle.world_steps.specs.TaskState.{TaskState}
 use Rattle.world_steps.specs.WorldState.{WorldState}
 use Rattle.world_steps.specs.Kept.{task_at, story_at, finish_at, is_ready, past_in}
+use Rattle.world_steps.specs.inner.Facts.{facts, owes}
 use Rattle.finish_core.specs.declared.event.FinishEvent.TheVariants.{Opened}
 use Rattle.finish_core.specs.Replies as finish
 use Rattle.finish_core.specs.Replies.{reply as answer}
@@ -36,12 +34,8 @@ abbrev pub first_conditions : WorldState → ℕ → Bool → Bool → List (Ref
 first_conditions s t used counted =
     (NotNow, is_ready (task_at s t))
     ∷ (NotNow, not used)
-    ∷ (ActsFull, not counted || nat_lt (task_at s t).acts s.limits.acts)
+    ∷ count_condition s.limits (facts s t) counted
     ∷ []
-
-abbrev pub free_unless : Option Refusal → Result (Unit {0}) Refusal
-free_unless None = Ok tt
-free_unless (Some r) = Err r
 
 abbrev pub done_unless : Option Refusal → Result Reply Refusal
 done_unless None = Ok Done
@@ -51,10 +45,6 @@ done_unless (Some r) = Err r
 abbrev pub unless_refused : Option Refusal → WorldState → WorldState → WorldState
 unless_refused None old new = new
 unless_refused (Some r) old new = old
-
--- a task that is registered now owes a signal where it can signal and isn't ahead
-abbrev pub owes : ℕ → List Event → Bool
-owes t h = option_map_or (λ r. can_signal r.mode && not r.ahead) (registration t h) false
 
 -- a task comes to the passes of a turn on these phasers: without phasers the turn is ended
 abbrev pub passing_on : List ℕ → TaskState → TaskState
@@ -240,11 +230,7 @@ report_state s n t = state_by (report_result s n t) s (phaser_called s n (single
 -- the conditions of the opening of finish f
 abbrev pub open_conditions : WorldState → ℕ → ℕ → List (Refusal × Bool)
 open_conditions s f t =
-    (NotNow, is_ready (task_at s t))
-    ∷ (NotNow, not (not (is_empty (finish_at s f).past)))
-    ∷ (ActsFull, not true || nat_lt (task_at s t).acts s.limits.acts)
-    ∷ (FinishesFull, nat_lt f s.limits.finishes)
-    ∷ []
+    first_conditions s t (not (is_empty (finish_at s f).past)) true ++ opening_conditions s.limits f
 
 abbrev pub open_answer : WorldState → ℕ → ℕ → Result Reply Refusal
 open_answer s f t = done_unless (first_refusal (open_conditions s f t))

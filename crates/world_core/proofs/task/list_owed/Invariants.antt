@@ -2,7 +2,7 @@
 use Rattle.std.proofs.Common.{◌≡◌, ◌≤◌, length, take}
 use Rattle.std.specs.Prelude.{filter, vec_capacity}
 use Rattle.world_steps.specs.Kept.{past_in}
-use Rattle.world_steps.specs.inner.Steps.{owes}
+use Rattle.world_steps.specs.inner.Facts.{owes}
 use Rattle.world_core.proofs.task.list_owed.Given as goal
 
 abbrev pub invariant-loop-i : goal.invariant-loop-i

@@ -1,7 +1,13 @@
-use Rattle.task_standing.proofs.Handing.{pair_unmet}
+use Rattle.world_model.proofs.Handing.{pair_met, pair_unmet}
+use Rattle.task_standing.specs.inner.Conditions.{facts}
 use Rattle.task_standing.proofs.standing.Standing.may_hand_on.Goals as goal
+
+pub loop-i-preserved : goal.loop-i-preserved
+loop-i-preserved c =
+    pair_met (facts c.args.self.now) c.args.pairs.now c.loop-i.i _ c.loop-i-test.true c.loop-i.invariant
+    c.in_default.ensures
 
 pub returns-in-Err : goal.returns-in-Err
 returns-in-Err c =
-    pair_unmet c.args.self.now c.args.pairs.now c.loop-i.i _ c.in-Err.refusal c.loop-i-test.true
+    pair_unmet (facts c.args.self.now) c.args.pairs.now c.loop-i.i _ c.in-Err.refusal c.loop-i-test.true
     c.loop-i.invariant c.in-Err.ensures

@@ -1,5 +1,5 @@
 use Rattle.std.proofs.Common.{ap, ◌∙◌}
-use Rattle.task_standing.specs.Standing.{free_unless}
+use Rattle.world_model.specs.ActConditions.{free_unless}
 use Rattle.task_standing.proofs.Asked.{try_is}
 use Rattle.task_standing.proofs.standing.Standing.may_try.Goals as goal
 

@@ -1,6 +1,6 @@
 use Rattle.std.proofs.Common.{◌≡◌, rules}
 use Rattle.phase_modes.specs.Refusal.{first_refusal}
-use Rattle.world_steps.specs.inner.Steps.{free_unless}
+use Rattle.world_model.specs.ActConditions.{free_unless}
 use Rattle.world_steps.specs.inner.Registering.{make_conditions}
 use Rattle.world_steps.proofs.MakeRefused.{refused_is}
 use Rattle.world_core.proofs.tables.Tables.may_make.Goals as goal

@@ -2,7 +2,7 @@
 use Rattle.std.proofs.Common.{◌≡◌, take}
 use Rattle.std.specs.List.{list_any}
 use Rattle.world_steps.specs.Kept.{past_in}
-use Rattle.world_steps.specs.inner.Begins.{leads}
+use Rattle.world_steps.specs.inner.Facts.{leads}
 use Rattle.world_core.proofs.task.begins.any_leading.Given as goal
 
 abbrev pub invariant-loop-i : goal.invariant-loop-i
