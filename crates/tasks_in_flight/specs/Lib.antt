@@ -1,3 +1,4 @@
 pub mod Heard
+pub mod Noted
 pub mod Said
 pub mod inner

@@ -1,7 +1,9 @@
 //! What a task notes of itself.
-ghost use Rattle.std.specs.Prelude.{◌≡◌, ◌⊎◌, ◌||◌, true, false, All, IfErr, IfOk};
+ghost use Rattle.std.specs.Prelude.{◌≡◌, ◌⊎◌, ◌||◌, [], true, false, All, IfErr, IfOk};
 ghost use Rattle.trace_model.specs.Projections.{log as log_of, whose, AreOf};
 ghost use Rattle.tasks_in_flight.specs.Said.{is_end, has_end};
+ghost use Rattle.tasks_in_flight.specs.Noted.{IsNoted};
+ghost use Rattle.phase_modes.specs.Refusal.{number_of};
 
 use phase_modes::Refusal;
 use std::alloc::Global;
@@ -34,6 +36,7 @@ impl Diary {
     pub fn new(alloc: Global, task: TaskNumber, acts: u32) -> Result<Diary, Refusal>
         ensures task { IfOk result (λ d. d.task ≡ task) }
         ensures end { IfOk result (λ d. d.ended ≡ false) }
+        ensures blank { IfOk result (λ d. d.log ≡ record { acts = acts; entries = [] }) }
         ensures memory { IfErr result (λ e. e ≡ Refusal.Memory) }
     {
         Ok(Diary {
@@ -68,6 +71,7 @@ impl Diary {
     /// room for it. It takes no memory.
     fn add(&mut self, ticket: u64, entry: TracedEvent) -> Result<(), Refusal>
         requires { whose entry ≡ log_of self.old.task }
+        ensures noted { IsNoted (ticket, entry) self.old.log self.new.log result }
         ensures task { self.new.task ≡ self.old.task }
         ensures end { self.new.ended ≡ true → (self.old.ended ≡ true) ⊎ (is_end entry ≡ true) }
     {
@@ -82,6 +86,7 @@ impl Diary {
 
     /// Notes that the task begins this act. `ActsFull` where there is no room for it.
     pub fn note_begun(&mut self, ticket: u64, begun: Begun) -> Result<(), Refusal>
+        ensures noted { IsNoted (ticket, TracedEvent.Begin self.old.task begun) self.old.log self.new.log result }
         ensures task { self.new.task ≡ self.old.task }
         ensures end { self.new.ended ≡ true → (self.old.ended ≡ true) ⊎ (begun ≡ Begun.End) }
     {
@@ -95,6 +100,7 @@ impl Diary {
         tried: Tried,
         refusal: Refusal,
     ) -> Result<(), Refusal>
+        ensures noted { IsNoted (ticket, TracedEvent.Refuse self.old.task tried (number_of refusal)) self.old.log self.new.log result }
         ensures task { self.new.task ≡ self.old.task }
         ensures end { self.new.ended ≡ true → self.old.ended ≡ true }
     {
@@ -106,6 +112,7 @@ impl Diary {
 
     /// Notes that the task gives up what it is about. `ActsFull` where there is no room for it.
     pub fn note_failed(&mut self, ticket: u64, refusal: Refusal) -> Result<(), Refusal>
+        ensures noted { IsNoted (ticket, TracedEvent.Fail self.old.task (number_of refusal)) self.old.log self.new.log result }
         ensures task { self.new.task ≡ self.old.task }
         ensures end { self.new.ended ≡ true → self.old.ended ≡ true }
     {

@@ -1,10 +1,12 @@
 //! A task in flight: its body, what it knows of itself, what it has seen, and what it notes.
-ghost use Rattle.std.specs.Prelude.{◌≡◌, ◌<◌, ℕ, true, false, IfErr, IfSome, OnOk, length, option_map, slice_get};
+ghost use Rattle.std.specs.Prelude.{◌≡◌, ◌==◌, ◌<◌, ◌&&◌, if◌then◌else◌, [], ℕ, not, true, false, filter, find, is_some, None, Some, IfOk, IfErr, IfSome, OnOk, OnErr, length, option_map, slice_get};
 ghost use Rattle.table_receipts.specs.Logs.{GoesOn};
 ghost use Rattle.table_receipts.specs.Seen.{story_at};
 ghost use Rattle.tasks_in_flight.specs.Heard.{nothing, ends, asked_by, IsSpawned, IsOwn};
-ghost use Rattle.task_standing.specs.Standing.{registered_by};
+ghost use Rattle.task_standing.specs.Standing.{fresh, inner_of, registered_by};
 ghost use Rattle.task_standing.specs.StillToMake.{event_of};
+ghost use Rattle.phase_modes.specs.Refusal.{number_of};
+ghost use Rattle.tasks_in_flight.specs.Noted.{IsNoted, joined};
 ghost use Rattle.tasks_in_flight.specs.inner.Due.{still_of};
 ghost use Rattle.tasks_in_flight.specs.inner.Ready.{Says, IsReady, HasSaid, IsTold, is_of_each};
 
@@ -17,6 +19,7 @@ use std::alloc::Global;
 use table_receipts::{Front, Fronts};
 use task_numbers::{FinishNumber, TaskNumber};
 use task_standing::{Due, Standing};
+use trace_model::TracedEvent;
 use world_model::{Begun, Tried};
 
 /// A task in flight.
@@ -75,6 +78,12 @@ impl<B: Body, K: RunNaming> Task<B, K> {
     ) -> Result<Box<Task<B, K>>, Refusal>
         requires all { length fronts ≡ K.Logs.limits.phasers }
         requires says { ∥ (K.Supposing.supposed → Says B.Body.shows body number nothing (λ n. story_at fronts n)) ∥₁ }
+        ensures body { IfOk result (λ t. t.value.body ≡ body) }
+        ensures answer { IfOk result (λ t. t.value.answer ≡ Some Answer.Started) }
+        ensures fronts { IfOk result (λ t. t.value.fronts ≡ fronts) }
+        ensures standing { IfOk result (λ t. t.value.standing ≡ fresh number home) }
+        ensures task { IfOk result (λ t. t.value.log.task ≡ number) }
+        ensures log { IfOk result (λ t. t.value.log.log ≡ record { acts = acts; entries = [] }) }
         ensures memory { IfErr result (λ e. e ≡ Refusal.Memory) }
     {
         let log = Diary::new(alloc, number, acts)?;
@@ -104,6 +113,12 @@ impl<B: Body, K: RunNaming> Task<B, K> {
         ensures task { self.new.log.task ≡ self.old.log.task }
         ensures fronts { self.new.fronts ≡ self.old.fronts }
         ensures standing { self.new.standing ≡ self.old.standing }
+        ensures answer { self.new.answer ≡ self.old.answer }
+        ensures log { self.new.log ≡ self.old.log }
+        ensures child { IfOk result (λ c. (c.value.body ≡ body) × (c.value.answer ≡ Some Answer.Started)
+            × (c.value.standing ≡ fresh number (inner_of self.old.standing))
+            × (c.value.log.log ≡ record { acts = acts; entries = [] })) }
+        ensures seen { IfOk result (λ c. (n : ℕ) → story_at c.value.fronts n ≡ story_at self.old.fronts n) }
         ensures memory { IfErr result (λ e. e ≡ Refusal.Memory) }
     {
         let fronts = self.fronts.again(alloc)?;
@@ -116,6 +131,8 @@ impl<B: Body, K: RunNaming> Task<B, K> {
         requires { phaser < K.Logs.limits.phasers }
         ensures log { result.log ≡ K.Logs.logs phaser }
         ensures story { result.story ≡ story_at self.old.fronts phaser }
+        ensures answer { self.new.answer ≡ self.old.answer }
+        ensures log_kept { self.new.log ≡ self.old.log }
         ensures body { self.new.body ≡ self.old.body }
         ensures task { self.new.log.task ≡ self.old.log.task }
         ensures fronts { self.new.fronts ≡ self.old.fronts }
@@ -142,6 +159,10 @@ impl<B: Body, K: RunNaming> Task<B, K> {
     /// The body's next act, after what came of its last one; none where nothing did yet.
     pub fn next_act(&mut self) -> Option<Result<Act<B>, Refusal>>
         requires goes_on { self.old.log.ended ≡ false }
+        ensures heard { is_some result ≡ is_some self.old.answer }
+        ensures waits { is_some result ≡ false → self.new.body ≡ self.old.body }
+        ensures answer { self.new.answer ≡ None }
+        ensures log { self.new.log ≡ self.old.log }
         ensures fronts { self.new.fronts ≡ self.old.fronts }
         ensures standing { self.new.standing ≡ self.old.standing }
         ensures says { IfSome result (λ act. ∥ (K.Supposing.supposed → B.Body.shows self.new.body self.new.log.task (asked_by act) (λ n. story_at self.new.fronts n)) ∥₁) }
@@ -158,6 +179,9 @@ impl<B: Body, K: RunNaming> Task<B, K> {
     /// Runs the statement that the task has claimed.
     pub fn run_single(&mut self, number: u32)
         ensures ran { B.Body.ran self.old.body number self.new.body }
+        ensures answer { self.new.answer ≡ self.old.answer }
+        ensures fronts { self.new.fronts ≡ self.old.fronts }
+        ensures log { self.new.log ≡ self.old.log }
         ensures standing { self.new.standing ≡ self.old.standing }
     {
         self.body.single(number);
@@ -177,6 +201,10 @@ impl<B: Body, K: RunNaming> Task<B, K> {
         requires log { seen.log ≡ K.Logs.logs phaser }
         requires more { GoesOn (story_at self.old.fronts phaser) seen.story }
         requires own { IsOwn self.old.log.task seen.story.past }
+        ensures here { story_at self.new.fronts phaser ≡ if is_of_each self.old.answer then seen.story else story_at self.old.fronts phaser }
+        ensures others { (n : ℕ) → (n == phaser) ≡ false → story_at self.new.fronts n ≡ story_at self.old.fronts n }
+        ensures answer { self.new.answer ≡ self.old.answer }
+        ensures log { self.new.log ≡ self.old.log }
         ensures body { self.new.body ≡ self.old.body }
         ensures standing { self.new.standing ≡ self.old.standing }
     {
@@ -188,6 +216,8 @@ impl<B: Body, K: RunNaming> Task<B, K> {
     /// Logs that it begins this act. `ActsFull` where the log has no room for it.
     pub fn log_begun(&mut self, ticket: u64, begun: Begun) -> Result<(), Refusal>
         requires end { begun ≡ Begun.End → ∥ (K.Supposing.supposed → Says B.Body.shows self.old.body self.old.log.task ends (λ n. story_at self.old.fronts n)) ∥₁ }
+        ensures noted { IsNoted (ticket, TracedEvent.Begin self.old.log.task begun) self.old.log.log self.new.log.log result }
+        ensures answer { self.new.answer ≡ self.old.answer }
         ensures body { self.new.body ≡ self.old.body }
         ensures task { self.new.log.task ≡ self.old.log.task }
         ensures fronts { self.new.fronts ≡ self.old.fronts }
@@ -203,6 +233,8 @@ impl<B: Body, K: RunNaming> Task<B, K> {
         tried: Tried,
         refusal: Refusal,
     ) -> Result<(), Refusal>
+        ensures noted { IsNoted (ticket, TracedEvent.Refuse self.old.log.task tried (number_of refusal)) self.old.log.log self.new.log.log result }
+        ensures answer { self.new.answer ≡ self.old.answer }
         ensures body { self.new.body ≡ self.old.body }
         ensures task { self.new.log.task ≡ self.old.log.task }
         ensures fronts { self.new.fronts ≡ self.old.fronts }
@@ -213,6 +245,8 @@ impl<B: Body, K: RunNaming> Task<B, K> {
 
     /// Logs that it gives up what it is about. `ActsFull` where the log has no room for it.
     pub fn log_failed(&mut self, ticket: u64, refusal: Refusal) -> Result<(), Refusal>
+        ensures noted { IsNoted (ticket, TracedEvent.Fail self.old.log.task (number_of refusal)) self.old.log.log self.new.log.log result }
+        ensures answer { self.new.answer ≡ self.old.answer }
         ensures body { self.new.body ≡ self.old.body }
         ensures task { self.new.log.task ≡ self.old.log.task }
         ensures fronts { self.new.fronts ≡ self.old.fronts }
@@ -225,7 +259,8 @@ impl<B: Body, K: RunNaming> Task<B, K> {
 impl<B: Body, K: RunNaming> Item<B, K> {
     /// A task that is spawning nobody.
     pub fn of(task: Box<Task<B, K>>) -> Item<B, K>
-        ensures { result.task ≡ task }
+        ensures task { result.task ≡ task }
+        ensures unborn { result.unborn ≡ None }
     {
         Item { task, unborn: None }
     }
@@ -242,10 +277,21 @@ impl<B: Body, K: RunNaming> Item<B, K> {
     }
 
     /// Notes that the unborn child is registered on the phaser of this pair. `NotNow` where there is
-    /// none, or the pair isn't the task's to hand on.
+    /// none, or the task doesn't hold that phaser; `PhasersFull` where the child holds 16 already.
     pub fn note_registration(&mut self, pair: Pair) -> Result<(), Refusal>
-        ensures { OnOk result (self.new.task.value.standing
+        ensures task { OnOk result (self.new.task.value.standing
             ≡ record self.old.task.value.standing { plan = registered_by self.old.task.value.standing.plan }) }
+        ensures there { OnOk result ((is_some self.old.unborn ≡ true)
+            × (is_some (find (λ h. h.phaser == pair.phaser) self.old.task.value.standing.holding) ≡ true)) }
+        ensures child { OnOk result (option_map (λ c. c.value.standing) self.new.unborn
+            ≡ option_map (λ c. joined pair self.old.task.value.standing c.value.standing) self.old.unborn) }
+        ensures why { IfErr result (λ e. e
+            ≡ (if is_some (find (λ h. h.phaser == pair.phaser) self.old.task.value.standing.holding) && is_some self.old.unborn
+            then Refusal.PhasersFull else Refusal.NotNow)) }
+        ensures full { IfErr result (λ e. e ≡ Refusal.PhasersFull
+            → option_map (λ c. length c.value.standing.holding) self.old.unborn ≡ Some 16) }
+        ensures refused { OnErr result ((self.new.task ≡ self.old.task)
+            × (option_map (λ c. c.value.standing) self.new.unborn ≡ option_map (λ c. c.value.standing) self.old.unborn)) }
     {
         let Some(held) = self.task.standing.held(pair.phaser) else {
             return Err(Refusal::NotNow);
@@ -260,7 +306,11 @@ impl<B: Body, K: RunNaming> Item<B, K> {
 
     /// Notes that the unborn child has left this phaser.
     pub fn note_child_gone(&mut self, phaser: u32)
-        ensures { self.new.task ≡ self.old.task }
+        ensures task { self.new.task ≡ self.old.task }
+        ensures child { option_map (λ c. c.value.standing) self.new.unborn
+            ≡ option_map (λ c. record c.value.standing {
+              holding = filter (λ h. not (h.phaser == phaser)) c.value.standing.holding;
+            }) self.old.unborn }
     {
         if let Some(child) = &mut self.unborn {
             child.standing.leave(phaser);

@@ -13,7 +13,7 @@ returns-in_ok-note_registration-in-Ok-clause-made g c =
     let first = c.deref_mut.ensures.value in
     inl (
       subst (λ (t : _). IsReplied (story_at t.fronts p.phaser) (steps.Reg t.standing.number c.args.child p.mode)) first c.in-Ok.ensures.told,
-      c.in_ok-note_registration-in-Ok.ensures
+      c.in_ok-note_registration-in-Ok.ensures.task
           ∙ ap (λ (k : Known). noted (Phaser p.phaser (steps.Reg k.number c.args.child p.mode)) k)
           (c.in-Ok.ensures.standing ∙ ap (λ t. t.standing) first),
     )
