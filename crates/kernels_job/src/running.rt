@@ -94,20 +94,19 @@ fn kernel_on<B: Body + Goes + Copy + Send + Sync, R: Threads + Wait + Sync, W: W
     ending_on(alloc, kernel, ran, out, faults).status
 }
 
-/// Runs the stencil over these first values for so many steps, by as many workers, each in a thread
-/// of its own, and prints its cells. The line of a failure goes to `faults`; where it can't be
-/// written, the status stays what it is.
+/// Runs the stencil over these first values for so many steps, by these workers, and prints its
+/// cells. The line of a failure goes to `faults`; where it can't be written, the status stays what it
+/// is.
 pub fn stencil_on<R: Threads + Wait + Sync, W: Write, F: Write>(
-    rt: &R,
+    workers: Workers<'_, R>,
     alloc: Global,
     first: &[u32],
     steps: u32,
-    workers: u32,
     out: &mut W,
     faults: &mut F,
 ) -> Status
     requires few { length first.now ≤ 16 }
-    requires workers { (0 < workers) × (workers ≤ 16) }
+    requires workers { (0 < workers.number) × (workers.number ≤ 16) }
     // Exactly the cells and the totals of one run, in which no task was refused.
     ensures done { result ≡ Status.Done → (r : Report) × IsKernelRun cells.stencil_next (cells.root_task first.now steps) (Ok r) × (refusal_of r ≡ None)
         × Appends (W.contents out.old) (W.contents out.new) (kernel_text (Kernel.Stencil steps) r) }
@@ -122,46 +121,42 @@ pub fn stencil_on<R: Threads + Wait + Sync, W: Write, F: Write>(
     ensures usage { result ≢ Status.Usage }
 {
     let root = StencilBody::root(first, steps);
-    let workers = Workers {
-        rt,
-        number: workers,
-    };
     kernel_on(workers, alloc, Kernel::Stencil(steps), root, out, faults)
 }
 
-/// Runs the pipeline of so many stages over so many items, by as many workers, each in a thread of
-/// its own, and prints its items. The line of a failure goes to `faults`; where it can't be written,
-/// the status stays what it is.
+/// Runs the pipeline of so many stages over so many items, by these workers, and prints its items.
+/// The line of a failure goes to `faults`; where it can't be written, the status stays what it is.
 pub fn pipeline_on<R: Threads + Wait + Sync, W: Write, F: Write>(
-    rt: &R,
+    workers: Workers<'_, R>,
     alloc: Global,
-    stages: u32,
-    items: u32,
-    workers: u32,
+    size: PipelineSize,
     out: &mut W,
     faults: &mut F,
 ) -> Status
-    requires stages { stages ≤ 15 }
-    requires items { items ≤ 100 }
-    requires workers { (0 < workers) × (workers ≤ 16) }
+    requires stages { size.stages ≤ 15 }
+    requires items { size.items ≤ 100 }
+    requires workers { (0 < workers.number) × (workers.number ≤ 16) }
     // Exactly the items and the totals of one run, in which no task was refused.
-    ensures done { result ≡ Status.Done → (r : Report) × IsKernelRun piping.pipeline_next (piping.root_task stages items) (Ok r) × (refusal_of r ≡ None)
-        × Appends (W.contents out.old) (W.contents out.new) (kernel_text (Kernel.Pipeline stages) r) }
+    ensures done { result ≡ Status.Done → (r : Report) × IsKernelRun piping.pipeline_next (piping.root_task size.stages size.items) (Ok r) × (refusal_of r ≡ None)
+        × Appends (W.contents out.old) (W.contents out.new) (kernel_text (Kernel.Pipeline size.stages) r) }
     // They are the items of the pipeline, in order, and its totals: so the arguments alone say what is
     // written.
     ensures items { result ≡ Status.Done
-        → Appends (W.contents out.old) (W.contents out.new) (pipeline_text stages items) }
+        → Appends (W.contents out.old) (W.contents out.new) (pipeline_text size.stages size.items) }
     ensures quiet { result ≡ Status.Done → Keeps (F.contents faults.old) (F.contents faults.new) }
     ensures refused { result ≡ Status.Refused → Keeps (W.contents out.old) (W.contents out.new) }
     // What is reported is the line of a failure of one run with this status.
-    ensures reported { result ≢ Status.Done → (ran : Result Report Refusals) × IsKernelRun piping.pipeline_next (piping.root_task stages items) ran
+    ensures reported { result ≢ Status.Done → (ran : Result Report Refusals) × IsKernelRun piping.pipeline_next (piping.root_task size.stages size.items) ran
         × ReportsStatus (IsOfEnd ran) result (F.contents faults.old) (F.contents faults.new) }
     ensures usage { result ≢ Status.Usage }
 {
-    let root = PipelineBody::root(PipelineSize { stages, items });
-    let workers = Workers {
-        rt,
-        number: workers,
-    };
-    kernel_on(workers, alloc, Kernel::Pipeline(stages), root, out, faults)
+    let root = PipelineBody::root(size);
+    kernel_on(
+        workers,
+        alloc,
+        Kernel::Pipeline(size.stages),
+        root,
+        out,
+        faults,
+    )
 }

@@ -309,15 +309,7 @@ fn run_bytes<H: Threads + Wait + Sync>(
     if certain {
         certain_on(workers, alloc, bytes, &mut out, &mut faults, trace_out)
     } else {
-        run_on(
-            workers.rt,
-            alloc,
-            bytes,
-            workers.number,
-            &mut out,
-            &mut faults,
-            trace_out,
-        )
+        run_on(workers, alloc, bytes, &mut out, &mut faults, trace_out)
     }
 }
 
@@ -349,16 +341,8 @@ fn stencil<H: Threads + Wait + Sync>(
     requires workers { (0 < workers.number) × (workers.number ≤ 16) }
     ensures usage { result ≢ Status.Usage }
 {
-    let (mut out, mut faults) = (rt.stdout(), rt.stderr());
-    stencil_on(
-        workers.rt,
-        rt.alloc(),
-        first,
-        steps,
-        workers.number,
-        &mut out,
-        &mut faults,
-    )
+    let (alloc, mut out, mut faults) = (rt.alloc(), rt.stdout(), rt.stderr());
+    stencil_on(workers, alloc, first, steps, &mut out, &mut faults)
 }
 
 /// Runs the pipeline, and prints its items on standard output.
@@ -372,16 +356,8 @@ fn pipeline<H: Threads + Wait + Sync>(
     requires workers { (0 < workers.number) × (workers.number ≤ 16) }
     ensures usage { result ≢ Status.Usage }
 {
-    let (mut out, mut faults) = (rt.stdout(), rt.stderr());
-    pipeline_on(
-        workers.rt,
-        rt.alloc(),
-        size.stages,
-        size.items,
-        workers.number,
-        &mut out,
-        &mut faults,
-    )
+    let (alloc, mut out, mut faults) = (rt.alloc(), rt.stdout(), rt.stderr());
+    pipeline_on(workers, alloc, size, &mut out, &mut faults)
 }
 
 /// Replays the trace that the reader gives, and writes it to OUT, where that is named.

@@ -78,17 +78,16 @@ pub fn ending_on<R: Threads + Wait + Sync, W: Write, F: Write, T: Write>(
     }
 }
 
-/// The status of `ending_on` by as many workers, each in a thread of its own.
+/// The status of `ending_on`.
 pub fn run_on<R: Threads + Wait + Sync, W: Write, F: Write, T: Write>(
-    rt: &R,
+    workers: Workers<'_, R>,
     alloc: Global,
     input: &[u8],
-    workers: u32,
     out: &mut W,
     faults: &mut F,
     trace_out: &mut Option<T>,
 ) -> Status
-    requires { (0 < workers) × (workers ≤ 16) }
+    requires { (0 < workers.number) × (workers.number ≤ 16) }
     ensures done { result ≡ Status.Done → Runs input.now (λ p t.
         Appends (W.contents out.old) (W.contents out.new) (report_for p t)
         × AppendsOut T.contents trace_out.old trace_out.new (trace_line t)) }
@@ -100,9 +99,5 @@ pub fn run_on<R: Threads + Wait + Sync, W: Write, F: Write, T: Write>(
         (F.contents faults.old) (F.contents faults.new) }
     ensures usage { result ≢ Status.Usage }
 {
-    let workers = Workers {
-        rt,
-        number: workers,
-    };
     ending_on(workers, alloc, input, out, faults, trace_out).status
 }

@@ -36,11 +36,14 @@ fn check_by<R: Abort + Threads + Wait + Sync>(
     let mut out = Vec::new(alloc);
     let mut reported = Vec::new(alloc);
     let mut nowhere: Option<Vec<u8>> = None;
-    let ended = run_on(
+    let workers = Workers {
         rt,
+        number: workers,
+    };
+    let ended = run_on(
+        workers,
         alloc,
         text.as_bytes(),
-        workers,
         &mut out,
         &mut reported,
         &mut nowhere,

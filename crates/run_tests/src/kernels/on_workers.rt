@@ -10,7 +10,7 @@ use job_kernels::{
 };
 use kernels_job::{Kernel, pipeline_on, stencil_on};
 use phase_modes::{Limits, Refusal};
-use phased_rt::{Body, OpenGate, run};
+use phased_rt::{Body, OpenGate, Workers, run};
 use std::alloc::Global;
 use std::process::Abort;
 use std::sync::Wait;
@@ -61,7 +61,11 @@ fn stencil_prints<R: Threads + Wait + Sync + Abort>(
         );
         let mut out = Vec::new(alloc);
         let mut faults = Vec::new(alloc);
-        let status = stencil_on(rt, alloc, first, steps, workers, &mut out, &mut faults);
+        let by = Workers {
+            rt,
+            number: workers,
+        };
+        let status = stencil_on(by, alloc, first, steps, &mut out, &mut faults);
         holds_at(rt, ("workers", workers), status == Status::Done);
         holds_at(rt, ("workers", workers), out.as_slice() == lines.as_bytes());
     }
@@ -93,15 +97,11 @@ fn pipeline_prints<R: Threads + Wait + Sync + Abort>(
         );
         let mut out = Vec::new(alloc);
         let mut faults = Vec::new(alloc);
-        let status = pipeline_on(
+        let by = Workers {
             rt,
-            alloc,
-            size.stages,
-            size.items,
-            workers,
-            &mut out,
-            &mut faults,
-        );
+            number: workers,
+        };
+        let status = pipeline_on(by, alloc, size, &mut out, &mut faults);
         holds_at(rt, ("workers", workers), status == Status::Done);
         holds_at(rt, ("workers", workers), out.as_slice() == lines.as_bytes());
     }

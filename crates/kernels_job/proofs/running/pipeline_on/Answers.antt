@@ -9,7 +9,7 @@ pub returns-clause-items : goal.returns-clause-items
 returns-clause-items g c = λ done.
     let (r, run, none, printed) = c.kernel_on.ensures.done done in
     subst (λ (text : List ℕ). Appends (g.W.Write.contents c.args.out.now) (g.W.Write.contents c.kernel_on.new.out) text)
-    (pipeline_printed c.args.stages c.args.items r c.requires.stages c.requires.items
+    (pipeline_printed c.args.size.stages c.args.size.items r c.requires.stages c.requires.items
     (subst (λ b. IsKernelRun pipeline_next b (Ok r)) c.root-root.ensures run) none) printed
 
 pub returns-clause-done : goal.returns-clause-done
