@@ -1,5 +1,5 @@
 -- A child that was never born leaves a phaser, before its parent goes on to its end.
-use Rattle.std.proofs.Common.{◌≡◌, ℕ, ◌≤◌, ◌==◌, Bool, true, false, not, cond, List, [], ◌∷◌, ◌++◌, map, refl, sym, ap, subst, ◌∙◌, arith}
+use Rattle.std.proofs.Common.{◌≡◌, ℕ, ◌≤◌, ◌==◌, Bool, true, false, not, List, [], ◌∷◌, ◌++◌, map, refl, sym, ap, subst, ◌∙◌}
 use Rattle.std.specs.Prelude.{filter}
 use Rattle.std.proofs.lemmas.Bool.{eqb-true, eq-eqb, true≢false, false_from_ne_true}
 use Rattle.phase_model.specs.Tasks.{is_live}
@@ -21,6 +21,7 @@ use Rattle.task_standing.specs.Known.{Known}
 use Rattle.task_standing.specs.StillToMake.{planned, planned_with, drops_of}
 use Rattle.task_standing.specs.Histories.{held_in}
 use Rattle.standing_laws.specs.Children.{ChildrenLeave}
+use Rattle.standing_laws.proofs.Plain.{one_at_most, swapped}
 use Rattle.standing_laws.proofs.Kept.{holding_kept}
 use Rattle.standing_laws.proofs.Marks.{numbers, numbers_held, none_more}
 use Rattle.standing_laws.proofs.Starts.{starts, never_starts, signalling_not, turning_not, spawning_not, shutting_not, ending_not, Continues, continuing}
@@ -79,7 +80,7 @@ children_leave l w child k n legal mine un st =
     let d : Continues t e w = continuing l e w t by next refl refl in
     let once : times n (numbers child.holding) ≤ 1 =
     subst (λ ns. times n ns ≤ 1) (sym (ap numbers un.holding ∙ numbers_held w c (phasers_of c w)))
-    (subst (λ x. x ≤ 1) (sym (phasers_once l w a.1 c n)) (one (is_live c (phaser_past n w)))) in (
+    (subst (λ x. x ≤ 1) (sym (phasers_once l w a.1 c n)) (one_at_most (is_live c (phaser_past n w)))) in (
       record {
         unborn = un.unborn;
         holding =
@@ -100,10 +101,3 @@ children_leave l w child k n legal mine un st =
         due_is = d.after ∙ left_plan child k n d.rest once turned k.plan (sym st.due_is ∙ d.before);
       },
     )
-  where
-    swapped : (x y : ℕ) → (x == y) ≡ false → (y == x) ≡ false
-    swapped x y h = grind arith
-
-    one : (b : Bool) → cond b 1 0 ≤ 1
-    one true = omega arith
-    one false = omega arith

@@ -23,6 +23,7 @@ use Rattle.task_standing.specs.Standing.{inner_of}
 use Rattle.task_standing.specs.StillToMake.{planned, drops_of, shuts_of, end_of}
 use Rattle.task_standing.specs.Histories.{held_in}
 use Rattle.standing_laws.specs.Laws.{LeavesLeave}
+use Rattle.standing_laws.proofs.Plain.{next_not_zero}
 use Rattle.standing_laws.proofs.Kept.{held_by}
 use Rattle.standing_laws.proofs.Marks.{numbers, none_more, fewer}
 use Rattle.standing_laws.proofs.Starts.{starts, never_starts, signalling_not, turning_not, spawning_not, closing_not, Continues, continuing}
@@ -92,14 +93,11 @@ pub keep_all : (n : ℕ) (hs : List Held) → times n (numbers hs) ≡ 0 → fil
 keep_all n [] e = refl
 keep_all n (h ∷ hs) e =
     elim (cases_Bool (h.phaser == n)) [
-      | inl s ↦ absurd (more (times n (numbers hs)) (ap (λ c. cond c (times n (numbers hs) + 1) (times n (numbers hs))) (sym s) ∙ e))
+      | inl s ↦ absurd (next_not_zero (times n (numbers hs)) (ap (λ c. cond c (times n (numbers hs) + 1) (times n (numbers hs))) (sym s) ∙ e))
       | inr s ↦
           let rest : times n (numbers hs) ≡ 0 = ap (λ c. cond c (times n (numbers hs) + 1) (times n (numbers hs))) (sym s) ∙ e in
           rw s (ap (λ gs. h ∷ gs) (keep_all n hs rest))
     ]
-  where
-    more : (i : ℕ) → i + 1 ≡ 0 → ⊥
-    more i h = absurd (omega (arith, h))
 
 pub drop_place : (m n t u : ℕ) → Phaser m (Drop t) ≡ Phaser n (Drop u) → m ≡ n
 drop_place m n t u e = cc

@@ -1,7 +1,7 @@
 -- A task makes a phaser: it holds that last.
-use Rattle.std.proofs.Common.{◌≡◌, ℕ, ◌==◌, Bool, true, false, ◌&&◌, cond, List, [], ◌∷◌, ◌++◌, map, refl, sym, ap, subst, ◌∙◌}
+use Rattle.std.proofs.Common.{◌≡◌, ℕ, ◌==◌, true, false, cond, List, [], ◌∷◌, ◌++◌, map, refl, sym, ap, subst, ◌∙◌}
 use Rattle.std.specs.Prelude.{slice_index_or}
-use Rattle.std.proofs.lemmas.Bool.{eqb-true, true≢false, false_from_ne_true}
+use Rattle.std.proofs.lemmas.Bool.{eqb-true, true≢false, false_from_ne_true, and_right}
 use Rattle.phase_modes.specs.Mode.{can_signal}
 use Rattle.phase_model.specs.Tasks.{is_live, is_registered}
 use Rattle.phase_model.proofs.LiveTasks.{has}
@@ -36,10 +36,6 @@ inner_is w k st =
     ap (λ fs. slice_index_or fs 0 (home k.number w)) (sym st.finishes)
     ∙ ap (λ h. slice_index_or k.finishes 0 h) (sym st.home)
 
-never : (b : Bool) → (b && false) ≡ false
-never true = refl
-never false = refl
-
 pub makings_hold : MakingsHold
 makings_hold l w k n m terms fit legal st =
     let t = k.number in
@@ -57,7 +53,7 @@ makings_hold l w k n m terms fit legal st =
     let kept : (i : ℕ) → has i (phasers_of t w) ≡ true → held_in w t i ≡ held_in (e ∷ w) t i =
     λ i h. rw (elsewhere i h) refl in
     let here : held_in (e ∷ w) t n ≡ record { phaser = n; finish = inner t w; mode = m; ahead = false } =
-    rw (eq_self n, eq_self t, never (can_signal m)) refl in
+    rw (eq_self n, eq_self t, and_right (can_signal m) false refl) refl in
     let before : map (held_in w t) (phasers_of t w) ≡ map (held_in (e ∷ w) t) (phasers_of t w) =
     map_same (held_in w t) (held_in (e ∷ w) t) (phasers_of t w) kept in
     record {

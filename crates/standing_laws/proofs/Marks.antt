@@ -1,6 +1,6 @@
 -- The phasers that a task holds, one of which is marked.
-use Rattle.std.proofs.Common.{◌≡◌, ℕ, zero, suc, ◌+◌, ◌≤◌, ◌==◌, Bool, true, false, ◌&&◌, cond, List, [], ◌∷◌, ◌++◌, map, drop, filter, Option, refl, sym, ap, subst, ◌∙◌, inl, inr, arith}
-use Rattle.std.proofs.lemmas.Bool.{cases_Bool, eq-eqb}
+use Rattle.std.proofs.Common.{◌≡◌, ℕ, zero, suc, ◌+◌, ◌≤◌, ◌==◌, Bool, true, false, cond, List, [], ◌∷◌, ◌++◌, map, drop, filter, Option, refl, sym, ap, subst, ◌∙◌, inl, inr, arith}
+use Rattle.std.proofs.lemmas.Bool.{cases_Bool, eq-eqb, and_right}
 use Rattle.phase_modes.specs.Mode.{can_signal}
 use Rattle.world_model.specs.declared.event.WorldEvent.{WorldEvent}
 use Rattle.world_model.specs.declared.event.WorldEvent.TheVariants.{Phaser}
@@ -11,6 +11,7 @@ use Rattle.task_standing.specs.declared.held.Held.{Held}
 use Rattle.task_standing.specs.Standing.{owes, marked}
 use Rattle.task_standing.specs.StillToMake.{signals_of, passes_of}
 use Rattle.task_standing.specs.Histories.{held_in}
+use Rattle.standing_laws.proofs.Plain.{next_not_zero}
 
 -- the phasers of what is held
 abbrev pub numbers : List Held → List ℕ
@@ -42,14 +43,11 @@ pub unmarked : (n : ℕ) (b : Bool) (hs : List Held) → times n (numbers hs) �
 unmarked n b [] e = refl
 unmarked n b (h ∷ hs) e =
     elim (cases_Bool (h.phaser == n)) [
-      | inl s ↦ absurd (more (times n (numbers hs)) (ap (λ c. cond c (times n (numbers hs) + 1) (times n (numbers hs))) (sym s) ∙ e))
+      | inl s ↦ absurd (next_not_zero (times n (numbers hs)) (ap (λ c. cond c (times n (numbers hs) + 1) (times n (numbers hs))) (sym s) ∙ e))
       | inr s ↦
           let rest : times n (numbers hs) ≡ 0 = ap (λ c. cond c (times n (numbers hs) + 1) (times n (numbers hs))) (sym s) ∙ e in
           rw s (ap (λ gs. h ∷ gs) (unmarked n b hs rest))
     ]
-  where
-    more : (i : ℕ) → i + 1 ≡ 0 → ⊥
-    more i h = absurd (omega (arith, h))
 
 mark_keeps : (n : ℕ) (b : Bool) (h : Held) → (marked n b h).phaser ≡ h.phaser
 mark_keeps n b h = elim (h.phaser == n) as (λ c. (cond c (record h { ahead = b }) h).phaser ≡ h.phaser) [ true ↦ refl | false ↦ refl ]
@@ -70,20 +68,12 @@ drop_map f (suc n) (x ∷ xs) = drop_map f n xs
 ahead_free : (n : ℕ) (h : Held) → owes h ≡ false → owes (marked n true h) ≡ false
 ahead_free n h o =
     elim (h.phaser == n) as (λ c. owes (cond c (record h { ahead = true }) h) ≡ false) [
-      | true ↦ never (can_signal h.mode)
+      | true ↦ and_right (can_signal h.mode) false refl
       | false ↦ o
     ]
-  where
-    never : (b : Bool) → (b && false) ≡ false
-    never true = refl
-    never false = refl
 
 here_free : (n : ℕ) (h : Held) → (h.phaser == n) ≡ true → owes (marked n true h) ≡ false
-here_free n h e = rw e (never (can_signal h.mode))
-  where
-    never : (b : Bool) → (b && false) ≡ false
-    never true = refl
-    never false = refl
+here_free n h e = rw e (and_right (can_signal h.mode) false refl)
 
 sig_place : (m n t u : ℕ) (x y : Option ℕ) → Phaser m (Sig t x) ≡ Phaser n (Sig u y) → m ≡ n
 sig_place m n t u x y e = cc

@@ -26,10 +26,10 @@ use Rattle.task_standing.specs.Standing.{marked, owes, passed_by}
 use Rattle.task_standing.specs.StillToMake.{planned, signals_of, passes_of}
 use Rattle.task_standing.specs.Histories.{held_in, IsOf}
 use Rattle.standing_laws.specs.Laws.{PassUnmarks}
+use Rattle.standing_laws.proofs.Plain.{swapped, next_fits}
 use Rattle.standing_laws.proofs.Kept.{map_same, phasers_like, live_by}
 use Rattle.standing_laws.proofs.Marks.{map_after, passes_kept, drop_map}
 use Rattle.standing_laws.proofs.Starts.{starts, never_starts, spawning_not, shutting_not, ending_not, Continues, continuing}
-use Rattle.standing_laws.proofs.Signals.{swapped}
 
 module _ (l : Limits) (w : List WorldEvent) (n t : ℕ) (a : is_accepted l w (Phaser n (Pass t)) ≡ true) where
   follows : PassFollows (phaser_past n w) t
@@ -118,11 +118,8 @@ module _ (k : Known) (n : ℕ) (rest : List WorldEvent) (few : length k.holding 
       starts_none (f ∷ fs) = refl
   passed_plan (plan.Turning next) e =
       let within : next < length k.holding = is_within k.number next k.holding rest (Phaser n (Pass k.number)) e in
-      let small : min (next + 1) 4294967295 ≡ next + 1 = least next (length k.holding) within few in
+      let small : min (next + 1) 4294967295 ≡ next + 1 = next_fits next (length k.holding) within few in
       from_next next e ∙ ap (λ i. passes_of k.number (drop i (map (marked n false) k.holding))) (sym small)
-    where
-      least : (i j : ℕ) → i < j → j ≤ 16 → min (i + 1) 4294967295 ≡ i + 1
-      least i j h g = omega (arith, h, g)
   passed_plan (plan.Spawning c pairs made) e =
       other (plan.Spawning c pairs made) e (spawning_not is_passing k c pairs made (λ q. refl) (λ f. refl))
   passed_plan plan.Shutting e = other plan.Shutting e (shutting_not is_passing k (λ m. refl) (λ f. refl))

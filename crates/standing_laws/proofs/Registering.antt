@@ -1,5 +1,5 @@
 -- A task registers its child on the phaser of the next pair.
-use Rattle.std.proofs.Common.{◌≡◌, ℕ, zero, suc, ◌+◌, ◌<◌, ◌≤◌, ◌==◌, Bool, true, false, min, List, [], ◌∷◌, ◌++◌, map, drop, length, refl, sym, ap, subst, ◌∙◌, arith}
+use Rattle.std.proofs.Common.{◌≡◌, ℕ, zero, suc, ◌+◌, ◌<◌, ◌==◌, Bool, true, false, min, List, [], ◌∷◌, ◌++◌, map, drop, length, refl, sym, ap, subst, ◌∙◌, arith}
 use Rattle.std.proofs.lemmas.Bool.{eqb-true, true≢false, false_from_ne_true}
 use Rattle.phase_modes.specs.declared.phased.Pair.{Pair}
 use Rattle.phase_modes.specs.declared.reg.Mode.{Mode}
@@ -18,6 +18,7 @@ use Rattle.task_standing.specs.Known.{Known}
 use Rattle.task_standing.specs.Standing.{inner_of, registered_by}
 use Rattle.task_standing.specs.StillToMake.{planned}
 use Rattle.standing_laws.specs.Laws.{NamesFew, RegistrationsRegister}
+use Rattle.standing_laws.proofs.Plain.{next_fits}
 use Rattle.standing_laws.proofs.Kept.{holding_kept}
 use Rattle.standing_laws.proofs.Starts.{starts, never_starts, signalling_not, turning_not, shutting_not, ending_not, Continues, continuing}
 
@@ -67,13 +68,10 @@ module _ (k : Known) (n c : ℕ) (m : Mode) (rest : List WorldEvent) where
       let t = k.number in
       let f = inner_of k in
       let within : made < length pairs = is_within t d f n t c m made pairs rest e in
-      let small : min (made + 1) 4294967295 ≡ made + 1 = least made (length pairs) within few in
+      let small : min (made + 1) 4294967295 ≡ made + 1 = next_fits made (length pairs) within few in
       next_pairs t d f n t c m (drop made pairs) rest e
       ∙ (ap (λ qs. spawn_of t d f qs) (drop_one made pairs)
       ∙ ap (λ i. spawn_of t d f (drop i pairs)) (sym small))
-    where
-      least : (i j : ℕ) → i < j → j ≤ 16 → min (i + 1) 4294967295 ≡ i + 1
-      least i j h g = omega (arith, h, g)
   registered_plan plan.Shutting few e = other plan.Shutting e (shutting_not is_registering k (λ i. refl) (λ f. refl))
   registered_plan plan.Ending few e =
       other plan.Ending e (ending_not is_registering k (λ i. refl) (λ f. refl) (λ f u. refl))

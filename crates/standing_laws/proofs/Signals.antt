@@ -1,5 +1,5 @@
 -- A task's own signal marks that it is ahead.
-use Rattle.std.proofs.Common.{◌≡◌, ℕ, ◌+◌, ◌≤◌, ◌==◌, Bool, true, false, ◌&&◌, not, cond, List, [], ◌∷◌, ◌++◌, map, filter, Option, refl, sym, ap, subst, ◌∙◌, inl, inr, arith}
+use Rattle.std.proofs.Common.{◌≡◌, ℕ, ◌+◌, ◌≤◌, ◌==◌, Bool, true, false, ◌&&◌, not, List, [], ◌∷◌, ◌++◌, map, filter, Option, refl, sym, ap, subst, ◌∙◌, inl, inr, arith}
 use Rattle.std.proofs.lemmas.Bool.{cases_Bool, eqb-true, and_parts, false_from_ne_true}
 use Rattle.phase_modes.specs.declared.limits.Limits.{Limits}
 use Rattle.phase_modes.specs.Mode.{can_signal}
@@ -26,6 +26,7 @@ use Rattle.task_standing.specs.Standing.{marked, owes}
 use Rattle.task_standing.specs.StillToMake.{planned, signals_of, passes_of}
 use Rattle.task_standing.specs.Histories.{held_in, IsOf}
 use Rattle.standing_laws.specs.Laws.{SignalMarks}
+use Rattle.standing_laws.proofs.Plain.{one_at_most, swapped}
 use Rattle.standing_laws.proofs.Kept.{map_same, phasers_like, live_by}
 use Rattle.standing_laws.proofs.Marks.{numbers, numbers_held, map_after, owed_less, passes_kept}
 use Rattle.standing_laws.proofs.Starts.{starts, never_starts, turning_not, spawning_not, shutting_not, ending_not, Continues, continuing}
@@ -35,20 +36,13 @@ pub held_once : (l : Limits) (w : List WorldEvent) (k : Known) → is_legal_worl
     → times n (numbers k.holding) ≤ 1
 held_once l w k legal st n =
     subst (λ ns. times n ns ≤ 1) (sym (ap numbers st.holding ∙ numbers_held w k.number (phasers_of k.number w)))
-    (subst (λ x. x ≤ 1) (sym (phasers_once l w legal k.number n)) (one (is_live k.number (phaser_past n w))))
-  where
-    one : (b : Bool) → cond b 1 0 ≤ 1
-    one true = omega arith
-    one false = omega arith
+    (subst (λ x. x ≤ 1) (sym (phasers_once l w legal k.number n)) (one_at_most (is_live k.number (phaser_past n w))))
 
 more_than : (n : ℕ) → (n + 1 == n) ≡ false
 more_than n = false_from_ne_true (n + 1 == n) (λ e. more n (eqb-true (n + 1) n e))
   where
     more : (n : ℕ) → n + 1 ≡ n → ⊥
     more n h = omega (arith, h)
-
-pub swapped : (m n : ℕ) → (m == n) ≡ false → (n == m) ≡ false
-swapped m n h = grind arith
 
 module _ (l : Limits) (w : List WorldEvent) (n t : ℕ) (x : Option ℕ) (a : is_accepted l w (Phaser n (Sig t x)) ≡ true) where
   follows : SigFollows (phaser_past n w) t x

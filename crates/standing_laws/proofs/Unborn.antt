@@ -2,7 +2,7 @@
 use Rattle.std.proofs.Common.{◌≡◌, ℕ, ◌+◌, ◌==◌, Bool, true, false, ◌&&◌, ◌||◌, not, cond, List, [], ◌∷◌, ◌++◌, map, reverse, Some, None, refl, sym, ap, subst, ◌∙◌, inl, inr}
 use Rattle.std.specs.Prelude.{filter, filter_map, find, drop}
 use Rattle.std.specs.List.{list_any, cons_option}
-use Rattle.std.proofs.lemmas.Bool.{cases_Bool, eqb-true, eq-eqb, true≢false, false_from_ne_true}
+use Rattle.std.proofs.lemmas.Bool.{cases_Bool, eqb-true, eq-eqb, true≢false, false_from_ne_true, and_right}
 use Rattle.std.proofs.lemmas.List.Sums.{sum_by-cons}
 use Rattle.phase_modes.specs.declared.limits.Limits.{Limits}
 use Rattle.phase_modes.specs.Mode.{can_signal}
@@ -93,11 +93,7 @@ handed_ahead true b d k = rw (k refl) (alone d)
     alone : (d : Bool) → (d && true) ≡ d
     alone true = refl
     alone false = refl
-handed_ahead false b d k = never (b && d)
-  where
-    never : (x : Bool) → (x && false) ≡ false
-    never true = refl
-    never false = refl
+handed_ahead false b d k = and_right (b && d) false refl
 
 pub children_join : ChildrenJoin
 children_join l w child k n m h legal finds st un =
