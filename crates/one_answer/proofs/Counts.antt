@@ -5,10 +5,8 @@ use Rattle.std.proofs.lemmas.Bool.{and_parts, cases_Bool, eqb-true, eqb-false, f
 use Rattle.std.proofs.lemmas.List.Sums.{sum_by-cons}
 use Rattle.world_model.specs.declared.event.WorldEvent.{WorldEvent}
 use Rattle.run_laws.specs.Telling.{Told, told, told_of, tells}
+use Rattle.run_laws.proofs.Plain.{plus_none}
 use Rattle.one_answer.specs.inner.Watched.{count_of, is_alone, KindStands}
-
-none_more : (x : ℕ) → x ≡ 0 + x
-none_more x = omega arith
 
 -- ---- counts
 
@@ -17,7 +15,7 @@ count_more : (kind : WorldEvent → Bool) (t : ℕ) (e : WorldEvent) (w : List W
 count_more kind t e w =
     elim (tells t w e) as (λ b. count_by (λ (x : Told). kind x.event) (cond b (told_of w e ∷ told t w) (told t w)) ≡ cond b (cond (kind e) 1 0) 0 + count_of kind t w) [
       | true ↦ sum_by-cons (λ (x : Told). cond (kind x.event) 1 0) (told_of w e) (told t w)
-      | false ↦ none_more (count_of kind t w)
+      | false ↦ plus_none (count_of kind t w)
     ]
 
 -- an event of another kind isn't counted
@@ -28,8 +26,8 @@ not_counted kind t e w h =
     ∙ either (tells t w e) (count_of kind t w))
   where
     either : (b : Bool) (x : ℕ) → cond b 0 0 + x ≡ x
-    either true x = sym (none_more x)
-    either false x = sym (none_more x)
+    either true x = sym (plus_none x)
+    either false x = sym (plus_none x)
 
 -- one of this kind is counted by who tells it
 counted : (kind : WorldEvent → Bool) (t : ℕ) (e : WorldEvent) (w : List WorldEvent) → kind e ≡ true
@@ -43,7 +41,7 @@ not_told : (kind : WorldEvent → Bool) (t : ℕ) (e : WorldEvent) (w : List Wor
     → count_of kind t (e ∷ w) ≡ count_of kind t w
 not_told kind t e w m =
     count_more kind t e w ∙ (ap (λ b. cond b (cond (kind e) 1 0) 0 + count_of kind t w) m
-    ∙ sym (none_more (count_of kind t w)))
+    ∙ sym (plus_none (count_of kind t w)))
 
 -- ---- the draws of a kind
 
@@ -63,7 +61,7 @@ pub next_is : (kind : WorldEvent → Bool) (used : ℕ → Bool) (first : ℕ) (
     (o : Option ℕ) (next : ℕ) → KindStands kind used first w o next → used n ≡ false
     → (is_alone o t && n == next) ≡ (n == count_of kind t w + first)
 next_is kind used first w t n None next k free =
-    ap (λ x. n == x) (k.1 ∙ (none_more first ∙ ap (λ x. x + first) (sym (k.0 t))))
+    ap (λ x. n == x) (k.1 ∙ (plus_none first ∙ ap (λ x. x + first) (sym (k.0 t))))
 next_is kind used first w t n (Some u) next k free =
     elim (cases_Bool (u == t)) [
       | inl e ↦
@@ -78,7 +76,7 @@ next_is kind used first w t n (Some u) next k free =
           | inl e ↦
               let is : n ≡ first =
               eqb-true n (count_of kind t w + first) e
-              ∙ (ap (λ x. x + first) (k.1 t (λ z. apart (sym z))) ∙ sym (none_more first)) in
+              ∙ (ap (λ x. x + first) (k.1 t (λ z. apart (sym z))) ∙ sym (plus_none first)) in
               absurd (false≢true (sym free ∙ (ap used is ∙ k.2)))
         ]
 

@@ -23,6 +23,7 @@ use Rattle.world_model.specs.Replies.{is_accepted}
 use Rattle.world_model.proofs.AbleComputed.{act_now}
 use Rattle.run_laws.specs.Memory.{registrations}
 use Rattle.run_laws.specs.Telling.{makes, begins_child, opens}
+use Rattle.run_laws.proofs.Plain.{plus_none}
 use Rattle.one_answer.specs.declared.watch.Watch.{Watch}
 use Rattle.one_answer.specs.declared.watch.Kind.{Kind}
 use Rattle.one_answer.specs.Luck.{has_place, is_steady, joined, luck_of}
@@ -90,9 +91,6 @@ pub registered_more : (n : ℕ) (e : WorldEvent) (w : List WorldEvent)
     → registrations n (e ∷ w) ≡ cond (is_on n (joined e)) 1 0 + registrations n w
 registered_more n (Phaser m s) w = on_step s
   where
-    none_more : (x : ℕ) → x ≡ 0 + x
-    none_more x = omega arith
-
     past : List Event
     past = phaser_past n w
 
@@ -102,12 +100,12 @@ registered_more n (Phaser m s) w = on_step s
     one : (b : Bool) (t : ℕ) (e : Event) → registered_by e ≡ Some t
         → length (registered_tasks (cond b (e ∷ past) past)) ≡ cond b 1 0 + length (registered_tasks past)
     one true t e k = rw k (omega arith)
-    one false t e k = none_more (length (registered_tasks past))
+    one false t e k = plus_none (length (registered_tasks past))
 
     none : (b : Bool) (e : Event) → registered_by e ≡ None
         → length (registered_tasks (cond b (e ∷ past) past)) ≡ 0 + length (registered_tasks past)
-    none true e k = rw k (none_more (length (registered_tasks past)))
-    none false e k = none_more (length (registered_tasks past))
+    none true e k = rw k (plus_none (length (registered_tasks past)))
+    none false e k = plus_none (length (registered_tasks past))
 
     on_step : (s : Step) → length (registered_tasks (more s)) ≡ cond (is_on n (joined (Phaser m s))) 1 0 + length (registered_tasks past)
     on_step (Make t o terms) = one (m == n) t (event_for (terms_of n w) past (Make t o terms)) refl

@@ -20,7 +20,8 @@ use Rattle.run_laws.proofs.Failures.{other, other_told, to_told, from_told, any_
 use Rattle.run_laws.proofs.Lengths.{HaveMore, at_most}
 use Rattle.run_laws.proofs.Main.{IsNextOf, beginning_of, told_part}
 use Rattle.run_laws.proofs.NextEvents.{IsGoing}
-use Rattle.run_laws.proofs.Reports.{all_told, teller, with_teller, told_by, weigh, swapped}
+use Rattle.run_laws.proofs.Plain.{swapped}
+use Rattle.run_laws.proofs.Sums.{all_told, teller, with_teller, told_by, weigh}
 use Rattle.run_laws.proofs.Shuffles.{of_key}
 
 pub with_both : (u : ℕ) (xs ys : List Told) → with_teller u (xs ++ ys) ≡ with_teller u xs ++ with_teller u ys

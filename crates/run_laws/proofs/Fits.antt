@@ -37,7 +37,7 @@ use Rattle.run_laws.proofs.Main.{IsNextOf}
 use Rattle.run_laws.proofs.Needs.{event_need, needs, used, passing, passing_within, proposed_below, step_need, legal_need}
 use Rattle.run_laws.proofs.NextEvents.{IsGoing}
 use Rattle.run_laws.proofs.Placing.{past_part}
-use Rattle.run_laws.proofs.Reports.{all_told, weigh, on_weight, IsSum, sum_told, by_registered, registered_sum}
+use Rattle.run_laws.proofs.Sums.{all_told, weigh, on_weight, IsSum, sum_told, by_registered, registered_sum}
 
 -- ---- what is added up
 

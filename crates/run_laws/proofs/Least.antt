@@ -2,9 +2,8 @@
 -- isn't in use is the next in order, in whatever other history.
 use Rattle.std.proofs.Common.{◌≡◌, ◌⊎◌, ℕ, ◌+◌, ◌<◌, ◌≤◌, Bool, true, false, ◌&&◌, ◌==◌, not, cond, List, [], ◌∷◌, ◌++◌, Some, refl, sym, ap, ◌∙◌, inl, inr, arith}
 use Rattle.std.specs.List.{count_by}
-use Rattle.std.proofs.lemmas.Bool.{and_parts, and_from, cases_Bool, eqb-true, eq-eqb, true≢false, false≢true}
+use Rattle.std.proofs.lemmas.Bool.{and_parts, and_from, cases_Bool, eqb-true, eq-eqb, true≢false}
 use Rattle.std.proofs.lemmas.List.Sums.{sum_by-cons}
-use Rattle.phase_modes.specs.Lists.{is_empty}
 use Rattle.phase_modes.specs.declared.limits.Limits.{Limits}
 use Rattle.phase_modes.specs.declared.phased.Pair.{Pair}
 use Rattle.finish_core.specs.declared.event.FinishEvent.TheVariants.{Opened}
@@ -38,6 +37,7 @@ use Rattle.trace_walk.specs.Given.{tried_of}
 use Rattle.run_laws.specs.Telling.{Told, told, makes, begins_child, opens, in_order, draws_by, draws_next, draws_least, draws_least_next}
 use Rattle.run_laws.specs.Least.{LeastIsInOrder, LeastHangsOnMemoryAlone}
 use Rattle.run_laws.specs.Memory.{has_memory, is_forced, is_roomy}
+use Rattle.run_laws.proofs.Plain.{not_empty}
 use Rattle.run_laws.proofs.Drawings.{drawn_is}
 use Rattle.run_laws.proofs.Main.{IsNextOf, another, all_placed, beginning_of}
 use Rattle.run_laws.proofs.Memory.{no_refusal_now}
@@ -85,10 +85,7 @@ module _ {B : Type 0} (next : Answer → B → Does B) (root : B) (l : Limits)
           ∙ (alike there (own_pairs t w) given (drawn a) (does next root w t).0
           ∙ ap (λ x. q (event_by t x)) (sym here))))
       by_kind f k (inr d) =
-          absurd (full f.event d.rest (due t w) (f.twin.own.waiting ∙ d.is) (nothing_due t w idle).0)
-        where
-          full : (e : WorldEvent) (ds xs : List WorldEvent) → xs ≡ e ∷ ds → is_empty xs ≡ true → ⊥
-          full e ds xs h k = false≢true (sym (ap (λ ys. is_empty ys) h) ∙ k)
+          absurd (not_empty f.event d.rest (due t w) (f.twin.own.waiting ∙ d.is) (nothing_due t w idle).0)
 
   -- so where it draws the least one, it draws the next in order
   next_of_kind : (q : WorldEvent → Bool) (number : WorldEvent → ℕ) (used : ℕ → List WorldEvent → Bool)

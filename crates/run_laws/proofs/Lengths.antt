@@ -1,6 +1,7 @@
 -- Lists of which each key has a last part of what it has in another: what is added up over them is no more.
 use Rattle.std.proofs.Common.{◌≡◌, ℕ, ◌+◌, ◌≤◌, Bool, true, false, ◌==◌, cond, List, [], ◌∷◌, ◌++◌, refl, sym, subst, ap, ◌∙◌, inl, inr, arith}
 use Rattle.std.proofs.lemmas.Bool.{cases_Bool, eqb-true, eq-eqb}
+use Rattle.run_laws.proofs.Plain.{same_parts}
 use Rattle.run_laws.proofs.Shuffles.{of_key, of_key-append, total, moved}
 
 module _ {X : Type 0} (key : X → ℕ) where
@@ -22,17 +23,14 @@ module _ {X : Type 0} (key : X → ℕ) where
   split_with u x more rest (y ∷ ys) e =
       by_test (λ more h. split_with u x more rest ys h) more (key y == u) refl e
     where
-      parts : {a b : X} {cs ds : List X} → a ∷ cs ≡ b ∷ ds → (a ≡ b) × (cs ≡ ds)
-      parts h = (cc, cc)
-
       by_test : ((more : List X) → of_key key u ys ≡ more ++ x ∷ rest → IsSplit u x more rest ys)
           → (more : List X) (b : Bool) → (key y == u) ≡ b
           → cond b (y ∷ of_key key u ys) (of_key key u ys) ≡ more ++ x ∷ rest → IsSplit u x more rest (y ∷ ys)
       by_test later [] true k h =
-          let p = parts h in
+          let p = same_parts h in
           record { before = []; after = ys; is = ap (λ z. z ∷ ys) p.0; newer = refl; older = p.1 }
       by_test later (m ∷ more) true k h =
-          let p = parts h in
+          let p = same_parts h in
           let f = later more p.1 in
           record {
             before = y ∷ f.before;

@@ -36,6 +36,7 @@ use Rattle.trace_walk.specs.Given.{tried_of}
 use Rattle.schedule_model.specs.Follows.{drawn}
 use Rattle.body_follows.specs.Whole.{IsSmooth}
 use Rattle.run_laws.specs.Telling.{Told, told, draws_as, draws_next, draws_by}
+use Rattle.run_laws.proofs.Plain.{some_none}
 use Rattle.run_laws.proofs.State.{IsSame}
 use Rattle.run_laws.proofs.Others.{is_refusal}
 use Rattle.run_laws.proofs.Own.{held_same}
@@ -59,22 +60,13 @@ pub record IsLast {B : Type 0} (next : Answer → B → Does B) (root : B) (name
   pub draws : draws_next names w (act_of e) ≡ true
   pub calm : is_refusal e ≡ false
 
+last_is_none : (u x : ℕ) (w : List WorldEvent) → cond (u == u) (Some x) (refused_by u w) ≡ None → ⊥
+last_is_none u x w h = some_none (rw (eq-eqb u u refl) at h)
+
 pub none_refused : (w : List WorldEvent) → ((t : ℕ) → refused_by t w ≡ None) → is_calm w ≡ true
 none_refused [] r = refl
-none_refused (Refuse u a x ∷ w) r = absurd (refused u x w (r u))
-  where
-    refused : (u x : ℕ) (w : List WorldEvent) → cond (u == u) (Some x) (refused_by u w) ≡ None → ⊥
-    refused u x w h = some_none (rw (eq-eqb u u refl) at h)
-      where
-        some_none : Some x ≡ None → ⊥
-        some_none h = cc
-none_refused (Fail u x ∷ w) r = absurd (refused u x w (r u))
-  where
-    refused : (u x : ℕ) (w : List WorldEvent) → cond (u == u) (Some x) (refused_by u w) ≡ None → ⊥
-    refused u x w h = some_none (rw (eq-eqb u u refl) at h)
-      where
-        some_none : Some x ≡ None → ⊥
-        some_none h = cc
+none_refused (Refuse u a x ∷ w) r = absurd (last_is_none u x w (r u))
+none_refused (Fail u x ∷ w) r = absurd (last_is_none u x w (r u))
 none_refused (e ∷ w) r = none_refused w r
 
 -- ---- acts, and what continues them

@@ -33,7 +33,8 @@ use Rattle.run_laws.proofs.Lengths.{HaveMore, at_most}
 use Rattle.run_laws.proofs.Main.{beginning_of}
 use Rattle.run_laws.proofs.Needs.{event_need, needs, used, passing, passing_within, proposed_below, legal_need}
 use Rattle.run_laws.proofs.NextEvents.{IsGoing, going}
-use Rattle.run_laws.proofs.Reports.{all_told, teller, with_teller, told_by, weigh, swapped, on_weight, sum_told}
+use Rattle.run_laws.proofs.Plain.{swapped}
+use Rattle.run_laws.proofs.Sums.{all_told, teller, with_teller, told_by, weigh, on_weight, sum_told}
 
 -- ---- sums over all numbers below a limit
 

@@ -3,7 +3,6 @@
 use Rattle.std.proofs.Common.{◌≡◌, ℕ, ◌+◌, ◌<◌, ◌≤◌, Bool, true, false, ◌&&◌, ◌||◌, ◌==◌, nat_lt, cond, List, [], ◌∷◌, ◌++◌, refl, sym, subst, ap, ◌∙◌, inl, inr, arith}
 use Rattle.std.specs.List.{count_by}
 use Rattle.std.proofs.lemmas.Bool.{and_parts, and_from, or_left, or_right, cases_Bool, eqb-true, eq-eqb, ltb-true, ltb-false, true≢false, false≢true}
-use Rattle.std.proofs.lemmas.List.Sums.{sum_by-cons}
 use Rattle.phase_modes.specs.declared.limits.Limits.{Limits}
 use Rattle.phase_modes.specs.declared.phased.Pair.{Pair}
 use Rattle.job_script.specs.declared.act.Act.{Act}
@@ -25,6 +24,7 @@ use Rattle.std.specs.List.{list_any}
 use Rattle.schedule_model.specs.Scripts.{Numbers, act_of}
 use Rattle.trace_walk.specs.Given.{tried_of}
 use Rattle.run_laws.specs.Telling.{Told, told, told_of, tells, makes, begins_child, opens, in_order, draws_next, draws_by}
+use Rattle.run_laws.proofs.Plain.{plus_none, count_more}
 use Rattle.run_laws.proofs.Drawings.{lt_more, phaser_there, finish_there, some_or, some_finish_or, or_known, or_moves, zero_first, root_finish}
 use Rattle.run_laws.proofs.NextEvents.{event_by}
 
@@ -43,9 +43,6 @@ pub record IsKind (l : Limits) (q : WorldEvent → Bool) (number : WorldEvent �
       → used (number e) w ≡ false
   pub ordered : (e : WorldEvent) (w : List WorldEvent) → draws_next in_order w (act_of e) ≡ true → q e ≡ true
       → number e ≡ base + drawn_by q (actor w e) w
-
-plus_none : (x : ℕ) → x ≡ 0 + x
-plus_none x = omega arith
 
 -- ---- the three kinds
 
@@ -194,24 +191,19 @@ module _ (l : Limits) (q : WorldEvent → Bool) (number : WorldEvent → ℕ) (u
       → drawn_by q t (e ∷ w) ≡ cond (q e && actor w e == t) 1 0 + drawn_by q t w
   drawn_step t e w = by_test (q e) refl
     where
-      one : (x : Told) (xs : List Told)
-          → count_by (λ (y : Told). q y.event) (x ∷ xs)
-          ≡ cond (q x.event) 1 0 + count_by (λ (y : Told). q y.event) xs
-      one x xs = sum_by-cons (λ (y : Told). cond (q y.event) 1 0) x xs
-
       by_test : (b : Bool) → q e ≡ b → drawn_by q t (e ∷ w) ≡ cond (b && actor w e == t) 1 0 + drawn_by q t w
       by_test true k =
           elim (cases_Bool (actor w e == t)) [
             | inl m ↦
                 rw (m, kind.plain e k)
-                (one (told_of w e) (told t w) ∙ ap (λ b. cond b 1 0 + drawn_by q t w) k)
+                (count_more q (told_of w e) (told t w) ∙ ap (λ b. cond b 1 0 + drawn_by q t w) k)
             | inr m ↦ rw m (plus_none (drawn_by q t w))
           ]
       by_test false k =
           elim (tells t w e)
           as (λ c. count_by (λ (y : Told). q y.event) (cond c (told_of w e ∷ told t w) (told t w))
           ≡ 0 + drawn_by q t w) [
-            | true ↦ one (told_of w e) (told t w) ∙ ap (λ b. cond b 1 0 + drawn_by q t w) k
+            | true ↦ count_more q (told_of w e) (told t w) ∙ ap (λ b. cond b 1 0 + drawn_by q t w) k
             | false ↦ plus_none (drawn_by q t w)
           ]
 

@@ -1,8 +1,8 @@
 -- What a task is in a history, as far as it decides what the task does next: alike in two histories. And that what
 -- others do leaves it as it was.
-use Rattle.std.proofs.Common.{◌≡◌, ℕ, Bool, true, false, ◌&&◌, ◌==◌, not, List, [], ◌∷◌, None, refl, sym, subst, ap, ◌∙◌, inl, inr}
+use Rattle.std.proofs.Common.{◌≡◌, ℕ, true, false, ◌&&◌, ◌==◌, not, List, [], ◌∷◌, None, refl, sym, subst, ap, ◌∙◌, inl, inr}
 use Rattle.std.specs.Prelude.{filter_map}
-use Rattle.std.proofs.lemmas.Bool.{and_parts, cases_Bool, eqb-true, eq-eqb, true≢false, false≢true, false_from_ne_true}
+use Rattle.std.proofs.lemmas.Bool.{and_parts, cases_Bool, eqb-true, eq-eqb, true≢false, false≢true, false_from_ne_true, and_right}
 use Rattle.phase_modes.specs.Lists.{is_empty}
 use Rattle.phase_modes.specs.declared.limits.Limits.{Limits}
 use Rattle.phase_model.specs.declared.history.Event.{Event}
@@ -185,10 +185,6 @@ module _ {B : Type 0} (next : Answer → B → Does B) (root : B) where
         on = λ n. kept_by l t n e w a (alike t n e w o.touch);
       }
 
-  and_false : (b : Bool) → (b && false) ≡ false
-  and_false true = refl
-  and_false false = refl
-
   -- and so do claims and their reports, its own too
   pub singles_leave : (l : Limits) (t : ℕ) (e : WorldEvent) (w : List WorldEvent) → is_legal_world l w ≡ true
       → is_accepted l w e ≡ true → is_of_single e ≡ true → IsSame next root t w (e ∷ w)
@@ -196,9 +192,9 @@ module _ {B : Type 0} (next : Answer → B → Does B) (root : B) where
       record {
         ended = refl;
         doing = refl;
-        waiting = rw (and_false (u == t)) refl;
+        waiting = rw (and_right (u == t) false refl) refl;
         last = refl;
-        said = rw (and_false (u == t)) refl;
+        said = rw (and_right (u == t) false refl) refl;
         opens = refl;
         lives = refl;
         joins = refl;
@@ -208,9 +204,9 @@ module _ {B : Type 0} (next : Answer → B → Does B) (root : B) where
       record {
         ended = refl;
         doing = refl;
-        waiting = rw (and_false (u == t)) refl;
+        waiting = rw (and_right (u == t) false refl) refl;
         last = refl;
-        said = rw (and_false (u == t)) refl;
+        said = rw (and_right (u == t) false refl) refl;
         opens = refl;
         lives = refl;
         joins = refl;
