@@ -1,5 +1,5 @@
 -- The children of a history by the places of their spawns: each has one place, and each place one child.
-use Rattle.std.proofs.Common.{◌≡◌, ℕ, ◌+◌, ◌<◌, true, false, ◌||◌, ◌==◌, cond, List, [], ◌∷◌, Some, None, refl, sym, subst, ap, ◌∙◌, inl, inr, arith}
+use Rattle.std.proofs.Common.{◌≡◌, ℕ, ◌+◌, ◌<◌, true, false, ◌||◌, ◌==◌, cond, List, [], ◌∷◌, Some, refl, sym, subst, ap, ◌∙◌, inl, inr, arith}
 use Rattle.std.specs.List.{list_any}
 use Rattle.std.proofs.lemmas.Bool.{or_cases, or_left, or_right, cases_Bool, eqb-true, eq-eqb, ne_eqb, true≢false, false≢true, false_from_ne_true}
 use Rattle.std.proofs.lemmas.Option.{same_Some, none-some}
@@ -11,6 +11,7 @@ use Rattle.world_model.specs.Numbers.{names, is_named}
 use Rattle.world_model.specs.Replies.{is_legal_world, is_accepted}
 use Rattle.world_model.proofs.MadeMeans.{last_accepted}
 use Rattle.world_model.proofs.SpawnUnderWay.{names_fresh}
+use Rattle.kernel_laws.proofs.Numbers.{none_below_zero, same_not_lt}
 use Rattle.kernel_laws.proofs.Plain.{spawned, child_at}
 
 -- a place is that of a spawn which was begun
@@ -31,10 +32,7 @@ at_below i c (e ∷ w) h = at_below i c w h
 
 -- and each such place has a child
 pub there_is : (i : ℕ) (w : List WorldEvent) → i < spawned w → (c : ℕ) × (child_at i w ≡ Some c)
-there_is i [] h = absurd (below_none i h)
-  where
-    below_none : (i : ℕ) → i < 0 → ⊥
-    below_none i h = omega arith
+there_is i [] h = absurd (none_below_zero i h)
 there_is i (Begin u (Async x ps) ∷ w) h =
     elim (cases_Bool (spawned w == i)) [
       | inl e ↦ (x, rw e refl)
@@ -99,12 +97,9 @@ named_child c (Begin u (Async x ps) ∷ w) z h =
           subst (λ b. (c == 0 || (b || list_any (names c) w)) ≡ true) e h in
           let r = named_child c w z before in
           let other : (spawned w == r.0) ≡ false =
-          ne_eqb (spawned w) r.0 (λ s. no_less (spawned w) r.0 s (at_below r.0 c w r.1)) in
+          ne_eqb (spawned w) r.0 (λ s. same_not_lt (spawned w) r.0 s (at_below r.0 c w r.1)) in
           (r.0, subst (λ b. cond b (Some x) (child_at r.0 w) ≡ Some c) (sym other) r.1)
     ]
-  where
-    no_less : (a b : ℕ) → a ≡ b → b < a → ⊥
-    no_less a b e k = omega arith
 named_child c (e ∷ w) z h = named_child c w z h
 
 -- no child has two places

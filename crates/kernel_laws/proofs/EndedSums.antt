@@ -26,6 +26,7 @@ use Rattle.world_model.proofs.ShutterDropsFirst.{shuts_act}
 use Rattle.world_model.proofs.PhasersLegal.{phasers_legal}
 use Rattle.world_model.proofs.RootEndsLast.{ended_roots_leave_nobody}
 use Rattle.world_model.proofs.TurnsStand.{is_sig_on, how_many}
+use Rattle.kernel_laws.proofs.Numbers.{without_none}
 use Rattle.kernel_laws.proofs.Plain.{IsPlain, turns, root_turns}
 use Rattle.kernel_laws.proofs.Endings.{dropped_ends, ended_ends}
 use Rattle.kernel_laws.proofs.Joined.{joined, joined_same, IsGood, passes_in_all, signals_in_all, drops_in_all, never_signals}
@@ -56,19 +57,16 @@ module _ (l : Limits) (w : List WorldEvent) (k : IsPlain l w) (over : is_ended 0
   leaves t q =
       leaves_only l t w k.legal (or_left (ends_act (last_entry t w)) (shuts_act (last_entry t w)) q)
 
-  settled : (x y z : ℕ) → x + y ≡ z → y ≡ 0 → x ≡ z
-  settled x y z h g = omega arith
-
   -- it has passed and signalled there as often as it took a turn
   all_waited : (t n : ℕ) → is_registered t (phaser_past n w) ≡ true → waits t (phaser_past n w) ≡ turns t w
   all_waited t n r =
-      settled (waits t (phaser_past n w)) (how_many (is_pass_on n) (due t w)) (turns t w) (paced l w k t n r).waited
+      without_none (waits t (phaser_past n w)) (how_many (is_pass_on n) (due t w)) (turns t w) (paced l w k t n r).waited
       (still_leaves n (due t w) (leaves t (dropped_ends l t n w k (has_left t n r)))).0
 
   all_signalled : (t n : ℕ) → is_registered t (phaser_past n w) ≡ true
       → has_mode can_signal t (phaser_past n w) ≡ true → signals t (phaser_past n w) ≡ turns t w
   all_signalled t n r m =
-      settled (signals t (phaser_past n w)) (how_many (is_sig_on n) (due t w)) (turns t w)
+      without_none (signals t (phaser_past n w)) (how_many (is_sig_on n) (due t w)) (turns t w)
       ((paced l w k t n r).signalled m)
       (still_leaves n (due t w) (leaves t (dropped_ends l t n w k (has_left t n r)))).1
 

@@ -2,7 +2,7 @@
 use Rattle.std.proofs.Common.{◌≡◌, ℕ, Bool, true, false, ◌&&◌, ◌==◌, cond, List, [], ◌∷◌, ◌++◌, map, Option, Some, refl, sym, subst, ap, ◌∙◌, inl, inr}
 use Rattle.std.specs.Prelude.{drop}
 use Rattle.std.specs.List.{list_all}
-use Rattle.std.proofs.lemmas.Bool.{and_parts, and_from, or_cases, cases_Bool, eqb-true, eq-eqb, false≢true}
+use Rattle.std.proofs.lemmas.Bool.{and_parts, and_from, or_cases, cases_Bool, eqb-true, eq-eqb, true≢false, false≢true, false_from_ne_true}
 use Rattle.phase_modes.specs.declared.limits.Limits.{Limits}
 use Rattle.phase_model.specs.Tasks.{is_dropped}
 use Rattle.finish_core.specs.declared.event.FinishEvent.TheVariants.{Opened, Spawned, Ended, Shut as Shutting}
@@ -14,7 +14,7 @@ use Rattle.world_model.specs.Actors.{actor}
 use Rattle.world_model.specs.Parts.{phaser_past}
 use Rattle.world_model.specs.Scopes.{open_finishes, owner}
 use Rattle.world_model.specs.Tasks.{home, phasers_of, is_ended}
-use Rattle.world_model.specs.Due.{due, fixed, ending, drops_due, is_entry}
+use Rattle.world_model.specs.Due.{due, fixed, ending, drops_due, is_entry, is_idle}
 use Rattle.world_model.specs.Replies.{is_legal_world, is_accepted}
 use Rattle.world_model.specs.TaskConditions.{last_entry}
 use Rattle.world_model.proofs.MadeMeans.{part_made}
@@ -22,7 +22,7 @@ use Rattle.world_model.proofs.DueHolds.{due_has}
 use Rattle.world_model.proofs.PhasersLegal.{event_of}
 use Rattle.world_model.proofs.LeavingList.{ends_act}
 use Rattle.world_model.proofs.LeavesAtEnds.{is_leave, leave_act, root_owner}
-use Rattle.kernel_laws.proofs.Plain.{IsPlain, last_of_plain, is_plain, due_next, ends_stays, leaves_to_end}
+use Rattle.kernel_laws.proofs.Plain.{IsPlain, last_of_plain, is_plain, due_next, ends_stays, ends_never_idle, leaves_to_end}
 
 -- the entry begins an end
 abbrev pub is_end : Option WorldEvent → Bool
@@ -47,6 +47,12 @@ ends_by_end t (e ∷ w) k q =
       | inl n ↦ rw n (λ r. by_entry t e p.0 r)
       | inr n ↦ rw n (λ r. ends_by_end t w p.1 r)
     ]) q
+
+-- an idle task is in no act that ends it
+pub not_ending : (l : Limits) (w : List WorldEvent) → is_legal_world l w ≡ true → (t : ℕ) → is_idle t w ≡ true
+    → ends_act (last_entry t w) ≡ false
+not_ending l w k t idle =
+    false_from_ne_true (ends_act (last_entry t w)) (λ q. true≢false (sym idle ∙ ends_never_idle l t w k q))
 
 -- ---- what an end fixes for t is t's own
 

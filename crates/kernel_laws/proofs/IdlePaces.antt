@@ -1,5 +1,5 @@
 -- Where a task stands on its phasers between its turns, as it looks and sends.
-use Rattle.std.proofs.Common.{◌≡◌, ℕ, ◌+◌, ◌<◌, true, ◌&&◌, nat_lt, List, [], ◌∷◌, length, ap, arith}
+use Rattle.std.proofs.Common.{◌≡◌, ℕ, ◌<◌, true, ◌&&◌, nat_lt, List, [], ◌∷◌, length, ap}
 use Rattle.std.specs.Prelude.{ℤ}
 use Rattle.std.proofs.lemmas.Bool.{and_parts, ltb-true}
 use Rattle.phase_modes.specs.declared.limits.Limits.{Limits}
@@ -21,6 +21,7 @@ use Rattle.world_model.proofs.AbruptEnds.{nothing_due}
 use Rattle.world_model.proofs.SmallWords.{empty_is}
 use Rattle.world_model.proofs.PhasersLegal.{step_allowed}
 use Rattle.world_model.proofs.TurnsStand.{is_sig_on, how_many}
+use Rattle.kernel_laws.proofs.Numbers.{without_none}
 use Rattle.kernel_laws.proofs.Plain.{IsPlain, turns}
 use Rattle.kernel_laws.proofs.Paces.{paces}
 
@@ -65,15 +66,12 @@ send_asked l w n t a v ok =
     let d = and_parts (is_live t h) (has_mode can_signal t h) c.0 in
     record { live = d.0; signaller = d.1 }
 
-whole : (x y z : ℕ) → x + y ≡ z → y ≡ 0 → x ≡ z
-whole x y z h g = omega arith
-
 -- a task in no act stands where it has come
 pub waits_idle : (l : Limits) (w : List WorldEvent) → IsPlain l w → (n t : ℕ) → is_idle t w ≡ true
     → is_live t (phaser_past n w) ≡ true → waits t (phaser_past n w) ≡ turns t w
 waits_idle l w k n t idle v =
     let gone : due t w ≡ [] = empty_is (due t w) (nothing_due t w idle).0 in
-    whole (waits t (phaser_past n w)) (how_many (is_pass_on n) (due t w)) (turns t w)
+    without_none (waits t (phaser_past n w)) (how_many (is_pass_on n) (due t w)) (turns t w)
     (paces l w k t n v).waited
     (ap (λ ds. how_many (is_pass_on n) ds) gone)
 
@@ -82,7 +80,7 @@ pub signals_idle : (l : Limits) (w : List WorldEvent) → IsPlain l w → (n t :
     → signals t (phaser_past n w) ≡ turns t w
 signals_idle l w k n t idle v m =
     let gone : due t w ≡ [] = empty_is (due t w) (nothing_due t w idle).0 in
-    whole (signals t (phaser_past n w)) (how_many (is_sig_on n) (due t w)) (turns t w)
+    without_none (signals t (phaser_past n w)) (how_many (is_sig_on n) (due t w)) (turns t w)
     ((paces l w k t n v).signalled m) (ap (λ ds. how_many (is_sig_on n) ds) gone)
 
 pub waits_in_look : (l : Limits) (w : List WorldEvent) → IsPlain l w → (n t a : ℕ)

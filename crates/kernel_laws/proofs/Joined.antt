@@ -4,6 +4,7 @@ use Rattle.std.specs.Prelude.{count_by}
 use Rattle.std.specs.List.{list_all}
 use Rattle.std.proofs.lemmas.Bool.{and_parts, cases_Bool, eqb-true, eq-eqb, not-true, or_right, true≢false, false_from_ne_true}
 use Rattle.std.proofs.lemmas.List.Sums.{sum_by-cons}
+use Rattle.std.proofs.lemmas.Option.{same_Some}
 use Rattle.phase_modes.specs.Lists.{is_empty}
 use Rattle.phase_modes.specs.declared.reg.Mode.{Mode}
 use Rattle.phase_modes.specs.declared.limits.Limits.{Limits}
@@ -18,6 +19,7 @@ use Rattle.phase_model.specs.Singles.{owes_nothing}
 use Rattle.phase_model.proofs.Legal.{last_follows, reg_follows, sig_follows, pass_follows}
 use Rattle.phase_model.proofs.LiveTasks.{empty_is, fresh_not_dropped}
 use Rattle.world_model.specs.Report.{is_sig, is_pass, is_drop}
+use Rattle.kernel_laws.proofs.Numbers.{from_plus_zero, zero_plus}
 
 -- the sum over all registrations, by the task and its mode
 abbrev pub joined : (ℕ → Mode → ℕ) → List Event → ℕ
@@ -97,9 +99,6 @@ abbrev moved : Option ℕ → ℕ → ℕ
 moved None t = 0
 moved (Some u) t = cond (u == t) 1 0
 
-plus_none : (x : ℕ) → x ≡ x + 0
-plus_none x = omega arith
-
 module _ (l : Limits) (terms : Terms) where
   pub good_before : (e : Event) (h : List Event) → IsGood l terms (e ∷ h) → IsGood l terms h
   good_before e h k =
@@ -157,14 +156,11 @@ module _ (l : Limits) (terms : Terms) where
             rw (e, eq-eqb u v (sym same), before, none) one
         | inr e ↦
             rw (e, false_from_ne_true (u == v) (λ f. true≢false (sym (eq-eqb v u (sym (eqb-true u v f))) ∙ e)), before)
-            (none_before (cond (is_registered u h) 1 0))
+            (zero_plus (cond (is_registered u h) 1 0))
       ]
     where
       one : ◌≡◌ {A = ℕ} (1 + 0) 1
       one = omega arith
-
-      none_before : (x : ℕ) → 0 + x ≡ x
-      none_before x = omega arith
 
   once : (u : ℕ) (h : List Event) → is_legal l terms h ≡ true
       → joined (λ t m. cond (u == t) 1 0) h ≡ cond (is_registered u h) 1 0
@@ -220,7 +216,7 @@ module _ (l : Limits) (terms : Terms) where
         let rest =
         joined_same (λ t m. far t (e ∷ h)) (λ t m. far t h) h (good_before e h good).legal
         (λ t m r s. k.grows e h t good (own t ∙ apart u t h new r)
-        ∙ (ap (λ o. far t h + moved o t) none ∙ sym (plus_none (far t h)))) in
+        ∙ (ap (λ o. far t h + moved o t) none ∙ sym (from_plus_zero (far t h)))) in
         let more = count_more e h ∙ ap (λ o. cond (is_some o) 1 0 + count_by is h) none in
         omega (arith, more, before, rest, zero)
 
@@ -239,9 +235,6 @@ module _ (l : Limits) (terms : Terms) where
   none_some : (u : ℕ) → None ≡ Some u → ⊥
   none_some u h = cc
 
-  same_some : (u v : ℕ) → Some u ≡ Some v → u ≡ v
-  same_some u v h = cc
-
   live_known : (u : ℕ) (h : List Event) → is_live u h ≡ true → is_registered u h ≡ true
   live_known u h v = (and_parts (is_registered u h) (not (is_dropped u h)) v).0
 
@@ -251,7 +244,7 @@ module _ (l : Limits) (terms : Terms) where
 
   one_on : (b : Bool) (x : ℕ) → cond b (x + 1) x ≡ x + cond b 1 0
   one_on true x = refl
-  one_on false x = plus_none x
+  one_on false x = from_plus_zero x
 
   passes_far : IsFar waits passer is_pass
   passes_far =
@@ -269,15 +262,15 @@ module _ (l : Limits) (terms : Terms) where
     where
       grows : (e : Event) (h : List Event) (t : ℕ) → IsGood l terms (e ∷ h) → registers t e ≡ false
           → waits t (e ∷ h) ≡ waits t h + moved (passer e) t
-      grows (Make v m) h t good n = rw n (plus_none (waits t h))
-      grows (Reg q v m) h t good n = rw n (plus_none (waits t h))
+      grows (Make v m) h t good n = rw n (from_plus_zero (waits t h))
+      grows (Reg q v m) h t good n = rw n (from_plus_zero (waits t h))
       grows (Pass v) h t good n = one_on (v == t) (waits t h)
-      grows e h t good n = plus_none (waits t h)
+      grows e h t good n = from_plus_zero (waits t h)
 
       known : (e : Event) (h : List Event) (u : ℕ) → IsGood l terms (e ∷ h) → passer e ≡ Some u
           → is_registered u h ≡ true
       known (Pass v) h u good is =
-          subst (λ x. is_registered x h ≡ true) (same_some v u is)
+          subst (λ x. is_registered x h ≡ true) (same_Some v u is)
           (live_known v h (pass_follows l terms h v (last_follows l terms h (Pass v) good.legal).permitted).live)
       known e h u good is = absurd (none_some u is)
 
@@ -309,15 +302,15 @@ module _ (l : Limits) (terms : Terms) where
     where
       grows : (e : Event) (h : List Event) (t : ℕ) → IsGood l terms (e ∷ h) → registers t e ≡ false
           → signals t (e ∷ h) ≡ signals t h + moved (signaller e) t
-      grows (Make v m) h t good n = rw n (plus_none (signals t h))
-      grows (Reg q v m) h t good n = rw n (plus_none (signals t h))
+      grows (Make v m) h t good n = rw n (from_plus_zero (signals t h))
+      grows (Reg q v m) h t good n = rw n (from_plus_zero (signals t h))
       grows (Sig v x) h t good n = one_on (v == t) (signals t h)
-      grows e h t good n = plus_none (signals t h)
+      grows e h t good n = from_plus_zero (signals t h)
 
       known : (e : Event) (h : List Event) (u : ℕ) → IsGood l terms (e ∷ h) → signaller e ≡ Some u
           → is_registered u h ≡ true
       known (Sig v x) h u good is =
-          subst (λ y. is_registered y h ≡ true) (same_some v u is)
+          subst (λ y. is_registered y h ≡ true) (same_Some v u is)
           (live_known v h (sig_follows l terms h v x (last_follows l terms h (Sig v x) good.legal).permitted).live)
       known e h u good is = absurd (none_some u is)
 
@@ -358,7 +351,7 @@ module _ (l : Limits) (terms : Terms) where
         where
           one : ◌≡◌ {A = ℕ} 1 (0 + 1)
           one = omega arith
-      not_yet false d n = plus_none (cond d 1 0)
+      not_yet false d n = from_plus_zero (cond d 1 0)
 
       still_live : (v t : ℕ) (h : List Event) → is_live v h ≡ true → (v == t) ≡ true → is_dropped t h ≡ false
       still_live v t h live e =
@@ -368,12 +361,12 @@ module _ (l : Limits) (terms : Terms) where
       grows : (e : Event) (h : List Event) (t : ℕ) → IsGood l terms (e ∷ h) → registers t e ≡ false
           → left t (e ∷ h) ≡ left t h + moved (leaver e) t
       grows (Drop v) h t good n = not_yet (v == t) (is_dropped t h) (still_live v t h (drop_live v h good))
-      grows e h t good n = plus_none (left t h)
+      grows e h t good n = from_plus_zero (left t h)
 
       known : (e : Event) (h : List Event) (u : ℕ) → IsGood l terms (e ∷ h) → leaver e ≡ Some u
           → is_registered u h ≡ true
       known (Drop v) h u good is =
-          subst (λ x. is_registered x h ≡ true) (same_some v u is) (live_known v h (drop_live v h good))
+          subst (λ x. is_registered x h ≡ true) (same_Some v u is) (live_known v h (drop_live v h good))
       known e h u good is = absurd (none_some u is)
 
       counts : (e : Event) → is_drop e ≡ is_some (leaver e)

@@ -5,7 +5,7 @@ use Rattle.std.proofs.Common.{◌≡◌, ℕ, Bool, true, false, ◌&&◌, ◌||
 use Rattle.std.specs.List.{list_any, list_all}
 use Rattle.std.specs.Option.{option_map_or}
 use Rattle.std.proofs.lemmas.Bool.{and_parts, and_from, or_cases, or_parts, or_left, or_right, cases_Bool, eqb-true, eq-eqb, true≢false, false≢true, false_from_ne_true, not-false}
-use Rattle.std.proofs.lemmas.Option.{none-some}
+use Rattle.std.proofs.lemmas.Option.{same_Some, none-some}
 use Rattle.phase_modes.specs.declared.limits.Limits.{Limits}
 use Rattle.phase_modes.specs.declared.phased.Pair.{Pair}
 use Rattle.phase_modes.specs.declared.reg.Mode.{Mode}
@@ -279,7 +279,7 @@ module _ (l : Limits) (pairs : ℕ → List Pair) (own : ℕ → ℕ) where
       let f = last_of_plain l e w k in
       elim (cases_Bool (spawned w == i)) [
         | inl y ↦
-            let same : x ≡ c = same_some x c (rw y at h) in
+            let same : x ≡ c = same_Some x c (rw y at h) in
             new_child l w f.before (own i) c u x ps f.accepted f.plain same
             (subst (λ qs. HasOwn qs (own i)) (sym (s.0 ∙ ap pairs (eqb-true (spawned w) i y))) o)
         | inr y ↦
@@ -287,9 +287,6 @@ module _ (l : Limits) (pairs : ℕ → List Pair) (own : ℕ → ℕ) where
             by_event l w f.before (own i) c e f.accepted f.plain (child_no_root l i c w f.before.legal before)
             (child_named i c w before) (joined w f.before s.1 i c o before)
       ]
-    where
-      same_some : (x y : ℕ) → Some x ≡ Some y → x ≡ y
-      same_some x y h = cc
   joined (e ∷ w) k s i c o h =
       let f = last_of_plain l e w k in
       by_event l w f.before (own i) c e f.accepted f.plain (child_no_root l i c w f.before.legal h)

@@ -1,4 +1,5 @@
 pub mod Goes
+pub mod Numbers
 pub mod Plain
 pub mod Endings
 pub mod Paces
@@ -6,6 +7,7 @@ pub mod IdlePaces
 pub mod Children
 pub mod Joining
 pub mod Making
+pub mod OwnPhasers
 pub mod Sums
 pub mod Joined
 pub mod Weights

@@ -1,19 +1,17 @@
 -- Each act of a pipeline's task: which it is, where the pipeline stands after it, and so in each history.
-use Rattle.std.proofs.Common.{ℕ, ℤ, suc, ◌+◌, ◌≡◌, ◌≤◌, ◌∙◌, ◌⊎◌, Bool, true, false, ◌==◌, cond, List, [], ◌∷◌, Some, None, refl, sym, ap, subst, inl, inr}
-use Rattle.std.proofs.lemmas.Bool.{cases_Bool, eqb-true, true≢false, false_from_ne_true}
+use Rattle.std.proofs.Common.{ℕ, ℤ, suc, ◌+◌, ◌≡◌, ◌≤◌, ◌∙◌, ◌⊎◌, true, false, ◌==◌, List, [], ◌∷◌, Some, None, refl, sym, ap, subst, inl, inr}
+use Rattle.std.proofs.lemmas.Bool.{cases_Bool, eqb-true, true≢false}
 use Rattle.phase_modes.specs.declared.limits.Limits.{Limits}
 use Rattle.phase_modes.specs.declared.reg.Mode.TheVariants.{SigWait}
 use Rattle.phase_model.specs.declared.op.Op.TheVariants.{Least}
 use Rattle.phase_model.specs.declared.op.Look.TheVariants.{Value}
 use Rattle.phase_model.specs.Phases.{waits}
-use Rattle.phase_model.specs.Values.{sent}
 use Rattle.finish_core.specs.declared.event.FinishEvent.TheVariants.{Opened, Spawned, Ended, Shut as Shutting}
 use Rattle.job_script.specs.declared.act.Act.{Act as TaskAct}
 use Rattle.job_script.specs.declared.act.Act.TheVariants as acts
 use Rattle.job_script.specs.declared.act.Answer.{Answer}
 use Rattle.job_script.specs.declared.act.Answer.TheVariants.{Done, Saw}
 use Rattle.world_model.specs.ExampleWords.{unbounded}
-use Rattle.world_model.specs.declared.event.Step.{Step}
 use Rattle.world_model.specs.declared.event.Step.TheVariants.{Make, Reg, Sig, Claim, Did, Pass, Send, Look, Drop}
 use Rattle.world_model.specs.declared.event.Begun.TheVariants.{Async, Next, End}
 use Rattle.world_model.specs.declared.event.Tried.{Tried}
@@ -23,19 +21,18 @@ use Rattle.world_model.specs.declared.event.WorldEvent.TheVariants.{Phaser, Fini
 use Rattle.world_model.specs.Parts.{phaser_past}
 use Rattle.world_model.specs.Due.{is_idle}
 use Rattle.world_model.specs.Replies.{is_legal_world, is_accepted}
-use Rattle.world_model.specs.TaskConditions.{last_entry}
 use Rattle.world_model.proofs.AbleComputed.{idle_in_act}
 use Rattle.world_model.proofs.PassesInTurns.{idle_is_born}
 use Rattle.world_model.proofs.BornWhereNamed.{born_named}
 use Rattle.world_model.proofs.SpawnUnderWay.{names_fresh}
-use Rattle.world_model.proofs.PhasersLegal.{event_of}
-use Rattle.world_model.proofs.LeavingList.{ends_act}
 use Rattle.schedule_model.specs.Follows.{drawn}
 use Rattle.job_kernels.specs.declared.pipeline_body.PipelineBody.{PipelineBody}
 use Rattle.job_kernels.specs.PipelineLines.{items_at}
 use Rattle.job_kernels.specs.PipelineTasks.{root_task, pipeline_next}
+use Rattle.kernel_laws.proofs.SentSums.{step_sends_nothing}
+use Rattle.kernel_laws.proofs.Endings.{not_ending}
 use Rattle.kernel_laws.proofs.Goes.{tried_as, GoesSmoothly}
-use Rattle.kernel_laws.proofs.Plain.{turns, spawned, child_at, ends_never_idle}
+use Rattle.kernel_laws.proofs.Plain.{turns, spawned, child_at}
 use Rattle.kernel_laws.proofs.Children.{named_child}
 use Rattle.kernel_laws.proofs.IdlePaces.{waits_in_look, signals_in_send}
 use Rattle.kernel_laws.proofs.Telling.{event_by, last_unrefused}
@@ -112,10 +109,6 @@ module _ (l : Limits) (stages items : ℕ) (w : List WorldEvent) (st : Standing 
       Act.turning i z h (by_next t a acts.Next is e) few ahead next
   child_act t i a is z h (TaskStep.to_end e over all) = Act.ending i z h (by_next t a acts.End is e) over all
 
-  not_ending : (t : ℕ) → is_idle t w ≡ true → ends_act (last_entry t w) ≡ false
-  not_ending t idle =
-      false_from_ne_true (ends_act (last_entry t w)) (λ q. true≢false (sym idle ∙ ends_never_idle l t w k q))
-
   -- what the act of an idle task is
   pub act_is : (t : ℕ) (a : Tried) → is_idle t w ≡ true
       → a ≡ tried_as w t (drawn a) (pipeline_does stages items w t).0 → Act t a
@@ -130,7 +123,7 @@ module _ (l : Limits) (stages items : ℕ) (w : List WorldEvent) (st : Standing 
             let p = named_child t w z (born_named l t w k (idle_is_born t w idle)) in
             child_act t p.0 a is z p.1
             (task_step stages items p.0 (turns t w) (st.tasks p.0 t p.1).done (pipeline_does stages items w t)
-            ((st.tasks p.0 t p.1).goes (not_ending t idle)))
+            ((st.tasks p.0 t p.1).goes (not_ending l w k t idle)))
       ]
 
   -- ---- where the pipeline stands after it
@@ -159,7 +152,7 @@ module _ (l : Limits) (stages items : ℕ) (w : List WorldEvent) (st : Standing 
         let send : is_accepted l w (Phaser i (Send t 0 v)) ≡ true =
         subst (λ b. is_accepted l w (event_by t b) ≡ true) e ok in
         subst (λ b. Standing stages items (event_by t b ∷ w)) (sym e)
-        (stand_sends l stages items w st k t i z h (not_ending t idle) v le value count room
+        (stand_sends l stages items w st k t i z h (not_ending l w k t idle) v le value count room
         (signals_in_send l w (record { legal = k; plain = st.plain }) i t 0 v send) next)
     after_act t a ok idle sees (Act.looking i j p n z h e place turned few least most so next) =
         let seen : LookSees w j t 0 = subst (λ b. SeesOf w t b) e sees in
@@ -168,15 +161,15 @@ module _ (l : Limits) (stages items : ℕ) (w : List WorldEvent) (st : Standing 
         let waited : waits t (phaser_past j w) ≡ p + 1 =
         waits_in_look l w (record { legal = k; plain = st.plain }) j t 0 look ∙ turned in
         subst (λ b. Standing stages items (event_by t b ∷ w)) (sym e)
-        (stand_looks l stages items w st k t i z h (not_ending t idle) j (Saw (items_at j p)) n
+        (stand_looks l stages items w st k t i z h (not_ending l w k t idle) j (Saw (items_at j p)) n
         (seen p waited)
         least most so next)
     after_act t a ok idle sees (Act.turning i z h e few ahead next) =
         subst (λ b. Standing stages items (event_by t b ∷ w)) (sym e)
-        (stand_turns l stages items w st k t i z h (not_ending t idle) few ahead next)
+        (stand_turns l stages items w st k t i z h (not_ending l w k t idle) few ahead next)
     after_act t a ok idle sees (Act.ending i z h e over all) =
         subst (λ b. Standing stages items (event_by t b ∷ w)) (sym e)
-        (stand_child_ends l stages items w st k t i z h (not_ending t idle) over all)
+        (stand_child_ends l stages items w st k t i z h (not_ending l w k t idle) over all)
 
 -- ---- each history
 
@@ -192,16 +185,6 @@ module _ (l : Limits) (stages items : ℕ) (few_items : items ≤ 100) (few_stag
   acted w st k t a ok idle is sees =
       after_act l stages items w st k few_items few_stages t a ok idle sees
       (act_is l stages items w st k t a idle is)
-
-  nothing_sent : (w : List WorldEvent) (m : ℕ) (s : Step)
-      → ((i p : ℕ) → sent 0 p (event_of i w s ∷ phaser_past i w) ≡ sent 0 p (phaser_past i w))
-      → (i p : ℕ) → sent 0 p (phaser_past i (Phaser m s ∷ w)) ≡ sent 0 p (phaser_past i w)
-  nothing_sent w m s none i p = either (m == i)
-    where
-      either : (b : Bool) → sent 0 p (cond b (event_of i w s ∷ phaser_past i w) (phaser_past i w))
-          ≡ sent 0 p (phaser_past i w)
-      either true = none i p
-      either false = refl
 
   pub stand : (e : WorldEvent) (w : List WorldEvent) → Standing stages items w → Smooth (e ∷ w)
       → LooksSaw (e ∷ w)
@@ -223,27 +206,27 @@ module _ (l : Limits) (stages items : ℕ) (few_items : items ≤ 100) (few_stag
   stand (Phaser n (Reg q t m)) w st s v a k =
       quiet l stages items w st k (Phaser n (Reg q t m)) refl refl (λ c. refl) (λ c. refl) refl (λ i. refl)
       st.pairs st.made
-      (nothing_sent w n (Reg q t m) (λ i p. refl))
+      (step_sends_nothing w n (Reg q t m) (λ i p. refl))
   stand (Phaser n (Sig t x)) w st s v a k =
       quiet l stages items w st k (Phaser n (Sig t x)) refl refl (λ c. refl) (λ c. refl) refl (λ i. refl)
       st.pairs st.made
-      (nothing_sent w n (Sig t x) (λ i p. refl))
+      (step_sends_nothing w n (Sig t x) (λ i p. refl))
   stand (Phaser n (Claim t)) w st s v a k =
       quiet l stages items w st k (Phaser n (Claim t)) refl refl (λ c. refl) (λ c. refl) refl (λ i. refl)
       st.pairs st.made
-      (nothing_sent w n (Claim t) (λ i p. refl))
+      (step_sends_nothing w n (Claim t) (λ i p. refl))
   stand (Phaser n (Did t)) w st s v a k =
       quiet l stages items w st k (Phaser n (Did t)) refl refl (λ c. refl) (λ c. refl) refl (λ i. refl)
       st.pairs st.made
-      (nothing_sent w n (Did t) (λ i p. refl))
+      (step_sends_nothing w n (Did t) (λ i p. refl))
   stand (Phaser n (Pass t)) w st s v a k =
       quiet l stages items w st k (Phaser n (Pass t)) refl refl (λ c. refl) (λ c. refl) refl (λ i. refl)
       st.pairs st.made
-      (nothing_sent w n (Pass t) (λ i p. refl))
+      (step_sends_nothing w n (Pass t) (λ i p. refl))
   stand (Phaser n (Drop t)) w st s v a k =
       quiet l stages items w st k (Phaser n (Drop t)) refl refl (λ c. refl) (λ c. refl) refl (λ i. refl)
       st.pairs st.made
-      (nothing_sent w n (Drop t) (λ i p. refl))
+      (step_sends_nothing w n (Drop t) (λ i p. refl))
   stand (Finish f (Spawned t)) w st s v a k =
       quiet l stages items w st k (Finish f (Spawned t)) refl refl (λ c. refl) (λ c. refl) refl (λ i. refl)
       st.pairs st.made (λ i p. refl)

@@ -2,7 +2,7 @@
 use Rattle.std.proofs.Common.{ℕ, ℤ, ◌+◌, ◌≡◌, ◌≤◌, ◌<◌, ◌∙◌, ◌⊎◌, inl, inr, Bool, true, false, ◌==◌, not, nat_lt, cond, List, [], ◌∷◌, Option, Some, None, refl, sym, ap, subst, arith}
 use Rattle.std.specs.List.{list_any, list_all}
 use Rattle.std.proofs.lemmas.Bool.{and_from, or_parts, cases_Bool, eqb-true, eq-eqb, lt-ltb, le-ltb, le-leb, ltb-true, ltb-false, true≢false, false≢true, false_from_ne_true}
-use Rattle.std.proofs.lemmas.Option.{none-some}
+use Rattle.std.proofs.lemmas.Option.{same_Some, none-some}
 use Rattle.phase_modes.specs.declared.limits.Limits.{Limits}
 use Rattle.phase_modes.specs.declared.reg.Mode.TheVariants.{SigWait}
 use Rattle.phase_modes.specs.declared.reg.Mode.{Mode}
@@ -36,6 +36,7 @@ use Rattle.job_kernels.specs.Results.{value_seen}
 use Rattle.job_kernels.specs.PipelineLines.{items_at}
 use Rattle.job_kernels.specs.PipelineTasks.{root_task, pipeline_next}
 use Rattle.body_follows.specs.Going.{heard, child_does, does}
+use Rattle.kernel_laws.proofs.Numbers.{apart_next_le, le_next, lt_next, lt_not_same, same_lt_next, zero_least}
 use Rattle.kernel_laws.proofs.Plain.{IsPlain, is_plain, turns, spawned, child_at, flipped}
 use Rattle.kernel_laws.proofs.Paces.{unborn_turns}
 use Rattle.kernel_laws.proofs.Children.{at_below, child_named, child_no_root, one_place}
@@ -114,25 +115,16 @@ pub nothing_more : (stages i done p : ℕ) → out stages i done ≡ []
     → out_if stages i done p ≡ out_if stages i (done + 1) p
 nothing_more stages i done p none = by_test (nat_lt p done) (done == p) refl refl
   where
-    more : (p j : ℕ) → p < j → p < j + 1
-    more p j h = omega arith
-
-    less : (p j : ℕ) → (j ≡ p → ⊥) → j ≤ p → j + 1 ≤ p
-    less p j n h = grind (arith, n)
-
-    same : (p j : ℕ) → j ≡ p → p < j + 1
-    same p j h = omega arith
-
     by_test : (b c : Bool) → nat_lt p done ≡ b → (done == p) ≡ c
         → out_if stages i done p ≡ out_if stages i (done + 1) p
-    by_test true c h g = rw (h, lt-ltb p (done + 1) (more p done (ltb-true p done h))) refl
+    by_test true c h g = rw (h, lt-ltb p (done + 1) (lt_next p done (ltb-true p done h))) refl
     by_test false true h g =
         let here : done ≡ p = eqb-true done p g in
-        rw (h, lt-ltb p (done + 1) (same p done here)) (sym (ap (λ q. out stages i q) (sym here) ∙ none))
+        rw (h, lt-ltb p (done + 1) (same_lt_next p done here)) (sym (ap (λ q. out stages i q) (sym here) ∙ none))
     by_test false false h g =
         rw (
           h,
-          le-ltb p (done + 1) (less p done (λ e. true≢false (sym (eq-eqb done p e) ∙ g))
+          le-ltb p (done + 1) (apart_next_le p done (λ e. true≢false (sym (eq-eqb done p e) ∙ g))
               (ltb-false p done h)),
         ) refl
 
@@ -141,29 +133,17 @@ pub value_more : (stages i done p : ℕ) (v : ℤ) → out stages i done ≡ v �
     → cond (done == p) (v ∷ out_if stages i done p) (out_if stages i done p) ≡ out_if stages i (done + 1) p
 value_more stages i done p v is = by_test (nat_lt p done) (done == p) refl refl
   where
-    more : (p j : ℕ) → p < j → p < j + 1
-    more p j h = omega arith
-
-    less : (p j : ℕ) → (j ≡ p → ⊥) → j ≤ p → j + 1 ≤ p
-    less p j n h = grind (arith, n)
-
-    same : (p j : ℕ) → j ≡ p → p < j + 1
-    same p j h = omega arith
-
-    apart : (p j : ℕ) → p < j → j ≡ p → ⊥
-    apart p j h g = omega arith
-
     by_test : (b c : Bool) → nat_lt p done ≡ b → (done == p) ≡ c
         → cond c (v ∷ out_if stages i done p) (out_if stages i done p) ≡ out_if stages i (done + 1) p
-    by_test true true h g = absurd (apart p done (ltb-true p done h) (eqb-true done p g))
-    by_test true false h g = rw (h, lt-ltb p (done + 1) (more p done (ltb-true p done h))) refl
+    by_test true true h g = absurd (lt_not_same p done (ltb-true p done h) (eqb-true done p g))
+    by_test true false h g = rw (h, lt-ltb p (done + 1) (lt_next p done (ltb-true p done h))) refl
     by_test false true h g =
         let here : done ≡ p = eqb-true done p g in
-        rw (h, lt-ltb p (done + 1) (same p done here)) (sym (ap (λ q. out stages i q) (sym here) ∙ is))
+        rw (h, lt-ltb p (done + 1) (same_lt_next p done here)) (sym (ap (λ q. out stages i q) (sym here) ∙ is))
     by_test false false h g =
         rw (
           h,
-          le-ltb p (done + 1) (less p done (λ e. true≢false (sym (eq-eqb done p e) ∙ g))
+          le-ltb p (done + 1) (apart_next_le p done (λ e. true≢false (sym (eq-eqb done p e) ∙ g))
               (ltb-false p done h)),
         ) refl
 
@@ -241,7 +221,7 @@ module _ (l : Limits) (stages items : ℕ) (w : List WorldEvent) (st : Standing 
                 | inl s ↦
                     let place : x ≡ i = eqb-true x i s in
                     let same_task : t ≡ c =
-                    same_some t c (sym here ∙ (ap (λ y. child_at y w) place ∙ before)) in
+                    same_Some t c (sym here ∙ (ap (λ y. child_at y w) place ∙ before)) in
                     subst (λ y. TaskStands stages items y c (e ∷ w)) place
                     (subst (λ y. TaskStands stages items x y (e ∷ w)) same_task task)
                 | inr s ↦
@@ -259,9 +239,6 @@ module _ (l : Limits) (stages items : ℕ) (w : List WorldEvent) (st : Standing 
               (sym before ∙ (ap (λ v. child_at v w) (sym (eqb-true x i y)) ∙ here))) in
               values i q elsewhere ∙ st.unsent i q before;
         }
-      where
-        same_some : (a b : ℕ) → Some a ≡ Some b → a ≡ b
-        same_some a b h = cc
 
   -- ---- the root's acts
 
@@ -313,15 +290,12 @@ module _ (l : Limits) (stages items : ℕ) (w : List WorldEvent) (st : Standing 
             (pipeline_next Started (task_of stages items (spawned w))) turned begins s.at;
         over = λ n. absurd (false≢true (subst (λ o. ends_act o ≡ true) last n));
         turned = λ n. absurd (false≢true (subst (λ o. ends_act o ≡ true) last n));
-        few = subst (λ v. v ≤ total items (spawned w)) (sym turned) (least (total items (spawned w)));
-        ahead = subst (λ v. v ≤ s.done) (sym turned) (least s.done);
+        few = subst (λ v. v ≤ total items (spawned w)) (sym turned) (zero_least (total items (spawned w)));
+        ahead = subst (λ v. v ≤ s.done) (sym turned) (zero_least s.done);
         most = s.most;
         values = λ p. st.unsent (spawned w) p none ∙ sym (nothing_yet p (nat_lt p s.done) refl);
       }
     where
-      least : (n : ℕ) → 0 ≤ n
-      least n = omega arith
-
       nothing_yet : (p : ℕ) (b : Bool) → nat_lt p s.done ≡ b → out_if stages (spawned w) s.done p ≡ []
       nothing_yet p true h = rw h (s.none p (ltb-true p s.done h))
       nothing_yet p false h = rw h refl
@@ -350,7 +324,7 @@ module _ (l : Limits) (stages items : ℕ) (w : List WorldEvent) (st : Standing 
         over = λ n. absurd (false≢true n);
         tasks = λ i c h. elim (cases_Bool (spawned w == i)) [
           | inl y ↦
-              let here : x ≡ c = same_some x c (rw y at h) in
+              let here : x ≡ c = same_Some x c (rw y at h) in
               subst (λ j. TaskStands stages items j c (e ∷ w)) (eqb-true (spawned w) i y)
               (subst (λ v. TaskStands stages items (spawned w) v (e ∷ w)) here
               (child_starts x s z fresh (no_child_yet (child_at (spawned w) w) refl) act))
@@ -370,9 +344,6 @@ module _ (l : Limits) (stages items : ℕ) (w : List WorldEvent) (st : Standing 
           | inr y ↦ st.unsent i q (rw y at h)
         ];
       }
-    where
-      same_some : (a b : ℕ) → Some a ≡ Some b → a ≡ b
-      same_some a b h = cc
 
   -- ---- a child's acts
 
@@ -407,7 +378,7 @@ module _ (l : Limits) (stages items : ℕ) (w : List WorldEvent) (st : Standing 
             over = λ n. absurd (true≢false (sym n ∙ going));
             turned = λ n. absurd (true≢false (sym n ∙ going));
             few = before.few;
-            ahead = one_above (turns t w);
+            ahead = le_next (turns t w);
             most = room;
             values = λ p. ap (λ h. sent 0 p h) past
                 ∙ (ap (λ j. cond (j == p) (v ∷ sent 0 p (phaser_past x w)) (sent 0 p (phaser_past x w)))
@@ -417,9 +388,6 @@ module _ (l : Limits) (stages items : ℕ) (w : List WorldEvent) (st : Standing 
                 ∙ value_more stages x (turns t w) p v (out_is le is)));
           })
         where
-          one_above : (a : ℕ) → a ≤ a + 1
-          one_above a = omega arith
-
           past : phaser_past x (Phaser x (Send t 0 v) ∷ w) ≡ Sent t 0 v ∷ phaser_past x w
           past = rw (eq-eqb x x refl) refl
 

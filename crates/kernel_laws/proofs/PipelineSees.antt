@@ -1,16 +1,14 @@
 -- Each look of a pipeline's task sees the item of the phase that has ended, if there is one.
-use Rattle.std.proofs.Common.{ℕ, zero, suc, ◌+◌, ◌-◌, ◌≡◌, ◌≤◌, ◌<◌, ◌∙◌, true, false, ◌==◌, nat_lt, cond, List, [], ◌∷◌, ◌++◌, Some, refl, sym, ap, subst, add-one, inl, inr, arith, ℤ}
-use Rattle.std.specs.List.{list_any}
-use Rattle.std.proofs.lemmas.Bool.{and_from, or_cases, or_left, cases_Bool, eq-eqb, ne_eqb, le-leb, lt-ltb, true≢false}
+use Rattle.std.proofs.Common.{ℕ, zero, suc, ◌+◌, ◌-◌, ◌≡◌, ◌≤◌, ◌<◌, ◌∙◌, true, false, ◌==◌, nat_lt, cond, List, [], ◌∷◌, ◌++◌, refl, sym, ap, subst, add-one, inl, inr, arith, ℤ}
+use Rattle.std.proofs.lemmas.Bool.{and_from, cases_Bool, eq-eqb, ne_eqb, le-leb, lt-ltb}
 use Rattle.phase_modes.specs.Lists.{is_empty}
 use Rattle.phase_modes.specs.declared.limits.Limits.{Limits}
-use Rattle.phase_modes.specs.Mode.{can_signal}
 use Rattle.phase_model.specs.declared.history.Event.TheVariants.{Look as Looked}
 use Rattle.phase_model.specs.declared.op.Look.{Look as Seen}
 use Rattle.phase_model.specs.declared.op.Look.TheVariants.{Value, Nothing}
 use Rattle.phase_model.specs.declared.op.Op.TheVariants.{Least}
-use Rattle.phase_model.specs.Tasks.{is_live, is_registered, is_dropped, has_mode}
-use Rattle.phase_model.specs.Phases.{waits, signals, IsClosed}
+use Rattle.phase_model.specs.Tasks.{is_dropped}
+use Rattle.phase_model.specs.Phases.{waits, IsClosed}
 use Rattle.phase_model.specs.Values.{sent, fold}
 use Rattle.phase_model.specs.Rules.{look_of}
 use Rattle.phase_model.proofs.Closing.{some_live}
@@ -20,27 +18,23 @@ use Rattle.world_model.specs.declared.event.Tried.TheVariants.{Look as Looking}
 use Rattle.world_model.specs.declared.event.WorldEvent.{WorldEvent}
 use Rattle.world_model.specs.declared.event.WorldEvent.TheVariants.{Phaser}
 use Rattle.world_model.specs.Parts.{ops_of, phaser_past}
-use Rattle.world_model.specs.Due.{due}
 use Rattle.world_model.specs.Replies.{is_legal_world, is_accepted}
 use Rattle.world_model.specs.TaskConditions.{last_entry}
 use Rattle.world_model.proofs.AbleComputed.{idle_in_act}
 use Rattle.world_model.proofs.PhasersFolded.{phasers_folded}
-use Rattle.world_model.proofs.TurnsStand.{is_sig_on, how_many}
 use Rattle.world_model.proofs.LeavingList.{ends_act}
-use Rattle.world_model.proofs.LeavesAtEnds.{leaves_act}
-use Rattle.world_model.proofs.ShutterDropsFirst.{shuts_act}
-use Rattle.world_model.proofs.DropsStandAlways.{leaves_only}
 use Rattle.schedule_model.specs.Follows.{drawn}
 use Rattle.job_kernels.specs.Results.{value_seen}
 use Rattle.job_kernels.specs.PipelineLines.{items_at}
+use Rattle.kernel_laws.proofs.Numbers.{lt_le, next_le_lt, next_less_one, not_its_next}
 use Rattle.kernel_laws.proofs.Goes.{tried_as}
-use Rattle.kernel_laws.proofs.Plain.{IsPlain, turns, spawned, child_at, root_turns}
-use Rattle.kernel_laws.proofs.Paces.{paces}
-use Rattle.kernel_laws.proofs.Children.{at_below, there_is}
+use Rattle.kernel_laws.proofs.Plain.{IsPlain, turns, spawned}
+use Rattle.kernel_laws.proofs.Children.{at_below}
 use Rattle.kernel_laws.proofs.Endings.{dropped_ends}
-use Rattle.kernel_laws.proofs.Joining.{HasOwn, Joined, joined, is_reg_for, no_leave_is_reg}
+use Rattle.kernel_laws.proofs.Joining.{HasOwn}
 use Rattle.kernel_laws.proofs.Making.{IsMade, made}
 use Rattle.kernel_laws.proofs.IdlePaces.{LookAsked, look_asked, waits_in_look}
+use Rattle.kernel_laws.proofs.OwnPhasers.{IsThere, child_there, turned_past, root_left}
 use Rattle.kernel_laws.proofs.PipelineRoot.{pairs_of}
 use Rattle.kernel_laws.proofs.PipelineTasks.{out}
 use Rattle.kernel_laws.proofs.PipelineGoing.{pipeline_does, LookSees, Standing}
@@ -54,16 +48,13 @@ has_own stages zero le =
     record { there = λ c. rw (eq-eqb c c refl) refl; strong = λ c. rw (eq-eqb c c refl) refl }
 has_own stages (suc j) le =
     let next : (j + 1 == suc j) ≡ true = eq-eqb (j + 1) (suc j) (add-one j) in
-    let apart : (j == suc j) ≡ false = ne_eqb j (suc j) (λ e. no_less j e) in
+    let apart : (j == suc j) ≡ false = ne_eqb j (suc j) (λ e. not_its_next j e) in
     let inside : nat_lt j stages ≡ true = lt-ltb j stages (within j stages le) in
     record {
       there = λ c. rw (inside, apart, next, eq-eqb c c refl) refl;
       strong = λ c. rw (inside, apart, next, eq-eqb c c refl) refl;
     }
   where
-    no_less : (j : ℕ) → j ≡ suc j → ⊥
-    no_less j e = omega arith
-
     within : (j n : ℕ) → suc j ≤ n → j < n
     within j n h = omega arith
 
@@ -119,60 +110,24 @@ module _ (l : Limits) (stages items : ℕ) (w : List WorldEvent) (st : Standing 
   plain_now = record { legal = k; plain = st.plain }
 
   -- once the root is on its way to its end, whoever sends on a phaser is registered there, and can signal
-  pub record IsThere (j : ℕ) : Type 0 where
-    pub task : ℕ
-    pub child : child_at j w ≡ Some task
-    pub registered : is_registered task (phaser_past j w) ≡ true
-    pub mode : has_mode can_signal task (phaser_past j w) ≡ true
-
-  pub all_there : ends_act (last_entry 0 w) ≡ true → (j : ℕ) → j ≤ stages → IsThere j
+  pub all_there : ends_act (last_entry 0 w) ≡ true → (j : ℕ) → j ≤ stages → IsThere j w
   all_there q j le =
-      let u = there_is j w (subst (λ n. j < n) (sym (st.over q)) (below j stages le)) in
-      let p : Joined j u.0 w =
-      joined l (pairs_of stages) (λ i. i) w plain_now st.pairs j u.0 (has_own stages j le) u.1 in
-      let none : list_any (is_reg_for j u.0) (due 0 w) ≡ false =
-      no_leave_is_reg j u.0 (due 0 w) (leaves_only l 0 w k (leaves_of q)) in
-      let there : is_registered u.0 (phaser_past j w) ≡ true =
-      elim (or_cases (is_registered u.0 (phaser_past j w)) (list_any (is_reg_for j u.0) (due 0 w)) p.there) [
-        | inl y ↦ y
-        | inr y ↦ absurd (true≢false (sym y ∙ none))
-      ] in
-      record { task = u.0; child = u.1; registered = there; mode = p.mode there }
+      child_there l w plain_now (pairs_of stages) st.pairs q j (has_own stages j le)
+      (subst (λ n. j < n) (sym (st.over q)) (below j stages le))
     where
-      leaves_of : ends_act (last_entry 0 w) ≡ true → leaves_act (last_entry 0 w) ≡ true
-      leaves_of q = or_left (ends_act (last_entry 0 w)) (shuts_act (last_entry 0 w)) q
-
       below : (j n : ℕ) → j ≤ n → j < n + 2
       below j n h = omega arith
 
-  live_by : (t j : ℕ) → is_registered t (phaser_past j w) ≡ true → is_dropped t (phaser_past j w) ≡ false
-      → is_live t (phaser_past j w) ≡ true
-  live_by t j r d = rw (r, d) refl
-
-  part : (x y z : ℕ) → x + y ≡ z → x ≤ z
-  part x y z h = omega arith
-
   -- so where a phase of its phaser is closed, it is done with it
-  done_if_closed : (j p : ℕ) (u : IsThere j) → p < items + j → IsClosed p (phaser_past j w)
+  done_if_closed : (j p : ℕ) (u : IsThere j w) → p < items + j → IsClosed p (phaser_past j w)
       → p < (st.tasks j u.task u.child).done
   done_if_closed j p u lt closed =
       let c = st.tasks j u.task u.child in
-      let h = phaser_past j w in
-      elim (cases_Bool (is_dropped u.task h)) [
-        | inl d ↦ below_over p (items + j) c.done lt (c.over (dropped_ends l u.task j w plain_now d))
+      elim (cases_Bool (is_dropped u.task (phaser_past j w))) [
+        | inl d ↦ lt_le p (items + j) c.done lt (c.over (dropped_ends l u.task j w plain_now d))
         | inr d ↦
-            let live : is_live u.task h ≡ true = live_by u.task j u.registered d in
-            let now : signals u.task h ≤ turns u.task w =
-            part (signals u.task h) (how_many (is_sig_on j) (due u.task w)) (turns u.task w)
-            ((paces l w plain_now u.task j live).signalled u.mode) in
-            three p (signals u.task h) (turns u.task w) c.done (closed u.task live u.mode) now c.ahead
+            lt_le p (turns u.task w) c.done (turned_past l w plain_now u.task j p u.registered u.mode d closed) c.ahead
       ]
-    where
-      below_over : (p x y : ℕ) → p < x → x ≤ y → p < y
-      below_over p x y a b = omega arith
-
-      three : (p x y z : ℕ) → p < x → x ≤ y → y ≤ z → p < z
-      three p x y z a b c = omega arith
 
   -- where a phase of a made phaser is closed, what was sent for it is its item, if there is one
   closed_is_sent : (j p : ℕ) → j ≤ stages → p < items + j → is_empty (phaser_past j w) ≡ false
@@ -181,22 +136,13 @@ module _ (l : Limits) (stages items : ℕ) (w : List WorldEvent) (st : Standing 
       let m : IsMade Least j w = made l Least j w plain_now st.made some in
       elim (cases_Bool (is_dropped 0 (phaser_past j w))) [
         | inl d ↦
-            let u : IsThere j = all_there (dropped_ends l 0 j w plain_now d) j le in
+            let u : IsThere j w = all_there (dropped_ends l 0 j w plain_now d) j le in
             let c = st.tasks j u.task u.child in
             c.values p
             ∙ (ap (λ b. cond b (out stages j p) []) (lt-ltb p c.done (done_if_closed j p u small closed))
             ∙ rw (le-leb j stages le) refl)
-        | inr d ↦
-            let h = phaser_past j w in
-            let live : is_live 0 h ≡ true = live_by 0 j m.there d in
-            let now : signals 0 h ≤ turns 0 w =
-            part (signals 0 h) (how_many (is_sig_on j) (due 0 w)) (turns 0 w)
-            ((paces l w plain_now 0 j live).signalled m.mode) in
-            absurd (nothing p (signals 0 h) (turns 0 w) (closed 0 live m.mode) now (root_turns w st.plain))
+        | inr d ↦ absurd (root_left l w plain_now j p m.there m.mode d closed)
       ]
-    where
-      nothing : (p x y : ℕ) → p < x → x ≤ y → y ≡ 0 → ⊥
-      nothing p x y a b c = omega arith
 
   -- a look sees what it is to see
   pub look_sees : (j t a : ℕ) → is_accepted l w (Phaser j (Look t a)) ≡ true
@@ -208,14 +154,14 @@ module _ (l : Limits) (stages items : ℕ) (w : List WorldEvent) (st : Standing 
       let i : LookIs stages items j t a w = look_is j t a ok is in
       let asked : LookAsked j t w = look_asked l w j t a ok in
       let same : turns t w ≡ p + 1 = sym (waits_in_look l w plain_now j t a ok) ∙ waited in
-      let few : p < items + j = below p (turns t w) (items + j) same i.few in
+      let few : p < items + j = next_le_lt p (turns t w) (items + j) same i.few in
       let past : phaser_past j (Phaser j (Look t a) ∷ w) ≡ [] ++ Looked t a x ∷ h =
       rw (eq-eqb j j refl) refl in
       let closed : IsClosed (waits t h - 1) h =
       ((phasers_folded l (Phaser j (Look t a) ∷ w)
       (and_from (is_accepted l w (Phaser j (Look t a))) (is_legal_world l w) ok k) j).seen [] h t a x
       past).0 in
-      let back : waits t h - 1 ≡ p = ap (λ y. y - 1) waited ∙ less_one p in
+      let back : waits t h - 1 ≡ p = ap (λ y. y - 1) waited ∙ next_less_one p in
       let some : is_empty h ≡ false = some_live t h asked.live in
       let values : sent 0 (waits t h - 1) h ≡ value_seen (items_at j p) =
       ap (λ y. sent 0 y h) back
@@ -224,9 +170,3 @@ module _ (l : Limits) (stages items : ℕ) (w : List WorldEvent) (st : Standing 
       ap (λ os. Saw (look_of os a (waits t h) h)) ops
       ∙ (ap (λ b. Saw (look_of (Least ∷ []) b (waits t h) h)) i.zero_acc
       ∙ (ap (λ vs. Saw (fold Least vs)) values ∙ ap (λ y. Saw y) (least_seen (items_at j p))))
-    where
-      below : (p x y : ℕ) → x ≡ p + 1 → x ≤ y → p < y
-      below p x y e h = omega arith
-
-      less_one : (p : ℕ) → (p + 1) - 1 ≡ p
-      less_one p = omega arith

@@ -12,6 +12,7 @@ use Rattle.job_kernels.specs.Tasks.{Does, Line, GoesBy}
 use Rattle.job_kernels.specs.PipelineTasks.{source_task, stage_task, sink_task, pipeline_next}
 use Rattle.job_kernels.specs.PipelineLines.{items_at, sending, source_lines, stage_lines, sink_lines}
 use Rattle.job_kernels.proofs.PipelineRuns.{source_goes_by_pipeline, stages_go_by_pipeline, sink_sees_all}
+use Rattle.kernel_laws.proofs.Numbers.{le_next, le_self, lt_next_le, next_on, next_on_le, none_below_zero, part_le, without_zero, zero_least, zero_plus}
 use Rattle.kernel_laws.proofs.PipelineRoot.{task_of}
 
 -- ---- lines
@@ -94,19 +95,13 @@ module _ (stages items : ℕ) where
   -- the source between two phases
   source_at : (k r : ℕ) (d : Does PipelineBody) → k + r ≡ items → Goes d (source_left k r)
       → TaskAt stages items 0 k k d
-  source_at k zero d e goes = TaskAt.source_ends refl (whole k items e) refl goes
-    where
-      whole : (k n : ℕ) → k + 0 ≡ n → k ≡ n
-      whole k n h = omega arith
+  source_at k zero d e goes = TaskAt.source_ends refl (without_zero k items e) refl goes
   source_at k (suc r) d e goes = TaskAt.source_sends r refl e refl goes
 
   -- a reader between two turns
   reader_at : (j k r : ℕ) (d : Does PipelineBody) → k + r ≡ items + j → Goes d (reader_left stages j k r)
       → TaskAt stages items (suc j) k (k + 1) d
-  reader_at j k zero d e goes = TaskAt.ends j refl (whole k (items + j) e) refl goes
-    where
-      whole : (k n : ℕ) → k + 0 ≡ n → k ≡ n
-      whole k n h = omega arith
+  reader_at j k zero d e goes = TaskAt.ends j refl (without_zero k (items + j) e) refl goes
   reader_at j k (suc r) d e goes = TaskAt.turns j r refl e refl goes
 
   -- what comes of a look
@@ -123,55 +118,34 @@ module _ (stages items : ℕ) where
   seen_by j p r d true (Value v) lt is e goes =
       record {
         next = p + 1;
-        least = self (p + 1);
-        most = one_more (p + 1);
+        least = le_self (p + 1);
+        most = le_next (p + 1);
         so = inl refl;
-        at = TaskAt.sends j r v refl (within j stages (ltb-true j stages lt)) e refl
+        at = TaskAt.sends j r v refl (lt_next_le j stages (ltb-true j stages lt)) e refl
             (ap (λ q. items_at (suc j) q) (add-one p) ∙ is)
             (subst (λ q. Goes d ((acts.Send q 0 v, Done) ∷ reader_left stages j (p + 1) r)) (add-one j) goes);
       }
-    where
-      self : (n : ℕ) → n ≤ n
-      self n = omega arith
-
-      one_more : (n : ℕ) → n ≤ n + 1
-      one_more n = omega arith
-
-      within : (j n : ℕ) → j < n → suc j ≤ n
-      within j n h = omega arith
   seen_by j p r d true Nothing lt is e goes =
       record {
         next = (p + 1) + 1;
-        least = one_more (p + 1);
-        most = self ((p + 1) + 1);
+        least = le_next (p + 1);
+        most = le_self ((p + 1) + 1);
         so = inr (refl, nothing_out (nat_le (suc j) stages));
         at = reader_at j (p + 1) r d e goes;
       }
     where
-      self : (n : ℕ) → n ≤ n
-      self n = omega arith
-
-      one_more : (n : ℕ) → n ≤ n + 1
-      one_more n = omega arith
-
       nothing_out : (b : Bool) → cond b (value_seen (items_at (suc j) (p + 1))) [] ≡ []
       nothing_out true = ap (λ y. value_seen y) (ap (λ q. items_at (suc j) q) (add-one p) ∙ is)
       nothing_out false = refl
   seen_by j p r d false x lt is e goes =
       record {
         next = (p + 1) + 1;
-        least = one_more (p + 1);
-        most = self ((p + 1) + 1);
+        least = le_next (p + 1);
+        most = le_self ((p + 1) + 1);
         so = inr (refl, no_phaser);
         at = reader_at j (p + 1) r d e goes;
       }
     where
-      self : (n : ℕ) → n ≤ n
-      self n = omega arith
-
-      one_more : (n : ℕ) → n ≤ n + 1
-      one_more n = omega arith
-
       beyond : (j n : ℕ) → n ≤ j → n < suc j
       beyond j n h = omega arith
 
@@ -183,50 +157,29 @@ module _ (stages items : ℕ) where
   step_of i k done d (TaskAt.source_sends r z e c goes) =
       TaskStep.to_send (pos (k + 1))
       (goes.0 ∙ ap (λ x. acts.Send x 0 (pos (k + 1))) (sym z))
-      (subst (λ x. x ≤ stages) (sym z) (least stages))
+      (subst (λ x. x ≤ stages) (sym z) (zero_least stages))
       (ap (λ x. items_at x k) z) c
       (subst (λ x. k + 1 ≤ items + x) (sym z) (room k r items e))
       (subst (λ x. TaskAt stages items x k (k + 1) (pipeline_next Done d.1)) (sym z)
       (TaskAt.source_turns r refl e refl goes.1))
     where
-      least : (n : ℕ) → 0 ≤ n
-      least n = omega arith
-
       room : (k r n : ℕ) → k + suc r ≡ n → k + 1 ≤ n + 0
       room k r n h = omega arith
   step_of i k done d (TaskAt.source_turns r z e c goes) =
-      TaskStep.to_turn goes.0 (subst (λ x. k + 1 ≤ total items x) (sym z) (room k r items e))
-      (subst (λ x. k + 1 ≤ x) (sym c) (self (k + 1)))
+      TaskStep.to_turn goes.0 (subst (λ x. k + 1 ≤ total items x) (sym z) (next_on_le k r items e))
+      (subst (λ x. k + 1 ≤ x) (sym c) (le_self (k + 1)))
       (subst (λ x. TaskAt stages items x (k + 1) done (pipeline_next Done d.1)) (sym z)
       (subst (λ x. TaskAt stages items 0 (k + 1) x (pipeline_next Done d.1)) (sym c)
-      (source_at (k + 1) r (pipeline_next Done d.1) (on k r items e) goes.1)))
-    where
-      self : (n : ℕ) → n ≤ n
-      self n = omega arith
-
-      room : (k r n : ℕ) → k + suc r ≡ n → k + 1 ≤ n
-      room k r n h = omega arith
-
-      on : (k r n : ℕ) → k + suc r ≡ n → (k + 1) + r ≡ n
-      on k r n h = omega arith
+      (source_at (k + 1) r (pipeline_next Done d.1) (next_on k r items e) goes.1)))
   step_of i k done d (TaskAt.source_ends z e c goes) =
       TaskStep.to_end goes (covers i k done z e c) (e ∙ ap (λ x. total items x) (sym z))
     where
       covers : (i k done : ℕ) → i ≡ 0 → k ≡ items → done ≡ k → items + i ≤ done
       covers i k done a b c = omega arith
   step_of i k done d (TaskAt.turns j r z e c goes) =
-      TaskStep.to_turn goes.0 (subst (λ x. k + 1 ≤ total items x) (sym z) (room k r (items + j) e))
-      (subst (λ x. k + 1 ≤ x) (sym c) (self (k + 1)))
-      (TaskAt.looks j k r z refl (on k r (items + j) e) c goes.1)
-    where
-      self : (n : ℕ) → n ≤ n
-      self n = omega arith
-
-      room : (k r n : ℕ) → k + suc r ≡ n → k + 1 ≤ n
-      room k r n h = omega arith
-
-      on : (k r n : ℕ) → k + suc r ≡ n → (k + 1) + r ≡ n
-      on k r n h = omega arith
+      TaskStep.to_turn goes.0 (subst (λ x. k + 1 ≤ total items x) (sym z) (next_on_le k r (items + j) e))
+      (subst (λ x. k + 1 ≤ x) (sym c) (le_self (k + 1)))
+      (TaskAt.looks j k r z refl (next_on k r (items + j) e) c goes.1)
   step_of i k done d (TaskAt.looks j p r z t e c goes) =
       let after : Goes (pipeline_next (Saw (items_at j p)) d.1)
       (sends_of stages j p ++ reader_left stages j (p + 1) r) =
@@ -238,7 +191,7 @@ module _ (stages items : ℕ) where
       refl
       (subst (λ x. x + r ≡ items + j) t e) after in
       let same : done ≡ p + 1 = c ∙ t in
-      TaskStep.to_look j p s.next z goes.0 t (part k r (items + j) e)
+      TaskStep.to_look j p s.next z goes.0 t (part_le k r (items + j) e)
       (subst (λ x. x ≤ s.next) (sym t) s.least)
       (subst (λ x. s.next ≤ items + x) (sym z) (bound s.next p r j k s.most t e))
       (elim s.so [
@@ -252,9 +205,6 @@ module _ (stages items : ℕ) where
       (subst (λ x. TaskAt stages items (suc j) x s.next (pipeline_next (Saw (items_at j p)) d.1)) (sym t)
       s.at))
     where
-      part : (k r n : ℕ) → k + r ≡ n → k ≤ n
-      part k r n h = omega arith
-
       bound : (x p r j k : ℕ) → x ≤ (p + 1) + 1 → k ≡ p + 1 → k + r ≡ items + j → x ≤ items + suc j
       bound x p r j k a b c = omega arith
   step_of i k done d (TaskAt.sends j r v z le e c is goes) =
@@ -298,32 +248,20 @@ pub task_starts : (stages items i : ℕ) → items ≤ 100 → stages ≤ 15 →
 task_starts stages items zero few small le =
     record {
       done = 0;
-      at = source_at stages items 0 items (pipeline_next Started (source_task items)) (none_before items)
+      at = source_at stages items 0 items (pipeline_next Started (source_task items)) (zero_plus items)
           (source_goes_by_pipeline items);
-      most = least (items + 0);
-      none = λ p lt. absurd (no_less p lt);
+      most = zero_least (items + 0);
+      none = λ p lt. absurd (none_below_zero p lt);
     }
-  where
-    none_before : (n : ℕ) → 0 + n ≡ n
-    none_before n = omega arith
-
-    least : (n : ℕ) → 0 ≤ n
-    least n = omega arith
-
-    no_less : (p : ℕ) → p < 0 → ⊥
-    no_less p h = omega arith
 task_starts stages items (suc j) few small le =
     record {
       done = 0 + 1;
       at = reader_at stages items j 0 (items + j) (pipeline_next Started (task_of stages items (suc j)))
-          (none_before (items + j)) goes;
+          (zero_plus (items + j)) goes;
       most = room items j;
       none = λ p lt. none_at_first stages j p lt;
     }
   where
-    none_before : (n : ℕ) → 0 + n ≡ n
-    none_before n = omega arith
-
     room : (n j : ℕ) → 0 + 1 ≤ n + suc j
     room n j = omega arith
 

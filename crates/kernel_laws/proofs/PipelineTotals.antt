@@ -29,6 +29,7 @@ use Rattle.job_kernels.specs.Results.{value_seen}
 use Rattle.job_kernels.specs.Tasks.{Does}
 use Rattle.body_follows.specs.Whole.{IsWhole}
 use Rattle.kernel_laws.specs.Totals.{stage_turns, pipeline_totals, RunsTotalPipeline}
+use Rattle.kernel_laws.proofs.Numbers.{le_self, plus_zero, right_part_le, zero_plus}
 use Rattle.kernel_laws.proofs.Goes.{GoesSmoothly, smoothly}
 use Rattle.kernel_laws.proofs.Plain.{IsPlain, turns, spawned, child_at}
 use Rattle.kernel_laws.proofs.AllBorn.{all_end}
@@ -55,9 +56,6 @@ made_in b = by_role b.role
     by_role (kinds.Root r) = r.made
     by_role _ = 0
 
-none_more : (x : ℕ) → x + 0 ≡ x
-none_more x = omega arith
-
 spawns_none : (items stages i : ℕ) → is_new (spawn items stages i) ≡ 0
 spawns_none items stages zero = refl
 spawns_none items stages (suc k) = by_test (nat_lt k stages) refl
@@ -73,8 +71,8 @@ root_counts r = by_tests (nat_le r.made r.stages) (nat_le r.spawned (r.stages + 
         → r.made + is_new (root_next r).0 ≡ (root_next r).1.made
     by_tests true c h g = rw h refl
     by_tests false true h g =
-        rw (h, g) (ap (λ x. r.made + x) (spawns_none r.items r.stages r.spawned) ∙ none_more r.made)
-    by_tests false false h g = rw (h, g) (none_more r.made)
+        rw (h, g) (ap (λ x. r.made + x) (spawns_none r.items r.stages r.spawned) ∙ plus_zero r.made)
+    by_tests false false h g = rw (h, g) (plus_zero r.made)
 
 module _ (l : Limits) (stages items : ℕ) where
   counts_of : (x : Answer) (r : Root)
@@ -192,24 +190,21 @@ module _ (l : Limits) (stages items : ℕ) (few_items : items ≤ 100) (few_stag
       stage_is j lt = rw (lt-ltb j stages lt) refl
 
       sink_is : f (suc stages) ≡ sink
-      sink_is = rw (le-ltb stages stages (self stages)) refl
-        where
-          self : (x : ℕ) → x ≤ x
-          self x = omega arith
+      sink_is = rw (le-ltb stages stages (le_self stages)) refl
 
       of_place : (i c : ℕ) → child_at i w ≡ Some c → of_pairs g c (pairs_of stages i) ≡ f i
-      of_place zero c h = ap (λ x. x + 0) (first c (turned 0 c h)) ∙ none_more source
+      of_place zero c h = ap (λ x. x + 0) (first c (turned 0 c h)) ∙ plus_zero source
       of_place (suc j) c h = by_test (nat_lt j stages) refl
         where
           inside : j < stages → of_pairs g c (pairs_of stages (suc j)) ≡ stage j
           inside lt =
               stage_pairs g stages j c lt
-              ∙ (ap (λ x. g c Wait + x) (none_more (g c Sig)) ∙ each j c (turned (suc j) c h))
+              ∙ (ap (λ x. g c Wait + x) (plus_zero (g c Sig)) ∙ each j c (turned (suc j) c h))
 
           at_end : j ≡ stages → of_pairs g c (pairs_of stages (suc j)) ≡ sink
           at_end e =
               sink_pairs g stages j c (least j e)
-              ∙ (none_more (g c Wait) ∙ last c (turned (suc j) c h ∙ ap (λ x. items + x) e))
+              ∙ (plus_zero (g c Wait) ∙ last c (turned (suc j) c h ∙ ap (λ x. items + x) e))
             where
               least : (x : ℕ) → x ≡ stages → stages ≤ x
               least x e = omega arith
@@ -247,11 +242,8 @@ module _ (l : Limits) (stages items : ℕ) (few_items : items ≤ 100) (few_stag
   signals_handed : handed (signals_of l w plain whole.ended) w ≡ items + stage_turns stages items
   signals_handed =
       by_hands (signals_of l w plain whole.ended) items (λ j. items + j) 0 (λ c e. e)
-      (λ j c e. ap (λ x. 0 + x) e ∙ none_before (items + j)) (λ c e. refl)
-      ∙ (none_more (items + up_to (λ j. items + j) stages) ∙ ap (λ x. items + x) turns_sum)
-    where
-      none_before : (x : ℕ) → 0 + x ≡ x
-      none_before x = omega arith
+      (λ j c e. ap (λ x. 0 + x) e ∙ zero_plus (items + j)) (λ c e. refl)
+      ∙ (plus_zero (items + up_to (λ j. items + j) stages) ∙ ap (λ x. items + x) turns_sum)
 
   -- ---- values
 
@@ -274,15 +266,9 @@ module _ (l : Limits) (stages items : ℕ) (few_items : items ≤ 100) (few_stag
         (λ p. ap (λ vs. sum_by a vs)
         (values l stages items few_items few_stages w whole j p (below_next j lt)))
         ∙ (sym (sum_flat a (values_in j items) ps)
-        ∙ (ap (λ vs. sum_by a vs) (all_values j items 0 j (phase_count past + (j + items)) (none_before j)
-        (more (phase_count past) (j + items)))
+        ∙ (ap (λ vs. sum_by a vs) (all_values j items 0 j (phase_count past + (j + items)) (zero_plus j)
+        (right_part_le (phase_count past) (j + items)))
         ∙ sum_mapped a (item j items) (range_with_len (0 + 1) items))))
-      where
-        none_before : (x : ℕ) → 0 + x ≡ x
-        none_before x = omega arith
-
-        more : (x y : ℕ) → y ≤ x + y
-        more x y = omega arith
 
     -- the sink sends nothing, and behind it is nobody
     of_none : (j : ℕ) → stages + 1 ≤ j → values_sum a (phaser_past j w) ≡ 0

@@ -26,6 +26,7 @@ use Rattle.job_kernels.specs.PipelineLines.{number_at, items_at}
 use Rattle.job_kernels.specs.PipelineTasks.{root_task, pipeline_next}
 use Rattle.job_kernels.proofs.PipelineRuns.{items_in_order}
 use Rattle.body_follows.specs.Whole.{IsWhole}
+use Rattle.kernel_laws.proofs.Numbers.{le_both_ways, le_self, le_without_one, lt_zero_plus, no_next_le_zero, none_below_zero, zero_least, zero_plus}
 use Rattle.kernel_laws.proofs.Goes.{GoesSmoothly, smoothly}
 use Rattle.kernel_laws.specs.Pipelines.{RunsComeToPipeline}
 use Rattle.kernel_laws.proofs.Plain.{IsPlain}
@@ -36,7 +37,8 @@ use Rattle.kernel_laws.proofs.Reports.{sent_counts, one_read, map_twice}
 use Rattle.kernel_laws.proofs.Telling.{smooth_before}
 use Rattle.kernel_laws.proofs.PipelineGoing.{LooksSaw, out_if, TaskStands, Standing}
 use Rattle.kernel_laws.proofs.PipelineActs.{stand}
-use Rattle.kernel_laws.proofs.PipelineSees.{look_sees, IsThere, all_there}
+use Rattle.kernel_laws.proofs.OwnPhasers.{IsThere}
+use Rattle.kernel_laws.proofs.PipelineSees.{look_sees, all_there}
 
 -- ---- what holds of each history
 
@@ -47,9 +49,6 @@ pub record Holds (stages items : ℕ) (w : List WorldEvent) : Type 0 where
 module _ (l : Limits) (stages items : ℕ) (few_items : items ≤ 100) (few_stages : stages ≤ 15) where
   abbrev Goes : List WorldEvent → Type 0
   Goes w = GoesSmoothly pipeline_next (root_task stages items) l w
-
-  least : (n : ℕ) → 0 ≤ n
-  least n = omega arith
 
   at_first : Holds stages items []
   at_first =
@@ -63,8 +62,8 @@ module _ (l : Limits) (stages items : ℕ) (few_items : items ≤ 100) (few_stag
             heard = Started;
             made = 0;
             is = refl;
-            within = least (stages + 1);
-            below = least (stages + 2);
+            within = zero_least (stages + 1);
+            below = zero_least (stages + 2);
             order = inr refl;
           };
           over = λ n. absurd (false≢true n);
@@ -100,10 +99,7 @@ module _ (l : Limits) (stages items : ℕ) (few_items : items ≤ 100) (few_stag
 -- ---- the items, phase by phase
 
 early : (s p : ℕ) → p < s → number_at s p ≡ None
-early zero p lt = absurd (no_less p lt)
-  where
-    no_less : (p : ℕ) → p < 0 → ⊥
-    no_less p h = omega arith
+early zero p lt = absurd (none_below_zero p lt)
 early (suc s) zero lt = refl
 early (suc s) (suc p) lt = early s p (less p s lt)
   where
@@ -131,17 +127,14 @@ module _ (s items : ℕ) where
     where
       at_end : (a q : ℕ) → a ≡ s + q → q + 0 ≡ items → items + s ≤ a
       at_end a q e f = omega arith
-  item_values q (suc r) a zero e f le = absurd (no_room r le)
-    where
-      no_room : (r : ℕ) → suc r ≤ 0 → ⊥
-      no_room r h = omega arith
+  item_values q (suc r) a zero e f le = absurd (no_next_le_zero r le)
   item_values q (suc r) a (suc m) e f le =
       let seen : value_seen (items_at s a) ≡ item (q + 1) ∷ [] =
       ap (λ p. value_seen (items_at s p)) e ∙ ap (λ x. value_seen x) (items_in_order s q) in
       ap (λ b. cond b (value_seen (items_at s a)) [] ++ flat_map values_in (range_with_len (a + 1) m))
       (lt-ltb a (items + s) (inside a q r e f))
       ∙ (ap (λ xs. xs ++ flat_map values_in (range_with_len (a + 1) m)) seen
-      ∙ ap (λ xs. item (q + 1) ∷ xs) (item_values (q + 1) r (a + 1) m (next a q e) (on q r f) (less r m le)))
+      ∙ ap (λ xs. item (q + 1) ∷ xs) (item_values (q + 1) r (a + 1) m (next a q e) (on q r f) (le_without_one r m le)))
     where
       inside : (a q r : ℕ) → a ≡ s + q → q + suc r ≡ items → a < items + s
       inside a q r e f = omega arith
@@ -152,9 +145,6 @@ module _ (s items : ℕ) where
       on : (q r : ℕ) → q + suc r ≡ items → (q + 1) + r ≡ items
       on q r f = omega arith
 
-      less : (r m : ℕ) → suc r ≤ suc m → r ≤ m
-      less r m h = omega arith
-
   nothing_early : (p : ℕ) → p < s → values_in p ≡ []
   nothing_early p lt = by_test (nat_lt p (items + s))
     where
@@ -164,13 +154,10 @@ module _ (s items : ℕ) where
 
   pub all_values : (a e m : ℕ) → a + e ≡ s → e + items ≤ m
       → flat_map values_in (range_with_len a m) ≡ map item (range_with_len (0 + 1) items)
-  all_values a zero m h le = item_values 0 items a m (from a h) (none_before items) (room m le)
+  all_values a zero m h le = item_values 0 items a m (from a h) (zero_plus items) (room m le)
     where
       from : (a : ℕ) → a + 0 ≡ s → a ≡ s + 0
       from a h = omega arith
-
-      none_before : (n : ℕ) → 0 + n ≡ n
-      none_before n = omega arith
 
       room : (m : ℕ) → 0 + items ≤ m → items ≤ m
       room m h = omega arith
@@ -223,10 +210,7 @@ module _ (l : Limits) (stages items : ℕ) (few_items : items ≤ 100) (few_stag
   plain : IsPlain l w
   plain = record { legal = k; plain = h.stands.plain }
 
-  self : (n : ℕ) → n ≤ n
-  self n = omega arith
-
-  there : (i : ℕ) → i ≤ stages → IsThere l stages items w h.stands k i
+  there : (i : ℕ) → i ≤ stages → IsThere i w
   there i le = all_there l stages items w h.stands k (ended_ends l 0 w plain whole.ended) i le
 
   -- the values of each phaser are the items behind as many stages
@@ -236,12 +220,9 @@ module _ (l : Limits) (stages items : ℕ) (few_items : items ≤ 100) (few_stag
       let task : TaskStands stages items i t.task w = h.stands.tasks i t.task t.child in
       let gone = has_left l w plain whole.ended t.task i t.registered in
       let done : task.done ≡ items + i =
-      both task.done (items + i) task.most (task.over (dropped_ends l t.task i w plain gone)) in
+      le_both_ways task.done (items + i) task.most (task.over (dropped_ends l t.task i w plain gone)) in
       task.values p ∙ (ap (λ m. out_if stages i m p) done
       ∙ ap (λ b. cond (nat_lt p (items + i)) (cond b (value_seen (items_at i p)) []) []) (le-leb i stages le))
-    where
-      both : (a b : ℕ) → a ≤ b → b ≤ a → a ≡ b
-      both a b h g = omega arith
 
   some : (i : ℕ) → i ≤ stages → is_empty (phaser_past i w) ≡ false
   some i le = let t = there i le in some_registered t.task (phaser_past i w) t.registered
@@ -257,7 +238,7 @@ module _ (l : Limits) (stages items : ℕ) (few_items : items ≤ 100) (few_stag
   folded [] = refl
   folded (p ∷ ns) =
       ap (λ xs. value_seen (fold Least xs) ++ flat_map (λ (f : FoldLine). value_seen f.value)
-      (flat_map (λ p. folds_from p 0 (Least ∷ []) (phaser_past stages w)) ns)) (values stages p (self stages))
+      (flat_map (λ p. folds_from p 0 (Least ∷ []) (phaser_past stages w)) ns)) (values stages p (le_self stages))
       ∙ (ap (λ xs. xs ++ flat_map (λ (f : FoldLine). value_seen f.value)
       (flat_map (λ p. folds_from p 0 (Least ∷ []) (phaser_past stages w)) ns))
       (kept (nat_lt p (items + stages)) p)
@@ -283,15 +264,12 @@ module _ (l : Limits) (stages items : ℕ) (few_items : items ≤ 100) (few_stag
       ∙ ap (λ x. value_seen x) (items_in_order stages n) in
       let long : stages + n < phase_count (phaser_past stages w) =
       sent_counts (stages + n) (pos (pipeline_item stages (n + 1))) (phaser_past stages w)
-      (values stages (stages + n) (self stages) ∙ last) in
-      all_values stages items 0 stages (phase_count (phaser_past stages w)) (none_before stages)
+      (values stages (stages + n) (le_self stages) ∙ last) in
+      all_values stages items 0 stages (phase_count (phaser_past stages w)) (zero_plus stages)
       (room n (phase_count (phaser_past stages w)) e long)
     where
       inside : (n : ℕ) → suc n ≡ items → stages + n < items + stages
       inside n e = omega arith
-
-      none_before : (n : ℕ) → 0 + n ≡ n
-      none_before n = omega arith
 
       room : (n c : ℕ) → suc n ≡ items → stages + n < c → stages + items ≤ c
       room n c e h = omega arith
@@ -300,7 +278,7 @@ module _ (l : Limits) (stages items : ℕ) (few_items : items ≤ 100) (few_stag
       (range_with_len (0 + 1) items)
   line =
       let past = phaser_past stages w in
-      let ops : ops_of stages w ≡ Least ∷ [] = (made l Least stages w plain h.stands.made (some stages (self stages))).ops in
+      let ops : ops_of stages w ≡ Least ∷ [] = (made l Least stages w plain h.stands.made (some stages (le_self stages))).ops in
       ap (λ b. cond b (flat_map (λ (f : FoldLine). value_seen f.value) (phaser_lines w stages).folds) [])
       (eq-eqb stages stages refl)
       ∙ (ap (λ os. flat_map (λ (f : FoldLine). value_seen f.value)
@@ -310,19 +288,13 @@ module _ (l : Limits) (stages items : ℕ) (few_items : items ≤ 100) (few_stag
   comes_to : items_of stages (report_of l w) ≡ map pos (pipeline stages items)
   comes_to =
       one_read (phaser_lines w) (values_of stages) (λ j. is_phaser j w) stages
-      (map (λ i. pos (pipeline_item stages i)) (range_with_len (0 + 1) items)) (is_made stages (self stages)) line
+      (map (λ i. pos (pipeline_item stages i)) (range_with_len (0 + 1) items)) (is_made stages (le_self stages)) line
       (λ j e. ap (λ b. cond b (flat_map (λ (f : FoldLine). value_seen f.value) (phaser_lines w j).folds) [])
       e)
-      0 l.phasers (zero_least stages) (below stages l.phasers (phaser_fits l stages w k (is_made stages (self stages))))
+      0 l.phasers (zero_least stages) (lt_zero_plus stages l.phasers (phaser_fits l stages w k (is_made stages (le_self stages))))
       ∙ (ap (λ a. map (λ i. pos (pipeline_item stages i)) (range_with_len a items)) one
       ∙ sym (map_twice (λ x. pos x) (pipeline_item stages) (range_with_len 1 items)))
     where
-      zero_least : (n : ℕ) → 0 ≤ n
-      zero_least n = omega arith
-
-      below : (a b : ℕ) → a < b → a < 0 + b
-      below a b h = omega arith
-
       one : ◌≡◌ {A = ℕ} (0 + 1) 1
       one = omega arith
 

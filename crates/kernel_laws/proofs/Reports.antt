@@ -12,6 +12,7 @@ use Rattle.phase_model.specs.Values.{sent, sum_of}
 use Rattle.world_model.specs.declared.report.FoldLine.{FoldLine}
 use Rattle.world_model.specs.Report.{folds_from, phase_count}
 use Rattle.job_kernels.specs.Results.{value_in}
+use Rattle.kernel_laws.proofs.Numbers.{le_apart_next_le, le_not_lt, le_without_one, lt_next, lt_not_same, next_on, next_on_lt, no_next_le_zero, same_lt_next}
 
 -- ---- the values of one phase
 
@@ -22,39 +23,24 @@ sums_from h a m = flat_map (λ p. folds_from p 0 (Sum ∷ []) h) (range_with_len
 none_of : (h : List Event) (s a m : ℕ) → s < a → flat_map (value_in s) (sums_from h a m) ≡ []
 none_of h s a zero lt = refl
 none_of h s a (suc m) lt =
-    rw (ne_eqb a s (λ e. apart s a e lt)) (none_of h s (a + 1) m (more s a lt))
+    rw (ne_eqb a s (λ e. apart s a e lt)) (none_of h s (a + 1) m (lt_next s a lt))
   where
     apart : (s a : ℕ) → a ≡ s → s < a → ⊥
     apart s a e h = omega arith
 
-    more : (s a : ℕ) → s < a → s < a + 1
-    more s a h = omega arith
-
 pub sum_in : (h : List Event) (s a m : ℕ) → a ≤ s → s < a + m
     → flat_map (value_in s) (sums_from h a m) ≡ sum_of (sent 0 s h) ∷ []
-sum_in h s a zero le lt = absurd (none s a le lt)
-  where
-    none : (s a : ℕ) → a ≤ s → s < a + 0 → ⊥
-    none s a x y = omega arith
+sum_in h s a zero le lt = absurd (le_not_lt s a le lt)
 sum_in h s a (suc m) le lt =
     elim (cases_Bool (a == s)) [
       | inl e ↦
           let same : a ≡ s = eqb-true a s e in
-          rw e (ap (λ xs. sum_of (sent 0 a h) ∷ xs) (none_of h s (a + 1) m (after s a same))
+          rw e (ap (λ xs. sum_of (sent 0 a h) ∷ xs) (none_of h s (a + 1) m (same_lt_next s a same))
           ∙ ap (λ p. sum_of (sent 0 p h) ∷ []) same)
       | inr e ↦
-          rw e (sum_in h s (a + 1) m (later s a le (λ x. true≢false (sym (eq-eqb a s x) ∙ e)))
-          (within s a m lt))
+          rw e (sum_in h s (a + 1) m (le_apart_next_le s a le (λ x. true≢false (sym (eq-eqb a s x) ∙ e)))
+          (next_on_lt s a m lt))
     ]
-  where
-    after : (s a : ℕ) → a ≡ s → s < a + 1
-    after s a e = omega arith
-
-    later : (s a : ℕ) → a ≤ s → (a ≡ s → ⊥) → a + 1 ≤ s
-    later s a x n = grind (arith, n)
-
-    within : (s a m : ℕ) → s < a + suc m → s < (a + 1) + m
-    within s a m x = omega arith
 
 -- a phase for which a value was sent is one of the history's
 right_of_max : (p a b : ℕ) → p < b → p < max a b
@@ -115,23 +101,14 @@ module _ {X Y : Type 0} (line : ℕ → X) (read : X → List Y) (is : ℕ → B
     where
       at_bound : (a n : ℕ) → a + 0 ≡ n → n ≤ a
       at_bound a n e = omega arith
-  all_read a (suc r) zero e le = absurd (no_room r le)
-    where
-      no_room : (r : ℕ) → suc r ≤ 0 → ⊥
-      no_room r h = omega arith
+  all_read a (suc r) zero e le = absurd (no_next_le_zero r le)
   all_read a (suc r) (suc m) e le =
       let t = there a (below a r n e) in
       rw t.0 (ap (λ xs. xs ++ reads (a + 1) m) t.1
-      ∙ ap (λ xs. value a ∷ xs) (all_read (a + 1) r m (next a r n e) (less r m le)))
+      ∙ ap (λ xs. value a ∷ xs) (all_read (a + 1) r m (next_on a r n e) (le_without_one r m le)))
     where
       below : (a r n : ℕ) → a + suc r ≡ n → a < n
       below a r n e = omega arith
-
-      next : (a r n : ℕ) → a + suc r ≡ n → (a + 1) + r ≡ n
-      next a r n e = omega arith
-
-      less : (r m : ℕ) → suc r ≤ suc m → r ≤ m
-      less r m h = omega arith
 
 -- a list, number by number
 pub map_twice : {X Y : Type 0} (f : X → Y) (g : ℕ → X) (ns : List ℕ)
@@ -158,22 +135,13 @@ module _ {X Y : Type 0} (line : ℕ → X) (read : X → List Y) (is : ℕ → B
   read_behind a (suc m) lt =
       elim (is a) as (λ b. flat_map read (map line (cond b (a ∷ filter is (range_with_len (a + 1) m))
       (filter is (range_with_len (a + 1) m)))) ≡ []) [
-        | true ↦ ap (λ xs. xs ++ read_from (a + 1) m) (nothing a (ne_eqb a n (λ e. apart n a lt e)))
-            ∙ read_behind (a + 1) m (more n a lt)
-        | false ↦ read_behind (a + 1) m (more n a lt)
+        | true ↦ ap (λ xs. xs ++ read_from (a + 1) m) (nothing a (ne_eqb a n (λ e. lt_not_same n a lt e)))
+            ∙ read_behind (a + 1) m (lt_next n a lt)
+        | false ↦ read_behind (a + 1) m (lt_next n a lt)
       ]
-    where
-      apart : (n a : ℕ) → n < a → a ≡ n → ⊥
-      apart n a h e = omega arith
-
-      more : (n a : ℕ) → n < a → n < a + 1
-      more n a h = omega arith
 
   pub one_read : (a m : ℕ) → a ≤ n → n < a + m → read_from a m ≡ value
-  one_read a zero le lt = absurd (no_room n a le lt)
-    where
-      no_room : (n a : ℕ) → a ≤ n → n < a + 0 → ⊥
-      no_room n a h g = omega arith
+  one_read a zero le lt = absurd (le_not_lt n a le lt)
   one_read a (suc m) le lt =
       elim (cases_Bool (a == n)) [
         | inl e ↦
@@ -181,21 +149,12 @@ module _ {X Y : Type 0} (line : ℕ → X) (read : X → List Y) (is : ℕ → B
             ap (λ b. flat_map read (map line (cond b (a ∷ filter is (range_with_len (a + 1) m))
             (filter is (range_with_len (a + 1) m))))) (ap is same ∙ there)
             ∙ (ap (λ xs. xs ++ read_from (a + 1) m) (ap (λ j. read (line j)) same ∙ at)
-            ∙ (ap (λ xs. value ++ xs) (read_behind (a + 1) m (after n a same)) ∙ nil_after value))
+            ∙ (ap (λ xs. value ++ xs) (read_behind (a + 1) m (same_lt_next n a same)) ∙ nil_after value))
         | inr e ↦
             by_test (is a) (nothing a e)
-            (one_read (a + 1) m (later n a le (λ x. true≢false (sym (eq-eqb a n x) ∙ e))) (within n a m lt))
+            (one_read (a + 1) m (le_apart_next_le n a le (λ x. true≢false (sym (eq-eqb a n x) ∙ e))) (next_on_lt n a m lt))
       ]
     where
-      after : (n a : ℕ) → a ≡ n → n < a + 1
-      after n a e = omega arith
-
-      later : (n a : ℕ) → a ≤ n → (a ≡ n → ⊥) → a + 1 ≤ n
-      later n a x f = grind (arith, f)
-
-      within : (n a m : ℕ) → n < a + suc m → n < (a + 1) + m
-      within n a m x = omega arith
-
       nil_after : (xs : List Y) → xs ++ [] ≡ xs
       nil_after [] = refl
       nil_after (x ∷ xs) = ap (λ ys. x ∷ ys) (nil_after xs)

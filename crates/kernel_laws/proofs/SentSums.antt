@@ -18,12 +18,15 @@ use Rattle.phase_model.specs.Rules.{is_legal}
 use Rattle.phase_model.specs.Values.{sent}
 use Rattle.phase_model.proofs.Legal.{last_follows}
 use Rattle.phase_model.proofs.LiveTasks.{empty_is}
+use Rattle.world_model.specs.declared.event.Step.{Step}
 use Rattle.world_model.specs.declared.event.WorldEvent.{WorldEvent}
+use Rattle.world_model.specs.declared.event.WorldEvent.TheVariants.{Phaser}
 use Rattle.world_model.specs.Numbers.{is_phaser}
 use Rattle.world_model.specs.declared.report.TotalsLine.{TotalsLine}
 use Rattle.world_model.specs.Parts.{phaser_past, terms_of, ops_of}
 use Rattle.world_model.specs.Report.{below, phase_count, is_send}
-use Rattle.world_model.proofs.PhasersLegal.{phasers_legal}
+use Rattle.world_model.proofs.PhasersLegal.{phasers_legal, event_of}
+use Rattle.kernel_laws.proofs.Numbers.{max_right_le, zero_least, zero_plus}
 use Rattle.kernel_laws.proofs.Plain.{IsPlain}
 use Rattle.kernel_laws.proofs.Making.{AllMade, made}
 use Rattle.kernel_laws.proofs.Sums.{sum_both, sum_same, sum_none, sum_mapped, sum_filter, sum_picked, sum_below}
@@ -35,26 +38,34 @@ values_sum a [] = 0
 values_sum a (Send t b v ∷ h) = a v + values_sum a h
 values_sum a (_ ∷ h) = values_sum a h
 
--- ---- the counts of a report are such sums
+-- a step that sends nothing leaves what was sent
+pub step_sends_nothing : (w : List WorldEvent) (m : ℕ) (s : Step)
+    → ((i p : ℕ) → sent 0 p (event_of i w s ∷ phaser_past i w) ≡ sent 0 p (phaser_past i w))
+    → (i p : ℕ) → sent 0 p (phaser_past i (Phaser m s ∷ w)) ≡ sent 0 p (phaser_past i w)
+step_sends_nothing w m s none i p = either (m == i)
+  where
+    either : (b : Bool) → sent 0 p (cond b (event_of i w s ∷ phaser_past i w) (phaser_past i w))
+        ≡ sent 0 p (phaser_past i w)
+    either true = none i p
+    either false = refl
 
-none_more : (x : ℕ) → 0 + x ≡ x
-none_more x = omega arith
+-- ---- the counts of a report are such sums
 
 pub sends_counted : (h : List Event) → count_by is_send h ≡ values_sum (λ v. 1) h
 sends_counted [] = refl
 sends_counted (Send t b v ∷ h) = sum_by-cons (λ e. cond (is_send e) 1 0) (Send t b v) h ∙ ap (λ x. 1 + x) (sends_counted h)
 sends_counted (e ∷ h) =
-    sum_by-cons (λ x. cond (is_send x) 1 0) e h ∙ (none_more (count_by is_send h) ∙ sends_counted h)
+    sum_by-cons (λ x. cond (is_send x) 1 0) e h ∙ (zero_plus (count_by is_send h) ∙ sends_counted h)
 
 pub ups_counted : (h : List Event) → (totals h).up ≡ values_sum up_of h
 ups_counted [] = refl
 ups_counted (Send t b v ∷ h) = ap (λ x. up_of v + x) (ups_counted h)
-ups_counted (e ∷ h) = none_more (totals h).up ∙ ups_counted h
+ups_counted (e ∷ h) = zero_plus (totals h).up ∙ ups_counted h
 
 pub downs_counted : (h : List Event) → (totals h).down ≡ values_sum down_of h
 downs_counted [] = refl
 downs_counted (Send t b v ∷ h) = ap (λ x. down_of v + x) (downs_counted h)
-downs_counted (e ∷ h) = none_more (totals h).down ∙ downs_counted h
+downs_counted (e ∷ h) = zero_plus (totals h).down ∙ downs_counted h
 
 -- ---- phase by phase
 
@@ -82,7 +93,7 @@ module _ (a : ℤ → ℕ) where
   one_value : (v : ℤ) (vs : List ℤ) (b d : Bool) → b ≡ true
       → sum_by a (cond (b && d) (v ∷ vs) vs) ≡ cond d (a v) 0 + sum_by a vs
   one_value v vs true true e = sum_by-cons a v vs
-  one_value v vs true false e = sym (none_more (sum_by a vs))
+  one_value v vs true false e = sym (zero_plus (sum_by a vs))
   one_value v vs false d e = absurd (true≢false (sym e))
 
   by_phases : (h : List Event) (n : ℕ) → list_all is_first h ≡ true → phase_count h ≤ n
@@ -97,26 +108,14 @@ module _ (a : ℤ → ℕ) where
       (λ p. one_value v (sent 0 p h) (b == 0) (signals t h == p) q.0) in
       let both = sum_both (λ p. cond (signals t h == p) (a v) 0) (λ p. sum_by a (sent 0 p h)) ns in
       let one =
-      sum_picked (a v) (signals t h) 0 n (least (signals t h)) (inside (signals t h) (phase_count h) n le) in
-      let rest = by_phases h n q.1 (right (signals t h + 1) (phase_count h) n le) in
+      sum_picked (a v) (signals t h) 0 n (zero_least (signals t h)) (inside (signals t h) (phase_count h) n le) in
+      let rest = by_phases h n q.1 (max_right_le (signals t h + 1) (phase_count h) n le) in
       omega (arith, each, both, one, rest)
     where
-      least : (x : ℕ) → 0 ≤ x
-      least x = omega arith
-
       inside : (x y z : ℕ) → max (x + 1) y ≤ z → x < 0 + z
       inside x y z h = omega arith
-
-      right : (x y z : ℕ) → max x y ≤ z → y ≤ z
-      right x y z h = omega arith
-  by_phases (Sig t x ∷ h) n k le = by_phases h n k (right (signals t h + 1) (phase_count h) n le)
-    where
-      right : (x y z : ℕ) → max x y ≤ z → y ≤ z
-      right x y z h = omega arith
-  by_phases (Pass t ∷ h) n k le = by_phases h n k (right (waits t h + 1) (phase_count h) n le)
-    where
-      right : (x y z : ℕ) → max x y ≤ z → y ≤ z
-      right x y z h = omega arith
+  by_phases (Sig t x ∷ h) n k le = by_phases h n k (max_right_le (signals t h + 1) (phase_count h) n le)
+  by_phases (Pass t ∷ h) n k le = by_phases h n k (max_right_le (waits t h + 1) (phase_count h) n le)
   by_phases (e ∷ h) n k le = by_phases h n k le
 
   -- so where it is known what was sent for each phase, as far as any number of phases
@@ -139,7 +138,7 @@ module _ (a : ℤ → ℕ) where
       sum_mapped (values_sum a) (λ j. phaser_past j w) (filter (λ j. is_phaser j w) (below l.phasers))
       ∙ (sum_filter (λ j. values_sum a (phaser_past j w)) (λ j. is_phaser j w) (below l.phasers)
       (λ j e. ap (λ h. values_sum a h) (empty_is (phaser_past j w) (not-false (is_empty (phaser_past j w)) e)))
-      ∙ sum_below (λ j. values_sum a (phaser_past j w)) g n 0 n l.phasers (none_more n) fits same none)
+      ∙ sum_below (λ j. values_sum a (phaser_past j w)) g n 0 n l.phasers (zero_plus n) fits same none)
 
 -- ---- in a plain world whose phasers have one accumulator each
 

@@ -1,6 +1,6 @@
 -- Each act of a stencil's task: which it is, where the stencil stands after it, and so in each history.
 use Rattle.std.proofs.Common.{ℕ, ◌+◌, ◌≡◌, ◌<◌, ◌∙◌, true, false, ◌==◌, List, [], ◌∷◌, length, Some, None, refl, sym, ap, subst, inl, inr}
-use Rattle.std.proofs.lemmas.Bool.{cases_Bool, eqb-true, true≢false, false_from_ne_true}
+use Rattle.std.proofs.lemmas.Bool.{cases_Bool, eqb-true, true≢false}
 use Rattle.phase_modes.specs.declared.limits.Limits.{Limits}
 use Rattle.phase_modes.specs.declared.reg.Mode.TheVariants.{SigWait}
 use Rattle.phase_model.specs.declared.op.Op.TheVariants.{Sum}
@@ -22,19 +22,18 @@ use Rattle.world_model.specs.declared.event.WorldEvent.TheVariants.{Phaser, Fini
 use Rattle.world_model.specs.Parts.{phaser_past}
 use Rattle.world_model.specs.Due.{is_idle}
 use Rattle.world_model.specs.Replies.{is_legal_world, is_accepted}
-use Rattle.world_model.specs.TaskConditions.{last_entry}
 use Rattle.world_model.proofs.AbleComputed.{idle_in_act}
 use Rattle.world_model.proofs.PassesInTurns.{idle_is_born}
 use Rattle.world_model.proofs.BornWhereNamed.{born_named}
 use Rattle.world_model.proofs.SpawnUnderWay.{names_fresh}
-use Rattle.world_model.proofs.LeavingList.{ends_act}
 use Rattle.schedule_model.specs.Follows.{drawn}
 use Rattle.job_kernels.specs.declared.stencil_body.StencilBody.{StencilBody}
 use Rattle.job_kernels.specs.Stencil.{AtMost}
 use Rattle.job_kernels.specs.StencilLines.{cells_at}
 use Rattle.job_kernels.specs.StencilTasks.{greatest, cell_task, neighbours, phasers_of, root_task, stencil_next}
+use Rattle.kernel_laws.proofs.Endings.{not_ending}
 use Rattle.kernel_laws.proofs.Goes.{tried_as, GoesSmoothly}
-use Rattle.kernel_laws.proofs.Plain.{turns, sends, spawned, child_at, ends_never_idle}
+use Rattle.kernel_laws.proofs.Plain.{turns, sends, spawned, child_at}
 use Rattle.kernel_laws.proofs.Children.{named_child, one_place}
 use Rattle.kernel_laws.proofs.IdlePaces.{waits_in_look}
 use Rattle.kernel_laws.proofs.Telling.{event_by, last_unrefused}
@@ -104,10 +103,6 @@ module _ (l : Limits) (first : List ℕ) (steps : ℕ) (w : List WorldEvent) (st
   cell_act t i a is z h (CellStep.turns e next) = Act.turning i z h (by_next t a acts.Next is e) next
   cell_act t i a is z h (CellStep.ends e over all) = Act.ending i z h (by_next t a acts.End is e) over all
 
-  pub not_ending : (t : ℕ) → is_idle t w ≡ true → ends_act (last_entry t w) ≡ false
-  not_ending t idle =
-      false_from_ne_true (ends_act (last_entry t w)) (λ q. true≢false (sym idle ∙ ends_never_idle l t w k q))
-
   -- what the act of an idle task is
   pub act_is : (t : ℕ) (a : Tried) → is_idle t w ≡ true
       → a ≡ tried_as w t (drawn a) (stencil_does first steps w t).0 → Act first steps w t a
@@ -122,7 +117,7 @@ module _ (l : Limits) (first : List ℕ) (steps : ℕ) (w : List WorldEvent) (st
             let p = named_child t w z (born_named l t w k (idle_is_born t w idle)) in
             cell_act t p.0 a is z p.1
             (cell_step first steps p.0 (turns t w) (sends t w) (stencil_does first steps w t)
-            ((st.cells p.0 t p.1).goes (not_ending t idle)))
+            ((st.cells p.0 t p.1).goes (not_ending l w k t idle)))
       ]
 
   -- ---- where the stencil stands after it
@@ -151,7 +146,7 @@ module _ (l : Limits) (first : List ℕ) (steps : ℕ) (w : List WorldEvent) (st
         (stand_sends l first steps w st k t z idle i (cells_at first (turns t w) i) count
         (λ j g. subst (λ x. CellAt first steps x (turns t w) (sends t w + 1)
         (stencil_next Done (stencil_does first steps w t).1)) (one_place l i j t w k h g) next)
-        (λ j g. (st.cells j t g).few) (not_ending t idle))
+        (λ j g. (st.cells j t g).few) (not_ending l w k t idle))
     after_act t a ok idle sees (Act.looking i j p z h e among turned next) =
         let seen : LookSees first w j t 0 = subst (λ b. SeesOf first w t b) e sees in
         let look : is_accepted l w (Phaser j (Look t 0)) ≡ true =
@@ -163,7 +158,7 @@ module _ (l : Limits) (first : List ℕ) (steps : ℕ) (w : List WorldEvent) (st
         (λ x g. subst (λ y. CellAt first steps y (turns t w) (sends t w)
         (stencil_next (Saw (Value (cells_at first p j))) (stencil_does first steps w t).1))
         (one_place l i x t w k h g) next)
-        (λ x g. st.cells x t g) (not_ending t idle))
+        (λ x g. st.cells x t g) (not_ending l w k t idle))
     after_act t a ok idle sees (Act.turning i z h e next) =
         subst (λ b. Standing first steps (event_by t b ∷ w)) (sym e)
         (stand_turns l first steps w st k t z idle

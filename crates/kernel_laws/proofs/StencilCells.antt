@@ -12,6 +12,7 @@ use Rattle.job_kernels.specs.Tasks.{Does, Line, GoesBy}
 use Rattle.job_kernels.specs.StencilTasks.{greatest, neighbours, cell_task, stencil_next}
 use Rattle.job_kernels.specs.StencilLines.{cells_at, sending, looking, step_lines}
 use Rattle.job_kernels.proofs.StencilRuns.{cells_go_by_stencil}
+use Rattle.kernel_laws.proofs.Numbers.{next_not_zero, next_on, without_zero}
 
 -- what is left to a task that has begun k turns and has r of them left: where it hasn't sent its value of
 -- phase k, it looks at these cells first
@@ -79,16 +80,10 @@ module _ (first : List ℕ) (steps i k made : ℕ) (d : Does StencilBody) where
         count = count;
         goes = goes.1;
         among = λ x h. among x (or_right (j == x) (has x js) h);
-        none = λ z. absurd (not_zero (k - 1) (sym turned ∙ z));
+        none = λ z. absurd (next_not_zero (k - 1) (sym turned ∙ z));
       })
-    where
-      not_zero : (x : ℕ) → x + 1 ≡ 0 → ⊥
-      not_zero x h = omega arith
   step_of true zero js sum count goes among none =
-      ends goes (count ∙ ap (λ x. x + 1) (last k steps sum)) (last k steps sum)
-    where
-      last : (k s : ℕ) → k + 0 ≡ s → k ≡ s
-      last k s h = omega arith
+      ends goes (count ∙ ap (λ x. x + 1) (without_zero k steps sum)) (without_zero k steps sum)
   step_of true (suc r) js sum count goes among none =
       let nb = neighbours (length first) i in
       let rest = flat_map (step_lines (cells_at first) (length first) i) (range_with_len (k + 1) r) in
@@ -102,21 +97,15 @@ module _ (first : List ℕ) (steps i k made : ℕ) (d : Does StencilBody) where
         rest = r;
         looks = nb;
         is_sent = false;
-        sum = one_on k r steps sum;
+        sum = next_on k r steps sum;
         count = count;
         goes = there;
         among = λ j h. h;
-        none = λ z. absurd (not_zero k z);
+        none = λ z. absurd (next_not_zero k z);
       })
     where
-      not_zero : (x : ℕ) → x + 1 ≡ 0 → ⊥
-      not_zero x h = omega arith
-
       back : (x : ℕ) → x ≡ (x + 1) - 1
       back x = omega arith
-
-      one_on : (x y s : ℕ) → x + suc y ≡ s → (x + 1) + y ≡ s
-      one_on x y s h = omega arith
 
   pub cell_step : CellAt first steps i k made d → CellStep first steps i k made d
   cell_step c = step_of c.is_sent c.rest c.looks c.sum c.count c.goes c.among c.none

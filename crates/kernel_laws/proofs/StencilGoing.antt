@@ -2,6 +2,7 @@
 use Rattle.std.proofs.Common.{ℕ, ℤ, ◌+◌, ◌≡◌, ◌≤◌, ◌<◌, ◌∙◌, inl, inr, Bool, true, false, ◌==◌, not, cond, List, [], ◌∷◌, length, Some, None, refl, sym, ap, subst, arith}
 use Rattle.std.specs.List.{list_any, list_all}
 use Rattle.std.proofs.lemmas.Bool.{and_from, or_parts, cases_Bool, eqb-true, eq-eqb, true≢false, false≢true, false_from_ne_true}
+use Rattle.std.proofs.lemmas.Option.{same_Some}
 use Rattle.phase_modes.specs.declared.limits.Limits.{Limits}
 use Rattle.phase_modes.specs.declared.reg.Mode.TheVariants.{SigWait}
 use Rattle.phase_model.specs.declared.op.Op.TheVariants.{Sum}
@@ -31,6 +32,7 @@ use Rattle.job_kernels.specs.Stencil.{AtMost}
 use Rattle.job_kernels.specs.StencilLines.{cells_at}
 use Rattle.job_kernels.specs.StencilTasks.{greatest, cell_task, phasers_of, root_task, stencil_next}
 use Rattle.body_follows.specs.Going.{heard, child_does, does}
+use Rattle.kernel_laws.proofs.Numbers.{part_le, zero_least}
 use Rattle.kernel_laws.proofs.Plain.{IsPlain, is_plain, turns, sends, spawned, child_at, flipped}
 use Rattle.kernel_laws.proofs.Paces.{unborn_turns}
 use Rattle.kernel_laws.proofs.Children.{child_named, child_no_root}
@@ -209,12 +211,9 @@ module _ (l : Limits) (first : List ℕ) (steps : ℕ) (w : List WorldEvent) (st
             (cell_starts first steps (spawned w) small lt);
         over = λ n. absurd (false≢true (subst (λ o. ends_act o ≡ true) last n));
         turned = λ n. absurd (false≢true (subst (λ o. ends_act o ≡ true) last n));
-        few = subst (λ v. v ≤ steps) (sym turned) (least steps);
-        ahead = subst (λ v. v ≤ sends x (e ∷ w)) (sym turned) (least (sends x (e ∷ w)));
+        few = subst (λ v. v ≤ steps) (sym turned) (zero_least steps);
+        ahead = subst (λ v. v ≤ sends x (e ∷ w)) (sym turned) (zero_least (sends x (e ∷ w)));
       }
-    where
-      least : (n : ℕ) → 0 ≤ n
-      least n = omega arith
 
   pub stand_spawns : (x : ℕ) (small : AtMost greatest first) → spawned w < length first → is_named x w ≡ false
       → (stencil_does first steps w 0).0
@@ -233,7 +232,7 @@ module _ (l : Limits) (first : List ℕ) (steps : ℕ) (w : List WorldEvent) (st
         over = λ n. absurd (false≢true n);
         cells = λ i c h. elim (cases_Bool (spawned w == i)) [
           | inl s ↦
-              let here : x ≡ c = same_some x c (rw s at h) in
+              let here : x ≡ c = same_Some x c (rw s at h) in
               subst (λ j. CellStands first steps j c (e ∷ w)) (eqb-true (spawned w) i s)
               (subst (λ v. CellStands first steps (spawned w) v (e ∷ w)) here
               (child_starts x small lt z fresh act))
@@ -249,9 +248,6 @@ module _ (l : Limits) (first : List ℕ) (steps : ℕ) (w : List WorldEvent) (st
               (st.cells i c before)
         ];
       }
-    where
-      same_some : (a b : ℕ) → Some a ≡ Some b → a ≡ b
-      same_some a b h = cc
 
   -- ---- a cell's acts
 
@@ -328,14 +324,11 @@ module _ (l : Limits) (first : List ℕ) (steps : ℕ) (w : List WorldEvent) (st
               refl now c;
           over = λ n. absurd (false≢true (subst (λ o. ends_act o ≡ true) last n));
           turned = λ n. absurd (false≢true (subst (λ o. ends_act o ≡ true) last n));
-          few = subst (λ y. y ≤ steps) (sym turned) (part (turns t w + 1) c.rest steps c.sum);
+          few = subst (λ y. y ≤ steps) (sym turned) (part_le (turns t w + 1) c.rest steps c.sum);
           ahead = subst (λ y. y ≤ sends t w) (sym turned)
               (at_least (turns t w + 1) (sends t w) c.is_sent c.count);
         })
       where
-        part : (a b c : ℕ) → a + b ≡ c → a ≤ c
-        part a b c h = omega arith
-
         at_least : (a b : ℕ) (x : Bool) → b ≡ cond x (a + 1) a → a ≤ b
         at_least a b true h = omega arith
         at_least a b false h = omega arith

@@ -1,5 +1,5 @@
 -- The laws of each history of a stencil: what is sent are its cells, and each look sees its cell.
-use Rattle.std.proofs.Common.{ℕ, ℤ, ◌≡◌, ◌≤◌, ◌<◌, ◌∙◌, true, cond, List, [], ◌∷◌, ◌++◌, length, refl, sym, ap, subst, inr, arith}
+use Rattle.std.proofs.Common.{ℕ, ℤ, ◌≡◌, ◌<◌, ◌∙◌, true, cond, List, [], ◌∷◌, ◌++◌, length, refl, sym, ap, subst, inr}
 use Rattle.std.proofs.lemmas.Bool.{le-ltb, false≢true}
 use Rattle.std.proofs.lemmas.Option.{none-some}
 use Rattle.phase_modes.specs.declared.limits.Limits.{Limits}
@@ -15,6 +15,7 @@ use Rattle.schedule_model.specs.Scripts.{act_of}
 use Rattle.job_kernels.specs.Stencil.{AtMost}
 use Rattle.job_kernels.specs.StencilLines.{cells_at}
 use Rattle.job_kernels.specs.StencilTasks.{greatest, root_task, stencil_next}
+use Rattle.kernel_laws.proofs.Numbers.{lt_le, zero_least}
 use Rattle.kernel_laws.proofs.Goes.{IsNext, GoesSmoothly, smoothly}
 use Rattle.kernel_laws.specs.Stencils.{ValuesAreCells, LooksSeeCells}
 use Rattle.kernel_laws.proofs.Plain.{turns, spawned}
@@ -36,9 +37,6 @@ module _ (l : Limits) (first : List ℕ) (steps : ℕ) (small : AtMost greatest 
   abbrev pub Goes : List WorldEvent → Type 0
   Goes w = GoesSmoothly stencil_next (root_task first steps) l w
 
-  least : (n : ℕ) → 0 ≤ n
-  least n = omega arith
-
   at_first : Holds first steps []
   at_first =
       record {
@@ -51,14 +49,14 @@ module _ (l : Limits) (first : List ℕ) (steps : ℕ) (small : AtMost greatest 
             heard = Started;
             made = 0;
             is = refl;
-            within = least (length first);
-            below = least (length first);
+            within = zero_least (length first);
+            below = zero_least (length first);
             order = inr refl;
           };
           over = λ n. absurd (false≢true n);
           cells = λ i c h. absurd (none-some c h);
         };
-        values = λ i p. ap (λ b. cond b (cells_at first p i ∷ []) []) (sym (le-ltb p 0 (least p)));
+        values = λ i p. ap (λ b. cond b (cells_at first p i ∷ []) []) (sym (le-ltb p 0 (zero_least p)));
       }
 
   saw_step : (e : WorldEvent) (w : List WorldEvent) → Holds first steps w → Goes (e ∷ w)
@@ -115,13 +113,10 @@ module _ (l : Limits) (first : List ℕ) (steps : ℕ) (small : AtMost greatest 
       let i : SendIs first n t a v before = sent_last e before h.stands now n t a v refl in
       let signalled : signals t (phaser_past n before) ≡ turns t before =
       signals_in_send l before (record { legal = x.1; plain = h.stands.plain }) n t a v x.0 in (
-        within n (spawned before) (length first) (at_below n t before i.place) h.stands.root.below,
+        lt_le n (spawned before) (length first) (at_below n t before i.place) h.stands.root.below,
         i.zero_acc,
         i.value ∙ ap (λ y. cells_at first y n) (sym signalled),
       )
-    where
-      within : (x y z : ℕ) → x < y → y ≤ z → x < z
-      within x y z b c = omega arith
 
   looks_see : (later before : List WorldEvent) (n t a : ℕ) → Goes (later ++ Phaser n (Look t a) ∷ before)
       → LooksSaw first (Phaser n (Look t a) ∷ before)

@@ -12,6 +12,7 @@ use Rattle.job_kernels.specs.declared.stencil_body.StencilBody.{StencilBody}
 use Rattle.job_kernels.specs.Tasks.{Does}
 use Rattle.job_kernels.specs.StencilTasks.{greatest, cell_task, phasers_of, stencil_next}
 use Rattle.job_kernels.proofs.StencilRuns.{cell}
+use Rattle.kernel_laws.proofs.Numbers.{le_both_ways}
 
 -- the cells in a row of sixteen
 abbrev pub padded : List ℕ → List ℕ
@@ -66,9 +67,6 @@ module _ (first : List ℕ) (steps : ℕ) where
   one_more : (m n : ℕ) → m < n → m + 1 ≤ n
   one_more m n h = omega arith
 
-  both : (m n : ℕ) → m ≤ n → n ≤ m → m ≡ n
-  both m n h g = omega arith
-
   full : (m n : ℕ) → m < n → m ≡ n → ⊥
   full m n h g = omega arith
 
@@ -91,7 +89,7 @@ module _ (first : List ℕ) (steps : ℕ) where
               ];
             })
         | inr h ↦
-            let all : m ≡ length first = both m (length first) w (ltb-false m (length first) h) in
+            let all : m ≡ length first = le_both_ways m (length first) w (ltb-false m (length first) h) in
             elim (cases_Bool (nat_lt s (length first))) [
               | inl g ↦
                   let lt : s < length first = ltb-true s (length first) g in
@@ -106,7 +104,7 @@ module _ (first : List ℕ) (steps : ℕ) where
                   })
               | inr g ↦
                   let e = is ∙ ends_next x m s h g in
-                  ends (both s (length first) b (ltb-false s (length first) g)) (ap (λ y. y.0) e)
+                  ends (le_both_ways s (length first) b (ltb-false s (length first) g)) (ap (λ y. y.0) e)
                   (λ y. record {
                     heard = y;
                     made = m;

@@ -1,17 +1,16 @@
 -- Each look of a stencil's task sees its cell, as it was after the steps before.
-use Rattle.std.proofs.Common.{ℕ, zero, suc, ◌+◌, ◌-◌, ◌≡◌, ◌≤◌, ◌<◌, ◌∙◌, Bool, true, false, ◌&&◌, ◌==◌, nat_lt, cond, List, [], ◌∷◌, ◌++◌, length, map, Some, refl, sym, ap, subst, inl, inr, arith}
+use Rattle.std.proofs.Common.{ℕ, zero, suc, ◌+◌, ◌-◌, ◌≡◌, ◌<◌, ◌∙◌, Bool, true, false, ◌&&◌, ◌==◌, nat_lt, cond, List, [], ◌∷◌, ◌++◌, length, map, Some, refl, sym, ap, subst, inl, inr, arith}
 use Rattle.std.specs.List.{list_any}
 use Rattle.std.proofs.Math.IntN.{+ℤ_idl}
-use Rattle.std.proofs.lemmas.Bool.{and_from, or_cases, or_parts, or_from, or_left, cases_Bool, eqb-true, eq-eqb, ne_eqb, lt-ltb, ltb-true, true≢false, false≢true}
+use Rattle.std.proofs.lemmas.Bool.{and_from, or_cases, or_parts, or_from, cases_Bool, eqb-true, eq-eqb, ne_eqb, lt-ltb, ltb-true, false≢true}
 use Rattle.phase_modes.specs.Lists.{is_empty}
 use Rattle.phase_modes.specs.declared.limits.Limits.{Limits}
 use Rattle.phase_modes.specs.declared.reg.Mode.TheVariants.{Wait}
-use Rattle.phase_modes.specs.Mode.{can_signal}
 use Rattle.phase_model.specs.declared.history.Event.TheVariants.{Look as Looked}
 use Rattle.phase_model.specs.declared.op.Op.TheVariants.{Sum}
 use Rattle.phase_model.specs.declared.op.Look.TheVariants.{Value}
-use Rattle.phase_model.specs.Tasks.{is_live, is_registered, is_dropped, has_mode}
-use Rattle.phase_model.specs.Phases.{waits, signals, IsClosed}
+use Rattle.phase_model.specs.Tasks.{is_dropped}
+use Rattle.phase_model.specs.Phases.{waits, IsClosed}
 use Rattle.phase_model.specs.Values.{sent, fold}
 use Rattle.phase_model.specs.Rules.{look_of}
 use Rattle.phase_model.proofs.LiveTasks.{has}
@@ -22,28 +21,24 @@ use Rattle.world_model.specs.declared.event.Tried.TheVariants.{Look as Looking}
 use Rattle.world_model.specs.declared.event.WorldEvent.{WorldEvent}
 use Rattle.world_model.specs.declared.event.WorldEvent.TheVariants.{Phaser}
 use Rattle.world_model.specs.Parts.{ops_of, phaser_past}
-use Rattle.world_model.specs.Due.{due}
 use Rattle.world_model.specs.Replies.{is_legal_world, is_accepted}
 use Rattle.world_model.specs.TaskConditions.{last_entry}
 use Rattle.world_model.proofs.AbleComputed.{idle_in_act}
 use Rattle.world_model.proofs.PhasersFolded.{phasers_folded}
-use Rattle.world_model.proofs.TurnsStand.{is_sig_on, how_many}
 use Rattle.world_model.proofs.LeavingList.{ends_act}
-use Rattle.world_model.proofs.LeavesAtEnds.{leaves_act}
-use Rattle.world_model.proofs.ShutterDropsFirst.{shuts_act}
-use Rattle.world_model.proofs.DropsStandAlways.{leaves_only}
 use Rattle.schedule_model.specs.Follows.{drawn}
 use Rattle.job_kernels.specs.StencilLines.{cells_at}
 use Rattle.job_kernels.specs.Tasks.{pair_on}
 use Rattle.job_kernels.specs.StencilTasks.{neighbours, left_of, right_of, phasers_of}
+use Rattle.kernel_laws.proofs.Numbers.{lt_le, next_le_lt, next_less_one, not_its_next}
 use Rattle.kernel_laws.proofs.Goes.{tried_as}
-use Rattle.kernel_laws.proofs.Plain.{IsPlain, turns, sends, spawned, child_at, root_turns}
-use Rattle.kernel_laws.proofs.Paces.{paces}
-use Rattle.kernel_laws.proofs.Children.{at_below, there_is}
+use Rattle.kernel_laws.proofs.Plain.{IsPlain, turns, sends, spawned, child_at}
+use Rattle.kernel_laws.proofs.Children.{at_below}
 use Rattle.kernel_laws.proofs.Endings.{dropped_ends}
-use Rattle.kernel_laws.proofs.Joining.{HasOwn, Joined, joined, is_weak_for, is_reg_for, regs_of, no_leave_is_reg}
+use Rattle.kernel_laws.proofs.Joining.{HasOwn, is_weak_for, regs_of}
 use Rattle.kernel_laws.proofs.Making.{IsMade, made}
 use Rattle.kernel_laws.proofs.IdlePaces.{LookAsked, look_asked, waits_in_look}
+use Rattle.kernel_laws.proofs.OwnPhasers.{IsThere, child_there, turned_past, root_left}
 use Rattle.kernel_laws.proofs.StencilGoing.{stencil_does, LookSees, Standing}
 use Rattle.kernel_laws.proofs.StencilActs.{Act, act_is}
 use Rattle.kernel_laws.proofs.StencilValues.{made_of, made_at, ValuesStand}
@@ -53,10 +48,7 @@ use Rattle.kernel_laws.proofs.StencilValues.{made_of, made_at, ValuesStand}
 no_left : (i : ℕ) (c : ℕ) → list_any (is_weak_for i c) (regs_of 0 c
     (map (λ j. pair_on j Wait) (left_of i))) ≡ false
 no_left zero c = refl
-no_left (suc i) c = rw (ne_eqb i (suc i) (λ e. no_less i e)) refl
-  where
-    no_less : (i : ℕ) → i ≡ suc i → ⊥
-    no_less i e = omega arith
+no_left (suc i) c = rw (ne_eqb i (suc i) (λ e. not_its_next i e)) refl
 
 no_right : (n i c : ℕ) → list_any (is_weak_for i c) (regs_of 0 c
     (map (λ j. pair_on j Wait) (right_of n i))) ≡ false
@@ -165,63 +157,28 @@ module _ (l : Limits) (first : List ℕ) (steps : ℕ) (w : List WorldEvent) (st
   plain_now = record { legal = k; plain = st.plain }
 
   -- once the root is on its way to its end, the task of each cell is registered on its phaser, and can signal
-  pub record IsThere (j : ℕ) : Type 0 where
-    pub task : ℕ
-    pub child : child_at j w ≡ Some task
-    pub registered : is_registered task (phaser_past j w) ≡ true
-    pub mode : has_mode can_signal task (phaser_past j w) ≡ true
-
-  pub all_there : ends_act (last_entry 0 w) ≡ true → (j : ℕ) → j < length first → IsThere j
+  pub all_there : ends_act (last_entry 0 w) ≡ true → (j : ℕ) → j < length first → IsThere j w
   all_there q j lt =
-      let full : spawned w ≡ length first = st.over q in
-      let u = there_is j w (subst (λ n. j < n) (sym full) lt) in
-      let p : Joined j u.0 w =
-      joined l (phasers_of (length first)) (λ i. i) w plain_now st.pairs j u.0 (has_own (length first) j)
-      u.1 in
-      let none : list_any (is_reg_for j u.0) (due 0 w) ≡ false =
-      no_leave_is_reg j u.0 (due 0 w) (leaves_only l 0 w k (leaves_of q)) in
-      let there : is_registered u.0 (phaser_past j w) ≡ true =
-      elim (or_cases (is_registered u.0 (phaser_past j w)) (list_any (is_reg_for j u.0) (due 0 w)) p.there) [
-        | inl y ↦ y
-        | inr y ↦ absurd (true≢false (sym y ∙ none))
-      ] in
-      record { task = u.0; child = u.1; registered = there; mode = p.mode there }
-    where
-      leaves_of : ends_act (last_entry 0 w) ≡ true → leaves_act (last_entry 0 w) ≡ true
-      leaves_of q = or_left (ends_act (last_entry 0 w)) (shuts_act (last_entry 0 w)) q
-
-  live_by : (t j : ℕ) → is_registered t (phaser_past j w) ≡ true → is_dropped t (phaser_past j w) ≡ false
-      → is_live t (phaser_past j w) ≡ true
-  live_by t j r d = rw (r, d) refl
-
-  part : (x y z : ℕ) → x + y ≡ z → x ≤ z
-  part x y z h = omega arith
+      child_there l w plain_now (phasers_of (length first)) st.pairs q j (has_own (length first) j)
+      (subst (λ n. j < n) (sym (st.over q)) lt)
 
   -- so where a phase of its phaser is closed, it has sent its value
-  sent_if_closed : (j p : ℕ) → IsThere j → p < steps → IsClosed p (phaser_past j w) → p < made_at j w
+  sent_if_closed : (j p : ℕ) → IsThere j w → p < steps → IsClosed p (phaser_past j w) → p < made_at j w
   sent_if_closed j p u lt closed =
       let c = st.cells j u.task u.child in
-      let h = phaser_past j w in
       let many : p < sends u.task w =
-      elim (cases_Bool (is_dropped u.task h)) [
+      elim (cases_Bool (is_dropped u.task (phaser_past j w))) [
         | inl d ↦
             let over : sends u.task w ≡ steps + 1 = c.over (dropped_ends l u.task j w plain_now d) in
             below_over p (sends u.task w) over lt
         | inr d ↦
-            let live : is_live u.task h ≡ true = live_by u.task j u.registered d in
-            let now : signals u.task h ≤ turns u.task w =
-            part (signals u.task h) (how_many (is_sig_on j) (due u.task w)) (turns u.task w)
-            ((paces l w plain_now u.task j live).signalled u.mode) in
-            three p (signals u.task h) (turns u.task w) (sends u.task w) (closed u.task live u.mode) now
+            lt_le p (turns u.task w) (sends u.task w) (turned_past l w plain_now u.task j p u.registered u.mode d closed)
             c.ahead
       ] in
       subst (λ o. p < made_of o w) (sym u.child) many
     where
       below_over : (p x : ℕ) → x ≡ steps + 1 → p < steps → p < x
       below_over p x e h = omega arith
-
-      three : (p x y z : ℕ) → p < x → x ≤ y → y ≤ z → p < z
-      three p x y z a b c = omega arith
 
   -- where a phase of a made phaser of the row is closed, the cell's value was sent
   pub closed_is_sent : (j p : ℕ) → j < length first → p < steps → is_empty (phaser_past j w) ≡ false
@@ -230,17 +187,8 @@ module _ (l : Limits) (first : List ℕ) (steps : ℕ) (w : List WorldEvent) (st
       let m : IsMade Sum j w = made l Sum j w plain_now st.sums some in
       elim (cases_Bool (is_dropped 0 (phaser_past j w))) [
         | inl d ↦ sent_if_closed j p (all_there (dropped_ends l 0 j w plain_now d) j lt) small closed
-        | inr d ↦
-            let h = phaser_past j w in
-            let live : is_live 0 h ≡ true = live_by 0 j m.there d in
-            let now : signals 0 h ≤ turns 0 w =
-            part (signals 0 h) (how_many (is_sig_on j) (due 0 w)) (turns 0 w)
-            ((paces l w plain_now 0 j live).signalled m.mode) in
-            absurd (nothing p (signals 0 h) (turns 0 w) (closed 0 live m.mode) now (root_turns w st.plain))
+        | inr d ↦ absurd (root_left l w plain_now j p m.there m.mode d closed)
       ]
-    where
-      nothing : (p x y : ℕ) → p < x → x ≤ y → y ≡ 0 → ⊥
-      nothing p x y a b c = omega arith
 
   -- a look sees its cell
   pub look_sees : (all : ValuesStand first w) (j t a : ℕ) → is_accepted l w (Phaser j (Look t a)) ≡ true
@@ -253,16 +201,16 @@ module _ (l : Limits) (first : List ℕ) (steps : ℕ) (w : List WorldEvent) (st
       let asked : LookAsked j t w = look_asked l w j t a ok in
       let lt : j < length first =
       neighbours_below (length first) i.place j
-      (within i.place (spawned w) (length first) (at_below i.place t w i.child) st.root.below) i.beside in
+      (lt_le i.place (spawned w) (length first) (at_below i.place t w i.child) st.root.below) i.beside in
       let same : turns t w ≡ p + 1 = sym (waits_in_look l w plain_now j t a ok) ∙ waited in
-      let few : p < steps = below p (turns t w) steps same (st.cells i.place t i.child).few in
+      let few : p < steps = next_le_lt p (turns t w) steps same (st.cells i.place t i.child).few in
       let past : phaser_past j (Phaser j (Look t a) ∷ w) ≡ [] ++ Looked t a x ∷ h =
       rw (eq-eqb j j refl) refl in
       let closed : IsClosed (waits t h - 1) h =
       ((phasers_folded l (Phaser j (Look t a) ∷ w)
       (and_from (is_accepted l w (Phaser j (Look t a))) (is_legal_world l w) ok k) j).seen [] h t a x
       past).0 in
-      let back : waits t h - 1 ≡ p = ap (λ y. y - 1) waited ∙ less_one p in
+      let back : waits t h - 1 ≡ p = ap (λ y. y - 1) waited ∙ next_less_one p in
       let some : is_empty h ≡ false = some_live t h asked.live in
       let many : p < made_at j w =
       closed_is_sent j p lt few some (subst (λ y. IsClosed y h) back closed) in
@@ -274,12 +222,3 @@ module _ (l : Limits) (first : List ℕ) (steps : ℕ) (w : List WorldEvent) (st
       ∙ (ap (λ b. Saw (look_of (Sum ∷ []) b (waits t h) h)) i.zero_acc
       ∙ (ap (λ vs. Saw (fold Sum vs)) values
       ∙ ap (λ y. Saw (Value y)) (+ℤ_idl (cells_at first p j))))
-    where
-      within : (a b c : ℕ) → a < b → b ≤ c → a < c
-      within a b c x y = omega arith
-
-      below : (p x y : ℕ) → x ≡ p + 1 → x ≤ y → p < y
-      below p x y e h = omega arith
-
-      less_one : (p : ℕ) → (p + 1) - 1 ≡ p
-      less_one p = omega arith

@@ -29,6 +29,7 @@ use Rattle.job_kernels.specs.Tasks.{Does, pair_on}
 use Rattle.job_kernels.proofs.StencilRuns.{length-stencil}
 use Rattle.body_follows.specs.Whole.{IsWhole}
 use Rattle.kernel_laws.specs.Totals.{places, stencil_totals, RunsTotalStencil}
+use Rattle.kernel_laws.proofs.Numbers.{plus_zero, right_part_le, zero_least, zero_plus}
 use Rattle.kernel_laws.proofs.Goes.{smoothly}
 use Rattle.kernel_laws.proofs.Plain.{IsPlain, turns, spawned, child_at}
 use Rattle.kernel_laws.proofs.AllBorn.{all_end}
@@ -99,17 +100,14 @@ made_in b = by_role b.role
     by_role (kinds.Root r) = r.made
     by_role (kinds.Cell c) = 0
 
-none_more : (x : ℕ) → x + 0 ≡ x
-none_more x = omega arith
-
 root_counts : (r : Root) → r.made + is_new (root_next r).0 ≡ (root_next r).1.made
 root_counts r = by_tests (nat_lt r.made r.cells) (nat_lt r.spawned r.cells) refl refl
   where
     by_tests : (b c : Bool) → nat_lt r.made r.cells ≡ b → nat_lt r.spawned r.cells ≡ c
         → r.made + is_new (root_next r).0 ≡ (root_next r).1.made
     by_tests true c h g = rw h refl
-    by_tests false true h g = rw (h, g) (none_more r.made)
-    by_tests false false h g = rw (h, g) (none_more r.made)
+    by_tests false true h g = rw (h, g) (plus_zero r.made)
+    by_tests false false h g = rw (h, g) (plus_zero r.made)
 
 module _ (l : Limits) (first : List ℕ) (steps : ℕ) where
   counts_of : (x : Answer) (r : Root)
@@ -266,18 +264,12 @@ module _ (l : Limits) (first : List ℕ) (steps : ℕ) (small : AtMost greatest 
     of_phaser j lt =
         values_of_phaser l Sum w plain here.stands.sums a j (steps + 1)
         ∙ sum_below (λ p. sum_by a (sent 0 p (phaser_past j w))) (λ p. a (cells_at first p j)) (steps + 1) 0 (steps + 1)
-        (phase_count (phaser_past j w) + (steps + 1)) (none_first (steps + 1)) (more (phase_count (phaser_past j w)) (steps + 1))
+        (phase_count (phaser_past j w) + (steps + 1)) (zero_plus (steps + 1)) (right_part_le (phase_count (phaser_past j w)) (steps + 1))
         (λ p h. ap (λ vs. sum_by a vs) (sent_is p)
         ∙ (ap (λ b. sum_by a (cond b (cells_at first p j ∷ []) [])) (lt-ltb p (steps + 1) h) ∙ single (cells_at first p j)))
         (λ p h. ap (λ vs. sum_by a vs) (sent_is p)
         ∙ ap (λ b. sum_by a (cond b (cells_at first p j ∷ []) [])) (le-ltb p (steps + 1) h))
       where
-        none_first : (x : ℕ) → 0 + x ≡ x
-        none_first x = omega arith
-
-        more : (x y : ℕ) → y ≤ x + y
-        more x y = omega arith
-
         sent_is : (p : ℕ) → sent 0 p (phaser_past j w) ≡ cell_if first j (steps + 1) p
         sent_is p =
             here.values j p ∙ ap (λ m. cell_if first j m p) (all_made l first steps small w whole j lt)
@@ -286,10 +278,7 @@ module _ (l : Limits) (first : List ℕ) (steps : ℕ) (small : AtMost greatest 
     of_none j far =
         nothing_sent l Sum w plain here.stands.sums a j
         (λ p. here.values j p ∙ (ap (λ m. cell_if first j m p) (none_made j far)
-        ∙ ap (λ b. cond b (cells_at first p j ∷ []) []) (le-ltb p 0 (least p))))
-      where
-        least : (x : ℕ) → 0 ≤ x
-        least x = omega arith
+        ∙ ap (λ b. cond b (cells_at first p j ∷ []) []) (le-ltb p 0 (zero_least p))))
 
     all_values : sum_by (values_sum a) (pasts l w)
         ≡ sum_by (λ j. sum_by (λ p. a (cells_at first p j)) (below (steps + 1))) (below (length first))

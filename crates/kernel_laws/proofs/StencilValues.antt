@@ -21,6 +21,8 @@ use Rattle.world_model.proofs.SpawnUnderWay.{names_fresh}
 use Rattle.world_model.proofs.PhasersLegal.{event_of}
 use Rattle.schedule_model.specs.Follows.{drawn}
 use Rattle.job_kernels.specs.StencilLines.{cells_at}
+use Rattle.kernel_laws.proofs.SentSums.{step_sends_nothing}
+use Rattle.kernel_laws.proofs.Numbers.{apart_next_le, lt_next, same_not_lt}
 use Rattle.kernel_laws.proofs.Goes.{tried_as}
 use Rattle.kernel_laws.proofs.Plain.{turns, sends, spawned, child_at}
 use Rattle.kernel_laws.proofs.Children.{at_below, one_place}
@@ -109,15 +111,9 @@ one_more first i p j b false x e =
     other : j ≡ p → ⊥
     other h = true≢false (sym (eq-eqb j p h) ∙ e)
 
-    more : (p j : ℕ) → p < j → p < j + 1
-    more p j h = omega arith
-
-    less : (p j : ℕ) → (j ≡ p → ⊥) → j ≤ p → j + 1 ≤ p
-    less p j n h = grind (arith, n)
-
     same_test : (y : Bool) → nat_lt p j ≡ y → nat_lt p j ≡ nat_lt p (j + 1)
-    same_test true h = h ∙ sym (lt-ltb p (j + 1) (more p j (ltb-true p j h)))
-    same_test false h = h ∙ sym (le-ltb p (j + 1) (less p j other (ltb-false p j h)))
+    same_test true h = h ∙ sym (lt-ltb p (j + 1) (lt_next p j (ltb-true p j h)))
+    same_test false h = h ∙ sym (le-ltb p (j + 1) (apart_next_le p j other (ltb-false p j h)))
 
 module _ (l : Limits) (first : List ℕ) (steps : ℕ) (w : List WorldEvent) (st : Standing first steps w)
     (k : is_legal_world l w ≡ true) (all : ValuesStand first w) where
@@ -126,12 +122,7 @@ module _ (l : Limits) (first : List ℕ) (steps : ℕ) (w : List WorldEvent) (st
       → ((i p : ℕ) → sent 0 p (event_of i w s ∷ phaser_past i w) ≡ sent 0 p (phaser_past i w))
       → ((i : ℕ) → made_at i (Phaser m s ∷ w) ≡ made_at i w) → ValuesStand first (Phaser m s ∷ w)
   sends_nothing m s none made i p =
-      either (m == i) ∙ (all i p ∙ ap (λ y. cell_if first i y p) (sym (made i)))
-    where
-      either : (b : Bool) → sent 0 p (cond b (event_of i w s ∷ phaser_past i w) (phaser_past i w))
-          ≡ sent 0 p (phaser_past i w)
-      either true = none i p
-      either false = refl
+      step_sends_nothing w m s none i p ∙ (all i p ∙ ap (λ y. cell_if first i y p) (sym (made i)))
 
   -- a send of the cell of its place
   sends_cell : (n t a : ℕ) (v : ℤ) → is_accepted l w (Phaser n (Send t a v)) ≡ true → SendIs first n t a v w
@@ -185,10 +176,7 @@ module _ (l : Limits) (first : List ℕ) (steps : ℕ) (w : List WorldEvent) (st
     where
       no_child : (o : Option ℕ) → child_at i w ≡ o → (spawned w == i) ≡ true → o ≡ None
       no_child None h e = refl
-      no_child (Some c) h e = absurd (not_below (spawned w) i (eqb-true (spawned w) i e) (at_below i c w h))
-        where
-          not_below : (a b : ℕ) → a ≡ b → b < a → ⊥
-          not_below a b e h = omega arith
+      no_child (Some c) h e = absurd (same_not_lt (spawned w) i (eqb-true (spawned w) i e) (at_below i c w h))
 
       old : (o : Option ℕ) → made_of o (Begin u (Async x ps) ∷ w) ≡ made_of o w
       old None = refl

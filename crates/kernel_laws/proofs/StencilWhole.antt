@@ -45,6 +45,7 @@ use Rattle.job_kernels.specs.StencilTasks.{greatest, neighbours, phasers_of, roo
 use Rattle.job_kernels.specs.Results.{value_in, cell_of, cells_of}
 use Rattle.job_kernels.proofs.StencilRuns.{length-stencil}
 use Rattle.body_follows.specs.Whole.{IsWhole}
+use Rattle.kernel_laws.proofs.Numbers.{lt_next_le, lt_zero_plus, zero_least, zero_plus}
 use Rattle.kernel_laws.proofs.Goes.{smoothly}
 use Rattle.kernel_laws.specs.Stencils.{RunsComeToStencil}
 use Rattle.kernel_laws.proofs.Plain.{IsPlain, is_plain, any_kept, due_next, spawned, spawner_is_root}
@@ -55,7 +56,8 @@ use Rattle.kernel_laws.proofs.Joining.{SpawnsBy, regs_of}
 use Rattle.kernel_laws.proofs.Reports.{sum_in, sent_counts, all_read, by_number}
 use Rattle.kernel_laws.proofs.Telling.{smooth_before}
 use Rattle.kernel_laws.proofs.StencilValues.{cell_if, made_of, made_at, SendIs}
-use Rattle.kernel_laws.proofs.StencilSees.{neighbours_below, IsThere, all_there}
+use Rattle.kernel_laws.proofs.OwnPhasers.{IsThere}
+use Rattle.kernel_laws.proofs.StencilSees.{neighbours_below, all_there}
 use Rattle.kernel_laws.proofs.Making.{made, phaser_fits}
 use Rattle.kernel_laws.proofs.Weights.{root_still}
 use Rattle.kernel_laws.proofs.StencilLaws.{Goes, Holds, holds, sent_last}
@@ -287,13 +289,10 @@ module _ (l : Limits) (first : List ℕ) (steps : ℕ) (small : AtMost greatest 
 
 pub all_below : (n p : ℕ) → ((j : ℕ) → j < n → j < p) → n ≤ p
 all_below zero p f = omega arith
-all_below (suc n) p f = next n p (f n (self n))
+all_below (suc n) p f = lt_next_le n p (f n (self n))
   where
     self : (n : ℕ) → n < suc n
     self n = omega arith
-
-    next : (n p : ℕ) → n < p → suc n ≤ p
-    next n p h = omega arith
 
 module _ (l : Limits) (first : List ℕ) (steps : ℕ) (small : AtMost greatest first) (w : List WorldEvent)
     (whole : IsWhole stencil_next (root_task first steps) l w) where
@@ -306,7 +305,7 @@ module _ (l : Limits) (first : List ℕ) (steps : ℕ) (small : AtMost greatest 
   plain : IsPlain l w
   plain = record { legal = k; plain = h.stands.plain }
 
-  there : (j : ℕ) → j < length first → IsThere l first steps w h.stands k j
+  there : (j : ℕ) → j < length first → IsThere j w
   there j lt = all_there l first steps w h.stands k (ended_ends l 0 w plain whole.ended) j lt
 
   pub all_made : (j : ℕ) → j < length first → made_at j w ≡ steps + 1
@@ -333,15 +332,9 @@ module _ (l : Limits) (first : List ℕ) (steps : ℕ) (small : AtMost greatest 
       let sums : ops_of j w ≡ Sum ∷ [] = (made l Sum j w plain h.stands.sums (some j lt)).ops in
       ap (λ ops. flat_map (value_in steps)
       (flat_map (λ p. folds_from p 0 ops past) (range_with_len 0 (phase_count past)))) sums
-      ∙ (sum_in past steps 0 (phase_count past) (least steps)
-      (behind steps (phase_count past) (sent_counts steps (cells_at first steps j) past (value j lt)))
+      ∙ (sum_in past steps 0 (phase_count past) (zero_least steps)
+      (lt_zero_plus steps (phase_count past) (sent_counts steps (cells_at first steps j) past (value j lt)))
       ∙ (ap (λ xs. sum_of xs ∷ []) (value j lt) ∙ ap (λ y. y ∷ []) (+ℤ_idl (cells_at first steps j))))
-    where
-      least : (n : ℕ) → 0 ≤ n
-      least n = omega arith
-
-      behind : (a b : ℕ) → a < b → a < 0 + b
-      behind a b x = omega arith
 
   nothing : (j : ℕ) → length first ≤ j → cell_of steps (phaser_lines w j) ≡ []
   nothing j far =
@@ -356,12 +349,9 @@ module _ (l : Limits) (first : List ℕ) (steps : ℕ) (small : AtMost greatest 
   comes_to : cells_of steps (report_of l w) ≡ map pos (stencil steps first)
   comes_to =
       all_read (phaser_lines w) (cell_of steps) (λ j. is_phaser j w) (cells_at first steps) (length first)
-      (λ j lt. (is_made j lt, line j lt)) nothing 0 (length first) l.phasers (none_before (length first))
+      (λ j lt. (is_made j lt, line j lt)) nothing 0 (length first) l.phasers (zero_plus (length first))
       (all_below (length first) l.phasers (λ j lt. phaser_fits l j w k (is_made j lt)))
       ∙ by_number (λ x. pos x) (stencil steps first) (length first) (length-stencil steps first)
-    where
-      none_before : (n : ℕ) → 0 + n ≡ n
-      none_before n = omega arith
 
 pub runs_come_to_stencil : RunsComeToStencil
 runs_come_to_stencil l first steps w short small whole = comes_to l first steps small w whole

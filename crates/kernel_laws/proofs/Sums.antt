@@ -3,6 +3,7 @@ use Rattle.std.proofs.Common.{◌≡◌, ℕ, zero, suc, ◌+◌, ◌*◌, ◌<�
 use Rattle.std.specs.List.{sum_by, filter, range_with_len}
 use Rattle.std.proofs.lemmas.List.Sums.{sum_by-cons, sum_by-append}
 use Rattle.std.proofs.lemmas.Bool.{cases_Bool, eqb-true, eq-eqb}
+use Rattle.kernel_laws.proofs.Numbers.{from_plus_zero, zero_plus}
 
 -- the sum of the first so many
 abbrev pub up_to : (ℕ → ℕ) → ℕ → ℕ
@@ -122,11 +123,8 @@ sum_swapped f (x ∷ xs) ys =
 -- the last of them by itself
 sum_last : (f : ℕ → ℕ) (a n : ℕ) → sum_by f (range_with_len a (suc n)) ≡ sum_by f (range_with_len a n) + f (a + n)
 sum_last f a zero =
-    sum_by-cons f a (range_with_len (a + 1) 0) ∙ (ap (λ x. f x + 0) (at_first a) ∙ swapped (f (a + 0)))
+    sum_by-cons f a (range_with_len (a + 1) 0) ∙ (ap (λ x. f x + 0) (from_plus_zero a) ∙ swapped (f (a + 0)))
   where
-    at_first : (x : ℕ) → x ≡ x + 0
-    at_first x = omega arith
-
     swapped : (x : ℕ) → x + 0 ≡ 0 + x
     swapped x = omega arith
 sum_last f a (suc n) =
@@ -145,11 +143,8 @@ sum_last f a (suc n) =
 pub up_to_is_sum : (f : ℕ → ℕ) (n : ℕ) → up_to f n ≡ sum_by f (range_with_len 0 n)
 up_to_is_sum f zero = refl
 up_to_is_sum f (suc n) =
-    let last : f (0 + n) ≡ f n = ap (λ x. f x) (none_before n) in
+    let last : f (0 + n) ≡ f n = ap (λ x. f x) (zero_plus n) in
     omega (arith, sum_last f 0 n, up_to_is_sum f n, last)
-  where
-    none_before : (x : ℕ) → 0 + x ≡ x
-    none_before x = omega arith
 
 pub up_to_same : (f g : ℕ → ℕ) (n : ℕ) → ((i : ℕ) → i < n → f i ≡ g i) → up_to f n ≡ up_to g n
 up_to_same f g zero same = refl

@@ -40,24 +40,18 @@ is_refusal (Refuse u a x) = true
 is_refusal (Fail u x) = true
 is_refusal _ = false
 
+last_is_none : (u x : ℕ) (w : List WorldEvent) → cond (u == u) (Some x) (refused_by u w) ≡ None → ⊥
+last_is_none u x w h = some_none (rw (eq-eqb u u refl) at h)
+  where
+    some_none : Some x ≡ None → ⊥
+    some_none h = cc
+
 module _ {B : Type 0} (next : Answer → B → Does B) (root : B) (l : Limits) where
   -- nobody was refused last
   pub last_unrefused : (e : WorldEvent) (w : List WorldEvent) → GoesSmoothly next root l (e ∷ w)
       → is_refusal e ≡ false
-  last_unrefused (Refuse u a x) w k = absurd (refused u x w (k.unrefused u))
-    where
-      refused : (u x : ℕ) (w : List WorldEvent) → cond (u == u) (Some x) (refused_by u w) ≡ None → ⊥
-      refused u x w h = some_none (rw (eq-eqb u u refl) at h)
-        where
-          some_none : Some x ≡ None → ⊥
-          some_none h = cc
-  last_unrefused (Fail u x) w k = absurd (refused u x w (k.unrefused u))
-    where
-      refused : (u x : ℕ) (w : List WorldEvent) → cond (u == u) (Some x) (refused_by u w) ≡ None → ⊥
-      refused u x w h = some_none (rw (eq-eqb u u refl) at h)
-        where
-          some_none : Some x ≡ None → ⊥
-          some_none h = cc
+  last_unrefused (Refuse u a x) w k = absurd (last_is_none u x w (k.unrefused u))
+  last_unrefused (Fail u x) w k = absurd (last_is_none u x w (k.unrefused u))
   last_unrefused e w k = refl
 
   none_before : (t : ℕ) (e : WorldEvent) (w : List WorldEvent) → is_refusal e ≡ false

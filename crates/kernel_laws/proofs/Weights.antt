@@ -1,5 +1,5 @@
 -- Sums over the phasers of a world: over its steps, and over what its spawns hand out.
-use Rattle.std.proofs.Common.{◌≡◌, ℕ, ◌+◌, ◌<◌, ◌≤◌, Bool, true, false, ◌==◌, not, cond, List, [], ◌∷◌, ◌++◌, map, Some, is_some, refl, sym, subst, ap, add-one, ◌∙◌, inl, inr, arith}
+use Rattle.std.proofs.Common.{◌≡◌, ℕ, ◌+◌, ◌<◌, Bool, true, false, ◌==◌, not, cond, List, [], ◌∷◌, ◌++◌, map, Some, is_some, refl, sym, subst, ap, add-one, ◌∙◌, inl, inr, arith}
 use Rattle.std.specs.Prelude.{count_by}
 use Rattle.std.specs.List.{list_all, sum_by, filter, range_with_len}
 use Rattle.std.proofs.lemmas.List.Sums.{sum_by-cons}
@@ -39,6 +39,7 @@ use Rattle.world_model.proofs.OthersLeave.{due_other}
 use Rattle.world_model.proofs.SignalsComeFirst.{moves_act}
 use Rattle.world_model.proofs.SmallWords.{empty_is}
 use Rattle.world_model.proofs.SpawnUnderWay.{named_by_spawn}
+use Rattle.kernel_laws.proofs.Numbers.{lt_zero_plus, same_not_lt, zero_least}
 use Rattle.kernel_laws.proofs.Plain.{IsPlain, last_of_plain, is_plain, due_moves, due_next, spawned, child_at, spawner_is_root}
 use Rattle.kernel_laws.proofs.Children.{at_below}
 use Rattle.kernel_laws.proofs.Joined.{joined, is_still}
@@ -85,15 +86,9 @@ module _ (l : Limits) (sum : List Event → ℕ) (by : Step → ℕ) (k : IsSum 
       sum_same (λ n. sum (phaser_past n (Phaser m s ∷ w))) (λ n. cond (m == n) (by s) 0 + sum (phaser_past n w)) ns
       (λ n. on_each (m == n) (terms_of n w) (phaser_past n w) s) in
       let both = sum_both (λ n. cond (m == n) (by s) 0) (λ n. sum (phaser_past n w)) ns in
-      let one = sum_picked (by s) m 0 l.phasers (least m) (within m l.phasers fits) in
+      let one = sum_picked (by s) m 0 l.phasers (zero_least m) (lt_zero_plus m l.phasers fits) in
       let rest = spread w (last_accepted l (Phaser m s) w legal).1 in
       omega (arith, each, both, one, rest)
-    where
-      least : (n : ℕ) → 0 ≤ n
-      least n = omega arith
-
-      within : (a b : ℕ) → a < b → a < 0 + b
-      within a b h = omega arith
   spread (e ∷ w) legal = spread w (last_accepted l e w legal).1 ∙ none_before (weigh by w)
 
   -- so the sum over all phasers is that over all steps
@@ -286,13 +281,10 @@ module _ (g : ℕ → Mode → ℕ) where
       ap (λ qs. of_pairs g x qs) s.0 ∙ all (spawned w) x (rw (eq-eqb (spawned w) (spawned w) refl) refl) in
       let rest =
       handed_by pairs f w s.1
-      (λ i c h. all i c (rw (ne_eqb (spawned w) i (λ e. less (spawned w) i e (at_below i c w h))) h)) in
+      (λ i c h. all i c (rw (ne_eqb (spawned w) i (λ e. same_not_lt (spawned w) i e (at_below i c w h))) h)) in
       let next : up_to f (spawned w + 1) ≡ f (spawned w) + up_to f (spawned w) =
       ap (λ n. up_to f n) (add-one (spawned w)) in
       omega (arith, first, rest, next)
-    where
-      less : (a b : ℕ) → a ≡ b → b < a → ⊥
-      less a b e h = omega arith
   handed_by pairs f (e ∷ w) s all = handed_by pairs f w s all
 
 -- ---- the root signals and passes nothing
