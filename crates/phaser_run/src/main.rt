@@ -133,6 +133,16 @@ fn open_and_do<H: Threads + Wait + Sync>(rt: &HostRuntime, threads: &H, job: &Jo
     }
 }
 
+/// So many workers, each in a thread of its own.
+fn on_threads<H>(threads: &H, number: u32) -> Workers<'_, H>
+    ensures { result.number ≡ number }
+{
+    Workers {
+        rt: threads,
+        number,
+    }
+}
+
 /// Does the job on what the reader gives.
 fn do_on<H: Threads + Wait + Sync, R: Read>(
     rt: &HostRuntime,
@@ -152,10 +162,7 @@ fn do_on<H: Threads + Wait + Sync, R: Read>(
             trace,
             certain,
         } => {
-            let workers = Workers {
-                rt: threads,
-                number: *workers,
-            };
+            let workers = on_threads(threads, *workers);
             run_program(rt, workers, *certain, file, *trace, reader)
         }
         Job::Replay { upgrade, .. } => replay(rt, *upgrade, reader),
@@ -164,27 +171,17 @@ fn do_on<H: Threads + Wait + Sync, R: Read>(
             first,
             steps,
             workers,
-        } => {
-            let workers = Workers {
-                rt: threads,
-                number: *workers,
-            };
-            stencil(rt, workers, first, *steps)
-        }
+        } => stencil(rt, on_threads(threads, *workers), first, *steps),
         Job::Pipeline {
             stages,
             items,
             workers,
         } => {
-            let workers = Workers {
-                rt: threads,
-                number: *workers,
-            };
             let size = PipelineSize {
                 stages: *stages,
                 items: *items,
             };
-            pipeline(rt, workers, size)
+            pipeline(rt, on_threads(threads, *workers), size)
         }
     }
 }
