@@ -63,9 +63,9 @@ def heed():
         signal.signal(number, signal.SIG_DFL)
 
 
-def ran(judge, folder, words, stop=None, hangs=False, **settings):
+def ran(judge, folder, words, stop=None, hangs=False, wait=0, **settings):
     """Runs a program where the traces of an earlier run stand. With a signal to stop by, it gets it once it waits, if
-    it hangs, and else at any time after the first barrier is made."""
+    it hangs, and else so many seconds after the first barrier has begun to be made."""
     here = pathlib.Path(folder, "run")
     shutil.rmtree(str(here), ignore_errors=True)
     here.mkdir()
@@ -83,7 +83,7 @@ def ran(judge, folder, words, stop=None, hangs=False, **settings):
                 until(SECONDS, lambda: all_wait(process), 3)
                 time.sleep(3 * float(settings.get("PHASER_TRACE_AFTER", 0)))
             else:
-                time.sleep(random.uniform(0, 0.01))
+                time.sleep(wait)
             process.send_signal(stop)
         err = process.communicate(timeout=SECONDS)[1].decode(errors="replace")
     except subprocess.TimeoutExpired:
@@ -156,8 +156,13 @@ def stopped(judge, folder, times, program):
 
 
 def turning(judge, folder, times, program):
+    """A program whose threads take turns, which is stopped at any time. On a busy machine that may be before its barrier is
+    there: then there is nothing to write, and it is stopped later."""
     for time_of in range(times):
-        run = ran(judge, folder, [program, "turning_for_ever"], signal.SIGTERM)
+        for wait in (random.uniform(0, 0.01), 0.1, 1):
+            run = ran(judge, folder, [program, "turning_for_ever"], signal.SIGTERM, wait=wait)
+            if run.traces or run.err:
+                break
         wrong = as_right(run._replace(err=""), -signal.SIGTERM, traces=1)
         yield "turning_for_ever, stopped, run %d" % time_of, wrong and wrong + run.err
 
