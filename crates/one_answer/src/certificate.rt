@@ -31,9 +31,9 @@ impl From<Refusal> for NoAnswer {
     }
 }
 
-/// The report that each run of the program comes to, by any number of workers and in any order of
-/// its tasks, as long as there is memory. It is that of one run, by rounds; the law that one run tells
-/// all says the rest. `Luck` where luck has a part in that run: other runs may come to something else
+/// The report of each run of the program, by any number of workers and in any order of its tasks, if
+/// there is memory and the least free numbers are drawn. It is that of one run, by rounds; the law that
+/// one run tells all says the rest. `Luck` where luck has a part in that run: other runs may come to something else
 /// then.
 pub fn certify(alloc: Global, program: &Program) -> Result<WorldReport, NoAnswer>
     ensures answer { IfOk result (λ r. IsCertified program.now r) }

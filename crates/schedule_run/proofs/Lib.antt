@@ -1,4 +1,5 @@
 pub mod Overs
+pub mod PassedOver
 pub mod Picking
 pub mod Counting
 pub mod Entries

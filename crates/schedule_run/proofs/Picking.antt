@@ -249,11 +249,11 @@ Describes (Some conditions.Idle) t w = is_idle t w ≡ true
 Describes (Some conditions.Ended) t w = (is_idle t w ≡ false) × ((is_born t w && not (is_ended t w)) ≡ false)
 Describes (Some _) t w = (is_idle t w ≡ false) × (is_born t w ≡ true) × (is_ended t w ≡ false)
 
-and_false : (b : Bool) → (b && false) ≡ false
+pub and_false : (b : Bool) → (b && false) ≡ false
 and_false true = refl
 and_false false = refl
 
-and_none : (b c : Bool) → ((b && false) && c) ≡ false
+pub and_none : (b c : Bool) → ((b && false) && c) ≡ false
 and_none true c = refl
 and_none false c = refl
 

@@ -1,4 +1,5 @@
 pub mod Bodies
+pub mod Ended
 pub mod Records
 pub mod Running
 pub mod Notes

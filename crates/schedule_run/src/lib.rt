@@ -2,6 +2,7 @@
 #![tactic(auto)]
 
 mod bodies;
+mod ended;
 mod following;
 mod notes;
 mod record;

@@ -21,9 +21,11 @@ ghost use Rattle.schedule_model.specs.Scripts.{body_of, meanings, next_act, trie
 ghost use Rattle.trace_walk.specs.Given.{numbers_view};
 ghost use Rattle.schedule_run.specs.inner.Bodies.{BodiesStand, IsAsked};
 ghost use Rattle.schedule_run.specs.inner.Records.{outcome_of};
-ghost use Rattle.schedule_run.specs.inner.Running.{Kept, RunStands};
+ghost use Rattle.schedule_run.specs.inner.Ended.{HaveEnded};
+ghost use Rattle.schedule_run.specs.inner.Running.{Kept, RoundStands, RunStands};
 
 use crate::bodies::Bodies;
+use crate::ended::Ended;
 use crate::notes::Notes;
 use crate::record::{Outcome, Record};
 use job_script::{Act, Program, ScriptBody};
@@ -242,45 +244,69 @@ impl<'p> Runner<'p> {
         self.recorded.world.unused().task <= task
     }
 
-    /// Each task is picked once, by number, up to the first number that no task has.
-    fn round(&mut self) -> Result<(), Refusal>
+    /// Each task is picked once, by number, up to the first number that no task has. Those that are
+    /// known to have ended are passed over.
+    fn round(&mut self, ended: &mut Ended) -> Result<(), Refusal>
         ensures stands { IfOk result (λ _. (p : programs.Program) (w : List Event) → RunStands p w self.old
-            → RunStands p (round_from p.limits.tasks 0 p w) self.new) }
+            → HaveEnded w ended.old.runs.items → RoundStands p (round_from p.limits.tasks 0 p w) self.new ended.new) }
         ensures memory { IfErr result (λ e. e ≡ NoMemory) }
     {
         let tasks = self.recorded.trace.limits().tasks;
-        for task in 0..tasks {
-            if self.notes.holds(task) {
-                continue;
-            }
-            if self.is_unused(task) {
+        let mut task = 0u32;
+        for _step in 0..tasks {
+            if task >= tasks {
                 return Ok(());
             }
-            self.ask(task)?;
+            let next = ended.first_left(task, tasks);
+            if next > task {
+                task = next;
+                continue;
+            }
+            if !self.notes.holds(task) {
+                if self.is_unused(task) {
+                    return Ok(());
+                }
+                self.ask_or_note(task, ended)?;
+            }
+            task += 1;
         }
         Ok(())
     }
 
-    /// Whether the root has ended, and with it the run.
-    fn has_ended(&self) -> bool
-        ensures { (w : List Event) → StandsFor w self.now.recorded.world → result ≡ is_ended 0 w }
+    /// The task is asked; where it has ended, that is noted.
+    fn ask_or_note(&mut self, task: u32, ended: &mut Ended) -> Result<(), Refusal>
+        ensures stands { IfOk result (λ _. (p : programs.Program) (w : List Event) → RunStands p w self.old
+            → HaveEnded w ended.old.runs.items → RoundStands p (pick p w task) self.new ended.new) }
+        ensures memory { IfErr result (λ e. e ≡ NoMemory) }
     {
-        matches!(self.recorded.world.condition(0), Some(Condition::Ended))
+        if self.has_ended(task) {
+            ended.note_one(task);
+            return Ok(());
+        }
+        self.ask(task)
+    }
+
+    /// Whether the task has ended. With the root the run has.
+    fn has_ended(&self, task: u32) -> bool
+        ensures { (w : List Event) → StandsFor w self.now.recorded.world → result ≡ is_ended task w }
+    {
+        matches!(self.recorded.world.condition(task), Some(Condition::Ended))
     }
 
     /// The tasks are picked by number, round after round, until the root has ended. In each round
     /// some task moves, so the rounds come to an end before they can't be counted any more.
-    fn rounds(&mut self) -> Result<(), Refusal>
+    fn rounds(&mut self, ended: &mut Ended) -> Result<(), Refusal>
         requires stands { (p : programs.Program) × (w : List Event) × RunStands p w self.old }
+        requires ended { (w : List Event) → HaveEnded w ended.old.runs.items }
         ensures ended { IfOk result (λ _. (p : programs.Program) (w : List Event) → RunStands p w self.old
             → (n : ℕ) × (is_ended 0 (rounds n p w) ≡ true) × RunStands p (rounds n p w) self.new) }
         ensures memory { IfErr result (λ e. e ≡ NoMemory) }
     {
         for _round in 0..u64::MAX {
-            if self.has_ended() {
+            if self.has_ended(0) {
                 return Ok(());
             }
-            self.round()?;
+            self.round(ended)?;
         }
         let _events = self.recorded.trace.len();
         unreachable!()
@@ -312,7 +338,8 @@ pub(crate) fn played<'p>(
     ensures memory { IfErr result (λ e. e ≡ NoMemory) }
 {
     let mut runner = Runner::new(alloc, program)?;
+    let mut ended = Ended::new(alloc, program.limits())?;
     runner.picks(picks)?;
-    runner.rounds()?;
+    runner.rounds(&mut ended)?;
     Ok(runner)
 }

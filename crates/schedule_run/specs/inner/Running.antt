@@ -8,7 +8,9 @@ use Rattle.world_model.specs.Numbers.{is_named}
 use Rattle.schedule_run.specs.declared.notes.Notes.{Notes}
 use Rattle.schedule_run.specs.declared.record.Record.{Record}
 use Rattle.schedule_run.specs.declared.runner.Runner.{Runner}
+use Rattle.schedule_run.specs.declared.ended.Ended.{Ended}
 use Rattle.schedule_run.specs.inner.Bodies.{BodiesStand}
+use Rattle.schedule_run.specs.inner.Ended.{HaveEnded}
 use Rattle.schedule_run.specs.inner.Notes.{NotesStand}
 use Rattle.schedule_run.specs.inner.Records.{Records}
 
@@ -25,3 +27,8 @@ pub record RunStands (p : Program) (w : List WorldEvent) (r : Runner) : Type 0 w
   pub bodies : BodiesStand p w r.bodies.seats.items
   pub places : length r.bodies.seats.items ≡ p.limits.tasks
   pub gapless : (t u : ℕ) → t ≤ u → is_named u w ≡ true → is_named t w ≡ true
+
+-- the same, and what is known of tasks that have ended is so
+pub record RoundStands (p : Program) (w : List WorldEvent) (r : Runner) (ended : Ended) : Type 0 where
+  pub run : RunStands p w r
+  pub ended_are : HaveEnded w ended.runs.items
