@@ -8,7 +8,6 @@ use Rattle.phase_model.specs.declared.history.Event.TheVariants.{Look as Looked}
 use Rattle.phase_model.specs.declared.op.Look.{Look}
 use Rattle.phase_model.specs.declared.op.Look.TheVariants.{Value, Nothing}
 use Rattle.phase_model.specs.Laws.{IsLegal}
-use Rattle.phase_model.specs.Phases.{waits}
 use Rattle.phase_model.specs.Rules.{Story}
 use Rattle.world_model.proofs.PhasersFolded.{legal_is_folded}
 use Rattle.table_receipts.specs.Logs.{GoesOn}
@@ -34,9 +33,8 @@ still_later a b c x goes same seen = subst (λ (s : Story). IsSeen s x) (sym sam
 pub seen_is_sum : (s : Story) (x : Look ℤ) → IsLegal s → IsSeen s x → IsSum s x
 seen_is_sum s Nothing legal seen = tt
 seen_is_sum s (Value v) legal seen =
-    let e = Looked seen.0 0 (Value v) in
     let r = (legal_is_folded s.limits s.terms s.past legal).seen seen.1 seen.2 seen.0 0 (Value v) seen.3 in
-    (waits seen.0 seen.2, r.1, (seen.1 ++ e ∷ [], seen.2, seen.3 ∙ sym (append_assoc seen.1 (e ∷ []) seen.2), r.0))
+    (seen.0, seen.1, seen.2, seen.3, r.1, r.0)
 
 given_is_sum : (s a : Story) (x : Result (Look ℤ) Refusal) → IsLegal s → GoesOn a s → IfOk x (IsSeen a) → IfOk x (IsSum s)
 given_is_sum s a (Ok x) legal goes seen = seen_is_sum s x legal (still_seen a s x goes seen)

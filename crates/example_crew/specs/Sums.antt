@@ -5,7 +5,7 @@ use Rattle.phase_model.specs.declared.history.Event.{Event}
 use Rattle.phase_model.specs.declared.history.Event.TheVariants.{Look as Looked}
 use Rattle.phase_model.specs.declared.op.Look.{Look}
 use Rattle.phase_model.specs.declared.op.Look.TheVariants.{Value, Nothing}
-use Rattle.phase_model.specs.Phases.{IsClosed}
+use Rattle.phase_model.specs.Phases.{IsClosed, waits}
 use Rattle.phase_model.specs.Rules.{Story, look_of}
 use Rattle.trace_model.specs.Run.{Entry}
 use Rattle.table_receipts.specs.Parts.{IsToldAt}
@@ -15,12 +15,15 @@ abbrev pub IsSeen : Story → Look ℤ → Type 0
 IsSeen s (Value v) = (t : ℕ) × (later before : List Event) × (s.past ≡ later ++ Looked t 0 (Value v) ∷ before)
 IsSeen s Nothing = Unit {0}
 
--- it is the fold of all values that are ever sent for one phase, which was closed when it was seen
+-- some task's look saw it, after so many turns of that task: it is the fold of all values that are ever sent for the phase
+-- before, which was closed then
 abbrev pub IsSum : Story → Look ℤ → Type 0
 IsSum s (Value v) =
-    (turns : ℕ)
-    × (Value v ≡ look_of s.terms.ops 0 turns s.past)
-    × ((later before : List Event) × (s.past ≡ later ++ before) × IsClosed (turns - 1) before)
+    (t : ℕ)
+    × (later before : List Event)
+    × (s.past ≡ later ++ Looked t 0 (Value v) ∷ before)
+    × (Value v ≡ look_of s.terms.ops 0 (waits t before) s.past)
+    × IsClosed (waits t before - 1) before
 IsSum s Nothing = Unit {0}
 
 -- phaser 0 has one story, and the sum that a worker gives back is so in this story

@@ -5,8 +5,8 @@ ghost use Rattle.example_crew.specs.Sums.{IsSeen, AreSums};
 
 use phase_model::{Look, Op, Ops};
 use phase_modes::{Limits, Mode, Refusal};
+use phaser_cell::{PassAnswer, SignalAnswer};
 use phaser_crew::{Crew, Gathered, Hand, with_phasers};
-use scope_locks::{PassAnswer, SignalAnswer};
 use std::alloc::Global;
 use std::sync::Wait;
 use std::thread::Threads;

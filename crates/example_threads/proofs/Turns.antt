@@ -5,7 +5,7 @@ use Rattle.phase_model.specs.declared.history.Event.{Event}
 use Rattle.phase_model.specs.declared.history.Event.TheVariants.{Look as Looked}
 use Rattle.phase_model.specs.declared.op.Look.{Look}
 use Rattle.phase_model.specs.declared.op.Op.{Op}
-use Rattle.phase_model.specs.Phases.{waits, IsClosed}
+use Rattle.phase_model.specs.Phases.{IsClosed}
 use Rattle.phase_model.specs.Tasks.{has_mode}
 use Rattle.parked_tasks.specs.declared.answer.PassAnswer.{PassAnswer}
 use Rattle.parked_tasks.specs.declared.answer.PassAnswer.TheVariants.{Passed, Claimed, Parked as Waits, Refused}
@@ -15,12 +15,7 @@ use Rattle.long_receipts.specs.Told.{IfPassed}
 use Rattle.example_threads.specs.Sums.{IsNext}
 use Rattle.example_threads.specs.Turns.{IsGood, IsFoldOfAll}
 
--- the phase that was passed is still closed
-pub still_closed : (ops : List Op) (p : ℕ) (front later whole : List Event) (x : Look ℤ)
-    → IsGood ops p front later x → IsTail front whole → IsFolded ops whole → IsClosed p whole
-still_closed ops p front later whole x good tail folded = (folded.stays tail.0 front p 0 tail.1 good.some good.closed).0
-
--- and what was seen is still the fold
+-- what was seen is still the fold
 pub sees_all : (ops : List Op) (p : ℕ) (front later whole : List Event) (x : Look ℤ)
     → IsGood ops p front later x → IsTail later whole → IsFolded ops whole → IsFoldOfAll ops whole x
 sees_all ops p front later whole x good tail folded =
@@ -28,7 +23,7 @@ sees_all ops p front later whole x good tail folded =
     let before = good.seen.1.0 in
     let all : whole ≡ tail.0 ++ (Looked t 0 x ∷ before) = tail.1 ∙ ap (λ (h : List Event). tail.0 ++ h) good.seen.1.1 in
     let r = folded.seen tail.0 before t 0 x all in
-    (waits t before, r.1, (tail.0 ++ (Looked t 0 x ∷ []), before, all ∙ sym (append_assoc tail.0 (Looked t 0 x ∷ []) before), r.0))
+    (t, tail.0, before, all, r.1, r.0)
 
 -- a task that can wait has passed a closed phase
 pub passed_where : {T : Type 0} (a : PassAnswer T ℕ) (now : List Event) (t : ℕ)

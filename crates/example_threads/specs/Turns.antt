@@ -1,10 +1,11 @@
 -- What a turn came to.
-use Rattle.std.specs.Prelude.{ℕ, ℤ, ◌≡◌, ◌-◌, false, List, ◌++◌}
+use Rattle.std.specs.Prelude.{ℕ, ℤ, ◌≡◌, ◌-◌, false, List, ◌∷◌, ◌++◌}
 use Rattle.phase_modes.specs.Lists.{is_empty}
 use Rattle.phase_model.specs.declared.history.Event.{Event}
+use Rattle.phase_model.specs.declared.history.Event.TheVariants.{Look as Looked}
 use Rattle.phase_model.specs.declared.op.Look.{Look}
 use Rattle.phase_model.specs.declared.op.Op.{Op}
-use Rattle.phase_model.specs.Phases.{IsClosed}
+use Rattle.phase_model.specs.Phases.{IsClosed, waits}
 use Rattle.phase_model.specs.Rules.{look_of}
 use Rattle.long_receipts.specs.Told.{HasLooked}
 
@@ -15,9 +16,12 @@ pub record IsGood (ops : List Op) (p : ℕ) (front later : List Event) (x : Look
   pub some : is_empty front ≡ false
   pub seen : (t : ℕ) × HasLooked ops t 0 later x
 
--- what was seen is the fold of all values that were ever sent for one phase, which was closed
+-- some task's look saw it, after so many turns of that task: it is the fold of all values that were ever sent for the phase
+-- before, which was closed then
 abbrev pub IsFoldOfAll : List Op → List Event → Look ℤ → Type 0
 IsFoldOfAll ops whole x =
-    (turns : ℕ)
-    × (x ≡ look_of ops 0 turns whole)
-    × ((later before : List Event) × (whole ≡ later ++ before) × IsClosed (turns - 1) before)
+    (t : ℕ)
+    × (later before : List Event)
+    × (whole ≡ later ++ Looked t 0 x ∷ before)
+    × (x ≡ look_of ops 0 (waits t before) whole)
+    × IsClosed (waits t before - 1) before

@@ -3,7 +3,7 @@
 //! whose task has to wait sleeps until the other's call frees it.
 //!
 //! The calls give receipts, and each step is counted in a ledger of which each thread has a share.
-//! So it is proved of this program that the phase which each has passed is closed, that what each
+//! So it is proved of this program that the phase which each has passed was closed then, that what each
 //! saw is the fold of all values that were ever sent for a closed phase (`pair::both`), and that it
 //! is 7 wherever no call was refused (`pair::run`): both registrations and the steps of both threads
 //! are all steps that were counted, so nobody else sent anything.

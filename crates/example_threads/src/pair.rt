@@ -4,6 +4,7 @@ ghost use Rattle.phase_modes.specs.declared.reg.Mode.TheVariants.{SigWait};
 ghost use Rattle.phase_model.specs.declared.history.Event.TheVariants.{Make, Reg};
 ghost use Rattle.phase_model.specs.declared.op.Op.TheVariants.{Sum};
 ghost use Rattle.phase_model.specs.declared.op.Look.TheVariants.{Value};
+ghost use Rattle.phase_modes.specs.Lists.{is_empty};
 ghost use Rattle.phase_modes.specs.Mode.{can_wait};
 ghost use Rattle.phase_model.specs.Phases.{IsClosed};
 ghost use Rattle.phase_model.specs.Tasks.{has_mode};
@@ -147,8 +148,8 @@ fn met<'p, J: Naming + Ledger + Send + Sync, R: Threads + Wait + Sync>(
 }
 
 /// Two tasks of a new phaser with one sum meet: one sends 3, the other 4. In the one history that
-/// is left, the phase that each has passed is closed, and what each saw is the fold of all values
-/// that were ever sent for a phase that was closed: 7, since nobody else made a step.
+/// is left, the phase that each has passed was closed then, and what each saw is the fold of all
+/// values that were ever sent for a phase that was closed then: 7, since nobody else made a step.
 pub fn both<'p, J: Naming + Ledger + Send + Sync, R: Threads + Wait + Sync>(
     rt: &R,
     alloc: Global,
@@ -162,7 +163,8 @@ pub fn both<'p, J: Naming + Ledger + Send + Sync, R: Threads + Wait + Sync>(
     requires all { (all.parts ≡ 3) × (all.amount ≡ 0) }
     requires one_sum { J.terms.ops ≡ Sum ∷ [] }
     ensures stand { IfOk result (λ o. IsTail o.one.front o.whole × IsTail o.other.front o.whole) }
-    ensures closed { IfOk result (λ o. IsClosed o.one.phase o.whole × IsClosed o.other.phase o.whole) }
+    ensures closed { IfOk result (λ o. IsClosed o.one.phase o.one.front × IsClosed o.other.phase o.other.front) }
+    ensures some { IfOk result (λ o. (is_empty o.one.front ≡ false) × (is_empty o.other.front ≡ false)) }
     ensures saw { IfOk result (λ o. IsFoldOfAll J.terms.ops o.whole o.one.seen × IsFoldOfAll J.terms.ops o.whole o.other.seen) }
     ensures sum { IfOk result (λ o. (o.one.seen ≡ Value (pos 7)) × (o.other.seen ≡ Value (pos 7))) }
 {

@@ -1,24 +1,18 @@
-use Rattle.std.proofs.Common.{◌≡◌, pos, List, ap, ◌∙◌, subst, arith}
+use Rattle.std.proofs.Common.{◌≡◌, pos, List, ap, sym, ◌∙◌, subst, arith}
+use Rattle.phase_model.specs.declared.history.Event.{Event}
 use Rattle.phase_model.specs.declared.op.Op.{Op}
+use Rattle.phase_model.specs.Phases.{IsClosed}
 use Rattle.world_model.specs.Laws.{IsFolded}
 use Rattle.counted_steps.specs.Steps.{is_step, count}
-use Rattle.example_threads.proofs.Turns.{still_closed, sees_all, within}
+use Rattle.example_threads.proofs.Turns.{sees_all, within}
 use Rattle.example_threads.proofs.Two.{both_see}
 use Rattle.example_threads.proofs.pair.both.Goals as goal
 
 pub returns-clause-closed : goal.returns-clause-closed
-returns-clause-closed g c =
-    let ops = g.J.Naming.terms.ops in
-    let whole = c.front-whole.ensures.all in
-    let at_4 = ap (λ w. w.state.story.past) c.includes-4.ensures.same.0 in
-    let at_3 = ap (λ w. w.state.story.past) c.includes-3.ensures.same.0 in
-    let at_2 = ap (λ w. w.state.story.past) c.includes-2.ensures.same.0 in
-    let at_1 = ap (λ w. w.state.story.past) c.includes.ensures.same.0 in (
-      still_closed ops c.in_ok-one.one.phase _ _ _ _ c.in_ok-one.ensures.good.0
-          (within _ _ _ c.includes.ensures.begins (whole ∙ (at_4 ∙ (at_3 ∙ (at_2 ∙ at_1))))) c.is_legal.ensures.folded,
-      still_closed ops c.in_ok-one.other.phase _ _ _ _ c.in_ok-one.ensures.good.1
-          (within _ _ _ c.includes-3.ensures.begins (whole ∙ (at_4 ∙ at_3))) c.is_legal.ensures.folded,
-    )
+returns-clause-closed g c = (
+  subst (λ (h : List Event). IsClosed c.in_ok-one.one.phase h) (sym c.includes.ensures.same.1) c.in_ok-one.ensures.good.0.closed,
+  subst (λ (h : List Event). IsClosed c.in_ok-one.other.phase h) (sym c.includes-3.ensures.same.1) c.in_ok-one.ensures.good.1.closed,
+)
 
 pub returns-clause-saw : goal.returns-clause-saw
 returns-clause-saw g c =
