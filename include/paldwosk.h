@@ -4,8 +4,9 @@
  * toolchain's liblibc_c.a, by which it calls malloc, realloc and free (docs/linked.md has the command).
  *
  * WHAT IS PROVED, AND WHAT YOU OWE. Each function here passes its arguments on to one function of the archive,
- * phaser_c_.., whose contract says what it answers: what the library's call answers. Nothing checks a C caller, so these
- * are yours to uphold, for every function:
+ * phaser_c_.., whose contract says what it answers: what the library's call answers. The declarations and inline
+ * functions of this header are tested, not proved. Nothing checks a C caller, so these are yours to uphold, for every
+ * function:
  *
  *   - A pointer is NULL or leads to what its type says, for the whole call. Of a pointer with a length, all
  *     `length` items are there, initialised, and none of them is written by others during the call.
@@ -72,7 +73,7 @@ typedef enum paldwosk_answer {
   PALDWOSK_SHARES_DIFFER = 26,    /* of runs on threads alone */
 
   /* The call was answered, and isn't simply done. */
-  PALDWOSK_NOT_YET = 32,  /* nothing changed: the task asks again after another task's call */
+  PALDWOSK_NOT_YET = 32,  /* nothing changed: it asks again after another's call; in phaser_c_waiting_.. it waits */
   PALDWOSK_CLAIMED = 33,  /* the task runs the single, reports it done, and asks to pass again */
   PALDWOSK_NOTHING = 34,  /* there is no least and no greatest of no values */
   PALDWOSK_NOT_KEPT = 35, /* no such accumulator, or the phase is too great, or its fold is given up */

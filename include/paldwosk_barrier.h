@@ -24,8 +24,8 @@
  *
  *   - A paldwosk_barrier is zeroed before its first use, stays where it is, and is only passed to these functions.
  *     paldwosk_barrier_new and paldwosk_barrier_free don't overlap with other calls on it.
- *   - One thread at a time makes calls for a task. (While the task waits, a second thread is answered
- *     PALDWOSK_NOT_NOW.)
+ *   - One thread at a time makes calls for a task. (While the task waits, a second thread's signal,
+ *     wait, next or single is answered PALDWOSK_NOT_NOW; its send, look, join and leave are carried out.)
  *   - Who has a task goes on with it or leaves; else the others wait for it. A thread that ends doesn't leave by
  *     itself.
  *   - No call is made from a signal handler, or by a thread that may be cancelled asynchronously. A call takes up to
@@ -37,7 +37,8 @@
  *
  * ANSWERS. Each call is answered, in this order, PALDWOSK_NULL where a pointer is NULL that may not be, or the task
  * is zeroed; PALDWOSK_CLOSED where there is no barrier, or it was freed; and then as stands at the function, with the
- * refusals of docs/rules.md. Where the answer isn't PALDWOSK_DONE nothing has changed, but where that is said. */
+ * refusals of docs/rules.md. Where the answer isn't PALDWOSK_DONE nothing has changed, but where that is said. A next
+ * whose pass is refused has signalled. */
 #ifndef PALDWOSK_BARRIER_H
 #define PALDWOSK_BARRIER_H
 

@@ -21,7 +21,9 @@ const HEAD: &str = "{\"events\":[[1,\"p\",0,\"make\",0,\"SIG_WAIT\",[]";
 
 const TURN: &str = ",[2,\"t\",0,\"begin\",[\"next\"]],[3,\"p\",0,\"sig\",0],[4,\"p\",0,\"pass\",0]";
 
-const END: &str = ",[5,\"t\",0,\"begin\",[\"end\"]],[6,\"p\",0,\"drop\",0],[7,\"f\",0,\"shut\"]";
+/// All that follows the first event of the smallest trace.
+const REST: &str = ",[2,\"t\",0,\"begin\",[\"next\"]],[3,\"p\",0,\"sig\",0],[4,\"p\",0,\"pass\",0],\
+    [5,\"t\",0,\"begin\",[\"end\"]],[6,\"p\",0,\"drop\",0],[7,\"f\",0,\"shut\"]";
 
 const TAIL: &str = "],\"limits\":{\"acts\":4096,\"finishes\":64,\"history\":4096,\"phasers\":64,\
     \"regs\":256,\"tasks\":256},\"version\":";
@@ -35,8 +37,6 @@ const SMALLEST: &str = "{\"events\":[[1,\"p\",0,\"make\",0,\"SIG_WAIT\",[],null]
 
 /// A version, and what it has after the operators of a phaser without a bound.
 type Form = (u32, &'static str);
-
-const FORMS: [Form; 2] = [(1, ""), (2, ",null")];
 
 const REPORT: &str = "phaser 0 phases 1\ntask 0 ended\nfinish 0 tasks 0\n\
     totals registered 1 signals 1 passes 1 drops 1 sends 0 up 0 down 0\n";
@@ -90,29 +90,11 @@ fn text_in(alloc: Global, form: Form, events: &str) -> Result<String, Fail> {
     Ok(format!(in alloc; "{HEAD}{bound}]{events}{TAIL}{version}}}")?)
 }
 
-/// The text of the smallest trace in this form.
-fn smallest_in(alloc: Global, form: Form) -> Result<String, Fail> {
-    let events = format!(in alloc; "{TURN}{END}")?;
-    text_in(alloc, form, events.as_str())
-}
-
-// Both versions are replayed to one report and one text, and so is that text again.
 #[test]
-fn smallest_trace(rt: HostRuntime) -> Result<(), Fail> {
-    for form in FORMS {
-        let text = smallest_in(rt.alloc(), form)?;
-        let written = (REPORT, SMALLEST, "");
-        check(&rt, rt.alloc(), text.as_str(), Status::Done, written);
-        reports(&rt, rt.alloc(), text.as_str(), REPORT);
-    }
-    check(
-        &rt,
-        rt.alloc(),
-        SMALLEST,
-        Status::Done,
-        (REPORT, SMALLEST, ""),
-    );
-    Ok(())
+fn smallest_trace(rt: HostRuntime) {
+    let written = (REPORT, SMALLEST, "");
+    check(&rt, rt.alloc(), SMALLEST, Status::Done, written);
+    reports(&rt, rt.alloc(), SMALLEST, REPORT);
 }
 
 /// The text is refused with this line, and nothing else is written.
@@ -120,64 +102,37 @@ fn is_refused(rt: &impl Abort, alloc: Global, text: &str, line: &'static str) {
     check(rt, alloc, text, Status::Refused, ("", "", line));
 }
 
-/// What follows the first event, and what is said of the trace: its turn the other way round, a
-/// ticket twice, its last event missing, and no end.
-const CHANGED: [(&str, &str); 4] = [
+/// A form, what follows the first event, and what is said of the trace: its turn the other way
+/// round, a ticket twice, its last event missing, no end, and a version that there is not. Others
+/// stand in `examples/replays`.
+const CHANGED: [(Form, &str, &str); 6] = [
     (
+        (2, ",null"),
         ",[2,\"t\",0,\"begin\",[\"next\"]],[3,\"p\",0,\"pass\",0],[4,\"p\",0,\"sig\",0],\
          [5,\"t\",0,\"begin\",[\"end\"]],[6,\"p\",0,\"drop\",0],[7,\"f\",0,\"shut\"]",
         "refused 25 NotExplained at 3\n",
     ),
     (
+        (2, ",null"),
         ",[2,\"t\",0,\"begin\",[\"next\"]],[3,\"p\",0,\"sig\",0],[3,\"p\",0,\"pass\",0],\
          [5,\"t\",0,\"begin\",[\"end\"]],[6,\"p\",0,\"drop\",0],[7,\"f\",0,\"shut\"]",
         "refused 25 NotExplained at 4\n",
     ),
     (
+        (2, ",null"),
         ",[2,\"t\",0,\"begin\",[\"next\"]],[3,\"p\",0,\"sig\",0],[4,\"p\",0,\"pass\",0],\
          [5,\"t\",0,\"begin\",[\"end\"]],[6,\"p\",0,\"drop\",0]",
         "refused 25 NotExplained at 7\n",
     ),
-    (TURN, "refused 25 NotExplained at 5\n"),
+    ((2, ",null"), TURN, "refused 25 NotExplained at 5\n"),
+    ((1, ""), TURN, "refused 25 NotExplained at 5\n"),
+    ((0, ""), REST, "refused 24 BadText at 0\n"),
 ];
-
-/// Each changed trace is refused in this form.
-fn all_refused(rt: &impl Abort, alloc: Global, form: Form) -> Result<(), Fail> {
-    for (events, line) in CHANGED {
-        let text = text_in(alloc, form, events)?;
-        is_refused(rt, alloc, text.as_str(), line);
-    }
-    Ok(())
-}
 
 #[test]
 fn changed_traces(rt: HostRuntime) -> Result<(), Fail> {
-    for form in FORMS {
-        all_refused(&rt, rt.alloc(), form)?;
-    }
-    Ok(())
-}
-
-#[test]
-fn cut_inside_a_string(rt: HostRuntime) -> Result<(), Fail> {
-    for (_, bound) in FORMS {
-        let text = format!(in rt.alloc(); "{HEAD}{bound}],[2,\"t\",0,\"begi")?;
-        is_refused(&rt, rt.alloc(), text.as_str(), "refused 24 BadText at 0\n");
-    }
-    Ok(())
-}
-
-// A version that there is not is at fault before the first event, the other version's form there.
-#[test]
-fn versions_and_forms(rt: HostRuntime) -> Result<(), Fail> {
-    const ROWS: [(Form, &str); 4] = [
-        ((3, ",null"), "refused 24 BadText at 0\n"),
-        ((0, ""), "refused 24 BadText at 0\n"),
-        ((1, ",null"), "refused 24 BadText at 1\n"),
-        ((2, ""), "refused 24 BadText at 1\n"),
-    ];
-    for (form, line) in ROWS {
-        let text = smallest_in(rt.alloc(), form)?;
+    for (form, events, line) in CHANGED {
+        let text = text_in(rt.alloc(), form, events)?;
         is_refused(&rt, rt.alloc(), text.as_str(), line);
     }
     Ok(())
@@ -205,7 +160,7 @@ fn has_no_room(rt: &impl Abort, alloc: Global, text: &str) {
 // The report that can't be written is a fault. The trace was written before it.
 #[test]
 fn report_fails(rt: HostRuntime) -> Result<(), Fail> {
-    let text = smallest_in(rt.alloc(), (1, ""))?;
+    let text = text_in(rt.alloc(), (1, ""), REST)?;
     has_no_room(&rt, rt.alloc(), text.as_str());
     Ok(())
 }
@@ -231,7 +186,7 @@ fn has_no_room_in_out(rt: &impl Abort, alloc: Global, text: &str) {
 // A trace that can't be written is a fault, and then there is no report.
 #[test]
 fn trace_fails(rt: HostRuntime) -> Result<(), Fail> {
-    let text = smallest_in(rt.alloc(), (1, ""))?;
+    let text = text_in(rt.alloc(), (1, ""), REST)?;
     has_no_room_in_out(&rt, rt.alloc(), text.as_str());
     Ok(())
 }

@@ -4,7 +4,7 @@ use Rattle.std.proofs.lemmas.Bool.{and_parts}
 use Rattle.phase_modes.specs.Limits.{default_limits}
 use Rattle.phase_modes.specs.declared.refusal.Refusal.{Refusal}
 use Rattle.phase_modes.specs.declared.refusal.Refusal.TheVariants.{Memory, NotExplained}
-use Rattle.task_crew.specs.Refused.{IsRunRefused}
+use Rattle.tasks_in_flight.specs.Refused.{IsRunRefused}
 use Rattle.job_script.specs.declared.act.Answer.{Answer}
 use Rattle.world_model.specs.declared.event.WorldEvent.{WorldEvent}
 use Rattle.world_model.specs.Replies.{is_legal_world}

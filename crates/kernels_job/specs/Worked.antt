@@ -10,7 +10,7 @@ use Rattle.trace_model.specs.Run.{Run}
 use Rattle.trace_model.specs.Explained.{past, is_explained}
 use Rattle.body_follows.specs.Going.{goes_by}
 use Rattle.trace_walk.specs.Walking.{Does}
-use Rattle.task_crew.specs.Refused.{IsRunRefused}
+use Rattle.tasks_in_flight.specs.Refused.{IsRunRefused}
 use Rattle.job_kernels.specs.Pipeline.{pipeline}
 use Rattle.job_kernels.specs.Stencil.{stencil}
 use Rattle.kernel_laws.specs.Totals.{pipeline_totals, stencil_totals}

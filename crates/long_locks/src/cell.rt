@@ -1,5 +1,5 @@
 //! What stands behind the lock of a phaser that lives long.
-ghost use Rattle.std.specs.Prelude.{◌≡◌, ◌+◌, [], ◌≤◌, false, IfOk, IfErr, OnErr, Ok, Err, Some};
+ghost use Rattle.std.specs.Prelude.{◌≡◌, ◌+◌, [], ◌≤◌, false, IfOk, IfErr, OnErr, Ok, Err, Some, ◌≢◌};
 ghost use Rattle.std.specs.VecDeque.{deque_len, deque_capacity};
 ghost use Rattle.long_phaser.specs.Numbered.{long_limits};
 ghost use Rattle.phase_model.specs.declared.call.Call.TheVariants.{Make as make, Register as register, Signal as signal, Pass as pass, SingleDone as single_done, Send as send, Look as look, Drop as drop_task};
@@ -53,6 +53,7 @@ impl<T> LongCell<T> {
             done_result (reply self.old.state.story (register parent self.old.state.next mode)) ≡ Ok tt) }
         ensures refused { IfErr result (λ r.
             done_result (reply self.old.state.story (register parent self.old.state.next mode)) ≡ Err r) }
+        ensures numbered { (result ≢ Err Refusal.RegisteredTwice) × (result ≢ Err Refusal.TasksFull) }
         ensures history { self.new.state.story
             ≡ after self.old.state.story (reply self.old.state.story (register parent self.old.state.next mode)) }
         ensures next { IfOk result (λ t. self.new.state.next ≡ t + 1) }
@@ -195,8 +196,9 @@ impl<T: Drop> LongCell<T> {
         ensures empty { IfOk result (λ c. c.parked.items ≡ []) }
         ensures memory { IfErr result (λ r. r ≡ Refusal.Memory) }
     {
-        let state = LongPhaser::new(alloc, ops, bound)?;
         let parked = VecDeque::with_capacity(alloc, 256)?;
+        // Last, since it is the dearest to give back where another gets no memory.
+        let state = LongPhaser::new(alloc, ops, bound)?;
         Ok(LongCell { state, parked })
     }
 }

@@ -1,5 +1,5 @@
 //! What stands behind the lock.
-ghost use Rattle.std.specs.Prelude.{◌≡◌, [], true, false, map, IfOk, OnErr};
+ghost use Rattle.std.specs.Prelude.{◌≡◌, [], true, false, map, IfOk, OnErr, Err, ◌≢◌};
 ghost use Rattle.phase_modes.specs.Mode.{can_wait};
 ghost use Rattle.phase_model.specs.declared.call.Call.TheVariants.{Make as make, Register as register, Signal as signal, Pass as pass, SingleDone as single_done, Send as send, Look as look, Drop as drop_task};
 ghost use Rattle.phase_model.specs.Phases.{IsClosed};
@@ -87,6 +87,7 @@ impl<J: Naming, T> ReceiptCell<J, T> {
     #[inline(always)]
     pub fn register(&mut self, me: &mut Front<J>, parent: Task, mode: Mode) -> Result<Task, Refusal>
         ensures told { IsNumbered result J.terms (λ n. register parent n mode) me.old me.new }
+        ensures numbered { (result ≢ Err Refusal.RegisteredTwice) × (result ≢ Err Refusal.TasksFull) }
         ensures added { self.new.cell.state.story.past ≡ with_one (register_event parent mode result) self.old.cell.state.story.past }
         ensures now { me.new ≡ self.new.cell.state.story.past }
         ensures parked { self.new.cell.parked ≡ self.old.cell.parked }

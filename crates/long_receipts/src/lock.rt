@@ -2,7 +2,7 @@
 //!
 //! Each call takes the lock, and gives it back when it is done. Its clause `told` says what it was
 //! answered: the phaser's reply, at a place of its one history.
-ghost use Rattle.std.specs.Prelude.{◌≡◌, [], true, false, Some, IfOk, IfErr, OnErr};
+ghost use Rattle.std.specs.Prelude.{◌≡◌, [], true, false, Some, IfOk, IfErr, OnErr, Err, ◌≢◌};
 ghost use Rattle.phase_modes.specs.Mode.{can_wait};
 ghost use Rattle.phase_model.specs.declared.call.Call.TheVariants.{Make as make, Register as register, Signal as signal, Pass as pass, SingleDone as single_done, Send as send, Look as look, Drop as drop_task};
 ghost use Rattle.phase_model.specs.Phases.{IsClosed};
@@ -78,6 +78,7 @@ impl<J: Naming, T> ReceiptLock<J, T> {
         mode: Mode,
     ) -> Result<Task, Refusal>
         ensures told { IsNumbered result J.terms (λ n. register parent n mode) me.old me.new }
+        ensures numbered { (result ≢ Err Refusal.RegisteredTwice) × (result ≢ Err Refusal.TasksFull) }
     {
         self.cell.lock(rt).register(me, parent, mode)
     }

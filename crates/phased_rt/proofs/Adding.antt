@@ -19,10 +19,10 @@ use Rattle.trace_model.specs.declared.event.TracedEvent.TheVariants.{Phaser, Fin
 use Rattle.trace_model.specs.Run.{Entry}
 use Rattle.trace_model.specs.Explained.{step_of, event_of, past}
 use Rattle.trace_model.specs.Told.{step_told, phaser_told}
-use Rattle.scope_locks.specs.Telling.{IsPhaserPart, ArePhaserParts}
+use Rattle.phaser_cell.specs.Telling.{IsPhaserPart, ArePhaserParts}
 use Rattle.phased_rt.specs.Totals.{is_phasers}
 use Rattle.phased_rt.proofs.Owned.{IsApart}
-use Rattle.task_crew.proofs.Sums.{sum_map}
+use Rattle.task_remains.proofs.Sums.{sum_map}
 use Rattle.phased_rt.proofs.Sums.{sum_both, sum_same, sum_none, sum_reverse, sum_zip, sum_picked}
 
 -- one of the three numbers of an amount

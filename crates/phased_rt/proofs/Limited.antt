@@ -35,7 +35,7 @@ use Rattle.trace_model.specs.Explained.{event_of, past, step_of}
 use Rattle.trace_model.specs.Projections.{is_same, phaser, projection, whose}
 use Rattle.trace_model.specs.Run.{Entry}
 use Rattle.trace_model.specs.Told.{phaser_told, step_told}
-use Rattle.scope_locks.specs.Telling.{IsPhaserPart, ArePhaserParts}
+use Rattle.phaser_cell.specs.Telling.{IsPhaserPart, ArePhaserParts}
 use Rattle.phased_rt.specs.Told.{HaveLimits}
 
 -- ---- lists in reverse

@@ -8,8 +8,9 @@ use Rattle.trace_model.specs.declared.event.TracedEvent.TheVariants.{Phaser, Fin
 use Rattle.trace_model.specs.Run.{Entry}
 use Rattle.trace_model.specs.Projections.{Whose, phaser, finish, log, whose, AreOf}
 use Rattle.trace_model.proofs.Owners.{phasers_tell, finishes_tell}
-use Rattle.scope_locks.specs.Telling.{ArePhaserParts, AreFinishParts, untold}
-use Rattle.task_crew.specs.Remaining.{AreLogsOf}
+use Rattle.phaser_cell.specs.Telling.{ArePhaserParts}
+use Rattle.scope_locks.specs.Telling.{AreFinishParts, untold}
+use Rattle.task_remains.specs.Remaining.{AreLogsOf}
 use Rattle.phased_rt.specs.Totals.{is_phasers}
 
 -- parts of the owners of this number, the next and so on

@@ -6,7 +6,7 @@ use Rattle.phase_modes.specs.declared.refusal.Refusal.TheVariants.{Memory, NotEx
 use Rattle.trace_model.specs.Run.{Entry, Run}
 use Rattle.trace_replay.specs.Merging.{Merges}
 use Rattle.trace_replay.specs.Replaying.{IsRefused, Replays}
-use Rattle.task_crew.specs.Refused.{IsRunRefused}
+use Rattle.tasks_in_flight.specs.Refused.{IsRunRefused}
 
 pub merge_refused : (l : Limits) (parts : List (List Entry)) (e : Refusal) → Merges l parts (Err e) → IsRunRefused e
 merge_refused l parts Memory is = inl refl

@@ -14,7 +14,7 @@ use Rattle.table_receipts.specs.Logs.{GoesOn}
 use Rattle.table_receipts.specs.Parts.{IsToldAt, HasShown}
 use Rattle.table_receipts.proofs.Goes.{some_more}
 use Rattle.tasks_in_flight.specs.Heard.{Asked}
-use Rattle.task_crew.specs.Remaining.{AreLogsOf}
+use Rattle.task_remains.specs.Remaining.{AreLogsOf}
 use Rattle.tasks_in_flight.specs.Said.{Saying, IsSaid, IsSaidOf, AreSaid, has_end}
 use Rattle.phased_rt.specs.Says.{story_in, SaysOfTrace, SaysOfEach}
 use Rattle.phased_rt.proofs.Limited.{IsHad, told_is_had}

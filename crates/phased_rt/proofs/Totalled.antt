@@ -20,12 +20,12 @@ use Rattle.trace_model.specs.declared.event.TracedEvent.TheVariants.{Phaser, Fin
 use Rattle.trace_model.specs.Run.{Entry}
 use Rattle.trace_model.specs.Explained.{past}
 use Rattle.trace_model.specs.Parts.{IsTraceOf}
-use Rattle.scope_locks.specs.Telling.{ArePhaserParts}
+use Rattle.phaser_cell.specs.Telling.{ArePhaserParts}
 use Rattle.share_book.specs.declared.gathering.Totals.{Totals}
 use Rattle.share_book.specs.Accounts.{sum, amount_of}
 use Rattle.phased_rt.specs.Told.{IsToldBy}
 use Rattle.phased_rt.specs.Totals.{is_phasers, all_totals, AreTotals}
-use Rattle.task_crew.proofs.Sums.{sum_map, same_amounts}
+use Rattle.task_remains.proofs.Sums.{sum_map, same_amounts}
 use Rattle.phased_rt.proofs.Sums.{sum_same, sum_reverse, sum_flat, sum_filter}
 use Rattle.phased_rt.proofs.Adding.{IsPart, weight, weigh, past_weighs, parts_weigh, all_weigh, others_weigh}
 use Rattle.phased_rt.proofs.Owned.{IsApart, finishes_apart, logs_apart}

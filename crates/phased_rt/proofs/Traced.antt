@@ -10,8 +10,9 @@ use Rattle.trace_model.specs.Run.{Entry}
 use Rattle.trace_model.specs.Parts.{IsTraceOf, StandIn}
 use Rattle.trace_model.specs.Projections.{Whose, phaser, finish, log, whose, projection, AreOf, AreNotOf}
 use Rattle.trace_model.proofs.Owners.{projection_is_part}
-use Rattle.scope_locks.specs.Telling.{ArePhaserParts, AreFinishParts}
-use Rattle.task_crew.specs.Remaining.{AreLogsOf, AreDifferent}
+use Rattle.phaser_cell.specs.Telling.{ArePhaserParts}
+use Rattle.scope_locks.specs.Telling.{AreFinishParts}
+use Rattle.task_remains.specs.Remaining.{AreLogsOf, AreDifferent}
 use Rattle.phased_rt.specs.Told.{IsToldBy}
 use Rattle.phased_rt.proofs.Owned.{AreOfEach, phasers_owned, finishes_owned}
 

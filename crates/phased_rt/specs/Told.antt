@@ -5,10 +5,11 @@ use Rattle.phase_modes.specs.declared.limits.Limits.{Limits}
 use Rattle.phase_model.specs.Amounts.{Amount}
 use Rattle.share_book.specs.declared.gathering.Totals.{Totals}
 use Rattle.share_book.specs.Accounts.{sum, amount_of}
-use Rattle.scope_locks.specs.Telling.{ArePhaserParts, AreFinishParts}
+use Rattle.phaser_cell.specs.Telling.{ArePhaserParts}
+use Rattle.scope_locks.specs.Telling.{AreFinishParts}
 use Rattle.trace_model.specs.Parts.{IsTraceOf}
 use Rattle.trace_model.specs.Run.{Entry}
-use Rattle.task_crew.specs.Remaining.{AreLogsOf, AreDifferent}
+use Rattle.task_remains.specs.Remaining.{AreLogsOf, AreDifferent}
 
 -- the stories that these parts tell, of the phasers from n on, have these limits
 abbrev pub HaveLimits : (l : Limits) (n : ℕ) (ps : List (List Entry)) (sums : List Amount) → ArePhaserParts n ps sums → Type 0

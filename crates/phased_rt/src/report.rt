@@ -4,7 +4,7 @@ ghost use Rattle.phase_modes.specs.Limits.{limits_fit};
 ghost use Rattle.world_model.specs.Report.{report_of};
 ghost use Rattle.trace_model.specs.Explained.{past, is_explained};
 ghost use Rattle.trace_model.specs.Parts.{IsTraceOf};
-ghost use Rattle.task_crew.specs.Refused.{IsRunRefused};
+ghost use Rattle.tasks_in_flight.specs.Refused.{IsRunRefused};
 ghost use Rattle.phased_rt.specs.Left.{IsLeftByAll};
 
 use crate::asked::asked_of;

@@ -5,7 +5,7 @@ ghost use Rattle.phase_model.specs.Rules.{Story};
 ghost use Rattle.world_model.specs.Report.{report_of};
 ghost use Rattle.trace_model.specs.Explained.{past, is_explained};
 ghost use Rattle.tasks_in_flight.specs.Heard.{nothing};
-ghost use Rattle.task_crew.specs.Refused.{IsRunRefused};
+ghost use Rattle.tasks_in_flight.specs.Refused.{IsRunRefused};
 ghost use Rattle.phased_rt.specs.Left.{IsLeftByAll};
 ghost use Rattle.phased_rt.specs.Says.{SaysOfTrace, SaysOfEach};
 ghost use Rattle.phased_rt.specs.Told.{IsToldBy};

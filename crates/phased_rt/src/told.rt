@@ -3,8 +3,8 @@ ghost use Rattle.std.specs.Prelude.{◌≡◌, ◌++◌, true, reverse, IfOk, If
 ghost use Rattle.phase_modes.specs.Limits.{limits_fit};
 ghost use Rattle.world_model.specs.Report.{report_of};
 ghost use Rattle.trace_model.specs.Explained.{past, is_explained};
-ghost use Rattle.task_crew.specs.Refused.{IsRunRefused};
-ghost use Rattle.task_crew.specs.Remaining.{AreRemains};
+ghost use Rattle.tasks_in_flight.specs.Refused.{IsRunRefused};
+ghost use Rattle.task_remains.specs.Remaining.{AreRemains};
 ghost use Rattle.tasks_in_flight.specs.Said.{IsSaid, AreSaid, IsSaidOf};
 ghost use Rattle.phased_rt.specs.Left.{IsLeftByAll};
 ghost use Rattle.phased_rt.specs.Says.{SaysOfTrace, SaysOfEach};

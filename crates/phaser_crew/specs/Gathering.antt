@@ -4,7 +4,7 @@ use Rattle.phase_model.specs.Amounts.{Amount}
 use Rattle.phase_model.specs.Rules.{Story}
 use Rattle.share_book.specs.declared.gathering.Totals.{Totals}
 use Rattle.share_book.specs.Accounts.{sum, amount_of}
-use Rattle.scope_locks.specs.Telling.{ArePhaserParts}
+use Rattle.phaser_cell.specs.Telling.{ArePhaserParts}
 use Rattle.trace_model.specs.Run.{Entry}
 use Rattle.table_receipts.specs.Parts.{IsToldAt, HasShown}
 

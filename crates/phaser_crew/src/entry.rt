@@ -12,7 +12,7 @@ use crate::held::Held;
 use crate::threads::{Work, in_threads};
 use ghost_log::Whole;
 use phase_modes::{Limits, Refusal};
-use scope_locks::Tickets;
+use phaser_cell::Tickets;
 use share_book::{Blanks, Seven, SharedLedgers, Shares, gather, open};
 use std::alloc::Global;
 use std::marker::{Brand, PhantomData};

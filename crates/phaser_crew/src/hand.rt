@@ -7,7 +7,7 @@ ghost use Rattle.phase_model.specs.Phases.{IsClosed};
 ghost use Rattle.phase_model.specs.Replies.{done_result};
 ghost use Rattle.phase_model.specs.Tasks.{has_mode};
 ghost use Rattle.phaser_answers.specs.Answers.{signal_result, pass_result, look_result};
-ghost use Rattle.scope_locks.specs.Amounts.{amount_if};
+ghost use Rattle.phaser_cell.specs.Amounts.{amount_if};
 ghost use Rattle.parked_tasks.specs.Parking.{goes_on, IsBack, has_signalled, IsBackFromSignal};
 ghost use Rattle.long_receipts.specs.Told.{IsSignalAnswer, IsPassAnswer, IfPassed, HasLooked};
 ghost use Rattle.table_receipts.specs.Told.{IsAnswered, IsMade};
@@ -16,7 +16,7 @@ ghost use Rattle.phaser_crew.specs.Hands.{BeginsWith, IsSameHand};
 
 use phase_model::{Bound, Event, Look, Ops};
 use phase_modes::{Mode, Refusal};
-use scope_locks::{PassAnswer, SignalAnswer};
+use phaser_cell::{PassAnswer, SignalAnswer};
 use std::sync::Wait;
 use task_numbers::{AccumulatorIndex, PhaserNumber, TaskNumber};
 
@@ -143,7 +143,7 @@ pub trait Hand<T> {
         ensures same { IsSameHand (shown self.old) (shown self.new) }
         ensures nobody { has_signalled result ≡ false → (shown self.new).freed ≡ (shown self.old).freed }
         ensures told { phaser < (shown self.old).phasers → IsAnswered (λ _ r. IsSignalAnswer item (signal_result r) result) (signal task proposed) (seen self.old phaser) (seen self.new phaser)
-            ⊎ (result ≡ SignalAnswer.Refused item Refusal.Memory) }
+            ⊎ ((result ≡ SignalAnswer.Refused item Refusal.Memory) × ((n : ℕ) → seen self.new n ≡ seen self.old n)) }
         ensures more { HasSeenMore phaser (seen self.old) (seen self.new) };
 
     /// The task asks to end its turn. The item comes back, or is parked until a call of some worker
@@ -157,7 +157,7 @@ pub trait Hand<T> {
         ensures same { IsSameHand (shown self.old) (shown self.new) }
         ensures nobody { goes_on result ≡ false → (shown self.new).freed ≡ (shown self.old).freed }
         ensures told { phaser < (shown self.old).phasers → IsAnswered (λ h r. IsPassAnswer item (pass_result h r) result) (pass task) (seen self.old phaser) (seen self.new phaser)
-            ⊎ (result ≡ PassAnswer.Refused item Refusal.Memory) }
+            ⊎ ((result ≡ PassAnswer.Refused item Refusal.Memory) × ((n : ℕ) → seen self.new n ≡ seen self.old n)) }
         ensures closed { IfPassed result (λ p. has_mode can_wait task (seen self.new phaser).past ≡ true → IsClosed p (seen self.new phaser).past) }
         ensures more { HasSeenMore phaser (seen self.old) (seen self.new) };
 
@@ -170,7 +170,7 @@ pub trait Hand<T> {
         ensures same { IsSameHand (shown self.old) (shown self.new) }
         ensures refused { OnErr result ((shown self.new).freed ≡ (shown self.old).freed) }
         ensures told { phaser < (shown self.old).phasers → IsAnswered (λ _ r. result ≡ done_result r) (single_done task) (seen self.old phaser) (seen self.new phaser)
-            ⊎ (result ≡ Err Refusal.Memory) }
+            ⊎ ((result ≡ Err Refusal.Memory) × ((n : ℕ) → seen self.new n ≡ seen self.old n)) }
         ensures more { HasSeenMore phaser (seen self.old) (seen self.new) };
 
     /// The task leaves the phaser.
@@ -182,6 +182,6 @@ pub trait Hand<T> {
         ensures same { IsSameHand (shown self.old) (shown self.new) }
         ensures refused { OnErr result ((shown self.new).freed ≡ (shown self.old).freed) }
         ensures told { phaser < (shown self.old).phasers → IsAnswered (λ _ r. result ≡ done_result r) (drop_task task) (seen self.old phaser) (seen self.new phaser)
-            ⊎ (result ≡ Err Refusal.Memory) }
+            ⊎ ((result ≡ Err Refusal.Memory) × ((n : ℕ) → seen self.new n ≡ seen self.old n)) }
         ensures more { HasSeenMore phaser (seen self.old) (seen self.new) };
 }

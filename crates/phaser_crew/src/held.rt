@@ -5,7 +5,7 @@ ghost use Rattle.std.specs.Prelude.{◌≡◌, ◌++◌, [], ◌<◌, ◌≤◌,
 use crate::hand::Hand;
 use phase_model::{Bound, Look, Ops, Terms};
 use phase_modes::{Mode, Refusal};
-use scope_locks::{Out, PassAnswer, SignalAnswer, Tickets};
+use phaser_cell::{Out, PassAnswer, SignalAnswer, Tickets};
 use share_book::Shares;
 use std::alloc::Global;
 use std::collections::VecDeque;

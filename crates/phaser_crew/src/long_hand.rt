@@ -1,5 +1,5 @@
 //! A worker's hand at a phaser that lives long, as a crew sees it.
-ghost use Rattle.std.specs.Prelude.{◌≡◌, ◌⊎◌, ◌∷◌, [], false, true, Err, IfOk, OnErr, MatchOption};
+ghost use Rattle.std.specs.Prelude.{◌≡◌, ◌⊎◌, ◌∷◌, [], false, true, Err, IfOk, OnErr, MatchOption, ◌≢◌};
 ghost use Rattle.phase_modes.specs.Mode.{can_wait};
 ghost use Rattle.phase_model.specs.declared.call.Call.TheVariants.{Make as make, Register as register, Signal as signal, Pass as pass, SingleDone as single_done, Send as send, Look as look, Drop as drop_task};
 ghost use Rattle.phase_model.specs.Phases.{IsClosed};
@@ -66,6 +66,7 @@ pub trait LongHand<T> {
     fn register(&mut self, parent: LongTaskNumber, mode: Mode) -> Result<LongTaskNumber, Refusal>
         ensures same { shown self.new ≡ shown self.old }
         ensures told { IsNumbered result terms (λ n. register parent n mode) (seen self.old) (seen self.new) }
+        ensures numbered { (result ≢ Err Refusal.RegisteredTwice) × (result ≢ Err Refusal.TasksFull) }
         ensures more { IsTail (seen self.old) (seen self.new) };
 
     /// The task sends the value to the accumulator of this index.
@@ -98,7 +99,7 @@ pub trait LongHand<T> {
         ensures same { (shown self.new).worker ≡ (shown self.old).worker }
         ensures nobody { has_signalled result ≡ false → (shown self.new).freed ≡ (shown self.old).freed }
         ensures told { IsAnswered (λ _ r. IsSignalAnswer item (signal_result r) result) terms (signal task proposed) (seen self.old) (seen self.new)
-            ⊎ (result ≡ SignalAnswer.Refused item Refusal.Memory) }
+            ⊎ ((result ≡ SignalAnswer.Refused item Refusal.Memory) × (seen self.new ≡ seen self.old)) }
         ensures more { IsTail (seen self.old) (seen self.new) };
 
     /// The task asks to end its turn. The item comes back, or is parked until a call of some worker
@@ -109,7 +110,7 @@ pub trait LongHand<T> {
         ensures same { (shown self.new).worker ≡ (shown self.old).worker }
         ensures nobody { goes_on result ≡ false → (shown self.new).freed ≡ (shown self.old).freed }
         ensures told { IsAnswered (λ h r. IsPassAnswer item (pass_result h r) result) terms (pass task) (seen self.old) (seen self.new)
-            ⊎ (result ≡ PassAnswer.Refused item Refusal.Memory) }
+            ⊎ ((result ≡ PassAnswer.Refused item Refusal.Memory) × (seen self.new ≡ seen self.old)) }
         ensures closed { IfPassed result (λ p. has_mode can_wait task (seen self.new) ≡ true → IsClosed p (seen self.new)) }
         ensures more { IsTail (seen self.old) (seen self.new) };
 
@@ -119,7 +120,7 @@ pub trait LongHand<T> {
         ensures same { (shown self.new).worker ≡ (shown self.old).worker }
         ensures refused { OnErr result ((shown self.new).freed ≡ (shown self.old).freed) }
         ensures told { IsAnswered (λ _ r. result ≡ done_result r) terms (single_done task) (seen self.old) (seen self.new)
-            ⊎ (result ≡ Err Refusal.Memory) }
+            ⊎ ((result ≡ Err Refusal.Memory) × (seen self.new ≡ seen self.old)) }
         ensures more { IsTail (seen self.old) (seen self.new) };
 
     /// The task leaves the phaser. Its number is never given out again.
@@ -128,6 +129,6 @@ pub trait LongHand<T> {
         ensures same { (shown self.new).worker ≡ (shown self.old).worker }
         ensures refused { OnErr result ((shown self.new).freed ≡ (shown self.old).freed) }
         ensures told { IsAnswered (λ _ r. result ≡ done_result r) terms (drop_task task) (seen self.old) (seen self.new)
-            ⊎ (result ≡ Err Refusal.Memory) }
+            ⊎ ((result ≡ Err Refusal.Memory) × (seen self.new ≡ seen self.old)) }
         ensures more { IsTail (seen self.old) (seen self.new) };
 }

@@ -216,7 +216,7 @@ fn made_and_left<K: Naming, R: Wait + Abort>(
     let mut phaser = SeenPhaser {
         table,
         number: 1,
-        me: table.lock(rt, 1).front(),
+        me: table.front(rt, 1),
     };
     let task = TaskNumber::of(0);
     phaser.make(by, task, Mode::SigWait)?;

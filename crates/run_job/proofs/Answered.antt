@@ -3,7 +3,7 @@ use Rattle.std.proofs.Common.{ℕ, Option, Err, inl, inr, refl}
 use Rattle.phase_modes.specs.declared.refusal.Refusal.{Refusal}
 use Rattle.phase_modes.specs.declared.refusal.Refusal.TheVariants.{Memory, NotExplained}
 use Rattle.trace_walk.specs.Walking.{AnswersPlace}
-use Rattle.task_crew.specs.Refused.{IsRunRefused}
+use Rattle.tasks_in_flight.specs.Refused.{IsRunRefused}
 
 pub refused_so : (o : Option ℕ) (e : Refusal) → AnswersPlace o (Err e) → IsRunRefused e
 refused_so o Memory is = inl refl

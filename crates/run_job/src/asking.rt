@@ -2,7 +2,7 @@
 ghost use Rattle.std.specs.Prelude.{◌≡◌, ◌<◌, ◌≤◌, true, reverse, IfOk, IfErr};
 ghost use Rattle.world_model.specs.Report.{report_of};
 ghost use Rattle.trace_model.specs.Explained.{past};
-ghost use Rattle.task_crew.specs.Refused.{IsRunRefused};
+ghost use Rattle.tasks_in_flight.specs.Refused.{IsRunRefused};
 ghost use Rattle.run_job.specs.Worked.{IsRunOf};
 
 use job_script::{Program, ScriptBody};

@@ -2,7 +2,7 @@
 ghost use Rattle.std.specs.Prelude.{◌<◌, ◌≤◌};
 
 use crate::asserted::{equal, equal_at};
-use crate::certificates::{CROWD, TWO_MAKERS, TWO_SENDERS, TWO_SENDERS_CERTIFICATE};
+use crate::certificates::{CROWD, TWO_SENDERS, TWO_SENDERS_CERTIFICATE};
 use crate::ended::Ended;
 use certain_job::{certain_bytes, certain_on, ending_on};
 use certify_job::NoCertificate;
@@ -60,8 +60,7 @@ fn certain_runs(rt: HostRuntime) {
 }
 
 /// Texts whose program isn't certain, and what is said of each.
-const UNCERTAIN: [(&str, &str); 3] = [
-    (TWO_MAKERS, "luck at 8: task 2 draws phaser 1\n"),
+const UNCERTAIN: [(&str, &str); 2] = [
     (CROWD, "luck at 8: task 0 registers task 2 on phaser 0\n"),
     (
         r#"{"main":[["next"],["jump"]]}"#,

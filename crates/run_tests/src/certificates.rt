@@ -23,31 +23,14 @@ pub(crate) const TWO_SENDERS_CERTIFICATE: &str =
     phaser 0 phase 1 acc 0 value 30\ntask 0 ended\ntask 1 ended\ntask 2 ended\nfinish 0 tasks 2\n\
     totals registered 3 signals 4 passes 4 drops 3 sends 4 up 33 down 0\ncertain\n";
 
-// Two children make a phaser each: who comes first gets number 0.
-pub(crate) const TWO_MAKERS: &str =
-    r#"{"main":[["async",[],[["new","a","SIG",["sum"]],["send","a",0,1],
-    ["next"]]],["async",[],[["new","b","SIG",[]]]]]}"#;
-
 // The second child finds room where the first has left.
 pub(crate) const CROWD: &str =
     r#"{"limits":{"regs":2},"main":[["new","p","SIG_WAIT",[]],["async_all",[]],
     ["async_all",[]]]}"#;
 
 /// Programs with the first event in which luck has a part: its place, what it decides, and how that
-/// is said.
-const LUCKY: [(&str, u64, Luck, &str); 5] = [
-    (
-        TWO_MAKERS,
-        8,
-        Luck::Phaser(2, 1),
-        "luck at 8: task 2 draws phaser 1\n",
-    ),
-    (
-        CROWD,
-        8,
-        Luck::Registered(0, 2, 0),
-        "luck at 8: task 0 registers task 2 on phaser 0\n",
-    ),
+/// is said. `examples/commands` certifies others.
+const LUCKY: [(&str, u64, Luck, &str); 3] = [
     // The root draws task 1, and its child spawns before it draws again.
     (
         r#"{"main":[["async",[],[["async",[],[]]]],["next"],["next"],["async",[],[]]]}"#,

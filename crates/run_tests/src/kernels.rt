@@ -23,16 +23,6 @@ const ONE_CELL: TotalsLine = TotalsLine {
     down: 0,
 };
 
-const NO_ITEM: TotalsLine = TotalsLine {
-    registered: 6,
-    signals: 0,
-    passes: 1,
-    drops: 6,
-    sends: 0,
-    up: 0,
-    down: 0,
-};
-
 /// A report of phaser 0 with these values phase by phase, and of as many tasks as there are
 /// refusals here.
 fn report_of(
@@ -91,27 +81,11 @@ fn results_are_printed(rt: HostRuntime) {
     ends(
         &rt,
         rt.alloc(),
-        Kernel::Stencil(1),
-        report_of(rt.alloc(), &[4, 2], &[None, None], ONE_CELL),
-        &Ended::done(
-            "cells 2\ntotals registered 2 signals 1 passes 1 drops 2 sends 2 up 6 down 0\n",
-        ),
-    );
-    ends(
-        &rt,
-        rt.alloc(),
         Kernel::Pipeline(0),
         report_of(rt.alloc(), &[1, 2], &[None, None, None], ONE_CELL),
         &Ended::done(
             "items 1 2\ntotals registered 2 signals 1 passes 1 drops 2 sends 2 up 6 down 0\n",
         ),
-    );
-    ends(
-        &rt,
-        rt.alloc(),
-        Kernel::Pipeline(1),
-        report_of(rt.alloc(), &[], &[None, None, None, None], NO_ITEM),
-        &Ended::done("items\ntotals registered 6 signals 0 passes 1 drops 6 sends 0 up 0 down 0\n"),
     );
 }
 

@@ -61,19 +61,9 @@ fn reports<R: Abort + Threads + Wait + Sync>(rt: &R, alloc: Global, text: &str, 
     check_by(rt, alloc, text, 16, &wanted);
 }
 
-/// Programs, each with the lines of its report.
-const PROGRAMS: [(&str, &str); 20] = [
-    (
-        r#"{"main":[]}"#,
-        "task 0 ended\nfinish 0 tasks 0\n\
-         totals registered 0 signals 0 passes 0 drops 0 sends 0 up 0 down 0\n",
-    ),
-    (
-        r#"{"main":[["new","p","SIG_WAIT",[]],["open"],["async",[["p","SIG"]],[["next"]]],
-            ["shut"]]}"#,
-        "phaser 0 phases 0\ntask 0 refused 12 OutsideScope\nfinish 0 tasks 0\nfinish 1 tasks 0\n\
-         totals registered 1 signals 0 passes 0 drops 1 sends 0 up 0 down 0\n",
-    ),
+/// Programs, each with the lines of its report: values are sent, a finish waits for its task, and a
+/// child is given up before it is born. The other examples stand in `examples/schedules` alone.
+const PROGRAMS: [(&str, &str); 3] = [
     (
         r#"{"main":[["new","p","SIG_WAIT",["sum"]],
             ["async",[["p","SIG_WAIT"]],
@@ -85,85 +75,10 @@ const PROGRAMS: [(&str, &str); 20] = [
          totals registered 3 signals 4 passes 4 drops 3 sends 4 up 33 down 0\n",
     ),
     (
-        r#"{"main":[["open"],["async",[],[["async",[],[["next"]]]]],["shut"]]}"#,
-        "task 0 ended\ntask 1 ended\ntask 2 ended\nfinish 0 tasks 0\nfinish 1 tasks 2\n\
-         totals registered 0 signals 0 passes 0 drops 0 sends 0 up 0 down 0\n",
-    ),
-    (
         r#"{"main":[["open"],["new","p","SIG_WAIT",[]],["async",[["p","WAIT"]],[["next"]]],
             ["shut"]]}"#,
         "phaser 0 phases 1\ntask 0 ended\ntask 1 ended\nfinish 0 tasks 0\nfinish 1 tasks 1\n\
          totals registered 2 signals 0 passes 1 drops 2 sends 0 up 0 down 0\n",
-    ),
-    (
-        r#"{"main":[["new","p","SIG_WAIT",[]],["new","q","SIG_WAIT",[]],
-            ["async",[["p","SIG"],["q","WAIT"]],[["repeat",3,[["next"]]]]],
-            ["async",[["q","SIG"],["p","WAIT"]],[["repeat",3,[["next"]]]]]]}"#,
-        "phaser 0 phases 3\nphaser 1 phases 3\ntask 0 ended\ntask 1 ended\ntask 2 ended\n\
-         finish 0 tasks 2\n\
-         totals registered 6 signals 6 passes 12 drops 6 sends 0 up 0 down 0\n",
-    ),
-    (
-        r#"{"main":[["new","p","SIG_WAIT",[]],["new","q","SIG_WAIT",[]],
-            ["async",[["p","SIG"],["q","WAIT"]],[["wait"],["repeat",3,[["next"]]]]],
-            ["async",[["q","SIG"],["p","WAIT"]],[["repeat",3,[["next"]]]]]]}"#,
-        "phaser 0 phases 3\nphaser 1 phases 3\ntask 0 ended\ntask 1 refused 6 NotSignalled\n\
-         task 2 ended\nfinish 0 tasks 2\n\
-         totals registered 6 signals 3 passes 6 drops 6 sends 0 up 0 down 0\n",
-    ),
-    (
-        r#"{"main":[["new","p","SIG_WAIT",["sum"],1],
-            ["async",[["p","SIG"]],[["repeat",3,[["send","p",0,1],["next"]]]]],
-            ["async",[["p","WAIT"]],[["repeat",3,[["next"],["look","p",0]]]]]]}"#,
-        "phaser 0 phases 3\nphaser 0 phase 0 acc 0 value 1\nphaser 0 phase 1 acc 0 value 1\n\
-         phaser 0 phase 2 acc 0 value 1\ntask 0 ended\ntask 1 ended\ntask 2 ended\n\
-         finish 0 tasks 2\n\
-         totals registered 3 signals 3 passes 6 drops 3 sends 3 up 3 down 0\n",
-    ),
-    (
-        r#"{"limits":{"acts":2},"main":[["next"],["next"],["next"]]}"#,
-        "task 0 refused 19 ActsFull\nfinish 0 tasks 0\n\
-         totals registered 0 signals 0 passes 0 drops 0 sends 0 up 0 down 0\n",
-    ),
-    (
-        r#"{"limits":{"tasks":1},"main":[["async",[],[]]]}"#,
-        "task 0 refused 17 TasksFull\nfinish 0 tasks 0\n\
-         totals registered 0 signals 0 passes 0 drops 0 sends 0 up 0 down 0\n",
-    ),
-    (
-        r#"{"limits":{"finishes":1},"main":[["open"]]}"#,
-        "task 0 refused 18 FinishesFull\nfinish 0 tasks 0\n\
-         totals registered 0 signals 0 passes 0 drops 0 sends 0 up 0 down 0\n",
-    ),
-    (
-        r#"{"limits":{"phasers":1},"main":[["new","p","SIG",[]],["new","q","SIG",[]]]}"#,
-        "phaser 0 phases 0\ntask 0 refused 16 PhasersFull\nfinish 0 tasks 0\n\
-         totals registered 1 signals 0 passes 0 drops 1 sends 0 up 0 down 0\n",
-    ),
-    (
-        r#"{"main":[["open"]]}"#,
-        "task 0 refused 20 FinishOpen\nfinish 0 tasks 0\nfinish 1 tasks 0\n\
-         totals registered 0 signals 0 passes 0 drops 0 sends 0 up 0 down 0\n",
-    ),
-    (
-        r#"{"main":[["shut"]]}"#,
-        "task 0 refused 21 NoFinish\nfinish 0 tasks 0\n\
-         totals registered 0 signals 0 passes 0 drops 0 sends 0 up 0 down 0\n",
-    ),
-    (
-        r#"{"main":[["single",1]]}"#,
-        "task 0 refused 8 OnePhaserOnly\nfinish 0 tasks 0\n\
-         totals registered 0 signals 0 passes 0 drops 0 sends 0 up 0 down 0\n",
-    ),
-    (
-        r#"{"main":[["send","p",0,1]]}"#,
-        "task 0 refused 1 NotRegistered\nfinish 0 tasks 0\n\
-         totals registered 0 signals 0 passes 0 drops 0 sends 0 up 0 down 0\n",
-    ),
-    (
-        r#"{"main":[["new","p","SINGLE",[]],["async_all",[["single",7]]],["single",7]]}"#,
-        "phaser 0 phases 1\ntask 0 ended\ntask 1 ended\nfinish 0 tasks 1\n\
-         totals registered 2 signals 2 passes 2 drops 2 sends 0 up 0 down 0\n",
     ),
     (
         r#"{"limits":{"regs":2},"main":[["new","p","SIG_WAIT",[]],["new","q","SIG_WAIT",[]],
@@ -172,14 +87,6 @@ const PROGRAMS: [(&str, &str); 20] = [
          finish 0 tasks 1\n\
          totals registered 4 signals 0 passes 1 drops 4 sends 0 up 0 down 0\n",
     ),
-    (
-        r#"{"limits":{"history":5},"main":[["new","p","SIG_WAIT",[]],
-            ["new","q","SIG_WAIT",["sum"]],["send","q",0,7],["next"],["next"]]}"#,
-        "phaser 0 phases 2\nphaser 1 phases 1\nphaser 1 phase 0 acc 0 value 7\n\
-         task 0 refused 15 HistoryFull\nfinish 0 tasks 0\n\
-         totals registered 2 signals 3 passes 2 drops 2 sends 1 up 7 down 0\n",
-    ),
-    (SMALLEST, SMALLEST_REPORT),
 ];
 
 #[test]
@@ -242,17 +149,6 @@ fn trace_fails(rt: HostRuntime) {
     equal(&rt, ended.status, Status::Fault);
     equal(&rt, out.len(), 0);
     equal(&rt, faults.as_slice(), b"fault write\n".as_slice());
-}
-
-#[test]
-fn bad_text(rt: HostRuntime) {
-    check_by(
-        &rt,
-        rt.alloc(),
-        r#"{"main":[["next"],["jump"]]}"#,
-        2,
-        &Ended::refused("refused 24 BadText at 2\n"),
-    );
 }
 
 #[test]

@@ -1,4 +1,2 @@
 pub mod Ends
-pub mod Made
 pub mod Parts
-pub mod Written

@@ -1,5 +1,2 @@
-pub mod Amounts
-pub mod Cells
-pub mod Drawn
 pub mod Shutting
 pub mod Telling

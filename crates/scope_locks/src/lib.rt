@@ -1,22 +1,17 @@
-//! Phasers and finishes that threads share. A cell is what stands behind one lock: the state, the
-//! books of what was done on it, and the items of those who wait for it. A table has one lock for
-//! each phaser or finish by its number.
+//! Phasers and finishes that threads share. A table has one lock for each phaser or finish by its
+//! number.
 #![tactic(auto)]
 
 mod answer;
-mod cell;
 mod finish;
 mod finishes;
 mod lock;
 mod phasers;
-mod posts;
-mod tickets;
 
 pub use answer::ShutAnswer;
-pub use cell::PhaserCell;
 pub use finish::FinishCell;
 pub use finishes::{FinishParts, FinishTable};
-pub use parked_tasks::{Out, Parked, ParkedCall, PassAnswer, SignalAnswer};
+pub use phaser_cell::{
+    Out, Parked, ParkedCall, PassAnswer, PhaserCell, Post, SignalAnswer, Tickets,
+};
 pub use phasers::{PhaserParts, PhaserTable};
-pub use posts::Post;
-pub use tickets::Tickets;

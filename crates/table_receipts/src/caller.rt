@@ -1,5 +1,5 @@
 //! A worker, as a table's calls see it.
-use scope_locks::{Out, Tickets};
+use phaser_cell::{Out, Tickets};
 use share_book::{Ledgers, Shares};
 
 /// What a worker brings to each call of a table: what waits for locks, the tickets of the run, its

@@ -8,7 +8,7 @@ ghost use Rattle.phase_model.specs.Replies.{done_result};
 ghost use Rattle.phase_model.specs.Tasks.{has_mode};
 ghost use Rattle.phaser_answers.specs.Answers.{signal_result, pass_result, look_result};
 ghost use Rattle.parked_tasks.specs.Parking.{freed, goes_on, IsBack, has_signalled, IsBackFromSignal};
-ghost use Rattle.scope_locks.specs.Amounts.{amount_if};
+ghost use Rattle.phaser_cell.specs.Amounts.{amount_if};
 ghost use Rattle.long_receipts.specs.Told.{IsSignalAnswer, IsPassAnswer, IfPassed, HasLooked};
 ghost use Rattle.table_receipts.specs.Logs.{blank, GoesOn};
 ghost use Rattle.table_receipts.specs.Told.{IsAnswered, IsMade};
@@ -18,7 +18,7 @@ use crate::front::{Front, PhaserLog};
 use crate::naming::Naming;
 use phase_model::{Event, Look, Terms};
 use phase_modes::{Mode, Refusal};
-use scope_locks::{PassAnswer, PhaserCell, Post, SignalAnswer};
+use phaser_cell::{PassAnswer, PhaserCell, Post, SignalAnswer};
 
 /// A phaser with its book and those who wait at it, and the whole of its log. Each call adds the
 /// event that its answer tells, and nothing else.

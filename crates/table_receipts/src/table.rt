@@ -14,8 +14,8 @@ ghost use Rattle.phase_model.specs.Tasks.{has_mode};
 ghost use Rattle.phaser_answers.specs.Answers.{signal_result, pass_result, look_result};
 ghost use Rattle.parked_tasks.specs.Parking.{goes_on, IsBack, has_signalled, IsBackFromSignal};
 ghost use Rattle.share_book.specs.Accounts.{nothing};
-ghost use Rattle.scope_locks.specs.Amounts.{amount_if};
-ghost use Rattle.scope_locks.specs.Telling.{ArePhaserParts};
+ghost use Rattle.phaser_cell.specs.Amounts.{amount_if};
+ghost use Rattle.phaser_cell.specs.Telling.{ArePhaserParts};
 ghost use Rattle.trace_model.specs.Told.{phaser_told};
 ghost use Rattle.long_receipts.specs.Told.{IsSignalAnswer, IsPassAnswer, IfPassed, HasLooked};
 ghost use Rattle.table_receipts.specs.Parts.{AreLogged};
@@ -29,8 +29,8 @@ use crate::naming::Naming;
 use crossbeam_utils::CachePadded;
 use phase_model::{Event, Look, Terms};
 use phase_modes::{Limits, Mode, Refusal};
-use scope_locks::{PassAnswer, PhaserCell, Post, SignalAnswer};
-use share_book::{Books, Ledgers, PhaserBook, Shares, post};
+use phaser_cell::{Locked, PassAnswer, PhaserCell, SignalAnswer};
+use share_book::{Books, PhaserBook};
 use std::alloc::Global;
 use std::sync::{Mutex, MutexGuard, Wait};
 use trace_model::Part;
@@ -84,25 +84,6 @@ pub struct ReceiptParts<K: Naming> {
     pub phasers: Vec<PhaserBook<K>>,
     pub logs: Vec<PhaserLog<K>>,
     pub books: Books<K>,
-}
-
-/// The books behind their lock, which is taken for each post alone.
-#[derive(Drop)]
-struct Locked<'a, K: Ledgers, R: Wait> {
-    rt: &'a R,
-    books: &'a Mutex<Books<K>>,
-}
-
-impl<'a, K: Ledgers, R: Wait> Post<K> for Locked<'a, K, R> {
-    ghost rose = { λ old new a. Unit {0} };
-
-    #[inline(always)]
-    fn post(&mut self, book: &mut PhaserBook<K>, mine: &mut Shares<K>, event: &Event) {
-        let mut books = self.books.lock(self.rt);
-        post(&mut books, book, mine, event)
-    }
-
-    ghost stays = { λ b. tt };
 }
 
 /// It is so: else this waits for ever.
@@ -258,9 +239,10 @@ impl<T, K: Naming> ReceiptTable<T, K> {
     }
 
     /// Takes the phaser's lock, and lends what stands behind it until the guard is dropped. What
-    /// stands at a place has the place's number, or this waits for ever.
+    /// stands at a place has the place's number, or this waits for ever. No caller outside has the
+    /// guard: who had two could exchange what they guard, and then each call would wait for ever.
     #[inline(always)]
-    pub fn lock<R: Wait>(&self, rt: &R, phaser: usize) -> MutexGuard<'_, ReceiptCell<T, K>>
+    fn lock<R: Wait>(&self, rt: &R, phaser: usize) -> MutexGuard<'_, ReceiptCell<T, K>>
         requires { phaser < self.now.phasers }
         ensures { result.value.number ≡ phaser }
     {

@@ -1,6 +1,6 @@
 //! Workers, each in a thread of its own, whatever they work at.
 ghost use Rattle.std.specs.Prelude.{◌≡◌, ℕ, ◌<◌, All, IfOk, IfErr, vec_len, slice_index_or};
-ghost use Rattle.task_crew.specs.Refused.{IsRunRefused};
+ghost use Rattle.tasks_in_flight.specs.Refused.{IsRunRefused};
 
 use phase_modes::Refusal;
 use std::alloc::AllocError;

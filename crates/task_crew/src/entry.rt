@@ -1,30 +1,32 @@
 //! The entry: it makes the tables, the queue and the workers, lets them work, and gathers what they leave.
-ghost use Rattle.std.specs.Prelude.{◌≡◌, ◌<◌, ◌≤◌, ℕ, [], true, All, IfOk, IfErr, IfSome, slice_get, vec_len};
+ghost use Rattle.std.specs.Prelude.{◌≡◌, ◌<◌, ◌≤◌, ℕ, [], true, All, IfOk, IfErr, IfSome, map, slice_get, vec_len};
 ghost use Rattle.phase_modes.specs.Limits.{limits_fit};
 ghost use Rattle.phase_model.specs.Rules.{Story};
 ghost use Rattle.share_book.specs.Opening.{IsNamed, IsParted};
+ghost use Rattle.task_queue.specs.Accounts.{AreTogether};
 ghost use Rattle.tasks_in_flight.specs.Heard.{nothing};
-ghost use Rattle.task_crew.specs.Refused.{IsRunRefused};
-ghost use Rattle.task_crew.specs.Remaining.{AreRemains};
+ghost use Rattle.tasks_in_flight.specs.Refused.{IsRunRefused};
+ghost use Rattle.task_remains.specs.Remaining.{AreRemains};
 ghost use Rattle.tasks_in_flight.specs.Said.{IsSaid, AreSaid, IsSaidOf};
 ghost use Rattle.tasks_in_flight.specs.inner.Ready.{Tells};
 
-use crate::remains::Remains;
 use crate::staff::{put_root, run_staff, staff_of};
-use crate::worker::{Numbers, Shared};
 use ghost_log::Whole;
 use phase_modes::{Limits, Refusal};
-use scope_locks::{FinishTable, Tickets};
-use share_book::{Blanks, Seven, SharedLedgers, open};
+use phaser_cell::Tickets;
+use scope_locks::FinishTable;
+use share_book::{Blanks, Seven, SharedLedgers, Shares, open};
 use std::alloc::Global;
 use std::marker::Brand;
-use std::sync::Wait;
 use std::sync::ledger::Ledger;
+use std::sync::{Mutex, Wait};
 use std::thread::Threads;
 use table_receipts::{Fronts, Logs, Named, Noted, PhaserLogs, ReceiptTable, new_logs};
 use task_numbers::{FinishNumber, TaskNumber};
 use task_queue::RunQueue;
-use tasks_in_flight::{Body, Gate, Item, RunNaming, Supposing, Task};
+use task_remains::Remains;
+use task_worker::{Numbers, Shared, Worker};
+use tasks_in_flight::{Body, Gate, Item, RunNaming, Supposing, Task, TaskLeft};
 
 /// What a run's ledgers and logs are to be named by.
 #[derive(Drop)]
@@ -49,6 +51,68 @@ fn root_of<K: RunNaming, B: Body, R: Wait>(
     let number = TaskNumber::of(0);
     let home = FinishNumber::of(0);
     Ok(Item::of(Task::new(alloc, number, root, home, limits.acts, fronts)?))
+}
+
+/// The tables of a run, and a share of its books for each worker.
+#[derive(Drop)]
+struct Tables<B: Body, K: RunNaming> {
+    phasers: ReceiptTable<Item<B, K>, K>,
+    finishes: FinishTable<Item<B, K>, Mutex<TaskLeft<K>>>,
+    shares: Vec<Shares<K>>,
+}
+
+/// The tables, with books of these ledgers.
+fn tables_of<B: Body, K: RunNaming>(
+    alloc: Global,
+    limits: Limits,
+    unnamed: Unnamed,
+) -> Result<Tables<B, K>, Refusal>
+    requires names { IsNamed unnamed.blanks K.EventsByPhaser.name K.EventsByWorker.name K.UpByPhaser.name
+        K.UpByWorker.name K.DownByPhaser.name K.DownByWorker.name K.Room.name }
+    requires parts { IsParted unnamed.blanks K.EventsByPhaser.parts K.EventsByWorker.parts K.UpByPhaser.parts
+        K.UpByWorker.parts K.DownByPhaser.parts K.DownByWorker.parts K.Room.parts }
+    requires blanks { unnamed.blanks.phasers ≡ limits.phasers }
+    requires limits { limits_fit limits ≡ true }
+    requires limited { limits ≡ K.Logs.limits }
+    requires logs { (i : ℕ) → IfSome (slice_get unnamed.logs.items i) (λ w. w.name ≡ K.Logs.logs i) }
+    requires empty { All (λ w. w.items ≡ []) unnamed.logs.items }
+    requires each { vec_len unnamed.logs ≡ limits.phasers }
+    ensures phasers { IfOk result (λ t. t.phasers.phasers ≡ limits.phasers) }
+    ensures finishes { IfOk result (λ t. t.finishes.finishes ≡ limits.finishes) }
+    ensures shares { IfOk result (λ t. vec_len t.shares ≡ unnamed.blanks.workers) }
+    ensures memory { IfErr result (λ e. e ≡ Refusal.Memory) }
+{
+    let Unnamed { blanks, logs } = unnamed;
+    let (books, phasers, shares) = open::<K>(alloc, blanks)?;
+    let logs = PhaserLogs::<K>::of(alloc, logs)?;
+    let phasers = ReceiptTable::new(alloc, limits, books, phasers, logs)?;
+    let finishes = FinishTable::new(alloc, limits)?;
+    Ok(Tables {
+        phasers,
+        finishes,
+        shares,
+    })
+}
+
+/// The queue, in which the root stands, and a worker for each share.
+fn manned<K: RunNaming, B: Body, R: Wait>(
+    rt: &R,
+    alloc: Global,
+    limits: Limits,
+    workers: u32,
+    shares: Vec<Shares<K>>,
+    root: Item<B, K>,
+) -> Result<(RunQueue<Item<B, K>>, Vec<Worker<B, K>>), Refusal>
+    requires some { (0 < workers) × (workers ≤ 16) }
+    requires shares { vec_len shares ≡ workers }
+    ensures workers { IfOk result (λ r. (r.0.workers ≡ workers) × (vec_len r.1 ≡ workers)) }
+    ensures together { IfOk result (λ r. AreTogether (map (λ w. w.seat) r.1.items)) }
+    ensures memory { IfErr result (λ e. e ≡ Refusal.Memory) }
+{
+    let (queue, mut seats) = RunQueue::new(alloc, workers, limits.tasks as usize)?;
+    put_root(rt, &queue, &mut seats, root)?;
+    let staff = staff_of::<B, K>(alloc, limits, seats, shares)?;
+    Ok((queue, staff))
 }
 
 /// The workers work, with books of these ledgers.
@@ -78,16 +142,14 @@ fn run_in<K: RunNaming + SharedLedgers, B: Body + Send, G: Gate + Sync, R: Threa
     ensures each { IfOk result (λ r. K.Supposing.supposed → AreSaid K.Supposing.told limits r.phasers.items r.logs.items) }
     ensures refused { IfErr result (λ e. IsRunRefused e) }
 {
-    let Unnamed { blanks, logs } = unnamed;
-    let workers = blanks.workers;
-    let (books, phasers, shares) = open::<K>(alloc, blanks)?;
-    let logs = PhaserLogs::<K>::of(alloc, logs)?;
-    let phasers = ReceiptTable::new(alloc, limits, books, phasers, logs)?;
-    let finishes = FinishTable::new(alloc, limits)?;
-    let (queue, mut seats) = RunQueue::new(alloc, workers, limits.tasks as usize)?;
+    let workers = unnamed.blanks.workers;
+    let Tables {
+        phasers,
+        finishes,
+        shares,
+    } = tables_of::<B, K>(alloc, limits, unnamed)?;
     let root = root_of(rt, alloc, limits, &phasers, root)?;
-    put_root(rt, &queue, &mut seats, root)?;
-    let staff = staff_of::<B, K>(alloc, limits, seats, shares)?;
+    let (queue, staff) = manned(rt, alloc, limits, workers, shares, root)?;
     let shared = Shared {
         alloc,
         limits,

@@ -1,11 +1,7 @@
 //! The workers of a run of tasks over phasers and finishes, from the root that they are given to the
 //! parts and the sums that they leave.
 //!
-//! # How it goes
-//!
-//! Each worker takes a task from the queue and makes its events one by one, each under the lock of
-//! one phaser or finish. A task that has to wait is parked behind that lock, and whoever makes the
-//! event that wakes it puts it into the queue. No lock is held while a body runs.
+//! How one worker goes on stands in `task_worker`, and what they leave together in `task_remains`.
 //!
 //! # What is promised
 //!
@@ -15,16 +11,11 @@
 //! comes of it, and is proved beside the core of a world that this crate does without.
 #![tactic(auto)]
 
-mod acts;
-mod calls;
 mod crew;
-mod driver;
 mod entry;
-mod logs;
-mod remains;
 mod staff;
-mod worker;
+mod team;
 
 pub use entry::run_tasks;
-pub use remains::Remains;
+pub use task_remains::Remains;
 pub use tasks_in_flight::{Body, Gate, OpenGate};

@@ -4,22 +4,22 @@ ghost use Rattle.phase_modes.specs.Limits.{limits_fit};
 ghost use Rattle.share_book.specs.Opening.{AreAllParts};
 ghost use Rattle.task_queue.specs.Accounts.{AreTogether, IsConserved};
 ghost use Rattle.task_crew.specs.inner.Back.{AreBack, AreSeatsIn};
-ghost use Rattle.task_crew.specs.Refused.{IsRunRefused};
-ghost use Rattle.task_crew.specs.Remaining.{AreRemains};
+ghost use Rattle.tasks_in_flight.specs.Refused.{IsRunRefused};
+ghost use Rattle.task_remains.specs.Remaining.{AreRemains};
 ghost use Rattle.tasks_in_flight.specs.Said.{IsSaid, AreSaid};
 
 use crate::crew::in_threads;
-use crate::driver::Team;
-use crate::remains::{Remains, gathered};
-use crate::worker::{Shared, Worker};
+use crate::team::Team;
 use phase_modes::{Limits, Refusal};
-use scope_locks::Out;
+use phaser_cell::Out;
 use share_book::{SharedLedgers, Shares};
 use std::alloc::Global;
 use std::collections::VecDeque;
 use std::sync::Wait;
 use std::thread::Threads;
 use task_queue::{RunQueue, Seat};
+use task_remains::{Remains, gathered};
+use task_worker::{Shared, Worker};
 use tasks_in_flight::{Body, Gate, Item, RootLeft, RunNaming};
 
 /// What the workers hand back: their seats and shares, and what the root leaves.
@@ -174,8 +174,48 @@ fn work_all<K: RunNaming + SharedLedgers, B: Body + Send, G: Gate + Sync, R: Thr
     left_of(shared.alloc, done)
 }
 
-/// Runs the workers, and gathers what they leave. `NotExplained` where the root has left nothing, or
-/// where two logs are of one task.
+/// Gathers what the workers leave. `NotExplained` where the root has left nothing, or where two logs
+/// are of one task.
+fn gather_all<K: RunNaming, B: Body, R: Wait>(
+    rt: &R,
+    shared: Shared<B, K>,
+    left: Left<B, K>,
+) -> Result<Remains<B>, Refusal>
+    requires fit { limits_fit shared.limits ≡ true }
+    requires phasers { shared.phasers.phasers ≡ shared.limits.phasers }
+    requires finishes { shared.finishes.finishes ≡ shared.limits.finishes }
+    requires workers { AreAllParts (vec_len left.shares) K.EventsByWorker.parts K.UpByWorker.parts K.DownByWorker.parts }
+    requires seats { vec_len left.seats ≡ shared.queue.workers }
+    requires together { AreTogether left.seats.items }
+    requires books { AreAllParts shared.limits.phasers K.EventsByPhaser.parts K.UpByPhaser.parts K.DownByPhaser.parts }
+    ensures remains { IfOk result (λ r. AreRemains shared.limits r.phasers.items r.finishes.items r.logs.items r.totals) }
+    ensures says { IfOk result (λ r. K.Supposing.supposed → IsSaid B.Body.shows shared.limits r.phasers.items r.root) }
+    ensures each { IfOk result (λ r. K.Supposing.supposed → AreSaid K.Supposing.told shared.limits r.phasers.items r.logs.items) }
+    ensures refused { IfErr result (λ e. IsRunRefused e) }
+{
+    let Left {
+        seats,
+        shares,
+        root,
+    } = left;
+    let Shared {
+        alloc,
+        limits,
+        phasers,
+        finishes,
+        queue,
+        ..
+    } = shared;
+    none_left(queue, seats)?;
+    let Some(root) = root else {
+        return Err(Refusal::NotExplained(0));
+    };
+    let of_phasers = phasers.into_parts(rt);
+    let of_finishes = finishes.into_parts();
+    gathered(alloc, limits, of_phasers, of_finishes, shares, root)
+}
+
+/// Runs the workers, and gathers what they leave.
 pub(crate) fn run_staff<
     K: RunNaming + SharedLedgers,
     B: Body + Send,
@@ -194,24 +234,6 @@ pub(crate) fn run_staff<
     ensures each { IfOk result (λ r. K.Supposing.supposed → AreSaid K.Supposing.told shared.limits r.phasers.items r.logs.items) }
     ensures refused { IfErr result (λ e. IsRunRefused e) }
 {
-    let Left {
-        seats,
-        shares,
-        root,
-    } = work_all(rt, &shared, staff, gate)?;
-    let Shared {
-        alloc,
-        limits,
-        phasers,
-        finishes,
-        queue,
-        ..
-    } = shared;
-    none_left(queue, seats)?;
-    let Some(root) = root else {
-        return Err(Refusal::NotExplained(0));
-    };
-    let of_phasers = phasers.into_parts(rt);
-    let of_finishes = finishes.into_parts();
-    gathered(alloc, limits, of_phasers, of_finishes, shares, root)
+    let left = work_all(rt, &shared, staff, gate)?;
+    gather_all(rt, shared, left)
 }

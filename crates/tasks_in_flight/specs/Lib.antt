@@ -1,4 +1,5 @@
 pub mod Heard
 pub mod Noted
+pub mod Refused
 pub mod Said
 pub mod inner

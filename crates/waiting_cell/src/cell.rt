@@ -1,5 +1,5 @@
 //! What stands behind the lock of a phaser for threads that wait: the phaser, and those who wait.
-ghost use Rattle.std.specs.Prelude.{Contains, ◌≡◌, ◌+◌, [], ◌≤◌, true, length, IfOk, IfErr, OnErr, Ok, Err, Some};
+ghost use Rattle.std.specs.Prelude.{Contains, ◌≡◌, ◌+◌, [], ◌≤◌, true, length, IfOk, IfErr, OnErr, Ok, Err, Some, ◌≢◌};
 ghost use Rattle.std.specs.VecDeque.{deque_len, deque_capacity};
 ghost use Rattle.long_phaser.specs.Numbered.{long_limits};
 ghost use Rattle.phase_model.specs.declared.call.Call.TheVariants.{Make as make, Register as register, SingleDone as single_done, Send as send, Look as look, Drop as drop_task};
@@ -73,6 +73,7 @@ impl WaitingCell {
             done_result (reply self.old.state.story (register parent self.old.state.next mode)) ≡ Ok tt) }
         ensures refused { IfErr result (λ r.
             done_result (reply self.old.state.story (register parent self.old.state.next mode)) ≡ Err r) }
+        ensures numbered { (result ≢ Err Refusal.RegisteredTwice) × (result ≢ Err Refusal.TasksFull) }
         ensures history { self.new.state.story
             ≡ after self.old.state.story
             (reply self.old.state.story (register parent self.old.state.next mode)) }

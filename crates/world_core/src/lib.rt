@@ -2,10 +2,8 @@
 //! answered, and what each task is about.
 #![tactic(auto)]
 
-mod phaser;
 mod report_rows;
 mod tables;
-mod task;
 mod world;
 
 pub use tables::Unused;

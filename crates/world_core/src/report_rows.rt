@@ -6,13 +6,12 @@ ghost use Rattle.world_model.specs.Report.{totals_line};
 ghost use Rattle.report_lines.specs.Lines.{lines_of, IsWithin};
 ghost use Rattle.world_steps.specs.inner.Reports.{story_in, made, born, opened, task_row, finish_row, row_if_made, with_if_made, row_if_born, row_if_opened};
 
-use crate::phaser::KeptPhaser;
-use crate::task::Task;
 use finish_core::FinishState;
 use phase_modes::Refusal;
 use report_lines::{finish_line, no_totals, phaser_sums, plus};
 use std::alloc::Global;
 use world_model::{FinishLine, PhaserLines, TaskLine, TotalsLine};
+use world_records::{KeptPhaser, Task};
 
 /// The lines of phasers, and their totals.
 #[derive(Drop)]

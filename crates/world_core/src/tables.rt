@@ -10,13 +10,12 @@ ghost use Rattle.world_model.specs.ActConditions.{free_unless};
 ghost use Rattle.world_steps.specs.inner.Steps.{first_conditions};
 ghost use Rattle.world_steps.specs.StandsFor.{StandsFor};
 
-use crate::phaser::KeptPhaser;
-use crate::task::Task;
 use finish_core::FinishState;
 use phase_modes::{Limits, Refusal};
 use std::alloc::Global;
 use std::marker::Model;
 use task_numbers::TaskNumber;
+use world_records::{KeptPhaser, Task};
 
 mod begins;
 mod drops;

@@ -139,6 +139,33 @@ none_fixed t n w e = ap (λ cs. flat_map (λ c. drops_due c w) cs ++ ending t w)
 one_fixed : (t n c : ℕ) (w : List WorldEvent) → unborn t w ≡ c ∷ [] → fixed (Fail t n) w ≡ drops_due c w ++ ending t w
 one_fixed t n c w e = ap (λ cs. flat_map (λ x. drops_due x w) cs ++ ending t w) e ∙ ap (λ xs. xs ++ ending t w) (append-nil (drops_due c w))
 
+-- what a plan says of the act that led to it
+of_turn : (o : Option WorldEvent) → fits_plan plan.Turning o ≡ true → (is_failure o ≡ false) × (child_of o ≡ [])
+of_turn (Some (Begin u Wait)) h = (refl, refl)
+of_turn (Some (Begin u Next)) h = (refl, refl)
+of_turn (Some (Begin u (NextSingle i))) h = (refl, refl)
+of_turn o h = absurd cc
+
+of_signals : (x : Option ℕ) (turn : Bool) (o : Option WorldEvent) → fits_plan (plan.Signalling x turn) o ≡ true → (is_failure o ≡ false) × (child_of o ≡ [])
+of_signals x turn (Some (Begin u Signal)) h = (refl, refl)
+of_signals x turn (Some (Begin u Next)) h = (refl, refl)
+of_signals x turn (Some (Begin u (NextSingle i))) h = (refl, refl)
+of_signals x turn o h = absurd cc
+
+of_spawn : (c made : ℕ) (ps : List Pair) (o : Option WorldEvent) → fits_plan (plan.Spawning c ps made) o ≡ true → begins_spawn c o ≡ true
+of_spawn c made ps (Some (Begin u (Async d qs))) h = eq-eqb d c (sym (eqb-true c d h))
+of_spawn c made ps o h = absurd cc
+
+of_shut : (o : Option WorldEvent) → fits_plan plan.Shutting o ≡ true → leaves_act o ≡ true
+of_shut (Some (Begin u Shut)) h = refl
+of_shut o h = absurd cc
+
+of_end : (c : ℕ) (o : Option WorldEvent) → fits_plan (plan.Ending c) o ≡ true → leaves_act o ≡ true
+of_end c (Some (Begin u End)) h = refl
+of_end c (Some (Refuse u a i)) h = refl
+of_end c (Some (Fail u i)) h = refl
+of_end c o h = absurd cc
+
 module _ (s : WorldState) (w : List WorldEvent) (t n : ℕ) (st : StandsFor w s) (allowed : may_fail_by s t n ≡ true) (accepted : is_made (reply s.limits w (Fail t n)) ≡ true) where
   -- without a half spawned child
   alone : unborn t w ≡ [] → StandsFor (Fail t n ∷ w) (with_task s t (given_up t n (task_at s t)))
@@ -147,32 +174,6 @@ module _ (s : WorldState) (w : List WorldEvent) (t n : ℕ) (st : StandsFor w s)
   idle_only : (a c d r : Bool) → ((a && false) || (c && false) || (d && r)) ≡ true → r ≡ true
   idle_only a c d true e = refl
   idle_only a c d false e = absurd (idle_fails a c d e)
-
-  of_turn : (o : Option WorldEvent) → fits_plan plan.Turning o ≡ true → (is_failure o ≡ false) × (child_of o ≡ [])
-  of_turn (Some (Begin u Wait)) h = (refl, refl)
-  of_turn (Some (Begin u Next)) h = (refl, refl)
-  of_turn (Some (Begin u (NextSingle i))) h = (refl, refl)
-  of_turn o h = absurd cc
-
-  of_signals : (x : Option ℕ) (turn : Bool) (o : Option WorldEvent) → fits_plan (plan.Signalling x turn) o ≡ true → (is_failure o ≡ false) × (child_of o ≡ [])
-  of_signals x turn (Some (Begin u Signal)) h = (refl, refl)
-  of_signals x turn (Some (Begin u Next)) h = (refl, refl)
-  of_signals x turn (Some (Begin u (NextSingle i))) h = (refl, refl)
-  of_signals x turn o h = absurd cc
-
-  of_spawn : (c made : ℕ) (ps : List Pair) (o : Option WorldEvent) → fits_plan (plan.Spawning c ps made) o ≡ true → begins_spawn c o ≡ true
-  of_spawn c made ps (Some (Begin u (Async d qs))) h = eq-eqb d c (sym (eqb-true c d h))
-  of_spawn c made ps o h = absurd cc
-
-  of_shut : (o : Option WorldEvent) → fits_plan plan.Shutting o ≡ true → leaves_act o ≡ true
-  of_shut (Some (Begin u Shut)) h = refl
-  of_shut o h = absurd cc
-
-  of_end : (c : ℕ) (o : Option WorldEvent) → fits_plan (plan.Ending c) o ≡ true → leaves_act o ≡ true
-  of_end c (Some (Begin u End)) h = refl
-  of_end c (Some (Refuse u a i)) h = refl
-  of_end c (Some (Fail u i)) h = refl
-  of_end c o h = absurd cc
 
   leaving : is_empty (due t w) ≡ false → leaves_act (last_entry t w) ≡ true → ⊥
   leaving busy act = leavers_never_fail s.limits t w n st.legal act busy (sym (may_fail_is s w t n st) ∙ allowed)

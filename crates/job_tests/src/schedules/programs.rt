@@ -136,25 +136,6 @@ fn a_spawn_on_seventeen_phasers(rt: HostRuntime) -> Result<(), Fail> {
     Ok(())
 }
 
-/// The place of the first fault of a text of two hundred opening brackets.
-fn place_in_brackets(alloc: Global) -> Result<Option<u64>, Fail> {
-    let mut brackets = String::new(alloc);
-    for _ in 0..200 {
-        brackets.push_str("[")?;
-    }
-    place_of(alloc, brackets.as_str())
-}
-
-#[test]
-fn oversized_texts(rt: HostRuntime) -> Result<(), Fail> {
-    const MILLION_ACTS: &str = r#"{"main":[["repeat",1000,[["repeat",1000,[["next"]]]]]]}"#;
-    const LONG_NAME: &str = r#"{"main":[["new","aaaaaaaaaaaaaaaaaaaaaaaaaaaaaaaaa","SIG",[]]]}"#;
-    equal(&rt, place_of(rt.alloc(), MILLION_ACTS)?, Some(1));
-    equal(&rt, place_in_brackets(rt.alloc())?, Some(0));
-    equal(&rt, place_of(rt.alloc(), LONG_NAME)?, Some(1));
-    Ok(())
-}
-
 #[test]
 fn acts_are_counted_before_those_inside(rt: HostRuntime) -> Result<(), Fail> {
     const INSIDE: &str =

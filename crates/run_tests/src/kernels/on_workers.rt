@@ -1,4 +1,5 @@
-//! The worked examples by 1, 2 and 16 workers, as their commands print them.
+//! Both kernels by 1, 2 and 16 workers, as their commands print them. Smaller ones and a longer row
+//! stand in `examples/commands` alone.
 ghost use Rattle.std.specs.Prelude.{◌≤◌, ◌<◌, length};
 
 use super::ends;
@@ -108,36 +109,6 @@ fn pipeline_prints<R: Threads + Wait + Sync + Abort>(
     Ok(())
 }
 
-#[test]
-fn stencil_eight_cells(rt: HostRuntime) -> Result<(), Fail> {
-    stencil_prints(
-        &rt,
-        rt.alloc(),
-        &[0, 0, 0, 256, 0, 0, 0, 0],
-        5,
-        "cells 11 30 52 63 52 30 11 2\n\
-         totals registered 30 signals 40 passes 110 drops 30 sends 48 up 1530 down 0\n",
-    )
-}
-
-#[test]
-fn stencil_one_cell(rt: HostRuntime) -> Result<(), Fail> {
-    stencil_prints(
-        &rt,
-        rt.alloc(),
-        &[4],
-        1,
-        "cells 2\ntotals registered 2 signals 1 passes 1 drops 2 sends 2 up 6 down 0\n",
-    )?;
-    stencil_prints(
-        &rt,
-        rt.alloc(),
-        &[4],
-        0,
-        "cells 4\ntotals registered 2 signals 0 passes 0 drops 2 sends 1 up 4 down 0\n",
-    )
-}
-
 // In two steps the cells 8 4 0 come to 5 4 1, since 20, 16 and 4 are divided by 4, and then to 3 3
 // 1, since 14, 14 and 6 are. The root makes 3 phasers, and the tasks are on 2, 3 and 2 of them: 10
 // registrations, and as many drops. In each step each of the 3 tasks signals on its own phaser, and
@@ -152,19 +123,6 @@ fn stencil_three_cells(rt: HostRuntime) -> Result<(), Fail> {
         2,
         "cells 3 3 1\n\
          totals registered 10 signals 6 passes 14 drops 10 sends 9 up 29 down 0\n",
-    )
-}
-
-#[test]
-fn pipeline_two_stages(rt: HostRuntime) -> Result<(), Fail> {
-    pipeline_prints(
-        &rt,
-        rt.alloc(),
-        PipelineSize {
-            stages: 2,
-            items: 3,
-        },
-        "items 4 5 6\ntotals registered 9 signals 10 passes 22 drops 9 sends 9 up 30 down 0\n",
     )
 }
 
@@ -184,19 +142,6 @@ fn pipeline_three_stages(rt: HostRuntime) -> Result<(), Fail> {
             items: 2,
         },
         "items 7 8\ntotals registered 12 signals 11 passes 25 drops 12 sends 8 up 32 down 0\n",
-    )
-}
-
-#[test]
-fn pipeline_no_items(rt: HostRuntime) -> Result<(), Fail> {
-    pipeline_prints(
-        &rt,
-        rt.alloc(),
-        PipelineSize {
-            stages: 1,
-            items: 0,
-        },
-        "items\ntotals registered 6 signals 0 passes 1 drops 6 sends 0 up 0 down 0\n",
     )
 }
 

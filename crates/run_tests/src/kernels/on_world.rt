@@ -189,44 +189,6 @@ fn heat_spreads(rt: HostRuntime) -> Result<(), Fail> {
 }
 
 #[test]
-fn one_cell(rt: HostRuntime) -> Result<(), Fail> {
-    gave(
-        &rt,
-        stencil(rt.alloc(), &[4], 1),
-        &[2],
-        TotalsLine {
-            registered: 2,
-            signals: 1,
-            passes: 1,
-            drops: 2,
-            sends: 2,
-            up: 6,
-            down: 0,
-        },
-    );
-    Ok(())
-}
-
-#[test]
-fn no_step(rt: HostRuntime) -> Result<(), Fail> {
-    gave(
-        &rt,
-        stencil(rt.alloc(), &[4], 0),
-        &[4],
-        TotalsLine {
-            registered: 2,
-            signals: 0,
-            passes: 0,
-            drops: 2,
-            sends: 1,
-            up: 4,
-            down: 0,
-        },
-    );
-    Ok(())
-}
-
-#[test]
 fn two_stages(rt: HostRuntime) -> Result<(), Fail> {
     let size = PipelineSize {
         stages: 2,
@@ -243,29 +205,6 @@ fn two_stages(rt: HostRuntime) -> Result<(), Fail> {
             drops: 9,
             sends: 9,
             up: 30,
-            down: 0,
-        },
-    );
-    Ok(())
-}
-
-#[test]
-fn no_item(rt: HostRuntime) -> Result<(), Fail> {
-    let size = PipelineSize {
-        stages: 1,
-        items: 0,
-    };
-    gave(
-        &rt,
-        pipeline(rt.alloc(), size),
-        &[],
-        TotalsLine {
-            registered: 6,
-            signals: 0,
-            passes: 1,
-            drops: 6,
-            sends: 0,
-            up: 0,
             down: 0,
         },
     );

@@ -9,11 +9,11 @@ ghost use Rattle.world_steps.specs.inner.Failures.{next_refusal, has_number, may
 ghost use Rattle.world_steps.specs.StandsFor.{IsStep};
 
 use super::Tables;
-use crate::task::MOST_PHASERS;
 use phase_model::Call;
 use phase_modes::Refusal;
 use task_numbers::{PhaserNumber, TaskNumber};
 use world_model::{Reply, Step, WorldEvent};
+use world_records::MOST_PHASERS;
 use world_steps::Plan;
 
 /// The call that makes the step on its phaser.
@@ -118,7 +118,7 @@ impl Tables {
         ensures { self.new ≡ failed self.old task number }
     {
         let line = &mut self.tasks[task.place()];
-        match line.plan {
+        match line.plan() {
             Plan::Spawning(child, _, _) => self.give_up_spawn(task, TaskNumber::of(child), number),
             _ => line.give_up(task, number),
         }

@@ -9,11 +9,10 @@ ghost use Rattle.world_steps.specs.inner.Facts.{facts};
 ghost use Rattle.world_steps.specs.inner.Begins.{begin_refusal};
 
 use super::Tables;
-use crate::phaser::KeptPhaser;
-use crate::task::begins::enclosing_of;
 use phase_modes::{Mode, Pair, Phased, Refusal, Reg};
 use task_numbers::{FinishNumber, PhaserNumber, TaskNumber};
 use world_model::Begun;
+use world_records::{KeptPhaser, enclosing_of};
 
 /// How the task is registered on this phaser now. A number without a phaser knows no task.
 fn registration_on(phasers: &[KeptPhaser], phaser: PhaserNumber, task: TaskNumber) -> Option<Reg>

@@ -11,69 +11,10 @@ ghost use Rattle.world_steps.specs.inner.Queries.{turn_event, drop_or, shut_or, 
 ghost use Rattle.world_steps.specs.StandsFor.{StandsFor, end_of};
 
 use super::Tables;
-use crate::task::Task;
 use finish_core::FinishEvent;
 use task_numbers::{FinishNumber, PhaserNumber, TaskNumber};
 use world_model::{Condition, Step, WorldEvent};
 use world_steps::Plan;
-
-impl Task {
-    /// What it is about; a number without a task is about nothing.
-    fn condition(&self) -> Option<Condition>
-        ensures { result ≡ kept_condition self.now }
-    {
-        if self.ended {
-            return Some(Condition::Ended);
-        }
-        if !self.born {
-            return None;
-        }
-        Some(match self.plan {
-            Plan::Idle => Condition::Idle,
-            Plan::Signalling(_, _) => Condition::Signalling,
-            Plan::Turning => Condition::Turning,
-            Plan::Spawning(_, _, _) => Condition::Spawning,
-            Plan::Shutting => Condition::Shutting,
-            Plan::Ending(_) => Condition::Ending,
-        })
-    }
-
-    /// Whether it was spawned, or is the root, and hasn't ended.
-    fn goes_on(&self) -> bool
-        ensures { result ≡ (self.now.is_born && not self.now.is_ended) }
-    {
-        self.born && !self.ended
-    }
-
-    /// The event with which it ends.
-    fn end(&self, own: TaskNumber) -> WorldEvent
-        ensures { result ≡ end_of own self.now }
-    {
-        if own.get() == 0 {
-            WorldEvent::Finish(0, FinishEvent::Shut)
-        } else {
-            WorldEvent::Finish(self.home, FinishEvent::Ended(own.get()))
-        }
-    }
-
-    /// The next event of a task that comes to its end, where it drops this child first.
-    fn ending(&self, own: TaskNumber, child: TaskNumber) -> WorldEvent
-        ensures { result ≡ drop_or child (slice_get self.now.left 0)
-            (drop_or own (slice_get self.now.phasers 0)
-            (shut_or self.now.innermost (end_of own self.now))) }
-    {
-        if let Some(phaser) = self.left.first().copied() {
-            return WorldEvent::Phaser(phaser, Step::Drop(child.get()));
-        }
-        if let Some(phaser) = self.phasers.first().copied() {
-            return WorldEvent::Phaser(phaser, Step::Drop(own.get()));
-        }
-        match self.innermost {
-            Some(finish) => WorldEvent::Finish(finish, FinishEvent::Shut),
-            None => self.end(own),
-        }
-    }
-}
 
 impl Tables {
     /// What the task is about; `None` where it hasn't been spawned.
@@ -196,8 +137,8 @@ impl Tables {
             return None;
         }
         let line = &self.tasks[task.place()];
-        let first = line.left.first().copied();
-        match line.plan {
+        let first = line.first_left();
+        match line.plan() {
             Plan::Idle => None,
             Plan::Signalling(number, _) => {
                 let phaser = first?;

@@ -1,4 +1,4 @@
-//! Traces that a world explains, each with its report, and changed ones, each with its first fault.
+//! A trace that a world explains, with its report, and changed ones, each with its first fault.
 use super::*;
 use crate::asserted::equal;
 use finish_core::FinishEvent;
@@ -58,16 +58,16 @@ fn is_at(
     Ok(())
 }
 
-/// One task makes a phaser, ends one turn on it by these two steps, and ends.
-fn smallest(tickets: &[u64; 7], first: TracedStep, second: TracedStep) -> [Entry; 7] {
+/// One task makes a phaser, ends one turn on it, and ends.
+fn smallest(tickets: &[u64; 7]) -> [Entry; 7] {
     [
         (
             tickets[0],
             on(0, TracedStep::Make(0, Mode::SigWait, Terms::none())),
         ),
         (tickets[1], begin(0, Begun::Next)),
-        (tickets[2], on(0, first)),
-        (tickets[3], on(0, second)),
+        (tickets[2], on(0, TracedStep::Sig(0, None))),
+        (tickets[3], on(0, TracedStep::Pass(0))),
         (tickets[4], begin(0, Begun::End)),
         (tickets[5], on(0, TracedStep::Drop(0))),
         (tickets[6], within(0, FinishEvent::Shut)),
@@ -81,44 +81,12 @@ fn is_at_with(
     tickets: &[u64; 7],
     place: Option<u64>,
 ) -> Result<(), Fail> {
-    let entries = smallest(tickets, TracedStep::Sig(0, None), TracedStep::Pass(0));
+    let entries = smallest(tickets);
     is_at(rt, alloc, entries.as_slice(), place)
 }
 
-const RISING: [u64; 7] = [1, 2, 3, 4, 5, 6, 7];
-
-#[test]
-fn smallest_trace(rt: HostRuntime) -> Result<(), Fail> {
-    let entries = smallest(&RISING, TracedStep::Sig(0, None), TracedStep::Pass(0));
-    has_lines(
-        &rt,
-        rt.alloc(),
-        entries.as_slice(),
-        concat!(
-            "phaser 0 phases 1\n",
-            "task 0 ended\n",
-            "finish 0 tasks 0\n",
-            "totals registered 1 signals 1 passes 1 drops 1 sends 0 up 0 down 0\n"
-        ),
-    )?;
-    is_at(&rt, rt.alloc(), &entries[..6], Some(7))?;
-    is_at(&rt, rt.alloc(), &[], Some(1))
-}
-
-/// Two events the other way round, the tickets left in place; then a ticket that stands there
-/// twice, one that is less than that before, and tickets that leave numbers out.
-#[test]
-fn changed_smallest_trace(rt: HostRuntime) -> Result<(), Fail> {
-    let exchanged = smallest(&RISING, TracedStep::Pass(0), TracedStep::Sig(0, None));
-    is_at(&rt, rt.alloc(), exchanged.as_slice(), Some(3))?;
-    is_at_with(&rt, rt.alloc(), &[1, 2, 3, 3, 5, 6, 7], Some(4))?;
-    is_at_with(&rt, rt.alloc(), &[1, 2, 3, 4, 2, 6, 7], Some(5))?;
-    is_at_with(&rt, rt.alloc(), &[0, 2, 3, 14, 15, 70, 700], None)
-}
-
-/// The owner of finish 1 waits for a task that its child spawned;
-/// these events of finish 1 come last.
-fn nested(first: FinishEvent, second: FinishEvent) -> [Entry; 14] {
+/// The owner of finish 1 shuts it before the end of a task that its child spawned.
+fn shut_too_early() -> [Entry; 14] {
     [
         (1, within(1, FinishEvent::Opened(0))),
         (2, begin(0, Begun::Async(1, Phased::none()))),
@@ -130,31 +98,21 @@ fn nested(first: FinishEvent, second: FinishEvent) -> [Entry; 14] {
         (8, begin(0, Begun::Shut)),
         (9, begin(2, Begun::Next)),
         (10, begin(2, Begun::End)),
-        (11, within(1, first)),
-        (12, within(1, second)),
+        (11, within(1, FinishEvent::Shut)),
+        (12, within(1, FinishEvent::Ended(2))),
         (13, begin(0, Begun::End)),
         (14, within(0, FinishEvent::Shut)),
     ]
 }
 
-/// The shut can't come before that task's end.
+/// A ticket that is less than that before, tickets that leave numbers out, no event at all, and a
+/// finish that is shut too early.
 #[test]
-fn nested_finish(rt: HostRuntime) -> Result<(), Fail> {
-    let entries = nested(FinishEvent::Ended(2), FinishEvent::Shut);
-    has_lines(
-        &rt,
-        rt.alloc(),
-        entries.as_slice(),
-        concat!(
-            "task 0 ended\n",
-            "task 1 ended\n",
-            "task 2 ended\n",
-            "finish 0 tasks 0\n",
-            "finish 1 tasks 2\n",
-            "totals registered 0 signals 0 passes 0 drops 0 sends 0 up 0 down 0\n"
-        ),
-    )?;
-    let too_early = nested(FinishEvent::Shut, FinishEvent::Ended(2));
+fn changed_traces(rt: HostRuntime) -> Result<(), Fail> {
+    is_at_with(&rt, rt.alloc(), &[1, 2, 3, 4, 2, 6, 7], Some(5))?;
+    is_at_with(&rt, rt.alloc(), &[0, 2, 3, 14, 15, 70, 700], None)?;
+    is_at(&rt, rt.alloc(), &[], Some(1))?;
+    let too_early = shut_too_early();
     is_at(&rt, rt.alloc(), too_early.as_slice(), Some(11))
 }
 

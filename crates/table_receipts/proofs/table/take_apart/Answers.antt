@@ -4,8 +4,8 @@ use Rattle.phase_model.specs.Laws.{IsLegal}
 use Rattle.phase_model.specs.Rules.{Story}
 use Rattle.trace_model.specs.Run.{Entry}
 use Rattle.trace_model.specs.Told.{phaser_told}
-use Rattle.scope_locks.specs.Telling.{IsPhaserPart}
-use Rattle.scope_locks.proofs.Parts.{phasers_grow}
+use Rattle.phaser_cell.specs.Telling.{IsPhaserPart}
+use Rattle.phaser_cell.proofs.Parts.{phasers_grow}
 use Rattle.table_receipts.specs.Parts.{IsLogged}
 use Rattle.table_receipts.proofs.Parts.{logs_grow}
 use Rattle.table_receipts.proofs.table.take_apart.Goals as goal

@@ -1,5 +1,5 @@
 use Rattle.std.proofs.Common.{◌≡◌, length, map, vec_len, vec_capacity}
-use Rattle.scope_locks.specs.Telling.{ArePhaserParts}
+use Rattle.phaser_cell.specs.Telling.{ArePhaserParts}
 use Rattle.table_receipts.specs.Parts.{AreLogged}
 use Rattle.table_receipts.proofs.table.ReceiptTable.into_parts.Given as goal
 

@@ -1,0 +1,37 @@
+use Rattle.std.proofs.Common.{w32, ap, refl, ◌∙◌, subst}
+use Rattle.std.proofs.lemmas.Int.{to_z-of_z}
+use Rattle.std.specs.Result.{is_ok}
+use Rattle.phase_model.specs.declared.call.Call.TheVariants.{Send as send}
+use Rattle.parked_tasks.proofs.Steps.{stays_waiting}
+use Rattle.phaser_cell.proofs.Written.{matches_result, kept, ticketed, ticket_fits, settled_of}
+use Rattle.phaser_cell.specs.Drawn.{IsDrawn}
+use Rattle.phaser_cell.proofs.cell.PhaserCell.send.Goals as goal
+
+pub post_if-requires-clause-room_for_ticket : goal.post_if-requires-clause-room_for_ticket
+post_if-requires-clause-room_for_ticket g c =
+    let cell = c.args.self.now in
+    let s = cell.state.story in
+    let round = to_z-of_z w32 c.args.value c.ranges.value in
+    let reply = rw round at c.send-answer.ensures.reply in
+    let matches = matches_result s (send c.args.task c.args.accumulator c.args.value) c.is_ok.result (c.is_ok.ensures.value ∙ ap (λ a. is_ok a) reply) in
+    ticket_fits s _ _ (send c.args.task c.args.accumulator c.args.value) _ _ cell.ticketed cell.room_for_tickets matches
+
+pub invariant_of-self : goal.invariant_of-self
+invariant_of-self g c =
+    let cell = c.args.self.now in
+    let s = cell.state.story in
+    let round = to_z-of_z w32 c.args.value c.ranges.value in
+    let is = rw round at c.send-answer.ensures.history in
+    let reply = rw round at c.send-answer.ensures.reply in
+    let matches = matches_result s (send c.args.task c.args.accumulator c.args.value) c.is_ok.result (c.is_ok.ensures.value ∙ ap (λ a. is_ok a) reply) in
+    let drawn = ticketed s _ _ _ _ _ (send c.args.task c.args.accumulator c.args.value) _ _ cell.ticketed cell.room_for_tickets matches is (rw round at c.post_if.ensures.drawn) c.post_if.ensures.room_for_tickets in
+    record {
+      kept = kept s _ cell.book _ cell.parked.items cell.parked.items (send c.args.task c.args.accumulator c.args.value) _ _ cell.kept matches is (rw round at c.post_if.ensures.book) (rw round at c.post_if.ensures.room) (stays_waiting s _ cell.parked.items (send c.args.task c.args.accumulator c.args.value) (settled_of cell.state.story cell.book cell.parked.items cell.kept) is refl refl) cell.kept.once;
+      ticketed = drawn.each;
+      room_for_tickets = drawn.fits;
+      seats = cell.seats;
+      seated = cell.seated;
+    }
+
+pub returns-clause-tickets : goal.returns-clause-tickets
+returns-clause-tickets g c = subst (λ b. IsDrawn b c.args.self.now.drawn.items c.post_if.new.drawn.items) c.is_ok.ensures.value c.post_if.ensures.tickets

@@ -1,0 +1,4 @@
+pub mod Amounts
+pub mod Cells
+pub mod Drawn
+pub mod Telling

@@ -1,5 +1,0 @@
-use Rattle.task_queue.specs.Accounts.{IsSeatOf}
-use Rattle.task_crew.proofs.worker.Shared.work.Given as goal
-
-abbrev pub invariant-loop : goal.invariant-loop
-invariant-loop g l = IsSeatOf l.initial.busy.seat l.busy.seat

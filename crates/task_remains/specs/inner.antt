@@ -1,0 +1,2 @@
+-- What the code's own functions say: no public contract cites it.
+pub mod Logs

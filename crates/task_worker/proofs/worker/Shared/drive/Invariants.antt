@@ -1,0 +1,5 @@
+use Rattle.task_queue.specs.Accounts.{IsSeatOf}
+use Rattle.task_worker.proofs.worker.Shared.drive.Given as goal
+
+abbrev pub invariant-loop-event : goal.invariant-loop-event
+invariant-loop-event g l = IsSeatOf l.initial.busy.seat l.busy.seat

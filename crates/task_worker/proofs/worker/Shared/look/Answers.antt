@@ -1,0 +1,35 @@
+use Rattle.std.proofs.Common.{Bool, ap, ◌∙◌}
+use Rattle.tasks_in_flight.specs.Heard.{look}
+use Rattle.tasks_in_flight.proofs.Saying.{shows_kept}
+use Rattle.table_receipts.specs.Seen.{story_at}
+use Rattle.task_worker.specs.inner.Driven.{tried_by}
+use Rattle.task_worker.proofs.Driven.{not_tried, acts_since, gave_up}
+use Rattle.task_worker.proofs.worker.Shared.look.Goals as goal
+
+pub look_on-requires : goal.look_on-requires
+look_on-requires g c =
+    let old = c.args.task.now in
+    let new = c.may_try.new.task in
+    record {
+      says = shows_kept g.B.Body.shows old.body new.body old.log.task new.log.task (look c.args.phaser c.args.accumulator) old.fronts new.fronts
+          c.may_try.ensures.body c.may_try.ensures.task c.may_try.ensures.fronts c.requires.says;
+    }
+
+pub returns-then-not-branch-clause-acted : goal.returns-then-not-branch-clause-acted
+returns-then-not-branch-clause-acted g c =
+    let task = c.args.task.now in
+    not_tried (λ n. story_at task.fronts n) c.in_ok-may_try.field-0 task.standing c.may_try.new.task.standing c.if-not-branch.true c.in_ok-may_try.ensures.standing
+
+pub returns-in-Ok-clause-acted : goal.returns-in-Ok-clause-acted
+returns-in-Ok-clause-acted g c =
+    let old = c.args.task.now in
+    let mid = c.may_try.new.task in
+    acts_since old.fronts mid.fronts mid.standing old.standing c.look_on.new.task.standing c.may_try.ensures.fronts
+    (c.in_ok-may_try.ensures.standing ∙ ap (λ (b : Bool). tried_by b old.standing) c.if-not-branch.false) c.in-Ok.ensures.acted
+
+pub returns-in-Err-clause-acted : goal.returns-in-Err-clause-acted
+returns-in-Err-clause-acted g c =
+    let old = c.args.task.now in
+    gave_up (λ n. story_at old.fronts n) c.look_on.new.task.standing old.standing c.refuse.new.task.standing
+    (c.in-Err.ensures.refused ∙ (c.in_ok-may_try.ensures.standing ∙ ap (λ (b : Bool). tried_by b old.standing) c.if-not-branch.false))
+    c.refuse.result c.refuse.ensures.standing

@@ -1,0 +1,39 @@
+use Rattle.std.proofs.Common.{sym, subst, w32, Bool, ap, ◌∙◌}
+use Rattle.std.specs.Prelude.{ℤ}
+use Rattle.std.proofs.lemmas.Int.{to_z-of_z}
+use Rattle.table_receipts.specs.Seen.{story_at}
+use Rattle.tasks_in_flight.specs.Heard.{send}
+use Rattle.tasks_in_flight.proofs.Saying.{shows_kept}
+use Rattle.task_worker.specs.inner.Driven.{tried_by}
+use Rattle.task_worker.proofs.Driven.{not_tried, acts_since, gave_up}
+use Rattle.task_worker.proofs.worker.Shared.send.Goals as goal
+
+pub send_on-requires : goal.send_on-requires
+send_on-requires g c =
+    let old = c.args.task.now in
+    let new = c.may_try.new.task in
+    record {
+      says = subst (λ (v : ℤ). ∥ (g.K.Supposing.supposed → g.B.Body.shows new.body new.log.task (send c.args.phaser c.args.accumulator v) (λ n. story_at new.fronts n)) ∥₁)
+          (sym (to_z-of_z w32 c.args.value c.ranges.value))
+          (shows_kept g.B.Body.shows old.body new.body old.log.task new.log.task (send c.args.phaser c.args.accumulator c.args.value) old.fronts new.fronts
+          c.may_try.ensures.body c.may_try.ensures.task c.may_try.ensures.fronts c.requires.says);
+    }
+
+pub returns-then-not-branch-clause-acted : goal.returns-then-not-branch-clause-acted
+returns-then-not-branch-clause-acted g c =
+    let task = c.args.task.now in
+    not_tried (λ n. story_at task.fronts n) c.in_ok-may_try.field-0 task.standing c.may_try.new.task.standing c.if-not-branch.true c.in_ok-may_try.ensures.standing
+
+pub returns-in-Ok-clause-acted : goal.returns-in-Ok-clause-acted
+returns-in-Ok-clause-acted g c =
+    let old = c.args.task.now in
+    let mid = c.may_try.new.task in
+    acts_since old.fronts mid.fronts mid.standing old.standing c.send_on.new.task.standing c.may_try.ensures.fronts
+    (c.in_ok-may_try.ensures.standing ∙ ap (λ (b : Bool). tried_by b old.standing) c.if-not-branch.false) c.in-Ok.ensures.acted
+
+pub returns-in-Err-clause-acted : goal.returns-in-Err-clause-acted
+returns-in-Err-clause-acted g c =
+    let old = c.args.task.now in
+    gave_up (λ n. story_at old.fronts n) c.send_on.new.task.standing old.standing c.refuse.new.task.standing
+    (c.in-Err.ensures.refused ∙ (c.in_ok-may_try.ensures.standing ∙ ap (λ (b : Bool). tried_by b old.standing) c.if-not-branch.false))
+    c.refuse.result c.refuse.ensures.standing

@@ -1,0 +1,3 @@
+-- What the code's own functions say: no public contract cites it.
+pub mod Driven
+pub mod Posted

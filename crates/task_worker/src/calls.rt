@@ -1,0 +1,289 @@
+//! The calls on phasers and finishes behind their locks, by number. Those whom a call wakes are
+//! given to the queue before it answers. A number past the tables is nobody's.
+ghost use Rattle.std.specs.Prelude.{◌≡◌, IfOk, OnOk, OnErr};
+ghost use Rattle.world_model.specs.declared.event.Step.TheVariants.{Reg, Sig, Drop};
+ghost use Rattle.scope_locks.specs.Shutting.{IsBackFromShut};
+ghost use Rattle.table_receipts.specs.Seen.{story_at};
+ghost use Rattle.task_queue.specs.Accounts.{IsSeatOf};
+ghost use Rattle.tasks_in_flight.specs.Heard.{make, send, look};
+ghost use Rattle.task_worker.specs.inner.Driven.{HasActed, IsReplied, IsOfSignal, IsOfPass};
+ghost use Rattle.task_worker.specs.inner.Posted.{PostsAtMost};
+
+use crate::worker::{Busy, Shared};
+use job_script::Answer;
+use phase_model::Terms;
+use phase_modes::{Mode, Pair, Refusal};
+use phaser_cell::{PassAnswer, SignalAnswer};
+use scope_locks::ShutAnswer;
+use std::sync::{Mutex, Wait};
+use table_receipts::Caller;
+use task_numbers::{FinishNumber, PhaserNumber, TaskNumber};
+use tasks_in_flight::{Body, Item, RunNaming, Task, TaskLeft};
+
+impl<B: Body, K: RunNaming> Shared<B, K> {
+    /// The body hears of the phaser that was made.
+    pub(crate) fn make_on<R: Wait>(
+        &self,
+        by: &mut Caller<'_, Item<B, K>, K, R>,
+        task: &mut Task<B, K>,
+        phaser: u32,
+        mode: Mode,
+        terms: &Terms,
+    ) -> Result<(), Refusal>
+        requires says { ∥ (K.Supposing.supposed → B.Body.shows task.old.body task.old.log.task (make mode terms.now) (λ n. story_at task.old.fronts n)) ∥₁ }
+        ensures acted { OnOk result (HasActed (λ n. story_at task.old.fronts n) task.old.standing task.new.standing) }
+        ensures out { by.new.out ≡ by.old.out }
+        ensures posted { PostsAtMost 1 by.old.mine by.new.mine }
+    {
+        let number = self.place(phaser, Refusal::PhasersFull)?;
+        let maker = task.number();
+        let mut me = task.front(number);
+        self.phasers.make(by, &mut me, number, maker, mode, terms)?;
+        task.standing.note_making(phaser, mode)?;
+        task.fronts.set(number, me);
+        task.answer = Some(Answer::Made(phaser));
+        Ok(())
+    }
+
+    pub(crate) fn register_on<R: Wait>(
+        &self,
+        by: &mut Caller<'_, Item<B, K>, K, R>,
+        task: &mut Task<B, K>,
+        child: u32,
+        pair: Pair,
+    ) -> Result<(), Refusal>
+        ensures told { OnOk result (IsReplied (story_at task.old.fronts pair.phaser)
+            (Reg task.old.standing.number child pair.mode)) }
+        ensures standing { task.new.standing ≡ task.old.standing }
+        ensures out { by.new.out ≡ by.old.out }
+        ensures posted { PostsAtMost 1 by.old.mine by.new.mine }
+    {
+        let number = self.place(pair.phaser, Refusal::NotRegistered)?;
+        let parent = task.number();
+        let mut me = task.front(number);
+        self.phasers
+            .register(by, &mut me, number, parent, child, pair.mode)?;
+        task.note_own(number, me);
+        Ok(())
+    }
+
+    /// The body hears that the value was sent.
+    pub(crate) fn send_on<R: Wait>(
+        &self,
+        by: &mut Caller<'_, Item<B, K>, K, R>,
+        task: &mut Task<B, K>,
+        phaser: u32,
+        accumulator: u8,
+        value: i32,
+    ) -> Result<(), Refusal>
+        requires says { ∥ (K.Supposing.supposed → B.Body.shows task.old.body task.old.log.task (send phaser accumulator value) (λ n. story_at task.old.fronts n)) ∥₁ }
+        ensures acted { OnOk result (HasActed (λ n. story_at task.old.fronts n) task.old.standing task.new.standing) }
+        ensures refused { OnErr result (task.new.standing ≡ task.old.standing) }
+        ensures out { by.new.out ≡ by.old.out }
+        ensures posted { PostsAtMost 1 by.old.mine by.new.mine }
+    {
+        let number = self.place(phaser, Refusal::NotRegistered)?;
+        let sender = task.number();
+        let mut me = task.front(number);
+        self.phasers
+            .send(by, &mut me, number, sender, accumulator, value)?;
+        task.fronts.set(number, me);
+        task.standing.note_act();
+        task.answer = Some(Answer::Done);
+        Ok(())
+    }
+
+    /// The body hears what was seen.
+    pub(crate) fn look_on<R: Wait>(
+        &self,
+        by: &mut Caller<'_, Item<B, K>, K, R>,
+        task: &mut Task<B, K>,
+        phaser: u32,
+        accumulator: u8,
+    ) -> Result<(), Refusal>
+        requires says { ∥ (K.Supposing.supposed → B.Body.shows task.old.body task.old.log.task (look phaser accumulator) (λ n. story_at task.old.fronts n)) ∥₁ }
+        ensures acted { OnOk result (HasActed (λ n. story_at task.old.fronts n) task.old.standing task.new.standing) }
+        ensures refused { OnErr result (task.new.standing ≡ task.old.standing) }
+        ensures out { by.new.out ≡ by.old.out }
+        ensures posted { PostsAtMost 1 by.old.mine by.new.mine }
+    {
+        let number = self.place(phaser, Refusal::NotRegistered)?;
+        let reader = task.number();
+        let mut me = task.front(number);
+        let seen = self.phasers.look(by, &mut me, number, reader, accumulator)?;
+        task.fronts.set(number, me);
+        task.standing.note_act();
+        task.answer = Some(Answer::Saw(seen));
+        Ok(())
+    }
+
+    /// The item comes back, or it is parked.
+    pub(crate) fn signal_on<R: Wait>(
+        &self,
+        busy: &mut Busy<'_, B, K, R>,
+        item: Item<B, K>,
+        phaser: u32,
+        proposed: Option<u32>,
+    ) -> Result<SignalAnswer<Item<B, K>>, Refusal>
+        ensures told { IfOk result (IsOfSignal (λ i. i.task.value.standing) item.task.value.standing
+            (story_at item.task.value.fronts phaser) (Sig item.task.value.standing.number proposed)) }
+        ensures seat { IsSeatOf busy.old.seat busy.new.seat }
+        ensures posted { PostsAtMost 1 busy.old.by.mine busy.new.by.mine }
+    {
+        let number = match self.place(phaser, Refusal::NotRegistered) {
+            Ok(number) => number,
+            Err(refusal) => return Ok(SignalAnswer::Refused(item, refusal)),
+        };
+        let mut item = item;
+        let task = item.task.number();
+        let mut me = item.task.front(number);
+        let Busy { seat, by, kept, .. } = busy;
+        let answer = self
+            .phasers
+            .signal(by, &mut me, number, task, proposed, item);
+        self.flush(by.rt, seat, kept, &mut by.out)?;
+        match answer {
+            SignalAnswer::Signalled(signalled) => {
+                let mut item = signalled;
+                item.task.note_own(number, me);
+                Ok(SignalAnswer::Signalled(item))
+            }
+            other => Ok(other),
+        }
+    }
+
+    /// The item comes back, or it is parked.
+    pub(crate) fn pass_on<R: Wait>(
+        &self,
+        busy: &mut Busy<'_, B, K, R>,
+        item: Item<B, K>,
+        phaser: u32,
+    ) -> Result<PassAnswer<Item<B, K>>, Refusal>
+        ensures told { IfOk result (IsOfPass (λ i. i.task.value.standing) item.task.value.standing
+            (story_at item.task.value.fronts phaser) item.task.value.standing.number) }
+        ensures seat { IsSeatOf busy.old.seat busy.new.seat }
+        ensures posted { PostsAtMost 1 busy.old.by.mine busy.new.by.mine }
+    {
+        let number = match self.place(phaser, Refusal::NotRegistered) {
+            Ok(number) => number,
+            Err(refusal) => return Ok(PassAnswer::Refused(item, refusal)),
+        };
+        let mut item = item;
+        let task = item.task.number();
+        let mut me = item.task.front(number);
+        let Busy { seat, by, kept, .. } = busy;
+        let answer = self.phasers.pass(by, &mut me, number, task, item);
+        self.flush(by.rt, seat, kept, &mut by.out)?;
+        match answer {
+            PassAnswer::Passed(passed, phase) => {
+                let mut item = passed;
+                item.task.note_own(number, me);
+                Ok(PassAnswer::Passed(item, phase))
+            }
+            other => Ok(other),
+        }
+    }
+
+    pub(crate) fn report_on<R: Wait>(
+        &self,
+        busy: &mut Busy<'_, B, K, R>,
+        task: &mut Task<B, K>,
+        phaser: u32,
+    ) -> Result<(), Refusal>
+        ensures seat { IsSeatOf busy.old.seat busy.new.seat }
+        ensures posted { PostsAtMost 1 busy.old.by.mine busy.new.by.mine }
+        ensures body { task.new.body ≡ task.old.body }
+        ensures standing { task.new.standing ≡ task.old.standing }
+    {
+        let number = self.place(phaser, Refusal::NotRegistered)?;
+        let reporter = task.number();
+        let mut me = task.front(number);
+        let Busy { seat, by, kept, .. } = busy;
+        self.phasers.single_done(by, &mut me, number, reporter)?;
+        self.flush(by.rt, seat, kept, &mut by.out)
+    }
+
+    /// The task, or the child that it is spawning, leaves the phaser.
+    pub(crate) fn drop_on<R: Wait>(
+        &self,
+        busy: &mut Busy<'_, B, K, R>,
+        task: &mut Task<B, K>,
+        phaser: PhaserNumber,
+        leaver: TaskNumber,
+    ) -> Result<(), Refusal>
+        ensures told { OnOk result (IsReplied (story_at task.old.fronts phaser) (Drop leaver)) }
+        ensures standing { task.new.standing ≡ task.old.standing }
+        ensures seat { IsSeatOf busy.old.seat busy.new.seat }
+        ensures posted { PostsAtMost 1 busy.old.by.mine busy.new.by.mine }
+    {
+        let number = self.place(phaser.get(), Refusal::NotRegistered)?;
+        let mut me = task.front(number);
+        let Busy { seat, by, kept, .. } = busy;
+        self.phasers.drop_task(by, &mut me, number, leaver.get())?;
+        self.flush(by.rt, seat, kept, &mut by.out)
+    }
+
+    pub(crate) fn open_on<R: Wait>(
+        &self,
+        rt: &R,
+        task: TaskNumber,
+        finish: FinishNumber,
+    ) -> Result<(), Refusal> {
+        let number = self.finishes.place(finish.get(), Refusal::FinishesFull)?;
+        self.finishes.opened(rt, number, &self.tickets, task.get())
+    }
+
+    pub(crate) fn spawn_on<R: Wait>(
+        &self,
+        rt: &R,
+        child: TaskNumber,
+        finish: FinishNumber,
+    ) -> Result<(), Refusal> {
+        let number = self.finishes.place(finish.get(), Refusal::NotNow)?;
+        self.finishes
+            .spawned(rt, number, &self.tickets, child.get())
+    }
+
+    pub(crate) fn end_on<R: Wait>(
+        &self,
+        busy: &mut Busy<'_, B, K, R>,
+        task: u32,
+        left: TaskLeft<K>,
+        finish: u32,
+    ) -> Result<(), Refusal>
+        ensures seat { IsSeatOf busy.old.seat busy.new.seat }
+        ensures mine { busy.new.by.mine ≡ busy.old.by.mine }
+    {
+        let number = self.finishes.place(finish, Refusal::NotNow)?;
+        let Busy { seat, by, kept, .. } = busy;
+        let ended = self.finishes.ended(
+            by.rt,
+            number,
+            &self.tickets,
+            task,
+            Mutex::new(left),
+            &mut by.out,
+        );
+        self.flush(by.rt, seat, kept, &mut by.out)?;
+        match ended {
+            Ok(()) => Ok(()),
+            Err(_) => Err(Refusal::NotNow),
+        }
+    }
+
+    /// The item comes back, or it is parked.
+    pub(crate) fn shut_on<R: Wait>(
+        &self,
+        rt: &R,
+        item: Item<B, K>,
+        finish: u32,
+    ) -> ShutAnswer<Item<B, K>>
+        ensures item { IsBackFromShut item result }
+    {
+        let number = match self.finishes.place(finish, Refusal::NotNow) {
+            Ok(number) => number,
+            Err(refusal) => return ShutAnswer::Refused(item, refusal),
+        };
+        self.finishes.shut(rt, number, &self.tickets, item)
+    }
+}
