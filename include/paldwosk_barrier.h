@@ -85,6 +85,7 @@ typedef struct paldwosk_barrier {
   struct paldwosk_trace *trace;   /* NULL where none is kept */
   uint32_t to_wake;               /* bits of sleepers who were freed, and are to be woken */
   uint32_t coming;                /* how many run a single, and will be back */
+  uint64_t claimer;               /* the task of who claimed one last */
   uint32_t tasks, processors;     /* that are registered; that are online */
   uint32_t waits, probe;          /* how many have waited; which of them spins for as long as it may */
   uint8_t apart[64];              /* what threads write that were freed isn't in the line of what is under the lock */
@@ -410,7 +411,9 @@ static inline void paldwosk_set_answer(paldwosk_barrier *barrier, struct paldwos
                                        uint64_t number) {
   sleeper->answer = answer;
   sleeper->number = number;
-  if (answer == PALDWOSK_CLAIMED) barrier->coming++;
+  if (answer != PALDWOSK_CLAIMED) return;
+  barrier->coming++;
+  barrier->claimer = sleeper->task;
 }
 
 #ifdef PALDWOSK_BY_FUTEX
@@ -701,13 +704,20 @@ static inline paldwosk_answer paldwosk_enter_by(const paldwosk_task *task) {
   return task ? paldwosk_enter(task->barrier) : PALDWOSK_NULL;
 }
 
+/* With the lock. A task whose single runs passes once that is reported: a wait in the statement would never end. */
+static inline int paldwosk_is_in_single(const paldwosk_task *task) {
+  return task->barrier->coming && task->barrier->claimer == task->number;
+}
+
 /* The call of a task that may have to wait. */
 static inline paldwosk_answer paldwosk_call_by(const paldwosk_task *task, uint32_t call, uint32_t single,
                                                uint64_t *phase) {
   paldwosk_answer entered = paldwosk_enter_by(task);
   if (entered != PALDWOSK_DONE) return entered;
   struct paldwosk_sleeper me = paldwosk_new_sleeper(task->number, call, single);
-  paldwosk_call(task->barrier, &me);
+  if (call == PALDWOSK_CALL_WAIT && paldwosk_is_in_single(task)) me.answer = PALDWOSK_NOT_NOW;
+  if (me.answer == PALDWOSK_NOT_NOW) paldwosk_end_call(task->barrier, &me);
+  else paldwosk_call(task->barrier, &me);
   if (me.answer == PALDWOSK_DONE && phase) *phase = me.number;
   return (paldwosk_answer)me.answer;
 }
@@ -894,7 +904,8 @@ static inline paldwosk_answer paldwosk_barrier_signal(const paldwosk_task *task)
 
 /* Waits until the phase is over that the task has signalled, or, if it only waits, that it hasn't waited for yet. A
  * task that only signals waits for nobody, and begins its next phase by this. On DONE *phase is the phase, unless
- * `phase` is NULL. NOT_REGISTERED, NOT_SIGNALLED, NOT_NOW, HISTORY_FULL. */
+ * `phase` is NULL. NOT_REGISTERED, NOT_SIGNALLED, NOT_NOW (also in the statement of the task's own single),
+ * HISTORY_FULL. */
 static inline paldwosk_answer paldwosk_barrier_wait(const paldwosk_task *task, uint64_t *phase) {
   return paldwosk_call_by(task, PALDWOSK_CALL_WAIT, 0, phase);
 }

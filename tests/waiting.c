@@ -332,6 +332,7 @@ static void in_statement(void *given) {
   MUST(paldwosk_barrier_free(it->barrier) == PALDWOSK_NOT_NOW);
   MUST(paldwosk_barrier_leave(&it->task) == PALDWOSK_NOT_NOW);
   MUST(paldwosk_barrier_signal(&it->task) == PALDWOSK_ALREADY_SIGNALLED);
+  MUST(paldwosk_barrier_wait(&it->task, NULL) == PALDWOSK_NOT_NOW);
   DONE(paldwosk_barrier_send(&it->task, 0, 40)); /* for the next phase */
   DONE(paldwosk_barrier_join(&it->task, PALDWOSK_SIG, &child));
   DONE(paldwosk_barrier_leave(&child));
