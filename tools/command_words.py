@@ -31,8 +31,7 @@ UNBUILT = """\
 phaser_run isn't built from these sources yet, and this help doesn't build it. Once built it prints this:
 
 """
-FIRST_CALL = """
-The first call proves and builds the program, which takes {first_time}; later calls take milliseconds.
+NEXT = """
 Try: ./phaser_run events examples/events/two_tasks_turn.json
 ./program_check FILE says where and why a text is refused.
 """
@@ -58,8 +57,7 @@ def help_of(words):
 
 
 def help_text(*words):
-    first_time = (TOP / "tools/first_build_time").read_text().strip()
-    return UNBUILT + help_of(words) + FIRST_CALL.format(first_time=first_time)
+    return UNBUILT + help_of(words) + NEXT
 
 
 def version_text():

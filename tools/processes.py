@@ -1,5 +1,7 @@
 """What the scripts of this folder share: what they print, the signals that end them, and the processes that they start."""
+import contextlib
 import ctypes
+import fcntl
 import os
 import signal
 import sys
@@ -65,9 +67,42 @@ def dying_with_this(number):
     return lambda: LIBC.prctl(SET_DEATH_SIGNAL, int(number))
 
 
+@contextlib.contextmanager
+def turn(name, file):
+    """Waits until no other build in this tree holds the file, and keeps others out."""
+    with open(str(file), "w") as lock:
+        is_told = False
+        while True:
+            try:
+                fcntl.flock(lock, fcntl.LOCK_EX | fcntl.LOCK_NB)
+                break
+            except BlockingIOError:
+                if not is_told:
+                    say(name, "waiting for another build in %s to end" % TOP)
+                is_told = True
+                pause()
+        yield
+
+
 def adopt_orphans(is_wanted):
-    """Whether a process whose parent has ended becomes a child of this one, if this one started its parent."""
+    """Whether a process whose parent has ended becomes a child of this one, if this one started its parent. Then nobody else
+    waits for it: see `reap_orphans`."""
     LIBC.prctl(SET_SUBREAPER, int(is_wanted))
+
+
+def reap_orphans(own):
+    """Waits for each child that has ended, but for the processes of these numbers: their status is for who started them.
+
+    `rt` leaves a shell that guards what it starts, and that ends with it. Without this it would stay as a zombie, for each crate
+    one. One of the own that has ended hides the others until it is waited for, so this is called again and again."""
+    while True:
+        try:
+            ended = os.waitid(os.P_ALL, 0, os.WEXITED | os.WNOHANG | os.WNOWAIT)
+        except ChildProcessError:
+            return
+        if ended is None or ended.si_pid in own:
+            return
+        os.waitpid(ended.si_pid, 0)
 
 
 def parent_of(process):
