@@ -3,14 +3,12 @@ use Rattle.std.proofs.Common.{ℕ, zero, suc, ◌+◌, ◌<◌, ◌≤◌, ◌�
 use Rattle.std.proofs.lemmas.Bool.{cases_Bool, false_from_ne_true, true≢false}
 use Rattle.job_script.specs.Program.{Program}
 use Rattle.world_model.specs.declared.event.WorldEvent.{WorldEvent}
-use Rattle.world_model.specs.Drawing.{least_unused}
 use Rattle.world_model.specs.Numbers.{is_named}
 use Rattle.world_model.specs.Replies.{is_legal_world}
 use Rattle.world_model.specs.Tasks.{is_born, is_ended}
 use Rattle.world_model.proofs.BornWhereNamed.{born_named}
 use Rattle.schedule_model.specs.Picks.{pick, round_from, rounds}
 use Rattle.schedule_model.proofs.Rounds.{rounds_move}
-use Rattle.schedule_model.proofs.Used.{task_free}
 use Rattle.schedule_run.specs.declared.runner.Runner.{Runner}
 use Rattle.schedule_run.specs.inner.Running.{RunStands}
 use Rattle.schedule_run.proofs.Noted.{long_as}
@@ -26,12 +24,6 @@ unnamed_stays : (p : Program) (v : List WorldEvent) (t : ℕ) → is_legal_world
 unnamed_stays p v t k h =
     let unborn : is_born t v ≡ false = false_from_ne_true (is_born t v) (λ b. true≢false (sym (born_named p.limits t v k b) ∙ h)) in
     picked_none p v t (rw unborn refl) (rw unborn refl)
-
--- no task has the least number that isn't in use, nor a greater one
-pub unused_above : (p : Program) (w : List WorldEvent) (r : Runner) (t : ℕ) → RunStands p w r → least_unused (λ u. is_named u w) p.limits.tasks ≤ t → is_named t w ≡ false
-unused_above p w r t st le =
-    let least : ℕ = least_unused (λ u. is_named u w) p.limits.tasks in
-    false_from_ne_true (is_named t w) (λ n. true≢false (sym (st.gapless least t le n) ∙ task_free p.limits w st.fit (legal_of p w r st)))
 
 -- one pick of a round
 pub round_step : (p : Program) (v : List WorldEvent) (r : Runner) (t left : ℕ) → RunStands p v r → round_from (suc left) t p v ≡ round_from left (t + 1) p (pick p v t)

@@ -66,8 +66,8 @@ is_waiting (Ok NotYet) h = refl
 is_waiting (Ok y) h = absurd cc
 
 -- the act that was tried is the task's next one
-pub next_tried : (p : Program) (w : List WorldEvent) (t : ℕ) (own : List Pair) (new : Numbers) (act : tasks.Act Script) (a : Tried) → a ≡ tried_of own new act → own ≡ own_pairs t w → new ≡ unused p.limits w → act ≡ next_for (meanings p w t) (next_act p w t) → a ≡ tried p w t (unused p.limits w)
-next_tried p w t own new act a is own_is new_is act_is = is ∙ (rw (own_is, new_is, act_is) refl ∙ given-is-tried p w t (unused p.limits w))
+pub next_tried : (p : Program) (w : List WorldEvent) (t : ℕ) (own : List Pair) (new : Numbers) (act : tasks.Act Script) (a : Tried) → a ≡ tried_of own new act → own ≡ own_pairs t w → act ≡ next_for (meanings p w t) (next_act p w t) → a ≡ tried p w t new
+next_tried p w t own new act a is own_is act_is = is ∙ (rw (own_is, act_is) refl ∙ given-is-tried p w t new)
 
 -- ---- the history after a pick, by the reply
 

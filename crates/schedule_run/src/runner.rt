@@ -18,7 +18,7 @@ ghost use Rattle.world_model.specs.Numbers.{is_named};
 ghost use Rattle.world_model.specs.Tasks.{is_born, is_ended};
 ghost use Rattle.schedule_model.specs.Picks.{unused, event_of, pick, picked, round_from, rounds, run_within};
 ghost use Rattle.schedule_model.specs.Scripts.{body_of, meanings, next_act, tried};
-ghost use Rattle.trace_walk.specs.Given.{numbers_view};
+ghost use Rattle.trace_walk.specs.Given.{numbers_view, tried_of};
 ghost use Rattle.schedule_run.specs.inner.Bodies.{BodiesStand, IsAsked};
 ghost use Rattle.schedule_run.specs.inner.Records.{outcome_of};
 ghost use Rattle.schedule_run.specs.inner.Ended.{HaveEnded};
@@ -141,15 +141,34 @@ impl<'p> Runner<'p> {
         }
     }
 
+    /// The numbers that the act draws, the least that aren't in use; any for an act that draws none, since
+    /// the world looks for them from 0 on.
+    fn drawn_by(&self, act: &Act<ScriptBody<'p>>) -> Numbers
+        ensures { (l : limits.Limits) (w : List Event) → StandsFor w self.now.recorded.world
+            → self.now.recorded.world.limits ≡ l
+            → (own : List Pair) → tried_of own (numbers_view result) act.now ≡ tried_of own (unused l w) act.now }
+    {
+        match act {
+            Act::New(_, _, _) | Act::Async(_, _) | Act::AsyncAll(_) | Act::OpenFinish => {
+                self.unused()
+            }
+            _ => Numbers {
+                phaser: 0,
+                task: 0,
+                finish: 0,
+            },
+        }
+    }
+
     /// An idle task begins its next act. Where that is refused, its log says so, and it ends.
     fn begin(&mut self, task: u32) -> Result<(), Refusal>
         ensures stands { IfOk result (λ _. (p : programs.Program) (w : List Event) → RunStands p w self.old
             → is_idle task w ≡ true → RunStands p (pick p w task) self.new) }
         ensures memory { IfErr result (λ e. e ≡ NoMemory) }
     {
-        let new = self.unused();
         let own = self.recorded.world.own_pairs(task);
         let act = self.bodies.next_act(task);
+        let new = self.drawn_by(&act);
         let tried = tried_of(own, new, &act);
         let event = made(task, &tried);
         match try_event(&mut self.recorded, &mut self.notes, task, event)? {
@@ -233,17 +252,6 @@ impl<'p> Runner<'p> {
         Ok(())
     }
 
-    /// Whether no task has the number, and so none a greater one: numbers are drawn without gaps.
-    fn is_unused(&self, task: u32) -> bool
-        ensures { result ≡ true → (p : programs.Program) (w : List Event) → RunStands p w self.now
-            → is_named task w ≡ false }
-    {
-        if self.recorded.world.condition(task).is_some() {
-            return false;
-        }
-        self.recorded.world.unused().task <= task
-    }
-
     /// Each task is picked once, by number, up to the first number that no task has. Those that are
     /// known to have ended are passed over.
     fn round(&mut self, ended: &mut Ended) -> Result<(), Refusal>
@@ -263,7 +271,7 @@ impl<'p> Runner<'p> {
                 continue;
             }
             if !self.notes.holds(task) {
-                if self.is_unused(task) {
+                if !self.recorded.world.is_named(task) {
                     return Ok(());
                 }
                 self.ask_or_note(task, ended)?;

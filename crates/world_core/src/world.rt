@@ -77,6 +77,13 @@ impl World {
         self.tables.condition(TaskNumber::of(task))
     }
 
+    /// Whether the number is a task's: the root's, or one that a spawn has named, made or not yet.
+    pub fn is_named(&self, task: u32) -> bool
+        ensures { (w : List Event) → StandsFor w self.now → result ≡ is_named task w }
+    {
+        self.tables.is_named(TaskNumber::of(task))
+    }
+
     /// How many turns the task has completed, those of its spawner at the spawn among them.
     pub fn clock(&self, task: u32) -> u32
         ensures { (w : List Event) → StandsFor w self.now → result ≡ clock task w }

@@ -63,6 +63,8 @@ enum Row {
     Saw(u32, u32, Look),
     /// What the task is about.
     Is(u32, Option<Condition>),
+    /// Whether a spawn has named the task.
+    Named(u32, bool),
     /// How many turns the task has completed.
     Clock(u32, u32),
     /// Whether the task can go on.
@@ -160,12 +162,17 @@ fn event_in(row: &Row) -> Option<(TableEvent, Result<Reply, Refusal>)> {
                 Ok(Reply::Value(value)),
             ))
         }
-        Row::Is(_, _) | Row::Clock(_, _) | Row::Able(_, _) | Row::NoneDue(_) => None,
+        Row::Is(_, _) | Row::Named(_, _) | Row::Clock(_, _) | Row::Able(_, _) | Row::NoneDue(_) =>
+            None,
     }
 }
 
 fn is_about(rt: &impl Abort, world: &World, task: u32, condition: Option<Condition>) {
     equal_at(rt, ("task", task), world.condition(task), condition);
+}
+
+fn is_named(rt: &impl Abort, world: &World, task: u32, named: bool) {
+    equal_at(rt, ("task", task), world.is_named(task), named);
 }
 
 fn has_turned(rt: &impl Abort, world: &World, task: TaskNumber, turns: u32) {
@@ -185,6 +192,7 @@ fn has_none_due(rt: &impl Abort, world: &World, task: u32) {
 fn answers(rt: &impl Abort, world: &World, row: &Row) {
     match *row {
         Row::Is(task, condition) => is_about(rt, world, task, condition),
+        Row::Named(task, named) => is_named(rt, world, task, named),
         Row::Clock(task, turns) => has_turned(rt, world, TaskNumber::of(task), turns),
         Row::Able(task, able) => is_able(rt, world, task, able),
         Row::NoneDue(task) => has_none_due(rt, world, task),

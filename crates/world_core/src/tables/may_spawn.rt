@@ -81,17 +81,6 @@ impl Tables {
         Ok(())
     }
 
-    /// Whether the number is a task's, or that of a child that was never spawned.
-    fn is_named(&self, child: TaskNumber) -> bool
-        ensures { result ≡ (task_at self.now child).is_named }
-    {
-        if child.place() >= self.tasks.len() {
-            return false;
-        }
-        let line = &self.tasks[child.place()];
-        line.is_named()
-    }
-
     /// How many tasks there are: as many as the limits say.
     pub(super) fn most_tasks(&self) -> u32
         ensures most { result ≡ self.now.limits.tasks }
@@ -111,7 +100,7 @@ impl Tables {
         ensures place { IfOk result (λ _. task < length self.now.tasks) }
         ensures child { IfOk result (λ _. child < length self.now.tasks) }
     {
-        self.may_act(task, self.is_named(child), true)?;
+        self.may_act(task, self.kept_named(child), true)?;
         if child.get() >= self.most_tasks() {
             return Err(Refusal::TasksFull);
         }

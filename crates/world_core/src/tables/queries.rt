@@ -4,6 +4,7 @@ ghost use Rattle.world_model.specs.declared.event.WorldEvent.{WorldEvent as Even
 ghost use Rattle.world_model.specs.TaskConditions.{condition_of};
 ghost use Rattle.world_model.specs.Clock.{clock};
 ghost use Rattle.world_model.specs.Due.{next_event};
+ghost use Rattle.world_model.specs.Numbers.{is_named};
 ghost use Rattle.world_model.specs.Able.{is_able};
 ghost use Rattle.phase_model.specs.Waiting.{signal_would_wait, would_wait};
 ghost use Rattle.world_steps.specs.Kept.{task_at, story_at, inner_at};
@@ -32,6 +33,23 @@ impl Tables {
         }
         let line = &self.tasks[task.place()];
         line.condition()
+    }
+
+    /// Whether a spawn has named the number, or it is the root's.
+    pub(crate) fn is_named(&self, task: TaskNumber) -> bool
+        ensures { (w : List Event) → StandsFor w self.now → result ≡ is_named task w }
+    {
+        self.kept_named(task)
+    }
+
+    pub(super) fn kept_named(&self, task: TaskNumber) -> bool
+        ensures { result ≡ (task_at self.now task).is_named }
+    {
+        if task.place() >= self.tasks.len() {
+            return false;
+        }
+        let line = &self.tasks[task.place()];
+        line.is_named()
     }
 
     /// How many turns the task has completed, those of its spawner at the spawn among them.

@@ -166,10 +166,11 @@ const LAST_ENDS: [Row; 5] = [
 /// Two tasks that signal each other on two phasers: three turns of each.
 #[test]
 fn crossed_signals(rt: HostRuntime) -> Result<(), Refusal> {
-    const FIRST_ENDS: [Row; 7] = [
+    const FIRST_ENDS: [Row; 8] = [
         Clock(1, 3),
         Clock(2, 3),
         Is(3, None),
+        Named(3, false),
         Done(Begin(1, Begun::End)),
         Done(On(0, Step::Drop(1))),
         Done(On(1, Step::Drop(1))),

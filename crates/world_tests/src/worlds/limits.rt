@@ -86,7 +86,7 @@ fn refused_acts_of_the_root(rt: HostRuntime) -> Result<(), Refusal> {
 /// A spawn that fails halfway: the child that was never spawned leaves its phaser first.
 #[test]
 fn unborn_child_dropped(rt: HostRuntime) -> Result<(), Refusal> {
-    const ROWS: [Row; 22] = [
+    const ROWS: [Row; 23] = [
         Done(Make(0, 0, Mode::SigWait)),
         Done(Make(1, 0, Mode::SigWait)),
         Done(Spawn(0, 1, At(1, Mode::Wait))),
@@ -109,6 +109,7 @@ fn unborn_child_dropped(rt: HostRuntime) -> Result<(), Refusal> {
         Done(Within(0, FinishEvent::Ended(1))),
         Done(Within(0, FinishEvent::Shut)),
         Is(2, None),
+        Named(2, true),
     ];
     let two_regs = Limits {
         regs: 2,

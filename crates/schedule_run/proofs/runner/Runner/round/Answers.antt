@@ -9,7 +9,7 @@ use Rattle.schedule_run.proofs.Noted.{waits_unmoved}
 use Rattle.schedule_run.proofs.PassedOver.{ended_later, passed_to}
 use Rattle.schedule_run.proofs.Picking.{legal_of, run_stays}
 use Rattle.schedule_run.proofs.runner.Runner.round.Goals as goal
-use Rattle.schedule_run.proofs.runner.Runner.round.Goals.{then-not-holds+else-is_unused+in_ok-ask_or_note, else-not-holds}
+use Rattle.schedule_run.proofs.runner.Runner.round.Goals.{then-not-holds+else-not-is_named+in_ok-ask_or_note, else-not-holds}
 
 pub loop-step-init : goal.loop-step-init
 loop-step-init c = record {
@@ -26,7 +26,7 @@ loop-step-preserved c = record {
       let b = c.loop-step.invariant.runs p w st have in
       let t = c.loop-step.task in
       elim c.if-not-holds.branch [
-        | then-not-holds+else-is_unused+in_ok-ask_or_note x ↦ (
+        | then-not-holds+else-not-is_named+in_ok-ask_or_note x ↦ (
           pick p b.0 t,
           rw (x.self-is, x.ended-is) (x.in_ok-ask_or_note.ensures.stands p b.0 b.1.run (c.first_left-next.ensures.known b.0 b.1.ended_are)),
           λ left same. sym (round_step p b.0 c.loop-step.self t left b.1.run) ∙ b.2 (suc left) (omega (arith, same)),
@@ -75,12 +75,12 @@ returns-clause-stands c p w st have =
     let last : c.loop-step.task + 0 ≡ c.limits-tasks.result.tasks = omega (arith, c.loop-step.invariant.within, c.loop-step.invariant.steps, c.loop-step-test.false) in
     subst (λ (u : List WorldEvent). RoundStands p u c.loop-step.self c.loop-step.ended) (b.2 0 last ∙ ap (λ n. round_from n 0 p w) tasks) b.1
 
-pub returns-then-is_unused-clause-stands : goal.returns-then-is_unused-clause-stands
-returns-then-is_unused-clause-stands c p w st have =
+pub returns-then-not-is_named-clause-stands : goal.returns-then-not-is_named-clause-stands
+returns-then-not-is_named-clause-stands c p w st have =
     let b = c.loop-step.invariant.runs p w st have in
     let t = c.loop-step.task in
     let tasks : c.limits-tasks.result.tasks ≡ p.limits.tasks = ap (λ (l : Limits). l.tasks) (c.limits-tasks.ensures.limits ∙ st.recorded.kept) in
-    let none : is_named t b.0 ≡ false = c.is_unused.ensures c.if-is_unused.true p b.0 b.1.run in
+    let none : is_named t b.0 ≡ false = sym (c.is_named.ensures b.0 b.1.run.recorded.stands) ∙ c.if-not-is_named.true in
     let left : ℕ = c.limits-tasks.result.tasks - t in
     let rest : round_from left t p b.0 ≡ round_from c.limits-tasks.result.tasks 0 p w =
     b.2 left (omega (arith, c.loop-step.invariant.within)) in
