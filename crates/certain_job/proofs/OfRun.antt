@@ -6,9 +6,9 @@ use Rattle.world_model.specs.Report.{Report, report_of}
 use Rattle.trace_model.specs.Run.{Run}
 use Rattle.trace_walk.specs.History as histories
 use Rattle.program_texts.specs.Texts.{IsOfTexts, history, program_spelled}
-use Rattle.one_answer.specs.Certified.{IsCertified}
-use Rattle.one_answer.specs.Luck.{is_all_steady}
-use Rattle.one_answer.proofs.Whole.{has_certified_report, program_run}
+use Rattle.run_laws.specs.Certified.{IsCertified}
+use Rattle.run_laws.specs.Luck.{is_all_steady}
+use Rattle.run_laws.proofs.Whole.{has_certified_report, program_run}
 use Rattle.run_job.specs.Worked.{IsOfRun, IsRunOf}
 
 pub of_run : (p : Program) (t : Run) (r : Report) → IsCertified p r → IsRunOf p t

@@ -2,9 +2,9 @@
 use Rattle.std.specs.Prelude.{◌⊎◌, ℕ, List}
 use Rattle.world_model.specs.Report.{Report, report_of}
 use Rattle.trace_model.specs.Run.{Run}
-use Rattle.one_answer.specs.Certified.{IsCertified}
-use Rattle.one_answer.specs.Luck.{IsFirstLuck}
-use Rattle.one_answer.specs.declared.luck.LuckAt.{LuckAt}
+use Rattle.run_laws.specs.Certified.{IsCertified}
+use Rattle.run_laws.specs.Luck.{IsFirstLuck}
+use Rattle.run_laws.specs.declared.luck.LuckAt.{LuckAt}
 use Rattle.program_texts.specs.Texts.{history}
 use Rattle.run_job.specs.Worked.{IsOfRun, Runs}
 use Rattle.certify_job.specs.Certificate.{IsOfCertificate}

@@ -1,4 +1,4 @@
-//! Runs a program's text by workers where it is certified, and writes the trace of the run and the
+//! Runs a program's text by workers if it is certified, and writes the trace of the run and the
 //! certificate.
 #![tactic(auto)]
 

@@ -1,4 +1,4 @@
-//! Runs a program's text by workers where it is certified, and writes the trace and the certificate.
+//! Runs a program's text by workers if it is certified, and writes the trace and the certificate.
 ghost use Rattle.std.specs.Prelude.{◌≡◌, ◌≢◌, ◌<◌, ◌≤◌, Ok, OnOk, IfErr};
 ghost use Rattle.std.specs.Io.KnownBytes.{Appends, Keeps};
 ghost use Rattle.job_script.specs.Program.{Program as Programs};
@@ -10,9 +10,9 @@ ghost use Rattle.certain_job.specs.Certain.{IsOfCertain, RunsCertain};
 
 use certify_job::{NoCertificate, certificate_of};
 use job_ends::{Ending, Failure, Status, put_text};
-use one_answer::{certify, first_luck};
 use program_texts::{program_of, put_trace};
 use run_job::{Workers, run_program};
+use run_laws::{certify, first_luck};
 use std::alloc::Global;
 use std::io::Write;
 use std::sync::Wait;
@@ -20,7 +20,7 @@ use std::thread::Threads;
 use trace_model::Trace;
 use world_model::WorldReport;
 
-/// Writes the text of the trace to OUT, where there is an OUT, and then the report with the line
+/// Writes the text of the trace to OUT, if there is an OUT, and then the report with the line
 /// `certain`. Nothing is written before both texts are there.
 fn put_certain<W: Write, T: Write>(
     alloc: Global,
@@ -43,8 +43,8 @@ fn put_certain<W: Write, T: Write>(
 }
 
 /// Reads a program's text, certifies the program, and runs it by these workers. Then the trace of that
-/// run is written to OUT, where there is an OUT, and its report with the line `certain`: the
-/// certificate. Where luck has a part in the run by rounds no other run is made. Where it has one in
+/// run is written to OUT, if there is an OUT, and its report with the line `certain`: the
+/// certificate. If luck has a part in the run by rounds no other run is made. If it has one in
 /// this run, as by want of memory, the certificate isn't this run's. Nothing is written then. More
 /// than 1,048,576 bytes are refused at place 0.
 pub fn certain_bytes<R: Threads + Wait + Sync, W: Write, T: Write>(
@@ -75,8 +75,8 @@ pub fn certain_bytes<R: Threads + Wait + Sync, W: Write, T: Write>(
     Ok(())
 }
 
-/// Runs a program's text whose bytes are here by these workers, where it is certified. The line that
-/// says why it isn't run goes to `faults`; where it can't be written, the status stays what it is.
+/// Runs a program's text whose bytes are here by these workers, if it is certified. The line that
+/// says why it isn't run goes to `faults`; if it can't be written, the status stays what it is.
 pub fn ending_on<R: Threads + Wait + Sync, W: Write, F: Write, T: Write>(
     workers: Workers<'_, R>,
     alloc: Global,

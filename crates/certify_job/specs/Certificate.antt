@@ -11,10 +11,10 @@ use Rattle.job_ends.specs.declared.failure.Status.TheVariants as statuses
 use Rattle.job_ends.specs.Ends as ends
 use Rattle.job_ends.specs.Ends.{AppendsFront, failure_line}
 use Rattle.program_texts.specs.Texts.{program_spelled}
-use Rattle.one_answer.specs.Certified.{IsCertified, IsOfCertifying}
-use Rattle.one_answer.specs.Luck.{luck_at_text}
-use Rattle.one_answer.specs.declared.certificate.NoAnswer.{NoAnswer}
-use Rattle.one_answer.specs.declared.certificate.NoAnswer.TheVariants as answers
+use Rattle.run_laws.specs.Certified.{IsCertified, IsOfCertifying}
+use Rattle.run_laws.specs.Luck.{luck_at_text}
+use Rattle.run_laws.specs.declared.certificate.NoAnswer.{NoAnswer}
+use Rattle.run_laws.specs.declared.certificate.NoAnswer.TheVariants as answers
 use Rattle.certify_job.specs.declared.ending.NoCertificate.{NoCertificate}
 use Rattle.certify_job.specs.declared.ending.NoCertificate.TheVariants.{Failure, Luck}
 

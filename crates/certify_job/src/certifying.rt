@@ -8,14 +8,14 @@ ghost use Rattle.certify_job.specs.Certificate.{Certifies, IsOfCertificate, Repo
 
 use crate::ending::NoCertificate;
 use job_ends::{Ending, Status, put_text};
-use one_answer::certify;
 use phase_modes::Refusal;
 use program_texts::program_of;
+use run_laws::certify;
 use std::alloc::Global;
 use std::io::Write;
 use world_model::WorldReport;
 
-/// The lines of the report, and the one that says that each run comes to them.
+/// The lines of the report, and the one that says that each run has them.
 pub fn certificate_of(alloc: Global, report: &WorldReport) -> Result<String, Refusal>
     ensures text { IfOk result (λ text. string_bytes text ≡ certificate_text report.now) }
     ensures memory { IfErr result (λ e. e ≡ Refusal.Memory) }
@@ -29,8 +29,8 @@ pub fn certificate_of(alloc: Global, report: &WorldReport) -> Result<String, Ref
     }
 }
 
-/// Reads a program's text, and writes the report that each run of the program comes to, with the
-/// line `certain` after it. Where luck has a part in what it comes to nothing is written. More than
+/// Reads a program's text, and writes the report that each run of the program has, with the
+/// line `certain` after it. If luck has a part in it nothing is written. More than
 /// 1,048,576 bytes are refused at place 0.
 pub fn certify_bytes<W: Write>(
     alloc: Global,
@@ -53,7 +53,7 @@ pub fn certify_bytes<W: Write>(
 }
 
 /// Certifies a program's text whose bytes are here. The line that says why there is no certificate
-/// goes to `faults`; where it can't be written, the status stays what it is.
+/// goes to `faults`; if it can't be written, the status stays what it is.
 pub fn ending_on<W: Write, F: Write>(
     alloc: Global,
     input: &[u8],

@@ -4,8 +4,8 @@ ghost use Rattle.job_ends.specs.Ends.{AppendsFront};
 ghost use Rattle.certify_job.specs.Certificate.{Reports, line_of, status_of};
 
 use job_ends::{Ending, Failure, Status, write_text};
-use one_answer::{LuckAt, NoAnswer};
 use phase_modes::Refusal;
+use run_laws::{LuckAt, NoAnswer};
 use std::alloc::Global;
 use std::io::Write;
 
@@ -57,7 +57,7 @@ impl From<NoAnswer> for NoCertificate {
 
 impl NoCertificate {
     /// Ends the job for this reason, and writes its line: `luck at 12: task 3 refused 14 RegsFull`,
-    /// or a failure's. Where the line can't be written, the status stays what it is.
+    /// or a failure's. If the line can't be written, the status stays what it is.
     pub fn end<F: Write>(self, alloc: Global, faults: &mut F) -> Ending
         ensures status { result.status ≡ status_of self }
         // Luck whose line gets no memory is reported as want of memory.

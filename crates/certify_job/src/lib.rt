@@ -1,4 +1,4 @@
-//! Says of a program's text what each of its runs comes to, where one run tells it.
+//! Says of a program's text what each of its runs prints, if one run tells it.
 #![tactic(auto)]
 
 mod certifying;

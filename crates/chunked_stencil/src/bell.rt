@@ -30,7 +30,7 @@ impl Bell {
     }
 
     /// Waits until the bell is rung, or was since the last wait. It may also end too early, so
-    /// whoever waits asks again.
+    /// a thread that waits asks again.
     pub fn wait<R: Wait>(&self, rt: &R) {
         for _look in 0..LOOKS {
             if self.rung.load(Ordering::SeqCst) {

@@ -29,7 +29,7 @@ pub struct Side {
     task: Task,
 }
 
-/// A thread as its tasks' calls need it: the borders, its bell, and the bells of those whom a call
+/// A thread as its tasks' calls need it: the borders, its bell, and the bells of the tasks that a call
 /// has freed.
 #[derive(Drop)]
 pub struct Caller<'a, 'p, R: Wait> {
@@ -54,7 +54,7 @@ pub fn new_border<'p>(alloc: Global) -> Result<Border<'p>, Refusal> {
     }
 }
 
-/// Wakes the threads of those whom a call has freed.
+/// Wakes the threads of the tasks that a call has freed.
 fn wake(out: &mut Out<&Bell>)
     ensures { out.new ≡ [] }
 {
@@ -63,7 +63,7 @@ fn wake(out: &mut Out<&Bell>)
     }
 }
 
-/// The cell that was seen. `NotNow` where the neighbour has left, and sent none.
+/// The cell that was seen. `NotNow` if the neighbour has left, and sent none.
 fn cell_of(look: Result<LongLook, Refusal>) -> Result<Option<u32>, Refusal>
     ensures { IfOk result (λ seen. IfSome seen (λ cell. cell ≤ 1000000)) }
 {
@@ -150,7 +150,7 @@ impl Side {
         }
     }
 
-    /// The task asks to end its turn. What it then sees of its neighbour; none where it is parked.
+    /// The task asks to end its turn. What it then sees of its neighbour; none if it is parked.
     fn ask<R: Wait>(&self, me: &mut Caller<R>) -> Result<Option<u32>, Refusal>
         ensures { IfOk result (λ seen. IfSome seen (λ cell. cell ≤ 1000000)) }
     {

@@ -5,7 +5,7 @@ ghost use Rattle.std.specs.Range.{range_inclusive_start, range_inclusive_end};
 use anyhow::{bail, ensure};
 use std::ops::RangeInclusive;
 
-/// What is printed where the words ask for nothing that can be done.
+/// What is printed if the words ask for nothing that can be done.
 pub const USAGE: &str = "
 usage: chunked_stencil WORKERS [CELLS PIECES STEPS [ROUNDS]]
     WORKERS threads, 1 to 16, take a row of CELLS cells, 1 to 1000000, in PIECES pieces of as many
@@ -24,13 +24,13 @@ pub struct Job {
     pub size: usize,
     pub pieces: usize,
     pub steps: u32,
-    /// How often it is done, where its time is asked for.
+    /// How often it is done, if its time is asked for.
     pub rounds: Option<u32>,
     ghost some_workers: { 0 < workers },
     ghost some_size: { 0 < size },
 }
 
-/// The number that the word is. An error where it is none of the range.
+/// The number that the word is. An error if it is none of the range.
 fn number(name: &str, word: &str, range: RangeInclusive<u32>) -> anyhow::Result<u32>
     ensures { IfOk result (λ n. (range_inclusive_start range ≤ n) × (n ≤ range_inclusive_end range)) }
 {

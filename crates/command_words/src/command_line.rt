@@ -22,8 +22,8 @@ pub enum Job<'a> {
         picks: Vec<u32>,
         trace: Option<&'a str>,
     },
-    /// Runs the program by so many workers, and writes the trace into a file of the name `trace`;
-    /// where it has to be `certain`, only if one run of it tells what each comes to.
+    /// Runs the program by so many workers, and writes the trace into a file of the name `trace`; if
+    /// it has to be `certain`, only if every run of it prints the same.
     Run {
         file: &'a str,
         workers: u32,
@@ -35,7 +35,7 @@ pub enum Job<'a> {
         file: &'a str,
         upgrade: Option<&'a str>,
     },
-    /// Says of the program what each of its runs comes to.
+    /// Says whether every run of the program prints the same.
     Certify {
         file: &'a str,
     },
@@ -54,7 +54,7 @@ pub enum Job<'a> {
 }
 
 impl<'a> Job<'a> {
-    /// FILE, where the command has one.
+    /// FILE, if the command has one.
     pub fn file(&self) -> Option<&'a str>
         ensures { option_map (λ t. t.now) result ≡ file_of (work_of self.now) }
     {
@@ -236,9 +236,9 @@ fn job_for<'a>(alloc: Global, words: Words<'a>) -> Result<Job<'a>, NoJob>
     }
 }
 
-/// The job that the words name; the first is the program's own name. `Arguments` where they name
-/// none, with `clap`'s message, the help or the version; `BadValue` where only the values are bad,
-/// with the first that is; `Memory` where it ran out.
+/// The job that the words name; the first is the program's own name. `Arguments` if they name none,
+/// with `clap`'s message, the help or the version; `BadValue` if only the values are bad, with the
+/// first that is; `Memory` if it ran out.
 pub fn job_of<'a>(alloc: Global, arguments: &'a [&'a str]) -> Result<Job<'a>, NoJob>
     // The words are those of the job's command and no more.
     ensures work { IfOk result (λ job. work_in (map (λ w. w.now) arguments.entry.now) ≡ Some (work_of job)) }

@@ -45,7 +45,7 @@ pub(crate) enum Words<'a> {
     },
 }
 
-/// What an error of the reading of arguments comes to.
+/// The result of an error in reading arguments.
 fn no_job_for(error: clap::Error) -> NoJob
     ensures memory { kind_of error ≡ ErrorKind.OutOfMemory → result ≡ NoJob.Memory }
     ensures no_value { (v : Value) → result ≢ NoJob.BadValue v }
@@ -94,39 +94,39 @@ const PICKS_HELP: &str =
 
 /// What `run --help` says of the file and of the lines.
 const RUN_HELP: &str = "\
-The file is a program, as schedule --help says it. Its tasks are run by N workers, each a thread;
-then the trace of the run is replayed, and the report is that of the replay.
+The file is a program, as in schedule --help. N workers, each a thread, run its tasks. Then the trace
+of the run is replayed, and the report is that of the replay.
 Lines: phaser N phases K, its folds, task T ended or refused, finish F tasks N, totals.
-With --certain the program is certified before it is run, as certify --help says it. The line certain
-comes last then; a program that isn't certain isn't run.
+With --certain the program is certified first, as in certify --help. The line certain comes last.
+A program that isn't certain isn't run.
 A file that isn't a program is refused whole: refused 24 BadText at PLACE, with the number of the
 first bad act, or 0.
 Exit status: 0 done, 1 refused or not certain, 2 bad words or this help, 3 a read or a write failed.";
 
 /// What `run --help` says of its flag.
 const CERTAIN_HELP: &str =
-    "Runs FILE only if each of its runs that has memory comes to the same report, as certify says it";
+    "Runs FILE only if certify says that every run of it prints the same report";
 
 /// What the options `--trace` say of OUT.
 const TRACE_HELP: &str =
     "Writes the trace into this file, which is made or emptied first, even if FILE is then refused";
 
 /// What the options `--workers` say of N.
-const WORKERS_HELP: &str = "How many threads: 1 to 16; without it 2";
+const WORKERS_HELP: &str = "How many threads: 1 to 16; 2 by default";
 
 /// What `stencil --help` says of the kernel and of the lines.
 const STENCIL_HELP: &str = "\
-Each cell is a task with a phaser of its own, and looks at those of its neighbours. A step makes
-a cell a quarter, rounded down, of twice itself and its neighbours; outside the row a cell is 0.
-Lines: cells and the values after the last step, totals. A task that is refused, as for want of
-history, makes the run refused: refused NUMBER NAME.
+Each cell is a task with a phaser of its own, and looks at those of its neighbours. In a step a cell
+becomes a quarter, rounded down, of twice itself and its neighbours; outside the row a cell is 0.
+Lines: cells and the values after the last step, totals. If a task is refused, as for want of history,
+the run is refused: refused NUMBER NAME.
 Exit status: 0 done, 1 refused, 2 bad words or this help, 3 a read or a write failed.";
 
 /// What `pipeline --help` says of the kernel and of the lines.
 const PIPELINE_HELP: &str = "\
 Items 1, 2, 3 and so on go through stages, each a task that adds its own number, 1 to K.
-Lines: items and the values after the last stage, totals. A task that is refused makes the run
-refused: refused NUMBER NAME.
+Lines: items and the values after the last stage, totals. If a task is refused, the run is refused:
+refused NUMBER NAME.
 Exit status: 0 done, 1 refused, 2 bad words or this help, 3 a read or a write failed.";
 
 /// What `replay --help` says of the file and of the lines.
@@ -143,11 +143,11 @@ const UPGRADE_HELP: &str =
 
 /// What `certify --help` says of the file and of the lines.
 const CERTIFY_HELP: &str = "\
-The file is a program, as schedule --help says it. It is run once, without threads. Where luck has no
-part in that run, each run of the program that has memory comes to the same report, by any number of
-workers and in any order. Luck has a part in a refusal, in a number of a kind that several tasks draw,
-and in a registration on a phaser that has ever had as many tasks as it may have at a time.
-Lines: those of the report, and then: certain. Else nothing, and on standard error the first event in
+The file is a program, as in schedule --help. It is run once, without threads. If luck has no part in
+that run, every run that has memory and draws the least free numbers prints the same report, by any
+number of workers and in any order of the tasks. Luck has a part in a refusal, in a number of a kind
+that several tasks draw, and in a registration on a phaser that has had as many tasks as it may have.
+Lines: those of the report, and then: certain. Otherwise none, and on standard error the first event in
 which luck has a part, by its place in the trace that schedule writes: luck at PLACE: task T refused
 NUMBER NAME, task T draws phaser N, or task T registers task C on phaser N.
 A file that isn't a program is refused whole: refused 24 BadText at PLACE.
@@ -392,7 +392,7 @@ fn certify_command<'a>(alloc: Global) -> Result<Command<'a>, AllocError>
     file_command(
         alloc,
         "certify",
-        "Says what each run of a program comes to, where one run tells it",
+        "Says whether every run of a program prints the same report",
         "The program; - reads standard input",
         CERTIFY_HELP,
     )

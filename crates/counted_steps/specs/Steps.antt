@@ -8,7 +8,7 @@ use Rattle.parked_tasks.specs.declared.answer.SignalAnswer.TheVariants.{Signalle
 use Rattle.parked_tasks.specs.declared.answer.PassAnswer.{PassAnswer}
 use Rattle.parked_tasks.specs.declared.answer.PassAnswer.TheVariants.{Passed, Claimed, Parked as Waits, Refused}
 use Rattle.told_history.specs.declared.wide.LongEvent.{LongEvent}
-use Rattle.seen_log.specs.Tails.{IsTail}
+use Rattle.ghost_log.specs.Tails.{IsTail}
 use Rattle.long_receipts.specs.Events.{with_one}
 
 -- each event is a step but that by which a task leaves

@@ -18,7 +18,7 @@ use Rattle.phase_model.proofs.Closing.{some_event}
 use Rattle.phase_model.proofs.Legal.{last_follows, reg_follows}
 use Rattle.phase_model.proofs.LiveTasks.{mode_known}
 use Rattle.long_phaser.specs.Numbered.{long_limits}
-use Rattle.seen_log.specs.Tails.{IsTail}
+use Rattle.ghost_log.specs.Tails.{IsTail}
 use Rattle.long_receipts.specs.Told.{story_of}
 use Rattle.example_threads.specs.Sums.{IsNext}
 

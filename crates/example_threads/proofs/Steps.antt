@@ -10,7 +10,7 @@ use Rattle.parked_tasks.specs.declared.answer.PassAnswer.TheVariants.{Passed, Cl
 use Rattle.told_history.specs.declared.wide.LongEvent.{LongEvent}
 use Rattle.told_history.specs.declared.wide.LongEvent.TheVariants as long
 use Rattle.told_history.specs.Wide.{event_of}
-use Rattle.seen_log.specs.Tails.{IsTail}
+use Rattle.ghost_log.specs.Tails.{IsTail}
 use Rattle.long_receipts.specs.Events.{make_event, register_event, pass_event, look_event, done_event}
 use Rattle.long_receipts.specs.Told.{IfPassed}
 use Rattle.counted_steps.specs.Steps.{HasAdded}

@@ -10,7 +10,7 @@ use Rattle.phase_model.specs.Tasks.{has_mode}
 use Rattle.parked_tasks.specs.declared.answer.PassAnswer.{PassAnswer}
 use Rattle.parked_tasks.specs.declared.answer.PassAnswer.TheVariants.{Passed, Claimed, Parked as Waits, Refused}
 use Rattle.world_model.specs.Laws.{IsFolded}
-use Rattle.seen_log.specs.Tails.{IsTail}
+use Rattle.ghost_log.specs.Tails.{IsTail}
 use Rattle.long_receipts.specs.Told.{IfPassed}
 use Rattle.example_threads.specs.Sums.{IsNext}
 use Rattle.example_threads.specs.Turns.{IsGood, IsFoldOfAll}

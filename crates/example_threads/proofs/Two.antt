@@ -13,7 +13,7 @@ use Rattle.phase_model.specs.Phases.{waits, signals}
 use Rattle.phase_model.specs.Rules.{look_of}
 use Rattle.phase_model.specs.Values.{sent, sum_of}
 use Rattle.world_model.specs.Laws.{IsFolded}
-use Rattle.seen_log.specs.Tails.{IsTail}
+use Rattle.ghost_log.specs.Tails.{IsTail}
 use Rattle.counted_steps.specs.Steps.{is_step, count}
 use Rattle.example_threads.specs.Sums.{IsNext, IsStart, IsTurn}
 use Rattle.example_threads.proofs.Quiet.{acts, joins, sum_by, quiet, idle, more}

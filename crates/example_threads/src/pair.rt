@@ -8,7 +8,7 @@ ghost use Rattle.phase_modes.specs.Lists.{is_empty};
 ghost use Rattle.phase_modes.specs.Mode.{can_wait};
 ghost use Rattle.phase_model.specs.Phases.{IsClosed};
 ghost use Rattle.phase_model.specs.Tasks.{has_mode};
-ghost use Rattle.seen_log.specs.Tails.{IsTail};
+ghost use Rattle.ghost_log.specs.Tails.{IsTail};
 ghost use Rattle.example_threads.specs.Sums.{IsNext, IsStart, IsTurn};
 ghost use Rattle.example_threads.specs.Turns.{IsGood, IsFoldOfAll};
 

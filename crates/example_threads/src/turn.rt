@@ -4,7 +4,7 @@ ghost use Rattle.phase_modes.specs.Mode.{can_wait};
 ghost use Rattle.phase_model.specs.Phases.{IsClosed};
 ghost use Rattle.phase_model.specs.Tasks.{has_mode};
 ghost use Rattle.phase_model.specs.declared.history.Event.TheVariants.{Send as Sent, Sig as Signalled, Pass as Passed, Look as Looked};
-ghost use Rattle.seen_log.specs.Tails.{IsTail};
+ghost use Rattle.ghost_log.specs.Tails.{IsTail};
 ghost use Rattle.long_receipts.specs.Told.{IfPassed, HasLooked};
 ghost use Rattle.counted_steps.specs.Steps.{pass_size};
 ghost use Rattle.example_threads.specs.Sums.{IsNext, IsTurn, IfParked};

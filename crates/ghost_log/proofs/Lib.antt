@@ -1,2 +1,5 @@
 pub mod Fields
 pub mod Steps
+pub mod SeenFields
+pub mod SeenSteps
+pub mod Tails

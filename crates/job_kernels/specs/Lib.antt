@@ -8,3 +8,8 @@ pub mod StencilTasks
 pub mod StencilLines
 pub mod PipelineTasks
 pub mod PipelineLines
+-- The definitions that contracts cite, in the order in which they are read.
+pub mod Stencils
+pub mod Pipelines
+pub mod Totals
+pub mod Examples

@@ -36,7 +36,7 @@ pub(crate) fn seen_in(answer: Answer, greatest: u32) -> Option<u32>
     }
 }
 
-/// The value that was seen; 0 where none was.
+/// The value that was seen; 0 if none was.
 pub(crate) fn value_of(answer: Answer, greatest: u32) -> u32
     ensures seen { result ≡ value_of greatest answer }
     ensures small { result ≤ greatest }

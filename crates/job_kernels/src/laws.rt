@@ -5,13 +5,13 @@ ghost use Rattle.job_kernels.specs.Stencil.{StaysAtMost};
 ghost use Rattle.job_kernels.specs.Tasks.{LoneValuesAreSeen};
 ghost use Rattle.job_kernels.specs.StencilLines.{CellsGoByStencil, CellsSendStencil, RootSpawnsCells};
 
-/// No cell ever comes to more than the greatest did at first, and none is negative: what fits a
+/// No cell ever becomes more than the greatest was at first, and none is negative: what fits a
 /// message at first does so after every step.
 pub fn stencil_stays_at_most()
     ensures { StaysAtMost }
 {}
 
-/// Where one value is sent for a phase, that is its sum, and its least; and none has no least.
+/// If one value is sent for a phase, that is its sum, and its least; and none has no least.
 pub fn lone_values_are_seen()
     ensures { LoneValuesAreSeen }
 {}
@@ -27,7 +27,7 @@ pub fn stencil_cells_go_by_it()
     ensures { CellsGoByStencil }
 {}
 
-/// Whatever the tasks of the cells send, where each sees of its neighbours what they sent for the phase
+/// Whatever the tasks of the cells send, if each sees of its neighbours what they sent for the phase
 /// that has ended, they send the cells of the stencil.
 pub fn stencil_cells_send_it()
     ensures { CellsSendStencil }
@@ -59,7 +59,7 @@ pub fn pipeline_sink_sees_all()
     ensures { SinkSeesAll }
 {}
 
-/// Whatever the source and the stages send, where each stage sees what came to the phaser before it for
+/// Whatever the source and the stages send, if each stage sees what came to the phaser before it for
 /// the phase that has ended, they send the items of the pipeline.
 pub fn pipeline_tasks_send_it()
     ensures { TasksSendPipeline }

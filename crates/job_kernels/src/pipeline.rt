@@ -28,7 +28,7 @@ impl PipelineSize {
     }
 }
 
-/// The items in order, each as it is behind all stages; `Memory` where there is too little for them.
+/// The items in order, each as it is behind all stages; `Memory` if there is too little for them.
 pub fn pipeline_plain(alloc: Global, size: PipelineSize) -> Result<Vec<u32>, Refusal>
     requires stages { size.stages ≤ 15 }
     requires items { size.items ≤ 100 }

@@ -11,7 +11,7 @@ use phase_modes::{Mode, Phased, Refusal};
 use tasks_in_flight::Body;
 use trace_walk::Goes;
 
-/// The most that an item comes to.
+/// The greatest value of an item.
 const GREATEST: u32 = 1_000_000;
 
 /// The root: it makes a phaser before the first stage and one behind each, then spawns the source,
@@ -35,7 +35,7 @@ struct Source {
 /// What a stage does next.
 #[derive(Clone, Copy)]
 enum Moment {
-    /// It ends its turn, or ends where no turn is left.
+    /// It ends its turn, or ends if no turn is left.
     Turns,
     /// It looks at the phaser before it.
     Looks,
@@ -192,7 +192,7 @@ impl Stage {
         }
     }
 
-    /// It ends its turn; where no turn is left, it ends.
+    /// It ends its turn; if no turn is left, it ends.
     fn turn(&mut self) -> Act<PipelineBody>
         ensures does { result ≡ (stage_turns self.old.turns self.old).0 }
         ensures is { self.new ≡ (stage_turns self.old.turns self.old).1 }

@@ -67,7 +67,7 @@ fn copied(alloc: Global, cells: &[u32]) -> Result<Vec<u32>, Refusal>
     Ok(row)
 }
 
-/// The row after so many steps; `Memory` where there is too little for it.
+/// The row after so many steps; `Memory` if there is too little for it.
 pub fn stencil_plain(alloc: Global, first: &[u32], steps: u32) -> Result<Vec<u32>, Refusal>
     ensures cells { IfOk result (λ v. v.items ≡ stencil steps first.now) }
     ensures memory { IfErr result (λ e. e ≡ NoMemory) }

@@ -29,7 +29,7 @@ struct Root {
 enum Moment {
     /// It sends its value.
     Sends,
-    /// It ends its turn, or ends where no step is left.
+    /// It ends its turn, or ends if no step is left.
     Turns,
     /// It looks at the cell on its left, if there is one.
     LooksLeft,
@@ -143,7 +143,7 @@ impl Cell {
         Act::Send(self.place, 0, self.value.min(GREATEST) as i32)
     }
 
-    /// It ends its turn; where no step is left, it ends.
+    /// It ends its turn; if no step is left, it ends.
     fn turn(&mut self) -> Act<StencilBody>
         ensures does { result ≡ (turns self.old.steps self.old).0 }
         ensures is { self.new ≡ (turns self.old.steps self.old).1 }

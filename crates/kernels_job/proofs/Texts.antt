@@ -10,10 +10,10 @@ use Rattle.job_kernels.specs.PipelineTasks as piping
 use Rattle.job_kernels.specs.Results.{cells_of, items_of, refusal_of}
 use Rattle.job_kernels.specs.Stencil.{stencil, AtMost}
 use Rattle.job_kernels.specs.StencilTasks as cells
-use Rattle.kernel_laws.proofs.StencilWhole.{runs_come_to_stencil}
-use Rattle.kernel_laws.proofs.StencilTotals.{runs_total_stencil}
-use Rattle.kernel_laws.proofs.PipelineWhole.{runs_come_to_pipeline}
-use Rattle.kernel_laws.proofs.PipelineTotals.{runs_total_pipeline}
+use Rattle.job_kernels.proofs.StencilWhole.{runs_come_to_stencil}
+use Rattle.job_kernels.proofs.StencilTotals.{runs_total_stencil}
+use Rattle.job_kernels.proofs.PipelineWhole.{runs_come_to_pipeline}
+use Rattle.job_kernels.proofs.PipelineTotals.{runs_total_pipeline}
 use Rattle.kernels_job.specs.declared.printing.Kernel.TheVariants.{Stencil, Pipeline}
 use Rattle.kernels_job.specs.Printed.{kernel_text, value_text}
 use Rattle.kernels_job.specs.Worked.{IsKernelRun, values_text, stencil_text, pipeline_text}

@@ -13,7 +13,7 @@ use Rattle.trace_walk.specs.Walking.{Does}
 use Rattle.tasks_in_flight.specs.Refused.{IsRunRefused}
 use Rattle.job_kernels.specs.Pipeline.{pipeline}
 use Rattle.job_kernels.specs.Stencil.{stencil}
-use Rattle.kernel_laws.specs.Totals.{pipeline_totals, stencil_totals}
+use Rattle.job_kernels.specs.Totals.{pipeline_totals, stencil_totals}
 use Rattle.kernels_job.specs.Printed.{value_text}
 
 -- the report is that of a trace under the default limits that a world explains, and in which each task goes by its body;

@@ -105,7 +105,7 @@ fn lines_of(alloc: Global, kernel: Kernel, report: &WorldReport) -> Result<Strin
 }
 
 /// Prints what the run came to: `cells 11 30`, or `items 4 5 6`, and the totals. Nothing is written
-/// before the whole text is there, and nothing where a task was refused.
+/// before the whole text is there, and nothing if a task was refused.
 pub fn print_report<W: Write>(
     alloc: Global,
     kernel: Kernel,
@@ -125,7 +125,7 @@ pub fn print_report<W: Write>(
     put_text(out, lines.as_str())
 }
 
-/// Ends the command whose run gave this. The line of a failure goes to `faults`; where it can't be
+/// Ends the command whose run gave this. The line of a failure goes to `faults`; if it can't be
 /// written, the status stays what it is.
 pub fn ending_on<W: Write, F: Write>(
     alloc: Global,

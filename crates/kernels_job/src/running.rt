@@ -95,7 +95,7 @@ fn kernel_on<B: Body + Goes + Copy + Send + Sync, R: Threads + Wait + Sync, W: W
 }
 
 /// Runs the stencil over these first values for so many steps, by these workers, and prints its
-/// cells. The line of a failure goes to `faults`; where it can't be written, the status stays what it
+/// cells. The line of a failure goes to `faults`; if it can't be written, the status stays what it
 /// is.
 pub fn stencil_on<R: Threads + Wait + Sync, W: Write, F: Write>(
     workers: Workers<'_, R>,
@@ -125,7 +125,7 @@ pub fn stencil_on<R: Threads + Wait + Sync, W: Write, F: Write>(
 }
 
 /// Runs the pipeline of so many stages over so many items, by these workers, and prints its items.
-/// The line of a failure goes to `faults`; where it can't be written, the status stays what it is.
+/// The line of a failure goes to `faults`; if it can't be written, the status stays what it is.
 pub fn pipeline_on<R: Threads + Wait + Sync, W: Write, F: Write>(
     workers: Workers<'_, R>,
     alloc: Global,

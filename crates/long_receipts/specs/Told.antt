@@ -17,7 +17,7 @@ use Rattle.parked_tasks.specs.declared.answer.PassAnswer.{PassAnswer}
 use Rattle.parked_tasks.specs.declared.answer.PassAnswer.TheVariants.{Passed, Claimed, Parked as Waits, Refused}
 use Rattle.parked_tasks.specs.Parking.{locked_pass, locked_signal}
 use Rattle.long_phaser.specs.Numbered.{long_limits}
-use Rattle.seen_log.specs.Tails.{IsTail}
+use Rattle.ghost_log.specs.Tails.{IsTail}
 
 -- the phaser that lives long, after these events
 abbrev pub story_of : Terms → List Event → Story

@@ -8,7 +8,7 @@ ghost use Rattle.phase_model.specs.Tasks.{has_mode};
 ghost use Rattle.phaser_answers.specs.Answers.{signal_result, pass_result, look_result};
 ghost use Rattle.parked_tasks.specs.Parking.{waiting, freed, goes_on, IsBack, has_signalled, IsBackFromSignal};
 ghost use Rattle.told_history.specs.Wide.{event_of};
-ghost use Rattle.seen_log.specs.Tails.{IsTail};
+ghost use Rattle.ghost_log.specs.Tails.{IsTail};
 ghost use Rattle.long_receipts.specs.Events.{with_one, make_event, register_event, signal_event, pass_event, look_event, done_event};
 ghost use Rattle.long_receipts.specs.Told.{story_of, IsAnswered, IsNumbered, IsSignalAnswer, IsPassAnswer, IfPassed, HasLooked};
 

@@ -5,11 +5,10 @@ ghost use Rattle.phase_model.specs.Rules.{is_legal};
 ghost use Rattle.world_model.specs.Laws.{IsFolded};
 ghost use Rattle.told_history.specs.Wide.{event_of};
 ghost use Rattle.long_phaser.specs.Numbered.{long_limits};
-ghost use Rattle.seen_log.specs.Tails.{IsTail};
+ghost use Rattle.ghost_log.specs.Tails.{IsTail};
 
-use ghost_log::Whole;
+use ghost_log::{Whole, front_of, includes};
 use phase_model::legal_is_ordered;
-use seen_log::{front_of, includes};
 use std::marker::{Brand, Model, PhantomData};
 use told_history::LongEvent;
 
@@ -35,7 +34,7 @@ impl Naming for Brand {
 /// newest first. It has no bytes.
 #[derive(Drop)]
 pub struct Front<J: Naming> {
-    seen: seen_log::Front<LongEvent>,
+    seen: ghost_log::Front<LongEvent>,
     of: PhantomData<J>,
 }
 

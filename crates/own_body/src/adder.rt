@@ -41,8 +41,8 @@ impl Body for Adder {
     ghost use Rattle.std.specs.Prelude.{◌≡◌};
     ghost use Rattle.tasks_in_flight.specs.Heard.{look, ends};
 
-    /// What it saw its task saw on phaser 0; where it is about to hear, it has asked for a look there; and
-    /// where it asks for its end, its task has looked.
+    /// Its task saw on phaser 0 what it saw. If it is about to hear, it has asked for a look there. If it
+    /// asks for its end, its task has looked.
     ghost shows = { λ b task asked seen. IsSeen task (seen 0) b.saw
         × (b.next ≡ Hears → asked ≡ look 0 0)
         × (asked ≡ ends → HasLookedOnce task (seen 0)) };

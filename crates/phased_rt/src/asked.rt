@@ -1,4 +1,4 @@
-//! A trace is replayed, and what its caller asks of it is asked: at once, where that saves time.
+//! A trace is replayed, and what its caller asks of it is asked: at once, if that saves time.
 ghost use Rattle.std.specs.Prelude.{Ok, Err, IfOk, IfErr};
 ghost use Rattle.trace_replay.specs.Replaying.{Replays};
 
@@ -14,7 +14,7 @@ use world_model::WorldReport;
 /// From so many events on a thread is started for the question.
 const MANY: usize = 4096;
 
-/// The replay in this thread, the question in one of its own where one can be made.
+/// The replay in this thread, the question in one of its own if one can be made.
 fn asked_beside<Q: Question + Sync, R: Threads>(
     rt: &R,
     alloc: Global,

@@ -22,7 +22,7 @@ use std::thread::Threads;
 use task_crew::{Body, Gate, run_tasks};
 
 /// The same as `run`, and the answer of a question on the run's trace. It is asked by a thread of its
-/// own, while this one replays the trace, where there are two workers or more and 4,096 events or
+/// own, while this one replays the trace, if there are two workers or more and 4,096 events or
 /// more; else once the trace is replayed. A run that can't be told is refused, whatever was answered.
 pub fn run_and_ask<B: Body + Send, G: Gate + Sync, Q: Question + Sync, R: Threads + Wait + Sync>(
     workers: Workers<'_, R>,

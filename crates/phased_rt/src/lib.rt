@@ -18,7 +18,7 @@
 //!
 //! # What is promised
 //!
-//! Where `run` answers Ok, its trace is one of a legal history for each phaser and finish and of
+//! If `run` answers Ok, its trace is one of a legal history for each phaser and finish and of
 //! logs, a world explains it, and the report is that of its history: each wait of it passed when its
 //! phase was closed, and each fold is of exactly the values sent. Its parts are what the locks held,
 //! as far as bodies heard of them: what the root's body says of what its task made, sent, saw, signalled

@@ -11,10 +11,10 @@ pub trait Question {
     /// What it is answered.
     type Answer: Send + Drop;
 
-    /// What the answer says of the trace: nothing where nobody says.
+    /// What the answer says of the trace: nothing if the question says nothing.
     ghost answers: { Self → Run → Self.Answer → Type 0 } = { λ _ _ _. Unit {0} };
 
-    /// Asks it of this trace. It waits for nobody: where no thread can be made, it is asked after the
+    /// Asks it of this trace. It waits for nothing: if no thread can be made, it is asked after the
     /// replay.
     fn ask(&self, alloc: Global, trace: &Trace) -> Self::Answer
         ensures { answers self.now trace.now result };

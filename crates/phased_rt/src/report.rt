@@ -31,8 +31,8 @@ pub struct Report<B> {
 
 #[tactic(auto, using(trace_model::proofs::Faults::faultless, crate::proofs::Refusals::merge_refused, crate::proofs::Refusals::replay_refused))]
 /// The trace of these parts, the report of the run of so many workers that left them, and the answer
-/// of a question on the trace. `NotExplained` where the parts merge to no trace that a world explains,
-/// `Memory` where there is too little for it.
+/// of a question on the trace. `NotExplained` if the parts merge to no trace that a world explains,
+/// `Memory` if there is too little for it.
 pub(crate) fn reported<Q: Question + Sync, R: Threads>(
     rt: &R,
     alloc: Global,

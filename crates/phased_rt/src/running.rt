@@ -21,13 +21,13 @@ use std::thread::Threads;
 use task_crew::{Body, Gate, run_tasks};
 
 /// Runs the root, and every task that comes of it, by 1 to 16 workers, each in a thread of its own
-/// where one can be made, until the root has ended. `gate` is called round each step of a body; `OpenGate` does nothing.
+/// if one can be made, until the root has ended. `gate` is called round each step of a body; `OpenGate` does nothing.
 ///
 /// A task that is refused something ends by itself, and the others go on: it is a line of the
-/// report, and no error. `Memory` where the tables, the workers or the report get none; a task that
-/// gets none for a child, a finish or a step ends by 23 alone. `NotExplained` where the run can't be
-/// told: at a place from 1 on where the trace that was put together isn't explained there, at 0
-/// where a lock or the queue answered what no run can bring about. Neither is meant to come.
+/// report, and no error. `Memory` if the tables, the workers or the report get none; a task that
+/// gets none for a child, a finish or a step ends by 23 alone. `NotExplained` if the run can't be
+/// told: at a place from 1 on if the trace that was put together isn't explained there, at 0
+/// if a lock or the queue answered what no run can bring about. Neither is meant to come.
 pub fn run<B: Body + Send, G: Gate + Sync, R: Threads + Wait + Sync>(
     rt: &R,
     alloc: Global,

@@ -33,7 +33,7 @@ fn joined(phasers: Vec<Part>, finishes: Vec<Part>, logs: Vec<Part>) -> Result<Ve
 }
 
 /// What a run of so many workers made, by what it leaves, and the answer of a question on its trace.
-/// `NotExplained` where the parts merge to no trace that a world explains.
+/// `NotExplained` if the parts merge to no trace that a world explains.
 pub(crate) fn told_of<B: Body, Q: Question + Sync, R: Threads>(
     rt: &R,
     alloc: Global,

@@ -7,7 +7,7 @@ ghost use Rattle.phase_model.specs.Replies.{done_result};
 ghost use Rattle.phase_model.specs.Tasks.{has_mode};
 ghost use Rattle.phaser_answers.specs.Answers.{signal_result, pass_result, look_result};
 ghost use Rattle.parked_tasks.specs.Parking.{goes_on, IsBack, has_signalled, IsBackFromSignal};
-ghost use Rattle.seen_log.specs.Tails.{IsTail};
+ghost use Rattle.ghost_log.specs.Tails.{IsTail};
 ghost use Rattle.long_receipts.specs.Told.{IsAnswered, IsNumbered, IsSignalAnswer, IsPassAnswer, IfPassed, HasLooked};
 ghost use Rattle.phaser_crew.specs.Hands.{BeginsWith};
 

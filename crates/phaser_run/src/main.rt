@@ -53,7 +53,7 @@ fn main(rt: HostRuntime) -> ExitCode {
 /// The tables of a run and of its replay are some two hundred blocks, each of which the C library's
 /// allocator would ask of the system alone, and give back alone. Once it has given back a block of
 /// `LARGEST_KEPT` bytes it does so with larger ones only, and keeps the others together. The block
-/// isn't touched, and where it is refused all goes on as before.
+/// isn't touched, and if it is refused all goes on as before.
 fn keep_tables_together(alloc: Global) {
     let _block: Result<Vec<u8>, AllocError> = Vec::with_capacity(alloc, LARGEST_KEPT);
 }
@@ -198,7 +198,7 @@ fn answer<R: Read>(rt: &HostRuntime, reader: &mut R) -> Status
     events_from(rt.alloc(), reader, &mut out, &mut rt.stderr())
 }
 
-/// Makes or empties OUT, where it is named, and runs the program that the reader gives.
+/// Makes or empties OUT, if it is named, and runs the program that the reader gives.
 fn schedule<R: Read>(
     rt: &HostRuntime,
     picks: &[u32],
@@ -240,8 +240,8 @@ fn schedule_into<R: Read>(
     }
 }
 
-/// Makes or empties OUT, where it is named, and runs the program that the reader gives by workers,
-/// where it has to be certain only if it is certified.
+/// Makes or empties OUT, if it is named, and runs the program that the reader gives by workers. If it
+/// has to be certain, it is run only if it is certified.
 fn run_program<H: Threads + Wait + Sync, R: Read>(
     rt: &HostRuntime,
     workers: Workers<'_, H>,
@@ -253,7 +253,7 @@ fn run_program<H: Threads + Wait + Sync, R: Read>(
     requires { (0 < workers.number) × (workers.number ≤ 16) }
     ensures done { result ≡ Status.Done → IfSome (R.remaining reader.old) (λ all.
         (p : Program) × (program_spelled all ≡ Ok p)) }
-    // Where it has to be certain, it is.
+    // If it has to be certain, it is.
     ensures certain { certain ≡ true → result ≡ Status.Done → IfSome (R.remaining reader.old) (λ all.
         Certifies all (λ r. ⊤)) }
     ensures usage { result ≢ Status.Usage }
@@ -357,7 +357,7 @@ fn pipeline<H: Threads + Wait + Sync>(
     pipeline_on(workers, alloc, size, &mut out, &mut faults)
 }
 
-/// Replays the trace that the reader gives, and writes it to OUT, where that is named.
+/// Replays the trace that the reader gives, and writes it to OUT, if that is named.
 fn replay<R: Read>(rt: &HostRuntime, out_name: Option<&str>, reader: &mut R) -> Status
     ensures done { result ≡ Status.Done → IfSome (R.remaining reader.old) (λ all. Explains all (λ t. ⊤)) }
     ensures usage { result ≢ Status.Usage }

@@ -21,7 +21,7 @@ enum Found {
     Nothing,
 }
 
-/// What is there under this name. A fault where that can't be told.
+/// What is there under this name. A fault if that can't be told.
 fn found_under(rt: &HostRuntime, name: &str) -> Result<Found, Failure> {
     match metadata(rt, name) {
         Ok(found) if found.is_file() => Ok(Found::File(Identity {
@@ -45,7 +45,7 @@ fn are_one(rt: &HostRuntime, file: &str, out: &str) -> Result<bool, Failure> {
     }
 }
 
-/// Whether OUT is the file that this stream, as `/dev/stdin`, comes from or goes to. Where the system
+/// Whether OUT is the file that this stream, as `/dev/stdin`, comes from or goes to. If the system
 /// has no such name that can't be told, and a file that is there is taken for it.
 fn is_of_stream(rt: &HostRuntime, stream: &str, out: &str) -> Result<bool, Failure> {
     match (found_under(rt, stream)?, found_under(rt, out)?) {
@@ -70,7 +70,7 @@ pub(crate) fn takes_report(rt: &HostRuntime, out: &str) -> Result<bool, Failure>
     is_of_stream(rt, "/dev/stdout", out)
 }
 
-/// Makes or empties OUT. A fault where that can't be done, and where OUT is FILE, or the file that
+/// Makes or empties OUT. A fault if that can't be done, and if OUT is FILE, or the file that
 /// the report goes to: nothing of the user's is lost.
 pub(crate) fn make_out(rt: &HostRuntime, file: &str, out: &str) -> Result<File, Failure> {
     if is_file_itself(rt, file, out)? || takes_report(rt, out)? {

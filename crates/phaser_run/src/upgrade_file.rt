@@ -17,14 +17,14 @@ pub(crate) struct Upgraded<'a> {
     out: PathBuf,
     /// The name of the new file; none of a device, and none once the new file is in its place.
     beside: Option<PathBuf>,
-    /// Those of OUT, where it is there; the new file gets them.
+    /// Those of OUT, if it is there; the new file gets them.
     permissions: Option<Permissions>,
     /// What is open to be written to.
     file: Option<File>,
 }
 
 impl<'a> Upgraded<'a> {
-    /// OUT of this name. Nothing is made or opened yet. A fault where OUT is the file that the report
+    /// OUT of this name. Nothing is made or opened yet. A fault if OUT is the file that the report
     /// goes to.
     pub(crate) fn named(rt: &'a HostRuntime, name: &str) -> Result<Upgraded<'a>, Failure> {
         if takes_report(rt, name)? {
@@ -67,7 +67,7 @@ impl<'a> Upgraded<'a> {
     }
 }
 
-/// The whole path of what is there under this name, links followed; none where nothing is, or where
+/// The whole path of what is there under this name, links followed; none if nothing is, or if
 /// it can't be told.
 fn whole_path(rt: &HostRuntime, name: &str) -> Result<Option<PathBuf>, Failure> {
     match canonicalize(rt, name) {

@@ -38,8 +38,8 @@ impl<'p> Question for Follows<'p> {
 }
 
 #[tactic(auto, using(crate::proofs::Answered::refused_so))]
-/// Runs a program by these workers. `NotExplained` where the run can't be told, or, at the place of
-/// the first event that isn't its task's next one, where it doesn't follow the program.
+/// Runs a program by these workers. `NotExplained` if the run can't be told, or, at the place of
+/// the first event that isn't its task's next one, if it doesn't follow the program.
 pub fn run_program<'p, R: Threads + Wait + Sync>(
     workers: Workers<'_, R>,
     alloc: Global,

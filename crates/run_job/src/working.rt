@@ -16,7 +16,7 @@ use std::io::Write;
 use std::sync::Wait;
 use std::thread::Threads;
 
-/// Reads a program's text, runs the program by these workers, and writes the trace to OUT, where
+/// Reads a program's text, runs the program by these workers, and writes the trace to OUT, if
 /// there is an OUT, and then the report. Nothing is written before both texts are there, and nothing
 /// of a run that doesn't follow the program. More than 1,048,576 bytes are refused at place 0.
 pub fn run_bytes<R: Threads + Wait + Sync, W: Write, T: Write>(
@@ -46,7 +46,7 @@ pub fn run_bytes<R: Threads + Wait + Sync, W: Write, T: Write>(
 }
 
 /// Runs a program's text whose bytes are here by these workers. The line of a failure goes to
-/// `faults`; where it can't be written, the status stays what it is.
+/// `faults`; if it can't be written, the status stays what it is.
 pub fn ending_on<R: Threads + Wait + Sync, W: Write, F: Write, T: Write>(
     workers: Workers<'_, R>,
     alloc: Global,

@@ -3,7 +3,6 @@ use Rattle.std.specs.Prelude.{ℕ, ◌≡◌, Bool, true, not, ◌||◌, ◌==�
 use Rattle.phase_modes.specs.declared.limits.Limits.{Limits}
 use Rattle.job_script.specs.declared.act.Answer.{Answer}
 use Rattle.world_model.specs.declared.event.WorldEvent.{WorldEvent}
-use Rattle.world_model.specs.declared.event.Tried.{Tried}
 use Rattle.world_model.specs.declared.event.WorldEvent.TheVariants.{Refuse, Fail}
 use Rattle.std.specs.List.{list_all}
 use Rattle.world_model.specs.Replies.{is_legal_world}
@@ -49,31 +48,9 @@ HistoriesAreBeginnings {B = B} next =
     → IsRun next root names l v → IsSmooth next root l w → draws_by names w ≡ true
     → (t : ℕ) → IsBeginning (told t w) (told t v)
 
--- beside one such run: where an act is the first thing to be refused in another history, it is refused by 15, since a
--- phaser's history is full, and by no other number
-abbrev pub RefusalsAreOfRoom : {B : Type 0} → (Answer → B → Does B) → Type 0
-RefusalsAreOfRoom {B = B} next =
-    (root : B) (names : ℕ → List Told → Numbers) (l : Limits) (v w : List WorldEvent) (t n : ℕ) (a : Tried)
-    → IsRun next root names l v
-    → is_legal_world l (Refuse t a n ∷ w) ≡ true
-    → goes_by next root (Refuse t a n ∷ w) ≡ true
-    → draws_by names (Refuse t a n ∷ w) ≡ true
-    → ((u : ℕ) → refused_by u w ≡ None) → n ≡ 15
-
 -- the numbers of want of room or memory: 14 full registrations, 15 a full history, 23 memory
 abbrev pub is_of_room : ℕ → Bool
 is_of_room n = n == 14 || n == 15 || n == 23
-
--- beside one such run: who is the first to give up in another history does so for want of room or memory, and not since
--- its single has another number than that of others (7), the one other cause to give up
-abbrev pub FailuresAreOfRoom : {B : Type 0} → (Answer → B → Does B) → Type 0
-FailuresAreOfRoom {B = B} next =
-    (root : B) (names : ℕ → List Told → Numbers) (l : Limits) (v w : List WorldEvent) (t n : ℕ)
-    → IsRun next root names l v
-    → is_legal_world l (Fail t n ∷ w) ≡ true
-    → goes_by next root w ≡ true
-    → draws_by names w ≡ true
-    → ((u : ℕ) → refused_by u w ≡ None) → is_of_room n ≡ true
 
 -- the event isn't that an act is refused, or that a task gives up, for want of room or memory
 abbrev pub wants_no_room : WorldEvent → Bool

@@ -2,7 +2,7 @@
 //! numbers are drawn by the same rule. Each function does nothing: its contract is the law, and the
 //! check proves it.
 ghost use Rattle.run_laws.specs.Programs.{FollowersGoByScripts, ProgramsComeToTheSame, RootsDrawInOrder, TextsForetell, TextsTellWhoDraws};
-ghost use Rattle.run_laws.specs.Determinacy.{FailuresAreOfRoom, HistoriesAreBeginnings, RefusalsAreOfRoom, RoomIsAllLuck, RunsComeToTheSame, TasksDoTheSame};
+ghost use Rattle.run_laws.specs.Determinacy.{HistoriesAreBeginnings, RoomIsAllLuck, RunsComeToTheSame, TasksDoTheSame};
 ghost use Rattle.run_laws.specs.Least.{LeastHangsOnMemoryAlone, LeastIsInOrder};
 ghost use Rattle.run_laws.specs.Memory.{HistoriesAlwaysFit, HistoriesAreNoLonger, MemoryIsAllLuck};
 ghost use Rattle.run_laws.specs.OneRun.{OneRunTellsAll};
@@ -10,12 +10,12 @@ ghost use Rattle.run_laws.specs.Schedules.{OrderlySchedulesEnd, OrderlySchedules
 
 use trace_walk::Goes;
 
-/// Each task does the same in both, and hears and sees the same; but for who runs a single.
+/// Each task does the same in both, and hears and sees the same; but for the task that runs a single.
 pub fn tasks_do_the_same<B: Goes>()
     ensures { TasksDoTheSame B.next }
 {}
 
-/// Both come to the same report.
+/// Both have the same report.
 pub fn runs_come_to_the_same<B: Goes>()
     ensures { RunsComeToTheSame B.next }
 {}
@@ -26,21 +26,9 @@ pub fn histories_are_beginnings<B: Goes>()
     ensures { HistoriesAreBeginnings B.next }
 {}
 
-/// Beside one such run: an act that is the first thing to be refused in another history of the same
-/// bodies, by the same rule, is refused because a phaser's history is full.
-pub fn refusals_are_of_room<B: Goes>()
-    ensures { RefusalsAreOfRoom B.next }
-{}
-
-/// Beside one such run: who is the first to give up in another history of the same bodies, by the
-/// same rule, does so for want of room or memory.
-pub fn failures_are_of_room<B: Goes>()
-    ensures { FailuresAreOfRoom B.next }
-{}
-
 /// Beside one such run: in another history of the same bodies, by the same rule, in which nobody is
 /// refused or gives up for want of room or memory, nobody is refused or gives up at all, and if its
-/// root has ended it comes to the same report.
+/// root has ended it has the same report.
 pub fn room_is_all_luck<B: Goes>()
     ensures { RoomIsAllLuck B.next }
 {}
@@ -60,8 +48,8 @@ pub fn histories_are_no_longer<B: Goes>()
 
 /// Beside one such run with no more registrations on a phaser in all than may stand at a time: in
 /// another history of the same bodies, by the same rule, in which nobody gives up for want of
-/// memory, or for full registrations where they aren't full, nobody is refused or gives up at all,
-/// and if its root has ended it comes to the same report.
+/// memory, or for full registrations if they aren't full, nobody is refused or gives up at all,
+/// and if its root has ended it has the same report.
 pub fn memory_is_all_luck<B: Goes>()
     ensures { MemoryIsAllLuck B.next }
 {}
@@ -84,25 +72,25 @@ pub fn followers_go_by_scripts()
     ensures { FollowersGoByScripts }
 {}
 
-/// In two such runs of a program each task does the same, and both come to the same report.
+/// In two such runs of a program each task does the same, and both have the same report.
 pub fn programs_come_to_the_same()
     ensures { ProgramsComeToTheSame }
 {}
 
-/// Where nobody is refused, and the root alone draws numbers, and always the least that aren't in
+/// If nobody is refused, and the root alone draws numbers, and always the least that aren't in
 /// use, each kind is drawn in order.
 pub fn roots_draw_in_order()
     ensures { RootsDrawInOrder }
 {}
 
-/// Where nobody is refused in a history of a program whose text says that the root alone draws
+/// If nobody is refused in a history of a program whose text says that the root alone draws
 /// numbers, it does.
 pub fn texts_tell_who_draws()
     ensures { TextsTellWhoDraws }
 {}
 
 /// Of a program whose text says that the root alone draws numbers: any two whole runs in which
-/// nobody is refused, and the least numbers are drawn, come to the same report, and each task does
+/// nobody is refused, and the least numbers are drawn, have the same report, and each task does
 /// the same in both.
 pub fn texts_foretell()
     ensures { TextsForetell }
@@ -117,7 +105,7 @@ pub fn one_run_tells_all()
 {}
 
 /// Of a program whose text says that the root alone draws numbers: any two runs by picks in which
-/// nobody is refused, and the root ends, come to the same report.
+/// nobody is refused, and the root ends, have the same report.
 pub fn schedules_come_to_the_same()
     ensures { SchedulesComeToTheSame }
 {}
@@ -132,7 +120,7 @@ pub fn schedules_with_room_come_to_the_same()
 /// Of any program: one run by picks in which nobody is refused and the root ends, each kind of
 /// number is drawn by one task alone, in order, and no phaser has more registrations in all than
 /// may stand at a time, foretells each other one: nobody is refused or gives up in it, and if its
-/// root ends it comes to the same report.
+/// root ends it has the same report.
 pub fn orderly_schedules_foretell()
     ensures { OrderlySchedulesForetell }
 {}
@@ -142,7 +130,7 @@ pub fn orderly_schedules_end()
     ensures { OrderlySchedulesEnd }
 {}
 
-/// Where the text says that the root alone draws numbers, the order needn't be asked.
+/// If the text says that the root alone draws numbers, the order needn't be asked.
 pub fn roomy_texts_are_orderly()
     ensures { RoomyTextsAreOrderly }
 {}

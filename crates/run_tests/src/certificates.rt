@@ -3,7 +3,7 @@ use crate::asserted::{equal, equal_at};
 use certify_job::{NoCertificate, certify_bytes, certify_on, ending_on};
 use job_ends::Status;
 use job_script::read_program;
-use one_answer::{Luck, LuckAt, NoAnswer, certify, first_luck};
+use run_laws::{Luck, LuckAt, NoAnswer, certify, first_luck};
 use schedule_run::run_picks;
 use std::alloc::Global;
 use std::process::Abort;

@@ -14,7 +14,7 @@ use std::alloc::Global;
 use std::io::Write;
 
 /// Reads a program's text, runs the program by the picks, and then by rounds over its tasks, and
-/// writes the trace to OUT, where there is an OUT, and then the report. Nothing is written before
+/// writes the trace to OUT, if there is an OUT, and then the report. Nothing is written before
 /// both texts are there. More than 1,048,576 bytes are refused at place 0.
 pub fn schedule_bytes<W: Write, T: Write>(
     alloc: Global,
@@ -40,7 +40,7 @@ pub fn schedule_bytes<W: Write, T: Write>(
     Ok(())
 }
 
-/// Runs a program's text whose bytes are here. The line of a failure goes to `faults`; where it
+/// Runs a program's text whose bytes are here. The line of a failure goes to `faults`; if it
 /// can't be written, the status stays what it is.
 pub fn ending_on<W: Write, F: Write, T: Write>(
     alloc: Global,

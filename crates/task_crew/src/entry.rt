@@ -205,13 +205,13 @@ fn run_over<
 }
 
 /// Runs the root, and every task that comes of it, by so many workers, each in a thread of its own
-/// where one can be made, until the root has ended. `gate` is called round each step of a body.
+/// if one can be made, until the root has ended. `gate` is called round each step of a body.
 ///
-/// Where the root's body says nothing false before its first act, whatever was seen, then it says
+/// If the root's body says nothing false before its first act, whatever was seen, then it says
 /// nothing false in the end (`says`), and no body of a task does that has begun to end (`each`).
 ///
-/// A task that is refused something ends by itself, and the others go on. `Memory` where the tables,
-/// the workers or the logs' parts get none; `NotExplained(0)` where a lock or the queue answered what
+/// A task that is refused something ends by itself, and the others go on. `Memory` if the tables,
+/// the workers or the logs' parts get none; `NotExplained(0)` if a lock or the queue answered what
 /// no run can bring about, or two tasks have one number.
 pub fn run_tasks<B: Body + Send, G: Gate + Sync, R: Threads + Wait + Sync>(
     rt: &R,

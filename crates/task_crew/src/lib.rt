@@ -5,7 +5,7 @@
 //!
 //! # What is promised
 //!
-//! Where `run_tasks` answers Ok, there is a part for each phaser and finish, which tells a legal
+//! If `run_tasks` answers Ok, there is a part for each phaser and finish, which tells a legal
 //! history, and one for each task's log, no two of them of one task; the totals are what the phasers' histories add up to. That
 //! the parts fit together is no promise of this crate: `phased_rt` merges them and replays what
 //! comes of it, and is proved beside the core of a world that this crate does without.

@@ -142,7 +142,7 @@ pub(crate) fn put_root<B: Body, K: RunNaming, R: Wait>(
 }
 
 /// Sees that no task is left in the queue: each that was put was taken as often. `NotExplained`
-/// where one is.
+/// if one is.
 fn none_left<B: Body, K: RunNaming>(
     queue: RunQueue<Item<B, K>>,
     seats: Vec<Seat<Item<B, K>>>,
@@ -159,7 +159,7 @@ fn none_left<B: Body, K: RunNaming>(
     Ok(())
 }
 
-/// Runs the workers, each in a thread of its own where one can be made, until all of them are done.
+/// Runs the workers, each in a thread of its own if one can be made, until all of them are done.
 fn work_all<K: RunNaming + SharedLedgers, B: Body + Send, G: Gate + Sync, R: Threads + Wait + Sync>(
     rt: &R,
     shared: &Shared<B, K>,
@@ -174,7 +174,7 @@ fn work_all<K: RunNaming + SharedLedgers, B: Body + Send, G: Gate + Sync, R: Thr
     left_of(shared.alloc, done)
 }
 
-/// Gathers what the workers leave. `NotExplained` where the root has left nothing, or where two logs
+/// Gathers what the workers leave. `NotExplained` if the root has left nothing, or if two logs
 /// are of one task.
 fn gather_all<K: RunNaming, B: Body, R: Wait>(
     rt: &R,

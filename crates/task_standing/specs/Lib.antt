@@ -6,3 +6,8 @@ pub mod StillToMake
 pub mod Noted
 pub mod Histories
 pub mod inner
+-- What each event makes of what a task knows of itself.
+pub mod Laws
+pub mod Children
+pub mod AfterEvents
+pub mod Examples

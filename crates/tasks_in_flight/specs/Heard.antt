@@ -14,7 +14,7 @@ use Rattle.job_script.specs.declared.act.Act.TheVariants as acts
 use Rattle.job_script.specs.declared.act.Answer.{Answer}
 use Rattle.job_script.specs.declared.act.Answer.TheVariants.{Started, Done, Made, Spawned, Saw}
 use Rattle.long_receipts.specs.Told.{HasLooked}
-use Rattle.seen_log.specs.Tails.{IsTail}
+use Rattle.ghost_log.specs.Tails.{IsTail}
 use Rattle.table_receipts.specs.Logs.{GoesOn}
 
 -- what a body asked for by its last act: nothing yet; to make a phaser with these terms, on which its task is registered in

@@ -19,6 +19,7 @@ use Rattle.trace_model.specs.declared.event.TracedEvent.{TracedEvent}
 use Rattle.trace_model.specs.declared.event.TracedEvent.TheVariants.{Phaser, Finish, Begin, Refuse, Fail}
 use Rattle.text_words.specs.Words.{◌>>=◌, whole_in, signed_in, bound_in, ends_at, word_at, number_at, accumulator_at, value_at, mode_at, all_in, at_most, numbered_in, ops_at, has_only, limits_of}
 use Rattle.trace_model.specs.Run.{Run}
+use Rattle.trace_text.specs.declared.reading.log.TheConstants.{REFUSALS}
 use Rattle.trace_text.specs.declared.version.Version.{Version}
 use Rattle.trace_text.specs.declared.version.Version.TheVariants.{First, Second}
 
@@ -190,7 +191,7 @@ tried_in v d = word_at 0 d >>= λ name.
 
 -- the number is one of the refusals
 abbrev pub is_refusal : ℕ → Bool
-is_refusal n = nat_le 1 n && nat_le n 26
+is_refusal n = nat_le 1 n && nat_le n REFUSALS
 
 -- the number of a refusal at an index of a list
 abbrev pub refusal_at : ℕ → Data → Option ℕ

@@ -180,8 +180,8 @@ fn entry_fits(_ticket: u64, event: &TracedEvent)
     event_fits(event);
 }
 
-/// A trace that the code holds has a form, and its text is read as that trace, where each number of
-/// a refusal in it is one, 1 to 26: so where it is explained.
+/// A trace that the code holds has a form, and its text is read as that trace, if the number of each
+/// refusal in it is one (`REFUSALS`). In an explained trace it is.
 pub fn held_traces_are_read_back(trace: &Trace)
     ensures form { notes_refusals trace.now ≡ true → has_form trace.now ≡ true }
     ensures read_back { notes_refusals trace.now ≡ true

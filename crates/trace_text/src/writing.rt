@@ -333,8 +333,8 @@ fn write_trace(out: &mut String, trace: &Trace) -> Result<(), AllocError>
 }
 
 /// The text of the trace: version 2, no blank and no newline, all six limits. `Memory` where there
-/// is too little for it. Any trace has a text; it is read again where each number of a refusal in it
-/// is one, 1 to 26, as in each explained trace (`held_traces_are_read_back`).
+/// is too little for it. Any trace has a text. It is read back if the number of each refusal in it is
+/// one (`REFUSALS`), as in each explained trace (`held_traces_are_read_back`).
 pub fn to_json(alloc: Global, trace: &Trace) -> Result<String, Refusal>
     ensures text { IfOk result (λ text. string_bytes text ≡ trace_text trace.now) }
     ensures memory { IfErr result (λ r. r ≡ Refusal.Memory) }

@@ -9,12 +9,15 @@ use serde_json::Value;
 use text_words::word_at;
 use trace_model::TracedEvent;
 
+/// How many refusals there are. Their numbers begin at 1.
+pub(crate) const REFUSALS: u64 = 26;
+
 /// The number of a refusal at an index of a list.
 fn refusal_number_at(list: &Value, index: usize) -> Option<u8>
     ensures { result ≡ refusal_at index (view list.now) }
 {
     let number = list.get(index)?.as_u64()?;
-    if 1 <= number && number <= 26 {
+    if 1 <= number && number <= REFUSALS {
         Some(number as u8)
     } else {
         None

@@ -3,8 +3,8 @@ use Rattle.std.proofs.Common.{rules, ◌≡◌, true, inr, ap}
 use Rattle.std.proofs.lemmas.Result.{err_from_is_err_and}
 use Rattle.world_model.specs.Report.{Report}
 use Rattle.trace_walk.specs.History as histories
-use Rattle.one_answer.specs.Certified.{IsCertified}
-use Rattle.one_answer.specs.Luck.{is_all_steady}
+use Rattle.run_laws.specs.Certified.{IsCertified}
+use Rattle.run_laws.specs.Luck.{is_all_steady}
 use Rattle.certify_job.specs.Certificate.{certificate_text}
 use Rattle.certain_job.proofs.OfRun.{of_run, of_texts}
 use Rattle.certain_job.proofs.working.certain_bytes.Goals as goal

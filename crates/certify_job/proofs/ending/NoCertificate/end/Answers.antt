@@ -1,7 +1,7 @@
 -- The line that is written is that of the reason, or of want of memory.
 use Rattle.std.proofs.Common.{rules, ◌≡◌, ◌++◌, List, ℕ, codes, inl, sym, subst}
 use Rattle.job_ends.specs.Ends.{AppendsFront}
-use Rattle.one_answer.specs.Luck.{luck_at_text}
+use Rattle.run_laws.specs.Luck.{luck_at_text}
 use Rattle.certify_job.specs.declared.ending.NoCertificate.TheVariants.{Failure, Luck}
 use Rattle.certify_job.proofs.Reasons.{of_failure, of_memory}
 use Rattle.certify_job.proofs.ending.NoCertificate.end.Goals as goal

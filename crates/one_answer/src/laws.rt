@@ -1,8 +1,0 @@
-//! What holds of certificates. The function does nothing: its contract is the law, and the check
-//! proves it.
-ghost use Rattle.one_answer.specs.Certified.{CertificateIsOne};
-
-/// A program has one certificate, if it has any.
-pub fn certificate_is_one()
-    ensures { CertificateIsOne }
-{}

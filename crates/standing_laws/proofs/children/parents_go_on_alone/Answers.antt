@@ -1,5 +1,0 @@
-use Rattle.standing_laws.proofs.Unborn.{parents_go_on_alone}
-use Rattle.standing_laws.proofs.children.parents_go_on_alone.Goals as goal
-
-pub returns : goal.returns
-returns c = parents_go_on_alone
