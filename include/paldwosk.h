@@ -1,7 +1,7 @@
 /* Paldwosk for C: a checker of traces, and one phaser.
  *
  * Link crates/phaser_c/out/libphaser_c.a, which `tools/build_program phaser_c` proves and builds, and the
- * toolchain's liblibc_c.a, by which it calls malloc, realloc and free (docs/linked.md has the command).
+ * toolchain's liblibc_c.a, through which it calls malloc, realloc and free (docs/barrier.md has the command).
  *
  * WHAT IS PROVED, AND WHAT YOU OWE. Each function here passes its arguments on to one function of the archive,
  * phaser_c_.., whose contract says what it answers: what the library's call answers. The declarations and inline
@@ -21,8 +21,8 @@
  *         answer = paldwosk_pass(&phaser, task, &phase);
  *         pthread_mutex_unlock(&lock);
  *
- *     No call waits, so the lock is held for as long as the call takes, and who is answered PALDWOSK_NOT_YET asks again
- *     after another's call (a condition variable that every caller signals serves). The functions of the checker have no
+ *     No call waits, so the lock is held only while the call runs. A thread that is answered PALDWOSK_NOT_YET asks again
+ *     after another thread's call: let every caller signal a condition variable. The functions of the checker have no
  *     state, and any number of threads may be in them.
  *   - malloc, realloc and free are of one allocator, with blocks aligned to 16. No function is called from a signal
  *     handler, or in the forked child of a process with threads.
@@ -79,7 +79,7 @@ typedef enum paldwosk_answer {
   PALDWOSK_NOT_KEPT = 35, /* no such accumulator, or the phase is too great, or its fold is given up */
   PALDWOSK_TOO_GREAT = 36, /* the fold isn't within an int64_t: it takes 2^32 values in one phase */
 
-  /* What was passed is at fault. Nothing changed, but *written where the room is too small. */
+  /* What was passed is at fault. Nothing changed, except *written if the room is too small. */
   PALDWOSK_NULL = 64,          /* a pointer is NULL */
   PALDWOSK_CLOSED = 65,        /* the paldwosk_phaser holds no phaser */
   PALDWOSK_OPEN = 66,          /* the paldwosk_phaser holds a phaser already */
@@ -114,10 +114,10 @@ typedef struct paldwosk_limits {
   uint32_t history;  /* events in a phaser's history: 4 to 65,536 */
   uint32_t phasers;  /* phasers of a run: 1 to 64 */
   uint32_t regs;     /* registrations on a phaser at once: 1 to 256 */
-  uint32_t tasks;    /* tasks of a run, whose numbers are below it: 1 to 4,096 */
+  uint32_t tasks;    /* tasks of a run; their numbers are below it: 1 to 4,096 */
 } paldwosk_limits;
 
-/* The limits where nothing else is said. */
+/* The default limits. */
 #define PALDWOSK_DEFAULT_LIMITS {4096, 64, 4096, 64, 256, 256}
 
 /* A phaser as C holds it: one pointer, NULL while there is no phaser. Its field is the library's. */
@@ -127,15 +127,15 @@ typedef struct paldwosk_phaser {
 
 #define PALDWOSK_NO_PHASER {NULL}
 
-/* A phaser for threads that wait, as C holds it, and those who wait: one pointer, NULL while there is no phaser. Its field
- * is the library's. The calls that wait are those of paldwosk_barrier.h, over this. */
+/* A phaser for threads that wait, with its waiting tasks, as C holds it: one pointer, NULL while there is no phaser. Its
+ * field is the library's. The calls that wait are those of paldwosk_barrier.h, over this. */
 typedef struct paldwosk_waiting {
   void *held;
 } paldwosk_waiting;
 
 #define PALDWOSK_NOBODY_WAITING {NULL}
 
-/* A task whose call had to wait, and has ended now by another's call. */
+/* A task that had to wait. Another task's call has now ended its wait. */
 typedef struct paldwosk_freed {
   uint64_t task;
   uint64_t number; /* on DONE of a pass the phase, on CLAIMED the single's number; else 0 */
@@ -200,11 +200,10 @@ uint32_t phaser_c_waiting_leave(paldwosk_waiting *phaser, uint64_t task, paldwos
 
 /* ---- The checker */
 
-/* Replays the text of a trace (docs/formats.md), at most 67,108,864 bytes: makes its events again, one by one. Where they
- * are a run, writes the lines of its report to `report`, else the line of the refusal, as `refused 25 NotExplained at 7`.
- * No NUL is added. *written is how many bytes the text has, also where the room is too small for it; then nothing else is
- * written, and a second call with as much room writes it, unless memory is refused to one of the two. The room may be NULL
- * where it is 0. */
+/* Replays the text of a trace (docs/formats.md), at most 67,108,864 bytes: makes its events again, one by one. If they are
+ * a run, it writes the lines of the report to `report`, else the line of the refusal, as `refused 25 NotExplained at 7`.
+ * No NUL is added. *written is how many bytes the text has. If the room is too small, nothing else is written, and a second
+ * call with that much room writes it, unless memory is refused to one of the two. `report` may be NULL if the room is 0. */
 static inline paldwosk_status paldwosk_replay(const char *trace, size_t length, char *report, size_t room,
                                               size_t *written) {
   uint8_t none = 0, nowhere = 0;
@@ -247,7 +246,7 @@ static inline paldwosk_answer paldwosk_make(paldwosk_phaser *phaser, uint32_t ta
   return phaser ? (paldwosk_answer)phaser_c_make(phaser, task, (uint32_t)mode) : PALDWOSK_NULL;
 }
 
-/* The parent registers the child where it stands itself. NOT_REGISTERED, MORE_THAN_PARENT, TASKS_FULL, REGISTERED_TWICE,
+/* The parent registers the child at its own phase. NOT_REGISTERED, MORE_THAN_PARENT, TASKS_FULL, REGISTERED_TWICE,
  * REGS_FULL, HISTORY_FULL. */
 static inline paldwosk_answer paldwosk_register(paldwosk_phaser *phaser, uint32_t parent, uint32_t child,
                                                 paldwosk_mode mode) {
@@ -285,7 +284,7 @@ static inline paldwosk_answer paldwosk_send(paldwosk_phaser *phaser, uint32_t ta
   return phaser ? (paldwosk_answer)phaser_c_send(phaser, task, index, value) : PALDWOSK_NULL;
 }
 
-/* What an accumulator holds of the phase before the task's own: on DONE *value is it; else it isn't written. NOTHING where
+/* What an accumulator holds of the phase before the task's own: on DONE *value is it; else it isn't written. NOTHING if
  * there is no least and no greatest. NOT_REGISTERED, NO_WAIT, NO_ACCUMULATOR, NO_PHASE_YET, HISTORY_FULL. */
 static inline paldwosk_answer paldwosk_look(paldwosk_phaser *phaser, uint32_t task, uint32_t accumulator,
                                             int64_t *value) {
@@ -293,7 +292,7 @@ static inline paldwosk_answer paldwosk_look(paldwosk_phaser *phaser, uint32_t ta
   return phaser && value ? (paldwosk_answer)phaser_c_look(phaser, task, index, value) : PALDWOSK_NULL;
 }
 
-/* The task is dropped from the phaser. NOT_REGISTERED, NOT_NOW where it proposed a single that isn't done. */
+/* The task is dropped from the phaser. NOT_REGISTERED, NOT_NOW if it proposed a single that isn't done. */
 static inline paldwosk_answer paldwosk_drop(paldwosk_phaser *phaser, uint32_t task) {
   return phaser ? (paldwosk_answer)phaser_c_drop(phaser, task) : PALDWOSK_NULL;
 }
@@ -329,7 +328,7 @@ static inline paldwosk_answer paldwosk_event_count(paldwosk_phaser *phaser, uint
 /* Writes the history as the text of a trace that has this phaser's events alone, under this number, with these tickets,
  * one for each event, in order: {"events":[[1,"p",0,"make",0,"SIG_WAIT",[],null],..],"limits":{..},"version":2}, without
  * blanks and without a newline. To have a run judged, draw a ticket for each call that adds an event, and put the entries
- * of all its phasers, finishes and tasks together, by ticket (docs/own-runtime.md): the events of a phaser alone are no
+ * of all its phasers, finishes and tasks together, by ticket (docs/checking.md): the events of a phaser alone are no
  * run. No NUL is added; the room and *written are as for paldwosk_replay. Answers, in this order: CLOSED, BAD_TICKETS,
  * MEMORY, SHORT. */
 static inline paldwosk_answer paldwosk_history_text(paldwosk_phaser *phaser, uint32_t number, const uint64_t *tickets,

@@ -1,5 +1,5 @@
-/* Paldwosk for C: a barrier for threads that wait, whose tasks may come and go. It is a phaser of paldwosk.h with a
- * lock and a place to sleep: a call returns once its task may go on.
+/* Paldwosk for C: a barrier for threads. Tasks may join and leave while it is in use. It is a phaser of paldwosk.h with
+ * a lock and a place to sleep: a call returns once its task may go on.
  *
  *     paldwosk_barrier barrier = PALDWOSK_NO_BARRIER;
  *     paldwosk_task first = PALDWOSK_NO_TASK, second = PALDWOSK_NO_TASK;
@@ -9,25 +9,25 @@
  *     .. and in the thread of each:  paldwosk_barrier_next(&task, NULL);  ..  paldwosk_barrier_leave(&task);
  *     paldwosk_barrier_free(&barrier);
  *
- * WHAT IS PROVED. All that is decided is decided by the archive's functions phaser_c_waiting_..: whom a call frees,
- * with which answer, in which order. They let nobody go on too early, and whoever still waits after a call still has
- * to wait. NOT PROVED is what this header adds: a mutex round each of these calls, threads that sleep, and the waking
- * of those who are freed; nor is the trace that it writes, which a replay judges. It is tested, by tests/waiting.
+ * WHAT IS PROVED. The archive's functions phaser_c_waiting_.. make every decision: which tasks a call frees, with which
+ * answer, in which order. They let no task go on too early, and a task that waits after a call still has to wait.
+ * NOT PROVED, but tested by tests/waiting, is what this header adds: a mutex round each of these calls, and threads
+ * that sleep and are woken. Nor is the trace that it writes proved; a replay judges it.
  *
  * WHAT IT NEEDS. gcc or clang, C11 or C++17, and the threads of POSIX. -std=c11 does: nothing has to be defined
  * before it, and it defines nothing that changes what other headers declare. Link what paldwosk.h asks for, and
- * -pthread where the C library has its threads apart. On Linux threads sleep by futex. Elsewhere, and where
- * PALDWOSK_PORTABLE is defined, they sleep by a condition variable; files that share a barrier are all compiled with
- * it, or all without.
+ * -pthread if the C library keeps its threads apart. On Linux threads sleep by futex. Elsewhere, and if
+ * PALDWOSK_PORTABLE is defined, they sleep by a condition variable. Compile all files that share a barrier with it, or
+ * all without.
  *
  * WHAT YOU OWE, beside what stands at the head of paldwosk.h:
  *
- *   - A paldwosk_barrier is zeroed before its first use, stays where it is, and is only passed to these functions.
+ *   - A paldwosk_barrier is zeroed before its first use, is never moved, and is only passed to these functions.
  *     paldwosk_barrier_new and paldwosk_barrier_free don't overlap with other calls on it.
  *   - One thread at a time makes calls for a task. (While the task waits, a second thread's signal,
  *     wait, next or single is answered PALDWOSK_NOT_NOW; its send, look, join and leave are carried out.)
- *   - Who has a task goes on with it or leaves; else the others wait for it. A thread that ends doesn't leave by
- *     itself.
+ *   - A thread that has a task goes on with it or leaves; else the others wait for it. A thread that ends doesn't
+ *     leave by itself.
  *   - No call is made from a signal handler, or by a thread that may be cancelled asynchronously. A call takes up to
  *     8 KB of stack.
  *
@@ -35,10 +35,10 @@
  * elsewhere leaves by a cleanup handler of its own (pthread_cleanup_push). In a forked child each call on a barrier
  * of its parent is answered PALDWOSK_CLOSED, and touches no lock; the child may make barriers of its own.
  *
- * ANSWERS. Each call is answered, in this order, PALDWOSK_NULL where a pointer is NULL that may not be, or the task
- * is zeroed; PALDWOSK_CLOSED where there is no barrier, or it was freed; and then as stands at the function, with the
- * refusals of docs/rules.md. Where the answer isn't PALDWOSK_DONE nothing has changed, but where that is said. A next
- * whose pass is refused has signalled. */
+ * ANSWERS. A call answers PALDWOSK_NULL if a pointer is NULL that may not be, or if the task is zeroed; then
+ * PALDWOSK_CLOSED if there is no barrier, or it was freed; then what its function lists, with the refusals of
+ * docs/rules.md. If the answer isn't PALDWOSK_DONE nothing has changed, unless that is said. If the pass of a next is
+ * refused, its signal was made. */
 #ifndef PALDWOSK_BARRIER_H
 #define PALDWOSK_BARRIER_H
 
@@ -80,12 +80,12 @@ typedef struct paldwosk_barrier {
   pthread_cond_t turned; /* or on this */
 #endif
   paldwosk_waiting phaser;
-  struct paldwosk_sleeper *first; /* those who wait; who came first is in front */
+  struct paldwosk_sleeper *first; /* the waiting calls, the earliest in front */
   struct paldwosk_sleeper **last; /* the place of the next of them */
-  struct paldwosk_trace *trace;   /* NULL where none is kept */
-  uint32_t to_wake;               /* bits of sleepers who were freed, and are to be woken */
+  struct paldwosk_trace *trace;   /* NULL if none is kept */
+  uint32_t to_wake;               /* bits of sleepers that were freed, and are to be woken */
   uint32_t coming;                /* how many run a single, and will be back */
-  uint64_t claimer;               /* the task of who claimed one last */
+  uint64_t claimer;               /* the task that claimed a single last */
   uint32_t tasks, processors;     /* that are registered; that are online */
   uint32_t waits, probe;          /* how many have waited; which of them spins for as long as it may */
   uint8_t apart[64];              /* what threads write that were freed isn't in the line of what is under the lock */
@@ -107,7 +107,7 @@ typedef struct paldwosk_task {
 #endif
 #define PALDWOSK_NO_TASK {NULL, 0}
 
-/* For how many pauses of the processor a thread spins at most before it sleeps, where nothing else is said. */
+/* For how many pauses of the processor a thread spins at most before it sleeps, by default. */
 #define PALDWOSK_MOST_PAUSES 2000
 
 /* How often a thread tries to take the lock before it waits for it. */
@@ -215,7 +215,7 @@ static inline void paldwosk_trace_passed(struct paldwosk_trace *trace, uint64_t 
   paldwosk_trace_add(trace, is_whole ? PALDWOSK_EVENT_WAIT : PALDWOSK_EVENT_PASS, task, PALDWOSK_TASK_IDLE, 0, 0);
 }
 
-/* The claimer reports, and so all who proposed the single may pass: there is one single at a time. */
+/* The claimer reports. Now all tasks that proposed the single may pass: there is one single at a time. */
 static inline void paldwosk_trace_did(struct paldwosk_trace *trace, uint64_t task) {
   paldwosk_trace_add(trace, PALDWOSK_EVENT_DID, task, PALDWOSK_TASK_REPORTED, 0, 0);
   for (uint32_t other = 0; other < trace->tasks && !trace->has_ended; other++)
@@ -230,7 +230,7 @@ static inline void paldwosk_trace_left(struct paldwosk_trace *trace, uint64_t ta
 /* ---- The text of a trace (docs/formats.md) */
 
 struct paldwosk_text {
-  char *text; /* NULL where it is only measured */
+  char *text; /* NULL if it is only measured */
   size_t length;
   uint64_t ticket;
   const struct paldwosk_trace *trace;
@@ -305,7 +305,7 @@ static inline void paldwosk_text_event(struct paldwosk_text *out, const struct p
     paldwosk_text_entry(out, event, forms[event->kind][at]);
 }
 
-/* All events that were made. A `next` whose pass isn't among them is told as the act `signal`. */
+/* All events that were made. A `next` without its pass is told as the act `signal`. */
 static inline void paldwosk_text_made(struct paldwosk_text *out) {
   for (uint32_t at = 0; at < out->trace->count; at++) {
     struct paldwosk_event event = out->trace->events[at];
@@ -320,7 +320,7 @@ static inline void paldwosk_text_of_task(struct paldwosk_text *out, uint8_t kind
   paldwosk_text_event(out, &event);
 }
 
-/* The ends of all tasks that stand so, after their passes where these are due. */
+/* The ends of all tasks that stand so, after their passes if these are due. */
 static inline void paldwosk_text_ends(struct paldwosk_text *out, uint8_t stands, int is_pass_due) {
   for (uint32_t task = 0; task < out->trace->tasks; task++) {
     if (out->trace->stands[task] != stands) continue;
@@ -335,9 +335,9 @@ static inline uint32_t paldwosk_text_first(const struct paldwosk_trace *trace, u
   return task;
 }
 
-/* Makes a run of the events: all tasks that are still there end. First those end who are about nothing, so that
- * nobody holds up who has proposed a single. Then these pass and end, and before that the statement is told as done,
- * if it isn't: no task of a run leaves a single behind. */
+/* Makes a run of the events: all tasks that are still there end. Idle tasks end first, because they would hold up a task
+ * that has proposed a single. Then the statement is told as done, if it isn't, and the others pass and end: no task of a
+ * run leaves a single behind. */
 static inline void paldwosk_text_closed(struct paldwosk_text *out) {
   uint32_t tasks = out->trace->tasks, claimer = paldwosk_text_first(out->trace, PALDWOSK_TASK_CLAIMED);
   uint32_t proposer = paldwosk_text_first(out->trace, PALDWOSK_TASK_PROPOSED);
@@ -361,7 +361,7 @@ static inline size_t paldwosk_text_whole(const struct paldwosk_trace *trace, cha
   return out.length;
 }
 
-/* ---- Those who wait */
+/* ---- Calls that wait */
 
 enum { PALDWOSK_CALL_SIGNAL, PALDWOSK_CALL_WAIT, PALDWOSK_CALL_NEXT, PALDWOSK_CALL_SINGLE };
 enum { PALDWOSK_SPINNING = 0, PALDWOSK_READY = 1, PALDWOSK_ASLEEP = 2 };
@@ -371,7 +371,7 @@ struct paldwosk_sleeper {
   struct paldwosk_sleeper *next;
   uint64_t task, number; /* the number is what the answer has besides */
   uint32_t call, single, answer;
-  uint32_t state;     /* atomic where threads sleep by futex, else guarded by the lock */
+  uint32_t state;     /* atomic if threads sleep by futex, else guarded by the lock */
   uint32_t patience;  /* for how many pauses it spins */
   uint8_t is_probe;   /* that is as long as it may */
   uint8_t is_parked;  /* it has to wait: it was put into the list, and counted as inside */
@@ -393,7 +393,7 @@ static inline struct paldwosk_sleeper *paldwosk_take(paldwosk_barrier *barrier, 
   return sleeper;
 }
 
-/* Takes out who waits for this task. The phaser frees them nearly in their order, so it stands near the front. */
+/* Takes out the call of this task. The phaser frees calls nearly in their order, so it stands near the front. */
 static inline struct paldwosk_sleeper *paldwosk_take_task(paldwosk_barrier *barrier, uint64_t task) {
   struct paldwosk_sleeper **place = &barrier->first;
   while (*place && (*place)->task != task) place = &(*place)->next;
@@ -406,7 +406,7 @@ static inline struct paldwosk_sleeper *paldwosk_take_asking(paldwosk_barrier *ba
   return paldwosk_take(barrier, place);
 }
 
-/* With the lock: the call of a sleeper who isn't in the list any more is over. */
+/* With the lock: the call of a sleeper that isn't in the list any more is over. */
 static inline void paldwosk_set_answer(paldwosk_barrier *barrier, struct paldwosk_sleeper *sleeper, uint32_t answer,
                                        uint64_t number) {
   sleeper->answer = answer;
@@ -428,9 +428,9 @@ static inline void paldwosk_pause(void) {
 #endif
 }
 
-/* For how many pauses who waits now spins before it sleeps: as many as the barrier has learned to be good. Now and
- * then it is as long as it may, to see whether it is good again. With more tasks than processors it would only keep
- * others off. */
+/* For how many pauses a thread that waits now spins before it sleeps: as many as the barrier has learned to be good.
+ * Now and then it spins for as long as it may, to see whether that is good again. With more tasks than processors it
+ * would only keep others off. */
 static inline uint32_t paldwosk_patience(paldwosk_barrier *barrier, struct paldwosk_sleeper *me) {
   if (barrier->tasks > barrier->processors) return 0;
   me->is_probe = ++barrier->waits == barrier->probe;
@@ -439,15 +439,15 @@ static inline uint32_t paldwosk_patience(paldwosk_barrier *barrier, struct paldw
   return __atomic_load_n(&barrier->most_pauses, __ATOMIC_RELAXED);
 }
 
-/* Who doesn't spin counts as asleep from the start; but not at a traced barrier, where its call may be over before
- * the lock is given back. */
+/* A thread that doesn't spin counts as asleep from the start; but not at a traced barrier, because its call may be over
+ * before the lock is given back. */
 static inline void paldwosk_prepare(paldwosk_barrier *barrier, struct paldwosk_sleeper *me) {
   me->patience = paldwosk_patience(barrier, me);
   me->state = me->patience || barrier->trace ? PALDWOSK_SPINNING : PALDWOSK_ASLEEP;
 }
 
 /* What a thread learns that has spun. If it was freed meanwhile, others spin longer, else half as long, and soon not
- * at all: so a barrier at which it is in vain loses little by it. Where a probe was in vain the next comes later. */
+ * at all: so a barrier at which it is in vain loses little by it. If a probe was in vain the next comes later. */
 static inline void paldwosk_learn(paldwosk_barrier *barrier, const struct paldwosk_sleeper *me, int is_in_vain) {
   uint32_t pauses = __atomic_load_n(&barrier->pauses, __ATOMIC_RELAXED);
   uint32_t after = __atomic_load_n(&barrier->probe_after, __ATOMIC_RELAXED);
@@ -459,7 +459,7 @@ static inline void paldwosk_learn(paldwosk_barrier *barrier, const struct paldwo
   __atomic_store_n(&barrier->pauses, pauses < PALDWOSK_LEAST_PAUSES ? 0 : pauses, __ATOMIC_RELAXED);
 }
 
-/* Sleeps while the word is as it was seen; or wakes all who sleep there and have one of the bits. */
+/* Sleeps while the word is as it was seen; or wakes all that sleep there and have one of the bits. */
 static inline void paldwosk_futex(uint32_t *word, int is_wake, uint32_t seen, uint32_t bits) {
   enum { WAIT_BITSET = 9, WAKE_BITSET = 10, IS_PRIVATE = 128 };
   int kept = errno;
@@ -469,7 +469,7 @@ static inline void paldwosk_futex(uint32_t *word, int is_wake, uint32_t seen, ui
 
 static inline uint32_t paldwosk_bit(uint64_t task) { return (uint32_t)1 << task % 32; }
 
-/* With the lock. Who spins sees it by itself; who is asleep has to be woken. */
+/* With the lock. A spinning thread sees it by itself; a sleeping one has to be woken. */
 static inline void paldwosk_set_ready(paldwosk_barrier *barrier, struct paldwosk_sleeper *sleeper) {
   uint32_t bit = paldwosk_bit(sleeper->task);
   uint32_t state = __atomic_exchange_n(&sleeper->state, PALDWOSK_READY, __ATOMIC_ACQ_REL);
@@ -507,8 +507,8 @@ static inline void paldwosk_sleep(paldwosk_barrier *barrier, struct paldwosk_sle
   }
 }
 
-/* Gives the lock back, wakes those whom the call has freed, and waits until the call itself is over. From the
- * unlocking on the barrier is only read by who is counted as inside; its last access is that it is so no more. */
+/* Gives the lock back, wakes the threads that the call has freed, and waits until the call itself is over. After the
+ * unlock only threads that are counted as inside read the barrier; a thread's last access takes it off that count. */
 static inline void paldwosk_unlock(paldwosk_barrier *barrier, struct paldwosk_sleeper *me) {
   uint32_t bits = barrier->to_wake, leaving = (uint32_t)(bits != 0) + me->is_parked;
   barrier->to_wake = 0;
@@ -543,7 +543,7 @@ static inline void paldwosk_sleep(paldwosk_barrier *barrier, struct paldwosk_sle
   pthread_setcancelstate(old, &old);
 }
 
-/* Wakes those whom the call has freed, waits until the call itself is over, and gives the lock back. */
+/* Wakes the threads that the call has freed, waits until the call itself is over, and gives the lock back. */
 static inline void paldwosk_unlock(paldwosk_barrier *barrier, struct paldwosk_sleeper *me) {
   if (barrier->to_wake) pthread_cond_broadcast(&barrier->turned);
   barrier->to_wake = 0;
@@ -596,7 +596,7 @@ static inline void paldwosk_trace_call(struct paldwosk_trace *trace, const struc
   else paldwosk_trace_add(trace, kinds[of->call], task, stands[of->call], of->single, 0);
 }
 
-/* A call of a sleeper who isn't in the list has ended so. */
+/* A call of a sleeper that isn't in the list has ended so. */
 static inline void paldwosk_go_on(paldwosk_barrier *barrier, struct paldwosk_sleeper *sleeper, uint32_t answer,
                                   uint64_t number) {
   if (barrier->trace) paldwosk_trace_call(barrier->trace, sleeper, answer);
@@ -616,8 +616,8 @@ static inline void paldwosk_free_those(paldwosk_barrier *barrier, const paldwosk
   }
 }
 
-/* The places for those who are freed take 6 KB of stack. The functions that have them aren't inlined, so that no two
- * have them at once. */
+/* The places for freed tasks take 6 KB of stack. The functions that have them aren't inlined: no two have them at
+ * once. */
 #define PALDWOSK_APART static __attribute__((noinline, unused))
 
 PALDWOSK_APART void paldwosk_ask_and_free(paldwosk_barrier *barrier, struct paldwosk_sleeper *me) {
@@ -656,7 +656,7 @@ PALDWOSK_APART void paldwosk_report(paldwosk_barrier *barrier, struct paldwosk_s
   paldwosk_free_those(barrier, freed, count);
 }
 
-/* The call's own part is done: those ask who are to ask still, the lock is given back, and it waits if it has to. */
+/* The call's own part is done. Sleepers that are still to ask do so, the lock is given back, and it waits if it must. */
 static inline void paldwosk_end_call(paldwosk_barrier *barrier, struct paldwosk_sleeper *me) {
   struct paldwosk_sleeper *sleeper;
   while (barrier->trace && (sleeper = paldwosk_take_asking(barrier))) paldwosk_ask_traced(barrier, sleeper);
@@ -692,7 +692,7 @@ static inline int paldwosk_is_inherited(const paldwosk_barrier *barrier) {
   return __atomic_load_n(barrier->forks, __ATOMIC_RELAXED) != barrier->forks_then;
 }
 
-/* Takes the lock where it answers DONE. */
+/* Takes the lock if it answers DONE. */
 static inline paldwosk_answer paldwosk_enter(paldwosk_barrier *barrier) {
   if (!barrier) return PALDWOSK_NULL;
   if (!barrier->forks || paldwosk_is_inherited(barrier)) return PALDWOSK_CLOSED;
@@ -704,7 +704,7 @@ static inline paldwosk_answer paldwosk_enter_by(const paldwosk_task *task) {
   return task ? paldwosk_enter(task->barrier) : PALDWOSK_NULL;
 }
 
-/* With the lock. A task whose single runs passes once that is reported: a wait in the statement would never end. */
+/* With the lock. A task passes once its running single is reported: a wait in the statement would never end. */
 static inline int paldwosk_is_in_single(const paldwosk_task *task) {
   return task->barrier->coming && task->barrier->claimer == task->number;
 }
@@ -799,8 +799,8 @@ static inline paldwosk_answer paldwosk_new_barrier(paldwosk_barrier *barrier, ui
   return PALDWOSK_DONE;
 }
 
-/* Those who are counted as inside have been woken, and need no more than a processor for a moment. If they don't get
- * one by this thread's yielding, it sleeps: theirs may be of a lower priority. */
+/* The threads that are counted as inside have been woken, and only need a processor for a moment. If yielding doesn't
+ * give them one, this thread sleeps: theirs may be of a lower priority. */
 static inline void paldwosk_let_others_run(uint32_t tried) {
   int old = 0;
   if (tried < 100) {
@@ -814,11 +814,11 @@ static inline void paldwosk_let_others_run(uint32_t tried) {
 
 /* ---- The barrier */
 
-/* Makes a barrier, for which paldwosk_barrier_make makes the first task. The bound is 1 to 65,536 phases: nobody
- * signals a phase while one who waits hasn't passed the phase that is so many before it. At a barrier, where each
- * task signals and waits, 2 makes nobody wait who wouldn't wait anyway; between producers and consumers it is the
- * length of the queue. There is an accumulator for each of at most four operators. All memory is taken here. OPEN,
- * BAD_OPERATORS, BAD_BOUND, MEMORY. On DONE it is to be freed by paldwosk_barrier_free. */
+/* Makes a barrier; paldwosk_barrier_make then makes the first task. The bound is 1 to 65,536 phases: no task signals a
+ * phase while a waiting task hasn't passed the phase that is so many before it. If each task signals and waits, a bound
+ * of 2 adds no wait; between producers and consumers the bound is the length of the queue. There is an accumulator for
+ * each of at most four operators. All memory is taken here. OPEN, BAD_OPERATORS, BAD_BOUND, MEMORY. On DONE, free it by
+ * paldwosk_barrier_free. */
 static inline paldwosk_answer paldwosk_barrier_new(paldwosk_barrier *barrier, uint32_t bound,
                                                    const paldwosk_operator *operators, size_t count) {
   return paldwosk_new_barrier(barrier, bound, operators, count, 0);
@@ -830,8 +830,8 @@ static inline paldwosk_answer paldwosk_barrier_new_traced(paldwosk_barrier *barr
   return paldwosk_new_barrier(barrier, bound, operators, count, 1);
 }
 
-/* Frees the barrier. NOT_NOW, where a task waits, or runs a single. Whoever has been freed by a call of another may
- * still be on its way out of its own: for it this call waits, so the memory may be used for something else at once. */
+/* Frees the barrier. NOT_NOW if a task waits, or runs a single. A thread that another's call has freed may still be on
+ * its way out of its own call. This call waits for it, so the memory may be used for something else at once. */
 static inline paldwosk_answer paldwosk_barrier_free(paldwosk_barrier *barrier) {
   for (uint32_t tried = 0;; tried++) {
     paldwosk_answer entered = paldwosk_enter(barrier);
@@ -852,7 +852,7 @@ static inline paldwosk_answer paldwosk_barrier_free(paldwosk_barrier *barrier) {
   return PALDWOSK_DONE;
 }
 
-/* Makes the first task, in any mode. BAD_MODE, NOT_NOW where it was made before. */
+/* Makes the first task, in any mode. BAD_MODE, NOT_NOW if it was made before. */
 static inline paldwosk_answer paldwosk_barrier_make(paldwosk_barrier *barrier, paldwosk_mode mode,
                                                     paldwosk_task *task) {
   paldwosk_answer answer = task ? paldwosk_enter(barrier) : PALDWOSK_NULL;
@@ -869,9 +869,9 @@ static inline paldwosk_answer paldwosk_barrier_make(paldwosk_barrier *barrier, p
   return answer;
 }
 
-/* Makes a task for another thread, in a mode within the parent's, where the parent stands: in its phase, and ahead if
- * the parent is ahead. BAD_MODE, NOT_REGISTERED, MORE_THAN_PARENT, REGS_FULL where there are 256 tasks, HISTORY_FULL
- * after 2^62 events. */
+/* Makes a task for another thread, in a mode within the parent's. It begins in the parent's phase, and is ahead if the
+ * parent is ahead. BAD_MODE, NOT_REGISTERED, MORE_THAN_PARENT, REGS_FULL if there are 256 tasks, HISTORY_FULL after 2^62
+ * events. */
 static inline paldwosk_answer paldwosk_barrier_join(const paldwosk_task *parent, paldwosk_mode mode,
                                                     paldwosk_task *task) {
   paldwosk_answer answer = task ? paldwosk_enter_by(parent) : PALDWOSK_NULL;
@@ -896,14 +896,14 @@ static inline paldwosk_answer paldwosk_barrier_next(const paldwosk_task *task, u
   return paldwosk_call_by(task, PALDWOSK_CALL_NEXT, 0, phase);
 }
 
-/* Signals, and goes on. It waits only where the task would be ahead of one who waits by more than the bound.
+/* Signals, and goes on. It waits only if the task would be ahead of a waiting task by more than the bound.
  * NOT_REGISTERED, NO_SIGNAL, ALREADY_SIGNALLED, NOT_NOW, HISTORY_FULL. */
 static inline paldwosk_answer paldwosk_barrier_signal(const paldwosk_task *task) {
   return paldwosk_call_by(task, PALDWOSK_CALL_SIGNAL, 0, NULL);
 }
 
-/* Waits until the phase is over that the task has signalled, or, if it only waits, that it hasn't waited for yet. A
- * task that only signals waits for nobody, and begins its next phase by this. On DONE *phase is the phase, unless
+/* Waits until the phase that the task has signalled is over; if the task only waits, the phase that it hasn't waited
+ * for yet. A task that only signals doesn't wait: this begins its next phase. On DONE *phase is the phase, unless
  * `phase` is NULL. NOT_REGISTERED, NOT_SIGNALLED, NOT_NOW (also in the statement of the task's own single),
  * HISTORY_FULL. */
 static inline paldwosk_answer paldwosk_barrier_wait(const paldwosk_task *task, uint64_t *phase) {
@@ -924,8 +924,8 @@ static inline paldwosk_answer paldwosk_barrier_send(const paldwosk_task *task, u
   return answer;
 }
 
-/* What an accumulator came to in the phase that the task passed last. On DONE *value is it. NOTHING where it is the
- * least or the greatest, and nobody sent; TOO_GREAT where it isn't within an int64_t, which takes 2^32 values.
+/* What an accumulator holds of the phase that the task passed last. On DONE *value is it. NOTHING if it is the least or
+ * the greatest, and no task sent a value; TOO_GREAT if it isn't within an int64_t, which takes 2^32 values.
  * NOT_REGISTERED, NO_WAIT, NO_ACCUMULATOR, NO_PHASE_YET, HISTORY_FULL. */
 static inline paldwosk_answer paldwosk_barrier_look(const paldwosk_task *task, uint32_t accumulator, int64_t *value) {
   paldwosk_answer answer = value ? paldwosk_enter_by(task) : PALDWOSK_NULL;
@@ -943,11 +943,11 @@ static inline paldwosk_answer paldwosk_barrier_look(const paldwosk_task *task, u
   return answer;
 }
 
-/* As paldwosk_barrier_next, and the statement of this number is run once between this phase and the next. Who calls
- * so proposes it: when all have signalled, one of those calls run(data), without the lock, and not cancellable. All
- * others who wait are held until it has returned; it has to, and neither throws nor jumps. In the statement its task
- * can send, look and join, but not go on or leave. All are answered DONE. NOT_REGISTERED, NO_SIGNAL, NO_SINGLE,
- * ALREADY_SIGNALLED, SINGLE_MISMATCH where another number is proposed in this phase, NOT_NOW, HISTORY_FULL. */
+/* As paldwosk_barrier_next, and the statement of this number runs once between this phase and the next. The caller
+ * proposes it. When all have signalled, one of the callers that proposed it calls run(data), without the lock, and not
+ * cancellable. All other waiting tasks are held until it returns; it has to return, and neither throws nor jumps. In the
+ * statement its task can send, look and join, but not go on or leave. All are answered DONE. NOT_REGISTERED, NO_SIGNAL,
+ * NO_SINGLE, ALREADY_SIGNALLED, SINGLE_MISMATCH if another number is proposed in this phase, NOT_NOW, HISTORY_FULL. */
 static inline paldwosk_answer paldwosk_barrier_single(const paldwosk_task *task, uint32_t number,
                                                       void (*run)(void *data), void *data, uint64_t *phase) {
   int old = 0;
@@ -961,8 +961,8 @@ static inline paldwosk_answer paldwosk_barrier_single(const paldwosk_task *task,
   return paldwosk_report_by(&mine, phase);
 }
 
-/* The task leaves: nobody waits for it any more. What it has sent counts. NOT_REGISTERED, also where it has left
- * before; NOT_NOW where it has proposed a single that isn't done. If another thread waits for this task, that call is
+/* The task leaves: no task waits for it any more. What it has sent counts. NOT_REGISTERED, also if it has left before;
+ * NOT_NOW if it has proposed a single that isn't done. If another thread waits for this task, that call is
  * answered NOT_REGISTERED. */
 static inline paldwosk_answer paldwosk_barrier_leave(const paldwosk_task *task) {
   paldwosk_answer entered = paldwosk_enter_by(task);
@@ -973,9 +973,9 @@ static inline paldwosk_answer paldwosk_barrier_leave(const paldwosk_task *task) 
   return (paldwosk_answer)me.answer;
 }
 
-/* For how many pauses a thread spins at most before it sleeps; 0: it never spins. For how long it does, below this,
- * the barrier finds out by itself. Where there are more tasks than processors none spins, nor where threads sleep by
- * a condition variable. */
+/* For how many pauses a thread spins at most before it sleeps; 0: it never spins. The barrier finds out by itself for
+ * how long to spin, up to this. No thread spins if there are more tasks than processors, or if threads sleep by a
+ * condition variable. */
 static inline paldwosk_answer paldwosk_barrier_spin(paldwosk_barrier *barrier, uint32_t most) {
   paldwosk_answer answer = paldwosk_enter(barrier);
   if (answer != PALDWOSK_DONE) return answer;
@@ -988,9 +988,8 @@ static inline paldwosk_answer paldwosk_barrier_spin(paldwosk_barrier *barrier, u
 
 /* Writes the trace of what was done so far, as text (docs/formats.md). `./phaser_run replay` and paldwosk_replay
  * judge it, ./trace_picture draws it. It is a whole run: tasks that haven't left yet are told as ending now, after
- * what they are about, if that is a single. No NUL is added; *written is how many bytes the text has, also where the
- * room is too small for it. The text may be NULL where the room is 0. NOT_KEPT where the barrier keeps no trace;
- * SHORT. */
+ * their single, if one is under way. No NUL is added; *written is how many bytes the text has, even if the room is too
+ * small for it. The text may be NULL if the room is 0. NOT_KEPT if the barrier keeps no trace; SHORT. */
 static inline paldwosk_answer paldwosk_barrier_trace(paldwosk_barrier *barrier, char *text, size_t room,
                                                      size_t *written) {
   paldwosk_answer answer = written && (text || !room) ? paldwosk_enter(barrier) : PALDWOSK_NULL;

@@ -27,9 +27,9 @@ def disk_bytes(lines):
 
 
 def share_of(is_first, idle, waiting, most):
-    """How many of the idle processors a crate gets, where so many wait, it among them.
+    """How many of the idle processors a crate gets, if so many wait, it among them.
 
-    The first of those that wait has the longest way up, and gets two where it can: while it is proved at one,
+    The first of those that wait has the longest way up, and gets two if it can: while it is proved at one,
     what is above it waits, and processors idle."""
     least = 2 if is_first and most > 3 else 1
     return min(max(idle // waiting, least), idle, MOST_SHARE)

@@ -63,7 +63,7 @@ def end_by_signal():
 
 
 def dying_with_this(number):
-    """What a child calls before it starts, so that it gets the signal where this process ends, however that ends."""
+    """What a child calls before it starts, so that it gets the signal if this process ends, however that ends."""
     return lambda: LIBC.prctl(SET_DEATH_SIGNAL, int(number))
 
 
@@ -106,7 +106,7 @@ def reap_orphans(own):
 
 
 def parent_of(process):
-    """The number of the process's parent; 0 where the process is gone."""
+    """The number of the process's parent; 0 if the process is gone."""
     try:
         return int(Path("/proc", process, "stat").read_text(errors="replace").rpartition(")")[2].split()[1])
     except OSError:

@@ -19,7 +19,7 @@ pub(crate) struct GivenLimits {
     pub(crate) tasks: u32,
 }
 
-/// `paldwosk_freed`: a task whose call had to wait, and has ended now by another's call.
+/// `paldwosk_freed`: a task that had to wait. Another task's call has now ended its wait.
 #[repr(C)]
 #[derive(Clone, Copy)]
 pub(crate) struct Freed {

@@ -24,7 +24,7 @@ use std::sync::{Mutex, MutexGuard, PoisonError};
 /// ```
 pub struct Barrier {
     meeting: Mutex<Meeting>,
-    /// Its word is twice the number of the generation; one more where somebody sleeps, and has to be woken. It goes round, after
+    /// Its word is twice the number of the generation; one more if a thread sleeps, and has to be woken. It goes round, after
     /// 2^31 generations: a thread would have to stand still so long between two instructions to take one for another.
     bell: Bell,
     spins: Spins,
@@ -69,7 +69,7 @@ impl Barrier {
     ///
     /// # Panics
     ///
-    /// For more than 256 threads, and where there is no memory.
+    /// For more than 256 threads, and if there is no memory.
     #[must_use]
     pub fn new(threads: usize) -> Barrier {
         let threads = threads.max(1);
@@ -104,7 +104,7 @@ impl Barrier {
         BarrierWaitResult { is_leader }
     }
 
-    /// The archive freed all who came before: the next generation begins.
+    /// The archive freed all that came before: the next generation begins.
     fn go_on(&self, meeting: MutexGuard<'_, Meeting>, next: u32) {
         let was = self.bell.word.swap(next, AcqRel);
         drop(meeting);

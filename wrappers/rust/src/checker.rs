@@ -28,7 +28,7 @@ impl Error for Refused {}
 /// A function of the checker: bytes, a room for the lines, and how many bytes those are.
 type Check = unsafe extern "C" fn(*const u8, usize, *mut u8, usize, &mut usize) -> u32;
 
-/// Checks the text, at first with so much room, and with as much as the lines need where that was too little.
+/// Checks the text, at first with so much room, and with as much as the lines need if that was too little.
 fn check(function: Check, text: &[u8], room: usize) -> Result<String, Refused> {
     let (mut room, mut written) = (vec![0; room], 0);
     loop {
@@ -45,7 +45,7 @@ fn check(function: Check, text: &[u8], room: usize) -> Result<String, Refused> {
     }
 }
 
-/// Replays the text of a trace: makes its events again, one by one. The lines of the report, where they are a run.
+/// Replays the text of a trace: makes its events again, one by one. Returns the lines of the report, if they are a run.
 pub fn replay(trace: &[u8]) -> Result<String, Refused> {
     check(phaser_c_replay, trace, 4096)
 }

@@ -7,17 +7,17 @@
 //! - [`PhaserState`]: a phaser for one thread at a time, which keeps its history; no call waits.
 //! - [`replay`] and [`events`]: the checker.
 //!
-//! The rules stand in `docs/rules.md`, what is asked of `malloc` in `docs/linked.md`.
+//! The rules stand in `docs/rules.md`, what is asked of `malloc` in `docs/barrier.md`.
 //!
 //! # What is proved, and what isn't
 //!
-//! The crate links the archive of `crates/phaser_c`. Of its exports it is proved that they answer what the library's calls
-//! answer. For threads that wait that is: what a call is answered, which tasks it frees and with which answer, and that each
-//! task which stays parked has still to wait, so that nobody is forgotten.
+//! The crate links the archive of `crates/phaser_c`. Its exports are proved to answer what the library's calls answer. For
+//! threads that wait that is: what a call is answered, which tasks it frees and with which answer, and that each task that
+//! stays parked still has to wait. So no task is forgotten.
 //!
-//! Of what stands in this crate nothing is proved. That is, for a [`Phaser`] and a [`Barrier`], the lock round each call, the
-//! sleeping, the waking of those whom a call freed, and the noting of a trace: they are tested. The `unsafe` code only passes
-//! on what Rust's own types promise, slices and places that nobody else has, and hands a word to Linux to sleep by.
+//! Nothing in this crate is proved; it is tested. For a [`Phaser`] and a [`Barrier`] that is the lock round each call, the
+//! sleeping, the waking of freed threads, and the noting of a trace. The `unsafe` code only passes on what Rust's own types
+//! promise, slices and places that nothing else has, and hands a word to Linux to sleep by.
 #![deny(unsafe_op_in_unsafe_fn)]
 
 mod answers;

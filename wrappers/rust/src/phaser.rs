@@ -6,12 +6,11 @@ use crate::waiting_cell::Ended;
 use std::fmt;
 use std::sync::Arc;
 
-/// A barrier whose set of tasks may change, for threads that wait; it lives as long as its program.
+/// A barrier for threads that wait. Tasks may join and leave, and it lives as long as its program.
 ///
-/// Each thread takes part by a [`Task`] of its own. The first is made by [`make`](Phaser::make), any other by
-/// [`join`](Task::join) of one that is there: it begins where that one stands. A task goes on when all have signalled who are
-/// there and signal, and has left once it is dropped. So whoever makes the phaser takes part in it, or drops its task once
-/// the others have joined.
+/// Each thread takes part with a [`Task`] of its own. [`make`](Phaser::make) makes the first, and [`join`](Task::join) of a
+/// task makes another, which begins where that task stands. A task goes on when every task that signals has signalled. A task
+/// leaves when it is dropped. The thread that makes the phaser takes part in it, or drops its task once the others have joined.
 ///
 /// ```
 /// use paldwosk::{Look, Mode, Operator, Phaser, Refusal};
@@ -44,10 +43,10 @@ pub struct Phaser {
 }
 
 impl Phaser {
-    /// A phaser that nobody has made yet, with an accumulator for each of at most four operators, and a bound of 1 to 65,536
-    /// phases: a signal waits while some task that waits is so many phases behind. By 2 nobody waits who wouldn't wait anyway
-    /// where all tasks signal and wait; for producers and consumers it is the length of the queue. All memory that it will
-    /// ever need is taken here. `BadOperators`, `BadBound`, `Memory`.
+    /// A phaser without tasks, with an accumulator for each of at most four operators, and a bound of 1 to 65,536 phases: a
+    /// signal waits while a waiting task is so many phases behind. If all tasks signal and wait, a bound of 2 adds no wait; for
+    /// producers and consumers it is the length of the queue. All memory that it will ever need is taken here.
+    /// `BadOperators`, `BadBound`, `Memory`.
     pub fn new(bound: u32, operators: &[Operator]) -> Result<Phaser, Refusal> {
         Ok(Phaser { shared: Arc::new(Shared::new(bound, operators, false)?) })
     }
@@ -71,7 +70,7 @@ impl Phaser {
         Ok(Phaser { shared: Arc::new(Shared::new(bound, operators, true)?) })
     }
 
-    /// Makes the phaser: its first task, in this mode, in phase 0. `NotNow` where it was made before.
+    /// Makes the phaser: its first task, in this mode, in phase 0. `NotNow` if it was made before.
     pub fn make(&self, mode: Mode) -> Result<Task, Refusal> {
         let place = self.shared.make(mode)?;
         Ok(Task { shared: self.shared.clone(), place })
@@ -120,13 +119,14 @@ impl fmt::Debug for Phaser {
 /// });
 /// ```
 ///
-/// A call that is refused changes nothing. `HistoryFull` comes after 2^62 events.
+/// A call that is refused changes nothing. Only a `next` or `single` whose pass is refused has signalled.
+/// `HistoryFull` comes after 2^62 events.
 pub struct Task {
     shared: Arc<Shared>,
     place: Place,
 }
 
-/// The phase that was passed. Who proposed no single claims none.
+/// The phase that was passed. A task that proposed no single claims none.
 fn phase(ended: Ended) -> u64 {
     match ended {
         Ended::Done(phase) => phase,
@@ -140,15 +140,15 @@ impl Task {
         self.place.task
     }
 
-    /// A new task, in a mode within this one's, that begins where this one stands: in its phase, and with its signal if it has
-    /// signalled. `MoreThanParent`, `RegsFull` where 256 are there, `HistoryFull`.
+    /// A new task, in a mode within this one's. It begins where this one stands: in its phase, and with its signal if it has
+    /// signalled. `MoreThanParent`, `RegsFull` if there are 256 tasks, `HistoryFull`.
     pub fn join(&mut self, mode: Mode) -> Result<Task, Refusal> {
         let place = self.shared.join(self.place, mode)?;
         Ok(Task { shared: self.shared.clone(), place })
     }
 
-    /// Signals, and waits until all have who are there and signal: the end of a turn, as at a barrier. The phase that is passed
-    /// by it. A task that only signals waits for the bound alone. `NoSignal`, `AlreadySignalled`, `HistoryFull`.
+    /// Signals, and waits until every task that signals has signalled: the end of a turn, as at a barrier. Returns the phase
+    /// that it passed. A task that only signals waits for the bound alone. `NoSignal`, `AlreadySignalled`, `HistoryFull`.
     #[allow(clippy::should_implement_trait)] // a phaser's own word, and no iterator's
     pub fn next(&mut self) -> Result<u64, Refusal> {
         self.shared.turn(self.place, None).map(phase)
@@ -159,15 +159,15 @@ impl Task {
         self.shared.call(self.place, Call::Signal).map(|_| ())
     }
 
-    /// Waits until all have signalled the phase who are there and signal, itself before. The phase that is passed by it. A task
-    /// that only signals waits for nobody, and ends its turn. `NotSignalled`, `HistoryFull`.
+    /// Waits until every task that signals, itself first, has signalled the phase. Returns the phase that it passed. A task
+    /// that only signals doesn't wait, and ends its turn. `NotSignalled`, `HistoryFull`.
     pub fn wait(&mut self) -> Result<u64, Refusal> {
         self.shared.call(self.place, Call::Pass).map(phase)
     }
 
-    /// Signals, proposes that one task alone run the statement of this number before anybody goes on who waits, and waits. One
-    /// of those who propose it runs theirs. The phase that is passed by it. `NoSignal`, `NoSingle`, `AlreadySignalled`,
-    /// `SingleMismatch` where another number is proposed in this phase, `HistoryFull`.
+    /// Signals, proposes the statement of this number, and waits. One of the tasks that propose it runs its statement, alone,
+    /// before any waiting task goes on. Returns the phase that it passed. `NoSignal`, `NoSingle`, `AlreadySignalled`,
+    /// `SingleMismatch` if another number is proposed in this phase, `HistoryFull`.
     ///
     /// The statement runs without any lock held, and may use whatever else it likes, other phasers too. If it panics, the turn
     /// ends as if it were done: the others go on, and aren't told.
@@ -191,13 +191,13 @@ impl Task {
         self.shared.send(self.place, accumulator, value)
     }
 
-    /// What an accumulator came to in the phase before the task's own. `NoWait`, `NoAccumulator`, `NoPhaseYet`, `HistoryFull`;
-    /// `TooGreat` where it isn't within an `i64`.
+    /// What an accumulator holds of the phase before the task's own. `NoWait`, `NoAccumulator`, `NoPhaseYet`, `HistoryFull`;
+    /// `TooGreat` if it isn't within an `i64`.
     pub fn look(&mut self, accumulator: u8) -> Result<Look, Refusal> {
         self.shared.look(self.place, accumulator)
     }
 
-    /// Leaves: nobody waits for this task any more. What it sent still counts.
+    /// Leaves: no task waits for this one any more. What it sent still counts.
     pub fn leave(self) {
         drop(self);
     }
@@ -217,7 +217,7 @@ impl Drop for Task {
     }
 }
 
-/// A claimed single, whose statement runs. It is reported done by its end, also by a panic: else nobody would go on.
+/// A claimed single whose statement runs. Its end reports it done, also if it panics: else no task would go on.
 struct Claim<'a> {
     task: &'a mut Task,
     reported: &'a mut Result<Ended, Refusal>,

@@ -16,7 +16,7 @@ pub struct Limits {
     pub phasers: u32,
     /// Registrations on a phaser at once: 1 to 256.
     pub regs: u32,
-    /// Tasks of a run, whose numbers are below it: 1 to 4,096.
+    /// Tasks of a run; their numbers are below it: 1 to 4,096.
     pub tasks: u32,
 }
 
@@ -26,8 +26,8 @@ impl Default for Limits {
     }
 }
 
-/// A phaser, for one thread at a time, which keeps its history. No call waits; who is answered `NotYet` asks again after
-/// another's call. Threads may share one behind a `Mutex`; [`Phaser`](crate::Phaser) is the one whose calls wait.
+/// A phaser for one thread at a time, which keeps its history. No call waits: on `NotYet` ask again after another task's
+/// call. Threads may share one behind a `Mutex`; the calls of [`Phaser`](crate::Phaser) wait.
 pub struct PhaserState {
     handle: Handle,
 }
@@ -46,8 +46,8 @@ fn done(number: u32) -> Result<(), Refusal> {
 // SAFETY of all calls here: the handle is this phaser's alone, and is lent to nobody else while a call has it; what a call
 // writes to are places of this function; the pointers and lengths are those of slices and lists.
 impl PhaserState {
-    /// A phaser that nobody has made yet, with an accumulator for each of at most four operators, and its bound of 1 to
-    /// 65,536 phases, if it has one. `BadLimits`, `BadOperators`, `BadBound`, `Memory`.
+    /// A phaser without tasks, with an accumulator for each of at most four operators, and its bound of 1 to 65,536 phases, if
+    /// it has one. `BadLimits`, `BadOperators`, `BadBound`, `Memory`.
     pub fn new(limits: Limits, operators: &[Operator], bound: Option<u32>) -> Result<PhaserState, Refusal> {
         let Limits { acts, finishes, history, phasers, regs, tasks } = limits;
         let limits = GivenLimits { acts, finishes, history, phasers, regs, tasks };
@@ -67,7 +67,7 @@ impl PhaserState {
         done(unsafe { phaser_c_make(&mut self.handle, task, mode as u32) })
     }
 
-    /// The parent registers the child where it stands itself.
+    /// The parent registers the child at its own phase.
     pub fn register(&mut self, parent: u32, child: u32, mode: Mode) -> Result<(), Refusal> {
         done(unsafe { phaser_c_register(&mut self.handle, parent, child, mode as u32) })
     }
@@ -135,8 +135,8 @@ impl PhaserState {
         full == 1
     }
 
-    /// What the values sent to an accumulator for a closed phase fold to; none where there is no such accumulator, or the
-    /// phase is too great, or its fold is given up.
+    /// The fold of the values sent to an accumulator for a closed phase; `None` if there is no such accumulator, or the phase
+    /// is too great, or its fold is given up.
     pub fn fold_at(&mut self, accumulator: u8, phase: u32) -> Option<Look> {
         let mut value = 0;
         match unsafe { phaser_c_fold_at(&mut self.handle, accumulator, phase, &mut value) } {
