@@ -3,6 +3,7 @@ use Rattle.std.proofs.Common.{◌≡◌, ◌<◌, List, [], ◌∷◌, ◌++◌,
 use Rattle.std.specs.Prelude.{ℤ}
 use Rattle.std.proofs.lemmas.List.{append_assoc}
 use Rattle.std.proofs.Math.Logic.{∥∥₁_map}
+use Rattle.phase_modes.specs.declared.limits.Limits.{Limits}
 use Rattle.phase_modes.specs.declared.refusal.Refusal.{Refusal}
 use Rattle.phase_model.specs.declared.history.Event.TheVariants.{Look as Looked}
 use Rattle.phase_model.specs.declared.op.Look.{Look}
@@ -41,9 +42,9 @@ given_is_sum s a (Ok x) legal goes seen = seen_is_sum s x legal (still_seen a s 
 given_is_sum s a (Err r) legal goes seen = tt
 
 -- so is each sum that a worker gives back
-pub are_sums : (parts : List (List Entry)) (given : List (Result (Look ℤ) Refusal)) → 0 < length parts
-    → AreShown (λ x seen. IfOk x (IsSeen (seen 0))) parts given → AreSums parts given
-are_sums parts given some shown =
+pub are_sums : (l : Limits) (parts : List (List Entry)) (given : List (Result (Look ℤ) Refusal)) → 0 < length parts
+    → AreShown (λ x seen. IfOk x (IsSeen (seen 0))) l parts given → AreSums parts given
+are_sums l parts given some shown =
     let s = shown.stories 0 in
     let told = shown.told 0 some in
     (s, told, λ k d within. ∥∥₁_map (shown.shown k d within) (λ one. given_is_sum s (one.0 0) _ told.3 (one.2 0 some) one.1))

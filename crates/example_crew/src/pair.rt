@@ -41,8 +41,8 @@ fn arrive<H: Hand<TaskNumber>>(hand: &mut H, task: TaskNumber, number: i32) -> R
     }
 }
 
-/// The task ends its turn, and arrives again with the sum that it sees, or leaves. With whom the
-/// worker goes on: where this task is parked or has left, with one whom a call woke.
+/// The task ends its turn, and arrives again with the sum that it sees, or leaves. The task with which
+/// the worker goes on: if this one is parked or has left, one that a call woke.
 fn turn<H: Hand<TaskNumber>>(
     hand: &mut H,
     task: TaskNumber,
@@ -73,7 +73,7 @@ impl Crew<TaskNumber> for Pair {
     ghost use Rattle.std.specs.Prelude.{IfOk};
     ghost use Rattle.example_crew.specs.Sums.{IsSeen};
 
-    /// The last sum that the worker saw, or `Nothing` where it saw none.
+    /// The last sum that the worker saw, or `Nothing` if it saw none.
     type Given = Result<Look, Refusal>;
 
     ghost shows = { λ given seen. IfOk given (IsSeen (seen 0)) };

@@ -15,7 +15,7 @@ use task_numbers::{AccumulatorIndex, LongTaskNumber};
 
 const TASKS: usize = 4;
 
-/// How many phases there are where no argument says it.
+/// How many phases there are if no argument says it.
 const PHASES: Phase = 1_000_000;
 
 /// Four workers, of which each begins with the task of its own place.
@@ -53,7 +53,7 @@ fn arrive<H: LongHand<LongTaskNumber>>(
     }
 }
 
-/// The task ends its turn. The phase of the turn; none where the task is parked.
+/// The task ends its turn. The phase of the turn; none if the task is parked.
 fn pass<H: LongHand<LongTaskNumber>>(
     hand: &mut H,
     task: LongTaskNumber,
@@ -78,8 +78,8 @@ fn sees_sum<H: LongHand<LongTaskNumber>>(
     }
 }
 
-/// After the phase the task arrives at the next, if there is one, or leaves. With whom the worker
-/// goes on.
+/// After the phase the task arrives at the next, if there is one, or leaves. The task with which the
+/// worker goes on.
 fn go_on<H: LongHand<LongTaskNumber>>(
     hand: &mut H,
     task: LongTaskNumber,

@@ -8,7 +8,7 @@ use trace_model::Part;
 
 /// What workers do with phasers. A `T` stands for a task that is parked.
 ///
-/// No worker may wait for another: where the system makes no thread, they work one after the other.
+/// No worker may wait for another: if the system makes no thread, they work one after the other.
 /// A task that has to wait is parked, and goes on in the hand of the worker whose call lets it.
 pub trait Crew<T> {
     ghost use Rattle.std.specs.Prelude.{ℕ};
@@ -18,15 +18,15 @@ pub trait Crew<T> {
     /// What a worker gives back.
     type Given: Send + Drop;
 
-    /// What `prepare` can be refused by: anything where nobody says.
+    /// What `prepare` can be refused by: anything by default.
     ghost refuses: { Self → Refusal → Type 0 } = { λ _ _. Unit {0} };
 
-    /// What a worker's gift says of all that the worker has seen of the phasers: nothing where nobody
-    /// says. `with_phasers` says it of the stories that the parts tell.
+    /// What a worker's gift says of all that the worker has seen of the phasers: nothing by default.
+    /// `with_phasers` says it of the stories that the parts tell.
     ghost shows: { Self.Given → (ℕ → Story) → Type 0 } = { λ _ _. Unit {0} };
 
     /// Makes phasers and registers tasks by the hand of worker 0, before any thread is started.
-    /// Where it is refused nobody works.
+    /// If it is refused nobody works.
     fn prepare<H: Hand<T>>(&self, hand: &mut H) -> Result<(), Refusal>
         ensures refused { IfErr result (λ e. refuses self.now e) };
 

@@ -86,6 +86,8 @@ fn parted<T: Drop, C: Crew<T>, K: Naming>(
     requires named { of_seen.IsNamed K.Logs.logs logs.old.items }
     ensures number { IfOk result (λ r. (vec_len r.0 ≡ vec_len done) × (vec_len r.1 ≡ vec_len done)) }
     ensures same { logs.new.items ≡ logs.old.items }
+    ensures limits { IfOk result (λ r. 0 < vec_len done → (n : ℕ) → n < length logs.old.items
+        → (story_at logs.old.items n).limits ≡ K.Logs.limits) }
     ensures shown { IfOk result (λ r. All (λ x. ∥ HasShown C.shows (length logs.old.items) (λ n. story_at logs.old.items n) x ∥₁) r.0.items) }
     ensures memory { IfErr result (λ e. e ≡ Refusal.Memory) }
 {
@@ -131,6 +133,7 @@ fn gathered<T: Drop, C: Crew<T>, K: Naming, R: Wait>(
     table: ReceiptTable<T, K>,
     done: Vec<Done<T, C, K>>,
 ) -> Result<Gathered<C::Given>, Refusal>
+    requires some { 0 < vec_len done }
     requires workers { AreAllParts (vec_len done)
         K.EventsByWorker.parts K.UpByWorker.parts K.DownByWorker.parts }
     requires phasers { AreAllParts table.phasers
@@ -138,7 +141,7 @@ fn gathered<T: Drop, C: Crew<T>, K: Naming, R: Wait>(
     requires all { table.phasers ≡ K.Logs.limits.phasers }
     ensures gathered { IfOk result (λ g. AreGathered table.phasers g.parts.items g.totals) }
     ensures given { IfOk result (λ g. vec_len g.given ≡ vec_len done) }
-    ensures shown { IfOk result (λ g. AreShown C.shows g.parts.items g.given.items) }
+    ensures shown { IfOk result (λ g. AreShown C.shows K.Logs.limits g.parts.items g.given.items) }
     ensures memory { IfErr result (λ e. e ≡ Refusal.Memory) }
 {
     let ReceiptParts {
@@ -179,7 +182,7 @@ fn run_in<T: Send + Drop, C: Crew<T> + Sync, K: Naming + SharedLedgers, R: Threa
     requires each { vec_len logs ≡ limits.phasers }
     ensures gathered { IfOk result (λ g. AreGathered blanks.phasers g.parts.items g.totals) }
     ensures given { IfOk result (λ g. vec_len g.given ≡ blanks.workers) }
-    ensures shown { IfOk result (λ g. AreShown C.shows g.parts.items g.given.items) }
+    ensures shown { IfOk result (λ g. AreShown C.shows limits g.parts.items g.given.items) }
     ensures refused { IfErr result (λ e. (e ≡ Refusal.Memory) ⊎ C.refuses crew.now e) }
 {
     let (books, phasers, shares) = open::<K>(alloc, blanks)?;
@@ -221,7 +224,7 @@ fn run_over<
     requires each { vec_len logs ≡ limits.phasers }
     ensures gathered { IfOk result (λ g. AreGathered blanks.phasers g.parts.items g.totals) }
     ensures given { IfOk result (λ g. vec_len g.given ≡ blanks.workers) }
-    ensures shown { IfOk result (λ g. AreShown C.shows g.parts.items g.given.items) }
+    ensures shown { IfOk result (λ g. AreShown C.shows limits g.parts.items g.given.items) }
     ensures refused { IfErr result (λ e. (e ≡ Refusal.Memory) ⊎ C.refuses crew.now e) }
 {
     run_in::<T, C, Named<Seven<EP, EW, UP, UW, DP, DW, RM>, L>, R>(
@@ -232,9 +235,9 @@ fn run_over<
 /// Takes `limits.phasers` phasers, each behind a lock of its own, has the crew prepare them, lets
 /// it work by so many workers, each in a thread of its own, and gathers what they leave. What a
 /// worker's gift says of what the worker has seen (`Crew::shows`) holds of beginnings of the stories
-/// that the parts tell.
+/// that the parts tell, and these have the limits.
 ///
-/// `Memory` where the phasers, a worker or a thread's result get none; else what `prepare` is
+/// `Memory` if the phasers, a worker or a thread's result get none; else what `prepare` is
 /// refused by. What a worker's calls are refused by is the crew's own matter.
 pub fn with_phasers<T: Send + Drop, C: Crew<T> + Sync, R: Threads + Wait + Sync>(
     rt: &R,
@@ -247,7 +250,7 @@ pub fn with_phasers<T: Send + Drop, C: Crew<T> + Sync, R: Threads + Wait + Sync>
     requires workers { 0 < workers }
     ensures gathered { IfOk result (λ g. AreGathered limits.phasers g.parts.items g.totals) }
     ensures given { IfOk result (λ g. vec_len g.given ≡ workers) }
-    ensures shown { IfOk result (λ g. AreShown C.shows g.parts.items g.given.items) }
+    ensures shown { IfOk result (λ g. AreShown C.shows limits g.parts.items g.given.items) }
     ensures refused { IfErr result (λ e. (e ≡ Refusal.Memory) ⊎ C.refuses crew.now e) }
 {
     let logs = new_logs(alloc, limits.phasers)?;

@@ -20,16 +20,15 @@ use phaser_cell::{PassAnswer, SignalAnswer};
 use std::sync::Wait;
 use task_numbers::{AccumulatorIndex, PhaserNumber, TaskNumber};
 
-/// What one worker has of all phasers. A `T` stands for a task that is parked: whatever the worker
-/// who goes on with it wants to have. Contracts see the worker's number, how many phasers there
-/// are, the items of those whom the worker's calls have woken, and what its calls add up to.
+/// What one worker has of all phasers. A `T` stands for a parked task: it is whatever the worker that
+/// goes on with the task wants to have. Contracts see the worker's number, how many phasers there
+/// are, the items of the tasks that the worker's calls have woken, and what its calls add up to.
 ///
 /// Each call is that of a `table_receipts::ReceiptTable`, and gives a receipt: its clause `told` says
 /// that what was answered is the phaser's reply at a place of its one history, no earlier than what
-/// the worker had seen of it (`seen`), which then goes up to that call. Besides, where no phaser has
-/// the number, `make` answers `PhasersFull` and every other call `NotRegistered`, as in a run; and
-/// `Memory` is answered where there is none for the list of those who are woken. None of these
-/// changes anything.
+/// the worker had seen of it (`seen`), which then goes up to that call. If no phaser has the number,
+/// `make` answers `PhasersFull` and every other call `NotRegistered`, as in a run. If there is no
+/// memory for the list of woken tasks, the answer is `Memory`. None of these changes anything.
 pub trait Hand<T> {
     ghost use Rattle.std.specs.Prelude.{ℕ};
     ghost use Rattle.phase_model.specs.Rules.{Story};
@@ -51,8 +50,8 @@ pub trait Hand<T> {
     fn phasers(&self) -> usize
         ensures { result ≡ (shown self.now).phasers };
 
-    /// Takes the item of whom this worker's calls woke first. Nobody else has it: whoever
-    /// takes it goes on with the task.
+    /// Takes the item of the task that this worker's calls woke first. Nobody else has it: the worker
+    /// that takes it goes on with the task.
     fn next(&mut self) -> Option<T>
         ensures first { MatchOption result
             (((shown self.old).freed ≡ []) × ((shown self.new).freed ≡ []))
@@ -126,7 +125,7 @@ pub trait Hand<T> {
         ensures looked { IfOk result (λ x. HasLooked (seen self.new phaser).terms.ops task accumulator (seen self.new phaser).past x) }
         ensures more { HasSeenMore phaser (seen self.old) (seen self.new) };
 
-    /// The task signals, with the number of a single where it proposes one. The item comes back, or
+    /// The task signals, with the number of a single if it proposes one. The item comes back, or
     /// is parked.
     fn signal(
         &mut self,

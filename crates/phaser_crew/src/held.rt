@@ -28,7 +28,7 @@ pub(crate) struct Held<'a, T, K: Naming, R> {
     ghost few: { table.now.phasers ≡ K.Logs.limits.phasers },
 }
 
-/// The phaser's place in the table; the refusal where no phaser has the number.
+/// The phaser's place in the table; the refusal if no phaser has the number.
 fn place<T, K: Naming>(
     table: &ReceiptTable<T, K>,
     phaser: PhaserNumber,
@@ -43,7 +43,7 @@ fn place<T, K: Naming>(
     table.place(phaser.get(), refusal)
 }
 
-/// Puts the items of the out-list behind those that are ready; `Memory` where there is none for
+/// Puts the items of the out-list behind those that are ready; `Memory` if there is none for
 /// them.
 pub(crate) fn pour<T>(ready: &mut VecDeque<T>, out: &mut Out<T>) -> Result<(), Refusal>
     ensures empty { OnOk result (out.new ≡ []) }
@@ -58,7 +58,7 @@ pub(crate) fn pour<T>(ready: &mut VecDeque<T>, out: &mut Out<T>) -> Result<(), R
 }
 
 impl<'a, T: Drop, K: Naming, R: Wait> Held<'a, T, K, R> {
-    /// The hand of the worker of this number. `Memory` where its list gets none.
+    /// The hand of the worker of this number. `Memory` if its list gets none.
     pub(crate) fn new(
         alloc: Global,
         worker: u32,

@@ -18,14 +18,14 @@ use phase_modes::{Mode, Refusal};
 use std::sync::Wait;
 use task_numbers::{AccumulatorIndex, LongTaskNumber};
 
-/// What one worker has of a phaser that lives long. A `T` stands for a task that is parked:
-/// whatever the worker who goes on with it wants to have. Contracts see the worker's number, and
-/// the items of those whom the worker's calls have woken.
+/// What one worker has of a phaser that lives long. A `T` stands for a parked task: it is whatever the
+/// worker that goes on with the task wants to have. Contracts see the worker's number, and the items
+/// of the tasks that the worker's calls have woken.
 ///
 /// Each call is that of a `long_receipts::ReceiptLock`, and gives a receipt: its clause `told` says
 /// that what was answered is the phaser's reply at a place of its one history, no earlier than what
-/// the worker had seen of it (`seen`), which then goes up to that call. Besides, `Memory` is
-/// answered where there is none for the list of those who are woken, and then nothing is changed.
+/// the worker had seen of it (`seen`), which then goes up to that call. If there is no memory for the
+/// list of woken tasks, the answer is `Memory`, and nothing is changed.
 pub trait LongHand<T> {
     ghost use Rattle.std.specs.Prelude.{List};
     ghost use Rattle.phase_model.specs.declared.history.Event.{Event};
@@ -47,8 +47,8 @@ pub trait LongHand<T> {
     fn worker(&self) -> u32
         ensures { result ≡ (shown self.now).worker };
 
-    /// Takes the item of whom this worker's calls woke first. Nobody else has it: whoever
-    /// takes it goes on with the task.
+    /// Takes the item of the task that this worker's calls woke first. Nobody else has it: the worker
+    /// that takes it goes on with the task.
     fn next(&mut self) -> Option<T>
         ensures first { MatchOption result
             (((shown self.old).freed ≡ []) × ((shown self.new).freed ≡ []))
@@ -91,7 +91,7 @@ pub trait LongHand<T> {
         ensures looked { IfOk result (λ x. HasLooked terms.ops task accumulator (seen self.new) x) }
         ensures more { IsTail (seen self.old) (seen self.new) };
 
-    /// The task signals, with the number of a single where it proposes one. The item comes back, or
+    /// The task signals, with the number of a single if it proposes one. The item comes back, or
     /// is parked.
     fn signal(&mut self, task: LongTaskNumber, proposed: Option<u32>, item: T) -> SignalAnswer<T>
         ensures item { IsBackFromSignal item result }

@@ -36,7 +36,7 @@ fn typed(number: Result<u64, Refusal>) -> Result<LongTaskNumber, Refusal>
 }
 
 impl<'a, T: Drop, J: Naming, R> LongHeld<'a, T, J, R> {
-    /// The hand of the worker of this number. `Memory` where its list gets none.
+    /// The hand of the worker of this number. `Memory` if its list gets none.
     pub(crate) fn new(
         alloc: Global,
         worker: u32,
@@ -54,6 +54,21 @@ impl<'a, T: Drop, J: Naming, R> LongHeld<'a, T, J, R> {
             ready: VecDeque::new(alloc),
             out: Out::new(alloc)?,
         })
+    }
+
+    /// What was seen, once the worker is done.
+    pub(crate) fn into_front(self) -> Front<J>
+        ensures { result ≡ self.entry.front }
+    {
+        let LongHeld {
+            worker: _,
+            rt: _,
+            lock: _,
+            front,
+            ready: _,
+            out: _,
+        } = self;
+        front
     }
 }
 

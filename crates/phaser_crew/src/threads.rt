@@ -6,7 +6,7 @@ use std::sync::Wait;
 use std::thread;
 use std::thread::Threads;
 
-/// Who does a job, and gives an `X` back.
+/// What does a job, and gives an `X` back.
 pub(crate) trait Work<J, X> {
     fn work<R: Wait>(&self, rt: &R, job: J) -> X;
 }

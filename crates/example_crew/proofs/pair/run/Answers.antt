@@ -8,8 +8,8 @@ pub returns : goal.returns
 returns g c = record {
   sums = if_both c.with_phasers.result
       (λ x. AreGathered 1 x.parts.items x.totals)
-      (λ x. AreShown (λ y seen. IfOk y (IsSeen (seen 0))) x.parts.items x.given.items)
+      (λ x. AreShown (λ y seen. IfOk y (IsSeen (seen 0))) _ x.parts.items x.given.items)
       (λ x. AreSums x.parts.items x.given.items)
-      (λ x gathered shown. are_sums x.parts.items x.given.items (omega (arith, gathered.all)) shown)
+      (λ x gathered shown. are_sums _ x.parts.items x.given.items (omega (arith, gathered.all)) shown)
       c.with_phasers.ensures.gathered c.with_phasers.ensures.shown;
 }

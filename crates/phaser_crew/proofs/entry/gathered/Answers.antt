@@ -28,6 +28,7 @@ returns-clause-shown g c =
     let as_many : length left.logs.items ≡ length left.parts.items = omega (arith, c.into_parts-parts.ensures.phasers, left.parts.ok, left.logs.ok) in
     record {
       stories = λ n. story_at left.logs.items n;
+      limited = λ n within. c.in_ok-given.ensures.limits c.requires.some n (omega (arith, within, as_many));
       told = told_at_each g.K.Logs.logs left.parts.items left.logs.items c.into_parts-parts.ensures.logged;
       shown = subst (λ (n : ℕ). All (λ x. ∥ HasShown g.C.Crew.shows n (λ k. story_at left.logs.items k) x ∥₁) c.in_ok-given.given.items) as_many c.in_ok-given.ensures.shown;
     }

@@ -20,5 +20,6 @@ loop-one-preserved g c =
       given = omega (arith, inv.given, ap (λ (xs : List _). length xs) c.in_ok-push.ensures.items, length-append c.loop-one.all_given.items (one.given ∷ []), length-append c.loop-one.yielded (one ∷ []), c.push.new.self.ok.0, c.loop-one.all_given.ok.0);
       shares = omega (arith, inv.shares, length-append c.loop-one.yielded (one ∷ []), c.in_ok-push-2.ensures.len);
       kept = c.begin.ensures.same.1 ∙ inv.kept;
+      limits = λ some n within. subst (λ (xs : List Sight). (story_at xs n).limits ≡ g.K.Logs.limits) inv.kept (c.begin.ensures.limits n (omega (arith, within, many)));
       shown = all_more (λ x. ∥ HasShown g.C.Crew.shows (length logs) (λ n. story_at logs n) x ∥₁) c.loop-one.all_given.items c.push.new.self.items one.given c.in_ok-push.ensures.items inv.shown holds;
     }
