@@ -91,7 +91,7 @@ def adopt_orphans(is_wanted):
 
 
 def reap_orphans(own):
-    """Waits for each child that has ended, but for the processes of these numbers: their status is for who started them.
+    """Waits for each child that has ended, but for the processes of these numbers: their status is for the code that started them.
 
     `rt` leaves a shell that guards what it starts, and that ends with it. Without this it would stay as a zombie, for each crate
     one. One of the own that has ended hides the others until it is waited for, so this is called again and again."""
