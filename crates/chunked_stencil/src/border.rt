@@ -4,15 +4,19 @@ ghost use Rattle.std.specs.Prelude.{◌≡◌, ◌≤◌, [], IfOk, IfSome};
 
 use crate::bell::Bell;
 use crate::cells::GREATEST;
-use long_locks::{LongLock, Out, PassAnswer, SignalAnswer};
+use crossbeam_utils::CachePadded;
+use long_locks::{LongCell, Out, PassAnswer, SignalAnswer};
 use long_phaser::Task;
 use phase_model::{Bound, LongLook, Look, Op, Ops};
 use phase_modes::{Mode, Refusal};
 use std::alloc::Global;
-use std::sync::Wait;
+use std::sync::{Mutex, Wait};
 
-/// The phaser of a border. While a task is parked there, its thread's bell stands for it.
-pub type Border<'p> = LongLock<&'p Bell>;
+/// The phaser of a border, behind a lock. While a task is parked there, its thread's bell stands
+/// for it. There are as many borders as the job asks for, all of one type, so none has a name of its
+/// own, and its calls give no receipts. Threads at other borders write no line of a processor's cache
+/// that this one has.
+pub type Border<'p> = CachePadded<Mutex<LongCell<&'p Bell>>>;
 
 /// Which piece it is whose side of a border this is.
 #[derive(Clone, Copy)]
@@ -49,7 +53,10 @@ pub fn new_border<'p>(alloc: Global) -> Result<Border<'p>, Refusal> {
     ops.push(Op::Least);
     // Neither comes so far ahead of the other that a bound of 2 would hold him.
     match Bound::of(2) {
-        Some(bound) => LongLock::new(alloc, ops, bound),
+        Some(bound) => {
+            let cell = LongCell::new(alloc, ops, bound)?;
+            Ok(CachePadded::new(Mutex::new(cell)))
+        }
         None => Err(Refusal::NotNow),
     }
 }
@@ -115,8 +122,9 @@ impl Side {
     /// Both sides of the border of this number, which nobody has made yet, that of the piece on its
     /// left first.
     pub fn both<R: Wait>(rt: &R, number: usize, border: &Border) -> Result<(Side, Side), Refusal> {
-        let on_left = border.make(rt, Mode::SigWait)?;
-        let on_right = border.register(rt, on_left, Mode::SigWait)?;
+        let mut phaser = border.lock(rt);
+        let on_left = phaser.make(Mode::SigWait)?;
+        let on_right = phaser.register(on_left, Mode::SigWait)?;
         let left = Side {
             border: number,
             place: Place::OnLeft,
@@ -189,7 +197,7 @@ impl Side {
     pub fn leave<R: Wait>(&self, me: &mut Caller<R>) {
         let borders = me.borders;
         if let Some(border) = borders.get(self.border) {
-            let _left = border.leave(me.rt, &mut me.out, self.task);
+            let _left = border.lock(me.rt).leave(&mut me.out, self.task);
             wake(&mut me.out);
         }
     }

@@ -1,26 +1,24 @@
 -- Whoever was registered as one who can wait stays one.
-use Rattle.std.proofs.Common.{if◌then◌else◌, ◌≡◌, ℕ, ◌==◌, nat_lt, Bool, true, false, List, [], ◌∷◌, ◌++◌, Option, Some, None, is_some, Result, Ok, Err, IfOk, refl, sym, ap, ◌∙◌, subst, append_assoc}
+use Rattle.std.proofs.Common.{if◌then◌else◌, ◌≡◌, ℕ, ◌==◌, nat_lt, Bool, true, false, List, [], ◌∷◌, ◌++◌, Option, Some, None, is_some, refl, sym, ap, ◌∙◌, subst, append_assoc}
 use Rattle.std.specs.Option.{option_map_or}
 use Rattle.std.proofs.lemmas.Bool.{ne_eqb, and_parts, false≢true}
 use Rattle.phase_modes.specs.declared.limits.Limits.{Limits}
-use Rattle.phase_modes.specs.declared.refusal.Refusal.{Refusal}
 use Rattle.phase_modes.specs.declared.reg.Mode.{Mode}
 use Rattle.phase_modes.specs.Lists.{is_empty}
 use Rattle.phase_modes.specs.Mode.{can_wait}
-use Rattle.phase_model.specs.declared.call.Call.{Call}
 use Rattle.phase_model.specs.declared.history.Event.{Event}
 use Rattle.phase_model.specs.declared.history.Event.TheVariants.{Make, Reg, Sig, Claim, Did, Pass, Send, Look as Looked, Drop}
 use Rattle.phase_model.specs.declared.terms.Terms.{Terms}
-use Rattle.phase_model.specs.Replies.{Reply, refused, not_yet, done, reply, after}
-use Rattle.phase_model.specs.Rules.{Story, is_legal, is_permitted}
+use Rattle.phase_model.specs.Rules.{is_legal, is_permitted}
 use Rattle.phase_model.specs.Tasks.{is_registered, mode_of, has_mode}
 use Rattle.phase_model.proofs.Closing.{some_event}
 use Rattle.phase_model.proofs.Legal.{last_follows, reg_follows}
 use Rattle.phase_model.proofs.LiveTasks.{mode_known}
+use Rattle.told_history.specs.declared.wide.LongEvent.{LongEvent}
+use Rattle.told_history.specs.Wide.{event_of}
 use Rattle.long_phaser.specs.Numbered.{long_limits}
 use Rattle.ghost_log.specs.Tails.{IsTail}
-use Rattle.long_receipts.specs.Told.{story_of}
-use Rattle.example_threads.specs.Sums.{IsNext}
+use Rattle.long_locks.specs.Events.{with_one, HasAdded}
 
 some_mode : (test : Mode → Bool) (o : Option Mode) → option_map_or test o false ≡ true → is_some o ≡ true
 some_mode test None k = absurd cc
@@ -59,28 +57,16 @@ mode_stays l terms test t (e ∷ later) h legal k =
     let f = last_follows l terms (later ++ h) e legal in
     by_event l terms test t (later ++ h) e f.permitted (mode_stays l terms test t later h f.before k)
 
-grown : (s : Story) (r : Reply) → IsTail s.past (after s r).past
-grown s (refused e) = ([], refl)
-grown s not_yet = ([], refl)
-grown s (done e) = (e ∷ [], refl)
+grown : (o : Option LongEvent) (h : List Event) → IsTail h (with_one o h)
+grown None h = ([], refl)
+grown (Some e) h = (event_of e ∷ [], refl)
 
-pub waits_on : (terms : Terms) (c : Call) (seen before now : List Event) (t : ℕ)
-    → IsTail seen before → now ≡ (after (story_of terms before) (reply (story_of terms before) c)).past
-    → is_legal long_limits terms now ≡ true → has_mode can_wait t seen ≡ true → has_mode can_wait t now ≡ true
-waits_on terms c seen before now t tail is legal k =
-    let s = story_of terms before in
-    let g = grown s (reply s c) in
-    let all : now ≡ (g.0 ++ tail.0) ++ seen =
-    is ∙ (g.1 ∙ (ap (λ (h : List Event). g.0 ++ h) tail.1 ∙ sym (append_assoc g.0 tail.0 seen))) in
+pub waits_on : (terms : Terms) (o : Option LongEvent) (seen now : List Event) (t : ℕ)
+    → HasAdded o seen now → is_legal long_limits terms now ≡ true → has_mode can_wait t seen ≡ true → has_mode can_wait t now ≡ true
+waits_on terms o seen now t added legal k =
+    let tail = added.1 in
+    let one = grown o added.0 in
+    let all : now ≡ (one.0 ++ tail.0) ++ seen =
+    added.2 ∙ (one.1 ∙ (ap (λ (h : List Event). one.0 ++ h) tail.1 ∙ sym (append_assoc one.0 tail.0 seen))) in
     subst (λ (h : List Event). has_mode can_wait t h ≡ true) (sym all)
-    (mode_stays long_limits terms can_wait t (g.0 ++ tail.0) seen (subst (λ (h : List Event). is_legal long_limits terms h ≡ true) all legal) k)
-
--- a task that is newly registered is none that could wait before
-pub apart_of : (terms : Terms) (q : ℕ) (m : Mode) (a : Result ℕ Refusal) (seen now : List Event)
-    → IfOk a (λ t. IsNext (Reg q t m) seen now) → is_legal long_limits terms now ≡ true → has_mode can_wait q seen ≡ true
-    → IfOk a (λ t. (t == q) ≡ false)
-apart_of terms q m (Err r) seen now next legal k = tt
-apart_of terms q m (Ok t) seen now next legal k =
-    let f = last_follows long_limits terms (next.0 ++ seen) (Reg q t m) (subst (λ (h : List Event). is_legal long_limits terms h ≡ true) next.1 legal) in
-    apart can_wait q t (next.0 ++ seen) (reg_follows long_limits terms (next.0 ++ seen) q t m f.permitted).unknown
-    (mode_stays long_limits terms can_wait q next.0 seen f.before k)
+    (mode_stays long_limits terms can_wait t (one.0 ++ tail.0) seen (subst (λ (h : List Event). is_legal long_limits terms h ≡ true) all legal) k)

@@ -1,5 +1,5 @@
 -- What a turn came to, and what the whole history says of it.
-use Rattle.std.proofs.Common.{◌≡◌, ℕ, ℤ, true, List, [], ◌∷◌, ◌++◌, sym, ap, ◌∙◌, append_assoc}
+use Rattle.std.proofs.Common.{◌≡◌, ℕ, ℤ, true, List, ◌∷◌, ◌++◌, ap, ◌∙◌}
 use Rattle.phase_modes.specs.Mode.{can_wait}
 use Rattle.phase_model.specs.declared.history.Event.{Event}
 use Rattle.phase_model.specs.declared.history.Event.TheVariants.{Look as Looked}
@@ -11,8 +11,7 @@ use Rattle.parked_tasks.specs.declared.answer.PassAnswer.{PassAnswer}
 use Rattle.parked_tasks.specs.declared.answer.PassAnswer.TheVariants.{Passed, Claimed, Parked as Waits, Refused}
 use Rattle.world_model.specs.Laws.{IsFolded}
 use Rattle.ghost_log.specs.Tails.{IsTail}
-use Rattle.long_receipts.specs.Told.{IfPassed}
-use Rattle.example_threads.specs.Sums.{IsNext}
+use Rattle.long_locks.specs.Told.{IfPassed}
 use Rattle.example_threads.specs.Turns.{IsGood, IsFoldOfAll}
 
 -- what was seen is still the fold
@@ -37,21 +36,3 @@ passed_where (Refused y r) now t closed k = tt
 -- a beginning is one of the same history
 pub within : (front past whole : List Event) → IsTail front past → whole ≡ past → IsTail front whole
 within front past whole tail is = (tail.0, is ∙ tail.1)
-
--- a beginning of a beginning
-pub later_on : (one two three : List Event) → IsTail one two → IsTail two three → IsTail one three
-later_on one two three first second =
-    (second.0 ++ first.0, second.1 ∙ (ap (λ (h : List Event). second.0 ++ h) first.1 ∙ sym (append_assoc second.0 first.0 one)))
-
--- an event that came after what was seen later
-pub next_of : (e d : Event) (start seen now : List Event) → IsTail start seen → d ≡ e → IsNext d seen now → IsNext e start now
-next_of e d start seen now tail same next = (
-  next.0 ++ tail.0,
-  next.1
-      ∙ (ap (λ (k : Event). k ∷ (next.0 ++ seen)) same
-      ∙ ap (λ (h : List Event). e ∷ h) (ap (λ (h : List Event). next.0 ++ h) tail.1 ∙ sym (append_assoc next.0 tail.0 start))),
-)
-
--- the same one, of a task and a history under other names
-pub next_is : (e d : Event) (start seen now then : List Event) → seen ≡ start → d ≡ e → then ≡ now → IsNext d seen now → IsNext e start then
-next_is e d start seen now then is same at next = let r = next_of e d start seen now ([], is) same next in (r.0, at ∙ r.1)

@@ -1,13 +1,15 @@
 -- What a turn came to.
-use Rattle.std.specs.Prelude.{ℕ, ℤ, ◌≡◌, ◌-◌, false, List, ◌∷◌, ◌++◌}
+use Rattle.std.specs.Prelude.{ℕ, ℤ, ◌≡◌, ◌-◌, true, false, List, ◌∷◌, ◌++◌}
 use Rattle.phase_modes.specs.Lists.{is_empty}
 use Rattle.phase_model.specs.declared.history.Event.{Event}
 use Rattle.phase_model.specs.declared.history.Event.TheVariants.{Look as Looked}
 use Rattle.phase_model.specs.declared.op.Look.{Look}
 use Rattle.phase_model.specs.declared.op.Op.{Op}
 use Rattle.phase_model.specs.Phases.{IsClosed, waits}
-use Rattle.phase_model.specs.Rules.{look_of}
-use Rattle.long_receipts.specs.Told.{HasLooked}
+use Rattle.phase_model.specs.declared.terms.Terms.{Terms}
+use Rattle.phase_model.specs.Rules.{is_legal, look_of}
+use Rattle.long_phaser.specs.Numbered.{long_limits}
+use Rattle.long_locks.specs.Told.{HasLooked}
 
 -- the phase that was passed is closed in what was seen by then, which is something; and later some task looked, and saw
 -- this
@@ -25,3 +27,10 @@ IsFoldOfAll ops whole x =
     × (whole ≡ later ++ Looked t 0 x ∷ before)
     × (x ≡ look_of ops 0 (waits t before) whole)
     × IsClosed (waits t before - 1) before
+
+-- in one legal history of a phaser with these terms both saw such a fold
+pub record AreFoldsOfAll (terms : Terms) (x y : Look ℤ) : Type 0 where
+  pub whole : List Event
+  pub legal : is_legal long_limits terms whole ≡ true
+  pub one : IsFoldOfAll terms.ops whole x
+  pub other : IsFoldOfAll terms.ops whole y

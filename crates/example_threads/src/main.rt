@@ -2,11 +2,9 @@
 //! task sends 3, the other 4, they end their turn together, and each looks at the sum. A thread
 //! whose task has to wait sleeps until the other's call frees it.
 //!
-//! The calls give receipts, and each step is counted in a ledger of which each thread has a share.
-//! So it is proved of this program that the phase which each has passed was closed then, that what each
-//! saw is the fold of all values that were ever sent for a closed phase (`pair::both`), and that it
-//! is 7 wherever no call was refused (`pair::run`): both registrations and the steps of both threads
-//! are all steps that were counted, so nobody else sent anything.
+//! The calls give receipts. So it is proved of this program that the phase which each has passed was
+//! closed then (`pair::both`), and that what each saw is the fold of all values that were ever sent
+//! for a closed phase, in one legal history (`pair::run`).
 #![tactic(auto)]
 
 mod pair;
@@ -24,7 +22,7 @@ fn main(rt: HostRuntime) -> anyhow::Result<()> {
         (Look::Value(one), Look::Value(other)) => {
             println!(&rt; "one saw {one}, the other {other}")?
         }
-        _ => unreachable!(),
+        _ => bail!("a task saw no sum"),
     }
     Ok(())
 }

@@ -1,14 +1,19 @@
 //! Those who wait at a phaser that lives long: on one cell a waiter whom the last signal wakes, a
 //! signaller whom a pass wakes, and one whom a task wakes that leaves; and each call of its lock.
+ghost use Rattle.std.specs.Prelude.{◌≡◌, [], Some};
+
 use crate::asserted::{equal, equal_at};
-use long_locks::{LongCell, LongLock, Out, PassAnswer, SignalAnswer};
+use ghost_log::Whole;
+use long_locks::{Front, LongCell, LongLock, Naming, Out, PassAnswer, SignalAnswer};
 use long_phaser::{Phase, Task};
 use phase_model::{Bound, Look, Op, Ops};
 use phase_modes::{Mode, Refusal};
 use std::alloc::Global;
+use std::marker::Brand;
 use std::process::Abort;
 use std::sync::Wait;
 use std::test::Fail;
+use told_history::LongEvent;
 
 /// What a call is answered. The items are told apart by their numbers.
 #[derive(Clone, Copy, Debug, PartialEq, Eq)]
@@ -140,61 +145,89 @@ fn leaving_wakes(rt: HostRuntime) -> Result<(), Fail> {
     are_answered(&rt, rt.alloc(), &mut cell, &ROWS)
 }
 
-/// A phaser with one sum behind its lock, and tasks 0 and 1 on it, of which task 1 leaves.
-fn with_sum<R: Abort + Wait>(rt: &R, alloc: Global) -> Result<LongLock<u32>, Refusal> {
-    let mut ops = Ops::none();
-    ops.push(Op::Sum);
-    let bound = Bound::of(2).ok_or(Refusal::NotNow)?;
-    let lock = LongLock::new(alloc, ops, bound)?;
-    equal(rt, lock.make(rt, Mode::Single), Ok(0));
-    equal(rt, lock.register(rt, 0, Mode::SigWait), Ok(1));
-    equal(rt, lock.leave(rt, &mut Out::new(alloc)?, 1), Ok(()));
-    Ok(lock)
+/// Task 0 makes the phaser, and registers task 1, which leaves.
+fn registered<J: Naming, R: Abort + Wait>(
+    rt: &R,
+    alloc: Global,
+    lock: &LongLock<J, u32>,
+    me: &mut Front<J>,
+) -> Result<(), Refusal> {
+    equal(rt, lock.make(rt, me, Mode::Single), Ok(0));
+    equal(rt, lock.register(rt, me, 0, Mode::SigWait), Ok(1));
+    equal(rt, lock.leave(rt, me, &mut Out::new(alloc)?, 1), Ok(()));
+    Ok(())
 }
 
 /// Task 0 signals, and proposes the single of this number.
-fn proposed<R: Abort + Wait>(
+fn proposed<J: Naming, R: Abort + Wait>(
     rt: &R,
     alloc: Global,
-    lock: &LongLock<u32>,
+    lock: &LongLock<J, u32>,
+    me: &mut Front<J>,
     number: u32,
 ) -> Result<Answer, Refusal> {
     let mut out = Out::new(alloc)?;
-    Ok(of_signal(lock.signal(rt, &mut out, 0, Some(number), 10)))
+    Ok(of_signal(lock.signal(rt, me, &mut out, 0, Some(number), 10)))
 }
 
 /// Task 0 asks to pass, with this item.
-fn passed<R: Abort + Wait>(
+fn passed<J: Naming, R: Abort + Wait>(
     rt: &R,
     alloc: Global,
-    lock: &LongLock<u32>,
+    lock: &LongLock<J, u32>,
+    me: &mut Front<J>,
     item: u32,
 ) -> Result<Answer, Refusal> {
     let mut out = Out::new(alloc)?;
-    Ok(of_pass(lock.pass(rt, &mut out, 0, item)))
+    Ok(of_pass(lock.pass(rt, me, &mut out, 0, item)))
 }
 
 /// Task 0 reports the single done.
-fn reported<R: Abort + Wait>(rt: &R, alloc: Global, lock: &LongLock<u32>) -> Result<(), Refusal> {
+fn reported<J: Naming, R: Abort + Wait>(
+    rt: &R,
+    alloc: Global,
+    lock: &LongLock<J, u32>,
+    me: &mut Front<J>,
+) -> Result<(), Refusal> {
     let mut out = Out::new(alloc)?;
-    lock.single_done(rt, &mut out, 0)
+    lock.single_done(rt, me, &mut out, 0)
 }
 
-/// Task 0 sends 7 and proposes the single of number 3; it claims that, reports it done, ends its
-/// turn, and sees the sum.
+/// At a new phaser with one sum task 0 sends 7 and proposes the single of number 3; it claims that,
+/// reports it done, ends its turn, and sees the sum.
+fn calls<J: Naming, R: Abort + Wait>(
+    rt: &R,
+    alloc: Global,
+    ops: Ops,
+    bound: Bound,
+    whole: Whole<LongEvent>,
+) -> Result<(), Refusal>
+    requires name { whole.name ≡ J.log }
+    requires empty { whole.items ≡ [] }
+    requires terms { J.terms ≡ record { ops = ops; bound = Some bound } }
+{
+    let (lock, front) = LongLock::<J, u32>::new(alloc, ops, bound, whole)?;
+    let mut me = front;
+    registered(rt, alloc, &lock, &mut me)?;
+    equal(rt, lock.send(rt, &mut me, 0, 0, 7), Ok(()));
+    let signalled = proposed(rt, alloc, &lock, &mut me, 3)?;
+    equal(rt, signalled, Answer::Signalled(10));
+    let claimed = passed(rt, alloc, &lock, &mut me, 11)?;
+    equal(rt, claimed, Answer::Claimed(11, 3));
+    reported(rt, alloc, &lock, &mut me)?;
+    let gone = passed(rt, alloc, &lock, &mut me, 12)?;
+    equal(rt, gone, Answer::Passed(12, 0));
+    equal(rt, lock.look(rt, &mut me, 0, 0), Ok(Look::Value(7)));
+    equal(rt, lock.lock(rt).cell.parked.len(), 0);
+    Ok(())
+}
+
+/// Each call of the lock.
 #[test]
 fn locked_calls(rt: HostRuntime) -> Result<(), Fail> {
-    let alloc = rt.alloc();
-    let lock = with_sum(&rt, alloc)?;
-    equal(&rt, lock.send(&rt, 0, 0, 7), Ok(()));
-    let signalled = proposed(&rt, alloc, &lock, 3)?;
-    equal(&rt, signalled, Answer::Signalled(10));
-    let claimed = passed(&rt, alloc, &lock, 11)?;
-    equal(&rt, claimed, Answer::Claimed(11, 3));
-    reported(&rt, alloc, &lock)?;
-    let gone = passed(&rt, alloc, &lock, 12)?;
-    equal(&rt, gone, Answer::Passed(12, 0));
-    equal(&rt, lock.look(&rt, 0, 0), Ok(Look::Value(7)));
-    equal(&rt, lock.lock(&rt).parked.len(), 0);
+    let mut one_sum = Ops::none();
+    one_sum.push(Op::Sum);
+    let bound = Bound::of(2).ok_or(Refusal::NotNow)?;
+    calls::<Brand, HostRuntime>(&rt, rt.alloc(), one_sum, bound, Whole::new())?;
     Ok(())
 }

@@ -1,4 +1,4 @@
-//! What stands behind the lock of a phaser that lives long.
+//! A phaser that lives long, and the items of those who wait at it.
 ghost use Rattle.std.specs.Prelude.{◌≡◌, ◌+◌, [], ◌≤◌, false, IfOk, IfErr, OnErr, Ok, Err, Some, ◌≢◌};
 ghost use Rattle.std.specs.VecDeque.{deque_len, deque_capacity};
 ghost use Rattle.long_phaser.specs.Numbered.{long_limits};
@@ -86,7 +86,7 @@ impl<T> LongCell<T> {
     }
 
     /// The phaser's `signal`, with its refusals; a task that is too far ahead of a waiter leaves its
-    /// item here instead, or has it back with `NotNow` where it is parked already. The items of all
+    /// item here instead, or has it back with `NotNow` if it is parked already. The items of all
     /// whom it wakes are put into `out`.
     pub fn signal(
         &mut self,
@@ -120,7 +120,7 @@ impl<T> LongCell<T> {
     }
 
     /// The phaser's `leave`, with its refusals. The items of all whom it wakes are put into `out`,
-    /// the leaving task's own too where it was parked.
+    /// the leaving task's own too if it was parked.
     pub fn leave(&mut self, out: &mut Out<T>, task: Task) -> Result<(), Refusal>
         requires { out.old ≡ [] }
         ensures reply { result ≡ done_result (reply self.old.state.story (drop_task task)) }
@@ -159,7 +159,7 @@ impl<T> LongCell<T> {
     }
 
     /// The phaser's `pass`, with its refusals; a task that has to wait leaves its item here
-    /// instead, or has it back with `NotNow` where it is parked already. The items of all whom it
+    /// instead, or has it back with `NotNow` if it is parked already. The items of all whom it
     /// wakes are put into `out`: those who waited to signal, for the bound.
     pub fn pass(&mut self, out: &mut Out<T>, task: Task, item: T) -> PassAnswer<T, Phase>
         requires { out.old ≡ [] }
@@ -188,7 +188,7 @@ impl<T> LongCell<T> {
 
 impl<T: Drop> LongCell<T> {
     /// A phaser that nobody has made yet, with the operators of its accumulators and its bound, at
-    /// which nobody waits. All memory that it will ever need is taken here; `Memory` where that is
+    /// which nobody waits. All memory that it will ever need is taken here; `Memory` if that is
     /// refused.
     pub fn new(alloc: Global, ops: Ops, bound: Bound) -> Result<LongCell<T>, Refusal>
         ensures story { IfOk result (λ c. c.state.story ≡ record { limits = long_limits; terms = record { ops = ops; bound = Some bound }; past = [] }) }
@@ -197,7 +197,7 @@ impl<T: Drop> LongCell<T> {
         ensures memory { IfErr result (λ r. r ≡ Refusal.Memory) }
     {
         let parked = VecDeque::with_capacity(alloc, 256)?;
-        // Last, since it is the dearest to give back where another gets no memory.
+        // Last, since it is the dearest to give back if another gets no memory.
         let state = LongPhaser::new(alloc, ops, bound)?;
         Ok(LongCell { state, parked })
     }

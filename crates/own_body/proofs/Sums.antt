@@ -14,7 +14,7 @@ use Rattle.world_model.proofs.PhasersFolded.{legal_is_folded}
 use Rattle.world_model.proofs.PhasersLegal.{phasers_legal}
 use Rattle.trace_model.specs.Explained.{past}
 use Rattle.trace_model.specs.Run.{Entry}
-use Rattle.long_receipts.specs.Told.{HasLooked}
+use Rattle.long_locks.specs.Told.{HasLooked}
 use Rattle.table_receipts.specs.Logs.{GoesOn}
 use Rattle.job_script.specs.declared.act.Answer.{Answer}
 use Rattle.job_script.specs.declared.act.Answer.TheVariants.{Started, Done, Made, Spawned, Saw}

@@ -7,7 +7,7 @@ use Rattle.phase_model.specs.declared.terms.Terms.{Terms}
 use Rattle.phase_model.specs.Replies.{Reply, refused, not_yet, done, reply, after}
 use Rattle.phase_model.specs.Rules.{Story}
 use Rattle.ghost_log.specs.Tails.{IsTail}
-use Rattle.long_receipts.specs.Told.{story_of, IsAnswered, IsNumbered}
+use Rattle.long_locks.specs.Told.{story_of, IsAnswered, IsNumbered}
 
 after_more : (seen now : List Event) (s : Story) (r : Reply) → IsTail seen s.past → now ≡ (after s r).past → IsTail seen now
 after_more seen now s (refused e) tail is = (tail.0, is ∙ tail.1)

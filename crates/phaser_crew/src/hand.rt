@@ -9,7 +9,7 @@ ghost use Rattle.phase_model.specs.Tasks.{has_mode};
 ghost use Rattle.phaser_answers.specs.Answers.{signal_result, pass_result, look_result};
 ghost use Rattle.phaser_cell.specs.Amounts.{amount_if};
 ghost use Rattle.parked_tasks.specs.Parking.{goes_on, IsBack, has_signalled, IsBackFromSignal};
-ghost use Rattle.long_receipts.specs.Told.{IsSignalAnswer, IsPassAnswer, IfPassed, HasLooked};
+ghost use Rattle.long_locks.specs.Told.{IsSignalAnswer, IsPassAnswer, IfPassed, HasLooked};
 ghost use Rattle.table_receipts.specs.Told.{IsAnswered, IsMade};
 ghost use Rattle.table_receipts.specs.Seen.{HasSeenMore};
 ghost use Rattle.phaser_crew.specs.Hands.{BeginsWith, IsSameHand};

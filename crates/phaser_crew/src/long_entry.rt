@@ -7,7 +7,7 @@ use crate::long_crew::LongCrew;
 use crate::long_held::LongHeld;
 use crate::threads::{Work, in_threads};
 use ghost_log::Whole;
-use long_receipts::{Front, Naming, ReceiptCell, ReceiptLock};
+use long_locks::{Front, LongLock, Naming, ReceiptCell};
 use phase_model::{Bound, Ops};
 use phase_modes::Refusal;
 use std::alloc::Global;
@@ -20,7 +20,7 @@ use told_history::LongEvent;
 fn hands<'a, T: Drop, J: Naming, R>(
     rt: &'a R,
     alloc: Global,
-    lock: &'a ReceiptLock<J, T>,
+    lock: &'a LongLock<J, T>,
     front: Front<J>,
     workers: u32,
 ) -> Result<Vec<LongHeld<'a, T, J, R>>, Refusal>
@@ -70,7 +70,7 @@ impl<'a, 'b, T: Drop, C: LongCrew<T>, J: Naming, R: Wait> Work<
 fn worked<T: Send + Drop, C: LongCrew<T> + Sync, J: Naming + Send + Sync, R: Threads + Wait + Sync>(
     rt: &R,
     alloc: Global,
-    lock: &ReceiptLock<J, T>,
+    lock: &LongLock<J, T>,
     front: Front<J>,
     workers: u32,
     crew: &C,
@@ -116,7 +116,7 @@ fn given_of<T: Drop, C: LongCrew<T>, J: Naming>(
 /// What is left of the phaser and the workers.
 fn gathered<T: Drop, C: LongCrew<T>, J: Naming>(
     alloc: Global,
-    lock: ReceiptLock<J, T>,
+    lock: LongLock<J, T>,
     done: Vec<LongDone<T, C, J>>,
 ) -> Result<Vec<C::Given>, Refusal>
     ensures given { IfOk result (λ v. vec_len v ≡ vec_len done) }
@@ -153,7 +153,7 @@ fn named<T: Send + Drop, C: LongCrew<T> + Sync, R: Threads + Wait + Sync, J: Nam
     ensures refused { IfErr result (λ e. (e ≡ Refusal.Memory) ⊎ C.refuses crew.now e) }
 {
     let Unmade { ops, bound, log } = unmade;
-    let (lock, front) = ReceiptLock::<J, T>::new(alloc, ops, bound, log)?;
+    let (lock, front) = LongLock::<J, T>::new(alloc, ops, bound, log)?;
     let done = worked::<T, C, J, R>(rt, alloc, &lock, front, workers, crew)?;
     gathered(alloc, lock, done)
 }

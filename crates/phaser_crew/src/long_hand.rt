@@ -8,7 +8,7 @@ ghost use Rattle.phase_model.specs.Tasks.{has_mode};
 ghost use Rattle.phaser_answers.specs.Answers.{signal_result, pass_result, look_result};
 ghost use Rattle.parked_tasks.specs.Parking.{goes_on, IsBack, has_signalled, IsBackFromSignal};
 ghost use Rattle.ghost_log.specs.Tails.{IsTail};
-ghost use Rattle.long_receipts.specs.Told.{IsAnswered, IsNumbered, IsSignalAnswer, IsPassAnswer, IfPassed, HasLooked};
+ghost use Rattle.long_locks.specs.Told.{IsAnswered, IsNumbered, IsSignalAnswer, IsPassAnswer, IfPassed, HasLooked};
 ghost use Rattle.phaser_crew.specs.Hands.{BeginsWith};
 
 use long_locks::{PassAnswer, SignalAnswer};
@@ -22,7 +22,7 @@ use task_numbers::{AccumulatorIndex, LongTaskNumber};
 /// worker that goes on with the task wants to have. Contracts see the worker's number, and the items
 /// of the tasks that the worker's calls have woken.
 ///
-/// Each call is that of a `long_receipts::ReceiptLock`, and gives a receipt: its clause `told` says
+/// Each call is that of a `long_locks::LongLock`, and gives a receipt: its clause `told` says
 /// that what was answered is the phaser's reply at a place of its one history, no earlier than what
 /// the worker had seen of it (`seen`), which then goes up to that call. If there is no memory for the
 /// list of woken tasks, the answer is `Memory`, and nothing is changed.

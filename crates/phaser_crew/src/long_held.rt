@@ -4,9 +4,8 @@ ghost use Rattle.std.specs.Prelude.{◌≡◌, IfErr};
 
 use crate::held::pour;
 use crate::long_hand::LongHand;
-use long_locks::{Out, PassAnswer, SignalAnswer};
+use long_locks::{Front, LongLock, Naming, Out, PassAnswer, SignalAnswer};
 use long_phaser::Phase;
-use long_receipts::{Front, Naming, ReceiptLock};
 use phase_model::LongLook;
 use phase_modes::{Mode, Refusal};
 use std::alloc::Global;
@@ -19,7 +18,7 @@ use task_numbers::{AccumulatorIndex, LongTaskNumber};
 pub(crate) struct LongHeld<'a, T, J: Naming, R> {
     worker: u32,
     rt: &'a R,
-    lock: &'a ReceiptLock<J, T>,
+    lock: &'a LongLock<J, T>,
     /// What was seen of the phaser.
     front: Front<J>,
     /// Those whom the calls before the last one woke.
@@ -41,7 +40,7 @@ impl<'a, T: Drop, J: Naming, R> LongHeld<'a, T, J, R> {
         alloc: Global,
         worker: u32,
         rt: &'a R,
-        lock: &'a ReceiptLock<J, T>,
+        lock: &'a LongLock<J, T>,
         front: Front<J>,
     ) -> Result<LongHeld<'a, T, J, R>, Refusal>
         ensures memory { IfErr result (λ e. e ≡ Refusal.Memory) }

@@ -4,9 +4,8 @@ ghost use Rattle.std.specs.Prelude.{◌≡◌, [], Some};
 
 use crate::asserted::equal;
 use ghost_log::Whole;
-use long_locks::{Out, PassAnswer, SignalAnswer};
+use long_locks::{Front, LongLock, Naming, Out, PassAnswer, SignalAnswer};
 use long_phaser::{Phase, Task};
-use long_receipts::{Front, Naming, ReceiptLock};
 use phase_model::{Bound, Look, Op, Ops};
 use phase_modes::{Mode, Refusal};
 use std::alloc::Global;
@@ -33,7 +32,7 @@ const SINGLE: u32 = 5;
 fn signal<J: Naming, R: Wait>(
     rt: &R,
     alloc: Global,
-    lock: &ReceiptLock<J, u32>,
+    lock: &LongLock<J, u32>,
     me: &mut Front<J>,
     task: Task,
     item: u32,
@@ -51,7 +50,7 @@ fn signal<J: Naming, R: Wait>(
 fn pass<J: Naming, R: Wait>(
     rt: &R,
     alloc: Global,
-    lock: &ReceiptLock<J, u32>,
+    lock: &LongLock<J, u32>,
     me: &mut Front<J>,
     task: Task,
     item: u32,
@@ -69,7 +68,7 @@ fn pass<J: Naming, R: Wait>(
 fn single_done<J: Naming, R: Wait>(
     rt: &R,
     alloc: Global,
-    lock: &ReceiptLock<J, u32>,
+    lock: &LongLock<J, u32>,
     me: &mut Front<J>,
     task: Task,
 ) -> Result<Option<u32>, Refusal> {
@@ -81,7 +80,7 @@ fn single_done<J: Naming, R: Wait>(
 fn leave<J: Naming, R: Wait>(
     rt: &R,
     alloc: Global,
-    lock: &ReceiptLock<J, u32>,
+    lock: &LongLock<J, u32>,
     me: &mut Front<J>,
     task: Task,
 ) -> Result<(), Refusal> {
@@ -101,7 +100,7 @@ fn calls<J: Naming, R: Wait + Abort>(
     requires empty { whole.items ≡ [] }
     requires terms { J.terms ≡ record { ops = ops; bound = Some bound } }
 {
-    let (lock, front) = ReceiptLock::<J, u32>::new(alloc, ops, bound, whole)?;
+    let (lock, front) = LongLock::<J, u32>::new(alloc, ops, bound, whole)?;
     let mut me = front;
     equal(rt, lock.make(rt, &mut me, Mode::Single), Ok(0));
     equal(rt, lock.register(rt, &mut me, 0, Mode::Single), Ok(1));

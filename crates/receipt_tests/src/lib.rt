@@ -1,4 +1,4 @@
-//! Tests of `long_receipts`, `table_receipts` and `task_numbers`, which call what these export.
+//! Tests of `long_locks`, `table_receipts` and `task_numbers`, which call what these export.
 #![tactic(auto)]
 
 #[cfg(test)]

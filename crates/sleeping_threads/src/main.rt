@@ -4,17 +4,20 @@
 //! says for how many phases; the memory is the same for all of them.
 #![tactic(auto)]
 
-ghost use Rattle.std.specs.Prelude.{◌≡◌, []};
+ghost use Rattle.std.specs.Prelude.{◌≡◌, [], Some};
 
 use anyhow::bail;
-use long_locks::{LongLock, Out, PassAnswer, SignalAnswer};
+use ghost_log::Whole;
+use long_locks::{Front, LongLock, Naming, Out, PassAnswer, SignalAnswer};
 use long_phaser::{Phase, Task};
 use phase_model::{Bound, Look, Op, Ops};
 use phase_modes::{Mode, Refusal};
 use std::alloc::Global;
+use std::marker::Brand;
 use std::sync::Wait;
 use std::thread::{Parker, Threads};
 use std::{env, thread};
+use told_history::LongEvent;
 
 const THREADS: usize = 4;
 
@@ -23,11 +26,13 @@ const PHASES: Phase = 20_000;
 
 /// A task that its thread keeps. While the task is parked, the thread's parker is the item that
 /// stands for it: whoever's call frees the task gets the parker, and wakes the thread by it.
-struct Own<'a, 'p, R: Wait> {
+struct Own<'a, 'p, J: Naming, R: Wait> {
     rt: &'a R,
-    lock: &'a LongLock<&'p Parker>,
+    lock: &'a LongLock<J, &'p Parker>,
     task: Task,
     parker: &'p Parker,
+    /// What was seen of the phaser.
+    front: Front<J>,
     out: Out<&'p Parker>,
     ghost awake: { out ≡ [] },
 }
@@ -51,20 +56,22 @@ fn sum_of(phase: Phase) -> i128 {
     4 * i128::from(phase % 1_000) + 6
 }
 
-impl<'a, 'p, R: Wait> Own<'a, 'p, R> {
+impl<'a, 'p, J: Naming, R: Wait> Own<'a, 'p, J, R> {
     fn new(
         rt: &'a R,
         alloc: Global,
-        lock: &'a LongLock<&'p Parker>,
+        lock: &'a LongLock<J, &'p Parker>,
         task: Task,
         parker: &'p Parker,
-    ) -> Result<Own<'a, 'p, R>, Refusal> {
+        front: Front<J>,
+    ) -> Result<Own<'a, 'p, J, R>, Refusal> {
         let out = Out::new(alloc)?;
         Ok(Own {
             rt,
             lock,
             task,
             parker,
+            front,
             out,
         })
     }
@@ -76,10 +83,11 @@ impl<'a, 'p, R: Wait> Own<'a, 'p, R> {
             lock,
             task,
             parker,
+            front,
             out,
         } = self;
-        lock.send(*rt, *task, 0, change(*task, phase))?;
-        let answer = lock.signal(*rt, out, *task, None, *parker);
+        lock.send(*rt, front, *task, 0, change(*task, phase))?;
+        let answer = lock.signal(*rt, front, out, *task, None, *parker);
         wake(out);
         match answer {
             SignalAnswer::Signalled(_) => Ok(()),
@@ -95,9 +103,10 @@ impl<'a, 'p, R: Wait> Own<'a, 'p, R> {
             lock,
             task,
             parker,
+            front,
             out,
         } = self;
-        let answer = lock.pass(*rt, out, *task, *parker);
+        let answer = lock.pass(*rt, front, out, *task, *parker);
         wake(out);
         answer
     }
@@ -120,7 +129,7 @@ impl<'a, 'p, R: Wait> Own<'a, 'p, R> {
     fn meet(&mut self, phase: Phase) -> Result<bool, Refusal> {
         self.arrive(phase)?;
         let passed = self.pass()?;
-        match self.lock.look(self.rt, self.task, 0)? {
+        match self.lock.look(self.rt, &mut self.front, self.task, 0)? {
             Look::Value(sum) => Ok(passed == phase && sum == sum_of(phase)),
             _ => Ok(false),
         }
@@ -139,42 +148,45 @@ impl<'a, 'p, R: Wait> Own<'a, 'p, R> {
 }
 
 /// Whoever ends, as he should or by a refusal, leaves: nobody waits for him then.
-impl<'a, 'p, R: Wait> Drop for Own<'a, 'p, R> {
+impl<'a, 'p, J: Naming, R: Wait> Drop for Own<'a, 'p, J, R> {
     fn drop(self) {
         let Own {
             rt,
             lock,
             task,
             parker: _,
+            mut front,
             mut out,
         } = self;
-        let _left = lock.leave(rt, &mut out, task);
+        let _left = lock.leave(rt, &mut front, &mut out, task);
         wake(&mut out);
     }
 }
 
 /// A phaser's maker and the children that it registers, each with a parker: as many as there are.
-fn register<'a, 'p, R: Wait>(
+fn register<'a, 'p, J: Naming, R: Wait>(
     rt: &'a R,
     alloc: Global,
-    lock: &'a LongLock<&'p Parker>,
+    lock: &'a LongLock<J, &'p Parker>,
     parkers: &'p [Parker; THREADS],
-) -> Result<Vec<Own<'a, 'p, R>>, Refusal> {
-    let maker = lock.make(rt, Mode::SigWait)?;
+    front: Front<J>,
+) -> Result<Vec<Own<'a, 'p, J, R>>, Refusal> {
+    let mut front = front;
+    let maker = lock.make(rt, &mut front, Mode::SigWait)?;
     let mut owns = Vec::new(alloc);
-    owns.push(Own::new(rt, alloc, lock, maker, &parkers[0])?)?;
+    owns.push(Own::new(rt, alloc, lock, maker, &parkers[0], front.again())?)?;
     for parker in parkers.iter().skip(1) {
-        let task = lock.register(rt, maker, Mode::SigWait)?;
-        owns.push(Own::new(rt, alloc, lock, task, parker)?)?;
+        let task = lock.register(rt, &mut front, maker, Mode::SigWait)?;
+        owns.push(Own::new(rt, alloc, lock, task, parker, front.again())?)?;
     }
     Ok(owns)
 }
 
 /// Each task in a thread of its own, for so many phases. How often one saw the expected sum.
-fn meet_all<R: Threads + Wait + Sync>(
+fn meet_all<J: Naming + Send + Sync, R: Threads + Wait + Sync>(
     rt: &R,
     alloc: Global,
-    owns: Vec<Own<R>>,
+    owns: Vec<Own<J, R>>,
     phases: Phase,
 ) -> anyhow::Result<u64> {
     thread::scope(thread::scope_env(), rt, |scope| -> anyhow::Result<u64> {
@@ -188,6 +200,26 @@ fn meet_all<R: Threads + Wait + Sync>(
         }
         Ok(right)
     })
+}
+
+/// The threads meet at a new phaser of this name, for so many phases. How often one saw the expected
+/// sum.
+fn named<J: Naming + Send + Sync, R: Threads + Wait + Sync>(
+    rt: &R,
+    alloc: Global,
+    ops: Ops,
+    bound: Bound,
+    whole: Whole<LongEvent>,
+    phases: Phase,
+) -> anyhow::Result<u64>
+    requires name { whole.name ≡ J.log }
+    requires empty { whole.items ≡ [] }
+    requires terms { J.terms ≡ record { ops = ops; bound = Some bound } }
+{
+    let parkers = [Parker::new(), Parker::new(), Parker::new(), Parker::new()];
+    let (lock, front) = LongLock::<J, &Parker>::new(alloc, ops, bound, whole)?;
+    let owns = register(rt, alloc, &lock, &parkers, front)?;
+    meet_all(rt, alloc, owns, phases)
 }
 
 /// How many phases the argument says, if there is one.
@@ -207,10 +239,7 @@ fn main(rt: HostRuntime) -> anyhow::Result<()> {
     let Some(bound) = Bound::of(2) else {
         bail!("a bound is 1 to 65,536");
     };
-    let parkers = [Parker::new(), Parker::new(), Parker::new(), Parker::new()];
-    let lock = LongLock::new(rt.alloc(), one_sum, bound)?;
-    let owns = register(&rt, rt.alloc(), &lock, &parkers)?;
-    let right = meet_all(&rt, rt.alloc(), owns, phases)?;
+    let right = named::<Brand, HostRuntime>(&rt, rt.alloc(), one_sum, bound, Whole::new(), phases)?;
     println!(&rt; "{phases} phases, {right} sums as expected")?;
     Ok(())
 }

@@ -15,8 +15,8 @@ use Rattle.phase_model.proofs.OrderingLaw.{legal_is_ordered}
 use Rattle.phaser_answers.specs.Answers.{pass_result}
 use Rattle.parked_tasks.specs.declared.answer.PassAnswer.{PassAnswer}
 use Rattle.parked_tasks.specs.declared.answer.PassAnswer.TheVariants.{Passed, Claimed, Parked as Waits, Refused}
-use Rattle.long_receipts.specs.Told.{IsPassAnswer, IfPassed}
-use Rattle.long_receipts.proofs.Closes.{passed_is}
+use Rattle.long_locks.specs.Told.{IsPassAnswer, IfPassed}
+use Rattle.long_locks.proofs.Closes.{passed_is}
 use Rattle.table_receipts.specs.Told.{IsAnswered}
 
 pub pass_closes : {T : Type 0} (seen now : Story) (t : ℕ) (x : T) (a : PassAnswer T ℕ)

@@ -11,8 +11,8 @@ use Rattle.phase_model.specs.Replies.{event_for}
 use Rattle.phase_model.specs.Rules.{Story, has_room, look_of}
 use Rattle.phaser_answers.specs.Answers.{look_result}
 use Rattle.world_model.specs.Laws.{IsFolded}
-use Rattle.long_receipts.specs.Told.{HasLooked}
-use Rattle.long_receipts.proofs.Looks.{looked_is}
+use Rattle.long_locks.specs.Told.{HasLooked}
+use Rattle.long_locks.proofs.Looks.{looked_is}
 use Rattle.table_receipts.specs.Told.{IsAnswered}
 
 pub look_shows : (seen now : Story) (t a : ℕ) (r : Result (Look ℤ) Refusal)

@@ -17,7 +17,7 @@ ghost use Rattle.share_book.specs.Accounts.{nothing};
 ghost use Rattle.phaser_cell.specs.Amounts.{amount_if};
 ghost use Rattle.phaser_cell.specs.Telling.{ArePhaserParts};
 ghost use Rattle.trace_model.specs.Told.{phaser_told};
-ghost use Rattle.long_receipts.specs.Told.{IsSignalAnswer, IsPassAnswer, IfPassed, HasLooked};
+ghost use Rattle.long_locks.specs.Told.{IsSignalAnswer, IsPassAnswer, IfPassed, HasLooked};
 ghost use Rattle.table_receipts.specs.Parts.{AreLogged};
 ghost use Rattle.table_receipts.specs.Told.{IsAnswered, IsMade};
 

@@ -17,7 +17,7 @@ use Rattle.parked_tasks.specs.declared.answer.SignalAnswer.TheVariants.{Signalle
 use Rattle.parked_tasks.specs.declared.answer.PassAnswer.{PassAnswer}
 use Rattle.parked_tasks.specs.declared.answer.PassAnswer.TheVariants.{Passed, Claimed, Parked, Refused}
 use Rattle.parked_tasks.specs.Parking.{locked_signal, locked_pass, IsBack}
-use Rattle.long_receipts.specs.Told.{IsSignalAnswer, IsPassAnswer}
+use Rattle.long_locks.specs.Told.{IsSignalAnswer, IsPassAnswer}
 use Rattle.world_model.specs.declared.event.Step.TheVariants as steps
 use Rattle.table_receipts.specs.Told.{IsAnswered, IsMade}
 use Rattle.task_standing.specs.Known.{Known}

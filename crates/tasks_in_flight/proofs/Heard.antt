@@ -23,7 +23,7 @@ use Rattle.parked_tasks.specs.declared.answer.PassAnswer.TheVariants.{Passed}
 use Rattle.parked_tasks.specs.Parking.{locked_signal, locked_pass}
 use Rattle.job_script.specs.declared.act.Answer.{Answer}
 use Rattle.job_script.specs.declared.act.Answer.TheVariants.{Started, Done, Made, Spawned, Saw}
-use Rattle.long_receipts.specs.Told.{IsSignalAnswer, IsPassAnswer}
+use Rattle.long_locks.specs.Told.{IsSignalAnswer, IsPassAnswer}
 use Rattle.table_receipts.specs.Logs.{GoesOn}
 use Rattle.table_receipts.specs.Seen.{HasSeenMore}
 use Rattle.table_receipts.specs.Told.{IsAnswered, IsMade}

@@ -13,7 +13,7 @@ use Rattle.job_script.specs.declared.act.Act.{Act}
 use Rattle.job_script.specs.declared.act.Act.TheVariants as acts
 use Rattle.job_script.specs.declared.act.Answer.{Answer}
 use Rattle.job_script.specs.declared.act.Answer.TheVariants.{Started, Done, Made, Spawned, Saw}
-use Rattle.long_receipts.specs.Told.{HasLooked}
+use Rattle.long_locks.specs.Told.{HasLooked}
 use Rattle.ghost_log.specs.Tails.{IsTail}
 use Rattle.table_receipts.specs.Logs.{GoesOn}
 

@@ -1,7 +1,7 @@
 use Rattle.std.proofs.Common.{◌≡◌, IfOk}
 use Rattle.phase_model.specs.declared.call.Call.TheVariants.{Look as look}
 use Rattle.phaser_answers.specs.Answers.{look_result}
-use Rattle.long_receipts.specs.Told.{HasLooked}
+use Rattle.long_locks.specs.Told.{HasLooked}
 use Rattle.table_receipts.specs.Told.{IsAnswered}
 use Rattle.table_receipts.proofs.Goes.{answered_goes}
 use Rattle.table_receipts.proofs.Stories.{seen_more, told_at}

@@ -4,7 +4,7 @@ use Rattle.phase_model.specs.Phases.{IsClosed}
 use Rattle.phase_model.specs.Tasks.{has_mode}
 use Rattle.phase_model.specs.declared.call.Call.TheVariants.{Pass as pass}
 use Rattle.phaser_answers.specs.Answers.{pass_result}
-use Rattle.long_receipts.specs.Told.{IsPassAnswer, IfPassed}
+use Rattle.long_locks.specs.Told.{IsPassAnswer, IfPassed}
 use Rattle.table_receipts.specs.Told.{IsAnswered}
 use Rattle.table_receipts.proofs.Goes.{answered_goes}
 use Rattle.table_receipts.proofs.Stories.{seen_more, told_at}

@@ -1,7 +1,7 @@
 use Rattle.std.proofs.Common.{ℕ, inl, subst}
 use Rattle.phase_model.specs.declared.call.Call.TheVariants.{Signal as signal}
 use Rattle.phaser_answers.specs.Answers.{signal_result}
-use Rattle.long_receipts.specs.Told.{IsSignalAnswer}
+use Rattle.long_locks.specs.Told.{IsSignalAnswer}
 use Rattle.table_receipts.specs.Told.{IsAnswered}
 use Rattle.table_receipts.proofs.Goes.{answered_goes}
 use Rattle.table_receipts.proofs.Stories.{seen_more, told_at}

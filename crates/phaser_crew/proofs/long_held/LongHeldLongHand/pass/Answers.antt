@@ -1,7 +1,7 @@
 use Rattle.std.proofs.Common.{ℕ, inl, subst}
 use Rattle.phase_model.specs.declared.call.Call.TheVariants.{Pass as pass}
 use Rattle.phaser_answers.specs.Answers.{pass_result}
-use Rattle.long_receipts.specs.Told.{IsAnswered, IsPassAnswer}
+use Rattle.long_locks.specs.Told.{IsAnswered, IsPassAnswer}
 use Rattle.phaser_crew.proofs.LongSeen.{answered_more}
 use Rattle.phaser_crew.proofs.long_held.LongHeldLongHand.pass.Goals as goal
 

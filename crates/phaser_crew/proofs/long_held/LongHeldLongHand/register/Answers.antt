@@ -1,7 +1,7 @@
 use Rattle.std.proofs.Common.{ℕ, Result, subst, sym}
 use Rattle.phase_modes.specs.declared.refusal.Refusal.{Refusal}
 use Rattle.phase_model.specs.declared.call.Call.TheVariants.{Register as register}
-use Rattle.long_receipts.specs.Told.{IsNumbered}
+use Rattle.long_locks.specs.Told.{IsNumbered}
 use Rattle.phaser_crew.proofs.LongSeen.{numbered_more}
 use Rattle.phaser_crew.proofs.long_held.LongHeldLongHand.register.Goals as goal
 

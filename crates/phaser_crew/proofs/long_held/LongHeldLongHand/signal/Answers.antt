@@ -1,7 +1,7 @@
 use Rattle.std.proofs.Common.{ℕ, inl, subst}
 use Rattle.phase_model.specs.declared.call.Call.TheVariants.{Signal as signal}
 use Rattle.phaser_answers.specs.Answers.{signal_result}
-use Rattle.long_receipts.specs.Told.{IsAnswered, IsSignalAnswer}
+use Rattle.long_locks.specs.Told.{IsAnswered, IsSignalAnswer}
 use Rattle.phaser_crew.proofs.LongSeen.{answered_more}
 use Rattle.phaser_crew.proofs.long_held.LongHeldLongHand.signal.Goals as goal
 

@@ -3,7 +3,7 @@ use Rattle.phase_model.specs.declared.call.Call.TheVariants.{Signal as signal}
 use Rattle.phase_model.specs.Replies.{reply}
 use Rattle.phaser_answers.specs.Answers.{signal_result}
 use Rattle.parked_tasks.specs.Parking.{is_parked, locked_signal, signal_answered_is}
-use Rattle.long_receipts.specs.Told.{IsSignalAnswer}
+use Rattle.long_locks.specs.Told.{IsSignalAnswer}
 use Rattle.table_receipts.proofs.Kept.{follows, receipt}
 use Rattle.table_receipts.specs.Logs.{Sight}
 use Rattle.table_receipts.proofs.cell.ReceiptCell.signal.Goals as goal

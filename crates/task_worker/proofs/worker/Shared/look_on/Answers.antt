@@ -5,7 +5,7 @@ use Rattle.phase_model.specs.declared.op.Look.TheVariants.{Nothing}
 use Rattle.phase_model.specs.Rules.{Story}
 use Rattle.phaser_answers.specs.Answers.{look_result}
 use Rattle.job_script.specs.declared.act.Answer.TheVariants.{Saw}
-use Rattle.long_receipts.specs.Told.{HasLooked}
+use Rattle.long_locks.specs.Told.{HasLooked}
 use Rattle.table_receipts.specs.Seen.{story_at}
 use Rattle.table_receipts.proofs.Goes.{answered_goes}
 use Rattle.table_receipts.proofs.Stories.{seen_more}

@@ -6,7 +6,7 @@ use Rattle.phase_model.specs.Phases.{IsClosed}
 use Rattle.phase_model.specs.Tasks.{has_mode}
 use Rattle.phaser_answers.specs.Answers.{pass_result}
 use Rattle.parked_tasks.specs.Parking.{IsBack}
-use Rattle.long_receipts.specs.Told.{IsPassAnswer, IfPassed}
+use Rattle.long_locks.specs.Told.{IsPassAnswer, IfPassed}
 use Rattle.table_receipts.specs.Logs.{GoesOn}
 use Rattle.table_receipts.specs.Seen.{story_at}
 use Rattle.table_receipts.specs.Told.{IsAnswered}

@@ -3,7 +3,7 @@ use Rattle.phase_model.specs.declared.call.Call.TheVariants as calls
 use Rattle.phase_model.specs.Rules.{Story}
 use Rattle.phaser_answers.specs.Answers.{signal_result}
 use Rattle.parked_tasks.specs.Parking.{IsBackFromSignal}
-use Rattle.long_receipts.specs.Told.{IsSignalAnswer}
+use Rattle.long_locks.specs.Told.{IsSignalAnswer}
 use Rattle.table_receipts.specs.Logs.{GoesOn}
 use Rattle.table_receipts.specs.Seen.{story_at}
 use Rattle.table_receipts.specs.Told.{IsAnswered}
