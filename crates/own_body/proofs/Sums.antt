@@ -1,8 +1,9 @@
 -- A sum that was seen stays seen, and is a fold of all in a legal story.
-use Rattle.std.proofs.Common.{◌≡◌, ◌<◌, ℕ, true, List, [], ◌∷◌, ◌++◌, reverse, sym, subst, ap, ◌∙◌}
+use Rattle.std.proofs.Common.{◌≡◌, ◌<◌, ◌≤◌, ℕ, true, List, [], ◌∷◌, ◌++◌, map, reverse, sym, subst, ap, ◌∙◌, arith}
 use Rattle.std.specs.Prelude.{ℤ}
 use Rattle.std.proofs.lemmas.List.{append_assoc}
-use Rattle.std.proofs.Math.Logic.{∥∥₁_map}
+use Rattle.std.proofs.Math.Logic.{∥∥₁_map, ∥∥₁_elim}
+use native.Mathlib.Bridge.{le_prop}
 use Rattle.phase_modes.specs.declared.limits.Limits.{Limits}
 use Rattle.phase_model.specs.declared.history.Event.TheVariants.{Look as Looked}
 use Rattle.phase_model.specs.declared.op.Look.{Look}
@@ -12,16 +13,20 @@ use Rattle.phase_model.specs.Rules.{Story}
 use Rattle.world_model.specs.Replies.{is_legal_world}
 use Rattle.world_model.proofs.PhasersFolded.{legal_is_folded}
 use Rattle.world_model.proofs.PhasersLegal.{phasers_legal}
+use Rattle.trace_model.specs.declared.event.TracedEvent.{TracedEvent}
 use Rattle.trace_model.specs.Explained.{past}
+use Rattle.trace_model.specs.Projections.{log, projection}
 use Rattle.trace_model.specs.Run.{Entry}
 use Rattle.long_locks.specs.Told.{HasLooked}
 use Rattle.table_receipts.specs.Logs.{GoesOn}
 use Rattle.job_script.specs.declared.act.Answer.{Answer}
 use Rattle.job_script.specs.declared.act.Answer.TheVariants.{Started, Done, Made, Spawned, Saw}
-use Rattle.tasks_in_flight.specs.Heard.{Asked, look, ends, IsAnswerTo}
+use Rattle.tasks_in_flight.specs.Heard.{Asked, Seen, look, ends, IsAnswerTo}
 use Rattle.tasks_in_flight.specs.Said.{Saying}
 use Rattle.phased_rt.specs.Says.{story_in, SaysOfTrace, SaysOfEach, HasEnded}
 use Rattle.own_body.specs.Sums.{IsSeen, IsSum, HasLookedOnce, HasSeenSum}
+use Rattle.own_body.specs.Turns.{passes, spawns, is_pass, is_spawn}
+use Rattle.own_body.proofs.Turns.{many, no_fewer}
 
 -- it is still seen in a story that goes on
 pub still_seen : (t : ℕ) (a b : Story) (x : Look ℤ) → GoesOn a b → IsSeen t a x → IsSeen t b x
@@ -50,22 +55,22 @@ pub story_is_legal : (l : Limits) (es : List Entry) (n : ℕ) → is_legal_world
 story_is_legal l es n legal = phasers_legal l (past (reverse es)) legal n
 
 -- what a task hears of its look on phaser 0 is seen
-pub heard_is_seen : (t : ℕ) (asked : Asked) (answer : Answer) (x : Look ℤ) (seen now : ℕ → Story) → asked ≡ look 0 0 → answer ≡ Saw x
-    → IsAnswerTo t asked answer seen now → IsSeen t (now 0) x
+pub heard_is_seen : (t : ℕ) (asked : Asked) (answer : Answer) (x : Look ℤ) (seen now : Seen) → asked ≡ look 0 0 → answer ≡ Saw x
+    → IsAnswerTo t asked answer seen now → IsSeen t (now.stories 0) x
 heard_is_seen t asked answer x seen now looks saw is =
     let told : IsAnswerTo t (look 0 0) (Saw x) seen now =
     subst (λ (b : Answer). IsAnswerTo t (look 0 0) b seen now) saw (subst (λ (a : Asked). IsAnswerTo t a answer seen now) looks is) in
-    just_seen t (now 0) x told
+    just_seen t (now.stories 0) x told.0.0
 
 -- who says that what it saw is seen has seen a sum, in the story of a legal trace
 pub says_sum : {B : Type 0} (saw : B → Look ℤ) (Shows : Saying B) (l : Limits) (es : List Entry) (root : B)
-    → ((b : B) (t : ℕ) (asked : Asked) (seen : ℕ → Story) → Shows b t asked seen → IsSeen t (seen 0) (saw b))
+    → ((b : B) (t : ℕ) (asked : Asked) (seen : Seen) → Shows b t asked seen → IsSeen t (seen.stories 0) (saw b))
     → is_legal_world l (past (reverse es)) ≡ true → 0 < l.phasers
     → SaysOfTrace Shows l es root → ∥ IsSum 0 (story_in l es 0) (saw root) ∥₁
 says_sum saw Shows l es root is legal some says =
     ∥∥₁_map says (λ x.
     seen_is_sum 0 (story_in l es 0) (saw root) (story_is_legal l es 0 legal)
-    (still_seen 0 (x.0 0) (story_in l es 0) (saw root) (x.2 0 some) (is root 0 x.1.0 x.0 x.1.1)))
+    (still_seen 0 (x.0 0) (story_in l es 0) (saw root) (x.2 0 some) (is root 0 x.1.3.0 _ x.1.3.1)))
 
 -- ---- of each task that has ended
 
@@ -80,15 +85,15 @@ still_looked t a b goes looked =
     )
 
 -- who hears of its look has looked, since nothing else is an answer to it
-heard_of_look : (t : ℕ) (answer : Answer) (seen now : ℕ → Story) → IsAnswerTo t (look 0 0) answer seen now → HasLookedOnce t (now 0)
-heard_of_look t (Saw x) seen now is = (x, [], is.0, is.1)
-heard_of_look t Started seen now is = absurd is
-heard_of_look t Done seen now is = absurd is
-heard_of_look t (Made n) seen now is = absurd is
-heard_of_look t (Spawned n) seen now is = absurd is
+heard_of_look : (t : ℕ) (answer : Answer) (seen now : Seen) → IsAnswerTo t (look 0 0) answer seen now → HasLookedOnce t (now.stories 0)
+heard_of_look t (Saw x) seen now is = (x, [], is.0.0.0, is.0.0.1)
+heard_of_look t Started seen now is = absurd is.0
+heard_of_look t Done seen now is = absurd is.0
+heard_of_look t (Made n) seen now is = absurd is.0
+heard_of_look t (Spawned n) seen now is = absurd is.0
 
-pub heard_has_looked : (t : ℕ) (asked : Asked) (answer : Answer) (seen now : ℕ → Story) → asked ≡ look 0 0
-    → IsAnswerTo t asked answer seen now → HasLookedOnce t (now 0)
+pub heard_has_looked : (t : ℕ) (asked : Asked) (answer : Answer) (seen now : Seen) → asked ≡ look 0 0
+    → IsAnswerTo t asked answer seen now → HasLookedOnce t (now.stories 0)
 heard_has_looked t asked answer seen now looks is =
     heard_of_look t answer seen now (subst (λ (a : Asked). IsAnswerTo t a answer seen now) looks is)
 
@@ -100,10 +105,40 @@ looked_is_sum t s legal looked =
 
 -- where who asks for its end says that its task has looked, each that has ended has seen a sum
 pub each_has_seen : {B : Type 0} (Shows : Saying B) (l : Limits) (es : List Entry)
-    → ((b : B) (t : ℕ) (seen : ℕ → Story) → Shows b t ends seen → HasLookedOnce t (seen 0))
+    → ((b : B) (t : ℕ) (seen : Seen) → Shows b t ends seen → HasLookedOnce t (seen.stories 0))
     → is_legal_world l (past (reverse es)) ≡ true → 0 < l.phasers
     → SaysOfEach Shows l es → (t : ℕ) → HasEnded t es → ∥ HasSeenSum t (story_in l es 0) ∥₁
 each_has_seen Shows l es is legal some says t ended =
     ∥∥₁_map (says t ended) (λ x.
     looked_is_sum t (story_in l es 0) (story_is_legal l es 0 legal)
-    (still_looked t (x.0 0) (story_in l es 0) (x.2 0 some) (is x.1.0 t (x.0) x.1.1)))
+    (still_looked t (x.0 0) (story_in l es 0) (x.2 0 some) (is x.1.3.0 t _ x.1.3.1)))
+
+-- ---- of the root's counts
+
+-- who says that its task has passed so often has done so in the trace
+pub says_turns : {B : Type 0} (turns : B → ℕ) (Shows : Saying B) (l : Limits) (es : List Entry) (root : B)
+    → ((b : B) (t : ℕ) (asked : Asked) (seen : Seen) → Shows b t asked seen → turns b ≤ passes t (seen.stories 0).past)
+    → 0 < l.phasers → SaysOfTrace Shows l es root → turns root ≤ passes 0 (story_in l es 0).past
+says_turns turns Shows l es root is some says =
+    ∥∥₁_elim says (λ a b. le_prop a b) (λ x.
+    let goes = x.2 0 some in
+    omega (
+      arith,
+      is root 0 x.1.3.0 _ x.1.3.1,
+      no_fewer (λ e. is_pass 0 e) goes.1.0 (x.0 0).past (story_in l es 0).past goes.1.1,
+    ))
+
+-- who says that its task has spawned so many children has done so by its log in the trace
+pub says_children : {B : Type 0} (children : B → ℕ) (Shows : Saying B) (l : Limits) (es : List Entry) (root : B)
+    → ((b : B) (t : ℕ) (asked : Asked) (seen : Seen) → Shows b t asked seen → children b ≤ spawns t seen.log)
+    → SaysOfTrace Shows l es root → children root ≤ spawns 0 (map (λ (e : Entry). e.1) (projection (log 0) es))
+says_children children Shows l es root is says =
+    ∥∥₁_elim says (λ a b. le_prop a b) (λ x.
+    let noted = x.1.1 in
+    let more = x.1.2 in
+    omega (
+      arith,
+      is root 0 x.1.3.0 _ x.1.3.1,
+      ap (λ (events : List TracedEvent). spawns 0 events) x.1.4,
+      many (λ e. is_spawn 0 e) noted more,
+    ))

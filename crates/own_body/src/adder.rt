@@ -1,10 +1,12 @@
-//! Tasks that add up: what each does, and what it says of the sum that it saw.
-ghost use Rattle.std.specs.Prelude.{◌≡◌, ℕ, Ok, IfOk};
-ghost use Rattle.phase_model.specs.Rules.{Story};
-ghost use Rattle.tasks_in_flight.specs.Heard.{Asked, look, ends, asked_by, IsSpawned, IsAnswerTo};
+//! Tasks that add up: what each does, and what it says of the sum that it saw, its turns and its children.
+ghost use Rattle.std.specs.Prelude.{◌≡◌, ◌≤◌, ℕ, true, map, None, Ok, IfOk};
+ghost use Rattle.trace_model.specs.Projections.{log, projection};
+ghost use Rattle.tasks_in_flight.specs.Heard.{Asked, Seen, look, next, ends, asked_by, IsSpawned, IsAnswerTo, IsHeard};
 ghost use Rattle.phased_rt.specs.Says.{story_in, HasEnded};
 ghost use Rattle.own_body.specs.Sums.{IsSeen, IsSum, HasSeenSum};
+ghost use Rattle.own_body.specs.Turns.{none, passes, spawns, TakesNone, AreCounted};
 
+use crate::counts::Counts;
 use phase_model::{Look, Op, Ops};
 use phase_modes::{Limits, Mode, Refusal};
 use phased_rt::{Act, Answer, Body, OpenGate, Report, run};
@@ -24,30 +26,38 @@ pub enum Next {
     Hears,
 }
 
-/// A task, with its number, how often it still sends, and the sum that it saw last. The root's number
-/// is that of the task that it spawns next, down to 1; the others' is what they send next.
+/// A task, with its number, how often it still sends, the sum that it saw last, and its turns and
+/// children. The root's number is that of the task that it spawns next, down to 1; the others' is what
+/// they send next.
 #[derive(Clone, Copy)]
 pub struct Adder {
     pub next: Next,
     pub number: i32,
     pub rounds: u32,
     pub saw: Look,
+    pub counts: Counts,
 }
 
 impl Body for Adder {
     ghost use Rattle.own_body.specs.Sums.{IsSeen, HasLookedOnce};
     ghost use Rattle.own_body.specs.declared.adder.Next.{Next};
-    ghost use Rattle.own_body.specs.declared.adder.Next.TheVariants.{Hears};
-    ghost use Rattle.std.specs.Prelude.{◌≡◌};
-    ghost use Rattle.tasks_in_flight.specs.Heard.{look, ends};
+    ghost use Rattle.own_body.specs.declared.adder.Next.TheVariants.{Looks, Hears};
+    ghost use Rattle.own_body.specs.Turns.{TakesNone, AreCounted};
+    ghost use Rattle.std.specs.Prelude.{◌≡◌, true, None};
+    ghost use Rattle.tasks_in_flight.specs.Heard.{look, next, ends};
 
     /// Its task saw on phaser 0 what it saw. If it is about to hear, it has asked for a look there. If it
-    /// asks for its end, its task has looked.
-    ghost shows = { λ b task asked seen. IsSeen task (seen 0) b.saw
+    /// asks for its end, its task has looked. Its counts are right. If it is about to look, it has asked
+    /// for its next phase. Once it has made phaser 0, no act of its takes that from its task.
+    ghost shows = { λ b task asked seen. IsSeen task (seen.stories 0) b.saw
         × (b.next ≡ Hears → asked ≡ look 0 0)
-        × (asked ≡ ends → HasLookedOnce task (seen 0)) };
+        × (asked ≡ ends → HasLookedOnce task (seen.stories 0))
+        × AreCounted task b.counts seen
+        × (b.next ≡ Looks → asked ≡ next None)
+        × (b.counts.holds ≡ true → TakesNone asked) };
 
     fn step(&mut self, answer: Answer) -> Result<Act<Adder>, Refusal> {
+        self.count(answer);
         self.hear(answer);
         Ok(self.act())
     }
@@ -56,11 +66,32 @@ impl Body for Adder {
 }
 
 impl Adder {
+    /// Whether it is about to hear that its turn has ended.
+    fn turns(&self) -> bool
+        ensures { result ≡ true → self.now.next ≡ Next.Looks }
+    {
+        matches!(self.next, Next::Looks)
+    }
+
+    /// It counts what came of its last act.
+    fn count(&mut self, answer: Answer)
+        ensures next { self.new.next ≡ self.old.next }
+        ensures saw { self.new.saw ≡ self.old.saw }
+        ensures counts { (task : ℕ) (asked : Asked) (seen now : Seen) → (self.old.next ≡ Next.Looks → asked ≡ next None)
+            → (self.old.counts.holds ≡ true → TakesNone asked) → AreCounted task self.old.counts seen
+            → IsHeard task asked answer seen now → AreCounted task self.new.counts now }
+    {
+        let turns = self.turns();
+        self.counts.hear(turns, answer);
+    }
+
     /// It takes in what its look saw, and will send that next.
     fn hear(&mut self, answer: Answer)
         ensures next { self.new.next ≡ self.old.next }
-        ensures saw { (task : ℕ) (asked : Asked) (seen now : ℕ → Story) → (self.old.next ≡ Next.Hears → asked ≡ look 0 0)
-            → IsAnswerTo task asked answer seen now → IsSeen task (now 0) self.old.saw → IsSeen task (now 0) self.new.saw }
+        ensures counts { self.new.counts ≡ self.old.counts }
+        ensures saw { (task : ℕ) (asked : Asked) (seen now : Seen) → (self.old.next ≡ Next.Hears → asked ≡ look 0 0)
+            → IsAnswerTo task asked answer seen now → IsSeen task (now.stories 0) self.old.saw
+            → IsSeen task (now.stories 0) self.new.saw }
     {
         if let (Next::Hears, Answer::Saw(saw)) = (self.next, answer) {
             self.saw = saw;
@@ -73,9 +104,12 @@ impl Adder {
     /// Its next act.
     fn act(&mut self) -> Act<Adder>
         ensures saw { self.new.saw ≡ self.old.saw }
+        ensures counts { self.new.counts ≡ self.old.counts }
+        ensures takes { TakesNone (asked_by (Ok result)) }
+        ensures turns { self.new.next ≡ Next.Looks → asked_by (Ok result) ≡ next None }
         ensures looks { self.new.next ≡ Next.Hears → asked_by (Ok result) ≡ look 0 0 }
         ensures end { asked_by (Ok result) ≡ ends → self.old.next ≡ Next.Hears }
-        ensures child { (child : Adder) → IsSpawned child (Ok result) → (child.saw ≡ Look.Nothing) × (child.next ≡ Next.Sends) }
+        ensures child { (child : Adder) → IsSpawned child (Ok result) → (child.saw ≡ Look.Nothing) × (child.next ≡ Next.Sends) × (child.counts ≡ none) }
     {
         match self.next {
             Next::Makes => {
@@ -109,15 +143,18 @@ impl Adder {
     /// It spawns a task for its number, on the phaser that it made.
     fn spawn(&mut self) -> Act<Adder>
         ensures end { asked_by (Ok result) ≡ ends → ⊥ }
+        ensures takes { TakesNone (asked_by (Ok result)) }
         ensures saw { self.new.saw ≡ self.old.saw }
+        ensures counts { self.new.counts ≡ self.old.counts }
         ensures next { self.new.next ≡ self.old.next }
-        ensures child { (child : Adder) → IsSpawned child (Ok result) → (child.saw ≡ Look.Nothing) × (child.next ≡ Next.Sends) }
+        ensures child { (child : Adder) → IsSpawned child (Ok result) → (child.saw ≡ Look.Nothing) × (child.next ≡ Next.Sends) × (child.counts ≡ none) }
     {
         let child = Adder {
             next: Next::Sends,
             number: self.number,
             rounds: 3,
             saw: Look::Nothing,
+            counts: Counts::none(),
         };
         self.number = self.number.saturating_sub(1);
         Act::AsyncAll(child)
@@ -126,7 +163,9 @@ impl Adder {
     /// It sends its number.
     fn send(&mut self) -> Act<Adder>
         ensures end { asked_by (Ok result) ≡ ends → ⊥ }
+        ensures takes { TakesNone (asked_by (Ok result)) }
         ensures saw { self.new.saw ≡ self.old.saw }
+        ensures counts { self.new.counts ≡ self.old.counts }
         ensures next { self.new.next ≡ self.old.next }
         ensures child { (child : Adder) → IsSpawned child (Ok result) → ⊥ }
     {
@@ -144,16 +183,20 @@ fn one_sum() -> Ops {
 
 /// Three tasks add up, by two workers. The sum that the root saw is the fold of all values that were
 /// ever sent for the phase before the root's own, which was closed when the root saw it. So has each task
-/// seen one that ended by itself.
+/// seen one that ended by itself. By the trace the root has passed phaser 0 no less often, and spawned no
+/// fewer children, than it counted.
 pub fn add_up<R: Threads + Wait + Sync>(rt: &R, alloc: Global) -> Result<Report<Adder>, Refusal>
     ensures sum { IfOk result (λ r. ∥ IsSum 0 (story_in r.trace.limits r.trace.events 0) r.root.saw ∥₁) }
     ensures each { IfOk result (λ r. (task : ℕ) → HasEnded task r.trace.events → ∥ HasSeenSum task (story_in r.trace.limits r.trace.events 0) ∥₁) }
+    ensures turns { IfOk result (λ r. r.root.counts.turns ≤ passes 0 (story_in r.trace.limits r.trace.events 0).past) }
+    ensures children { IfOk result (λ r. r.root.counts.children ≤ spawns 0 (map (λ e. e.1) (projection (log 0) r.trace.events))) }
 {
     let root = Adder {
         next: Next::Makes,
         number: 3,
         rounds: 0,
         saw: Look::Nothing,
+        counts: Counts::none(),
     };
     let report = run(rt, alloc, root, Limits::default(), 2, &OpenGate)?;
     Ok(report)

@@ -2,10 +2,12 @@
 //! together, and in the next round each sends the sum that it saw.
 //!
 //! It is proved of this program that the sum which the root gives back is the fold of all values that
-//! were ever sent for the phase before the root's own, and that this phase was closed (`add_up`).
+//! were ever sent for the phase before the root's own, and that this phase was closed; and that the trace
+//! has each turn and each child that the root counted (`add_up`).
 #![tactic(auto)]
 
 mod adder;
+mod counts;
 
 use adder::add_up;
 use phase_model::Look;
@@ -16,5 +18,10 @@ fn main(rt: HostRuntime) -> anyhow::Result<()> {
     if let Look::Value(sum) = report.root.saw {
         println!(&rt; "the root saw {sum}")?;
     }
+    let counts = report.root.counts;
+    println!(&rt;
+        "the root turned {} time(s), and spawned {}",
+        counts.turns, counts.children
+    )?;
     Ok(())
 }

@@ -4,7 +4,7 @@ ghost use Rattle.phase_modes.specs.Limits.{limits_fit};
 ghost use Rattle.phase_model.specs.Rules.{Story};
 ghost use Rattle.world_model.specs.Report.{report_of};
 ghost use Rattle.trace_model.specs.Explained.{past, is_explained};
-ghost use Rattle.tasks_in_flight.specs.Heard.{nothing};
+ghost use Rattle.tasks_in_flight.specs.Heard.{nothing, at_start};
 ghost use Rattle.tasks_in_flight.specs.Refused.{IsRunRefused};
 ghost use Rattle.phased_rt.specs.Left.{IsLeftByAll};
 ghost use Rattle.phased_rt.specs.Says.{SaysOfTrace, SaysOfEach};
@@ -44,8 +44,8 @@ pub fn run<B: Body + Send, G: Gate + Sync, R: Threads + Wait + Sync>(
     ensures left { IfOk result (λ r. IsLeftByAll r.trace.events) }
     ensures told { IfOk result (λ r. IsToldBy limits r.trace.events r.totals) }
     ensures totals { IfOk result (λ r. AreTotals limits r.trace.events r.world.totals r.totals) }
-    ensures says { IfOk result (λ r. ((seen : ℕ → Story) → B.shows root 0 nothing seen) → SaysOfTrace B.shows limits r.trace.events r.root) }
-    ensures each { IfOk result (λ r. ((seen : ℕ → Story) → B.shows root 0 nothing seen) → SaysOfEach B.shows limits r.trace.events) }
+    ensures says { IfOk result (λ r. ((stories : ℕ → Story) → B.shows root 0 nothing (at_start stories)) → SaysOfTrace B.shows limits r.trace.events r.root) }
+    ensures each { IfOk result (λ r. ((stories : ℕ → Story) → B.shows root 0 nothing (at_start stories)) → SaysOfEach B.shows limits r.trace.events) }
     ensures refused { IfErr result (λ e. IsRunRefused e) }
 {
     let remains = run_tasks(rt, alloc, root, limits, workers, gate)?;

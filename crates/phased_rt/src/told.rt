@@ -50,7 +50,7 @@ pub(crate) fn told_of<B: Body, Q: Question + Sync, R: Threads>(
     ensures left { IfOk result (λ r. IsLeftByAll r.0.trace.events) }
     ensures told { IfOk result (λ r. IsToldBy limits r.0.trace.events r.0.totals) }
     ensures totals { IfOk result (λ r. AreTotals limits r.0.trace.events r.0.world.totals r.0.totals) }
-    ensures says { IfOk result (λ r. IsSaid B.shows limits remains.phasers.items remains.root → SaysOfTrace B.shows limits r.0.trace.events r.0.root) }
+    ensures says { IfOk result (λ r. IsSaid B.shows limits remains.phasers.items remains.logs.items remains.root → SaysOfTrace B.shows limits r.0.trace.events r.0.root) }
     ensures each { IfOk result (λ r. AreSaid (IsSaidOf B.shows) limits remains.phasers.items remains.logs.items → SaysOfEach B.shows limits r.0.trace.events) }
     ensures answered { IfOk result (λ r. Q.answers question.now r.0.trace r.1) }
     ensures refused { IfErr result (λ e. IsRunRefused e) }

@@ -4,7 +4,7 @@ ghost use Rattle.phase_modes.specs.Limits.{limits_fit};
 ghost use Rattle.phase_model.specs.Rules.{Story};
 ghost use Rattle.share_book.specs.Opening.{IsNamed, IsParted};
 ghost use Rattle.task_queue.specs.Accounts.{AreTogether};
-ghost use Rattle.tasks_in_flight.specs.Heard.{nothing};
+ghost use Rattle.tasks_in_flight.specs.Heard.{nothing, at_start};
 ghost use Rattle.tasks_in_flight.specs.Refused.{IsRunRefused};
 ghost use Rattle.task_remains.specs.Remaining.{AreRemains};
 ghost use Rattle.tasks_in_flight.specs.Said.{IsSaid, AreSaid, IsSaidOf};
@@ -44,7 +44,7 @@ fn root_of<K: RunNaming, B: Body, R: Wait>(
     root: B,
 ) -> Result<Item<B, K>, Refusal>
     requires all { phasers.now.phasers ≡ K.Logs.limits.phasers }
-    requires root { K.Supposing.supposed → (seen : ℕ → Story) → B.Body.shows root 0 nothing seen }
+    requires root { K.Supposing.supposed → (stories : ℕ → Story) → B.Body.shows root 0 nothing (at_start stories) }
     ensures memory { IfErr result (λ e. e ≡ Refusal.Memory) }
 {
     let fronts = Fronts::of(alloc, rt, phasers)?;
@@ -135,10 +135,10 @@ fn run_in<K: RunNaming + SharedLedgers, B: Body + Send, G: Gate + Sync, R: Threa
     requires logs { (i : ℕ) → IfSome (slice_get unnamed.logs.items i) (λ w. w.name ≡ K.Logs.logs i) }
     requires empty { All (λ w. w.items ≡ []) unnamed.logs.items }
     requires each { vec_len unnamed.logs ≡ limits.phasers }
-    requires root { K.Supposing.supposed → (seen : ℕ → Story) → B.Body.shows root 0 nothing seen }
+    requires root { K.Supposing.supposed → (stories : ℕ → Story) → B.Body.shows root 0 nothing (at_start stories) }
     requires tells { ∥ Tells B.Body.shows K.Supposing.told ∥₁ }
     ensures remains { IfOk result (λ r. AreRemains limits r.phasers.items r.finishes.items r.logs.items r.totals) }
-    ensures says { IfOk result (λ r. K.Supposing.supposed → IsSaid B.Body.shows limits r.phasers.items r.root) }
+    ensures says { IfOk result (λ r. K.Supposing.supposed → IsSaid B.Body.shows limits r.phasers.items r.logs.items r.root) }
     ensures each { IfOk result (λ r. K.Supposing.supposed → AreSaid K.Supposing.told limits r.phasers.items r.logs.items) }
     ensures refused { IfErr result (λ e. IsRunRefused e) }
 {
@@ -192,10 +192,10 @@ fn run_over<
     requires logs { (i : ℕ) → IfSome (slice_get unnamed.logs.items i) (λ w. w.name ≡ L.Logs.logs i) }
     requires empty { All (λ w. w.items ≡ []) unnamed.logs.items }
     requires each { vec_len unnamed.logs ≡ limits.phasers }
-    requires root { L.Supposing.supposed → (seen : ℕ → Story) → B.Body.shows root 0 nothing seen }
+    requires root { L.Supposing.supposed → (stories : ℕ → Story) → B.Body.shows root 0 nothing (at_start stories) }
     requires tells { ∥ Tells B.Body.shows L.Supposing.told ∥₁ }
     ensures remains { IfOk result (λ r. AreRemains limits r.phasers.items r.finishes.items r.logs.items r.totals) }
-    ensures says { IfOk result (λ r. L.Supposing.supposed → IsSaid B.Body.shows limits r.phasers.items r.root) }
+    ensures says { IfOk result (λ r. L.Supposing.supposed → IsSaid B.Body.shows limits r.phasers.items r.logs.items r.root) }
     ensures each { IfOk result (λ r. L.Supposing.supposed → AreSaid L.Supposing.told limits r.phasers.items r.logs.items) }
     ensures refused { IfErr result (λ e. IsRunRefused e) }
 {
@@ -224,8 +224,8 @@ pub fn run_tasks<B: Body + Send, G: Gate + Sync, R: Threads + Wait + Sync>(
     requires limits { limits_fit limits ≡ true }
     requires workers { (0 < workers) × (workers ≤ 16) }
     ensures remains { IfOk result (λ r. AreRemains limits r.phasers.items r.finishes.items r.logs.items r.totals) }
-    ensures says { IfOk result (λ r. ((seen : ℕ → Story) → B.shows root 0 nothing seen) → IsSaid B.shows limits r.phasers.items r.root) }
-    ensures each { IfOk result (λ r. ((seen : ℕ → Story) → B.shows root 0 nothing seen) → AreSaid (IsSaidOf B.shows) limits r.phasers.items r.logs.items) }
+    ensures says { IfOk result (λ r. ((stories : ℕ → Story) → B.shows root 0 nothing (at_start stories)) → IsSaid B.shows limits r.phasers.items r.logs.items r.root) }
+    ensures each { IfOk result (λ r. ((stories : ℕ → Story) → B.shows root 0 nothing (at_start stories)) → AreSaid (IsSaidOf B.shows) limits r.phasers.items r.logs.items) }
     ensures refused { IfErr result (λ e. IsRunRefused e) }
 {
     let logs = new_logs(alloc, limits.phasers)?;

@@ -189,7 +189,7 @@ fn gather_all<K: RunNaming, B: Body, R: Wait>(
     requires together { AreTogether left.seats.items }
     requires books { AreAllParts shared.limits.phasers K.EventsByPhaser.parts K.UpByPhaser.parts K.DownByPhaser.parts }
     ensures remains { IfOk result (λ r. AreRemains shared.limits r.phasers.items r.finishes.items r.logs.items r.totals) }
-    ensures says { IfOk result (λ r. K.Supposing.supposed → IsSaid B.Body.shows shared.limits r.phasers.items r.root) }
+    ensures says { IfOk result (λ r. K.Supposing.supposed → IsSaid B.Body.shows shared.limits r.phasers.items r.logs.items r.root) }
     ensures each { IfOk result (λ r. K.Supposing.supposed → AreSaid K.Supposing.told shared.limits r.phasers.items r.logs.items) }
     ensures refused { IfErr result (λ e. IsRunRefused e) }
 {
@@ -230,7 +230,7 @@ pub(crate) fn run_staff<
     requires together { AreTogether (map (λ w. w.seat) staff.items) }
     requires books { AreAllParts shared.limits.phasers K.EventsByPhaser.parts K.UpByPhaser.parts K.DownByPhaser.parts }
     ensures remains { IfOk result (λ r. AreRemains shared.limits r.phasers.items r.finishes.items r.logs.items r.totals) }
-    ensures says { IfOk result (λ r. K.Supposing.supposed → IsSaid B.Body.shows shared.limits r.phasers.items r.root) }
+    ensures says { IfOk result (λ r. K.Supposing.supposed → IsSaid B.Body.shows shared.limits r.phasers.items r.logs.items r.root) }
     ensures each { IfOk result (λ r. K.Supposing.supposed → AreSaid K.Supposing.told shared.limits r.phasers.items r.logs.items) }
     ensures refused { IfErr result (λ e. IsRunRefused e) }
 {

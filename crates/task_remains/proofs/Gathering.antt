@@ -1,14 +1,15 @@
 -- One log more, of a task that has none yet.
-use Rattle.std.proofs.Common.{◌≡◌, ◌≢◌, ℕ, true, false, ◌||◌, ◌==◌, List, [], ◌∷◌, ◌++◌, refl, sym, ap, subst, ◌∙◌}
+use Rattle.std.proofs.Common.{◌≡◌, ◌≢◌, ℕ, ◌+◌, true, false, ◌||◌, ◌==◌, List, [], ◌∷◌, ◌++◌, Some, length, length-append, refl, sym, ap, subst, ◌∙◌}
+use Rattle.std.specs.Prelude.{slice_get}
 use Rattle.std.specs.List.{All}
 use Rattle.std.proofs.lemmas.Bool.{eq-eqb, or_left, or_right, true≢false}
 use Rattle.std.proofs.lemmas.List.Elements.{All-nil, All-head, All-tail, All-weaker, All-push}
 use Rattle.number_set.specs.Numbers.{Numbers, has_number}
-use Rattle.phase_model.specs.Rules.{Story}
 use Rattle.trace_model.specs.Projections.{log, whose, AreOf}
 use Rattle.trace_model.specs.Run.{Entry}
 use Rattle.table_receipts.specs.Logs.{Sight}
 use Rattle.task_remains.specs.Remaining.{AreLogsOf, AreDifferent}
+use Rattle.tasks_in_flight.specs.Heard.{Seen}
 use Rattle.tasks_in_flight.specs.Said.{has_end}
 use Rattle.task_remains.specs.inner.Logs.{AreGathered, AreAllLogs, IsToldIn}
 
@@ -63,12 +64,25 @@ one_owner t u (e ∷ p) its own ended =
 pub all_logs : (names : ℕ → ℕ) (phasers : ℕ) (xs ys : List Sight) → ys ≡ xs → AreAllLogs names phasers xs → AreAllLogs names phasers ys
 all_logs names phasers xs ys same are = subst (λ (zs : List Sight). AreAllLogs names phasers zs) (sym same) are
 
-pub told_there : (P : Type 0) (Told : ℕ → (ℕ → Story) → Type 0) (ps : List (List Entry)) (xs ys : List Sight) → ys ≡ xs
+pub told_there : (P : Type 0) (Told : ℕ → Seen → Type 0) (ps : List (List Entry)) (xs ys : List Sight) → ys ≡ xs
     → All (IsToldIn P Told xs) ps → All (IsToldIn P Told ys) ps
 told_there P Told ps xs ys same told = subst (λ (zs : List Sight). All (IsToldIn P Told zs) ps) (sym same) told
 
 -- of no part everything is told
-pub none_told : (P : Type 0) (Told : ℕ → (ℕ → Story) → Type 0) (logs : List Sight) (ps : List (List Entry)) → ps ≡ []
+pub none_told : (P : Type 0) (Told : ℕ → Seen → Type 0) (logs : List Sight) (ps : List (List Entry)) → ps ≡ []
     → All (IsToldIn P Told logs) ps
 none_told P Told logs ps none =
     subst (λ (qs : List (List Entry)). All (IsToldIn P Told logs) qs) (sym none) (All-nil (IsToldIn P Told logs))
+
+-- ---- where a part is added at the end
+
+pub one_longer : (ps qs : List (List Entry)) (p : List Entry) → qs ≡ ps ++ p ∷ [] → length qs ≡ length ps + 1
+one_longer ps qs p added = ap (λ (xs : List (List Entry)). length xs) added ∙ length-append ps (p ∷ [])
+
+pub at_the_end : (ps : List (List Entry)) (p : List Entry) → slice_get (ps ++ p ∷ []) (length ps) ≡ Some p
+at_the_end [] p = refl
+at_the_end (q ∷ ps) p = at_the_end ps p
+
+pub last_of : (ps qs : List (List Entry)) (p : List Entry) (n : ℕ) → qs ≡ ps ++ p ∷ [] → length ps ≡ n → slice_get qs n ≡ Some p
+last_of ps qs p n added many =
+    ap (λ (xs : List (List Entry)). slice_get xs n) added ∙ (ap (λ k. slice_get (ps ++ p ∷ []) k) (sym many) ∙ at_the_end ps p)

@@ -1,5 +1,5 @@
 -- What is told of tasks that ended, once their bodies are no more: of the logs, and of the parts.
-use Rattle.std.proofs.Common.{ℕ, ◌≡◌, ◌<◌, true, List, length, sym, subst, arith}
+use Rattle.std.proofs.Common.{ℕ, ◌≡◌, ◌<◌, true, List, length, map, sym, ap, ◌∙◌, subst, arith}
 use Rattle.std.specs.List.{All}
 use Rattle.std.proofs.lemmas.List.Elements.{All-weaker}
 use Rattle.std.proofs.Math.Logic.{∥∥₁_map}
@@ -7,28 +7,36 @@ use Rattle.phase_modes.specs.declared.limits.Limits.{Limits}
 use Rattle.phase_model.specs.Rules.{Story}
 use Rattle.trace_model.specs.Projections.{log, AreOf}
 use Rattle.trace_model.specs.Run.{Entry}
+use Rattle.trace_model.specs.TaskLog.{TaskLog}
 use Rattle.table_receipts.specs.Logs.{GoesOn, Sight}
 use Rattle.table_receipts.specs.Parts.{AreLogged, HasShown}
 use Rattle.table_receipts.specs.Seen.{story_at}
 use Rattle.table_receipts.proofs.Goes.{goes_far}
 use Rattle.table_receipts.proofs.Logged.{told_at_each}
-use Rattle.tasks_in_flight.specs.Said.{AreSaid, has_end}
+use Rattle.tasks_in_flight.specs.Heard.{Seen}
+use Rattle.tasks_in_flight.specs.Said.{AreSaid, IsSeenBy, has_end}
 use Rattle.task_remains.specs.inner.Logs.{IsToldIn}
-use Rattle.tasks_in_flight.specs.inner.Ready.{IsTold}
+use Rattle.tasks_in_flight.specs.inner.Ready.{IsTold, seen_at_end}
 use Rattle.task_remains.proofs.Gathering.{one_owner}
 
-module _ {P : Type 0} (Told : ℕ → (ℕ → Story) → Type 0) where
-  -- what is told of what the fronts of this log's task have seen is told of what begins the phasers' logs
-  pub told_in_logs : (logs fronts : List Sight) (task : ℕ) (part : List Entry) → length logs ≡ length fronts
-      → ((n : ℕ) → n < length fronts → GoesOn (story_at fronts n) (story_at logs n)) → AreOf (log task) part
-      → (has_end part ≡ true → ∥ (P → IsTold Told task (λ n. story_at fronts n)) ∥₁) → IsToldIn P Told logs part
-  told_in_logs logs fronts task part many begin own told = λ t its ended.
-      let same : t ≡ task = one_owner t task part its own ended in
+module _ {P : Type 0} (Told : ℕ → Seen → Type 0) where
+  -- what is told of what this log's task has seen is told of what begins the phasers' logs, and its own
+  pub told_in_logs : (logs fronts : List Sight) (own : TaskLog) (task : ℕ) (part : List Entry) → length logs ≡ length fronts
+      → ((n : ℕ) → n < length fronts → GoesOn (story_at fronts n) (story_at logs n)) → AreOf (log task) part → part ≡ own.entries
+      → (has_end part ≡ true → ∥ (P → IsTold Told task (seen_at_end fronts own)) ∥₁) → IsToldIn P Told logs part
+  told_in_logs logs fronts own task part many begin its_own all told = λ t its ended.
+      let same : t ≡ task = one_owner t task part its its_own ended in
       ∥∥₁_map (told ended) (λ f p.
       let s = f p in (
-        s.0,
-        subst (λ (u : ℕ). Told u s.0) (sym same) s.1,
-        λ n lt. goes_far (s.0 n) (story_at fronts n) (story_at logs n) (s.2 n) (begin n (omega (arith, lt, many))),
+        s.0.stories,
+        (
+          s.0.holding,
+          s.0.log,
+          s.2.1.0,
+          subst (λ (u : ℕ). Told u s.0) (sym same) s.1,
+          ap (λ (es : List Entry). map (λ (e : Entry). e.1) es) all ∙ s.2.1.1,
+        ),
+        λ n lt. goes_far (s.0.stories n) (story_at fronts n) (story_at logs n) (s.2.0 n) (begin n (omega (arith, lt, many))),
       ))
 
   -- and so it is told of the stories that the parts tell
@@ -41,6 +49,7 @@ module _ {P : Type 0} (Told : ℕ → (ℕ → Story) → Type 0) where
         stories,
         (λ n lt. (told_at_each names parts logs logged n lt, limits n (within n lt))),
         All-weaker (IsToldIn P Told logs)
-            (λ part. (task : ℕ) → AreOf (log task) part → has_end part ≡ true → ∥ HasShown Told (length parts) stories task ∥₁)
+            (λ part. (task : ℕ) → AreOf (log task) part → has_end part ≡ true
+            → ∥ HasShown (λ t s. IsSeenBy (Told t) part s) (length parts) stories task ∥₁)
             (λ part is task own ended. ∥∥₁_map (is task own ended) (λ f. let s = f p in (s.0, s.1, λ n lt. s.2 n (within n lt)))) of_tasks told,
       )

@@ -1,6 +1,6 @@
 //! The logs that tasks leave, as parts of a trace: no two are of one task, and what the bodies of tasks
 //! said that have ended is told of them.
-ghost use Rattle.std.specs.Prelude.{◌≡◌, ◌+◌, ◌≤◌, ℕ, List, [], map, length, All, OnOk, IfOk, IfErr};
+ghost use Rattle.std.specs.Prelude.{◌≡◌, ◌+◌, ◌≤◌, ◌∷◌, ◌++◌, ℕ, List, [], Some, map, length, slice_get, All, OnOk, IfOk, IfErr};
 ghost use Rattle.std.specs.List.{sum as total};
 ghost use Rattle.tasks_in_flight.specs.Refused.{IsRunRefused};
 ghost use Rattle.task_remains.specs.Remaining.{AreLogsOf, AreDifferent};
@@ -51,7 +51,7 @@ impl Gathered {
         requires told { All (IsToldIn K.Supposing.supposed K.Supposing.told told.old.items) self.old.parts.items }
         ensures own { IfOk result (λ _. AreGathered self.new.owners self.new.parts.items) }
         ensures told { IfOk result (λ _. All (IsToldIn K.Supposing.supposed K.Supposing.told told.old.items) self.new.parts.items) }
-        ensures number { OnOk result (length self.new.parts.items ≡ length self.old.parts.items + 1) }
+        ensures parts { OnOk result (self.new.parts.items ≡ self.old.parts.items ++ left.log.log.entries ∷ []) }
         ensures same { told.new.items ≡ told.old.items }
         ensures refused { IfErr result (λ e. IsRunRefused e) }
     {
@@ -88,8 +88,9 @@ impl Gathered {
     }
 }
 
-/// The parts of all logs that tasks left, of a run in which so many tasks may be; and what was told of
-/// them is told of what begins these phasers' logs. `NotExplained(0)` where two are of one task.
+/// The parts of all logs that tasks left, of a run in which so many tasks may be, the root's at the end;
+/// and what was told of them is told of what begins these phasers' logs, and their own. `NotExplained(0)`
+/// where two are of one task.
 pub(crate) fn logs_of<K: RunNaming>(
     alloc: Global,
     tasks: u32,
@@ -103,6 +104,7 @@ pub(crate) fn logs_of<K: RunNaming>(
     ensures told { IfOk result (λ parts. All (IsToldIn K.Supposing.supposed K.Supposing.told told.old.items) parts.items) }
     ensures same { told.new.items ≡ told.old.items }
     ensures number { IfOk result (λ parts. length parts.items ≡ total (map (λ l. length l.items) left.items) + 1) }
+    ensures root { IfOk result (λ parts. slice_get parts.items (total (map (λ l. length l.items) left.items)) ≡ Some root.log.log.entries) }
     ensures refused { IfErr result (λ e. IsRunRefused e) }
 {
     let mut gathered = Gathered::new(alloc, tasks)?;

@@ -51,7 +51,7 @@ pub fn gathered<K: RunNaming, B: Body>(
     requires books { AreAllParts (vec_len phasers.phasers) K.EventsByPhaser.parts K.UpByPhaser.parts K.DownByPhaser.parts }
     requires told_finishes { AreFinishParts 0 finishes.parts.items (map (λ l. length l.items) finishes.logs.items) }
     ensures remains { IfOk result (λ r. AreRemains limits r.phasers.items r.finishes.items r.logs.items r.totals) }
-    ensures says { IfOk result (λ r. K.Supposing.supposed → IsSaid B.Body.shows limits r.phasers.items r.root) }
+    ensures says { IfOk result (λ r. K.Supposing.supposed → IsSaid B.Body.shows limits r.phasers.items r.logs.items r.root) }
     ensures each { IfOk result (λ r. K.Supposing.supposed → AreSaid K.Supposing.told limits r.phasers.items r.logs.items) }
     ensures refused { IfErr result (λ e. IsRunRefused e) }
 {

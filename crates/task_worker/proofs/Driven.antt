@@ -14,6 +14,7 @@ use Rattle.task_standing.specs.Known.{Known}
 use Rattle.task_standing.specs.Noted.{noted}
 use Rattle.task_standing.specs.StillToMake.{event_of}
 use Rattle.tasks_in_flight.specs.inner.Due.{still_of}
+use Rattle.tasks_in_flight.specs.inner.Ready.{IsDue}
 use Rattle.table_receipts.specs.Logs.{Sight}
 use Rattle.table_receipts.specs.Seen.{story_at}
 use Rattle.task_worker.specs.inner.Driven.{IsReplied, HasTried, HasActed, HasLeft, GoesBy, IfGoesOn, HasGoneOn, given_up, tried_by}
@@ -42,6 +43,11 @@ pub claims : {T : Type 0} (r : Result (Option T) Refusal) (known : T → Known) 
     → IfGoesOn r (λ x. GoesBy seen (event_of k.number (due.Pass n)) k (known x))
 claims r known seen n mid k same claimed =
     goes_as r (λ x. known x ≡ mid) (λ x. GoesBy seen (event_of k.number (due.Pass n)) k (known x)) (λ x is. inr (claimed, is ∙ same))
+
+-- what is named as due is due
+pub due_now : (k : Known) (child : Option Known) (d named : Due) → event_of k.number d ≡ slice_get (still_of k child) 0 → d ≡ named
+    → IsDue (event_of k.number named) k
+due_now k child d named first is = (child, sym first ∙ ap (λ (y : Due). event_of k.number y) is)
 
 -- who goes on by what was due goes on by the first of what is still to make
 pub goes_by : {T : Type 0} (r : Result (Option T) Refusal) (known : T → Known) (seen : ℕ → Story) (child : Option Known) (k : Known)
@@ -99,7 +105,7 @@ acts_since fs gs mid k k' fronts same acted =
     subst (λ (x : Known). HasActed (λ n. story_at fs n) x k') same
     (subst (λ (xs : List Sight). HasActed (λ n. story_at xs n) mid k') fronts acted)
 
-if_ok : (P Q : Type 0) → (P → Q) → (r : Result (Unit {0}) Refusal) → OnOk r P → OnOk r Q
+pub if_ok : (P Q : Type 0) → (P → Q) → (r : Result (Unit {0}) Refusal) → OnOk r P → OnOk r Q
 if_ok P Q implied (Ok u) is = implied is
 if_ok P Q implied (Err e) is = tt
 

@@ -13,13 +13,16 @@ use Rattle.phase_model.specs.declared.terms.Terms.{Terms}
 use Rattle.phase_model.specs.Replies.{decided, done, done_result, event_for, must_wait}
 use Rattle.phase_model.specs.Rules.{Story, has_room, is_permitted}
 use Rattle.phaser_answers.specs.Answers.{signal_result, pass_result, look_result}
+use Rattle.parked_tasks.specs.declared.answer.SignalAnswer.{SignalAnswer}
 use Rattle.parked_tasks.specs.declared.answer.SignalAnswer.TheVariants.{Signalled}
 use Rattle.parked_tasks.specs.declared.answer.PassAnswer.{PassAnswer}
 use Rattle.parked_tasks.specs.declared.answer.PassAnswer.TheVariants.{Passed, Claimed, Parked, Refused}
 use Rattle.parked_tasks.specs.Parking.{locked_signal, locked_pass, IsBack}
 use Rattle.long_locks.specs.Told.{IsSignalAnswer, IsPassAnswer}
 use Rattle.world_model.specs.declared.event.Step.TheVariants as steps
+use Rattle.table_receipts.specs.Logs.{GoesOn}
 use Rattle.table_receipts.specs.Told.{IsAnswered, IsMade}
+use Rattle.table_receipts.proofs.Goes.{answered_goes}
 use Rattle.task_standing.specs.Known.{Known}
 use Rattle.task_worker.specs.inner.Driven.{IsReplied, IsOfPass}
 
@@ -149,13 +152,22 @@ look_replied x seen now t a told =
       looked x e (first_refusal (conditions s.limits s.terms s.past c)) false (has_room s.limits (e ∷ s.past)) told.2,
     )
 
--- what a pass says of the item that it was given
-pub pass_is_of : {T : Type 0} (a : PassAnswer T ℕ) (known : T → Known) (k : Known) (x : T) (before now seen : Story) (t : ℕ)
+-- what was seen goes on to what a signal leaves, and to what a pass does
+pub signal_goes : {T : Type 0} (x : T) (a : SignalAnswer T) (before now : Story) (t : ℕ) (n : Option ℕ)
+    → IsAnswered (λ _ r. IsSignalAnswer x (signal_result r) a) (calls.Signal t n) before now → GoesOn before now
+signal_goes x a before now t n told = answered_goes (λ _ r. IsSignalAnswer x (signal_result r) a) (calls.Signal t n) before now told
+
+pub pass_goes : {T : Type 0} (x : T) (a : PassAnswer T ℕ) (before now : Story) (t : ℕ)
+    → IsAnswered (λ h r. IsPassAnswer x (pass_result h r) a) (calls.Pass t) before now → GoesOn before now
+pass_goes x a before now t told = answered_goes (λ h r. IsPassAnswer x (pass_result h r) a) (calls.Pass t) before now told
+
+-- what a pass that has passed no phase says of the item that it was given
+pub pass_is_of : {T : Type 0} (a : PassAnswer T ℕ) (known : T → Known) (k : Known) (x : T) (before now seen : Story) (n t : ℕ)
+    → ((y : T) (p : ℕ) → a ≡ Passed y p → ⊥)
     → known x ≡ k → before ≡ seen → IsBack x a → IsAnswered (λ h r. IsPassAnswer x (pass_result h r) a) (calls.Pass t) before now
-    → IsOfPass known k seen t a
-pass_is_of (Passed y p) known k x before now seen t same there back told =
-    (ap known back ∙ same, subst (λ (s : Story). IsReplied s (steps.Pass t)) there (pass_replied x y p before now t told))
-pass_is_of (Claimed y n) known k x before now seen t same there back told =
-    (ap known back ∙ same, subst (λ (s : Story). IsReplied s (steps.Claim t)) there (claim_replied x y n before now t told))
-pass_is_of Parked known k x before now seen t same there back told = tt
-pass_is_of (Refused y r) known k x before now seen t same there back told = ap known back ∙ same
+    → IsOfPass known k seen n t a
+pass_is_of (Passed y p) known k x before now seen n t never same there back told = absurd (never y p refl)
+pass_is_of (Claimed y m) known k x before now seen n t never same there back told =
+    (ap known back ∙ same, subst (λ (s : Story). IsReplied s (steps.Claim t)) there (claim_replied x y m before now t told))
+pass_is_of Parked known k x before now seen n t never same there back told = tt
+pass_is_of (Refused y r) known k x before now seen n t never same there back told = ap known back ∙ same

@@ -1,40 +1,28 @@
 //! How a task's act is begun, and made where it is one event.
-ghost use Rattle.std.specs.Prelude.{◌≡◌, ℕ, Ok, IfOk, IfSome, OnOk, if◌then◌else◌};
-ghost use Rattle.phase_model.specs.Rules.{Story};
+ghost use Rattle.std.specs.Prelude.{◌≡◌, ℕ, List, None, Ok, true, IfOk, IfSome, OnOk, if◌then◌else◌};
 ghost use Rattle.world_model.specs.declared.event.WorldEvent.{WorldEvent};
 ghost use Rattle.table_receipts.specs.Seen.{story_at};
+ghost use Rattle.task_standing.specs.declared.held.Held.{Held};
 ghost use Rattle.task_standing.specs.Noted.{noted};
 ghost use Rattle.task_queue.specs.Accounts.{IsSeatOf};
-ghost use Rattle.tasks_in_flight.specs.Heard.{nothing, make, send, look, spawn, finish, asked_by, IsSpawned};
-ghost use Rattle.task_worker.specs.inner.Driven.{HasActed, asked_to, given_up, tried_by};
+ghost use Rattle.tasks_in_flight.specs.Heard.{nothing, make, send, look, opens, at_start, asked_by, IsSpawned};
+ghost use Rattle.tasks_in_flight.specs.inner.Ready.{HasAskedFor, HasAskedToSpawn, IsAskedFor, IsDue, seen_by};
+ghost use Rattle.task_worker.specs.inner.Driven.{HasActed, given_up, tried_by};
 ghost use Rattle.task_worker.specs.inner.Posted.{PostsAtMost};
-ghost use Rattle.tasks_in_flight.specs.inner.Ready.{IsAnswer};
 
 use crate::worker::{Busy, Shared};
-use job_script::{Act, Answer};
+use job_script::Act;
 use phase_model::Terms;
 use phase_modes::{Mode, Phased, Refusal};
 use std::sync::Wait;
 use table_receipts::Caller;
 use task_numbers::{FinishNumber, TaskNumber};
-use task_standing::Plan;
 use tasks_in_flight::{Body, Gate, Item, RunNaming, Task};
 use world_model::{Begun, Tried};
 
-/// What the body hears once this act has come to its end: after its task's end nothing.
-fn answer_to(begun: &Begun) -> Option<Answer>
-    ensures { (task : ℕ) (now : ℕ → Story) → IsAnswer task (asked_to begun.now) result now now }
-{
-    match begun {
-        Begun::Async(child, _) => Some(Answer::Spawned(*child)),
-        Begun::End => None,
-        _ => Some(Answer::Done),
-    }
-}
-
 /// What begins by this act, if it goes on by a plan and spawns nobody.
 fn begun_by<B: Drop>(act: &Act<B>) -> Option<Begun>
-    ensures { IfSome result (λ b. asked_by (Ok act.now) ≡ asked_to b) }
+    ensures { IfSome result (λ b. (hs : List Held) → IsAskedFor b hs (asked_by (Ok act.now))) }
 {
     match act {
         Act::ShutFinish => Some(Begun::Shut),
@@ -52,29 +40,20 @@ impl<B: Body, K: RunNaming> Shared<B, K> {
     pub(crate) fn fail(&self, task: &mut Task<B, K>, refusal: Refusal) -> Result<(), Refusal>
         ensures { OnOk result (task.new.standing ≡ given_up task.old.standing) }
     {
-        task.log_failed(self.tickets.draw(), refusal)?;
-        task.standing.give_up();
-        Ok(())
+        task.fail(self.tickets.draw(), refusal)
     }
 
     /// The act is refused, and the task comes to its end.
     fn refuse(&self, task: &mut Task<B, K>, tried: Tried, refusal: Refusal) -> Result<(), Refusal>
-        ensures body { task.new.body ≡ task.old.body }
-        ensures task { task.new.log.task ≡ task.old.log.task }
-        ensures fronts { task.new.fronts ≡ task.old.fronts }
-        ensures standing { OnOk result (task.new.standing ≡ given_up task.old.standing) }
+        ensures { OnOk result (task.new.standing ≡ given_up task.old.standing) }
     {
-        task.log_refused(self.tickets.draw(), tried, refusal)?;
-        task.standing.give_up();
-        Ok(())
+        task.refuse(self.tickets.draw(), tried, refusal)
     }
 
     /// Whether the task may make the act, as far as it knows itself; where it may not, it comes to
     /// its end.
     fn may_try(&self, task: &mut Task<B, K>, tried: Tried) -> Result<bool, Refusal>
-        ensures body { task.new.body ≡ task.old.body }
-        ensures task { task.new.log.task ≡ task.old.log.task }
-        ensures fronts { task.new.fronts ≡ task.old.fronts }
+        ensures same { IfOk result (λ may. may ≡ true → task.new ≡ task.old) }
         ensures standing { IfOk result (λ may. task.new.standing ≡ tried_by may task.old.standing) }
     {
         match task.standing.may_try(self.limits, &tried) {
@@ -94,7 +73,7 @@ impl<B: Body, K: RunNaming> Shared<B, K> {
         mode: Mode,
         terms: &Terms,
     ) -> Result<(), Refusal>
-        requires says { ∥ (K.Supposing.supposed → B.Body.shows task.old.body task.old.log.task (make mode terms.now) (λ n. story_at task.old.fronts n)) ∥₁ }
+        requires says { ∥ (K.Supposing.supposed → B.Body.shows task.old.body task.old.log.task (make mode terms.now) (seen_by task.old.fronts task.old.standing task.old.log.log)) ∥₁ }
         ensures acted { OnOk result (HasActed (λ n. story_at task.old.fronts n) task.old.standing task.new.standing) }
         ensures out { by.new.out ≡ by.old.out }
         ensures posted { PostsAtMost 1 by.old.mine by.new.mine }
@@ -108,10 +87,10 @@ impl<B: Body, K: RunNaming> Shared<B, K> {
 
     /// Opens a finish. The memory that the task needs to know it is taken before.
     fn open<R: Wait>(&self, rt: &R, task: &mut Task<B, K>) -> Result<(), Refusal>
-        requires { ∥ (K.Supposing.supposed → B.Body.shows task.old.body task.old.log.task finish (λ n. story_at task.old.fronts n)) ∥₁ }
+        requires { ∥ (K.Supposing.supposed → B.Body.shows task.old.body task.old.log.task opens (seen_by task.old.fronts task.old.standing task.old.log.log)) ∥₁ }
         ensures acted { OnOk result (HasActed (λ n. story_at task.old.fronts n) task.old.standing task.new.standing) }
     {
-        if task.standing.reserve_opening().is_err() {
+        if task.reserve_opening().is_err() {
             return self.fail(task, Refusal::Memory);
         }
         let finish = self.numbers.finish();
@@ -120,9 +99,7 @@ impl<B: Body, K: RunNaming> Shared<B, K> {
         }
         let opener = TaskNumber::of(task.number());
         self.open_on(rt, opener, FinishNumber::of(finish))?;
-        task.standing.note_opening(finish)?;
-        task.answer = Some(Answer::Done);
-        Ok(())
+        task.opened(finish)
     }
 
     /// Sends a value.
@@ -134,7 +111,7 @@ impl<B: Body, K: RunNaming> Shared<B, K> {
         accumulator: u8,
         value: i32,
     ) -> Result<(), Refusal>
-        requires says { ∥ (K.Supposing.supposed → B.Body.shows task.old.body task.old.log.task (send phaser accumulator value) (λ n. story_at task.old.fronts n)) ∥₁ }
+        requires says { ∥ (K.Supposing.supposed → B.Body.shows task.old.body task.old.log.task (send phaser accumulator value) (seen_by task.old.fronts task.old.standing task.old.log.log)) ∥₁ }
         ensures acted { OnOk result (HasActed (λ n. story_at task.old.fronts n) task.old.standing task.new.standing) }
         ensures out { by.new.out ≡ by.old.out }
         ensures posted { PostsAtMost 1 by.old.mine by.new.mine }
@@ -157,7 +134,7 @@ impl<B: Body, K: RunNaming> Shared<B, K> {
         phaser: u32,
         accumulator: u8,
     ) -> Result<(), Refusal>
-        requires says { ∥ (K.Supposing.supposed → B.Body.shows task.old.body task.old.log.task (look phaser accumulator) (λ n. story_at task.old.fronts n)) ∥₁ }
+        requires says { ∥ (K.Supposing.supposed → B.Body.shows task.old.body task.old.log.task (look phaser accumulator) (seen_by task.old.fronts task.old.standing task.old.log.log)) ∥₁ }
         ensures acted { OnOk result (HasActed (λ n. story_at task.old.fronts n) task.old.standing task.new.standing) }
         ensures out { by.new.out ≡ by.old.out }
         ensures posted { PostsAtMost 1 by.old.mine by.new.mine }
@@ -175,7 +152,7 @@ impl<B: Body, K: RunNaming> Shared<B, K> {
     /// Begins an act that goes on by a plan, where it isn't refused. Once it has come to its end the
     /// body hears of it, if it hears anything more.
     fn begin(&self, task: &mut Task<B, K>, begun: Begun) -> Result<bool, Refusal>
-        requires { ∥ (K.Supposing.supposed → B.Body.shows task.old.body task.old.log.task (asked_to begun) (λ n. story_at task.old.fronts n)) ∥₁ }
+        requires { ∥ (K.Supposing.supposed → HasAskedFor B.Body.shows task.old.body task.old.log.task begun (seen_by task.old.fronts task.old.standing task.old.log.log)) ∥₁ }
         ensures begun { IfOk result (λ has_begun. task.new.standing
             ≡ if has_begun then noted (WorldEvent.Begin task.old.standing.number begun) task.old.standing
             else given_up task.old.standing) }
@@ -183,15 +160,13 @@ impl<B: Body, K: RunNaming> Shared<B, K> {
         if !self.may_try(task, Tried::Begun(begun))? {
             return Ok(false);
         }
-        task.log_begun(self.tickets.draw(), begun)?;
-        task.standing.begin(Plan::of(&begun));
-        task.answer = answer_to(&begun);
+        task.begin(self.tickets.draw(), begun)?;
         Ok(true)
     }
 
     /// The same, where nothing else comes of it.
     fn enter(&self, task: &mut Task<B, K>, begun: Begun) -> Result<(), Refusal>
-        requires { ∥ (K.Supposing.supposed → B.Body.shows task.old.body task.old.log.task (asked_to begun) (λ n. story_at task.old.fronts n)) ∥₁ }
+        requires { ∥ (K.Supposing.supposed → HasAskedFor B.Body.shows task.old.body task.old.log.task begun (seen_by task.old.fronts task.old.standing task.old.log.log)) ∥₁ }
         ensures acted { OnOk result (HasActed (λ n. story_at task.old.fronts n) task.old.standing task.new.standing) }
     {
         let _begun = self.begin(task, begun)?;
@@ -200,7 +175,7 @@ impl<B: Body, K: RunNaming> Shared<B, K> {
 
     /// Enters what begins by this act; `NotNow` where nothing does.
     fn enter_by(&self, task: &mut Task<B, K>, act: &Act<B>) -> Result<(), Refusal>
-        requires { ∥ (K.Supposing.supposed → B.Body.shows task.old.body task.old.log.task (asked_by (Ok act.now)) (λ n. story_at task.old.fronts n)) ∥₁ }
+        requires { ∥ (K.Supposing.supposed → B.Body.shows task.old.body task.old.log.task (asked_by (Ok act.now)) (seen_by task.old.fronts task.old.standing task.old.log.log)) ∥₁ }
         ensures acted { OnOk result (HasActed (λ n. story_at task.old.fronts n) task.old.standing task.new.standing) }
     {
         match begun_by(act) {
@@ -211,8 +186,8 @@ impl<B: Body, K: RunNaming> Shared<B, K> {
 
     /// Begins to spawn a child. The child's memory is taken before the act is looked at.
     fn spawn(&self, item: &mut Item<B, K>, body: B, pairs: Phased) -> Result<(), Refusal>
-        requires says { ∥ (K.Supposing.supposed → B.Body.shows item.old.task.value.body item.old.task.value.log.task spawn (λ n. story_at item.old.task.value.fronts n)) ∥₁ }
-        requires child { (its : ℕ) → ∥ (K.Supposing.supposed → B.Body.shows body its nothing (λ n. story_at item.old.task.value.fronts n)) ∥₁ }
+        requires says { ∥ (K.Supposing.supposed → HasAskedToSpawn B.Body.shows item.old.task.value.body item.old.task.value.log.task pairs (seen_by item.old.task.value.fronts item.old.task.value.standing item.old.task.value.log.log)) ∥₁ }
+        requires child { (its : ℕ) → ∥ (K.Supposing.supposed → B.Body.shows body its nothing (at_start (λ n. story_at item.old.task.value.fronts n))) ∥₁ }
         ensures acted { OnOk result (HasActed (λ n. story_at item.old.task.value.fronts n)
             item.old.task.value.standing item.new.task.value.standing) }
     {
@@ -234,7 +209,7 @@ impl<B: Body, K: RunNaming> Shared<B, K> {
         task: &mut Task<B, K>,
         act: Act<B>,
     ) -> Result<(), Refusal>
-        requires { ∥ (K.Supposing.supposed → B.Body.shows task.old.body task.old.log.task (asked_by (Ok act)) (λ n. story_at task.old.fronts n)) ∥₁ }
+        requires { ∥ (K.Supposing.supposed → B.Body.shows task.old.body task.old.log.task (asked_by (Ok act)) (seen_by task.old.fronts task.old.standing task.old.log.log)) ∥₁ }
         ensures acted { OnOk result (HasActed (λ n. story_at task.old.fronts n) task.old.standing task.new.standing) }
         ensures out { by.new.out ≡ by.old.out }
         ensures posted { PostsAtMost 1 by.old.mine by.new.mine }
@@ -260,9 +235,9 @@ impl<B: Body, K: RunNaming> Shared<B, K> {
         item: &mut Item<B, K>,
         act: Act<B>,
     ) -> Result<(), Refusal>
-        requires says { ∥ (K.Supposing.supposed → B.Body.shows item.old.task.value.body item.old.task.value.log.task (asked_by (Ok act)) (λ n. story_at item.old.task.value.fronts n)) ∥₁ }
+        requires says { ∥ (K.Supposing.supposed → B.Body.shows item.old.task.value.body item.old.task.value.log.task (asked_by (Ok act)) (seen_by item.old.task.value.fronts item.old.task.value.standing item.old.task.value.log.log)) ∥₁ }
         requires child { (child : B) (its : ℕ) → IsSpawned child (Ok act)
-            → ∥ (K.Supposing.supposed → B.Body.shows child its nothing (λ n. story_at item.old.task.value.fronts n)) ∥₁ }
+            → ∥ (K.Supposing.supposed → B.Body.shows child its nothing (at_start (λ n. story_at item.old.task.value.fronts n))) ∥₁ }
         ensures acted { OnOk result (HasActed (λ n. story_at item.old.task.value.fronts n)
             item.old.task.value.standing item.new.task.value.standing) }
         ensures out { by.new.out ≡ by.old.out }
@@ -285,6 +260,7 @@ impl<B: Body, K: RunNaming> Shared<B, K> {
         busy: &mut Busy<'_, B, K, R>,
         item: &mut Item<B, K>,
     ) -> Result<(), Refusal>
+        requires { IsDue None item.old.task.value.standing }
         ensures acted { OnOk result (HasActed (λ n. story_at item.old.task.value.fronts n)
             item.old.task.value.standing item.new.task.value.standing) }
         ensures seat { IsSeatOf busy.old.seat busy.new.seat }

@@ -1,16 +1,17 @@
 //! The calls on phasers and finishes behind their locks, by number. Those whom a call wakes are
 //! given to the queue before it answers. A number past the tables is nobody's.
-ghost use Rattle.std.specs.Prelude.{◌≡◌, IfOk, OnOk, OnErr};
-ghost use Rattle.world_model.specs.declared.event.Step.TheVariants.{Reg, Sig, Drop};
+ghost use Rattle.std.specs.Prelude.{◌≡◌, Some, IfOk, OnOk, OnErr};
+ghost use Rattle.world_model.specs.declared.event.Step.TheVariants.{Reg, Sig, Pass, Drop};
+ghost use Rattle.world_model.specs.declared.event.WorldEvent.TheVariants.{Phaser};
 ghost use Rattle.scope_locks.specs.Shutting.{IsBackFromShut};
 ghost use Rattle.table_receipts.specs.Seen.{story_at};
 ghost use Rattle.task_queue.specs.Accounts.{IsSeatOf};
 ghost use Rattle.tasks_in_flight.specs.Heard.{make, send, look};
+ghost use Rattle.tasks_in_flight.specs.inner.Ready.{IsDue, seen_by};
 ghost use Rattle.task_worker.specs.inner.Driven.{HasActed, IsReplied, IsOfSignal, IsOfPass};
 ghost use Rattle.task_worker.specs.inner.Posted.{PostsAtMost};
 
 use crate::worker::{Busy, Shared};
-use job_script::Answer;
 use phase_model::Terms;
 use phase_modes::{Mode, Pair, Refusal};
 use phaser_cell::{PassAnswer, SignalAnswer};
@@ -30,7 +31,7 @@ impl<B: Body, K: RunNaming> Shared<B, K> {
         mode: Mode,
         terms: &Terms,
     ) -> Result<(), Refusal>
-        requires says { ∥ (K.Supposing.supposed → B.Body.shows task.old.body task.old.log.task (make mode terms.now) (λ n. story_at task.old.fronts n)) ∥₁ }
+        requires says { ∥ (K.Supposing.supposed → B.Body.shows task.old.body task.old.log.task (make mode terms.now) (seen_by task.old.fronts task.old.standing task.old.log.log)) ∥₁ }
         ensures acted { OnOk result (HasActed (λ n. story_at task.old.fronts n) task.old.standing task.new.standing) }
         ensures out { by.new.out ≡ by.old.out }
         ensures posted { PostsAtMost 1 by.old.mine by.new.mine }
@@ -39,10 +40,7 @@ impl<B: Body, K: RunNaming> Shared<B, K> {
         let maker = task.number();
         let mut me = task.front(number);
         self.phasers.make(by, &mut me, number, maker, mode, terms)?;
-        task.standing.note_making(phaser, mode)?;
-        task.fronts.set(number, me);
-        task.answer = Some(Answer::Made(phaser));
-        Ok(())
+        task.made(phaser, mode, me)
     }
 
     pub(crate) fn register_on<R: Wait>(
@@ -63,7 +61,7 @@ impl<B: Body, K: RunNaming> Shared<B, K> {
         let mut me = task.front(number);
         self.phasers
             .register(by, &mut me, number, parent, child, pair.mode)?;
-        task.note_own(number, me);
+        task.registered(pair.phaser, me);
         Ok(())
     }
 
@@ -76,7 +74,7 @@ impl<B: Body, K: RunNaming> Shared<B, K> {
         accumulator: u8,
         value: i32,
     ) -> Result<(), Refusal>
-        requires says { ∥ (K.Supposing.supposed → B.Body.shows task.old.body task.old.log.task (send phaser accumulator value) (λ n. story_at task.old.fronts n)) ∥₁ }
+        requires says { ∥ (K.Supposing.supposed → B.Body.shows task.old.body task.old.log.task (send phaser accumulator value) (seen_by task.old.fronts task.old.standing task.old.log.log)) ∥₁ }
         ensures acted { OnOk result (HasActed (λ n. story_at task.old.fronts n) task.old.standing task.new.standing) }
         ensures refused { OnErr result (task.new.standing ≡ task.old.standing) }
         ensures out { by.new.out ≡ by.old.out }
@@ -87,9 +85,7 @@ impl<B: Body, K: RunNaming> Shared<B, K> {
         let mut me = task.front(number);
         self.phasers
             .send(by, &mut me, number, sender, accumulator, value)?;
-        task.fronts.set(number, me);
-        task.standing.note_act();
-        task.answer = Some(Answer::Done);
+        task.sent(phaser, me);
         Ok(())
     }
 
@@ -101,7 +97,7 @@ impl<B: Body, K: RunNaming> Shared<B, K> {
         phaser: u32,
         accumulator: u8,
     ) -> Result<(), Refusal>
-        requires says { ∥ (K.Supposing.supposed → B.Body.shows task.old.body task.old.log.task (look phaser accumulator) (λ n. story_at task.old.fronts n)) ∥₁ }
+        requires says { ∥ (K.Supposing.supposed → B.Body.shows task.old.body task.old.log.task (look phaser accumulator) (seen_by task.old.fronts task.old.standing task.old.log.log)) ∥₁ }
         ensures acted { OnOk result (HasActed (λ n. story_at task.old.fronts n) task.old.standing task.new.standing) }
         ensures refused { OnErr result (task.new.standing ≡ task.old.standing) }
         ensures out { by.new.out ≡ by.old.out }
@@ -111,9 +107,7 @@ impl<B: Body, K: RunNaming> Shared<B, K> {
         let reader = task.number();
         let mut me = task.front(number);
         let seen = self.phasers.look(by, &mut me, number, reader, accumulator)?;
-        task.fronts.set(number, me);
-        task.standing.note_act();
-        task.answer = Some(Answer::Saw(seen));
+        task.looked(phaser, me, seen);
         Ok(())
     }
 
@@ -125,8 +119,9 @@ impl<B: Body, K: RunNaming> Shared<B, K> {
         phaser: u32,
         proposed: Option<u32>,
     ) -> Result<SignalAnswer<Item<B, K>>, Refusal>
+        requires { IsDue (Some (Phaser phaser (Sig item.task.value.standing.number proposed))) item.task.value.standing }
         ensures told { IfOk result (IsOfSignal (λ i. i.task.value.standing) item.task.value.standing
-            (story_at item.task.value.fronts phaser) (Sig item.task.value.standing.number proposed)) }
+            (story_at item.task.value.fronts phaser) phaser (Sig item.task.value.standing.number proposed)) }
         ensures seat { IsSeatOf busy.old.seat busy.new.seat }
         ensures posted { PostsAtMost 1 busy.old.by.mine busy.new.by.mine }
     {
@@ -145,7 +140,7 @@ impl<B: Body, K: RunNaming> Shared<B, K> {
         match answer {
             SignalAnswer::Signalled(signalled) => {
                 let mut item = signalled;
-                item.task.note_own(number, me);
+                item.task.signalled(phaser, proposed, me);
                 Ok(SignalAnswer::Signalled(item))
             }
             other => Ok(other),
@@ -159,8 +154,9 @@ impl<B: Body, K: RunNaming> Shared<B, K> {
         item: Item<B, K>,
         phaser: u32,
     ) -> Result<PassAnswer<Item<B, K>>, Refusal>
+        requires { IsDue (Some (Phaser phaser (Pass item.task.value.standing.number))) item.task.value.standing }
         ensures told { IfOk result (IsOfPass (λ i. i.task.value.standing) item.task.value.standing
-            (story_at item.task.value.fronts phaser) item.task.value.standing.number) }
+            (story_at item.task.value.fronts phaser) phaser item.task.value.standing.number) }
         ensures seat { IsSeatOf busy.old.seat busy.new.seat }
         ensures posted { PostsAtMost 1 busy.old.by.mine busy.new.by.mine }
     {
@@ -177,7 +173,7 @@ impl<B: Body, K: RunNaming> Shared<B, K> {
         match answer {
             PassAnswer::Passed(passed, phase) => {
                 let mut item = passed;
-                item.task.note_own(number, me);
+                item.task.passed(phaser, me);
                 Ok(PassAnswer::Passed(item, phase))
             }
             other => Ok(other),

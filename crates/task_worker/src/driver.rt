@@ -7,6 +7,7 @@ ghost use Rattle.task_worker.specs.inner.Posted.{PostsAtMost, most_posted};
 ghost use Rattle.task_queue.specs.Accounts.{IsSeatOf};
 ghost use Rattle.task_standing.specs.StillToMake.{event_of};
 ghost use Rattle.tasks_in_flight.specs.inner.Due.{still_of};
+ghost use Rattle.tasks_in_flight.specs.inner.Ready.{IsDue};
 
 use crate::worker::{Busy, Shared, Worker};
 use phase_modes::{Pair, Refusal};
@@ -62,17 +63,14 @@ impl<B: Body, K: RunNaming> Shared<B, K> {
         phaser: u32,
         number: Option<u32>,
     ) -> Result<Next<B, K>, Refusal>
+        requires { IsDue (event_of item.task.value.standing.number (Due.Signal phaser number)) item.task.value.standing }
         ensures made { IfGoesOn result (λ next. GoesBy (λ n. story_at item.task.value.fronts n) (event_of item.task.value.standing.number (Due.Signal phaser number))
             item.task.value.standing next.task.value.standing) }
         ensures seat { IsSeatOf busy.old.seat busy.new.seat }
         ensures posted { PostsAtMost 1 busy.old.by.mine busy.new.by.mine }
     {
         match self.signal_on(busy, item, phaser, number)? {
-            SignalAnswer::Signalled(signalled) => {
-                let mut item = signalled;
-                item.task.standing.note_signal(phaser);
-                Ok(Some(item))
-            }
+            SignalAnswer::Signalled(signalled) => Ok(Some(signalled)),
             SignalAnswer::Parked => Ok(None),
             SignalAnswer::Refused(item, refusal) => {
                 let may_fail = matches!(refusal, Refusal::SingleMismatch | Refusal::HistoryFull);
@@ -106,17 +104,14 @@ impl<B: Body, K: RunNaming> Shared<B, K> {
         item: Item<B, K>,
         phaser: u32,
     ) -> Result<Next<B, K>, Refusal>
+        requires { IsDue (event_of item.task.value.standing.number (Due.Pass phaser)) item.task.value.standing }
         ensures made { IfGoesOn result (λ next. GoesBy (λ n. story_at item.task.value.fronts n) (event_of item.task.value.standing.number (Due.Pass phaser))
             item.task.value.standing next.task.value.standing) }
         ensures seat { IsSeatOf busy.old.seat busy.new.seat }
         ensures posted { PostsAtMost 2 busy.old.by.mine busy.new.by.mine }
     {
         match self.pass_on(busy, item, phaser)? {
-            PassAnswer::Passed(passed, _) => {
-                let mut item = passed;
-                item.task.standing.note_pass(phaser);
-                Ok(Some(item))
-            }
+            PassAnswer::Passed(passed, _) => Ok(Some(passed)),
             PassAnswer::Claimed(item, number) => self.run_single(busy, item, phaser, number),
             PassAnswer::Parked => Ok(None),
             PassAnswer::Refused(item, refusal) => {
@@ -159,6 +154,7 @@ impl<B: Body, K: RunNaming> Shared<B, K> {
         child: TaskNumber,
         finish: FinishNumber,
     ) -> Result<Next<B, K>, Refusal>
+        requires { IsDue (event_of item.task.value.standing.number (Due.Spawn child finish)) item.task.value.standing }
         ensures made { IfGoesOn result (λ next. GoesBy (λ n. story_at item.task.value.fronts n) (event_of item.task.value.standing.number (Due.Spawn child finish))
             item.task.value.standing next.task.value.standing) }
         ensures seat { IsSeatOf busy.old.seat busy.new.seat }
@@ -170,7 +166,7 @@ impl<B: Body, K: RunNaming> Shared<B, K> {
             return Err(Refusal::NotNow);
         };
         self.spawn_on(busy.by.rt, child, finish)?;
-        task.standing.note_birth();
+        task.bore();
         self.give(busy, Item::of(born))?;
         Ok(Some(Item::of(task)))
     }
@@ -182,6 +178,7 @@ impl<B: Body, K: RunNaming> Shared<B, K> {
         item: Item<B, K>,
         phaser: u32,
     ) -> Result<Next<B, K>, Refusal>
+        requires { IsDue (event_of item.task.value.standing.number (Due.Leave phaser)) item.task.value.standing }
         ensures made { IfGoesOn result (λ next. GoesBy (λ n. story_at item.task.value.fronts n) (event_of item.task.value.standing.number (Due.Leave phaser))
             item.task.value.standing next.task.value.standing) }
         ensures seat { IsSeatOf busy.old.seat busy.new.seat }
@@ -190,7 +187,7 @@ impl<B: Body, K: RunNaming> Shared<B, K> {
         let mut item = item;
         let leaver = TaskNumber::of(item.task.number());
         self.drop_on(busy, &mut item.task, PhaserNumber::of(phaser), leaver)?;
-        item.task.standing.leave(phaser);
+        item.task.left(phaser);
         Ok(Some(item))
     }
 
@@ -228,7 +225,7 @@ impl<B: Body, K: RunNaming> Shared<B, K> {
         match self.shut_on(rt, item, finish) {
             ShutAnswer::Done(shut) => {
                 let mut item = shut;
-                item.task.standing.note_shut();
+                item.task.shut();
                 Ok(Some(item))
             }
             ShutAnswer::Parked => Ok(None),

@@ -1,8 +1,6 @@
 -- What a call's answer is to a body that asked for it.
-use Rattle.std.proofs.Common.{ℕ, ◌≡◌, ◌⊎◌, ◌==◌, Bool, true, false, if◌then◌else◌, inr, List, [], ◌∷◌, ◌++◌, Option, Some, None, Ok, refl, sym, ap, subst, ◌∙◌}
+use Rattle.std.proofs.Common.{ℕ, ◌≡◌, Bool, true, false, if◌then◌else◌, List, [], ◌∷◌, Option, Some, None, Ok, refl, sym, ap, subst, ◌∙◌}
 use Rattle.std.specs.Prelude.{ℤ}
-use Rattle.std.proofs.lemmas.Bool.{eqb-true, true≢false}
-use Rattle.std.proofs.lemmas.List.{append_assoc}
 use Rattle.phase_modes.specs.declared.limits.Limits.{Limits}
 use Rattle.phase_modes.specs.declared.refusal.Refusal.{Refusal}
 use Rattle.phase_modes.specs.declared.reg.Mode.{Mode}
@@ -21,14 +19,10 @@ use Rattle.phaser_answers.specs.Answers.{made_with, signal_result, pass_result}
 use Rattle.parked_tasks.specs.declared.answer.SignalAnswer.TheVariants.{Signalled}
 use Rattle.parked_tasks.specs.declared.answer.PassAnswer.TheVariants.{Passed}
 use Rattle.parked_tasks.specs.Parking.{locked_signal, locked_pass}
-use Rattle.job_script.specs.declared.act.Answer.{Answer}
-use Rattle.job_script.specs.declared.act.Answer.TheVariants.{Started, Done, Made, Spawned, Saw}
 use Rattle.long_locks.specs.Told.{IsSignalAnswer, IsPassAnswer}
-use Rattle.table_receipts.specs.Logs.{GoesOn}
-use Rattle.table_receipts.specs.Seen.{HasSeenMore}
 use Rattle.table_receipts.specs.Told.{IsAnswered, IsMade}
-use Rattle.tasks_in_flight.specs.Heard.{Asked, nothing, make, send, look, turn, spawn, finish, ends, HasMade, HasSent, IsOwn, IsOwnOfEach, IsAnswerTo}
-use Rattle.tasks_in_flight.specs.inner.Ready.{IsAnswer, is_of_each}
+use Rattle.tasks_in_flight.specs.Heard.{HasMade, HasSent, IsOwn}
+use Rattle.tasks_in_flight.specs.inner.Ready.{HasJustDone, HasJustPassed}
 
 -- ---- by what was answered
 
@@ -90,16 +84,18 @@ signal_adds x y false s e None true r is = absurd (cc is)
 signal_adds x y again s e None false false is = absurd (cc is)
 signal_adds x y again s e None false true is = refl
 
-pub signal_is_own : {T : Type 0} (x y : T) (seen now : Story) (t : ℕ) (n : Option ℕ)
-    → IsAnswered (λ _ r. IsSignalAnswer x (signal_result r) (Signalled y)) (calls.Signal t n) seen now → IsOwn t now.past
-signal_is_own x y seen now t n told =
+pub just_signalled : {T : Type 0} (x y : T) (seen now : Story) (t : ℕ) (n : Option ℕ)
+    → IsAnswered (λ _ r. IsSignalAnswer x (signal_result r) (Signalled y)) (calls.Signal t n) seen now → HasJustDone (Sig t n) seen now
+just_signalled x y seen now t n told =
     let s = told.0 in
     let c = calls.Signal t n in
-    let e = Sig t n in
-    subst (λ (h : List Event). IsOwn t h)
-    (sym (ap (λ (v : Story). v.past) told.3
-    ∙ signal_adds x y told.2.0 s e (first_refusal (conditions s.limits s.terms s.past c)) (must_wait s.limits s.terms s.past c)
-    (has_room s.limits (e ∷ s.past)) told.2.1)) refl
+    let e = Sig t n in (
+      s.past,
+      ap (λ (v : Story). v.past) told.3
+          ∙ signal_adds x y told.2.0 s e (first_refusal (conditions s.limits s.terms s.past c)) (must_wait s.limits s.terms s.past c)
+          (has_room s.limits (e ∷ s.past)) told.2.1,
+      told.1.1,
+    )
 
 -- who is answered that it has passed has, in the phase in which it was
 pass_adds : {T : Type 0} (x y : T) (p : ℕ) (again : Bool) (s : Story) (t : ℕ) (o : Option Refusal) (w r claims : Bool)
@@ -112,71 +108,19 @@ pass_adds x y p again s t None false false claims is = absurd (cc is)
 pass_adds x y p again s t None false true true is = absurd (cc is)
 pass_adds x y p again s t None false true false is = (cc is, refl)
 
-pub pass_is_own : {T : Type 0} (x y : T) (p : ℕ) (seen now : Story) (t : ℕ)
+pub just_passed : {T : Type 0} (x y : T) (p : ℕ) (seen now : Story) (t : ℕ)
     → IsAnswered (λ h r. IsPassAnswer x (pass_result h r) (Passed y p)) (calls.Pass t) seen now
-    → (has_mode can_wait t now.past ≡ true → IsClosed p now.past) → IsOwn t now.past
-pass_is_own x y p seen now t told closed =
+    → (has_mode can_wait t now.past ≡ true → IsClosed p now.past) → HasJustPassed t seen now
+just_passed x y p seen now t told closed =
     let s = told.0 in
     let c = calls.Pass t in
     let added =
     pass_adds x y p told.2.0 s t (first_refusal (conditions s.limits s.terms s.past c)) (must_wait s.limits s.terms s.past c)
     (has_room s.limits (event_for s.limits s.terms s.past c ∷ s.past)) (is_permitted s.limits s.terms s.past (Claim t)) told.2.1 in
-    let past : now.past ≡ Pass t ∷ s.past = ap (λ (v : Story). v.past) told.3 ∙ added.1 in
-    subst (λ (h : List Event). IsOwn t h) (sym past) (
-      refl,
+    let past : now.past ≡ Pass t ∷ s.past = ap (λ (v : Story). v.past) told.3 ∙ added.1 in (
+      s.past,
+      past,
+      told.1.1,
       λ can. subst (λ (k : ℕ). IsClosed k (Pass t ∷ s.past)) added.0
           (subst (λ (h : List Event). IsClosed p h) past (closed (subst (λ (h : List Event). has_mode can_wait t h ≡ true) (sym past) can))),
     )
-
--- ---- from one answer to the next
-
--- what was sent stays sent
-still_sent : (task a : ℕ) (v : ℤ) (seen now new : Story) → GoesOn now new → HasSent task a v seen now → HasSent task a v seen new
-still_sent task a v seen now new goes sent = (
-  goes.1.0 ++ sent.0,
-  sent.1,
-  goes.1.1 ∙ (ap (λ (h : List Event). goes.1.0 ++ h) sent.2 ∙ sym (append_assoc goes.1.0 sent.0 (Send task a v ∷ sent.1))),
-  sent.3,
-)
-
--- where of one phaser more was seen, up to the task's own newest event, each phaser's is its own as before
-own_again : (task k : ℕ) (seen now new : ℕ → Story) → HasSeenMore k now new → IsOwn task (new k).past
-    → IsOwnOfEach task seen now → IsOwnOfEach task seen new
-own_again task k seen now new more own is = λ n. by_number n (n == k) refl
-  where
-    by_number : (n : ℕ) (b : Bool) → n == k ≡ b → (new n ≡ seen n) ⊎ IsOwn task (new n).past
-    by_number n true same = inr (subst (λ (j : ℕ). IsOwn task (new j).past) (sym (eqb-true n k same)) own)
-    by_number n false other =
-        subst (λ (s : Story). (s ≡ seen n) ⊎ IsOwn task s.past) (sym (more.1 n other)) (is n)
-
-done_again : (task k : ℕ) (asked : Asked) (seen now new : ℕ → Story) → HasSeenMore k now new → IsOwn task (new k).past
-    → IsAnswerTo task asked Done seen now → IsAnswerTo task asked Done seen new
-done_again task k nothing seen now new more own is = absurd is
-done_again task k (make m terms) seen now new more own is = absurd is
-done_again task k (send n a v) seen now new more own is = still_sent task a v (seen n) (now n) (new n) (more.0 n) is
-done_again task k (look n a) seen now new more own is = absurd is
-done_again task k turn seen now new more own is = own_again task k seen now new more own is
-done_again task k spawn seen now new more own is = absurd is
-done_again task k finish seen now new more own is = tt
-done_again task k ends seen now new more own is = absurd is
-
-spawned_again : (task child k : ℕ) (asked : Asked) (seen now new : ℕ → Story) → HasSeenMore k now new → IsOwn task (new k).past
-    → IsAnswerTo task asked (Spawned child) seen now → IsAnswerTo task asked (Spawned child) seen new
-spawned_again task child k nothing seen now new more own is = absurd is
-spawned_again task child k (make m terms) seen now new more own is = absurd is
-spawned_again task child k (send n a v) seen now new more own is = absurd is
-spawned_again task child k (look n a) seen now new more own is = absurd is
-spawned_again task child k turn seen now new more own is = absurd is
-spawned_again task child k spawn seen now new more own is = own_again task k seen now new more own is
-spawned_again task child k finish seen now new more own is = absurd is
-spawned_again task child k ends seen now new more own is = absurd is
-
--- who is about to hear of each phaser's is so still
-pub hears_again : (task k : ℕ) (asked : Asked) (answer : Option Answer) (seen now new : ℕ → Story) → is_of_each answer ≡ true
-    → HasSeenMore k now new → IsOwn task (new k).past → IsAnswer task asked answer seen now → IsAnswer task asked answer seen new
-hears_again task k asked (Some Done) seen now new each more own is = done_again task k asked seen now new more own is
-hears_again task k asked (Some (Spawned c)) seen now new each more own is = spawned_again task c k asked seen now new more own is
-hears_again task k asked (Some Started) seen now new each more own is = absurd (true≢false (sym each))
-hears_again task k asked (Some (Made n)) seen now new each more own is = absurd (true≢false (sym each))
-hears_again task k asked (Some (Saw x)) seen now new each more own is = absurd (true≢false (sym each))
-hears_again task k asked None seen now new each more own is = absurd (true≢false (sym each))

@@ -1,2 +1,4 @@
+pub mod FirstDue
 pub mod Heard
+pub mod OnTheWay
 pub mod Saying

@@ -1,157 +1,279 @@
 -- What a body in flight says, from its task's start to the run's end.
-use Rattle.std.proofs.Common.{ℕ, ◌≡◌, ◌<◌, true, List, length, Option, Some, sym, subst, arith}
+use Rattle.std.proofs.Common.{ℕ, ◌≡◌, ◌<◌, List, length, Option, Some, Result, Ok, Err, refl, sym, ap, subst, ◌∙◌, arith, [], ◌∷◌, ◌++◌, map, append-nil}
+use Rattle.std.specs.Prelude.{slice_get}
+use Rattle.std.proofs.lemmas.List.{map-append}
 use Rattle.std.proofs.Math.Logic.{∥∥₁_map, ∥∥₁_map₂}
 use Rattle.phase_modes.specs.declared.limits.Limits.{Limits}
+use Rattle.phase_modes.specs.declared.phased.Pair.{Pair}
+use Rattle.phase_modes.specs.declared.refusal.Refusal.{Refusal}
 use Rattle.phase_model.specs.Rules.{Story}
+use Rattle.world_model.specs.declared.event.Begun.{Begun}
+use Rattle.world_model.specs.declared.event.Begun.TheVariants.{Async, End}
+use Rattle.trace_model.specs.declared.event.TracedEvent.{TracedEvent}
+use Rattle.trace_model.specs.declared.event.TracedEvent.TheVariants.{Begin}
+use Rattle.trace_model.specs.Projections.{log, AreOf}
 use Rattle.trace_model.specs.Run.{Entry}
+use Rattle.trace_model.specs.TaskLog.{TaskLog}
 use Rattle.job_script.specs.declared.act.Answer.{Answer}
 use Rattle.job_script.specs.declared.act.Answer.TheVariants.{Started}
 use Rattle.table_receipts.specs.Logs.{GoesOn, Sight}
 use Rattle.table_receipts.specs.Parts.{AreLogged}
-use Rattle.table_receipts.specs.Seen.{story_at, HasSeenMore}
+use Rattle.table_receipts.specs.Seen.{story_at}
 use Rattle.table_receipts.proofs.Goes.{goes_itself, goes_far}
 use Rattle.table_receipts.proofs.Logged.{told_at_each}
-use Rattle.tasks_in_flight.specs.Heard.{Asked, nothing, ends, IsOwn, IsHeard}
+use Rattle.task_standing.specs.declared.held.Held.{Held}
+use Rattle.task_standing.specs.declared.plan.Plan.{Plan}
+use Rattle.task_standing.specs.declared.plan.Plan.TheVariants.{Idle, Signalling, Turning, Spawning, Shutting, Ending}
+use Rattle.task_standing.specs.Known.{Known}
+use Rattle.task_standing.specs.Noted.{plan_of}
+use Rattle.task_standing.specs.Standing.{begun}
+use Rattle.tasks_in_flight.specs.Heard.{Asked, Seen, SeesMore, nothing, spawn, at_start, ends, IsHeard, IsAnswerTo}
+use Rattle.tasks_in_flight.specs.Noted.{IsNoted}
 use Rattle.tasks_in_flight.specs.Said.{Saying, IsSaid}
-use Rattle.tasks_in_flight.specs.inner.Ready.{Says, IsAnswer, IsReady, is_of_each, HasSaid, Tells, IsTold}
-use Rattle.tasks_in_flight.proofs.Heard.{hears_again}
+use Rattle.tasks_in_flight.specs.inner.Ready.{Says, IsPending, IsReady, IsAskedFor, HasAskedFor, HasAskedToSpawn, HasSaid, answer_of, Tells, IsTold, seen_by, seen_at_end}
+use Rattle.tasks_in_flight.proofs.OnTheWay.{pending_begun, pending_newborn, sees_itself, sees_far}
+
+-- a log that was added to, or refused to be, has no fewer entries
+pub log_grows : (entry : Entry) (old new : TaskLog) (result : Result (Unit {0}) Refusal) → IsNoted entry old new result
+    → (more : List TracedEvent) × (map (λ (e : Entry). e.1) new.entries ≡ map (λ (e : Entry). e.1) old.entries ++ more)
+log_grows entry old new (Ok done) is =
+    (entry.1 ∷ [], ap (λ (l : TaskLog). map (λ (e : Entry). e.1) l.entries) is.1 ∙ map-append (λ (e : Entry). e.1) old.entries (entry ∷ []))
+log_grows entry old new (Err refusal) is =
+    ([], ap (λ (l : TaskLog). map (λ (e : Entry). e.1) l.entries) is.2 ∙ sym (append-nil (map (λ (e : Entry). e.1) old.entries)))
+
+-- where it was refused to be, it stays
+pub log_stays : (entry : Entry) (old new : TaskLog) (result : Result (Unit {0}) Refusal) (e : Refusal) → result ≡ Err e
+    → IsNoted entry old new result → new ≡ old
+log_stays entry old new (Ok done) e is noted = absurd (cc is)
+log_stays entry old new (Err refusal) e is noted = noted.2
+
+-- and where it was, it has this one more
+pub log_has : (entry : Entry) (old new : TaskLog) → IsNoted entry old new (Ok tt)
+    → map (λ (e : Entry). e.1) new.entries ≡ map (λ (e : Entry). e.1) old.entries ++ entry.1 ∷ []
+log_has entry old new is = ap (λ (l : TaskLog). map (λ (e : Entry). e.1) l.entries) is.1 ∙ map-append (λ (e : Entry). e.1) old.entries (entry ∷ [])
+
+-- with more seen of phasers alone, and with a longer log alone
+pub more_stories : (now : Seen) (new : ℕ → Story) (holding : List Held) → ((n : ℕ) → GoesOn (now.stories n) (new n))
+    → SeesMore now (record { stories = new; holding = holding; log = now.log })
+more_stories now new holding goes = (goes, ([], sym (append-nil now.log)))
+
+pub more_noted : (fronts : List Sight) (k k' : Known) (entry : Entry) (old new : TaskLog) (result : Result (Unit {0}) Refusal)
+    → IsNoted entry old new result → SeesMore (seen_by fronts k old) (seen_by fronts k' new)
+more_noted fronts k k' entry old new result is = ((λ n. goes_itself (story_at fronts n)), log_grows entry old new result is)
 
 module _ {B : Type 0} {P : Type 0} (Shows : Saying B) where
   -- before its first act it has asked for nothing, and hears that it starts
-  pub ready_at_first : (b : B) (task : ℕ) (now : ℕ → Story)
-      → ∥ (P → Says Shows b task nothing now) ∥₁ → ∥ (P → IsReady Shows b task (Some Started) now) ∥₁
-  ready_at_first b task now says =
-      ∥∥₁_map says (λ f p. let s = f p in (nothing, s.0, s.1, (s.2, tt)))
+  pub ready_at_first : (b : B) (task : ℕ) (now : Seen) → now.log ≡ []
+      → ∥ (P → Says Shows b task nothing (at_start now.stories)) ∥₁ → ∥ (P → IsReady Shows b task Idle (Some Started) now) ∥₁
+  ready_at_first b task now blank says =
+      ∥∥₁_map says (λ f p. let s = f p in (nothing, s.0, s.1, ((s.2.0, ([], blank_log s.0 s.2.1)), λ lives. (started s.0 s.2.1, refl))))
+    where
+      nothing_more : (xs ys : List TracedEvent) → [] ≡ xs ++ ys → xs ≡ []
+      nothing_more [] ys e = refl
+      nothing_more (x ∷ xs) ys e = absurd (cc e)
 
-  -- it asked for this just now, and hears this answer
-  pub ready_now : (b : B) (task : ℕ) (asked : Asked) (answer : Option Answer) (now : ℕ → Story) → IsAnswer task asked answer now now
-      → ∥ (P → Shows b task asked now) ∥₁ → ∥ (P → IsReady Shows b task answer now) ∥₁
-  ready_now b task asked answer now is shows =
-      ∥∥₁_map shows (λ f p. (asked, now, f p, ((λ n. goes_itself (now n)), is)))
+      started : (seen : Seen) → ((more : List TracedEvent) × ([] ≡ seen.log ++ more)) → now.log ≡ seen.log
+      started seen more = blank ∙ sym (nothing_more seen.log more.0 more.1)
 
-  -- more was seen since, and it hears this answer
-  pub ready_seen : (b : B) (task : ℕ) (asked : Asked) (answer : Option Answer) (now new : ℕ → Story) → ((n : ℕ) → GoesOn (now n) (new n))
-      → IsAnswer task asked answer now new → ∥ (P → Shows b task asked now) ∥₁ → ∥ (P → IsReady Shows b task answer new) ∥₁
-  ready_seen b task asked answer now new goes is shows =
-      ∥∥₁_map shows (λ f p. (asked, now, f p, (goes, is)))
+      blank_log : (seen : Seen) → ((more : List TracedEvent) × ([] ≡ seen.log ++ more)) → now.log ≡ seen.log ++ []
+      blank_log seen more = started seen more ∙ sym (append-nil seen.log)
 
-  -- of one phaser more was seen, up to the task's own newest event, of which it is about to hear
-  pub ready_own : (b : B) (task k : ℕ) (answer : Option Answer) (now new : ℕ → Story) → is_of_each answer ≡ true → HasSeenMore k now new
-      → IsOwn task (new k).past → ∥ (P → IsReady Shows b task answer now) ∥₁ → ∥ (P → IsReady Shows b task answer new) ∥₁
-  ready_own b task k answer now new each more own ready =
-      ∥∥₁_map ready (λ f p.
-      let r = f p in (
+  -- it asked for this just now, and no less is seen since, and it hears this of it
+  pub ready_since : (b : B) (task : ℕ) (p : Plan) (asked : Asked) (answer : Option Answer) (now new : Seen) → SeesMore now new
+      → IsPending task p asked answer now new → ∥ (P → Shows b task asked now) ∥₁ → ∥ (P → IsReady Shows b task p answer new) ∥₁
+  ready_since b task p asked answer now new goes is shows =
+      ∥∥₁_map shows (λ f q. (asked, now, f q, (goes, is)))
+
+  -- the same of an act that is begun, which is noted and nothing else
+  pub ready_begun : (b : B) (task : ℕ) (act : Begun) (fronts : List Sight) (k : Known) (own own' : TaskLog)
+      → map (λ (e : Entry). e.1) own'.entries ≡ map (λ (e : Entry). e.1) own.entries ++ Begin task act ∷ []
+      → ∥ (P → HasAskedFor Shows b task act (seen_by fronts k own)) ∥₁
+      → ∥ (P → IsReady Shows b task (begun (plan_of act) k).plan (answer_of act) (seen_by fronts (begun (plan_of act) k) own')) ∥₁
+  ready_begun b task act fronts k own own' longer asks =
+      with_plan (plan_of act)
+      (subst (λ (l : List TracedEvent). ∥ (P → IsReady Shows b task (plan_of act) (answer_of act) (record { stories = λ n. story_at fronts n; holding = k.holding; log = l })) ∥₁)
+      (sym longer)
+      (∥∥₁_map asks (λ f q. let a = f q in (
+        a.0,
+        seen_by fronts k own,
+        a.2,
+        (
+          ((λ n. goes_itself (story_at fronts n)), (Begin task act ∷ [], refl)),
+          pending_begun task k (λ n. story_at fronts n) (map (λ (e : Entry). e.1) own.entries) act a.0 a.1,
+        ),
+      ))))
+    where
+      with_plan : (p : Plan) → ∥ (P → IsReady Shows b task p (answer_of act) (seen_by fronts k own')) ∥₁
+          → ∥ (P → IsReady Shows b task (begun p k).plan (answer_of act) (seen_by fronts (begun p k) own')) ∥₁
+      with_plan Idle ready = ready
+      with_plan (Signalling x turns) ready = ready
+      with_plan (Turning next) ready = ready
+      with_plan (Spawning c ps made) ready = ready
+      with_plan Shutting ready = ready
+      with_plan Ending ready = ready
+
+  -- from one event to the next
+  pub ready_moves : (b : B) (task : ℕ) (p p' : Plan) (answer : Option Answer) (now new : Seen) → SeesMore now new
+      → ((asked : Asked) (seen : Seen) → SeesMore seen now → IsPending task p asked answer seen now → IsPending task p' asked answer seen new)
+      → ∥ (P → IsReady Shows b task p answer now) ∥₁ → ∥ (P → IsReady Shows b task p' answer new) ∥₁
+  ready_moves b task p p' answer now new goes is ready =
+      ∥∥₁_map ready (λ f q. let r = f q in (r.0, r.1, r.2, (sees_far r.1 now new r.3.0 goes, is r.0 r.1 r.3.0 r.3.1)))
+
+  -- it is so where the task knows the same of itself
+  pub ready_at : (b : B) (task : ℕ) (answer : Option Answer) (fronts : List Sight) (k k' : Known) (own : TaskLog) → k' ≡ k
+      → ∥ (P → IsReady Shows b task k.plan answer (seen_by fronts k own)) ∥₁
+      → ∥ (P → IsReady Shows b task k'.plan answer (seen_by fronts k' own)) ∥₁
+  ready_at b task answer fronts k k' own same ready =
+      subst (λ (x : Known). ∥ (P → IsReady Shows b task x.plan answer (seen_by fronts x own)) ∥₁) (sym same) ready
+
+  -- a task that was never born may be handed phasers, and taken off them
+  pub ready_newborn : (b : B) (task : ℕ) (answer : Option Answer) (fronts : List Sight) (k k' : Known) (own : TaskLog) → k'.plan ≡ k.plan
+      → ∥ answer ≡ Some Started ∥₁
+      → ∥ (P → IsReady Shows b task k.plan answer (seen_by fronts k own)) ∥₁
+      → ∥ (P → IsReady Shows b task k'.plan answer (seen_by fronts k' own)) ∥₁
+  ready_newborn b task answer fronts k k' own same newborn ready =
+      subst (λ (p : Plan). ∥ (P → IsReady Shows b task p answer (seen_by fronts k' own)) ∥₁) (sym same)
+      (∥∥₁_map₂ newborn ready (λ is f q. let r = f q in (
         r.0,
         r.1,
         r.2,
-        ((λ n. goes_far (r.1 n) (now n) (new n) (r.3.0 n) (more.0 n)), hears_again task k r.0 answer r.1 now new each more own r.3.1),
-      ))
+        (
+          r.3.0,
+          subst (λ (a : Option Answer). IsPending task k.plan r.0 a r.1 (seen_by fronts k' own)) (sym is)
+              (pending_newborn task r.1 (seen_by fronts k own) (seen_by fronts k' own) k.plan r.0 refl
+              (subst (λ (a : Option Answer). IsPending task k.plan r.0 a r.1 (seen_by fronts k own)) is r.3.1)),
+        ),
+      )))
+
+  -- and where its number and its log stayed
+  pub ready_kept : (b : B) (task task' : ℕ) (p : Plan) (answer : Option Answer) (fronts : List Sight) (k : Known) (own own' : TaskLog)
+      → task' ≡ task → own' ≡ own → ∥ (P → IsReady Shows b task p answer (seen_by fronts k own)) ∥₁
+      → ∥ (P → IsReady Shows b task' p answer (seen_by fronts k own')) ∥₁
+  ready_kept b task task' p answer fronts k own own' number stays ready =
+      subst (λ (t : ℕ). ∥ (P → IsReady Shows b t p answer (seen_by fronts k own')) ∥₁) (sym number)
+      (subst (λ (l : TaskLog). ∥ (P → IsReady Shows b task p answer (seen_by fronts k l)) ∥₁) (sym stays) ready)
+
+  -- what it says, it says of what is seen where nothing has changed
+  pub shows_kept : (b b' : B) (task task' : ℕ) (asked : Asked) (fronts fronts' : List Sight) (k k' : Known) (own own' : TaskLog)
+      → b' ≡ b → task' ≡ task → fronts' ≡ fronts → k' ≡ k → own' ≡ own
+      → ∥ (P → Shows b task asked (seen_by fronts k own)) ∥₁ → ∥ (P → Shows b' task' asked (seen_by fronts' k' own')) ∥₁
+  shows_kept b b' task task' asked fronts fronts' k k' own own' body number sights standing stays says =
+      subst (λ (x : B). ∥ (P → Shows x task' asked (seen_by fronts' k' own')) ∥₁) (sym body)
+      (subst (λ (t : ℕ). ∥ (P → Shows b t asked (seen_by fronts' k' own')) ∥₁) (sym number)
+      (subst (λ (xs : List Sight). ∥ (P → Shows b task asked (seen_by xs k' own')) ∥₁) (sym sights)
+      (subst (λ (x : Known). ∥ (P → Shows b task asked (seen_by fronts x own')) ∥₁) (sym standing)
+      (subst (λ (l : TaskLog). ∥ (P → Shows b task asked (seen_by fronts k l)) ∥₁) (sym stays) says))))
+
+  -- and so does what was asked for to be begun
+  pub asks_kept : (b b' : B) (task task' : ℕ) (act : Begun) (fronts fronts' : List Sight) (k k' : Known) (own own' : TaskLog)
+      → b' ≡ b → task' ≡ task → fronts' ≡ fronts → k' ≡ k → own' ≡ own
+      → ∥ (P → HasAskedFor Shows b task act (seen_by fronts k own)) ∥₁ → ∥ (P → HasAskedFor Shows b' task' act (seen_by fronts' k' own')) ∥₁
+  asks_kept b b' task task' act fronts fronts' k k' own own' body number sights standing stays says =
+      subst (λ (x : B). ∥ (P → HasAskedFor Shows x task' act (seen_by fronts' k' own')) ∥₁) (sym body)
+      (subst (λ (t : ℕ). ∥ (P → HasAskedFor Shows b t act (seen_by fronts' k' own')) ∥₁) (sym number)
+      (subst (λ (xs : List Sight). ∥ (P → HasAskedFor Shows b task act (seen_by xs k' own')) ∥₁) (sym sights)
+      (subst (λ (x : Known). ∥ (P → HasAskedFor Shows b task act (seen_by fronts x own')) ∥₁) (sym standing)
+      (subst (λ (l : TaskLog). ∥ (P → HasAskedFor Shows b task act (seen_by fronts k l)) ∥₁) (sym stays) says))))
+
+  -- who asks for a child asks for the spawn that is begun
+  pub asks_to_spawn : (b : B) (task child : ℕ) (pairs : List Pair) (now : Seen)
+      → ∥ (P → HasAskedToSpawn Shows b task pairs now) ∥₁ → ∥ (P → HasAskedFor Shows b task (Async child pairs) now) ∥₁
+  asks_to_spawn b task child pairs now asks = ∥∥₁_map asks (λ f q. let a = f q in (spawn a.0, a.1, a.2))
+
+  -- what it says stays where its number stays
+  pub says_kept : (b : B) (task task' : ℕ) (asked : Asked) (now : Seen) → task' ≡ task
+      → ∥ (P → Says Shows b task asked now) ∥₁ → ∥ (P → Says Shows b task' asked now) ∥₁
+  says_kept b task task' asked now number says =
+      subst (λ (t : ℕ). ∥ (P → Says Shows b t asked now) ∥₁) (sym number) says
 
   -- what the body is after a statement of its own says no less
-  pub ready_single : (b b' : B) (task : ℕ) (answer : Option Answer) (now : ℕ → Story)
-      → ((task : ℕ) (asked : Asked) (seen : ℕ → Story) → Shows b task asked seen → Shows b' task asked seen)
-      → ∥ (P → IsReady Shows b task answer now) ∥₁ → ∥ (P → IsReady Shows b' task answer now) ∥₁
-  ready_single b b' task answer now stays ready =
-      ∥∥₁_map ready (λ f p. let r = f p in (r.0, r.1, stays task r.0 r.1 r.2, r.3))
+  pub ready_single : (b b' : B) (task : ℕ) (p : Plan) (answer : Option Answer) (now : Seen)
+      → ((task : ℕ) (asked : Asked) (seen : Seen) → Shows b task asked seen → Shows b' task asked seen)
+      → ∥ (P → IsReady Shows b task p answer now) ∥₁ → ∥ (P → IsReady Shows b' task p answer now) ∥₁
+  ready_single b b' task p answer now stays ready =
+      ∥∥₁_map ready (λ f q. let r = f q in (r.0, r.1, stays task r.0 r.1 r.2, r.3))
 
-  -- it is so where its body, its number and what it has seen stayed
-  pub ready_kept : (b b' : B) (task task' : ℕ) (answer : Option Answer) (now there : List Sight) → b' ≡ b → task' ≡ task → there ≡ now
-      → ∥ (P → IsReady Shows b task answer (λ n. story_at now n)) ∥₁ → ∥ (P → IsReady Shows b' task' answer (λ n. story_at there n)) ∥₁
-  ready_kept b b' task task' answer now there body number fronts ready =
-      subst (λ (xs : List Sight). ∥ (P → IsReady Shows b' task' answer (λ n. story_at xs n)) ∥₁) (sym fronts)
-      (subst (λ (t : ℕ). ∥ (P → IsReady Shows b' t answer (λ n. story_at now n)) ∥₁) (sym number)
-      (subst (λ (x : B). ∥ (P → IsReady Shows x task answer (λ n. story_at now n)) ∥₁) (sym body) ready))
-
-  -- and so is what it says
-  pub shows_kept : (b b' : B) (task task' : ℕ) (asked : Asked) (now there : List Sight) → b' ≡ b → task' ≡ task → there ≡ now
-      → ∥ (P → Shows b task asked (λ n. story_at now n)) ∥₁ → ∥ (P → Shows b' task' asked (λ n. story_at there n)) ∥₁
-  shows_kept b b' task task' asked now there body number fronts says =
-      subst (λ (xs : List Sight). ∥ (P → Shows b' task' asked (λ n. story_at xs n)) ∥₁) (sym fronts)
-      (subst (λ (t : ℕ). ∥ (P → Shows b' t asked (λ n. story_at now n)) ∥₁) (sym number)
-      (subst (λ (x : B). ∥ (P → Shows x task asked (λ n. story_at now n)) ∥₁) (sym body) says))
-
-  -- what it says after a step
-  pub shows_next : (b b' : B) (task task' : ℕ) (asked' : Asked) (answer : Answer) (now : ℕ → Story)
-      → ((asked : Asked) (seen now : ℕ → Story) → Shows b task asked seen → IsHeard task asked answer seen now → Shows b' task' asked' now)
-      → ∥ (P → IsReady Shows b task (Some answer) now) ∥₁ → ∥ (P → Shows b' task' asked' now) ∥₁
-  shows_next b b' task task' asked' answer now step ready =
-      ∥∥₁_map ready (λ f p. let r = f p in step r.0 r.1 now r.2 r.3)
-
-  -- what a task's body says it says where the task stands now, and where this is what it asked for
-  pub shows_of : {T : Type 0} (t t' : T) (body : T → B) (number : T → ℕ) (stories : T → ℕ → Story) (asked asked' : Asked) → t' ≡ t → asked ≡ asked'
-      → ∥ (P → Shows (body t) (number t) asked (stories t)) ∥₁ → ∥ (P → Shows (body t') (number t') asked' (stories t')) ∥₁
-  shows_of {T} t t' body number stories asked asked' same so says =
-      subst (λ (a : Asked). ∥ (P → Shows (body t') (number t') a (stories t')) ∥₁) so
-      (subst (λ (u : T). ∥ (P → Shows (body u) (number u) asked (stories u)) ∥₁) (sym same) says)
-
-  -- and it hears this answer, where that is one to what it asked for
-  pub ready_of : {T : Type 0} (t t' : T) (body : T → B) (number : T → ℕ) (stories : T → ℕ → Story) (asked asked' : Asked) (answer : Option Answer)
-      → t' ≡ t → asked ≡ asked' → IsAnswer (number t') asked' answer (stories t') (stories t')
-      → ∥ (P → Shows (body t) (number t) asked (stories t)) ∥₁ → ∥ (P → IsReady Shows (body t') (number t') answer (stories t')) ∥₁
-  ready_of {T} t t' body number stories asked asked' answer same so is says =
-      ready_now (body t') (number t') asked' answer (stories t') is
-      (shows_of t t' body number stories asked asked' same so says)
-
-  -- who begins where it has seen this much says it of what was seen elsewhere, where that is the same
-  pub says_there : (b : B) (task : ℕ) (asked : Asked) (now there : ℕ → Story) → ((n : ℕ) → there n ≡ now n)
-      → ∥ (P → Says Shows b task asked now) ∥₁ → ∥ (P → Says Shows b task asked there) ∥₁
-  says_there b task asked now there same says =
-      ∥∥₁_map says (λ f p. let s = f p in (s.0, s.1, λ n. subst (λ (v : Story). GoesOn (s.0 n) v) (sym (same n)) (s.2 n)))
-
-  -- it says it of just what it has seen
-  pub says_now : (b : B) (task : ℕ) (asked : Asked) (now : ℕ → Story)
-      → ∥ (P → Shows b task asked now) ∥₁ → ∥ (P → Says Shows b task asked now) ∥₁
-  says_now b task asked now shows = ∥∥₁_map shows (λ f p. (now, f p, λ n. goes_itself (now n)))
+  -- what follows of a step
+  pub after_step : (Q : Type 0) (b : B) (task : ℕ) (p : Plan) (answer : Answer) (now : Seen)
+      → ((asked : Asked) (seen : Seen) → SeesMore seen now → IsPending task p asked (Some answer) seen now → IsAnswerTo task asked answer seen now)
+      → ((asked : Asked) (seen : Seen) → Shows b task asked seen → IsHeard task asked answer seen now → Q)
+      → ∥ (P → IsReady Shows b task p (Some answer) now) ∥₁ → ∥ (P → Q) ∥₁
+  after_step Q b task p answer now hears step ready =
+      ∥∥₁_map ready (λ f q. let r = f q in step r.0 r.1 r.2 (r.3.0, hears r.0 r.1 r.3.0 r.3.1))
 
   -- what it has said when it is over, where this is its number
-  pub has_said : (b : B) (task number : ℕ) (answer : Option Answer) (now : ℕ → Story) → task ≡ number
-      → ∥ (P → IsReady Shows b task answer now) ∥₁ → ∥ (P → HasSaid Shows b number now) ∥₁
-  has_said b task number answer now is ready =
-      subst (λ (t : ℕ). ∥ (P → HasSaid Shows b t now) ∥₁) is
-      (∥∥₁_map ready (λ f p. let r = f p in (r.0, (r.1, r.2, r.3.0))))
+  pub has_said : (b : B) (task number : ℕ) (p : Plan) (answer : Option Answer) (now : Seen) (held : Seen) → task ≡ number
+      → SeesMore now held
+      → ∥ (P → IsReady Shows b task p answer now) ∥₁ → ∥ (P → HasSaid Shows b number held) ∥₁
+  has_said b task number p answer now held is goes ready =
+      subst (λ (t : ℕ). ∥ (P → HasSaid Shows b t held) ∥₁) is
+      (∥∥₁_map ready (λ f q. let r = f q in (r.0, (r.1, r.2, sees_far r.1 now held r.3.0 goes))))
 
-  -- the root's body says this of what the logs tell, of which each front is a beginning
-  pub is_said : (l : Limits) (names : ℕ → ℕ) (parts : List (List Entry)) (logs fronts : List Sight) (root : B)
-      → AreLogged names 0 parts logs → length fronts ≡ length parts
-      → ((n : ℕ) → n < length fronts → GoesOn (story_at fronts n) (story_at logs n))
-      → ((n : ℕ) → n < length fronts → (story_at logs n).limits ≡ l)
-      → ∥ (P → HasSaid Shows root 0 (λ n. story_at fronts n)) ∥₁ → P → IsSaid Shows l parts root
-  is_said l names parts logs fronts root logged many begin limits said p =
-      let within : (n : ℕ) → n < length parts → n < length fronts = λ n lt. omega (arith, lt, many) in (
-        (λ n. story_at logs n),
-        (λ n lt. (told_at_each names parts logs logged n lt, limits n (within n lt))),
-        ∥∥₁_map said (λ f. let s = f p in (
-          s.1.0,
-          (s.0, s.1.1),
-          λ n lt. goes_far (s.1.0 n) (story_at fronts n) (story_at logs n) (s.1.2 n) (begin n (within n lt)),
-        )),
-      )
+  -- it says it of just what it has seen
+  pub says_now : (b : B) (task : ℕ) (asked : Asked) (now : Seen)
+      → ∥ (P → Shows b task asked now) ∥₁ → ∥ (P → Says Shows b task asked now) ∥₁
+  says_now b task asked now shows = ∥∥₁_map shows (λ f p. (now, f p, sees_itself now))
 
-  -- ---- what it says that has asked for its task's end
-
-  -- is told of the task
-  pub told_at_end : (Told : ℕ → (ℕ → Story) → Type 0) (b : B) (task : ℕ) (now : ℕ → Story)
-      → ∥ Tells Shows Told ∥₁ → ∥ (P → Says Shows b task ends now) ∥₁ → ∥ (P → IsTold Told task now) ∥₁
-  told_at_end Told b task now tells says =
-      ∥∥₁_map₂ tells says (λ told f p. let s = f p in (s.0, told b task s.0 s.1, s.2))
-
-  -- and stays where its body, its number and what it has seen stay
-  pub says_kept : (b b' : B) (task task' : ℕ) (asked : Asked) (now there : List Sight) → b' ≡ b → task' ≡ task → there ≡ now
-      → ∥ (P → Says Shows b task asked (λ n. story_at now n)) ∥₁ → ∥ (P → Says Shows b' task' asked (λ n. story_at there n)) ∥₁
-  says_kept b b' task task' asked now there body number fronts says =
-      subst (λ (xs : List Sight). ∥ (P → Says Shows b' task' asked (λ n. story_at xs n)) ∥₁) (sym fronts)
-      (subst (λ (t : ℕ). ∥ (P → Says Shows b' t asked (λ n. story_at now n)) ∥₁) (sym number)
-      (subst (λ (x : B). ∥ (P → Says Shows x task asked (λ n. story_at now n)) ∥₁) (sym body) says))
-
-  -- and where more was seen
-  pub says_more : (b : B) (task : ℕ) (asked : Asked) (now new : ℕ → Story) → ((n : ℕ) → GoesOn (now n) (new n))
+  -- and where more is seen
+  pub says_more : (b : B) (task : ℕ) (asked : Asked) (now new : Seen) → SeesMore now new
       → ∥ (P → Says Shows b task asked now) ∥₁ → ∥ (P → Says Shows b task asked new) ∥₁
   says_more b task asked now new more says =
-      ∥∥₁_map says (λ f p. let s = f p in (s.0, s.1, λ n. goes_far (s.0 n) (now n) (new n) (s.2 n) (more n)))
+      ∥∥₁_map says (λ f p. let s = f p in (s.0, s.1, sees_far s.0 now new s.2 more))
+
+  -- and of what is seen elsewhere, if that is the same
+  pub says_seen : (b : B) (task : ℕ) (asked : Asked) (now there : Seen) → ((n : ℕ) → there.stories n ≡ now.stories n) → there.log ≡ now.log
+      → ∥ (P → Says Shows b task asked now) ∥₁ → ∥ (P → Says Shows b task asked there) ∥₁
+  says_seen b task asked now there same noted says =
+      ∥∥₁_map says (λ f p. let s = f p in (
+        s.0,
+        s.1,
+        ((λ n. subst (λ (v : Story). GoesOn (s.0.stories n) v) (sym (same n)) (s.2.0 n)), (s.2.1.0, noted ∙ s.2.1.1)),
+      ))
 
   -- and after a statement of its own
-  pub says_single : (b b' : B) (task : ℕ) (asked : Asked) (now : ℕ → Story)
-      → ((task : ℕ) (asked : Asked) (seen : ℕ → Story) → Shows b task asked seen → Shows b' task asked seen)
+  pub says_single : (b b' : B) (task : ℕ) (asked : Asked) (now : Seen)
+      → ((task : ℕ) (asked : Asked) (seen : Seen) → Shows b task asked seen → Shows b' task asked seen)
       → ∥ (P → Says Shows b task asked now) ∥₁ → ∥ (P → Says Shows b' task asked now) ∥₁
   says_single b b' task asked now stays says =
       ∥∥₁_map says (λ f p. let s = f p in (s.0, stays task asked s.0 s.1, s.2))
+
+  -- who asks for what begins its end says so
+  pub says_end : (b : B) (task : ℕ) (begun : Begun) (now : Seen) → begun ≡ End
+      → ∥ (P → HasAskedFor Shows b task begun now) ∥₁ → ∥ (P → Says Shows b task ends now) ∥₁
+  says_end b task begun now is asks =
+      ∥∥₁_map (subst (λ (x : Begun). ∥ (P → HasAskedFor Shows b task x now) ∥₁) is asks)
+      (λ f q. let a = f q in (now, by_asked a.0 a.1 a.2, sees_itself now))
+    where
+      by_asked : (asked : Asked) → IsAskedFor End now.holding asked → Shows b task asked now → Shows b task ends now
+      by_asked ends is shows = shows
+      by_asked asked is shows = absurd is
+
+  -- the root's body says this of what the logs tell, of which each front is a beginning
+  pub is_said : (l : Limits) (names : ℕ → ℕ) (parts logs : List (List Entry)) (told fronts : List Sight) (own : TaskLog) (i : ℕ) (root : B)
+      → AreLogged names 0 parts told → length fronts ≡ length parts
+      → ((n : ℕ) → n < length fronts → GoesOn (story_at fronts n) (story_at told n))
+      → ((n : ℕ) → n < length fronts → (story_at told n).limits ≡ l)
+      → slice_get logs i ≡ Some own.entries → AreOf (log 0) own.entries
+      → ∥ (P → HasSaid Shows root 0 (seen_at_end fronts own)) ∥₁ → P → IsSaid Shows l parts logs root
+  is_said l names parts logs told fronts own i root logged many begin limits there its said p =
+      let within : (n : ℕ) → n < length parts → n < length fronts = λ n lt. omega (arith, lt, many) in (
+        (λ n. story_at told n),
+        (λ n lt. (told_at_each names parts told logged n lt, limits n (within n lt))),
+        (
+          i,
+          own.entries,
+          there,
+          its,
+          ∥∥₁_map said (λ f. let s = f p in (
+            s.1.0.stories,
+            (s.1.0.holding, s.1.0.log, s.1.2.1.0, (s.0, s.1.1), s.1.2.1.1),
+            λ n lt. goes_far (s.1.0.stories n) (story_at fronts n) (story_at told n) (s.1.2.0 n) (begin n (within n lt)),
+          )),
+        ),
+      )
+
+  -- what is said by a body that has asked for its task's end is told of the task
+  pub told_at_end : (Told : ℕ → Seen → Type 0) (b : B) (task : ℕ) (now held : Seen) → SeesMore now held
+      → ∥ Tells Shows Told ∥₁ → ∥ (P → Says Shows b task ends now) ∥₁ → ∥ (P → IsTold Told task held) ∥₁
+  told_at_end Told b task now held goes tells says =
+      ∥∥₁_map₂ tells says (λ told f p. let s = f p in (s.0, told b task s.0 s.1, sees_far s.0 now held s.2 goes))

@@ -1,5 +1,6 @@
 -- What a body asks for by its act, and what it hears.
-use Rattle.std.specs.Prelude.{ℕ, ℤ, ◌≡◌, ◌⊎◌, true, List, [], ◌∷◌, ◌++◌, Result, Ok, Err}
+use Rattle.std.specs.Prelude.{ℕ, ℤ, ◌≡◌, ◌⊎◌, true, List, [], ◌∷◌, ◌++◌, map, Option, Some, None, false, Result, Ok, Err, slice_get}
+use Rattle.phase_modes.specs.declared.phased.Pair.{Pair}
 use Rattle.phase_modes.specs.declared.reg.Mode.{Mode}
 use Rattle.phase_modes.specs.declared.refusal.Refusal.{Refusal}
 use Rattle.phase_modes.specs.Mode.{can_wait}
@@ -9,6 +10,10 @@ use Rattle.phase_model.specs.declared.terms.Terms.{Terms}
 use Rattle.phase_model.specs.Phases.{waits, IsClosed}
 use Rattle.phase_model.specs.Rules.{Story}
 use Rattle.phase_model.specs.Tasks.{has_mode}
+use Rattle.world_model.specs.declared.event.Begun.{Begun}
+use Rattle.world_model.specs.declared.event.Begun.TheVariants as begun
+use Rattle.trace_model.specs.declared.event.TracedEvent.{TracedEvent}
+use Rattle.trace_model.specs.declared.event.TracedEvent.TheVariants.{Begin}
 use Rattle.job_script.specs.declared.act.Act.{Act}
 use Rattle.job_script.specs.declared.act.Act.TheVariants as acts
 use Rattle.job_script.specs.declared.act.Answer.{Answer}
@@ -16,18 +21,44 @@ use Rattle.job_script.specs.declared.act.Answer.TheVariants.{Started, Done, Made
 use Rattle.long_locks.specs.Told.{HasLooked}
 use Rattle.ghost_log.specs.Tails.{IsTail}
 use Rattle.table_receipts.specs.Logs.{GoesOn}
+use Rattle.task_standing.specs.declared.held.Held.{Held}
+use Rattle.task_standing.specs.Standing.{owes, pair_of}
 
--- what a body asked for by its last act: nothing yet; to make a phaser with these terms, on which its task is registered in
--- this mode; to send a value to an accumulator of a phaser; to look at one; to signal or to end its turn, phaser by phaser;
--- to spawn a child, which is registered phaser by phaser; to open or shut a finish; or to end
+-- ---- what a task has seen
+
+-- of each phaser the beginning of its story that the task has seen; the phasers that it holds; and what it has noted in its
+-- own log, the oldest first
+pub record Seen : Type 0 where
+  pub stories : ℕ → Story
+  pub holding : List Held
+  pub log : List TracedEvent
+
+-- a task that holds and has noted nothing yet, and knows these stories
+abbrev pub at_start : (ℕ → Story) → Seen
+at_start stories = record { stories = stories; holding = []; log = [] }
+
+-- of each phaser no less was seen, and what was noted stands
+abbrev pub SeesMore : Seen → Seen → Type 0
+SeesMore seen now =
+    ((n : ℕ) → GoesOn (seen.stories n) (now.stories n)) × ((more : List TracedEvent) × (now.log ≡ seen.log ++ more))
+
+-- ---- what a body asks for
+
+-- What a body asked for by its last act: nothing yet; to make a phaser with these terms, on which its task is registered in
+-- this mode; to send a value to an accumulator of a phaser; to look at one; to signal; to end its turn; to do both, and to
+-- propose a single of this number; to spawn a child on these phasers, or on all that the task holds; to open or to shut a
+-- finish; or to end.
 pub data Asked : Type 0 where
   nothing : Asked
   make : Mode → Terms → Asked
   send : ℕ → ℕ → ℤ → Asked
   look : ℕ → ℕ → Asked
-  turn : Asked
-  spawn : Asked
-  finish : Asked
+  signal : Asked
+  wait : Asked
+  next : Option ℕ → Asked
+  spawn : Option (List Pair) → Asked
+  opens : Asked
+  shuts : Asked
   ends : Asked
 
 -- what this act asks for
@@ -35,14 +66,14 @@ abbrev pub asked_by : {B : Type 0} → Result (Act B) Refusal → Asked
 asked_by (Ok (acts.New m ops bound)) = make m (record { ops = ops; bound = bound })
 asked_by (Ok (acts.Send n a v)) = send n a v
 asked_by (Ok (acts.Look n a)) = look n a
-asked_by (Ok acts.Signal) = turn
-asked_by (Ok acts.Wait) = turn
-asked_by (Ok acts.Next) = turn
-asked_by (Ok (acts.NextSingle n)) = turn
-asked_by (Ok (acts.Async b ps)) = spawn
-asked_by (Ok (acts.AsyncAll b)) = spawn
-asked_by (Ok acts.OpenFinish) = finish
-asked_by (Ok acts.ShutFinish) = finish
+asked_by (Ok acts.Signal) = signal
+asked_by (Ok acts.Wait) = wait
+asked_by (Ok acts.Next) = next None
+asked_by (Ok (acts.NextSingle n)) = next (Some n)
+asked_by (Ok (acts.Async b ps)) = spawn (Some ps)
+asked_by (Ok (acts.AsyncAll b)) = spawn None
+asked_by (Ok acts.OpenFinish) = opens
+asked_by (Ok acts.ShutFinish) = shuts
 asked_by (Ok acts.End) = ends
 asked_by (Err e) = nothing
 
@@ -50,14 +81,67 @@ asked_by (Err e) = nothing
 abbrev pub IsSpawned : {B : Type 0} → B → Result (Act B) Refusal → Type 0
 IsSpawned child result = ((ps : _) × (result ≡ Ok (acts.Async child ps))) ⊎ (result ≡ Ok (acts.AsyncAll child))
 
+-- on which phasers, and in which modes, a child is registered: as asked, or as the task itself is
+abbrev pub pairs_for : Option (List Pair) → List Held → List Pair
+pairs_for (Some ps) hs = ps
+pairs_for None hs = map pair_of hs
+
+-- how a turn is begun
+abbrev pub turn_with : Option ℕ → Begun
+turn_with None = begun.Next
+turn_with (Some n) = begun.NextSingle n
+
+-- ---- what came of it
+
 -- the task made the phaser, in this mode and with these terms, and nothing else was done on it yet
 abbrev pub HasMade : ℕ → Mode → Terms → Story → Type 0
 HasMade task m terms s = (s.past ≡ Make task m ∷ []) × (s.terms ≡ terms)
 
+-- this event was made, after all that had been seen of the phaser
+abbrev pub HasDone : Event → Story → Story → Type 0
+HasDone e seen now = (later before : List Event) × (now.past ≡ later ++ e ∷ before) × IsTail seen.past before
+
 -- the task sent this value, after all that it had seen of the phaser
 abbrev pub HasSent : ℕ → ℕ → ℤ → Story → Story → Type 0
-HasSent task a v seen now =
-    (later before : List Event) × (now.past ≡ later ++ Send task a v ∷ before) × IsTail seen.past before
+HasSent task a v seen now = HasDone (Send task a v) seen now
+
+-- The task passed a phase, after all that it had seen of the phaser. If it can wait, each task that was registered then, and
+-- can signal, had signalled that phase.
+abbrev pub HasPassed : ℕ → Story → Story → Type 0
+HasPassed task seen now =
+    (later before : List Event)
+    × (now.past ≡ later ++ Pass task ∷ before)
+    × IsTail seen.past before
+    × (has_mode can_wait task (Pass task ∷ before) ≡ true → IsClosed (waits task before) (Pass task ∷ before))
+
+-- the task signalled each phaser that it held where it owed a signal, with this number of a single
+abbrev pub HasSignalledAll : ℕ → Option ℕ → Seen → Seen → Type 0
+HasSignalledAll task x seen now =
+    (i : ℕ) (h : Held) → slice_get seen.holding i ≡ Some h → owes h ≡ true
+    → HasDone (Sig task x) (seen.stories h.phaser) (now.stories h.phaser)
+
+-- the task passed each phaser that it held
+abbrev pub HasPassedAll : ℕ → Seen → Seen → Type 0
+HasPassedAll task seen now =
+    (i : ℕ) (h : Held) → slice_get seen.holding i ≡ Some h → HasPassed task (seen.stories h.phaser) (now.stories h.phaser)
+
+-- it holds the same phasers, in the same modes
+abbrev pub HoldsTheSame : Seen → Seen → Type 0
+HoldsTheSame seen now = map pair_of now.holding ≡ map pair_of seen.holding
+
+-- it has noted that it began this act, and nothing else
+abbrev pub HasBegun : ℕ → Begun → Seen → Seen → Type 0
+HasBegun task b seen now = now.log ≡ seen.log ++ Begin task b ∷ []
+
+-- it holds what it held, and has noted nothing
+abbrev pub IsAsBefore : Seen → Seen → Type 0
+IsAsBefore seen now = (now.holding ≡ seen.holding) × (now.log ≡ seen.log)
+
+-- it holds this phaser too, in this mode, in one of its finishes, and has noted nothing
+abbrev pub HoldsMore : ℕ → Mode → Seen → Seen → Type 0
+HoldsMore n m seen now =
+    ((f : ℕ) × (now.holding ≡ seen.holding ++ record { phaser = n; finish = f; mode = m; ahead = false } ∷ []))
+    × (now.log ≡ seen.log)
 
 -- The newest event is the task's signal, its registration of a child, or its pass. Where one that can wait has passed a
 -- phase, each who is registered now, and can signal, had signalled it.
@@ -73,16 +157,35 @@ IsOwnOfEach task seen now = (n : ℕ) → (now n ≡ seen n) ⊎ IsOwn task (now
 
 -- So the task is told what it asked for, and nothing else is an answer to it; after its end none comes. A look saw the fold
 -- of all values that were sent for the phase before the task's own, which was closed.
-abbrev pub IsAnswerTo : ℕ → Asked → Answer → (ℕ → Story) → (ℕ → Story) → Type 0
-IsAnswerTo task nothing Started seen now = Unit {0}
-IsAnswerTo task (make m terms) (Made n) seen now = HasMade task m terms (now n)
-IsAnswerTo task (send n a v) Done seen now = HasSent task a v (seen n) (now n)
-IsAnswerTo task (look n a) (Saw x) seen now = HasLooked (now n).terms.ops task a (now n).past x
-IsAnswerTo task turn Done seen now = IsOwnOfEach task seen now
-IsAnswerTo task spawn (Spawned c) seen now = IsOwnOfEach task seen now
-IsAnswerTo task finish Done seen now = Unit {0}
-IsAnswerTo task _ _ seen now = ⊥
+abbrev pub IsToldOf : ℕ → Asked → Answer → Seen → Seen → Type 0
+IsToldOf task nothing Started seen now = now.log ≡ seen.log
+IsToldOf task (make m terms) (Made n) seen now = HasMade task m terms (now.stories n) × HoldsMore n m seen now
+IsToldOf task (send n a v) Done seen now = HasSent task a v (seen.stories n) (now.stories n) × IsAsBefore seen now
+IsToldOf task (look n a) (Saw x) seen now =
+    HasLooked (now.stories n).terms.ops task a (now.stories n).past x × IsAsBefore seen now
+IsToldOf task signal Done seen now = HasBegun task begun.Signal seen now × IsOwnOfEach task seen.stories now.stories
+IsToldOf task wait Done seen now = HasBegun task begun.Wait seen now × IsOwnOfEach task seen.stories now.stories
+IsToldOf task (next x) Done seen now = HasBegun task (turn_with x) seen now × IsOwnOfEach task seen.stories now.stories
+IsToldOf task (spawn to) (Spawned c) seen now =
+    HasBegun task (begun.Async c (pairs_for to seen.holding)) seen now
+    × (now.holding ≡ seen.holding)
+    × IsOwnOfEach task seen.stories now.stories
+IsToldOf task opens Done seen now = IsAsBefore seen now
+IsToldOf task shuts Done seen now = HasBegun task begun.Shut seen now
+IsToldOf task _ _ seen now = ⊥
 
--- the body of a task that had seen this of each phaser has seen at least as much now, and hears what it asked for
-abbrev pub IsHeard : ℕ → Asked → Answer → (ℕ → Story) → (ℕ → Story) → Type 0
-IsHeard task asked answer seen now = ((n : ℕ) → GoesOn (seen n) (now n)) × IsAnswerTo task asked answer seen now
+-- and what it asked for has been carried out on each phaser that it held: signalled where it owed that, passed
+abbrev pub IsCarriedOut : ℕ → Asked → Seen → Seen → Type 0
+IsCarriedOut task signal seen now = HoldsTheSame seen now × HasSignalledAll task None seen now
+IsCarriedOut task wait seen now = HoldsTheSame seen now × HasPassedAll task seen now
+IsCarriedOut task (next x) seen now =
+    HoldsTheSame seen now × HasSignalledAll task x seen now × HasPassedAll task seen now
+IsCarriedOut task _ seen now = Unit {0}
+
+-- this is an answer to what was asked for
+abbrev pub IsAnswerTo : ℕ → Asked → Answer → Seen → Seen → Type 0
+IsAnswerTo task asked answer seen now = IsToldOf task asked answer seen now × IsCarriedOut task asked seen now
+
+-- the body of a task that had seen this much has seen no less now, and hears what it asked for
+abbrev pub IsHeard : ℕ → Asked → Answer → Seen → Seen → Type 0
+IsHeard task asked answer seen now = SeesMore seen now × IsAnswerTo task asked answer seen now

@@ -85,7 +85,7 @@ impl Diary {
     }
 
     /// Notes that the task begins this act. `ActsFull` where there is no room for it.
-    pub fn note_begun(&mut self, ticket: u64, begun: Begun) -> Result<(), Refusal>
+    pub(crate) fn note_begun(&mut self, ticket: u64, begun: Begun) -> Result<(), Refusal>
         ensures noted { IsNoted (ticket, TracedEvent.Begin self.old.task begun) self.old.log self.new.log result }
         ensures task { self.new.task ≡ self.old.task }
         ensures end { self.new.ended ≡ true → (self.old.ended ≡ true) ⊎ (begun ≡ Begun.End) }
@@ -94,7 +94,7 @@ impl Diary {
     }
 
     /// Notes that this act is refused. `ActsFull` where there is no room for it.
-    pub fn note_refused(
+    pub(crate) fn note_refused(
         &mut self,
         ticket: u64,
         tried: Tried,
@@ -111,7 +111,7 @@ impl Diary {
     }
 
     /// Notes that the task gives up what it is about. `ActsFull` where there is no room for it.
-    pub fn note_failed(&mut self, ticket: u64, refusal: Refusal) -> Result<(), Refusal>
+    pub(crate) fn note_failed(&mut self, ticket: u64, refusal: Refusal) -> Result<(), Refusal>
         ensures noted { IsNoted (ticket, TracedEvent.Fail self.old.task (number_of refusal)) self.old.log self.new.log result }
         ensures task { self.new.task ≡ self.old.task }
         ensures end { self.new.ended ≡ true → self.old.ended ≡ true }
@@ -121,6 +121,7 @@ impl Diary {
 
     /// The entries as a part of a trace.
     pub fn into_part(self) -> Part
+        ensures all { result ≡ self.log.entries }
         ensures own { AreOf (log_of self.task) result }
         ensures end { has_end result ≡ self.ended }
     {

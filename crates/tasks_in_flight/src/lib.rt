@@ -8,6 +8,7 @@
 
 mod body;
 mod diary;
+mod moves;
 mod naming;
 mod task;
 

@@ -7,13 +7,12 @@ use table_receipts::{Logs, Named, Naming};
 /// they say of their tasks.
 pub trait Supposing {
     ghost use Rattle.std.specs.Prelude.{ℕ};
-    ghost use Rattle.phase_model.specs.Rules.{Story};
+    ghost use Rattle.tasks_in_flight.specs.Heard.{Seen};
 
     ghost supposed: { Type 0 };
 
-    /// What a body says of its task, of which the task has seen this of each phaser, once the body is
-    /// no more.
-    ghost told: { ℕ → (ℕ → Story) → Type 0 };
+    /// What a body says of its task, which has seen this much, once the body is no more.
+    ghost told: { ℕ → Seen → Type 0 };
 }
 
 impl Supposing for Brand {

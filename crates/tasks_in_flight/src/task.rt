@@ -1,14 +1,13 @@
 //! A task in flight: its body, what it knows of itself, what it has seen, and what it notes.
 ghost use Rattle.std.specs.Prelude.{◌≡◌, ◌==◌, ◌<◌, ◌&&◌, if◌then◌else◌, [], ℕ, not, true, false, filter, find, is_some, None, Some, IfOk, IfErr, IfSome, OnOk, OnErr, length, option_map, slice_get};
-ghost use Rattle.table_receipts.specs.Logs.{GoesOn};
+ghost use Rattle.job_script.specs.declared.act.Answer.TheVariants.{Started};
 ghost use Rattle.table_receipts.specs.Seen.{story_at};
-ghost use Rattle.tasks_in_flight.specs.Heard.{nothing, ends, asked_by, IsSpawned, IsOwn};
+ghost use Rattle.tasks_in_flight.specs.Heard.{nothing, ends, at_start, asked_by, IsSpawned};
 ghost use Rattle.task_standing.specs.Standing.{fresh, inner_of, registered_by};
 ghost use Rattle.task_standing.specs.StillToMake.{event_of};
-ghost use Rattle.phase_modes.specs.Refusal.{number_of};
-ghost use Rattle.tasks_in_flight.specs.Noted.{IsNoted, joined};
+ghost use Rattle.tasks_in_flight.specs.Noted.{joined};
 ghost use Rattle.tasks_in_flight.specs.inner.Due.{still_of};
-ghost use Rattle.tasks_in_flight.specs.inner.Ready.{Says, IsReady, HasSaid, IsTold, is_of_each};
+ghost use Rattle.tasks_in_flight.specs.inner.Ready.{Says, IsReady, HasSaid, IsTold, IsDue, seen_by, seen_at_end};
 
 use crate::body::Body;
 use crate::diary::Diary;
@@ -19,8 +18,6 @@ use std::alloc::Global;
 use table_receipts::{Front, Fronts};
 use task_numbers::{FinishNumber, TaskNumber};
 use task_standing::{Due, Standing};
-use trace_model::TracedEvent;
-use world_model::{Begun, Tried};
 
 /// A task in flight.
 #[derive(Drop)]
@@ -35,8 +32,8 @@ pub struct Task<B: Body, K: RunNaming> {
     pub log: Diary,
     ghost own: { standing.number ≡ log.task },
     ghost all: { length fronts ≡ K.Logs.limits.phasers },
-    ghost ready: { ∥ (K.Supposing.supposed → IsReady B.Body.shows body log.task answer (λ n. story_at fronts n)) ∥₁ },
-    ghost end: { log.ended ≡ true → ∥ (K.Supposing.supposed → Says B.Body.shows body log.task ends (λ n. story_at fronts n)) ∥₁ },
+    ghost ready: { ∥ (K.Supposing.supposed → IsReady B.Body.shows body log.task standing.plan answer (seen_by fronts standing log.log)) ∥₁ },
+    ghost end: { log.ended ≡ true → ∥ (K.Supposing.supposed → Says B.Body.shows body log.task ends (seen_by fronts standing log.log)) ∥₁ },
 }
 
 /// What moves between the queue, the locks and the workers: a task, with the child that it is
@@ -45,6 +42,7 @@ pub struct Task<B: Body, K: RunNaming> {
 pub struct Item<B: Body, K: RunNaming> {
     pub task: Box<Task<B, K>>,
     pub unborn: Option<Box<Task<B, K>>>,
+    ghost newborn: { ∥ IfSome unborn (λ c. c.value.answer ≡ Some Started) ∥₁ },
 }
 
 /// What a task leaves where it ends: its log, and what it has seen. Where it ends by itself, what its
@@ -54,7 +52,7 @@ pub struct TaskLeft<K: RunNaming> {
     pub log: Diary,
     pub fronts: Fronts<K>,
     ghost all: { length fronts ≡ K.Logs.limits.phasers },
-    ghost told: { log.ended ≡ true → ∥ (K.Supposing.supposed → IsTold K.Supposing.told log.task (λ n. story_at fronts n)) ∥₁ },
+    ghost told: { log.ended ≡ true → ∥ (K.Supposing.supposed → IsTold K.Supposing.told log.task (seen_at_end fronts log.log)) ∥₁ },
 }
 
 /// What the root leaves where the run is over: what each task does, and its body as it stands then.
@@ -62,7 +60,8 @@ pub struct TaskLeft<K: RunNaming> {
 pub struct RootLeft<B: Body, K: RunNaming> {
     pub left: TaskLeft<K>,
     pub body: B,
-    ghost says: { ∥ (K.Supposing.supposed → HasSaid B.Body.shows body 0 (λ n. story_at left.fronts n)) ∥₁ },
+    ghost root: { left.log.task ≡ 0 },
+    ghost says: { ∥ (K.Supposing.supposed → HasSaid B.Body.shows body 0 (seen_at_end left.fronts left.log.log)) ∥₁ },
 }
 
 impl<B: Body, K: RunNaming> Task<B, K> {
@@ -77,7 +76,7 @@ impl<B: Body, K: RunNaming> Task<B, K> {
         fronts: Fronts<K>,
     ) -> Result<Box<Task<B, K>>, Refusal>
         requires all { length fronts ≡ K.Logs.limits.phasers }
-        requires says { ∥ (K.Supposing.supposed → Says B.Body.shows body number nothing (λ n. story_at fronts n)) ∥₁ }
+        requires says { ∥ (K.Supposing.supposed → Says B.Body.shows body number nothing (at_start (λ n. story_at fronts n))) ∥₁ }
         ensures body { IfOk result (λ t. t.value.body ≡ body) }
         ensures answer { IfOk result (λ t. t.value.answer ≡ Some Answer.Started) }
         ensures fronts { IfOk result (λ t. t.value.fronts ≡ fronts) }
@@ -108,7 +107,7 @@ impl<B: Body, K: RunNaming> Task<B, K> {
         body: B,
         acts: u32,
     ) -> Result<Box<Task<B, K>>, Refusal>
-        requires says { ∥ (K.Supposing.supposed → Says B.Body.shows body number nothing (λ n. story_at self.old.fronts n)) ∥₁ }
+        requires says { ∥ (K.Supposing.supposed → Says B.Body.shows body number nothing (at_start (λ n. story_at self.old.fronts n))) ∥₁ }
         ensures body { self.new.body ≡ self.old.body }
         ensures task { self.new.log.task ≡ self.old.log.task }
         ensures fronts { self.new.fronts ≡ self.old.fronts }
@@ -131,12 +130,12 @@ impl<B: Body, K: RunNaming> Task<B, K> {
         requires { phaser < K.Logs.limits.phasers }
         ensures log { result.log ≡ K.Logs.logs phaser }
         ensures story { result.story ≡ story_at self.old.fronts phaser }
-        ensures answer { self.new.answer ≡ self.old.answer }
-        ensures log_kept { self.new.log ≡ self.old.log }
         ensures body { self.new.body ≡ self.old.body }
         ensures task { self.new.log.task ≡ self.old.log.task }
         ensures fronts { self.new.fronts ≡ self.old.fronts }
         ensures standing { self.new.standing ≡ self.old.standing }
+        ensures answer { self.new.answer ≡ self.old.answer }
+        ensures log_kept { self.new.log ≡ self.old.log }
     {
         self.fronts.get(phaser)
     }
@@ -159,15 +158,16 @@ impl<B: Body, K: RunNaming> Task<B, K> {
     /// The body's next act, after what came of its last one; none where nothing did yet.
     pub fn next_act(&mut self) -> Option<Result<Act<B>, Refusal>>
         requires goes_on { self.old.log.ended ≡ false }
+        requires due { IsDue None self.old.standing }
         ensures heard { is_some result ≡ is_some self.old.answer }
         ensures waits { is_some result ≡ false → self.new.body ≡ self.old.body }
         ensures answer { self.new.answer ≡ None }
         ensures log { self.new.log ≡ self.old.log }
         ensures fronts { self.new.fronts ≡ self.old.fronts }
         ensures standing { self.new.standing ≡ self.old.standing }
-        ensures says { IfSome result (λ act. ∥ (K.Supposing.supposed → B.Body.shows self.new.body self.new.log.task (asked_by act) (λ n. story_at self.new.fronts n)) ∥₁) }
+        ensures says { IfSome result (λ act. ∥ (K.Supposing.supposed → B.Body.shows self.new.body self.new.log.task (asked_by act) (seen_by self.new.fronts self.new.standing self.new.log.log)) ∥₁) }
         ensures child { IfSome result (λ act. (child : B) (its : ℕ) → IsSpawned child act
-            → ∥ (K.Supposing.supposed → B.Body.shows child its nothing (λ n. story_at self.new.fronts n)) ∥₁) }
+            → ∥ (K.Supposing.supposed → B.Body.shows child its nothing (at_start (λ n. story_at self.new.fronts n))) ∥₁) }
     {
         let Some(answer) = self.answer else {
             return None;
@@ -185,74 +185,6 @@ impl<B: Body, K: RunNaming> Task<B, K> {
         ensures standing { self.new.standing ≡ self.old.standing }
     {
         self.body.single(number);
-    }
-
-    /// Whether its body is about to hear of what comes phaser by phaser.
-    fn hears_of_each(&self) -> bool
-        ensures { result ≡ is_of_each self.now.answer }
-    {
-        matches!(self.answer, Some(Answer::Done | Answer::Spawned(_)))
-    }
-
-    /// Of this phaser it has seen so much, up to its own newest event, where its body is about to hear of
-    /// that. Where it isn't, no more is seen.
-    pub fn note_own(&mut self, phaser: usize, seen: Front<K>)
-        requires phaser { phaser < K.Logs.limits.phasers }
-        requires log { seen.log ≡ K.Logs.logs phaser }
-        requires more { GoesOn (story_at self.old.fronts phaser) seen.story }
-        requires own { IsOwn self.old.log.task seen.story.past }
-        ensures here { story_at self.new.fronts phaser ≡ if is_of_each self.old.answer then seen.story else story_at self.old.fronts phaser }
-        ensures others { (n : ℕ) → (n == phaser) ≡ false → story_at self.new.fronts n ≡ story_at self.old.fronts n }
-        ensures answer { self.new.answer ≡ self.old.answer }
-        ensures log { self.new.log ≡ self.old.log }
-        ensures body { self.new.body ≡ self.old.body }
-        ensures standing { self.new.standing ≡ self.old.standing }
-    {
-        if self.hears_of_each() {
-            self.fronts.set(phaser, seen);
-        }
-    }
-
-    /// Logs that it begins this act. `ActsFull` where the log has no room for it.
-    pub fn log_begun(&mut self, ticket: u64, begun: Begun) -> Result<(), Refusal>
-        requires end { begun ≡ Begun.End → ∥ (K.Supposing.supposed → Says B.Body.shows self.old.body self.old.log.task ends (λ n. story_at self.old.fronts n)) ∥₁ }
-        ensures noted { IsNoted (ticket, TracedEvent.Begin self.old.log.task begun) self.old.log.log self.new.log.log result }
-        ensures answer { self.new.answer ≡ self.old.answer }
-        ensures body { self.new.body ≡ self.old.body }
-        ensures task { self.new.log.task ≡ self.old.log.task }
-        ensures fronts { self.new.fronts ≡ self.old.fronts }
-        ensures standing { self.new.standing ≡ self.old.standing }
-    {
-        self.log.note_begun(ticket, begun)
-    }
-
-    /// Logs that this act is refused. `ActsFull` where the log has no room for it.
-    pub fn log_refused(
-        &mut self,
-        ticket: u64,
-        tried: Tried,
-        refusal: Refusal,
-    ) -> Result<(), Refusal>
-        ensures noted { IsNoted (ticket, TracedEvent.Refuse self.old.log.task tried (number_of refusal)) self.old.log.log self.new.log.log result }
-        ensures answer { self.new.answer ≡ self.old.answer }
-        ensures body { self.new.body ≡ self.old.body }
-        ensures task { self.new.log.task ≡ self.old.log.task }
-        ensures fronts { self.new.fronts ≡ self.old.fronts }
-        ensures standing { self.new.standing ≡ self.old.standing }
-    {
-        self.log.note_refused(ticket, tried, refusal)
-    }
-
-    /// Logs that it gives up what it is about. `ActsFull` where the log has no room for it.
-    pub fn log_failed(&mut self, ticket: u64, refusal: Refusal) -> Result<(), Refusal>
-        ensures noted { IsNoted (ticket, TracedEvent.Fail self.old.log.task (number_of refusal)) self.old.log.log self.new.log.log result }
-        ensures answer { self.new.answer ≡ self.old.answer }
-        ensures body { self.new.body ≡ self.old.body }
-        ensures task { self.new.log.task ≡ self.old.log.task }
-        ensures fronts { self.new.fronts ≡ self.old.fronts }
-        ensures standing { self.new.standing ≡ self.old.standing }
-    {
-        self.log.note_failed(ticket, refusal)
     }
 }
 
@@ -299,8 +231,8 @@ impl<B: Body, K: RunNaming> Item<B, K> {
         let Some(child) = &mut self.unborn else {
             return Err(Refusal::NotNow);
         };
-        child.standing.join(held.handed(pair.mode))?;
-        self.task.standing.note_registration();
+        child.join(held.handed(pair.mode))?;
+        self.task.note_registration();
         Ok(())
     }
 
@@ -313,7 +245,7 @@ impl<B: Body, K: RunNaming> Item<B, K> {
             }) self.old.unborn }
     {
         if let Some(child) = &mut self.unborn {
-            child.standing.leave(phaser);
+            child.part(phaser);
         }
     }
 }

@@ -7,7 +7,8 @@ use Rattle.trace_model.specs.Run.{Entry}
 use Rattle.table_receipts.specs.Logs.{Sight, GoesOn}
 use Rattle.table_receipts.specs.Seen.{story_at, IsNamed}
 use Rattle.task_remains.specs.Remaining.{AreLogsOf, AreDifferent}
-use Rattle.tasks_in_flight.specs.Said.{has_end}
+use Rattle.tasks_in_flight.specs.Heard.{Seen}
+use Rattle.tasks_in_flight.specs.Said.{has_end, IsSeenBy}
 
 -- each part is the log of a task of its own, which is in the set
 abbrev pub AreGathered : Numbers → List (List Entry) → Type 0
@@ -18,9 +19,14 @@ AreGathered set parts =
 abbrev pub AreAllLogs : (ℕ → ℕ) → ℕ → List Sight → Type 0
 AreAllLogs names phasers logs = IsNamed names logs × (length logs ≡ phasers)
 
--- where this is supposed, that is told of the task of this part, if the part has its end: of what begins the stories that
--- these logs tell
-abbrev pub IsToldIn : Type 0 → (ℕ → (ℕ → Story) → Type 0) → List Sight → List Entry → Type 0
+-- of what begins the stories that these logs tell, and begins this part, that is told of the task
+abbrev pub IsToldOfStart : (ℕ → Seen → Type 0) → ℕ → List Sight → List Entry → Type 0
+IsToldOfStart Told task logs part =
+    (stories : ℕ → Story)
+    × IsSeenBy (Told task) part stories
+    × ((n : ℕ) → n < length logs → GoesOn (stories n) (story_at logs n))
+
+-- where this is supposed, that is told of the task of this part, if the part has its end
+abbrev pub IsToldIn : Type 0 → (ℕ → Seen → Type 0) → List Sight → List Entry → Type 0
 IsToldIn P Told logs part =
-    (task : ℕ) → AreOf (log task) part → has_end part ≡ true
-    → ∥ (P → (seen : ℕ → Story) × Told task seen × ((n : ℕ) → n < length logs → GoesOn (seen n) (story_at logs n))) ∥₁
+    (task : ℕ) → AreOf (log task) part → has_end part ≡ true → ∥ (P → IsToldOfStart Told task logs part) ∥₁

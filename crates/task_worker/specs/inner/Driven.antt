@@ -12,15 +12,12 @@ use Rattle.world_model.specs.declared.event.Step.{Step}
 use Rattle.world_model.specs.declared.event.Step.TheVariants.{Make, Reg, Sig, Claim, Pass, Send, Look, Drop}
 use Rattle.world_model.specs.declared.event.WorldEvent.{WorldEvent}
 use Rattle.world_model.specs.declared.event.WorldEvent.TheVariants.{Phaser, Finish, Begin, Refuse, Fail}
-use Rattle.world_model.specs.declared.event.Begun.{Begun}
-use Rattle.world_model.specs.declared.event.Begun.TheVariants as begun
 use Rattle.world_model.specs.PartReplies.{call_for}
 use Rattle.world_model.specs.Parts.{event_for}
 use Rattle.table_receipts.specs.Logs.{GoesOn}
 use Rattle.task_standing.specs.declared.plan.Plan.TheVariants as plan
 use Rattle.task_standing.specs.Known.{Known}
 use Rattle.task_standing.specs.Noted.{noted}
-use Rattle.tasks_in_flight.specs.Heard.{Asked, turn, spawn, finish, ends}
 use Rattle.tasks_in_flight.specs.inner.Due.{still_of}
 
 -- ---- what a call was answered
@@ -30,18 +27,19 @@ abbrev pub IsReplied : Story → Step → Type 0
 IsReplied seen s =
     (before : Story) × GoesOn seen before × (reply before (call_for s) ≡ done (event_for before.terms before.past s))
 
--- where an item comes back from a signal, its task knows what it knew; where it has signalled, the phaser replies so
-abbrev pub IsOfSignal : {T : Type 0} → (T → Known) → Known → Story → Step → SignalAnswer T → Type 0
-IsOfSignal known k seen s (Signalled x) = (known x ≡ k) × IsReplied seen s
-IsOfSignal known k seen s Held = Unit {0}
-IsOfSignal known k seen s (NoSignal x r) = known x ≡ k
+-- where an item comes back from a signal of phaser n, its task knows what it knew; where it has signalled, it has noted that,
+-- and the phaser replies so
+abbrev pub IsOfSignal : {T : Type 0} → (T → Known) → Known → Story → ℕ → Step → SignalAnswer T → Type 0
+IsOfSignal known k seen n s (Signalled x) = (known x ≡ noted (Phaser n s) k) × IsReplied seen s
+IsOfSignal known k seen n s Held = Unit {0}
+IsOfSignal known k seen n s (NoSignal x r) = known x ≡ k
 
 -- the same of a pass by t, which may claim a single
-abbrev pub IsOfPass : {T : Type 0} → (T → Known) → Known → Story → ℕ → PassAnswer T ℕ → Type 0
-IsOfPass known k seen t (Passed x p) = (known x ≡ k) × IsReplied seen (Pass t)
-IsOfPass known k seen t (Claimed x n) = (known x ≡ k) × IsReplied seen (Claim t)
-IsOfPass known k seen t Parked = Unit {0}
-IsOfPass known k seen t (Refused x r) = known x ≡ k
+abbrev pub IsOfPass : {T : Type 0} → (T → Known) → Known → Story → ℕ → ℕ → PassAnswer T ℕ → Type 0
+IsOfPass known k seen n t (Passed x p) = (known x ≡ noted (Phaser n (Pass t)) k) × IsReplied seen (Pass t)
+IsOfPass known k seen n t (Claimed x m) = (known x ≡ k) × IsReplied seen (Claim t)
+IsOfPass known k seen n t Parked = Unit {0}
+IsOfPass known k seen n t (Refused x r) = known x ≡ k
 
 -- ---- what is made and noted
 
@@ -65,16 +63,6 @@ HasTried seen e k k' = HasMade seen e k k' ⊎ (k' ≡ given_up k)
 -- the task has claimed the single of phaser n, of which nothing is noted
 abbrev pub HasClaimed : (ℕ → Story) → ℕ → Known → Known → Type 0
 HasClaimed seen n k k' = IsReplied (seen n) (Claim k.number) × (k' ≡ k)
-
--- what a body asked for whose act is begun so
-abbrev pub asked_to : Begun → Asked
-asked_to (begun.Async c ps) = spawn
-asked_to begun.Signal = turn
-asked_to begun.Wait = turn
-asked_to begun.Next = turn
-asked_to (begun.NextSingle n) = turn
-asked_to begun.Shut = finish
-asked_to begun.End = ends
 
 -- an act of t is begun or made by this event, or is refused, or t gives up
 abbrev pub IsOfAct : ℕ → WorldEvent → Type 0

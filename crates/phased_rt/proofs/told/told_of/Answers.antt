@@ -66,10 +66,14 @@ returns-clause-says g c = λ said.
     let together = c.deref.ensures.value ∙ c.in_ok-parts.ensures.parts in
     let es = c.in_ok-world.trace.events in
     let phasers = remains.phasers.items in
+    let finishes = remains.finishes.items in
+    let logs = remains.logs.items in
     let merged = subst (λ (ps : List (List Entry)). IsTraceOf ps es) together c.in_ok-world.ensures.of_parts in
-    says_of_trace g.B.Body.shows c.args.limits phasers es remains.root
-    (phasers_from phasers remains.finishes.items remains.logs.items left.owners left.sums left.ended es merged left.of_phasers left.of_finishes left.of_tasks)
-    left.all_phasers said
+    says_of_trace g.B.Body.shows c.args.limits phasers logs left.owners es remains.root
+    (phasers_from phasers finishes logs left.owners left.sums left.ended es merged left.of_phasers left.of_finishes left.of_tasks)
+    left.all_phasers
+    (logs_from phasers finishes logs left.owners left.sums left.ended es merged left.of_phasers left.of_finishes left.of_tasks left.of_each)
+    left.of_tasks said
 
 -- and what is told of each task whose log has its end is told of each that has ended
 pub returns-clause-each : goal.returns-clause-each

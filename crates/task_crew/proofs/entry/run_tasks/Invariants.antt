@@ -1,7 +1,7 @@
 use Rattle.std.proofs.Common.{ℕ}
 use Rattle.phase_model.specs.Rules.{Story}
 use Rattle.table_receipts.proofs.Names.{name_at}
-use Rattle.tasks_in_flight.specs.Heard.{nothing}
+use Rattle.tasks_in_flight.specs.Heard.{nothing, at_start}
 use Rattle.tasks_in_flight.specs.Said.{IsSaidOf}
 use Rattle.task_crew.proofs.entry.run_tasks.Given as goal
 
@@ -33,6 +33,6 @@ ghosts-run_over-L-Logs g a = record { logs = λ n. name_at (λ w. w.name) a.unna
 -- the root says nothing false at its start; and a body has said at its end what is told of a task
 abbrev pub ghosts-run_over-L-Supposing : goal.ghosts-run_over-L-Supposing
 ghosts-run_over-L-Supposing g a = record {
-  supposed = (seen : ℕ → Story) → g.B.Body.shows a.root 0 nothing seen;
+  supposed = (stories : ℕ → Story) → g.B.Body.shows a.root 0 nothing (at_start stories);
   told = IsSaidOf g.B.Body.shows;
 }

@@ -3,7 +3,7 @@ use Rattle.std.specs.List.{sum as total}
 use Rattle.std.proofs.lemmas.List.{map-id}
 use Rattle.std.proofs.lemmas.Iterator.Adapters.{YieldsList-from_vec}
 use Rattle.std.proofs.lemmas.Iterator.Consumers.{YieldsList-end}
-use Rattle.task_remains.proofs.Gathering.{all_logs, none_told, told_there}
+use Rattle.task_remains.proofs.Gathering.{all_logs, none_told, told_there, one_longer, last_of}
 use Rattle.task_remains.proofs.Sums.{total_more}
 use Rattle.task_remains.proofs.logs.logs_of.Goals as goal
 
@@ -65,7 +65,18 @@ returns-clause-number g c =
     let all = sym (map-id c.loop-of_finish.yielded) ∙ end.0 in
     omega (
       arith,
-      c.in_ok-add.ensures.number,
+      one_longer _ _ _ c.in_ok-add.ensures.parts,
       c.loop-of_finish.invariant.number,
       ap (λ (ds : List _). total (map (λ d. length d.items) ds)) all,
     )
+
+pub returns-clause-root : goal.returns-clause-root
+returns-clause-root g c =
+    let left = c.args.left in
+    let gives = c.into_iter-of_finish-iterator.ensures.into_iter_gives in
+    let end = YieldsList-end (YieldsList-from_vec left.items gives.0 (gives.1 ∙ left.ok.0))
+    c.loop-of_finish.yielded c.loop-of_finish.of_finish-iterator c.loop-of_finish.yielded_by
+    c.next.result c.next.new.self c.in-None.is c.next.ensures.steps in
+    let all = sym (map-id c.loop-of_finish.yielded) ∙ end.0 in
+    last_of _ _ _ (total (map (λ d. length d.items) left.items)) c.in_ok-add.ensures.parts
+    (c.loop-of_finish.invariant.number ∙ ap (λ (ds : List _). total (map (λ d. length d.items) ds)) all)

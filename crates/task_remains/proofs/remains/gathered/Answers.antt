@@ -1,9 +1,10 @@
-use Rattle.std.proofs.Common.{◌≡◌, List, subst, length, map, refl, sym, ◌∙◌, ap, arith}
+use Rattle.std.proofs.Common.{ℕ, ◌≡◌, List, subst, length, map, refl, sym, ◌∙◌, ap, arith}
+use Rattle.std.specs.List.{sum as total}
 use Rattle.phase_modes.specs.declared.limits.Limits.{Limits}
+use Rattle.trace_model.specs.Projections.{log, AreOf}
 use Rattle.table_receipts.specs.Logs.{Sight}
-use Rattle.table_receipts.specs.Seen.{story_at}
 use Rattle.table_receipts.proofs.Logged.{are_named}
-use Rattle.tasks_in_flight.specs.inner.Ready.{IsTold}
+use Rattle.tasks_in_flight.specs.inner.Ready.{IsTold, seen_at_end}
 use Rattle.task_remains.proofs.Gathering.{all_logs, told_there}
 use Rattle.tasks_in_flight.proofs.Saying.{is_said}
 use Rattle.task_remains.proofs.Told.{are_said}
@@ -20,7 +21,7 @@ invariant_of-of_root-clause-all g c = ap (λ (xs : List Sight). length xs) c.beg
 pub invariant_of-of_root-clause-told : goal.invariant_of-of_root-clause-told
 invariant_of-of_root-clause-told g c = λ ended.
     let left = c.args.root.left in
-    subst (λ (xs : List Sight). ∥ (g.K.Supposing.supposed → IsTold g.K.Supposing.told left.log.task (λ n. story_at xs n)) ∥₁) (sym c.begin.ensures.same.0)
+    subst (λ (xs : List Sight). ∥ (g.K.Supposing.supposed → IsTold g.K.Supposing.told left.log.task (seen_at_end xs left.log.log)) ∥₁) (sym c.begin.ensures.same.0)
     (left.told ended)
 
 pub returns-clause-remains : goal.returns-clause-remains
@@ -45,9 +46,12 @@ pub returns-clause-says : goal.returns-clause-says
 returns-clause-says g c = λ supposed.
     let phasers = c.args.phasers in
     let root = c.args.root in
-    is_said g.B.Body.shows c.args.limits g.K.Logs.logs phasers.parts.items phasers.logs.items root.left.fronts root.body c.requires.logged
+    let own = root.left.log.log in
+    is_said g.B.Body.shows c.args.limits g.K.Logs.logs phasers.parts.items c.in_ok-of_logs.of_logs.items phasers.logs.items root.left.fronts
+    own (total (map (λ l. length l.items) c.args.finishes.logs.items)) root.body c.requires.logged
     (omega (arith, root.left.all, ap (λ (l : Limits). l.phasers) c.requires.limits, c.requires.phasers.0, phasers.parts.ok))
-    c.begin.ensures.begin (λ n lt. c.begin.ensures.limits n lt ∙ sym c.requires.limits) root.says supposed
+    c.begin.ensures.begin (λ n lt. c.begin.ensures.limits n lt ∙ sym c.requires.limits) c.in_ok-of_logs.ensures.root
+    (subst (λ (t : ℕ). AreOf (log t) own.entries) root.root root.left.log.own) root.says supposed
 
 pub returns-clause-each : goal.returns-clause-each
 returns-clause-each g c = λ supposed.

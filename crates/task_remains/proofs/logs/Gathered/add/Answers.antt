@@ -26,7 +26,8 @@ returns-clause-told g c =
     let logs = c.args.told.now.items in
     let Told = g.K.Supposing.told in
     let one : IsToldIn g.K.Supposing.supposed Told logs c.into_part.result =
-    told_in_logs Told logs left.fronts left.log.task c.into_part.result (c.requires.logs.1 ∙ sym left.all) c.begin.ensures.begin c.into_part.ensures.own
+    told_in_logs Told logs left.fronts left.log.log left.log.task c.into_part.result (c.requires.logs.1 ∙ sym left.all) c.begin.ensures.begin
+    c.into_part.ensures.own c.into_part.ensures.all
     (λ ended. left.told (sym c.into_part.ensures.end ∙ ended)) in
     subst (λ (ps : List (List Entry)). All (IsToldIn g.K.Supposing.supposed Told logs) ps) (sym c.in_ok-push.ensures.items)
     (All-push (IsToldIn g.K.Supposing.supposed Told logs) old.parts.items c.into_part.result c.requires.told one)

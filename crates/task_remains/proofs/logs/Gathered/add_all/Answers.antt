@@ -1,5 +1,5 @@
 use Rattle.std.proofs.Common.{◌∷◌, [], sym, ◌∙◌, length-append, arith}
-use Rattle.task_remains.proofs.Gathering.{all_logs, told_there}
+use Rattle.task_remains.proofs.Gathering.{all_logs, told_there, one_longer}
 use Rattle.task_remains.proofs.logs.Gathered.add_all.Goals as goal
 
 pub add-requires-clause-logs : goal.add-requires-clause-logs
@@ -17,5 +17,10 @@ loop-left-preserved g c = record {
   told = told_there g.K.Supposing.supposed g.K.Supposing.told c.add.new.self.parts.items
       c.loop-left.told.items c.args.told.now.items (sym c.loop-left.invariant.same) c.in_ok-add.ensures.told;
   same = c.in_ok-add.ensures.same ∙ c.loop-left.invariant.same;
-  number = omega (arith, length-append c.loop-left.yielded (c.in-Some.left ∷ []), c.in_ok-add.ensures.number, c.loop-left.invariant.number);
+  number = omega (
+    arith,
+    length-append c.loop-left.yielded (c.in-Some.left ∷ []),
+    one_longer _ _ _ c.in_ok-add.ensures.parts,
+    c.loop-left.invariant.number,
+  );
 }

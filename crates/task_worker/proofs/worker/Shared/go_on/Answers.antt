@@ -1,9 +1,29 @@
-use Rattle.std.proofs.Common.{◌≡◌, option_map, ap, ◌∙◌}
+use Rattle.std.proofs.Common.{◌≡◌, option_map}
 use Rattle.table_receipts.specs.Seen.{story_at}
 use Rattle.task_standing.specs.declared.plan.Due.TheVariants as due
 use Rattle.task_worker.specs.inner.Driven.{HasGoneOn}
-use Rattle.task_worker.proofs.Driven.{goes_by, goes_nowhere}
+use Rattle.task_worker.proofs.Driven.{due_now, goes_by, goes_nowhere}
 use Rattle.task_worker.proofs.worker.Shared.go_on.Goals as goal
+
+pub signal-requires : goal.signal-requires
+signal-requires g c =
+    due_now c.args.item.task.value.standing (option_map (λ t. t.value.standing) c.args.item.unborn) c.due.result (due.Signal c.in-Signal.phaser c.in-Signal.number) c.due.ensures c.in-Signal.is
+
+pub pass-requires : goal.pass-requires
+pass-requires g c =
+    due_now c.args.item.task.value.standing (option_map (λ t. t.value.standing) c.args.item.unborn) c.due.result (due.Pass c.in-Pass.phaser) c.due.ensures c.in-Pass.is
+
+pub leave-requires : goal.leave-requires
+leave-requires g c =
+    due_now c.args.item.task.value.standing (option_map (λ t. t.value.standing) c.args.item.unborn) c.due.result (due.Leave c.in-Leave.phaser) c.due.ensures c.in-Leave.is
+
+pub bear-requires : goal.bear-requires
+bear-requires g c =
+    due_now c.args.item.task.value.standing (option_map (λ t. t.value.standing) c.args.item.unborn) c.due.result (due.Spawn c.of.result c.of-in-Spawn.result) c.due.ensures cc
+
+pub step-requires : goal.step-requires
+step-requires g c =
+    due_now c.args.item.task.value.standing (option_map (λ t. t.value.standing) c.args.item.unborn) c.due.result (due.Step) c.due.ensures c.in-Step.is
 
 pub returns-in-Signal-clause-goes : goal.returns-in-Signal-clause-goes
 returns-in-Signal-clause-goes g c =

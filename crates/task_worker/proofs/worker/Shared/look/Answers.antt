@@ -1,19 +1,16 @@
-use Rattle.std.proofs.Common.{Bool, ap, ◌∙◌}
+use Rattle.std.proofs.Common.{Bool, sym, ap, subst, ◌∙◌}
 use Rattle.tasks_in_flight.specs.Heard.{look}
-use Rattle.tasks_in_flight.proofs.Saying.{shows_kept}
+use Rattle.tasks_in_flight.specs.inner.Ready.{seen_by}
 use Rattle.table_receipts.specs.Seen.{story_at}
 use Rattle.task_worker.specs.inner.Driven.{tried_by}
 use Rattle.task_worker.proofs.Driven.{not_tried, acts_since, gave_up}
 use Rattle.task_worker.proofs.worker.Shared.look.Goals as goal
 
 pub look_on-requires : goal.look_on-requires
-look_on-requires g c =
-    let old = c.args.task.now in
-    let new = c.may_try.new.task in
-    record {
-      says = shows_kept g.B.Body.shows old.body new.body old.log.task new.log.task (look c.args.phaser c.args.accumulator) old.fronts new.fronts
-          c.may_try.ensures.body c.may_try.ensures.task c.may_try.ensures.fronts c.requires.says;
-    }
+look_on-requires g c = record {
+  says = subst (λ (t : _). ∥ (g.K.Supposing.supposed → g.B.Body.shows t.body t.log.task (look c.args.phaser c.args.accumulator) (seen_by t.fronts t.standing t.log.log)) ∥₁)
+      (sym (c.in_ok-may_try.ensures.same c.if-not-branch.false)) c.requires.says;
+}
 
 pub returns-then-not-branch-clause-acted : goal.returns-then-not-branch-clause-acted
 returns-then-not-branch-clause-acted g c =
@@ -24,7 +21,7 @@ pub returns-in-Ok-clause-acted : goal.returns-in-Ok-clause-acted
 returns-in-Ok-clause-acted g c =
     let old = c.args.task.now in
     let mid = c.may_try.new.task in
-    acts_since old.fronts mid.fronts mid.standing old.standing c.look_on.new.task.standing c.may_try.ensures.fronts
+    acts_since old.fronts mid.fronts mid.standing old.standing c.look_on.new.task.standing (ap (λ t. t.fronts) (c.in_ok-may_try.ensures.same c.if-not-branch.false))
     (c.in_ok-may_try.ensures.standing ∙ ap (λ (b : Bool). tried_by b old.standing) c.if-not-branch.false) c.in-Ok.ensures.acted
 
 pub returns-in-Err-clause-acted : goal.returns-in-Err-clause-acted
@@ -32,4 +29,4 @@ returns-in-Err-clause-acted g c =
     let old = c.args.task.now in
     gave_up (λ n. story_at old.fronts n) c.look_on.new.task.standing old.standing c.refuse.new.task.standing
     (c.in-Err.ensures.refused ∙ (c.in_ok-may_try.ensures.standing ∙ ap (λ (b : Bool). tried_by b old.standing) c.if-not-branch.false))
-    c.refuse.result c.refuse.ensures.standing
+    c.refuse.result c.refuse.ensures

@@ -1,16 +1,15 @@
-use Rattle.std.proofs.Common.{ℕ, ◌≡◌, is_ok, Some, refl, sym, ap, subst, ◌∙◌}
+use Rattle.std.proofs.Common.{ℕ, ◌≡◌, is_ok, refl, sym, ap, subst, ◌∙◌}
 use Rattle.phase_model.specs.declared.call.Call.TheVariants as calls
 use Rattle.phase_model.specs.declared.history.Event.TheVariants as events
 use Rattle.phase_model.specs.declared.op.Look.TheVariants.{Nothing}
 use Rattle.phase_model.specs.Rules.{Story}
 use Rattle.phaser_answers.specs.Answers.{look_result}
-use Rattle.job_script.specs.declared.act.Answer.TheVariants.{Saw}
 use Rattle.long_locks.specs.Told.{HasLooked}
+use Rattle.table_receipts.specs.Logs.{GoesOn}
 use Rattle.table_receipts.specs.Seen.{story_at}
 use Rattle.table_receipts.proofs.Goes.{answered_goes}
-use Rattle.table_receipts.proofs.Stories.{seen_more}
-use Rattle.tasks_in_flight.specs.Heard.{look, ends}
-use Rattle.tasks_in_flight.proofs.Saying.{shows_kept, ready_seen, says_kept, says_more}
+use Rattle.tasks_in_flight.specs.Heard.{look}
+use Rattle.tasks_in_flight.proofs.Saying.{shows_kept}
 use Rattle.world_model.specs.declared.event.WorldEvent.TheVariants.{Phaser}
 use Rattle.world_model.specs.declared.event.Step.TheVariants as steps
 use Rattle.task_standing.specs.Known.{Known}
@@ -20,43 +19,33 @@ use Rattle.task_worker.proofs.Posted.{call_posts}
 use Rattle.task_worker.proofs.Replied.{look_replied}
 use Rattle.task_worker.proofs.worker.Shared.look_on.Goals as goal
 
-pub invariant_of-task-clause-ready : goal.invariant_of-task-clause-ready
-invariant_of-task-clause-ready g c =
+pub looked-requires-clause-asked : goal.looked-requires-clause-asked
+looked-requires-clause-asked g c =
     let old = c.args.task.now in
     let mid = c.front-me.new.self in
-    let ys = c.set.new.self in
     let n = c.args.phaser in
     let a = c.args.accumulator in
     let t = c.number-reader.result in
-    let before = c.front-me.result.story in
     let now = c.look.new.me.story in
-    let place = c.in_ok-number.ensures.same in
-    let more =
-    seen_more old.fronts mid.fronts ys c.in_ok-number.number n before now c.front-me.ensures.fronts place
-    c.front-me.ensures.story c.set.ensures.here c.set.ensures.others
-    (answered_goes (λ _ r. c.look.result ≡ look_result r) (calls.Look t a) before now c.look.ensures.told) in
-    let here : story_at ys n ≡ now = ap (λ (m : ℕ). story_at ys m) (sym place) ∙ c.set.ensures.here in
-    let own : t ≡ mid.log.task = c.number-reader.ensures.log ∙ sym c.front-me.ensures.task in
-    ready_seen g.B.Body.shows mid.body mid.log.task (look n a) (Some (Saw c.in_ok-seen.seen)) (λ k. story_at old.fronts k) (λ k. story_at ys k) more.0
-    (subst (λ (m : ℕ). HasLooked (story_at ys n).terms.ops m a (story_at ys n).past c.in_ok-seen.seen) own
-    (subst (λ (v : Story). HasLooked v.terms.ops t a v.past c.in_ok-seen.seen) (sym here) c.in_ok-seen.ensures.seen))
-    (shows_kept g.B.Body.shows old.body mid.body old.log.task mid.log.task (look n a) old.fronts old.fronts
-    c.front-me.ensures.body c.front-me.ensures.task refl c.requires.says)
+    let own : t ≡ mid.log.task = c.number-reader.ensures.log ∙ sym c.front-me.ensures.task in (
+      a,
+      subst (λ (m : ℕ). HasLooked now.terms.ops m a now.past c.in_ok-seen.seen) own c.in_ok-seen.ensures.seen,
+      shows_kept g.B.Body.shows old.body mid.body old.log.task mid.log.task (look n a) old.fronts mid.fronts old.standing mid.standing old.log.log mid.log.log
+          c.front-me.ensures.body c.front-me.ensures.task c.front-me.ensures.fronts c.front-me.ensures.standing
+          (ap (λ d. d.log) c.front-me.ensures.log_kept) c.requires.says,
+    )
 
-pub invariant_of-task-clause-end : goal.invariant_of-task-clause-end
-invariant_of-task-clause-end g c = λ ended.
+pub looked-requires-clause-more : goal.looked-requires-clause-more
+looked-requires-clause-more g c =
     let old = c.args.task.now in
     let mid = c.front-me.new.self in
-    let ys = c.set.new.self in
     let n = c.args.phaser in
     let before = c.front-me.result.story in
-    let now = c.look.new.me.story in
-    let place = c.in_ok-number.ensures.same in
-    let more =
-    seen_more old.fronts mid.fronts ys c.in_ok-number.number n before now c.front-me.ensures.fronts place
-    c.front-me.ensures.story c.set.ensures.here c.set.ensures.others (answered_goes (λ _ r. c.look.result ≡ look_result r) (calls.Look c.number-reader.result c.args.accumulator) before now c.look.ensures.told) in
-    says_more g.B.Body.shows mid.body mid.log.task ends (λ k. story_at old.fronts k) (λ k. story_at ys k) more.0
-    (says_kept g.B.Body.shows mid.body mid.body mid.log.task mid.log.task ends mid.fronts old.fronts refl refl (sym c.front-me.ensures.fronts) (mid.end ended))
+    let there : before ≡ story_at mid.fronts n =
+    c.front-me.ensures.story
+    ∙ (ap (λ (k : ℕ). story_at old.fronts k) c.in_ok-number.ensures.same ∙ sym (ap (λ xs. story_at xs n) c.front-me.ensures.fronts)) in
+    subst (λ (s : Story). GoesOn s c.look.new.me.story) there
+    (answered_goes (λ _ r. c.look.result ≡ look_result r) (calls.Look c.number-reader.result c.args.accumulator) before c.look.new.me.story c.look.ensures.told)
 
 pub returns-clause-acted : goal.returns-clause-acted
 returns-clause-acted g c =
@@ -72,7 +61,7 @@ returns-clause-acted g c =
       refl,
       subst (λ (u : ℕ). IsReplied (story_at old.fronts n) (steps.Look u a)) c.number-reader.ensures.standing
           (subst (λ (s : Story). IsReplied s (steps.Look t a)) there (look_replied c.in_ok-seen.seen before now t a c.in_ok-seen.ensures.told)),
-      c.note_act.ensures.acted ∙ ap (λ (k : Known). noted e k) c.front-me.ensures.standing,
+      c.looked.ensures.acted ∙ ap (λ (k : Known). noted e k) c.front-me.ensures.standing,
     )
 
 pub returns-in_err-seen-clause-posted : goal.returns-in_err-seen-clause-posted

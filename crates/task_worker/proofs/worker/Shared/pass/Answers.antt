@@ -1,17 +1,13 @@
-use Rattle.std.proofs.Common.{inl, ap, ◌∙◌}
+use Rattle.std.proofs.Common.{inl}
 use Rattle.world_model.specs.declared.event.Step.TheVariants as steps
-use Rattle.world_model.specs.declared.event.WorldEvent.TheVariants.{Phaser}
 use Rattle.table_receipts.specs.Seen.{story_at}
-use Rattle.task_standing.specs.Known.{Known}
-use Rattle.task_standing.specs.Noted.{noted}
 use Rattle.task_worker.proofs.Driven.{gives_up_turn, claims}
 use Rattle.task_worker.proofs.worker.Shared.pass.Goals as goal
 
 pub returns-in-Passed-clause-made : goal.returns-in-Passed-clause-made
 returns-in-Passed-clause-made g c =
-    let e = Phaser c.args.phaser (steps.Pass c.args.item.task.value.standing.number) in
     let told = rw c.in-Passed.is at c.in_ok-passed.ensures.told in
-    inl (inl (told.1, c.note_pass.ensures ∙ ap (λ (k : Known). noted e k) (ap (λ t. t.standing) c.deref_mut.ensures.value ∙ told.0)))
+    inl (inl (told.1, told.0))
 
 pub returns-in-Claimed-clause-made : goal.returns-in-Claimed-clause-made
 returns-in-Claimed-clause-made g c =

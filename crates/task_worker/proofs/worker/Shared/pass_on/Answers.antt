@@ -1,68 +1,80 @@
-use Rattle.std.proofs.Common.{ℕ, ◌≡◌, true, sym, ap, subst, ◌∙◌}
+use Rattle.std.proofs.Common.{ℕ, ◌≡◌, Some, sym, ap, subst, ◌∙◌}
 use Rattle.phase_model.specs.declared.call.Call.TheVariants as calls
 use Rattle.phase_model.specs.Rules.{Story}
-use Rattle.phase_modes.specs.Mode.{can_wait}
-use Rattle.phase_model.specs.Phases.{IsClosed}
-use Rattle.phase_model.specs.Tasks.{has_mode}
-use Rattle.phaser_answers.specs.Answers.{pass_result}
-use Rattle.parked_tasks.specs.Parking.{IsBack}
-use Rattle.long_locks.specs.Told.{IsPassAnswer, IfPassed}
 use Rattle.table_receipts.specs.Logs.{GoesOn}
 use Rattle.table_receipts.specs.Seen.{story_at}
-use Rattle.table_receipts.specs.Told.{IsAnswered}
-use Rattle.table_receipts.proofs.Goes.{answered_goes}
-use Rattle.tasks_in_flight.specs.Heard.{IsOwn}
-use Rattle.tasks_in_flight.proofs.Heard.{pass_is_own}
+use Rattle.tasks_in_flight.specs.inner.Ready.{HasJustPassed, IsDue}
+use Rattle.tasks_in_flight.proofs.Heard.{just_passed}
 use Rattle.world_model.specs.declared.event.Step.TheVariants as steps
+use Rattle.world_model.specs.declared.event.WorldEvent.TheVariants.{Phaser}
+use Rattle.task_standing.specs.Known.{Known}
+use Rattle.task_standing.specs.Noted.{noted}
 use Rattle.task_worker.specs.inner.Driven.{IsReplied, IsOfPass}
-use Rattle.task_worker.proofs.Replied.{pass_replied, pass_is_of}
+use Rattle.task_worker.proofs.Replied.{pass_goes, pass_replied, pass_is_of}
 use Rattle.task_worker.proofs.worker.Shared.pass_on.Goals as goal
 
-pub note_own-requires-clause-more : goal.note_own-requires-clause-more
-note_own-requires-clause-more g c =
-    let back = subst (λ (a : _). IsBack (record { task = record { ptr = c.args.item.task.ptr; alloc = c.args.item.task.alloc; value = c.front-me.new.self }; unborn = c.args.item.unborn }) a) c.in-Passed.is c.pass-answer.ensures.item in
+pub passed-requires-clause-due : goal.passed-requires-clause-due
+passed-requires-clause-due g c =
+    let back = rw c.in-Passed.is at c.pass-answer.ensures.item in
     let there : c.deref_mut-in-Passed.result.now ≡ c.front-me.new.self =
     c.deref_mut-in-Passed.ensures.value ∙ ap (λ i. i.task.value) back in
-    let same : c.front-me.result.story ≡ story_at c.deref_mut-in-Passed.result.now.fronts c.in-Ok.number =
-    c.front-me.ensures.story ∙ sym (ap (λ t. story_at t.fronts c.in-Ok.number) there ∙ ap (λ xs. story_at xs c.in-Ok.number) c.front-me.ensures.fronts) in
-    subst (λ (s : Story). GoesOn s c.pass-answer.new.me.story) same
-    (answered_goes (λ h r. IsPassAnswer (record { task = record { ptr = c.args.item.task.ptr; alloc = c.args.item.task.alloc; value = c.front-me.new.self }; unborn = c.args.item.unborn }) (pass_result h r) c.pass-answer.result) (calls.Pass c.number-task.result) c.front-me.result.story c.pass-answer.new.me.story c.pass-answer.ensures.told)
+    let same : c.deref_mut-in-Passed.result.now.standing ≡ c.args.item.task.value.standing =
+    ap (λ t. t.standing) there ∙ (c.front-me.ensures.standing ∙ ap (λ t. t.standing) c.deref_mut.ensures.value) in
+    subst (λ (k : Known). IsDue (Some (Phaser c.args.phaser (steps.Pass k.number))) k) (sym same) c.requires
 
-pub note_own-requires-clause-own : goal.note_own-requires-clause-own
-note_own-requires-clause-own g c =
-    let item = c.in-Passed.passed in
-    let back = subst (λ (a : _). IsBack (record { task = record { ptr = c.args.item.task.ptr; alloc = c.args.item.task.alloc; value = c.front-me.new.self }; unborn = c.args.item.unborn }) a) c.in-Passed.is c.pass-answer.ensures.item in
+pub passed-requires-clause-more : goal.passed-requires-clause-more
+passed-requires-clause-more g c =
+    let back = rw c.in-Passed.is at c.pass-answer.ensures.item in
     let there : c.deref_mut-in-Passed.result.now ≡ c.front-me.new.self =
     c.deref_mut-in-Passed.ensures.value ∙ ap (λ i. i.task.value) back in
+    let n = c.args.phaser in
+    let same : c.front-me.result.story ≡ story_at c.deref_mut-in-Passed.result.now.fronts n =
+    c.front-me.ensures.story
+    ∙ (ap (λ (m : ℕ). story_at c.deref_mut.result.now.fronts m) c.in-Ok.ensures.same
+    ∙ sym (ap (λ t. story_at t.fronts n) there ∙ ap (λ xs. story_at xs n) c.front-me.ensures.fronts)) in
+    subst (λ (s : Story). GoesOn s c.pass-answer.new.me.story) same
+    (pass_goes _ c.pass-answer.result c.front-me.result.story c.pass-answer.new.me.story c.number-task.result c.pass-answer.ensures.told)
+
+pub passed-requires-clause-own : goal.passed-requires-clause-own
+passed-requires-clause-own g c =
+    let item = c.in-Passed.passed in
+    let now = c.pass-answer.new.me.story in
+    let back = rw c.in-Passed.is at c.pass-answer.ensures.item in
+    let there : c.deref_mut-in-Passed.result.now ≡ c.front-me.new.self =
+    c.deref_mut-in-Passed.ensures.value ∙ ap (λ i. i.task.value) back in
+    let n = c.args.phaser in
+    let same : c.front-me.result.story ≡ story_at c.deref_mut-in-Passed.result.now.fronts n =
+    c.front-me.ensures.story
+    ∙ (ap (λ (m : ℕ). story_at c.deref_mut.result.now.fronts m) c.in-Ok.ensures.same
+    ∙ sym (ap (λ t. story_at t.fronts n) there ∙ ap (λ xs. story_at xs n) c.front-me.ensures.fronts)) in
     let own : c.number-task.result ≡ c.deref_mut-in-Passed.result.now.log.task =
     c.number-task.ensures.log
     ∙ (ap (λ t. t.log.task) c.deref.ensures
     ∙ (sym (ap (λ t. t.log.task) c.deref_mut.ensures.value) ∙ (sym c.front-me.ensures.task ∙ sym (ap (λ t. t.log.task) there)))) in
-    subst (λ (t : ℕ). IsOwn t c.pass-answer.new.me.story.past) own
-    (pass_is_own (record { task = record { ptr = c.args.item.task.ptr; alloc = c.args.item.task.alloc; value = c.front-me.new.self }; unborn = c.args.item.unborn }) item c.in-Passed.phase c.front-me.result.story c.pass-answer.new.me.story c.number-task.result
-    (subst (λ (a : _). IsAnswered (λ h r. IsPassAnswer (record { task = record { ptr = c.args.item.task.ptr; alloc = c.args.item.task.alloc; value = c.front-me.new.self }; unborn = c.args.item.unborn }) (pass_result h r) a) (calls.Pass c.number-task.result) c.front-me.result.story c.pass-answer.new.me.story)
-    c.in-Passed.is c.pass-answer.ensures.told)
-    (subst (λ (a : _). IfPassed a (λ p. has_mode can_wait c.number-task.result c.pass-answer.new.me.story.past ≡ true → IsClosed p c.pass-answer.new.me.story.past))
-    c.in-Passed.is c.pass-answer.ensures.closed))
+    subst (λ (t : ℕ). HasJustPassed t (story_at c.deref_mut-in-Passed.result.now.fronts n) now) own
+    (subst (λ (s : Story). HasJustPassed c.number-task.result s now) same
+    (just_passed _ item c.in-Passed.phase c.front-me.result.story now c.number-task.result
+    (rw c.in-Passed.is at c.pass-answer.ensures.told)
+    (rw c.in-Passed.is at c.pass-answer.ensures.closed)))
 
 pub returns-in-Passed-clause-told : goal.returns-in-Passed-clause-told
 returns-in-Passed-clause-told g c =
     let task = c.args.item.task.value in
     let n = c.args.phaser in
     let t = c.number-task.result in
-    let back = subst (λ (a : _). IsBack (record { task = record { ptr = c.args.item.task.ptr; alloc = c.args.item.task.alloc; value = c.front-me.new.self }; unborn = c.args.item.unborn }) a) c.in-Passed.is c.pass-answer.ensures.item in
+    let back = rw c.in-Passed.is at c.pass-answer.ensures.item in
     let first = c.deref_mut.ensures.value in
     let own : t ≡ task.standing.number = c.number-task.ensures.standing ∙ ap (λ x. x.standing.number) c.deref.ensures in
-    let there : c.front-me.result.story ≡ story_at task.fronts n =
+    let before : c.front-me.result.story ≡ story_at task.fronts n =
     c.front-me.ensures.story ∙ (ap (λ x. story_at x.fronts c.in-Ok.number) first ∙ ap (λ (m : ℕ). story_at task.fronts m) c.in-Ok.ensures.same) in (
-      c.note_own.ensures.standing
-          ∙ (ap (λ x. x.standing) c.deref_mut-in-Passed.ensures.value
+      c.passed.ensures.passed
+          ∙ ap (λ (k : Known). noted (Phaser n (steps.Pass task.standing.number)) k)
+          (ap (λ x. x.standing) c.deref_mut-in-Passed.ensures.value
           ∙ (ap (λ i. i.task.value.standing) back ∙ (c.front-me.ensures.standing ∙ ap (λ x. x.standing) first))),
       subst (λ (u : ℕ). IsReplied (story_at task.fronts n) (steps.Pass u)) own
-          (subst (λ (s : Story). IsReplied s (steps.Pass t)) there
-          (pass_replied (record { task = record { ptr = c.args.item.task.ptr; alloc = c.args.item.task.alloc; value = c.front-me.new.self }; unborn = c.args.item.unborn }) c.in-Passed.passed c.in-Passed.phase c.front-me.result.story c.pass-answer.new.me.story t
-          (subst (λ (a : _). IsAnswered (λ h r. IsPassAnswer (record { task = record { ptr = c.args.item.task.ptr; alloc = c.args.item.task.alloc; value = c.front-me.new.self }; unborn = c.args.item.unborn }) (pass_result h r) a) (calls.Pass t) c.front-me.result.story c.pass-answer.new.me.story)
-          c.in-Passed.is c.pass-answer.ensures.told))),
+          (subst (λ (s : Story). IsReplied s (steps.Pass t)) before
+          (pass_replied _ c.in-Passed.passed c.in-Passed.phase c.front-me.result.story c.pass-answer.new.me.story t
+          (rw c.in-Passed.is at c.pass-answer.ensures.told))),
     )
 
 pub returns-in_default-clause-told : goal.returns-in_default-clause-told
@@ -74,6 +86,6 @@ returns-in_default-clause-told g c =
     let own : t ≡ task.standing.number = c.number-task.ensures.standing ∙ ap (λ x. x.standing.number) c.deref.ensures in
     let there : c.front-me.result.story ≡ story_at task.fronts n =
     c.front-me.ensures.story ∙ (ap (λ x. story_at x.fronts c.in-Ok.number) first ∙ ap (λ (m : ℕ). story_at task.fronts m) c.in-Ok.ensures.same) in
-    subst (λ (u : ℕ). IsOfPass (λ i. i.task.value.standing) task.standing (story_at task.fronts n) u c.pass-answer.result) own
-    (pass_is_of c.pass-answer.result (λ i. i.task.value.standing) task.standing (record { task = record { ptr = c.args.item.task.ptr; alloc = c.args.item.task.alloc; value = c.front-me.new.self }; unborn = c.args.item.unborn }) c.front-me.result.story c.pass-answer.new.me.story (story_at task.fronts n) t
+    subst (λ (u : ℕ). IsOfPass (λ i. i.task.value.standing) task.standing (story_at task.fronts n) n u c.pass-answer.result) own
+    (pass_is_of c.pass-answer.result (λ i. i.task.value.standing) task.standing _ c.front-me.result.story c.pass-answer.new.me.story (story_at task.fronts n) n t c.in_default.not-Passed
     (c.front-me.ensures.standing ∙ ap (λ x. x.standing) first) there c.pass-answer.ensures.item c.pass-answer.ensures.told)

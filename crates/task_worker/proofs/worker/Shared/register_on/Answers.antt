@@ -13,16 +13,20 @@ use Rattle.task_worker.specs.inner.Driven.{IsReplied}
 use Rattle.task_worker.proofs.Replied.{registration_replied}
 use Rattle.task_worker.proofs.worker.Shared.register_on.Goals as goal
 
-pub note_own-requires-clause-more : goal.note_own-requires-clause-more
-note_own-requires-clause-more g c =
+pub registered-requires-clause-more : goal.registered-requires-clause-more
+registered-requires-clause-more g c =
+    let old = c.args.task.now in
+    let n = c.args.pair.phaser in
     let parent = c.number-parent.result in
-    let same = c.front-me.ensures.story ∙ ap (λ xs. story_at xs c.in_ok-number.number) (sym c.front-me.ensures.fronts) in
-    subst (λ (s : Story). GoesOn s c.register.new.me.story) same
+    let there =
+    c.front-me.ensures.story
+    ∙ (ap (λ (k : ℕ). story_at old.fronts k) c.in_ok-number.ensures.same ∙ sym (ap (λ xs. story_at xs n) c.front-me.ensures.fronts)) in
+    subst (λ (s : Story). GoesOn s c.register.new.me.story) there
     (answered_goes (λ _ r. c.register.result ≡ done_result r) (calls.Register parent c.args.child c.args.pair.mode) c.front-me.result.story
     c.register.new.me.story c.register.ensures.told)
 
-pub note_own-requires-clause-own : goal.note_own-requires-clause-own
-note_own-requires-clause-own g c =
+pub registered-requires-clause-own : goal.registered-requires-clause-own
+registered-requires-clause-own g c =
     let parent = c.number-parent.result in
     let told : IsAnswered (λ _ r. Ok tt ≡ done_result r) (calls.Register parent c.args.child c.args.pair.mode) c.front-me.result.story c.register.new.me.story =
     subst (λ (x : _). IsAnswered (λ _ r. x ≡ done_result r) (calls.Register parent c.args.child c.args.pair.mode) c.front-me.result.story c.register.new.me.story)

@@ -3,20 +3,19 @@ use Rattle.std.specs.Prelude.{ℤ}
 use Rattle.std.proofs.lemmas.Int.{to_z-of_z}
 use Rattle.table_receipts.specs.Seen.{story_at}
 use Rattle.tasks_in_flight.specs.Heard.{send}
-use Rattle.tasks_in_flight.proofs.Saying.{shows_kept}
+use Rattle.tasks_in_flight.specs.inner.Ready.{seen_by}
 use Rattle.task_worker.specs.inner.Driven.{tried_by}
 use Rattle.task_worker.proofs.Driven.{not_tried, acts_since, gave_up}
 use Rattle.task_worker.proofs.worker.Shared.send.Goals as goal
 
 pub send_on-requires : goal.send_on-requires
 send_on-requires g c =
-    let old = c.args.task.now in
     let new = c.may_try.new.task in
     record {
-      says = subst (λ (v : ℤ). ∥ (g.K.Supposing.supposed → g.B.Body.shows new.body new.log.task (send c.args.phaser c.args.accumulator v) (λ n. story_at new.fronts n)) ∥₁)
+      says = subst (λ (v : ℤ). ∥ (g.K.Supposing.supposed → g.B.Body.shows new.body new.log.task (send c.args.phaser c.args.accumulator v) (seen_by new.fronts new.standing new.log.log)) ∥₁)
           (sym (to_z-of_z w32 c.args.value c.ranges.value))
-          (shows_kept g.B.Body.shows old.body new.body old.log.task new.log.task (send c.args.phaser c.args.accumulator c.args.value) old.fronts new.fronts
-          c.may_try.ensures.body c.may_try.ensures.task c.may_try.ensures.fronts c.requires.says);
+          (subst (λ (t : _). ∥ (g.K.Supposing.supposed → g.B.Body.shows t.body t.log.task (send c.args.phaser c.args.accumulator c.args.value) (seen_by t.fronts t.standing t.log.log)) ∥₁)
+          (sym (c.in_ok-may_try.ensures.same c.if-not-branch.false)) c.requires.says);
     }
 
 pub returns-then-not-branch-clause-acted : goal.returns-then-not-branch-clause-acted
@@ -28,7 +27,7 @@ pub returns-in-Ok-clause-acted : goal.returns-in-Ok-clause-acted
 returns-in-Ok-clause-acted g c =
     let old = c.args.task.now in
     let mid = c.may_try.new.task in
-    acts_since old.fronts mid.fronts mid.standing old.standing c.send_on.new.task.standing c.may_try.ensures.fronts
+    acts_since old.fronts mid.fronts mid.standing old.standing c.send_on.new.task.standing (ap (λ t. t.fronts) (c.in_ok-may_try.ensures.same c.if-not-branch.false))
     (c.in_ok-may_try.ensures.standing ∙ ap (λ (b : Bool). tried_by b old.standing) c.if-not-branch.false) c.in-Ok.ensures.acted
 
 pub returns-in-Err-clause-acted : goal.returns-in-Err-clause-acted
@@ -36,4 +35,4 @@ returns-in-Err-clause-acted g c =
     let old = c.args.task.now in
     gave_up (λ n. story_at old.fronts n) c.send_on.new.task.standing old.standing c.refuse.new.task.standing
     (c.in-Err.ensures.refused ∙ (c.in_ok-may_try.ensures.standing ∙ ap (λ (b : Bool). tried_by b old.standing) c.if-not-branch.false))
-    c.refuse.result c.refuse.ensures.standing
+    c.refuse.result c.refuse.ensures

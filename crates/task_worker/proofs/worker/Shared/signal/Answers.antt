@@ -1,17 +1,14 @@
-use Rattle.std.proofs.Common.{inl, ap, ◌∙◌}
+use Rattle.std.proofs.Common.{inl}
 use Rattle.world_model.specs.declared.event.Step.TheVariants as steps
 use Rattle.world_model.specs.declared.event.WorldEvent.TheVariants.{Phaser}
 use Rattle.table_receipts.specs.Seen.{story_at}
-use Rattle.task_standing.specs.Known.{Known}
-use Rattle.task_standing.specs.Noted.{noted}
 use Rattle.task_worker.proofs.Driven.{gives_up}
 use Rattle.task_worker.proofs.worker.Shared.signal.Goals as goal
 
 pub returns-in-Signalled-clause-made : goal.returns-in-Signalled-clause-made
 returns-in-Signalled-clause-made g c =
-    let e = Phaser c.args.phaser (steps.Sig c.args.item.task.value.standing.number c.args.number) in
     let told = rw c.in-Signalled.is at c.in_ok-signalled.ensures.told in
-    inl (told.1, c.note_signal.ensures ∙ ap (λ (k : Known). noted e k) (ap (λ t. t.standing) c.deref_mut.ensures.value ∙ told.0))
+    inl (told.1, told.0)
 
 pub returns-after-matches-clause-made : goal.returns-after-matches-clause-made
 returns-after-matches-clause-made g c =

@@ -1,7 +1,8 @@
-use Rattle.std.proofs.Common.{ap, ◌∙◌, ℕ, subst}
+use Rattle.std.proofs.Common.{ap, ◌∙◌, ℕ, sym, subst}
 use Rattle.table_receipts.specs.Seen.{story_at}
-use Rattle.tasks_in_flight.specs.Heard.{nothing, spawn}
-use Rattle.tasks_in_flight.proofs.Saying.{says_now, says_there, shows_kept}
+use Rattle.tasks_in_flight.specs.Heard.{nothing, at_start}
+use Rattle.tasks_in_flight.specs.inner.Ready.{Says, seen_by}
+use Rattle.tasks_in_flight.proofs.Saying.{says_now, asks_kept, asks_to_spawn}
 use Rattle.phase_model.specs.Rules.{Story}
 use Rattle.world_model.specs.declared.event.Begun.TheVariants.{Async}
 use Rattle.task_standing.specs.Known.{Known}
@@ -11,19 +12,23 @@ use Rattle.task_worker.proofs.worker.Shared.spawn.Goals as goal
 
 pub child-requires : goal.child-requires
 child-requires g c = record {
-  says = says_there g.B.Body.shows c.args.body c.of-its.result nothing (λ n. story_at c.args.item.now.task.value.fronts n) (λ n. story_at c.deref_mut.result.now.fronts n)
-      (λ n. ap (λ t. story_at t.fronts n) c.deref_mut.ensures.value)
-      (says_now g.B.Body.shows c.args.body c.of-its.result nothing (λ n. story_at c.args.item.now.task.value.fronts n) (c.requires.child c.of-its.result));
+  says = subst (λ (t : _). ∥ (g.K.Supposing.supposed → Says g.B.Body.shows c.args.body c.of-its.result nothing (at_start (λ n. story_at t.fronts n))) ∥₁)
+      (sym c.deref_mut.ensures.value)
+      (says_now g.B.Body.shows c.args.body c.of-its.result nothing (at_start (λ n. story_at c.args.item.now.task.value.fronts n)) (c.requires.child c.of-its.result));
 }
 
 pub begin-requires : goal.begin-requires
 begin-requires g c =
     let old = c.args.item.now.task.value in
     let new = c.deref_mut-2.result.now in
-    shows_kept g.B.Body.shows old.body new.body old.log.task new.log.task spawn old.fronts new.fronts
+    let child = c.task-number.result in
+    asks_kept g.B.Body.shows old.body new.body old.log.task new.log.task (Async child c.args.pairs) old.fronts new.fronts old.standing new.standing old.log.log new.log.log
     (ap (λ t. t.body) c.deref_mut-2.ensures.value ∙ (c.child.ensures.body ∙ ap (λ t. t.body) c.deref_mut.ensures.value))
     (ap (λ t. t.log.task) c.deref_mut-2.ensures.value ∙ (c.child.ensures.task ∙ ap (λ t. t.log.task) c.deref_mut.ensures.value))
-    (ap (λ t. t.fronts) c.deref_mut-2.ensures.value ∙ (c.child.ensures.fronts ∙ ap (λ t. t.fronts) c.deref_mut.ensures.value)) c.requires.says
+    (ap (λ t. t.fronts) c.deref_mut-2.ensures.value ∙ (c.child.ensures.fronts ∙ ap (λ t. t.fronts) c.deref_mut.ensures.value))
+    (ap (λ t. t.standing) c.deref_mut-2.ensures.value ∙ (c.child.ensures.standing ∙ ap (λ t. t.standing) c.deref_mut.ensures.value))
+    (ap (λ t. t.log.log) c.deref_mut-2.ensures.value ∙ (ap (λ d. d.log) c.child.ensures.log ∙ ap (λ t. t.log.log) c.deref_mut.ensures.value))
+    (asks_to_spawn g.B.Body.shows old.body old.log.task child c.args.pairs (seen_by old.fronts old.standing old.log.log) c.requires.says)
 
 pub returns-in_default : goal.returns-in_default
 returns-in_default g c =

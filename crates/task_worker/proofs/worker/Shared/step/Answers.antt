@@ -1,21 +1,25 @@
-use Rattle.std.proofs.Common.{ℕ, Result, subst, ap, ◌∙◌}
+use Rattle.std.proofs.Common.{ℕ, None, Result, sym, subst, ap, ◌∙◌}
 use Rattle.phase_modes.specs.declared.refusal.Refusal.{Refusal}
 use Rattle.job_script.specs.declared.act.Act.{Act}
 use Rattle.table_receipts.specs.Seen.{story_at}
-use Rattle.tasks_in_flight.specs.Heard.{nothing, asked_by, IsSpawned}
+use Rattle.tasks_in_flight.specs.Heard.{nothing, at_start, asked_by, IsSpawned}
+use Rattle.tasks_in_flight.specs.inner.Ready.{IsDue, seen_by}
 use Rattle.task_worker.proofs.Driven.{acts_as, gave_up}
 use Rattle.task_worker.proofs.worker.Shared.step.Goals as goal
+
+pub next_act-act-requires-clause-due : goal.next_act-act-requires-clause-due
+next_act-act-requires-clause-due g c = subst (λ (t : _). IsDue None t.standing) (sym c.deref_mut.ensures.value) c.requires
 
 pub act-requires-clause-says : goal.act-requires-clause-says
 act-requires-clause-says g c =
     let new = c.next_act-act.new.self in
-    subst (λ (a : Result (Act g.row.B.Denot) Refusal). ∥ (g.K.Supposing.supposed → g.B.Body.shows new.body new.log.task (asked_by a) (λ n. story_at new.fronts n)) ∥₁)
+    subst (λ (a : Result (Act g.row.B.Denot) Refusal). ∥ (g.K.Supposing.supposed → g.B.Body.shows new.body new.log.task (asked_by a) (seen_by new.fronts new.standing new.log.log)) ∥₁)
     c.in-Ok.is c.in-Some.ensures.says
 
 pub act-requires-clause-child : goal.act-requires-clause-child
 act-requires-clause-child g c =
     let new = c.next_act-act.new.self in
-    subst (λ (a : Result (Act g.row.B.Denot) Refusal). (child : g.row.B.Denot) (its : ℕ) → IsSpawned child a → ∥ (g.K.Supposing.supposed → g.B.Body.shows child its nothing (λ n. story_at new.fronts n)) ∥₁)
+    subst (λ (a : Result (Act g.row.B.Denot) Refusal). (child : g.row.B.Denot) (its : ℕ) → IsSpawned child a → ∥ (g.K.Supposing.supposed → g.B.Body.shows child its nothing (at_start (λ n. story_at new.fronts n))) ∥₁)
     c.in-Ok.is c.in-Some.ensures.child
 
 pub returns-in-Ok-clause-acted : goal.returns-in-Ok-clause-acted

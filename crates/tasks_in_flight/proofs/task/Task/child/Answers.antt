@@ -1,20 +1,24 @@
-use Rattle.std.proofs.Common.{refl}
+use Rattle.std.proofs.Common.{List, refl, sym, subst}
+use Rattle.table_receipts.specs.Logs.{Sight}
 use Rattle.table_receipts.specs.Seen.{story_at}
-use Rattle.tasks_in_flight.specs.Heard.{nothing, ends}
-use Rattle.tasks_in_flight.proofs.Saying.{says_there, ready_kept, says_kept}
+use Rattle.tasks_in_flight.specs.Heard.{nothing, at_start, ends}
+use Rattle.tasks_in_flight.specs.inner.Ready.{Says, IsReady, seen_by}
+use Rattle.tasks_in_flight.proofs.Saying.{says_seen}
 use Rattle.tasks_in_flight.proofs.task.Task.child.Goals as goal
 
 pub new-requires-clause-says : goal.new-requires-clause-says
 new-requires-clause-says g c =
-    says_there g.B.Body.shows c.args.body c.args.number nothing (λ n. story_at c.args.self.now.fronts n) (λ n. story_at c.in_ok-fronts.fronts n)
-    c.in_ok-fronts.ensures.each c.requires.says
+    says_seen g.B.Body.shows c.args.body c.args.number nothing (at_start (λ n. story_at c.args.self.now.fronts n)) (at_start (λ n. story_at c.in_ok-fronts.fronts n))
+    (λ n. c.in_ok-fronts.ensures.each n) refl c.requires.says
 
 pub invariant_of-self-clause-ready : goal.invariant_of-self-clause-ready
 invariant_of-self-clause-ready g c =
     let old = c.args.self.now in
-    ready_kept g.B.Body.shows old.body old.body old.log.task old.log.task old.answer old.fronts c.again.new.self refl refl c.again.ensures.same old.ready
+    subst (λ (fronts : List Sight). ∥ (g.K.Supposing.supposed → IsReady g.B.Body.shows old.body old.log.task old.standing.plan old.answer (seen_by fronts old.standing old.log.log)) ∥₁)
+    (sym c.again.ensures.same) old.ready
 
 pub invariant_of-self-clause-end : goal.invariant_of-self-clause-end
 invariant_of-self-clause-end g c = λ ended.
     let old = c.args.self.now in
-    says_kept g.B.Body.shows old.body old.body old.log.task old.log.task ends old.fronts c.again.new.self refl refl c.again.ensures.same (old.end ended)
+    subst (λ (fronts : List Sight). ∥ (g.K.Supposing.supposed → Says g.B.Body.shows old.body old.log.task ends (seen_by fronts old.standing old.log.log)) ∥₁)
+    (sym c.again.ensures.same) (old.end ended)

@@ -1,37 +1,43 @@
-use Rattle.std.proofs.Common.{ℕ, Option, None, sym, subst, ◌∙◌}
+use Rattle.std.proofs.Common.{ℕ, Option, sym, subst, ◌∙◌}
 use Rattle.std.proofs.lemmas.Bool.{true≢false}
-use Rattle.phase_model.specs.Rules.{Story}
 use Rattle.job_script.specs.declared.act.Answer.{Answer}
-use Rattle.table_receipts.specs.Seen.{story_at}
-use Rattle.tasks_in_flight.specs.Heard.{nothing, asked_by}
-use Rattle.tasks_in_flight.specs.inner.Ready.{IsReady}
-use Rattle.tasks_in_flight.proofs.Saying.{ready_now, shows_next}
+use Rattle.std.proofs.Common.{None}
+use Rattle.tasks_in_flight.specs.Heard.{nothing, at_start, asked_by}
+use Rattle.tasks_in_flight.specs.inner.Ready.{IsReady, seen_by}
+use Rattle.tasks_in_flight.proofs.OnTheWay.{is_answered, sees_itself}
+use Rattle.tasks_in_flight.proofs.Saying.{ready_since, after_step}
 use Rattle.tasks_in_flight.proofs.task.Task.next_act.Goals as goal
 
 pub returns-clause-says : goal.returns-clause-says
 returns-clause-says g c =
     let old = c.args.self.now in
-    let now : ℕ → Story = λ n. story_at old.fronts n in
-    shows_next g.B.Body.shows old.body c.step.new.self old.log.task old.log.task (asked_by c.step.result) c.in-Some.answer now
-    (c.step.ensures.shows old.log.task)
-    (subst (λ (a : Option Answer). ∥ (g.K.Supposing.supposed → IsReady g.B.Body.shows old.body old.log.task a now) ∥₁) c.in-Some.is old.ready)
+    let k = old.standing in
+    let now = seen_by old.fronts k old.log.log in
+    after_step g.B.Body.shows (g.B.Body.shows c.step.new.self old.log.task (asked_by c.step.result) now) old.body old.log.task k.plan c.in-Some.answer now
+    (λ asked seen goes is. is_answered old.log.task seen k now.stories now.log goes.0 asked c.in-Some.answer c.requires.due is)
+    (λ asked seen shows heard. c.step.ensures.shows old.log.task asked seen now shows heard)
+    (subst (λ (a : Option Answer). ∥ (g.K.Supposing.supposed → IsReady g.B.Body.shows old.body old.log.task k.plan a now) ∥₁) c.in-Some.is old.ready)
 
 pub invariant_of-self-clause-ready : goal.invariant_of-self-clause-ready
 invariant_of-self-clause-ready g c =
     let old = c.args.self.now in
-    let now : ℕ → Story = λ n. story_at old.fronts n in
-    ready_now g.B.Body.shows c.step.new.self old.log.task (asked_by c.step.result) None now tt
-    (shows_next g.B.Body.shows old.body c.step.new.self old.log.task old.log.task (asked_by c.step.result) c.in-Some.answer now
-    (c.step.ensures.shows old.log.task)
-    (subst (λ (a : Option Answer). ∥ (g.K.Supposing.supposed → IsReady g.B.Body.shows old.body old.log.task a now) ∥₁) c.in-Some.is old.ready))
+    let k = old.standing in
+    let now = seen_by old.fronts k old.log.log in
+    ready_since g.B.Body.shows c.step.new.self old.log.task k.plan (asked_by c.step.result) None now now (sees_itself now) tt
+    (after_step g.B.Body.shows (g.B.Body.shows c.step.new.self old.log.task (asked_by c.step.result) now) old.body old.log.task k.plan c.in-Some.answer now
+    (λ asked seen goes is. is_answered old.log.task seen k now.stories now.log goes.0 asked c.in-Some.answer c.requires.due is)
+    (λ asked seen shows heard. c.step.ensures.shows old.log.task asked seen now shows heard)
+    (subst (λ (a : Option Answer). ∥ (g.K.Supposing.supposed → IsReady g.B.Body.shows old.body old.log.task k.plan a now) ∥₁) c.in-Some.is old.ready))
 
 pub returns-clause-child : goal.returns-clause-child
 returns-clause-child g c = λ child its spawned.
     let old = c.args.self.now in
-    let now : ℕ → Story = λ n. story_at old.fronts n in
-    shows_next g.B.Body.shows old.body child old.log.task its nothing c.in-Some.answer now
-    (λ asked seen new shows heard. c.step.ensures.child old.log.task asked seen new shows heard child its spawned)
-    (subst (λ (a : Option Answer). ∥ (g.K.Supposing.supposed → IsReady g.B.Body.shows old.body old.log.task a now) ∥₁) c.in-Some.is old.ready)
+    let k = old.standing in
+    let now = seen_by old.fronts k old.log.log in
+    after_step g.B.Body.shows (g.B.Body.shows child its nothing (at_start now.stories)) old.body old.log.task k.plan c.in-Some.answer now
+    (λ asked seen goes is. is_answered old.log.task seen k now.stories now.log goes.0 asked c.in-Some.answer c.requires.due is)
+    (λ asked seen shows heard. c.step.ensures.child old.log.task asked seen now shows heard child its spawned)
+    (subst (λ (a : Option Answer). ∥ (g.K.Supposing.supposed → IsReady g.B.Body.shows old.body old.log.task k.plan a now) ∥₁) c.in-Some.is old.ready)
 
 pub invariant_of-self-clause-end : goal.invariant_of-self-clause-end
 invariant_of-self-clause-end g c = λ ended. absurd (true≢false (sym ended ∙ c.requires.goes_on))
