@@ -2,7 +2,23 @@
 use std::error::Error;
 use std::fmt;
 
-/// What a task may do on a phaser.
+/// What a task may do on a phaser. A task has another join in a mode that does no more than its own.
+///
+/// ```
+/// use paldwosk::{Mode, Phaser, Refusal};
+///
+/// # fn main() -> Result<(), Refusal> {
+/// let mut maker = Phaser::new(2, &[])?.make(Mode::SigWait)?;
+/// let mut producer = maker.join(Mode::Sig)?;
+/// let mut consumer = maker.join(Mode::Wait)?;
+/// maker.leave();
+/// producer.signal()?; // waits for no consumer, up to the bound
+/// assert_eq!(consumer.wait()?, 0);
+/// assert_eq!(consumer.signal(), Err(Refusal::NoSignal));
+/// assert_eq!(consumer.join(Mode::SigWait).err(), Some(Refusal::MoreThanParent));
+/// # Ok(())
+/// # }
+/// ```
 #[derive(Clone, Copy, Debug, PartialEq, Eq)]
 pub enum Mode {
     /// Signals, and waits for nobody.
@@ -16,6 +32,21 @@ pub enum Mode {
 }
 
 /// How an accumulator folds the values of a phase.
+///
+/// ```
+/// use paldwosk::{Look, Mode, Operator, Phaser, Refusal};
+///
+/// # fn main() -> Result<(), Refusal> {
+/// let mut task = Phaser::new(2, &[Operator::Sum, Operator::Greatest])?.make(Mode::SigWait)?;
+/// for value in [3, 5] {
+///     task.send(0, value)?;
+///     task.send(1, value)?;
+/// }
+/// task.next()?;
+/// assert_eq!([task.look(0)?, task.look(1)?], [Look::Value(3 + 5), Look::Value(5)]);
+/// # Ok(())
+/// # }
+/// ```
 #[derive(Clone, Copy, Debug, PartialEq, Eq)]
 pub enum Operator {
     /// Their sum, 0 for none.
@@ -26,7 +57,22 @@ pub enum Operator {
     Greatest = 2,
 }
 
-/// How a `signal` of a `PhaserState` ended.
+/// How a [`signal`](crate::PhaserState::signal) of a `PhaserState` ended.
+///
+/// ```
+/// use paldwosk::{Limits, Mode, Passing, PhaserState, Refusal, Signalling};
+///
+/// # fn main() -> Result<(), Refusal> {
+/// let mut phaser = PhaserState::new(Limits::default(), &[], Some(1))?;
+/// phaser.make(0, Mode::SigWait)?;
+/// phaser.register(0, 1, Mode::Sig)?;
+/// assert_eq!(phaser.signal(1, None)?, Signalling::Signalled);
+/// assert_eq!(phaser.pass(1)?, Passing::Passed(0));
+/// assert_eq!(phaser.signal(1, None)?, Signalling::NotYet); // by the bound task 0 has to end its turn first
+/// # Ok(())
+/// # }
+/// ```
+#[must_use = "on `NotYet` nothing was signalled: ask again after another task's call"]
 #[derive(Clone, Copy, Debug, PartialEq, Eq)]
 pub enum Signalling {
     /// The task has signalled its phase.
@@ -35,7 +81,25 @@ pub enum Signalling {
     NotYet,
 }
 
-/// How a `pass` of a `PhaserState` ended.
+/// How a [`pass`](crate::PhaserState::pass) of a `PhaserState` ended.
+///
+/// ```
+/// use paldwosk::{Limits, Mode, Passing, PhaserState, Refusal, Signalling};
+///
+/// # fn main() -> Result<(), Refusal> {
+/// let mut phaser = PhaserState::new(Limits::default(), &[], None)?;
+/// phaser.make(0, Mode::Single)?;
+/// phaser.register(0, 1, Mode::SigWait)?;
+/// assert_eq!(phaser.signal(0, Some(7))?, Signalling::Signalled);
+/// assert_eq!(phaser.pass(0)?, Passing::NotYet); // task 1 hasn't signalled
+/// assert_eq!(phaser.signal(1, None)?, Signalling::Signalled);
+/// assert_eq!(phaser.pass(0)?, Passing::Claimed(7));
+/// phaser.single_done(0)?;
+/// assert_eq!(phaser.pass(0)?, Passing::Passed(0));
+/// # Ok(())
+/// # }
+/// ```
+#[must_use = "on `NotYet` the turn isn't ended: ask again; on `Claimed` run the single and report it done"]
 #[derive(Clone, Copy, Debug, PartialEq, Eq)]
 pub enum Passing {
     /// The turn of this phase is ended.
@@ -47,6 +111,18 @@ pub enum Passing {
 }
 
 /// What is seen of an accumulator.
+///
+/// ```
+/// use paldwosk::{Look, Mode, Operator, Phaser, Refusal};
+///
+/// # fn main() -> Result<(), Refusal> {
+/// let mut task = Phaser::new(2, &[Operator::Sum, Operator::Least])?.make(Mode::SigWait)?;
+/// task.next()?; // a phase in which nobody sends
+/// assert_eq!([task.look(0)?, task.look(1)?], [Look::Value(0), Look::Nothing]);
+/// # Ok(())
+/// # }
+/// ```
+#[must_use = "a look changes nothing: it is made for what it sees"]
 #[derive(Clone, Copy, Debug, PartialEq, Eq)]
 pub enum Look {
     /// The fold.
@@ -55,91 +131,72 @@ pub enum Look {
     Nothing,
 }
 
-/// Why a call was refused. It changed nothing. `docs/rules.md` has the rules.
-#[derive(Clone, Copy, Debug, PartialEq, Eq)]
-#[non_exhaustive]
-pub enum Refusal {
-    /// The task isn't registered on the phaser.
-    NotRegistered = 1,
-    /// Its mode can't signal.
-    NoSignal = 2,
-    /// Its mode can't wait.
-    NoWait = 3,
-    /// Its mode isn't `Single`.
-    NoSingle = 4,
-    /// It has signalled since its last turn.
-    AlreadySignalled = 5,
-    /// It can signal, and hasn't done so since its last turn.
-    NotSignalled = 6,
-    /// Another number is proposed in this phase.
-    SingleMismatch = 7,
-    /// The phaser has no accumulator of that index.
-    NoAccumulator = 9,
-    /// The reader has ended no turn yet.
-    NoPhaseYet = 10,
-    /// The child's mode isn't within the parent's.
-    MoreThanParent = 11,
-    /// The child was registered there before.
-    RegisteredTwice = 13,
-    /// Registrations at once are at the limit.
-    RegsFull = 14,
-    /// The history has no room for the event.
-    HistoryFull = 15,
-    /// The task number is at the limit.
-    TasksFull = 17,
-    /// The wrong moment.
-    NotNow = 22,
-    /// Memory was refused.
-    Memory = 23,
-    /// The fold isn't within an `i64`: it takes 2^32 values in one phase.
-    TooGreat = 36,
-    /// A limit isn't between its least and its greatest.
-    BadLimits = 69,
-    /// There are more than four operators.
-    BadOperators = 70,
-    /// The bound is 0 or over 65,536.
-    BadBound = 71,
-    /// There aren't as many tickets as events.
-    BadTickets = 72,
+/// The refusals, each with its name, its number, and the sentences that its page and its text have of it.
+macro_rules! refusals {
+    ($($name:ident = $number:literal, $meaning:literal;)+) => {
+        /// Why a call was refused. It changed nothing. `docs/rules.md` of the repository has the rules.
+        ///
+        /// Its text says what it means and what to do:
+        ///
+        /// ```
+        /// use paldwosk::{Phaser, Refusal};
+        ///
+        /// let refusal = Phaser::new(0, &[]).unwrap_err();
+        /// assert_eq!(refusal, Refusal::BadBound);
+        /// let text = "refused 71 BadBound: The bound is 0 or over 65,536. Take one of 1 to 65,536 phases.";
+        /// assert_eq!(refusal.to_string(), text);
+        /// ```
+        #[derive(Clone, Copy, Debug, PartialEq, Eq)]
+        #[non_exhaustive]
+        pub enum Refusal {
+            $(#[doc = $meaning] $name = $number,)+
+        }
+
+        impl Refusal {
+            /// The refusal of this number. The archive's contracts have no other for one phaser.
+            pub(crate) fn of(number: u32) -> Refusal {
+                match number {
+                    $($number => Refusal::$name,)+
+                    _ => unreachable!("the archive answered {number}, which it doesn't answer by its contract"),
+                }
+            }
+
+            fn meaning(self) -> &'static str {
+                match self {
+                    $(Refusal::$name => $meaning,)+
+                }
+            }
+        }
+    };
 }
 
-const REFUSALS: [Refusal; 21] = [
-    Refusal::NotRegistered,
-    Refusal::NoSignal,
-    Refusal::NoWait,
-    Refusal::NoSingle,
-    Refusal::AlreadySignalled,
-    Refusal::NotSignalled,
-    Refusal::SingleMismatch,
-    Refusal::NoAccumulator,
-    Refusal::NoPhaseYet,
-    Refusal::MoreThanParent,
-    Refusal::RegisteredTwice,
-    Refusal::RegsFull,
-    Refusal::HistoryFull,
-    Refusal::TasksFull,
-    Refusal::NotNow,
-    Refusal::Memory,
-    Refusal::TooGreat,
-    Refusal::BadLimits,
-    Refusal::BadOperators,
-    Refusal::BadBound,
-    Refusal::BadTickets,
-];
-
-impl Refusal {
-    /// The refusal of this number. The archive's contracts have no other for one phaser.
-    pub(crate) fn of(number: u32) -> Refusal {
-        match REFUSALS.into_iter().find(|it| *it as u32 == number) {
-            Some(refusal) => refusal,
-            None => unreachable!("the archive answered {number}, which it doesn't answer by its contract"),
-        }
-    }
+refusals! {
+    NotRegistered = 1, "The task isn't registered on the phaser. Register it first; once it has left, make no call for it.";
+    NoSignal = 2, "The task's mode can't signal. Take `Sig`, `SigWait` or `Single` for it, or only wait.";
+    NoWait = 3, "The task's mode can't wait, so it can't look either. Take `Wait`, `SigWait` or `Single` for it.";
+    NoSingle = 4, "The task's mode isn't `Single`. Take that mode for it, or propose no single.";
+    AlreadySignalled = 5, "The task has signalled since its last turn. End the turn before you signal again.";
+    NotSignalled = 6, "The task can signal, and hasn't done so since its last turn. Signal before you end the turn.";
+    SingleMismatch = 7, "Another number is proposed in this phase. Propose the same one by all tasks.";
+    NoAccumulator = 9, "The phaser has no accumulator of that index. The first of its operators has index 0.";
+    NoPhaseYet = 10, "The task has ended no turn yet. Look after its first turn.";
+    MoreThanParent = 11, "The child's mode isn't within the parent's. Take one that does less, or another parent.";
+    RegisteredTwice = 13, "The child was registered there before. Take a number that no task has or had.";
+    RegsFull = 14, "Registrations at once are at the limit, which is 256 at most. Let another task leave first.";
+    HistoryFull = 15, "The history has no room for the event. Begin anew, with a greater limit `history` if there is one.";
+    TasksFull = 17, "The task number is at the limit. Take a smaller number, or a greater limit `tasks`.";
+    NotNow = 22, "The wrong moment. Make a phaser once, report a claimed single once, and leave after a proposed one is done.";
+    Memory = 23, "Memory was refused. Take a smaller bound or smaller limits, or free some.";
+    TooGreat = 36, "The fold isn't within an `i64`: it takes 2^32 values in one phase. Go on without it, or send fewer.";
+    BadLimits = 69, "A limit isn't between its least and its greatest. Take each from the range on the page of `Limits`.";
+    BadOperators = 70, "There are more than four operators. Take at most four.";
+    BadBound = 71, "The bound is 0 or over 65,536. Take one of 1 to 65,536 phases.";
+    BadTickets = 72, "There aren't as many tickets as events. Give one for each that `event_count` counts.";
 }
 
 impl fmt::Display for Refusal {
     fn fmt(&self, f: &mut fmt::Formatter<'_>) -> fmt::Result {
-        write!(f, "refused {} {self:?}", *self as u32)
+        write!(f, "refused {} {self:?}: {}", *self as u32, self.meaning())
     }
 }
 

@@ -22,6 +22,7 @@ use std::sync::{Mutex, MutexGuard, PoisonError};
 /// });
 /// assert_eq!(leaders, 1);
 /// ```
+#[must_use = "threads meet at a barrier by calling `wait`"]
 pub struct Barrier {
     meeting: Mutex<Meeting>,
     /// Its word is twice the number of the generation; one more if a thread sleeps, and has to be woken. It goes round, after
@@ -41,6 +42,11 @@ const SLEEPERS: u32 = 1;
 const GENERATION: u32 = 2;
 
 /// What [`Barrier::wait`] returns.
+///
+/// ```
+/// let result = paldwosk::Barrier::new(1).wait();
+/// assert!(result.is_leader()); // nobody else comes
+/// ```
 #[derive(Debug)]
 pub struct BarrierWaitResult {
     is_leader: bool,
@@ -70,7 +76,6 @@ impl Barrier {
     /// # Panics
     ///
     /// For more than 256 threads, and if there is no memory.
-    #[must_use]
     pub fn new(threads: usize) -> Barrier {
         let threads = threads.max(1);
         assert!(threads <= 256, "a paldwosk::Barrier has room for 256 threads, and {threads} are asked for");

@@ -4,6 +4,12 @@ use std::error::Error;
 use std::fmt;
 
 /// A text was refused, or memory for it.
+///
+/// ```
+/// let refused = paldwosk::replay(b"no trace").unwrap_err();
+/// assert_eq!(refused.line, "refused 24 BadText at 0\n"); // the first byte is at fault
+/// assert_eq!(refused.to_string(), "refused 24 BadText at 0");
+/// ```
 #[derive(Clone, PartialEq, Eq)]
 pub struct Refused {
     /// The line of the refusal, with its newline, as `refused 25 NotExplained at 7`.
@@ -46,11 +52,24 @@ fn check(function: Check, text: &[u8], room: usize) -> Result<String, Refused> {
 }
 
 /// Replays the text of a trace: makes its events again, one by one. Returns the lines of the report, if they are a run.
+///
+/// ```
+/// let trace = r#"{"events":[[1,"p",0,"make",0,"SIG_WAIT",[]],[2,"t",0,"begin",["next"]],[3,"p",0,"sig",0],
+///   [4,"p",0,"pass",0],[5,"t",0,"begin",["end"]],[6,"p",0,"drop",0],[7,"f",0,"shut"]],"limits":{"acts":4096,
+///   "finishes":64,"history":4096,"phasers":64,"regs":256,"tasks":256},"version":1}"#;
+/// let report = paldwosk::replay(trace.as_bytes()).unwrap();
+/// assert!(report.starts_with("phaser 0 phases 1\ntask 0 ended\n"));
+/// ```
 pub fn replay(trace: &[u8]) -> Result<String, Refused> {
     check(phaser_c_replay, trace, 4096)
 }
 
 /// Answers an events file: makes its calls on one phaser. The line of each reply.
+///
+/// ```
+/// let file = br#"{"accs":["sum"],"calls":[["make",0,"SIG_WAIT"],["send",0,0,1],["look",0,0]]}"#;
+/// assert_eq!(paldwosk::events(file).unwrap(), "ok\nok\nrefused 10 NoPhaseYet\n");
+/// ```
 pub fn events(file: &[u8]) -> Result<String, Refused> {
     check(phaser_c_events, file, 4096)
 }

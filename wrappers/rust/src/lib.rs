@@ -3,15 +3,16 @@
 //!
 //! - [`Phaser`] and its [`Task`]s: a barrier whose set of tasks may change, with modes, a bound, accumulators and single
 //!   statements. Its calls wait, and it lives as long as its program. It may leave a trace.
+//! - [`Scope`]: threads with a task each, which [`Phaser::scope`] starts and joins.
 //! - [`Barrier`]: the same in the form of `std::sync::Barrier`.
 //! - [`PhaserState`]: a phaser for one thread at a time, which keeps its history; no call waits.
 //! - [`replay`] and [`events`]: the checker.
 //!
-//! The rules stand in `docs/rules.md`, what is asked of `malloc` in `docs/barrier.md`.
+//! In the repository `docs/rules.md` has the rules, and `docs/barrier.md` what is asked of `malloc`.
 //!
 //! # What is proved, and what isn't
 //!
-//! The crate links the archive of `crates/phaser_c`. Its exports are proved to answer what the library's calls answer. For
+//! The crate links the static library of Paldwosk. Its exports are proved to answer what the library's calls answer. For
 //! threads that wait that is: what a call is answered, which tasks it frees and with which answer, and that each task that
 //! stays parked still has to wait. So no task is forgotten.
 //!
@@ -27,6 +28,7 @@ mod bell;
 mod checker;
 mod phaser;
 mod phaser_state;
+mod scope;
 mod seats;
 mod shared;
 mod spins;
@@ -38,3 +40,4 @@ pub use barrier::{Barrier, BarrierWaitResult};
 pub use checker::{events, replay, Refused};
 pub use phaser::{Phaser, Task};
 pub use phaser_state::{Limits, PhaserState};
+pub use scope::{Scope, ScopedThread};

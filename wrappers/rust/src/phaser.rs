@@ -11,6 +11,7 @@ use std::sync::Arc;
 /// Each thread takes part with a [`Task`] of its own. [`make`](Phaser::make) makes the first, and [`join`](Task::join) of a
 /// task makes another, which begins where that task stands. A task goes on when every task that signals has signalled. A task
 /// leaves when it is dropped. The thread that makes the phaser takes part in it, or drops its task once the others have joined.
+/// [`scope`](Phaser::scope) does that by itself.
 ///
 /// ```
 /// use paldwosk::{Look, Mode, Operator, Phaser, Refusal};
@@ -38,6 +39,7 @@ use std::sync::Arc;
 ///     Ok(())
 /// }
 /// ```
+#[must_use = "threads take part in a phaser by tasks: call `make` or `scope`"]
 pub struct Phaser {
     shared: Arc<Shared>,
 }
@@ -73,7 +75,7 @@ impl Phaser {
     /// Makes the phaser: its first task, in this mode, in phase 0. `NotNow` if it was made before.
     pub fn make(&self, mode: Mode) -> Result<Task, Refusal> {
         let place = self.shared.make(mode)?;
-        Ok(Task { shared: self.shared.clone(), place })
+        Ok(Task { shared: self.shared.clone(), place, mode, phase: 0 })
     }
 
     /// The text of the run so far, as a whole run: the maker is task 0, the root, which makes phaser 0, and each task that
@@ -121,37 +123,93 @@ impl fmt::Debug for Phaser {
 ///
 /// A call that is refused changes nothing. Only a `next` or `single` whose pass is refused has signalled.
 /// `HistoryFull` comes after 2^62 events.
+///
+/// ```
+/// use paldwosk::{Mode, Phaser, Refusal};
+///
+/// # fn main() -> Result<(), Refusal> {
+/// let mut maker = Phaser::new(2, &[])?.make(Mode::SigWait)?;
+/// let mut child = maker.join(Mode::SigWait)?;
+/// child.signal()?; // goes on at once
+/// assert_eq!(maker.next()?, 0); // the child has signalled: nobody else is waited for
+/// assert_eq!(child.wait()?, 0);
+/// child.leave();
+/// assert_eq!(maker.next()?, 1);
+/// # Ok(())
+/// # }
+/// ```
+#[must_use = "a task that is dropped leaves its phaser at once"]
 pub struct Task {
     shared: Arc<Shared>,
     place: Place,
-}
-
-/// The phase that was passed. A task that proposed no single claims none.
-fn phase(ended: Ended) -> u64 {
-    match ended {
-        Ended::Done(phase) => phase,
-        Ended::Claimed => unreachable!("a task claims a single that it didn't propose"),
-    }
+    mode: Mode,
+    phase: u64,
 }
 
 impl Task {
     /// The number of the task. No other task of the phaser has it or had it.
+    #[must_use]
     pub fn number(&self) -> u64 {
         self.place.task
+    }
+
+    /// The mode in which the task was made or joined. It stays the same.
+    ///
+    /// ```
+    /// # use paldwosk::{Mode, Phaser, Refusal};
+    /// # fn main() -> Result<(), Refusal> {
+    /// let mut maker = Phaser::new(2, &[])?.make(Mode::SigWait)?;
+    /// let producer = maker.join(Mode::Sig)?;
+    /// assert_eq!([maker.mode(), producer.mode()], [Mode::SigWait, Mode::Sig]);
+    /// # Ok(())
+    /// # }
+    /// ```
+    #[must_use]
+    pub fn mode(&self) -> Mode {
+        self.mode
+    }
+
+    /// The phase that the task is in, from 0: the one that it passes next. It rises by one with each turn that the task ends,
+    /// and not with a signal alone. A task that joins begins with its parent's.
+    ///
+    /// ```
+    /// # use paldwosk::{Mode, Phaser, Refusal};
+    /// # fn main() -> Result<(), Refusal> {
+    /// let mut maker = Phaser::new(2, &[])?.make(Mode::SigWait)?;
+    /// assert_eq!(maker.phase(), 0);
+    /// assert_eq!(maker.next()?, 0);
+    /// assert_eq!([maker.phase(), maker.join(Mode::Sig)?.phase()], [1, 1]);
+    /// # Ok(())
+    /// # }
+    /// ```
+    #[must_use]
+    pub fn phase(&self) -> u64 {
+        self.phase
+    }
+
+    /// The task has ended a turn, and goes on with the phase after it. A task that proposed no single claims none.
+    fn passed(&mut self, ended: Ended) -> u64 {
+        match ended {
+            Ended::Done(phase) => {
+                self.phase = phase + 1;
+                phase
+            }
+            Ended::Claimed => unreachable!("a task claims a single that it didn't propose"),
+        }
     }
 
     /// A new task, in a mode within this one's. It begins where this one stands: in its phase, and with its signal if it has
     /// signalled. `MoreThanParent`, `RegsFull` if there are 256 tasks, `HistoryFull`.
     pub fn join(&mut self, mode: Mode) -> Result<Task, Refusal> {
         let place = self.shared.join(self.place, mode)?;
-        Ok(Task { shared: self.shared.clone(), place })
+        Ok(Task { shared: self.shared.clone(), place, mode, phase: self.phase })
     }
 
     /// Signals, and waits until every task that signals has signalled: the end of a turn, as at a barrier. Returns the phase
     /// that it passed. A task that only signals waits for the bound alone. `NoSignal`, `AlreadySignalled`, `HistoryFull`.
     #[allow(clippy::should_implement_trait)] // a phaser's own word, and no iterator's
     pub fn next(&mut self) -> Result<u64, Refusal> {
-        self.shared.turn(self.place, None).map(phase)
+        self.shared.turn(self.place, None).map(|ended| self.passed(ended))
     }
 
     /// Signals its phase, and goes on. It waits for the bound alone. `NoSignal`, `AlreadySignalled`, `HistoryFull`.
@@ -162,7 +220,7 @@ impl Task {
     /// Waits until every task that signals, itself first, has signalled the phase. Returns the phase that it passed. A task
     /// that only signals doesn't wait, and ends its turn. `NotSignalled`, `HistoryFull`.
     pub fn wait(&mut self) -> Result<u64, Refusal> {
-        self.shared.call(self.place, Call::Pass).map(phase)
+        self.shared.call(self.place, Call::Pass).map(|ended| self.passed(ended))
     }
 
     /// Signals, proposes the statement of this number, and waits. One of the tasks that propose it runs its statement, alone,
@@ -173,15 +231,15 @@ impl Task {
     /// ends as if it were done: the others go on, and aren't told.
     pub fn single(&mut self, number: u32, statement: impl FnOnce()) -> Result<u64, Refusal> {
         match self.shared.turn(self.place, Some(number))? {
-            Ended::Done(phase) => Ok(phase),
             Ended::Claimed => {
                 let mut reported = Err(Refusal::NotNow);
                 {
                     let _claim = Claim { task: self, reported: &mut reported };
                     statement();
                 }
-                reported.map(phase)
+                reported
             }
+            ended => Ok(self.passed(ended)),
         }
     }
 
@@ -220,11 +278,11 @@ impl Drop for Task {
 /// A claimed single whose statement runs. Its end reports it done, also if it panics: else no task would go on.
 struct Claim<'a> {
     task: &'a mut Task,
-    reported: &'a mut Result<Ended, Refusal>,
+    reported: &'a mut Result<u64, Refusal>,
 }
 
 impl Drop for Claim<'_> {
     fn drop(&mut self) {
-        *self.reported = self.task.shared.report(self.task.place);
+        *self.reported = self.task.shared.report(self.task.place).map(|ended| self.task.passed(ended));
     }
 }

@@ -4,6 +4,18 @@ use crate::archive::*;
 use std::ptr::null_mut;
 
 /// How much a run may have of each thing. A phaser alone looks at `history`, `regs` and `tasks`.
+///
+/// ```
+/// use paldwosk::{Limits, Mode, PhaserState, Refusal};
+///
+/// # fn main() -> Result<(), Refusal> {
+/// let limits = Limits { regs: 1, ..Limits::default() };
+/// let mut phaser = PhaserState::new(limits, &[], None)?;
+/// phaser.make(0, Mode::SigWait)?;
+/// assert_eq!(phaser.register(0, 1, Mode::SigWait), Err(Refusal::RegsFull));
+/// # Ok(())
+/// # }
+/// ```
 #[derive(Clone, Copy, Debug, PartialEq, Eq)]
 pub struct Limits {
     /// Acts of a task: 1 to 65,536.
@@ -28,6 +40,23 @@ impl Default for Limits {
 
 /// A phaser for one thread at a time, which keeps its history. No call waits: on `NotYet` ask again after another task's
 /// call. Threads may share one behind a `Mutex`; the calls of [`Phaser`](crate::Phaser) wait.
+///
+/// ```
+/// use paldwosk::{Limits, Mode, Passing, PhaserState, Refusal, Signalling};
+///
+/// # fn main() -> Result<(), Refusal> {
+/// let mut phaser = PhaserState::new(Limits::default(), &[], None)?;
+/// phaser.make(0, Mode::SigWait)?;
+/// phaser.register(0, 1, Mode::SigWait)?;
+/// assert_eq!(phaser.signal(0, None)?, Signalling::Signalled);
+/// assert_eq!(phaser.pass(0)?, Passing::NotYet); // task 1 hasn't signalled
+/// assert_eq!(phaser.signal(1, None)?, Signalling::Signalled);
+/// assert_eq!(phaser.pass(0)?, Passing::Passed(0));
+/// assert_eq!(phaser.pass(1)?, Passing::Passed(0));
+/// # Ok(())
+/// # }
+/// ```
+#[must_use = "a phaser that is dropped is gone, with its history"]
 pub struct PhaserState {
     handle: Handle,
 }

@@ -159,6 +159,49 @@ fn child_begins_where_its_parent_stands() {
     });
 }
 
+#[test]
+fn task_knows_its_phase() {
+    in_time(|| {
+        let mut maker = maker(Mode::Single, &[]);
+        assert_eq!(maker.phase(), 0);
+        maker.signal().unwrap();
+        assert_eq!(maker.phase(), 0); // it has still to pass it
+        maker.wait().unwrap();
+        assert_eq!(maker.phase(), 1);
+        assert_eq!(maker.wait(), Err(Refusal::NotSignalled));
+        assert_eq!(maker.phase(), 1);
+        maker.next().unwrap();
+        maker.single(7, || ()).unwrap();
+        assert_eq!(maker.phase(), 3);
+        assert!(catch_unwind(AssertUnwindSafe(|| maker.single(7, || panic!("as it has to")))).is_err());
+        assert_eq!(maker.phase(), 4);
+        // The maker stays in phase 4, so who only signals goes ahead of it, and its child with it.
+        let mut ahead = maker.join(Mode::Sig).unwrap();
+        assert_eq!((ahead.phase(), ahead.next(), ahead.phase()), (4, Ok(4), 5));
+        assert_eq!((ahead.join(Mode::Sig).unwrap().phase(), maker.phase()), (5, 4));
+    });
+}
+
+/// Who waits for a single that another runs has ended its turn too.
+#[test]
+fn all_know_the_phase_after_a_single() {
+    in_time(|| {
+        let phases = together(tasks(maker(Mode::Single, &[]), Mode::Single, 3), |mut task| {
+            task.single(1, || ()).unwrap();
+            task.phase()
+        });
+        assert_eq!(phases, [1; 3]);
+    });
+}
+
+#[test]
+fn task_knows_its_mode() {
+    let mut maker = maker(Mode::Single, &[]);
+    let modes = [Mode::Sig, Mode::Wait, Mode::SigWait, Mode::Single];
+    assert_eq!(modes.map(|mode| maker.join(mode).unwrap().mode()), modes);
+    assert_eq!(maker.mode(), Mode::Single);
+}
+
 /// In each of 200 phases one of four runs the statement, before anybody goes on.
 #[test]
 fn single_runs_once_and_alone() {
@@ -298,8 +341,10 @@ fn refusal_comes_to_who_slept() {
 
 #[test]
 fn refusals_have_their_words() {
-    assert_eq!(Refusal::TooGreat.to_string(), "refused 36 TooGreat");
-    assert_eq!(Refusal::RegsFull.to_string(), "refused 14 RegsFull");
+    let text = "refused 14 RegsFull: Registrations at once are at the limit, which is 256 at most. Let another task leave first.";
+    assert_eq!(Refusal::RegsFull.to_string(), text);
+    let text = "refused 5 AlreadySignalled: The task has signalled since its last turn. End the turn before you signal again.";
+    assert_eq!(Refusal::AlreadySignalled.to_string(), text);
 }
 
 // ---- Who leaves, and who panics
@@ -377,6 +422,192 @@ fn phaser_outlives_its_makers_thread() {
         let mut child = given.recv().unwrap();
         assert!(thread.join().is_err());
         assert_eq!(child.next(), Ok(0));
+    });
+}
+
+// ---- Scopes
+
+/// Four threads send their number 1 to 4 times one more than the phase's, which comes to ten times that.
+#[test]
+fn scope_of_four_sums_each_phase() {
+    in_time(|| {
+        let (phaser, turns) = (Phaser::new(2, &[Operator::Sum]).unwrap(), AtomicU64::new(0));
+        let ended = phaser.scope(|scope| {
+            for value in 1..=4 {
+                let turns = &turns;
+                scope.spawn(Mode::SigWait, move |mut task| {
+                    for phase in 0..100 {
+                        task.send(0, value * (phase as i32 + 1)).unwrap();
+                        assert_eq!(task.next(), Ok(phase));
+                        assert_eq!(task.look(0), Ok(Look::Value(10 * (phase as i64 + 1))));
+                        turns.fetch_add(1, Relaxed);
+                    }
+                })?;
+            }
+            Ok("ended")
+        });
+        assert_eq!((ended, turns.into_inner()), (Ok("ended"), 400));
+    });
+}
+
+/// The thread of value 4 panics in phase 1, before it sends: the sums are 10, 6 and 6.
+#[test]
+fn panic_in_a_scope_holds_nobody_up() {
+    in_time(|| {
+        let phaser = Phaser::new(2, &[Operator::Sum]).unwrap();
+        let turns = |mut task: Task, value| {
+            [0, 1, 2].map(|phase| {
+                assert!((phase, value) != (1, 4), "as it has to");
+                task.send(0, value).unwrap();
+                assert_eq!(task.next(), Ok(phase));
+                task.look(0).unwrap()
+            })
+        };
+        let came_to = phaser.scope(|scope| {
+            let threads: Vec<_> = (1..=4)
+                .map(|value| scope.spawn(Mode::SigWait, move |task| turns(task, value)))
+                .collect::<Result<_, _>>()?;
+            Ok(threads.into_iter().map(|thread| thread.join().ok()).collect::<Vec<_>>())
+        });
+        let sums = Some([10, 6, 6].map(Look::Value));
+        assert_eq!(came_to, Ok(vec![sums, sums, sums, None]));
+    });
+}
+
+/// Nobody joins the one that panics, so the scope panics, after the others have ended.
+#[test]
+fn scope_panics_after_its_threads() {
+    in_time(|| {
+        let (phaser, phases) = (Phaser::new(2, &[]).unwrap(), AtomicU64::new(0));
+        let scope = || {
+            phaser.scope(|scope| {
+                scope.spawn(Mode::SigWait, |_task| panic!("as it has to"))?;
+                for _ in 0..2 {
+                    scope.spawn(Mode::SigWait, |mut task| {
+                        (0..3).for_each(|phase| assert_eq!(task.next(), Ok(phase)));
+                        phases.fetch_add(3, Relaxed);
+                    })?;
+                }
+                Ok(())
+            })
+        };
+        assert!(catch_unwind(AssertUnwindSafe(scope)).is_err());
+        assert_eq!(phases.into_inner(), 6);
+    });
+}
+
+/// The maker's task leaves by a panic of the body too, and by a refusal.
+#[test]
+fn scope_that_ends_early_joins_its_threads() {
+    in_time(|| {
+        let phases = AtomicU64::new(0);
+        let scope = |ends: fn() -> Result<(), Refusal>| {
+            Phaser::new(2, &[]).unwrap().scope(|scope| {
+                scope.spawn(Mode::SigWait, |mut task| {
+                    assert_eq!(task.next(), Ok(0));
+                    phases.fetch_add(1, Relaxed);
+                })?;
+                ends()
+            })
+        };
+        assert!(catch_unwind(AssertUnwindSafe(|| scope(|| panic!("as it has to")))).is_err());
+        assert_eq!(phases.load(Relaxed), 1);
+        assert_eq!(scope(|| Err(Refusal::Memory)), Err(Refusal::Memory));
+        assert_eq!(phases.load(Relaxed), 2);
+    });
+}
+
+/// The first thread would go on without the second, if the maker's task didn't wait for the end of the body.
+#[test]
+fn no_phase_ends_before_all_have_started() {
+    in_time(|| {
+        let (phaser, ended) = (Phaser::new(2, &[]).unwrap(), AtomicU64::new(0));
+        let came = AtomicU64::new(0);
+        let turn = |mut task: Task| {
+            came.fetch_add(1, Relaxed);
+            assert_eq!(task.next(), Ok(0));
+            assert_eq!(came.load(Relaxed), 2);
+            ended.fetch_add(1, Relaxed);
+        };
+        let turned = phaser.scope(|scope| {
+            scope.spawn(Mode::SigWait, turn)?;
+            let_sleep();
+            assert_eq!(ended.load(Relaxed), 0);
+            scope.spawn(Mode::SigWait, turn)?;
+            scope.leave();
+            while ended.load(Relaxed) < 2 {
+                thread::yield_now();
+            }
+            Ok(())
+        });
+        assert_eq!(turned, Ok(()));
+    });
+}
+
+/// A producer, two consumers and one who runs singles: a scope has threads of every mode.
+#[test]
+fn scope_has_all_modes() {
+    in_time(|| {
+        let phaser = Phaser::new(1, &[Operator::Greatest]).unwrap();
+        let runs = AtomicU64::new(0);
+        let turned = phaser.scope(|scope| {
+            scope.spawn(Mode::Sig, |mut task| {
+                for item in 0..50 {
+                    task.send(0, item as i32).unwrap();
+                    assert_eq!(task.next(), Ok(item));
+                }
+            })?;
+            for _ in 0..2 {
+                scope.spawn(Mode::Wait, |mut task| {
+                    for item in 0..50 {
+                        assert_eq!(task.wait(), Ok(item));
+                        assert_eq!(task.look(0), Ok(Look::Value(item as i64)));
+                    }
+                })?;
+            }
+            scope.spawn(Mode::Single, |mut task| {
+                for item in 0..50 {
+                    assert_eq!(task.single(1, || assert_eq!(runs.fetch_add(1, Relaxed), item)), Ok(item));
+                }
+            })?;
+            Ok(())
+        });
+        assert_eq!((turned, runs.into_inner()), (Ok(()), 50));
+    });
+}
+
+#[test]
+fn scopes_refuse_what_has_no_place() {
+    in_time(|| {
+        let phaser = Phaser::new(2, &[]).unwrap();
+        assert_eq!(phaser.scope(|_| Ok(())), Ok(()));
+        assert_eq!(phaser.scope(|_| -> Result<(), _> { unreachable!() }), Err(Refusal::NotNow));
+        let after_leaving = Phaser::new(2, &[]).unwrap().scope(|scope| {
+            scope.leave();
+            scope.leave(); // nothing is left to do
+            scope.spawn(Mode::Sig, |task| task.number()).map(|_| ())
+        });
+        assert_eq!(after_leaving, Err(Refusal::NotRegistered));
+        let after_joining = Phaser::new(2, &[]).unwrap().scope(|scope| {
+            assert_eq!(scope.spawn(Mode::Sig, |task| task.number())?.join().unwrap(), 1);
+            scope.spawn(Mode::Sig, |task| task.number()).map(|_| ())
+        });
+        assert_eq!(after_joining, Err(Refusal::NotRegistered));
+    });
+}
+
+/// The 255 wait for the task of the maker, which is the 256th.
+#[test]
+fn scope_has_room_for_255() {
+    in_time(|| {
+        let phaser = Phaser::new(2, &[]).unwrap();
+        let refused = phaser.scope(|scope| {
+            for _ in 0..255 {
+                scope.spawn(Mode::SigWait, |mut task| assert_eq!(task.next(), Ok(0)))?;
+            }
+            scope.spawn(Mode::SigWait, |_task| unreachable!()).map(|_| ())
+        });
+        assert_eq!(refused, Err(Refusal::RegsFull));
     });
 }
 
@@ -699,6 +930,25 @@ fn trace_of_threads_replays() {
         );
         assert_eq!(report(&phaser), lines);
         assert!(!phaser.trace_has_ended());
+    });
+}
+
+#[test]
+fn trace_of_a_scope_replays() {
+    in_time(|| {
+        let phaser = Phaser::traced(2, &[]).unwrap();
+        let turned = phaser.scope(|scope| {
+            for _ in 0..3 {
+                scope.spawn(Mode::SigWait, |mut task| assert_eq!((task.next(), task.next()), (Ok(0), Ok(1))))?;
+            }
+            Ok(())
+        });
+        assert_eq!(turned, Ok(()));
+        let lines = concat!(
+            "phaser 0 phases 2\ntask 0 ended\ntask 1 ended\ntask 2 ended\ntask 3 ended\nfinish 0 tasks 3\n",
+            "totals registered 4 signals 6 passes 6 drops 4 sends 0 up 0 down 0\n",
+        );
+        assert_eq!(report(&phaser), lines);
     });
 }
 

@@ -1,46 +1,7 @@
-//! The worked examples of one phaser and of traces, through the Rust crate.
-use paldwosk::{events, replay, Limits, Look, Mode, Operator, Passing, PhaserState, Refusal, Refused, Signalling};
-use std::fs;
-use std::path::{Path, PathBuf};
+//! The worked examples of one phaser, call by call, through the Rust crate.
+use paldwosk::{events, Limits, Look, Mode, Operator, Passing, PhaserState, Refusal, Signalling};
 use std::sync::Mutex;
 use std::thread;
-
-fn examples(folder: &str) -> Vec<PathBuf> {
-    let folder = Path::new(env!("CARGO_MANIFEST_DIR")).join("../../examples").join(folder);
-    let mut found: Vec<_> = fs::read_dir(folder)
-        .unwrap()
-        .map(|entry| entry.unwrap().path())
-        .filter(|path| path.extension().is_some_and(|it| it == "json"))
-        .collect();
-    found.sort();
-    found
-}
-
-/// What must be answered for the example: the lines beside it, or the line of its refusal.
-fn wanted(example: &Path) -> Result<String, Refused> {
-    match fs::read_to_string(example.with_extension("err")) {
-        Ok(line) => Err(Refused { line }),
-        Err(_) => Ok(fs::read_to_string(example.with_extension("out")).unwrap()),
-    }
-}
-
-#[test]
-fn events_files_are_answered() {
-    let all = examples("events");
-    assert!(all.len() > 10);
-    for example in all {
-        assert_eq!(events(&fs::read(&example).unwrap()), wanted(&example), "{example:?}");
-    }
-}
-
-#[test]
-fn traces_are_replayed() {
-    let all = examples("replays");
-    assert!(all.len() > 5);
-    for example in all {
-        assert_eq!(replay(&fs::read(&example).unwrap()), wanted(&example), "{example:?}");
-    }
-}
 
 #[test]
 fn lines_may_be_longer_than_the_first_room() {
@@ -61,7 +22,7 @@ fn two_tasks_turn() -> Result<(), Refusal> {
     assert_eq!(phaser.signal(0, None)?, Signalling::Signalled);
     assert_eq!(phaser.pass(0)?, Passing::NotYet);
     assert!(!phaser.is_closed(0));
-    phaser.signal(1, None)?;
+    assert_eq!(phaser.signal(1, None)?, Signalling::Signalled);
     assert!(phaser.is_closed(0));
     assert_eq!(phaser.pass(0)?, Passing::Passed(0));
     assert_eq!(phaser.pass(1)?, Passing::Passed(0));
@@ -76,11 +37,11 @@ fn single_statement() -> Result<(), Refusal> {
     phaser.make(0, Mode::Single)?;
     phaser.register(0, 1, Mode::Single)?;
     phaser.register(0, 2, Mode::Single)?;
-    phaser.signal(0, Some(7))?;
-    phaser.signal(1, Some(7))?;
+    assert_eq!(phaser.signal(0, Some(7))?, Signalling::Signalled);
+    assert_eq!(phaser.signal(1, Some(7))?, Signalling::Signalled);
     assert_eq!(phaser.signal(2, Some(8)), Err(Refusal::SingleMismatch));
     assert_eq!(phaser.pass(0)?, Passing::NotYet);
-    phaser.signal(2, Some(7))?;
+    assert_eq!(phaser.signal(2, Some(7))?, Signalling::Signalled);
     assert_eq!(phaser.drop_task(0), Err(Refusal::NotNow));
     assert_eq!(phaser.pass(0)?, Passing::Claimed(7));
     assert_eq!(phaser.pass(1)?, Passing::NotYet);
@@ -100,7 +61,7 @@ fn extreme_values() -> Result<(), Refusal> {
     phaser.send(0, 0, i32::MIN)?;
     phaser.send(0, 1, i32::MIN)?;
     assert_eq!(phaser.look(0, 0), Err(Refusal::NoPhaseYet));
-    phaser.signal(0, None)?;
+    assert_eq!(phaser.signal(0, None)?, Signalling::Signalled);
     assert_eq!(phaser.pass(0)?, Passing::Passed(0));
     assert_eq!(phaser.look(0, 0)?, Look::Value(-4_294_967_296));
     assert_eq!(phaser.look(0, 1)?, Look::Value(-2_147_483_648));
@@ -119,7 +80,7 @@ fn bounded_signaller() -> Result<(), Refusal> {
     phaser.register(0, 1, Mode::Sig)?;
     phaser.register(0, 2, Mode::Wait)?;
     phaser.drop_task(0)?;
-    phaser.signal(1, None)?;
+    assert_eq!(phaser.signal(1, None)?, Signalling::Signalled);
     assert_eq!(phaser.pass(1)?, Passing::Passed(0));
     assert_eq!(phaser.signal(1, None)?, Signalling::NotYet);
     assert_eq!(phaser.pass(2)?, Passing::Passed(0));
@@ -134,7 +95,8 @@ fn what_is_wrong_is_refused() {
     assert_eq!(PhaserState::new(Limits::default(), &[Operator::Sum; 5], None).err(), Some(Refusal::BadOperators));
     assert_eq!(PhaserState::new(Limits::default(), &[], Some(0)).err(), Some(Refusal::BadBound));
     assert_eq!(PhaserState::new(Limits::default(), &[], Some(65_537)).err(), Some(Refusal::BadBound));
-    assert_eq!(Refusal::NoAccumulator.to_string(), "refused 9 NoAccumulator");
+    let text = "refused 9 NoAccumulator: The phaser has no accumulator of that index. The first of its operators has index 0.";
+    assert_eq!(Refusal::NoAccumulator.to_string(), text);
 }
 
 /// `history_full`, and the text of that history.
@@ -142,7 +104,7 @@ fn what_is_wrong_is_refused() {
 fn history_is_told() -> Result<(), Refusal> {
     let mut phaser = PhaserState::new(Limits { history: 4, ..Limits::default() }, &[], None)?;
     phaser.make(0, Mode::SigWait)?;
-    phaser.signal(0, None)?;
+    assert_eq!(phaser.signal(0, None)?, Signalling::Signalled);
     assert_eq!(phaser.pass(0)?, Passing::Passed(0));
     assert!(phaser.is_full());
     assert_eq!(phaser.signal(0, None), Err(Refusal::HistoryFull));
@@ -169,7 +131,7 @@ fn threads_share_a_phaser_behind_a_lock() -> Result<(), Refusal> {
         for phase in 0..50 {
             let mut held = phaser.lock().unwrap();
             held.send(task, 0, task as i32)?;
-            held.signal(task, None)?;
+            assert_eq!(held.signal(task, None)?, Signalling::Signalled);
             drop(held);
             while phaser.lock().unwrap().pass(task)? != Passing::Passed(phase) {
                 thread::yield_now();

@@ -3,7 +3,6 @@
 use paldwosk::{Look, Mode, Operator, Phaser, Refusal, Task};
 use std::array::from_fn;
 use std::sync::atomic::{AtomicI32, Ordering::Relaxed};
-use std::thread;
 
 const THREADS: usize = 8;
 const SLICE: usize = 4;
@@ -39,12 +38,11 @@ fn heat(mut task: Task, rods: &[Rod; 2], first: usize) -> Result<usize, Refusal>
 fn main() -> Result<(), Refusal> {
     let rods: &[Rod; 2] = &from_fn(|_| from_fn(|_| AtomicI32::new(0)));
     rods.iter().for_each(|rod| rod[0].store(100_000, Relaxed)); // one end is kept at 100 degrees, and the other at none
-    let mut maker = Phaser::new(2, &[Operator::Greatest])?.make(Mode::SigWait)?;
-    let mut tasks = (1..THREADS).map(|_| maker.join(Mode::SigWait)).collect::<Result<Vec<_>, _>>()?;
-    tasks.push(maker);
-    let steps = thread::scope(|scope| {
-        let slices = tasks.into_iter().zip((1..).step_by(SLICE));
-        let threads: Vec<_> = slices.map(|(task, first)| scope.spawn(move || heat(task, rods, first))).collect();
+    let phaser = Phaser::new(2, &[Operator::Greatest])?;
+    let steps = phaser.scope(|scope| {
+        let slices = (1..=CELLS).step_by(SLICE);
+        let start = |first| scope.spawn(Mode::SigWait, move |task| heat(task, rods, first));
+        let threads = slices.map(start).collect::<Result<Vec<_>, _>>()?;
         threads.into_iter().map(|thread| thread.join().unwrap()).collect::<Result<Vec<_>, _>>()
     })?;
     assert!(steps.iter().all(|count| *count == steps[0]));
