@@ -18,7 +18,7 @@ use Rattle.told_history.specs.declared.wide.LongEvent.{LongEvent}
 use Rattle.told_history.specs.Wide.{event_of}
 use Rattle.long_phaser.specs.Numbered.{long_limits}
 use Rattle.ghost_log.specs.Tails.{IsTail}
-use Rattle.long_locks.specs.Events.{with_one, HasAdded}
+use Rattle.long_locks.specs.Events.{with_one}
 
 some_mode : (test : Mode → Bool) (o : Option Mode) → option_map_or test o false ≡ true → is_some o ≡ true
 some_mode test None k = absurd cc
@@ -61,12 +61,13 @@ grown : (o : Option LongEvent) (h : List Event) → IsTail h (with_one o h)
 grown None h = ([], refl)
 grown (Some e) h = (event_of e ∷ [], refl)
 
-pub waits_on : (terms : Terms) (o : Option LongEvent) (seen now : List Event) (t : ℕ)
-    → HasAdded o seen now → is_legal long_limits terms now ≡ true → has_mode can_wait t seen ≡ true → has_mode can_wait t now ≡ true
-waits_on terms o seen now t added legal k =
-    let tail = added.1 in
-    let one = grown o added.0 in
+-- where a call came after all that was seen, and its event is the newest since
+pub waits_on : (terms : Terms) (o : Option LongEvent) (seen before now : List Event) (t : ℕ)
+    → IsTail seen before → now ≡ with_one o before → is_legal long_limits terms now ≡ true
+    → has_mode can_wait t seen ≡ true → has_mode can_wait t now ≡ true
+waits_on terms o seen before now t tail added legal k =
+    let one = grown o before in
     let all : now ≡ (one.0 ++ tail.0) ++ seen =
-    added.2 ∙ (one.1 ∙ (ap (λ (h : List Event). one.0 ++ h) tail.1 ∙ sym (append_assoc one.0 tail.0 seen))) in
+    added ∙ (one.1 ∙ (ap (λ (h : List Event). one.0 ++ h) tail.1 ∙ sym (append_assoc one.0 tail.0 seen))) in
     subst (λ (h : List Event). has_mode can_wait t h ≡ true) (sym all)
     (mode_stays long_limits terms can_wait t (one.0 ++ tail.0) seen (subst (λ (h : List Event). is_legal long_limits terms h ≡ true) all legal) k)

@@ -1,4 +1,4 @@
--- What a turn came to.
+-- The outcome of a turn.
 use Rattle.std.specs.Prelude.{ℕ, ℤ, ◌≡◌, ◌-◌, true, false, List, ◌∷◌, ◌++◌}
 use Rattle.phase_modes.specs.Lists.{is_empty}
 use Rattle.phase_model.specs.declared.history.Event.{Event}

@@ -45,7 +45,7 @@ fn make<J: Naming, R: Wait>(
 ) -> Result<Task, Refusal>
     ensures waits { IfOk result (λ t. has_mode can_wait t me.new ≡ true) }
 {
-    lock.make(rt, me, Mode::SigWait)
+    lock.lock(rt).make(me, Mode::SigWait)
 }
 
 /// A child is registered that can signal and wait. Its parent still can wait.
@@ -58,7 +58,7 @@ fn register<J: Naming, R: Wait>(
     ensures child { IfOk result (λ t. has_mode can_wait t me.new ≡ true) }
     ensures parent { has_mode can_wait parent me.old ≡ true → has_mode can_wait parent me.new ≡ true }
 {
-    let answer = lock.register(rt, me, parent, Mode::SigWait);
+    let answer = lock.lock(rt).register(me, parent, Mode::SigWait);
     me.is_legal();
     answer
 }

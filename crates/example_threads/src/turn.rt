@@ -73,15 +73,14 @@ impl<'a, 'p, J: Naming, R: Wait> Player<'a, 'p, J, R> {
     /// The task sends its number.
     fn send(&mut self, number: i32) -> Result<(), Refusal> {
         let front = &mut self.front;
-        let answer = self.lock.send(self.rt, front, self.task, 0, number);
+        let answer = self.lock.lock(self.rt).send(front, self.task, 0, number);
         front.is_legal();
         answer
     }
 
     /// The task signals: at a barrier the bound never holds it.
     fn signal(&mut self) -> Result<(), Refusal> {
-        let answer = self.lock.signal(
-            self.rt,
+        let answer = self.lock.lock(self.rt).signal(
             &mut self.front,
             &mut self.out,
             self.task,
@@ -101,13 +100,10 @@ impl<'a, 'p, J: Naming, R: Wait> Player<'a, 'p, J, R> {
     fn ask(&mut self) -> PassAnswer<&'p Parker, Phase>
         ensures closed { IfPassed result (λ p. IsClosed p self.new.front) }
     {
-        let answer = self.lock.pass(
-            self.rt,
-            &mut self.front,
-            &mut self.out,
-            self.task,
-            self.parker,
-        );
+        let answer = self
+            .lock
+            .lock(self.rt)
+            .pass(&mut self.front, &mut self.out, self.task, self.parker);
         self.front.is_legal();
         wake(&mut self.out);
         answer
@@ -134,7 +130,7 @@ impl<'a, 'p, J: Naming, R: Wait> Player<'a, 'p, J, R> {
         ensures seen { IfOk result (λ x. HasLooked J.terms.ops self.old.task 0 self.new.front x) }
     {
         let front = &mut self.front;
-        let answer = self.lock.look(self.rt, front, self.task, 0);
+        let answer = self.lock.lock(self.rt).look(front, self.task, 0);
         front.is_legal();
         answer
     }
@@ -170,7 +166,7 @@ impl<'a, 'p, J: Naming, R: Wait> Drop for Player<'a, 'p, J, R> {
             mut front,
             mut out,
         } = self;
-        let _left = lock.leave(rt, &mut front, &mut out, task);
+        let _left = lock.lock(rt).leave(&mut front, &mut out, task);
         wake(&mut out);
     }
 }

@@ -120,7 +120,7 @@ fn opens_with_two<R: Abort + Wait>(rt: &R, table: &FinishTable<u32, u32>, ticket
     equal(rt, table.spawned(rt, 1, tickets, 2), Ok(()));
 }
 
-/// The owner is parked, and has its item back where it asks again.
+/// The owner is parked, and has its item back if it asks again.
 fn parks_its_owner<R: Abort + Wait>(rt: &R, table: &FinishTable<u32, u32>, tickets: &Tickets)
     requires { table.now.finishes ≡ 2 }
 {
@@ -129,7 +129,7 @@ fn parks_its_owner<R: Abort + Wait>(rt: &R, table: &FinishTable<u32, u32>, ticke
     equal(rt, shut(rt, table, tickets, 1, 101), AGAIN);
 }
 
-/// The log that a task's end gives back, where it is refused, and the owner that it wakes.
+/// The log that a task's end gives back, if it is refused, and the owner that it wakes.
 type Back = (Option<u32>, Option<u32>);
 
 /// The task ends in finish 1, and leaves this log.

@@ -1,7 +1,7 @@
 //! Tests of `share_book`, `scope_locks`, `long_locks` and `waiting_cell`, which call what these
 //! export.
 //!
-//! A library of tests alone: where they stood in the crates themselves, these would be proved once
+//! A library of tests alone: if they stood in the crates themselves, these would be proved once
 //! more with each change of a test.
 #![tactic(auto)]
 

@@ -152,9 +152,13 @@ fn registered<J: Naming, R: Abort + Wait>(
     lock: &LongLock<J, u32>,
     me: &mut Front<J>,
 ) -> Result<(), Refusal> {
-    equal(rt, lock.make(rt, me, Mode::Single), Ok(0));
-    equal(rt, lock.register(rt, me, 0, Mode::SigWait), Ok(1));
-    equal(rt, lock.leave(rt, me, &mut Out::new(alloc)?, 1), Ok(()));
+    equal(rt, lock.lock(rt).make(me, Mode::Single), Ok(0));
+    equal(rt, lock.lock(rt).register(me, 0, Mode::SigWait), Ok(1));
+    equal(
+        rt,
+        lock.lock(rt).leave(me, &mut Out::new(alloc)?, 1),
+        Ok(()),
+    );
     Ok(())
 }
 
@@ -167,7 +171,7 @@ fn proposed<J: Naming, R: Abort + Wait>(
     number: u32,
 ) -> Result<Answer, Refusal> {
     let mut out = Out::new(alloc)?;
-    Ok(of_signal(lock.signal(rt, me, &mut out, 0, Some(number), 10)))
+    Ok(of_signal(lock.lock(rt).signal(me, &mut out, 0, Some(number), 10)))
 }
 
 /// Task 0 asks to pass, with this item.
@@ -179,7 +183,7 @@ fn passed<J: Naming, R: Abort + Wait>(
     item: u32,
 ) -> Result<Answer, Refusal> {
     let mut out = Out::new(alloc)?;
-    Ok(of_pass(lock.pass(rt, me, &mut out, 0, item)))
+    Ok(of_pass(lock.lock(rt).pass(me, &mut out, 0, item)))
 }
 
 /// Task 0 reports the single done.
@@ -190,7 +194,7 @@ fn reported<J: Naming, R: Abort + Wait>(
     me: &mut Front<J>,
 ) -> Result<(), Refusal> {
     let mut out = Out::new(alloc)?;
-    lock.single_done(rt, me, &mut out, 0)
+    lock.lock(rt).single_done(me, &mut out, 0)
 }
 
 /// At a new phaser with one sum task 0 sends 7 and proposes the single of number 3; it claims that,
@@ -209,7 +213,7 @@ fn calls<J: Naming, R: Abort + Wait>(
     let (lock, front) = LongLock::<J, u32>::new(alloc, ops, bound, whole)?;
     let mut me = front;
     registered(rt, alloc, &lock, &mut me)?;
-    equal(rt, lock.send(rt, &mut me, 0, 0, 7), Ok(()));
+    equal(rt, lock.lock(rt).send(&mut me, 0, 0, 7), Ok(()));
     let signalled = proposed(rt, alloc, &lock, &mut me, 3)?;
     equal(rt, signalled, Answer::Signalled(10));
     let claimed = passed(rt, alloc, &lock, &mut me, 11)?;
@@ -217,7 +221,7 @@ fn calls<J: Naming, R: Abort + Wait>(
     reported(rt, alloc, &lock, &mut me)?;
     let gone = passed(rt, alloc, &lock, &mut me, 12)?;
     equal(rt, gone, Answer::Passed(12, 0));
-    equal(rt, lock.look(rt, &mut me, 0, 0), Ok(Look::Value(7)));
+    equal(rt, lock.lock(rt).look(&mut me, 0, 0), Ok(Look::Value(7)));
     equal(rt, lock.lock(rt).cell.parked.len(), 0);
     Ok(())
 }

@@ -11,7 +11,6 @@ use Rattle.parked_tasks.specs.declared.answer.PassAnswer.TheVariants.{Passed, Cl
 use Rattle.told_history.specs.declared.wide.LongEvent.{LongEvent}
 use Rattle.told_history.specs.declared.wide.LongEvent.TheVariants as long
 use Rattle.told_history.specs.Wide.{event_of}
-use Rattle.ghost_log.specs.Tails.{IsTail}
 
 -- the history with this event, if there is one
 abbrev pub with_one : Option LongEvent → List Event → List Event
@@ -50,7 +49,3 @@ look_event t a (Err r) = None
 abbrev pub done_event : LongEvent → Result (Unit {0}) Refusal → Option LongEvent
 done_event e (Ok u) = Some e
 done_event e (Err r) = None
-
--- The event, if there is one, was added some time after what was seen. That, and no more, has been seen now.
-abbrev pub HasAdded : Option LongEvent → List Event → List Event → Type 0
-HasAdded o seen now = (before : List Event) × IsTail seen before × (now ≡ with_one o before)

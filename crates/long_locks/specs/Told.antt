@@ -33,12 +33,12 @@ IsAnswered Is terms c seen now =
     × Is before (reply (s before) c)
     × (now ≡ (after (s before) (reply (s before) c)).past)
 
--- the number that is given out where the call is done
+-- the number that is given out if the call is done
 abbrev pub numbered : ℕ → Result (Unit {0}) Refusal → Result ℕ Refusal
 numbered n (Ok u) = Ok n
 numbered n (Err r) = Err r
 
--- it was the call with some number, which is answered where it is done
+-- it was the call with some number, which is answered if it is done
 abbrev pub IsNumbered : Result ℕ Refusal → Terms → (ℕ → Call) → List Event → List Event → Type 0
 IsNumbered answer terms call seen now =
     (n : ℕ) × IsAnswered (λ _ r. answer ≡ numbered n (done_result r)) terms (call n) seen now

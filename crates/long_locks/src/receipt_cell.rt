@@ -26,7 +26,11 @@ use std::marker::PhantomData;
 use told_history::LongEvent;
 
 /// A phaser that lives long with those who wait at it, and the whole of its history, which has no
-/// bytes. Each call adds the event that its answer tells, and nothing else: its clause `added`.
+/// bytes.
+///
+/// Each call adds the event that its answer tells, and nothing else: its clause `added`. Its clause
+/// `told` says what the caller was answered: the phaser's reply, at a place of its one history. `me`
+/// has then seen the history up to that place, with the event.
 #[derive(Drop)]
 pub struct ReceiptCell<J: Naming, T> {
     pub cell: LongCell<T>,
@@ -73,6 +77,7 @@ impl<J: Naming, T> ReceiptCell<J, T> {
     #[inline(always)]
     pub fn make(&mut self, me: &mut Front<J>, mode: Mode) -> Result<Task, Refusal>
         ensures told { IsNumbered result J.terms (λ n. make n mode) me.old me.new }
+        ensures begins { IsTail me.old self.old.cell.state.story.past }
         ensures added { self.new.cell.state.story.past ≡ with_one (make_event mode result) self.old.cell.state.story.past }
         ensures now { me.new ≡ self.new.cell.state.story.past }
         ensures parked { self.new.cell.parked ≡ self.old.cell.parked }
@@ -89,6 +94,7 @@ impl<J: Naming, T> ReceiptCell<J, T> {
     pub fn register(&mut self, me: &mut Front<J>, parent: Task, mode: Mode) -> Result<Task, Refusal>
         ensures told { IsNumbered result J.terms (λ n. register parent n mode) me.old me.new }
         ensures numbered { (result ≢ Err Refusal.RegisteredTwice) × (result ≢ Err Refusal.TasksFull) }
+        ensures begins { IsTail me.old self.old.cell.state.story.past }
         ensures added { self.new.cell.state.story.past ≡ with_one (register_event parent mode result) self.old.cell.state.story.past }
         ensures now { me.new ≡ self.new.cell.state.story.past }
         ensures parked { self.new.cell.parked ≡ self.old.cell.parked }
@@ -110,6 +116,7 @@ impl<J: Naming, T> ReceiptCell<J, T> {
         value: i32,
     ) -> Result<(), Refusal>
         ensures told { IsAnswered (λ _ r. result ≡ done_result r) J.terms (send task accumulator value) me.old me.new }
+        ensures begins { IsTail me.old self.old.cell.state.story.past }
         ensures added { self.new.cell.state.story.past ≡ with_one (done_event (LongEvent.Send task accumulator value) result) self.old.cell.state.story.past }
         ensures now { me.new ≡ self.new.cell.state.story.past }
         ensures parked { self.new.cell.parked ≡ self.old.cell.parked }
@@ -132,6 +139,7 @@ impl<J: Naming, T> ReceiptCell<J, T> {
     ) -> Result<LongLook, Refusal>
         ensures told { IsAnswered (λ _ r. result ≡ look_result r) J.terms (look task accumulator) me.old me.new }
         ensures seen { IfOk result (λ x. HasLooked J.terms.ops task accumulator me.new x) }
+        ensures begins { IsTail me.old self.old.cell.state.story.past }
         ensures added { self.new.cell.state.story.past ≡ with_one (look_event task accumulator result) self.old.cell.state.story.past }
         ensures now { me.new ≡ self.new.cell.state.story.past }
         ensures parked { self.new.cell.parked ≡ self.old.cell.parked }
@@ -157,6 +165,7 @@ impl<J: Naming, T> ReceiptCell<J, T> {
     ) -> SignalAnswer<T>
         requires { out.old ≡ [] }
         ensures told { IsAnswered (λ _ r. IsSignalAnswer item (signal_result r) result) J.terms (signal task number) me.old me.new }
+        ensures begins { IsTail me.old self.old.cell.state.story.past }
         ensures added { self.new.cell.state.story.past ≡ with_one (signal_event task number result) self.old.cell.state.story.past }
         ensures now { me.new ≡ self.new.cell.state.story.past }
         ensures item { IsBackFromSignal item result }
@@ -189,6 +198,7 @@ impl<J: Naming, T> ReceiptCell<J, T> {
         requires { out.old ≡ [] }
         ensures told { IsAnswered (λ h r. IsPassAnswer item (pass_result h r) result) J.terms (pass task) me.old me.new }
         ensures closed { IfPassed result (λ p. has_mode can_wait task me.new ≡ true → IsClosed p me.new) }
+        ensures begins { IsTail me.old self.old.cell.state.story.past }
         ensures added { self.new.cell.state.story.past ≡ with_one (pass_event task result) self.old.cell.state.story.past }
         ensures now { me.new ≡ self.new.cell.state.story.past }
         ensures item { IsBack item result }
@@ -217,6 +227,7 @@ impl<J: Naming, T> ReceiptCell<J, T> {
     ) -> Result<(), Refusal>
         requires { out.old ≡ [] }
         ensures told { IsAnswered (λ _ r. result ≡ done_result r) J.terms (single_done task) me.old me.new }
+        ensures begins { IsTail me.old self.old.cell.state.story.past }
         ensures added { self.new.cell.state.story.past ≡ with_one (done_event (LongEvent.Did task) result) self.old.cell.state.story.past }
         ensures now { me.new ≡ self.new.cell.state.story.past }
         ensures parked { self.new.cell.parked.items ≡ waiting self.new.cell.state.story self.old.cell.parked.items }
@@ -235,6 +246,7 @@ impl<J: Naming, T> ReceiptCell<J, T> {
     pub fn leave(&mut self, me: &mut Front<J>, out: &mut Out<T>, task: Task) -> Result<(), Refusal>
         requires { out.old ≡ [] }
         ensures told { IsAnswered (λ _ r. result ≡ done_result r) J.terms (drop_task task) me.old me.new }
+        ensures begins { IsTail me.old self.old.cell.state.story.past }
         ensures added { self.new.cell.state.story.past ≡ with_one (done_event (LongEvent.Drop task) result) self.old.cell.state.story.past }
         ensures now { me.new ≡ self.new.cell.state.story.past }
         ensures parked { self.new.cell.parked.items ≡ waiting self.new.cell.state.story self.old.cell.parked.items }

@@ -53,7 +53,7 @@ const WORLDS: Bounds = Bounds {
     most: 1_000,
 };
 
-/// The number that the argument spells, where it is within these bounds.
+/// The number that the argument spells, if it is within these bounds.
 fn number_of(argument: &str, bounds: Bounds) -> Option<u32>
     ensures { SomeIff result (IsNumberFrom bounds.least bounds.most argument.now) (number_in argument.now) }
 {
@@ -63,7 +63,7 @@ fn number_of(argument: &str, bounds: Bounds) -> Option<u32>
     }
 }
 
-/// The job that the words `core KIND TASKS PHASERS` name; none where they name none.
+/// The job that the words `core KIND TASKS PHASERS` name; none if they name none.
 fn core_job(words: &[&str]) -> Option<CoreJob>
     ensures { MatchOption result
         ((job : _) → ¬ (NamesCore job (map (λ w. w.now) words.now)))
@@ -79,7 +79,7 @@ fn core_job(words: &[&str]) -> Option<CoreJob>
     })
 }
 
-/// The job that the words `locks KIND TASKS PHASES PHASERS THREADS` name; none where they name
+/// The job that the words `locks KIND TASKS PHASES PHASERS THREADS` name; none if they name
 /// none.
 fn locks_job(words: &[&str]) -> Option<LocksJob>
     ensures { MatchOption result
@@ -98,7 +98,7 @@ fn locks_job(words: &[&str]) -> Option<LocksJob>
     })
 }
 
-/// The job that the words `receipts KIND TASKS PHASES PHASERS THREADS` name; none where they name
+/// The job that the words `receipts KIND TASKS PHASES PHASERS THREADS` name; none if they name
 /// none.
 fn receipts_job(words: &[&str]) -> Option<LocksJob>
     ensures { MatchOption result
@@ -117,7 +117,7 @@ fn receipts_job(words: &[&str]) -> Option<LocksJob>
     })
 }
 
-/// The job that the words `worlds KIND TURNS WORLDS` name; none where they name none.
+/// The job that the words `worlds KIND TURNS WORLDS` name; none if they name none.
 fn worlds_job(words: &[&str]) -> Option<WorldsJob>
     ensures { MatchOption result
         ((job : _) → ¬ (NamesWorlds job (map (λ w. w.now) words.now)))
@@ -133,7 +133,7 @@ fn worlds_job(words: &[&str]) -> Option<WorldsJob>
     })
 }
 
-/// The job that the words name; none where they name none.
+/// The job that the words name; none if they name none.
 pub fn job_of(words: &[&str]) -> Option<Job>
     ensures { MatchOption result
         ((job : _) → ¬ (Names job (map (λ w. w.now) words.now)))

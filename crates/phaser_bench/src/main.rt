@@ -19,7 +19,7 @@ use std::sync::Wait;
 use std::thread::Threads;
 use worlds::steps_of;
 
-/// What is printed where the arguments are bad.
+/// What is printed if the arguments are bad.
 const USAGE: &str = "usage: phaser_bench JOB, where JOB is one of
 core none|turn|send|look|drop|long TASKS PHASERS
     (1 to 256 tasks, 1 to 1000 phasers)
@@ -61,7 +61,7 @@ fn named_job(rt: &HostRuntime) -> Result<Job, u8> {
     }
 }
 
-/// Does the job, and returns how many calls, events or steps it was; none where there was no memory
+/// Does the job, and returns how many calls, events or steps it was; none if there was no memory
 /// for it.
 fn count_of<R: Threads + Wait + Sync>(threads: &R, alloc: Global, job: Job) -> Option<u64> {
     match job {
@@ -72,7 +72,7 @@ fn count_of<R: Threads + Wait + Sync>(threads: &R, alloc: Global, job: Job) -> O
     }
 }
 
-/// Prints the count, where there was memory for the job.
+/// Prints the count, if there was memory for the job.
 fn report(rt: &HostRuntime, count: Option<u64>) -> u8 {
     let Some(count) = count else {
         return 1;

@@ -33,7 +33,7 @@ fn steps_of_one(alloc: Global, kind: Kind, turns: u32) -> Result<u64, Refusal> {
 }
 
 /// Makes the job's worlds one after the other, and returns how many steps were done in all. An
-/// error is `Memory`, where a world got none.
+/// error is `Memory`, if a world got none.
 pub fn steps_of(alloc: Global, job: WorldsJob) -> Result<u64, Refusal> {
     let mut steps: u64 = 0;
     for _ in 0..job.worlds {

@@ -1,4 +1,4 @@
--- What the phasers of a crew come to.
+-- What the phasers of a crew add up to.
 use Rattle.std.specs.Prelude.{ℕ, ◌≡◌, ◌<◌, true, List, length, All}
 use Rattle.phase_modes.specs.declared.limits.Limits.{Limits}
 use Rattle.phase_model.specs.Amounts.{Amount}

@@ -144,7 +144,8 @@ impl<'a, T, K: Naming, R: Wait> Hand<T> for Held<'a, T, K, R> {
         let terms = Terms { ops, bound };
         let answer = self
             .table
-            .make(&mut self.by, &mut me, number, task.get(), mode, &terms);
+            .lock(self.by.rt, number)
+            .make(&mut self.by, &mut me, task.get(), mode, &terms);
         self.fronts.set(number, me);
         answer
     }
@@ -158,14 +159,10 @@ impl<'a, T, K: Naming, R: Wait> Hand<T> for Held<'a, T, K, R> {
     ) -> Result<(), Refusal> {
         let number = place(self.table, phaser, Refusal::NotRegistered)?;
         let mut me = self.fronts.get(number);
-        let answer = self.table.register(
-            &mut self.by,
-            &mut me,
-            number,
-            parent.get(),
-            child.get(),
-            mode,
-        );
+        let answer = self
+            .table
+            .lock(self.by.rt, number)
+            .register(&mut self.by, &mut me, parent.get(), child.get(), mode);
         self.fronts.set(number, me);
         answer
     }
@@ -179,10 +176,9 @@ impl<'a, T, K: Naming, R: Wait> Hand<T> for Held<'a, T, K, R> {
     ) -> Result<(), Refusal> {
         let number = place(self.table, phaser, Refusal::NotRegistered)?;
         let mut me = self.fronts.get(number);
-        let answer = self.table.send(
+        let answer = self.table.lock(self.by.rt, number).send(
             &mut self.by,
             &mut me,
-            number,
             task.get(),
             accumulator.get(),
             value,
@@ -199,7 +195,10 @@ impl<'a, T, K: Naming, R: Wait> Hand<T> for Held<'a, T, K, R> {
     ) -> Result<Look, Refusal> {
         let number = place(self.table, phaser, Refusal::NotRegistered)?;
         let mut me = self.fronts.get(number);
-        let answer = self.table.look(&mut self.by, &mut me, number, task.get(), accumulator.get());
+        let answer = self
+            .table
+            .lock(self.by.rt, number)
+            .look(&mut self.by, &mut me, task.get(), accumulator.get());
         self.fronts.set(number, me);
         answer
     }
@@ -221,7 +220,8 @@ impl<'a, T, K: Naming, R: Wait> Hand<T> for Held<'a, T, K, R> {
         let mut me = self.fronts.get(number);
         let answer = self
             .table
-            .signal(&mut self.by, &mut me, number, task.get(), proposed, item);
+            .lock(self.by.rt, number)
+            .signal(&mut self.by, &mut me, task.get(), proposed, item);
         self.fronts.set(number, me);
         answer
     }
@@ -237,7 +237,8 @@ impl<'a, T, K: Naming, R: Wait> Hand<T> for Held<'a, T, K, R> {
         let mut me = self.fronts.get(number);
         let answer = self
             .table
-            .pass(&mut self.by, &mut me, number, task.get(), item);
+            .lock(self.by.rt, number)
+            .pass(&mut self.by, &mut me, task.get(), item);
         self.fronts.set(number, me);
         answer
     }
@@ -248,7 +249,8 @@ impl<'a, T, K: Naming, R: Wait> Hand<T> for Held<'a, T, K, R> {
         let mut me = self.fronts.get(number);
         let answer = self
             .table
-            .single_done(&mut self.by, &mut me, number, task.get());
+            .lock(self.by.rt, number)
+            .single_done(&mut self.by, &mut me, task.get());
         self.fronts.set(number, me);
         answer
     }
@@ -259,7 +261,8 @@ impl<'a, T, K: Naming, R: Wait> Hand<T> for Held<'a, T, K, R> {
         let mut me = self.fronts.get(number);
         let answer = self
             .table
-            .drop_task(&mut self.by, &mut me, number, task.get());
+            .lock(self.by.rt, number)
+            .drop_task(&mut self.by, &mut me, task.get());
         self.fronts.set(number, me);
         answer
     }

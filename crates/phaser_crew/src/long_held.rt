@@ -94,13 +94,14 @@ impl<'a, T, J: Naming, R: Wait> LongHand<T> for LongHeld<'a, T, J, R> {
     }
 
     fn make(&mut self, mode: Mode) -> Result<LongTaskNumber, Refusal> {
-        typed(self.lock.make(self.rt, &mut self.front, mode))
+        typed(self.lock.lock(self.rt).make(&mut self.front, mode))
     }
 
     fn register(&mut self, parent: LongTaskNumber, mode: Mode) -> Result<LongTaskNumber, Refusal> {
         typed(
             self.lock
-                .register(self.rt, &mut self.front, parent.get(), mode),
+                .lock(self.rt)
+                .register(&mut self.front, parent.get(), mode),
         )
     }
 
@@ -110,13 +111,9 @@ impl<'a, T, J: Naming, R: Wait> LongHand<T> for LongHeld<'a, T, J, R> {
         accumulator: AccumulatorIndex,
         value: i32,
     ) -> Result<(), Refusal> {
-        self.lock.send(
-            self.rt,
-            &mut self.front,
-            task.get(),
-            accumulator.get(),
-            value,
-        )
+        self.lock
+            .lock(self.rt)
+            .send(&mut self.front, task.get(), accumulator.get(), value)
     }
 
     fn look(
@@ -125,21 +122,17 @@ impl<'a, T, J: Naming, R: Wait> LongHand<T> for LongHeld<'a, T, J, R> {
         accumulator: AccumulatorIndex,
     ) -> Result<LongLook, Refusal> {
         self.lock
-            .look(self.rt, &mut self.front, task.get(), accumulator.get())
+            .lock(self.rt)
+            .look(&mut self.front, task.get(), accumulator.get())
     }
 
     fn signal(&mut self, task: LongTaskNumber, proposed: Option<u32>, item: T) -> SignalAnswer<T> {
         if let Err(refusal) = pour(&mut self.ready, &mut self.out) {
             return SignalAnswer::Refused(item, refusal);
         }
-        self.lock.signal(
-            self.rt,
-            &mut self.front,
-            &mut self.out,
-            task.get(),
-            proposed,
-            item,
-        )
+        self.lock
+            .lock(self.rt)
+            .signal(&mut self.front, &mut self.out, task.get(), proposed, item)
     }
 
     fn pass(&mut self, task: LongTaskNumber, item: T) -> PassAnswer<T, Phase> {
@@ -147,18 +140,21 @@ impl<'a, T, J: Naming, R: Wait> LongHand<T> for LongHeld<'a, T, J, R> {
             return PassAnswer::Refused(item, refusal);
         }
         self.lock
-            .pass(self.rt, &mut self.front, &mut self.out, task.get(), item)
+            .lock(self.rt)
+            .pass(&mut self.front, &mut self.out, task.get(), item)
     }
 
     fn single_done(&mut self, task: LongTaskNumber) -> Result<(), Refusal> {
         pour(&mut self.ready, &mut self.out)?;
         self.lock
-            .single_done(self.rt, &mut self.front, &mut self.out, task.get())
+            .lock(self.rt)
+            .single_done(&mut self.front, &mut self.out, task.get())
     }
 
     fn leave(&mut self, task: LongTaskNumber) -> Result<(), Refusal> {
         pour(&mut self.ready, &mut self.out)?;
         self.lock
-            .leave(self.rt, &mut self.front, &mut self.out, task.get())
+            .lock(self.rt)
+            .leave(&mut self.front, &mut self.out, task.get())
     }
 }

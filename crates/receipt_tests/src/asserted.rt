@@ -7,3 +7,13 @@ use std::process::Abort;
 pub(crate) fn equal<T: PartialEq + Debug + Drop>(rt: &impl Abort, found: T, wanted: T) {
     assert_eq!(rt; found, wanted);
 }
+
+/// The same of one row of a table, which is printed too.
+pub(crate) fn equal_at<P: Debug + Drop, T: PartialEq + Debug + Drop>(
+    rt: &impl Abort,
+    row: P,
+    found: T,
+    wanted: T,
+) {
+    assert_eq!(rt; found, wanted, "{row:?}");
+}

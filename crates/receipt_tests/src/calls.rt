@@ -38,7 +38,7 @@ fn signal<J: Naming, R: Wait>(
     item: u32,
 ) -> Result<(Ended, Option<u32>), Refusal> {
     let mut out = Out::new(alloc)?;
-    let ended = match lock.signal(rt, me, &mut out, task, Some(SINGLE), item) {
+    let ended = match lock.lock(rt).signal(me, &mut out, task, Some(SINGLE), item) {
         SignalAnswer::Signalled(item) => Ended::Signalled(item),
         SignalAnswer::Parked => Ended::Parked,
         SignalAnswer::Refused(item, refusal) => Ended::Refused(item, refusal),
@@ -56,7 +56,7 @@ fn pass<J: Naming, R: Wait>(
     item: u32,
 ) -> Result<Ended, Refusal> {
     let mut out = Out::new(alloc)?;
-    match lock.pass(rt, me, &mut out, task, item) {
+    match lock.lock(rt).pass(me, &mut out, task, item) {
         PassAnswer::Passed(item, phase) => Ok(Ended::Passed(item, phase)),
         PassAnswer::Claimed(item, number) => Ok(Ended::Claimed(item, number)),
         PassAnswer::Parked => Ok(Ended::Parked),
@@ -73,7 +73,7 @@ fn single_done<J: Naming, R: Wait>(
     task: Task,
 ) -> Result<Option<u32>, Refusal> {
     let mut out = Out::new(alloc)?;
-    lock.single_done(rt, me, &mut out, task)?;
+    lock.lock(rt).single_done(me, &mut out, task)?;
     Ok(out.take())
 }
 
@@ -85,7 +85,7 @@ fn leave<J: Naming, R: Wait>(
     task: Task,
 ) -> Result<(), Refusal> {
     let mut out = Out::new(alloc)?;
-    lock.leave(rt, me, &mut out, task)
+    lock.lock(rt).leave(me, &mut out, task)
 }
 
 /// The calls on a new phaser with one sum: how many events they are.
@@ -102,10 +102,10 @@ fn calls<J: Naming, R: Wait + Abort>(
 {
     let (lock, front) = LongLock::<J, u32>::new(alloc, ops, bound, whole)?;
     let mut me = front;
-    equal(rt, lock.make(rt, &mut me, Mode::Single), Ok(0));
-    equal(rt, lock.register(rt, &mut me, 0, Mode::Single), Ok(1));
-    equal(rt, lock.send(rt, &mut me, 0, 0, 3), Ok(()));
-    equal(rt, lock.send(rt, &mut me, 1, 0, 4), Ok(()));
+    equal(rt, lock.lock(rt).make(&mut me, Mode::Single), Ok(0));
+    equal(rt, lock.lock(rt).register(&mut me, 0, Mode::Single), Ok(1));
+    equal(rt, lock.lock(rt).send(&mut me, 0, 0, 3), Ok(()));
+    equal(rt, lock.lock(rt).send(&mut me, 1, 0, 4), Ok(()));
     equal(
         rt,
         signal(rt, alloc, &lock, &mut me, 0, 10)?,
@@ -134,8 +134,8 @@ fn calls<J: Naming, R: Wait + Abort>(
         pass(rt, alloc, &lock, &mut me, 1, 22)?,
         Ended::Passed(22, 0),
     );
-    equal(rt, lock.look(rt, &mut me, 0, 0), Ok(Look::Value(7)));
-    equal(rt, lock.look(rt, &mut me, 1, 0), Ok(Look::Value(7)));
+    equal(rt, lock.lock(rt).look(&mut me, 0, 0), Ok(Look::Value(7)));
+    equal(rt, lock.lock(rt).look(&mut me, 1, 0), Ok(Look::Value(7)));
     leave(rt, alloc, &lock, &mut me, 0)?;
     leave(rt, alloc, &lock, &mut me, 1)?;
     Ok(lock.into_cell().cell.state.history().len())

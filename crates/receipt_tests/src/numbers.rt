@@ -1,5 +1,5 @@
 //! Numbers with types: each gives back the number that it was made of, at both ends of its type
-//! too, and two are equal where their numbers are.
+//! too, and two are equal if their numbers are.
 use crate::asserted::equal;
 use std::test::Fail;
 use task_numbers::{AccumulatorIndex, LongTaskNumber, PhaserNumber, TaskNumber};

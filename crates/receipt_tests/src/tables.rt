@@ -1,13 +1,13 @@
-//! Each call of a table that gives receipts: on one phaser two tasks send, propose a single, end
-//! their turn, look and leave, another is made and left. What the table leaves is gathered.
+//! The table on which runs stand: the worked examples of one phaser go through it by one thread, and
+//! a phaser is called while another's lock is held. What it leaves is gathered.
 ghost use Rattle.std.specs.Prelude.{◌≡◌, ◌<◌, ℕ, [], true, All, IfSome, slice_get, vec_len};
 ghost use Rattle.phase_modes.specs.Limits.{limits_fit};
 ghost use Rattle.share_book.specs.Opening.{IsNamed, IsParted};
 
-use crate::asserted::equal;
+use crate::asserted::{equal, equal_at};
 use ghost_log::Whole;
-use phase_model::{Look, Op, Ops, Reply, Terms};
-use phase_modes::{Limits, Mode, Refusal};
+use phase_model::{Call, Look, Reply, Terms};
+use phase_modes::{Limits, Refusal};
 use scope_locks::{Out, PassAnswer, SignalAnswer, Tickets};
 use share_book::{Blanks, Seven, Totals, gather, open};
 use std::alloc::Global;
@@ -19,17 +19,9 @@ use std::test::Fail;
 use table_receipts::{
     Caller, Front, Logs, Named, Naming, Noted, PhaserLogs, ReceiptTable, new_logs,
 };
-use task_numbers::TaskNumber;
+use worked_examples::*;
 
-/// The single that both propose.
-const SINGLE: u32 = 5;
-
-/// One sum, and no bound.
-fn one_sum() -> Terms {
-    let mut ops = Ops::none();
-    ops.push(Op::Sum);
-    Terms { ops, bound: None }
-}
+mod apart;
 
 /// A phaser of a table by its number, and what was seen of it.
 #[derive(Drop)]
@@ -41,192 +33,123 @@ struct SeenPhaser<'a, K: Naming> {
     ghost named: { me.log ≡ K.Logs.logs number },
 }
 
+fn plainly(answer: Result<(), Refusal>) -> Reply {
+    match answer {
+        Ok(()) => Reply::Done,
+        Err(refusal) => Reply::Refused(refusal),
+    }
+}
+
+fn looked(answer: Result<Look, Refusal>) -> Reply {
+    match answer {
+        Ok(seen) => Reply::Saw(seen),
+        Err(refusal) => Reply::Refused(refusal),
+    }
+}
+
+fn signalled(answer: SignalAnswer<u32>) -> Reply {
+    match answer {
+        SignalAnswer::Signalled(_) => Reply::Done,
+        SignalAnswer::Parked => Reply::NotYet,
+        SignalAnswer::Refused(_, refusal) => Reply::Refused(refusal),
+    }
+}
+
+fn turned(answer: PassAnswer<u32>) -> Reply {
+    match answer {
+        PassAnswer::Passed(_, phase) => Reply::Phase(phase),
+        PassAnswer::Claimed(_, number) => Reply::Claim(number),
+        PassAnswer::Parked => Reply::NotYet,
+        PassAnswer::Refused(_, refusal) => Reply::Refused(refusal),
+    }
+}
+
 impl<'a, K: Naming> SeenPhaser<'a, K> {
-    /// The task makes the phaser, with one sum.
-    fn make<R: Wait>(
-        &mut self,
-        by: &mut Caller<'_, u32, K, R>,
-        task: TaskNumber,
-        mode: Mode,
-    ) -> Result<(), Refusal> {
-        self.table.make(by, &mut self.me, self.number, task.get(), mode, &one_sum())
+    /// The phaser of this number, and what was done on it so far.
+    fn of<R: Wait>(rt: &R, table: &'a ReceiptTable<u32, K>, number: usize) -> SeenPhaser<'a, K>
+        requires { number < table.now.phasers }
+    {
+        let me = table.lock(rt, number).front();
+        SeenPhaser { table, number, me }
     }
 
-    /// The parent registers the child.
-    fn register<R: Wait>(
+    /// Makes the call, a making with these terms. The item of a task is its number.
+    fn answer_to<R: Wait>(
         &mut self,
         by: &mut Caller<'_, u32, K, R>,
-        parent: TaskNumber,
-        child: TaskNumber,
-        mode: Mode,
-    ) -> Result<(), Refusal> {
-        self.table.register(
-            by,
-            &mut self.me,
-            self.number,
-            parent.get(),
-            child.get(),
-            mode,
-        )
-    }
-
-    /// The task sends this value.
-    fn send<R: Wait>(
-        &mut self,
-        by: &mut Caller<'_, u32, K, R>,
-        task: TaskNumber,
-        value: i32,
-    ) -> Result<(), Refusal> {
-        self.table
-            .send(by, &mut self.me, self.number, task.get(), 0, value)
-    }
-
-    /// What the task sees of the sum.
-    fn look<R: Wait>(
-        &mut self,
-        by: &mut Caller<'_, u32, K, R>,
-        task: TaskNumber,
-    ) -> Result<Look, Refusal> {
-        self.table
-            .look(by, &mut self.me, self.number, task.get(), 0)
-    }
-
-    /// The task signals, with this item. The item of whom this wakes too.
-    fn signal<R: Wait>(
-        &mut self,
-        alloc: Global,
-        by: &mut Caller<'_, u32, K, R>,
-        task: TaskNumber,
-        item: u32,
-    ) -> Result<(Reply, Option<u32>), Refusal> {
-        by.out = Out::new(alloc)?;
-        let answer = self.table.signal(
-            by,
-            &mut self.me,
-            self.number,
-            task.get(),
-            Some(SINGLE),
-            item,
-        );
-        let reply = match answer {
-            SignalAnswer::Signalled(_) => Reply::Done,
-            SignalAnswer::Parked => Reply::NotYet,
-            SignalAnswer::Refused(_, refusal) => Reply::Refused(refusal),
-        };
-        Ok((reply, by.out.take()))
-    }
-
-    /// The task asks to pass, with this item.
-    fn pass<R: Wait>(
-        &mut self,
-        alloc: Global,
-        by: &mut Caller<'_, u32, K, R>,
-        task: TaskNumber,
-        item: u32,
-    ) -> Result<Reply, Refusal> {
-        by.out = Out::new(alloc)?;
-        match self
-            .table
-            .pass(by, &mut self.me, self.number, task.get(), item)
-        {
-            PassAnswer::Passed(_, phase) => Ok(Reply::Phase(phase)),
-            PassAnswer::Claimed(_, number) => Ok(Reply::Claim(number)),
-            PassAnswer::Parked => Ok(Reply::NotYet),
-            PassAnswer::Refused(_, refusal) => Ok(Reply::Refused(refusal)),
+        terms: &Terms,
+        call: Call,
+    ) -> Reply
+        requires { by.old.out ≡ [] }
+    {
+        let SeenPhaser { table, number, me } = self;
+        let mut phaser = table.lock(by.rt, *number);
+        match call {
+            Call::Make(task, mode) => plainly(phaser.make(by, me, task, mode, terms)),
+            Call::Register(parent, child, mode) => {
+                plainly(phaser.register(by, me, parent, child, mode))
+            }
+            Call::Signal(task, proposed) => {
+                signalled(phaser.signal(by, me, task, proposed, task))
+            }
+            Call::Pass(task) => turned(phaser.pass(by, me, task, task)),
+            Call::SingleDone(task) => plainly(phaser.single_done(by, me, task)),
+            Call::Send(task, accumulator, value) => {
+                plainly(phaser.send(by, me, task, accumulator, value))
+            }
+            Call::Look(task, accumulator) => looked(phaser.look(by, me, task, accumulator)),
+            Call::Drop(task) => plainly(phaser.drop_task(by, me, task)),
         }
     }
 
-    /// The task reports its single done. The item of whom this wakes.
-    fn single_done<R: Wait>(
+    /// The same; `Memory` if there is none for the list of those whom it wakes. They are dropped.
+    fn answer_alone<R: Wait>(
         &mut self,
         alloc: Global,
         by: &mut Caller<'_, u32, K, R>,
-        task: TaskNumber,
-    ) -> Result<Option<u32>, Refusal> {
-        by.out = Out::new(alloc)?;
-        self.table
-            .single_done(by, &mut self.me, self.number, task.get())?;
-        Ok(by.out.take())
+        terms: &Terms,
+        call: Call,
+    ) -> Reply {
+        let Ok(out) = Out::new(alloc) else {
+            return Reply::Refused(Refusal::Memory);
+        };
+        by.out = out;
+        self.answer_to(by, terms, call)
     }
 
-    /// The task leaves.
-    fn drop_task<R: Wait>(
+    /// Each call is answered as its row says.
+    fn answers<R: Wait + Abort>(
         &mut self,
         alloc: Global,
         by: &mut Caller<'_, u32, K, R>,
-        task: TaskNumber,
-    ) -> Result<(), Refusal> {
-        by.out = Out::new(alloc)?;
-        self.table
-            .drop_task(by, &mut self.me, self.number, task.get())
+        terms: &Terms,
+        rows: &[Row],
+    ) {
+        for (call, expected) in rows {
+            let answer = self.answer_alone(alloc, by, terms, *call);
+            equal_at(by.rt, call, answer, *expected);
+        }
     }
 }
 
-/// Two tasks turn on phaser 0: 14 events.
-fn turn_of_two<K: Naming, R: Wait + Abort>(
-    rt: &R,
-    alloc: Global,
-    table: &ReceiptTable<u32, K>,
-    by: &mut Caller<'_, u32, K, R>,
-) -> Result<(), Refusal>
-    requires { 0 < table.now.phasers }
-{
-    let mut phaser = SeenPhaser {
-        table,
-        number: 0,
-        me: table.front(rt, 0),
-    };
-    let first = TaskNumber::of(0);
-    let second = TaskNumber::of(1);
-    phaser.make(by, first, Mode::Single)?;
-    phaser.register(by, first, second, Mode::Single)?;
-    phaser.send(by, first, 3)?;
-    phaser.send(by, second, 4)?;
-    equal(
-        rt,
-        phaser.signal(alloc, by, first, 10)?,
-        (Reply::Done, None),
-    );
-    equal(rt, phaser.pass(alloc, by, first, 11)?, Reply::NotYet);
-    equal(
-        rt,
-        phaser.signal(alloc, by, second, 20)?,
-        (Reply::Done, Some(11)),
-    );
-    equal(rt, phaser.pass(alloc, by, first, 12)?, Reply::Claim(SINGLE));
-    equal(rt, phaser.pass(alloc, by, second, 21)?, Reply::NotYet);
-    equal(rt, phaser.single_done(alloc, by, first)?, Some(21));
-    equal(rt, phaser.pass(alloc, by, first, 13)?, Reply::Phase(0));
-    equal(rt, phaser.pass(alloc, by, second, 22)?, Reply::Phase(0));
-    equal(rt, phaser.look(by, first), Ok(Look::Value(7)));
-    equal(rt, phaser.look(by, second), Ok(Look::Value(7)));
-    phaser.drop_task(alloc, by, first)?;
-    phaser.drop_task(alloc, by, second)
+/// How many of the rows are events: those that are neither refused nor have to come again.
+fn events_of_rows(rows: &[Row]) -> u64 {
+    let mut events = 0u64;
+    for (_call, reply) in rows {
+        match reply {
+            Reply::NotYet | Reply::Refused(_) => {}
+            _ => events = events.saturating_add(1),
+        }
+    }
+    events
 }
 
-/// Phaser 1 is made and left: 2 events.
-fn made_and_left<K: Naming, R: Wait + Abort>(
-    rt: &R,
-    alloc: Global,
-    table: &ReceiptTable<u32, K>,
-    by: &mut Caller<'_, u32, K, R>,
-) -> Result<(), Refusal>
-    requires { 1 < table.now.phasers }
-{
-    let mut phaser = SeenPhaser {
-        table,
-        number: 1,
-        me: table.front(rt, 1),
-    };
-    let task = TaskNumber::of(0);
-    phaser.make(by, task, Mode::SigWait)?;
-    phaser.drop_task(alloc, by, task)
-}
-
-/// What is gathered once both phasers were called.
+/// What is gathered once each call on the one phaser of a new table was answered as its row says. The
+/// books have that many events before the table is taken apart, and its history then.
 fn calls<K: Naming, R: Wait + Abort>(
     rt: &R,
     alloc: Global,
+    example: &Example,
     limits: Limits,
     blanks: Blanks,
     logs: Vec<Whole<Noted>>,
@@ -237,10 +160,10 @@ fn calls<K: Naming, R: Wait + Abort>(
         K.UpByWorker.parts K.DownByPhaser.parts K.DownByWorker.parts K.Room.parts }
     requires fit { limits_fit limits ≡ true }
     requires limits { limits ≡ K.Logs.limits }
-    requires two { blanks.phasers ≡ 2 }
+    requires one { blanks.phasers ≡ 1 }
     requires logs { (i : ℕ) → IfSome (slice_get logs.items i) (λ w. w.name ≡ K.Logs.logs i) }
     requires empty { All (λ w. w.items ≡ []) logs.items }
-    requires each { vec_len logs ≡ 2 }
+    requires each { vec_len logs ≡ 1 }
 {
     let (books, phasers, mut shares) = open::<K>(alloc, blanks)?;
     let logs = PhaserLogs::<K>::of(alloc, logs)?;
@@ -253,22 +176,18 @@ fn calls<K: Naming, R: Wait + Abort>(
         mine,
         out: Out::new(alloc)?,
     };
-    equal(rt, table.place(1, Refusal::NotRegistered), Ok(1));
-    equal(
-        rt,
-        table.place(2, Refusal::NotRegistered),
-        Err(Refusal::NotRegistered),
-    );
-    turn_of_two(rt, alloc, &table, &mut by)?;
-    made_and_left(rt, alloc, &table, &mut by)?;
+    let mut phaser = SeenPhaser::of(rt, &table, 0);
+    phaser.answers(alloc, &mut by, &example.terms(), example.rows);
+    let events = events_of_rows(example.rows);
+    equal(rt, table.so_far(&mut by).events, events);
     shares.push(by.mine)?;
     let left = table.into_parts(rt);
-    assert_eq!(rt; left.parts.len(), 2);
-    equal(rt, [left.parts[0].len(), left.parts[1].len()], [14, 2]);
+    assert_eq!(rt; left.parts.len(), 1);
+    equal(rt, left.parts[0].len() as u64, events);
     gather(shares, left.phasers, left.books)
 }
 
-// Names the ledgers and the logs.
+/// Names the ledgers and the logs.
 fn calls_over<
     R: Wait + Abort,
     EP: Ledger,
@@ -282,6 +201,7 @@ fn calls_over<
 >(
     rt: &R,
     alloc: Global,
+    example: &Example,
     limits: Limits,
     blanks: Blanks,
     logs: Vec<Whole<Noted>>,
@@ -290,38 +210,44 @@ fn calls_over<
     requires parts { IsParted blanks EP.parts EW.parts UP.parts UW.parts DP.parts DW.parts RM.parts }
     requires fit { limits_fit limits ≡ true }
     requires limits { limits ≡ L.limits }
-    requires two { blanks.phasers ≡ 2 }
+    requires one { blanks.phasers ≡ 1 }
     requires logs { (i : ℕ) → IfSome (slice_get logs.items i) (λ w. w.name ≡ L.logs i) }
     requires empty { All (λ w. w.items ≡ []) logs.items }
-    requires each { vec_len logs ≡ 2 }
+    requires each { vec_len logs ≡ 1 }
 {
-    calls::<Named<Seven<EP, EW, UP, UW, DP, DW, RM>, L>, R>(rt, alloc, limits, blanks, logs)
+    calls::<Named<Seven<EP, EW, UP, UW, DP, DW, RM>, L>, R>(
+        rt, alloc, example, limits, blanks, logs,
+    )
 }
 
-/// 16 events, and the values 3 and 4.
-#[test]
-fn each_call_of_the_table(rt: HostRuntime) -> Result<(), Fail> {
-    const TOTALS: Totals = Totals {
-        events: 16,
-        up: 7,
-        down: 0,
-    };
-    let limits = Limits {
-        acts: 1,
-        finishes: 1,
-        history: 64,
-        phasers: 2,
-        regs: 2,
-        tasks: 2,
-    };
-    let logs = new_logs(rt.alloc(), 2)?;
-    let totals = calls_over::<HostRuntime, Brand, Brand, Brand, Brand, Brand, Brand, Brand, Brand>(
-        &rt,
-        rt.alloc(),
+/// Each call on a new phaser is answered as its row says, and what is gathered has as many events.
+fn answers_as_worked_out<R: Abort + Wait>(
+    rt: &R,
+    alloc: Global,
+    example: &Example,
+) -> Result<(), Fail> {
+    let limits = example.limits();
+    if !limits.fits() {
+        return Err(Fail::from("the limits are none"));
+    }
+    let logs = new_logs(alloc, 1)?;
+    let totals = calls_over::<R, Brand, Brand, Brand, Brand, Brand, Brand, Brand, Brand>(
+        rt,
+        alloc,
+        example,
         limits,
-        Blanks::new(2, 1),
+        Blanks::new(1, 1),
         logs,
-    );
-    equal(&rt, totals, Ok(TOTALS));
+    )?;
+    equal(rt, totals.events, events_of_rows(example.rows));
+    Ok(())
+}
+
+/// The worked examples of one phaser. A task that has to come again is parked.
+#[test]
+fn rows_on_the_table_of_runs(rt: HostRuntime) -> Result<(), Fail> {
+    for example in ON_A_TABLE {
+        answers_as_worked_out(&rt, rt.alloc(), example)?;
+    }
     Ok(())
 }

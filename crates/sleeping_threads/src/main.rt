@@ -21,7 +21,7 @@ use told_history::LongEvent;
 
 const THREADS: usize = 4;
 
-/// How many phases there are where no argument says it.
+/// How many phases there are if no argument says it.
 const PHASES: Phase = 20_000;
 
 /// A task that its thread keeps. While the task is parked, the thread's parker is the item that
@@ -86,8 +86,8 @@ impl<'a, 'p, J: Naming, R: Wait> Own<'a, 'p, J, R> {
             front,
             out,
         } = self;
-        lock.send(*rt, front, *task, 0, change(*task, phase))?;
-        let answer = lock.signal(*rt, front, out, *task, None, *parker);
+        lock.lock(*rt).send(front, *task, 0, change(*task, phase))?;
+        let answer = lock.lock(*rt).signal(front, out, *task, None, *parker);
         wake(out);
         match answer {
             SignalAnswer::Signalled(_) => Ok(()),
@@ -106,12 +106,12 @@ impl<'a, 'p, J: Naming, R: Wait> Own<'a, 'p, J, R> {
             front,
             out,
         } = self;
-        let answer = lock.pass(*rt, front, out, *task, *parker);
+        let answer = lock.lock(*rt).pass(front, out, *task, *parker);
         wake(out);
         answer
     }
 
-    /// The task ends its turn: where it is parked the thread sleeps until the task is freed, and
+    /// The task ends its turn: if it is parked the thread sleeps until the task is freed, and
     /// then asks again. The phase of the turn.
     fn pass(&mut self) -> Result<Phase, Refusal> {
         for _ in self.rt.forever() {
@@ -129,7 +129,7 @@ impl<'a, 'p, J: Naming, R: Wait> Own<'a, 'p, J, R> {
     fn meet(&mut self, phase: Phase) -> Result<bool, Refusal> {
         self.arrive(phase)?;
         let passed = self.pass()?;
-        match self.lock.look(self.rt, &mut self.front, self.task, 0)? {
+        match self.lock.lock(self.rt).look(&mut self.front, self.task, 0)? {
             Look::Value(sum) => Ok(passed == phase && sum == sum_of(phase)),
             _ => Ok(false),
         }
@@ -158,7 +158,7 @@ impl<'a, 'p, J: Naming, R: Wait> Drop for Own<'a, 'p, J, R> {
             mut front,
             mut out,
         } = self;
-        let _left = lock.leave(rt, &mut front, &mut out, task);
+        let _left = lock.lock(rt).leave(&mut front, &mut out, task);
         wake(&mut out);
     }
 }
@@ -172,11 +172,11 @@ fn register<'a, 'p, J: Naming, R: Wait>(
     front: Front<J>,
 ) -> Result<Vec<Own<'a, 'p, J, R>>, Refusal> {
     let mut front = front;
-    let maker = lock.make(rt, &mut front, Mode::SigWait)?;
+    let maker = lock.lock(rt).make(&mut front, Mode::SigWait)?;
     let mut owns = Vec::new(alloc);
     owns.push(Own::new(rt, alloc, lock, maker, &parkers[0], front.again())?)?;
     for parker in parkers.iter().skip(1) {
-        let task = lock.register(rt, &mut front, maker, Mode::SigWait)?;
+        let task = lock.lock(rt).register(&mut front, maker, Mode::SigWait)?;
         owns.push(Own::new(rt, alloc, lock, task, parker, front.again())?)?;
     }
     Ok(owns)

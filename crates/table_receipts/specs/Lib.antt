@@ -1,3 +1,4 @@
+pub mod Behind
 pub mod Logs
 pub mod Parts
 pub mod Seen

@@ -3,7 +3,7 @@ use Rattle.std.specs.Prelude.{ℕ, zero, suc, ◌≡◌, ◌==◌, false, List, 
 use Rattle.phase_model.specs.Rules.{Story}
 use Rattle.table_receipts.specs.Logs.{Sight, blank, GoesOn}
 
--- what was seen of phaser n: nothing where there is none
+-- what was seen of phaser n: nothing if there is none
 abbrev pub story_at : List Sight → ℕ → Story
 story_at [] n = blank (record { acts = 0; finishes = 0; history = 0; phasers = 0; regs = 0; tasks = 0 })
 story_at (x ∷ xs) zero = x.story

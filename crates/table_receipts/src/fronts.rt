@@ -30,7 +30,7 @@ impl<K: Naming> Model for Fronts<K> {
 }
 
 impl<K: Naming> Fronts<K> {
-    /// What was done on each of the table's phasers so far. `Memory` where the list gets none.
+    /// What was done on each of the table's phasers so far. `Memory` if the list gets none.
     pub fn of<T, R: Wait>(
         alloc: Global,
         rt: &R,
@@ -41,7 +41,7 @@ impl<K: Naming> Fronts<K> {
     {
         let mut fronts = Vec::new(alloc);
         for phaser in 0..table.phasers {
-            fronts.push(table.front(rt, phaser))?;
+            fronts.push(table.lock(rt, phaser).front())?;
         }
         Ok(Fronts { fronts })
     }
@@ -69,7 +69,7 @@ impl<K: Naming> Fronts<K> {
         self.fronts[phaser] = seen;
     }
 
-    /// A copy. `Memory` where its list gets none.
+    /// A copy. `Memory` if its list gets none.
     pub fn again(&mut self, alloc: Global) -> Result<Fronts<K>, Refusal>
         ensures same { self.new ≡ self.old }
         ensures all { IfOk result (λ f. length f ≡ length self.old) }

@@ -6,15 +6,16 @@ mod caller;
 mod cell;
 mod front;
 mod fronts;
+mod locked;
 mod logs;
 mod naming;
 mod noted;
 mod table;
 
 pub use caller::Caller;
-pub use cell::ReceiptCell;
 pub use front::{Front, PhaserLog};
 pub use fronts::Fronts;
+pub use locked::LockedPhaser;
 pub use logs::{PhaserLogs, new_logs};
 pub use naming::{Logs, Named, Naming};
 pub use noted::Noted;

@@ -1,5 +1,5 @@
 //! The logs of a run's phasers, before a table has them.
-ghost use Rattle.std.specs.Prelude.{◌≡◌, ◌≤◌, ℕ, [], All, IfOk, IfErr, IfSome, slice_get, length, vec_len};
+ghost use Rattle.std.specs.Prelude.{◌≡◌, ◌≤◌, ℕ, [], All, IfOk, IfErr, IfSome, slice_get, vec_len};
 ghost use Rattle.std.specs.VecDeque.{deque_len};
 ghost use Rattle.table_receipts.specs.Logs.{blank};
 
@@ -26,7 +26,7 @@ pub struct PhaserLogs<K: Naming> {
     pub(crate) logs: VecDeque<NumberedLog<K>>,
 }
 
-/// So many logs without an entry, each under a new name. `Memory` where their list gets none.
+/// So many logs without an entry, each under a new name. `Memory` if their list gets none.
 pub fn new_logs(alloc: Global, phasers: u32) -> Result<Vec<Whole<Noted>>, Refusal>
     ensures number { IfOk result (λ v. vec_len v ≡ phasers) }
     ensures empty { IfOk result (λ v. All (λ w. w.items ≡ []) v.items) }
@@ -40,7 +40,7 @@ pub fn new_logs(alloc: Global, phasers: u32) -> Result<Vec<Whole<Noted>>, Refusa
 }
 
 impl<K: Naming> PhaserLogs<K> {
-    /// The logs under the names that the run has for them. `Memory` where their list gets none.
+    /// The logs under the names that the run has for them. `Memory` if their list gets none.
     pub fn of(alloc: Global, logs: Vec<Whole<Noted>>) -> Result<PhaserLogs<K>, Refusal>
         requires names { (i : ℕ) → IfSome (slice_get logs.items i) (λ w. w.name ≡ K.Logs.logs i) }
         requires empty { All (λ w. w.items ≡ []) logs.items }

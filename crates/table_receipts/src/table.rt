@@ -1,38 +1,25 @@
 //! The phasers of a run by their numbers, each behind a lock of its own, and the run's books.
 //!
-//! Each call takes the phaser's lock, and the books' lock for the one post that it makes. Its clause
-//! `told` says what it was answered: the phaser's reply, at a place of its one history.
-ghost use Rattle.std.specs.Prelude.{◌≡◌, ◌+◌, ◌++◌, ◌∷◌, [], ◌<◌, ◌≤◌, true, false, All, IfOk, IfErr, OnErr, is_ok, map, vec_len, vec_capacity, ℤ};
+//! A call is made on the phaser that its lock lends (`LockedPhaser`).
+ghost use Rattle.std.specs.Prelude.{◌≡◌, ◌+◌, [], ◌<◌, ◌≤◌, true, All, IfOk, IfErr, map, vec_len, vec_capacity};
 ghost use Rattle.std.specs.VecDeque.{deque_len};
 ghost use Rattle.phase_modes.specs.Limits.{limits_fit};
-ghost use Rattle.phase_modes.specs.Mode.{can_wait};
-ghost use Rattle.phase_model.specs.Amounts.{plus};
-ghost use Rattle.phase_model.specs.declared.call.Call.TheVariants.{Make as make, Register as register, Signal as signal, Pass as pass, SingleDone as single_done, Send as send, Look as look, Drop as drop_task};
-ghost use Rattle.phase_model.specs.Phases.{IsClosed};
-ghost use Rattle.phase_model.specs.Replies.{done_result};
-ghost use Rattle.phase_model.specs.Tasks.{has_mode};
-ghost use Rattle.phaser_answers.specs.Answers.{signal_result, pass_result, look_result};
-ghost use Rattle.parked_tasks.specs.Parking.{goes_on, IsBack, has_signalled, IsBackFromSignal};
-ghost use Rattle.share_book.specs.Accounts.{nothing};
-ghost use Rattle.phaser_cell.specs.Amounts.{amount_if};
+ghost use Rattle.share_book.specs.Accounts.{nothing, IsWithin, amount_of};
 ghost use Rattle.phaser_cell.specs.Telling.{ArePhaserParts};
-ghost use Rattle.trace_model.specs.Told.{phaser_told};
-ghost use Rattle.long_locks.specs.Told.{IsSignalAnswer, IsPassAnswer, IfPassed, HasLooked};
 ghost use Rattle.table_receipts.specs.Parts.{AreLogged};
-ghost use Rattle.table_receipts.specs.Told.{IsAnswered, IsMade};
 
 use crate::caller::Caller;
 use crate::cell::ReceiptCell;
-use crate::front::{Front, PhaserLog};
+use crate::front::PhaserLog;
+use crate::locked::LockedPhaser;
 use crate::logs::{NumberedLog, PhaserLogs};
 use crate::naming::Naming;
 use crossbeam_utils::CachePadded;
-use phase_model::{Event, Look, Terms};
-use phase_modes::{Limits, Mode, Refusal};
-use phaser_cell::{Locked, PassAnswer, PhaserCell, SignalAnswer};
-use share_book::{Books, PhaserBook};
+use phase_modes::{Limits, Refusal};
+use phaser_cell::PhaserCell;
+use share_book::{Books, PhaserBook, Totals};
 use std::alloc::Global;
-use std::sync::{Mutex, MutexGuard, Wait};
+use std::sync::{Mutex, Wait};
 use trace_model::Part;
 
 /// The phasers of a run, numbered from 0, each with the whole of its log, and the run's books.
@@ -64,7 +51,7 @@ struct Room<K: Naming> {
 }
 
 impl<K: Naming> Room<K> {
-    /// Room for as many phasers as a run has at most; `Memory` where that is refused.
+    /// Room for as many phasers as a run has at most; `Memory` if that is refused.
     fn new(alloc: Global) -> Result<Room<K>, Refusal>
         ensures memory { IfErr result (λ r. r ≡ Refusal.Memory) }
     {
@@ -120,7 +107,7 @@ fn locked_cells<T: Drop, K: Naming>(
             unreachable!()
         };
         let cell = PhaserCell::new(alloc, limits, book)?;
-        let cell = ReceiptCell::new(cell, number, log);
+        let cell = ReceiptCell { cell, number, log };
         cells.push(CachePadded::new(Mutex::new(cell)))?;
     }
     Ok(cells)
@@ -152,7 +139,7 @@ fn take_apart<T: Drop, K: Naming, R: Wait>(
 {
     let number = parts.len() as u32;
     must_be(rt, cell.number == number);
-    let (cell, log) = cell.into_parts();
+    let ReceiptCell { cell, log, .. } = cell;
     let PhaserCell {
         state,
         drawn,
@@ -167,7 +154,7 @@ fn take_apart<T: Drop, K: Naming, R: Wait>(
 impl<T: Drop, K: Naming> ReceiptTable<T, K> {
     /// One phaser for each of the phasers' books and logs, with these limits, made by nobody yet. The
     /// books are those of one `open`, in order. All memory that the table will ever need is taken
-    /// here; `Memory` where that is refused.
+    /// here; `Memory` if that is refused.
     pub fn new(
         alloc: Global,
         limits: Limits,
@@ -225,7 +212,7 @@ impl<T: Drop, K: Naming> ReceiptTable<T, K> {
 }
 
 impl<T, K: Naming> ReceiptTable<T, K> {
-    /// The place in the table of the phaser of this number; this refusal where the table has none.
+    /// The place in the table of the phaser of this number; this refusal if the table has none.
     pub fn place(&self, phaser: u32, refusal: Refusal) -> Result<usize, Refusal>
         ensures place { IfOk result (λ n. (n ≡ phaser) × (n < self.now.phasers)) }
         ensures unknown { IfErr result (λ e. (e ≡ refusal) × (self.now.phasers ≤ phaser)) }
@@ -238,238 +225,26 @@ impl<T, K: Naming> ReceiptTable<T, K> {
         }
     }
 
-    /// Takes the phaser's lock, and lends what stands behind it until the guard is dropped. What
-    /// stands at a place has the place's number, or this waits for ever. No caller outside has the
-    /// guard: who had two could exchange what they guard, and then each call would wait for ever.
+    /// Takes the phaser's lock, and lends the phaser until it is dropped: its calls are made on that.
+    /// What stands at a place has the place's number, or this waits for ever; no caller can exchange
+    /// what it is lent.
     #[inline(always)]
-    fn lock<R: Wait>(&self, rt: &R, phaser: usize) -> MutexGuard<'_, ReceiptCell<T, K>>
+    pub fn lock<R: Wait>(&self, rt: &R, phaser: usize) -> LockedPhaser<'_, T, K>
         requires { phaser < self.now.phasers }
-        ensures { result.value.number ≡ phaser }
+        ensures { result.number ≡ phaser }
     {
         let cell = self.cells[phaser].lock(rt);
         must_be(rt, cell.number as usize == phaser);
-        cell
+        LockedPhaser::of(cell, &self.books)
     }
 
-    /// What was done on the phaser so far.
-    pub fn front<R: Wait>(&self, rt: &R, phaser: usize) -> Front<K>
-        requires { phaser < self.now.phasers }
-        ensures { result.log ≡ K.Logs.logs phaser }
+    /// Takes the books' lock, and answers what all phasers together add up to so far: of no kind
+    /// less than what this worker has posted.
+    pub fn so_far<R: Wait>(&self, by: &mut Caller<'_, T, K, R>) -> Totals
+        ensures within { IsWithin by.new.mine (amount_of result) }
+        ensures same { by.new ≡ by.old }
     {
-        let mut cell = self.lock(rt, phaser);
-        cell.front()
-    }
-
-    /// The cell's `make`, under the phaser's lock.
-    pub fn make<R: Wait>(
-        &self,
-        by: &mut Caller<'_, T, K, R>,
-        me: &mut Front<K>,
-        phaser: usize,
-        task: u32,
-        mode: Mode,
-        terms: &Terms,
-    ) -> Result<(), Refusal>
-        requires phaser { phaser < self.now.phasers }
-        requires log { me.old.log ≡ K.Logs.logs phaser }
-        ensures told { IsMade result (make task mode) terms.now me.old.story me.new.story }
-        ensures log { me.new.log ≡ me.old.log }
-        ensures mine { by.new.mine ≡ plus (amount_if (is_ok result) (Event.Make task mode)) by.old.mine }
-        ensures out { by.new.out ≡ by.old.out }
-    {
-        let rt = by.rt;
-        let mut cell = self.lock(rt, phaser);
-        let mut books = Locked {
-            rt,
-            books: &self.books,
-        };
-        cell.make(by, &mut books, me, task, mode, terms)
-    }
-
-    /// The cell's `register`, under the phaser's lock.
-    pub fn register<R: Wait>(
-        &self,
-        by: &mut Caller<'_, T, K, R>,
-        me: &mut Front<K>,
-        phaser: usize,
-        parent: u32,
-        child: u32,
-        mode: Mode,
-    ) -> Result<(), Refusal>
-        requires phaser { phaser < self.now.phasers }
-        requires log { me.old.log ≡ K.Logs.logs phaser }
-        ensures told { IsAnswered (λ _ r. result ≡ done_result r) (register parent child mode) me.old.story me.new.story }
-        ensures log { me.new.log ≡ me.old.log }
-        ensures mine { by.new.mine ≡ plus (amount_if (is_ok result) (Event.Reg parent child mode)) by.old.mine }
-        ensures out { by.new.out ≡ by.old.out }
-    {
-        let rt = by.rt;
-        let mut cell = self.lock(rt, phaser);
-        let mut books = Locked {
-            rt,
-            books: &self.books,
-        };
-        cell.register(by, &mut books, me, parent, child, mode)
-    }
-
-    /// The cell's `send`, under the phaser's lock.
-    pub fn send<R: Wait>(
-        &self,
-        by: &mut Caller<'_, T, K, R>,
-        me: &mut Front<K>,
-        phaser: usize,
-        task: u32,
-        accumulator: u8,
-        value: i32,
-    ) -> Result<(), Refusal>
-        requires phaser { phaser < self.now.phasers }
-        requires log { me.old.log ≡ K.Logs.logs phaser }
-        ensures told { IsAnswered (λ _ r. result ≡ done_result r) (send task accumulator value) me.old.story me.new.story }
-        ensures log { me.new.log ≡ me.old.log }
-        ensures mine { by.new.mine ≡ plus (amount_if (is_ok result) (Event.Send task accumulator value)) by.old.mine }
-        ensures out { by.new.out ≡ by.old.out }
-    {
-        let rt = by.rt;
-        let mut cell = self.lock(rt, phaser);
-        let mut books = Locked {
-            rt,
-            books: &self.books,
-        };
-        cell.send(by, &mut books, me, task, accumulator, value)
-    }
-
-    /// The cell's `look`, under the phaser's lock. What was seen is the fold of all values that were
-    /// sent for the phase before the task's own, which was closed.
-    pub fn look<R: Wait>(
-        &self,
-        by: &mut Caller<'_, T, K, R>,
-        me: &mut Front<K>,
-        phaser: usize,
-        task: u32,
-        accumulator: u8,
-    ) -> Result<Look, Refusal>
-        requires phaser { phaser < self.now.phasers }
-        requires log { me.old.log ≡ K.Logs.logs phaser }
-        ensures told { IsAnswered (λ _ r. result ≡ look_result r) (look task accumulator) me.old.story me.new.story }
-        ensures seen { IfOk result (λ x. HasLooked me.new.story.terms.ops task accumulator me.new.story.past x) }
-        ensures log { me.new.log ≡ me.old.log }
-        ensures mine { (x : Look ℤ) → by.new.mine ≡ plus (amount_if (is_ok result) (Event.Look task accumulator x)) by.old.mine }
-        ensures out { by.new.out ≡ by.old.out }
-    {
-        let rt = by.rt;
-        let mut cell = self.lock(rt, phaser);
-        let mut books = Locked {
-            rt,
-            books: &self.books,
-        };
-        cell.look(by, &mut books, me, task, accumulator)
-    }
-
-    /// The cell's `signal`, under the phaser's lock. The item comes back, or it is parked.
-    pub fn signal<R: Wait>(
-        &self,
-        by: &mut Caller<'_, T, K, R>,
-        me: &mut Front<K>,
-        phaser: usize,
-        task: u32,
-        proposed: Option<u32>,
-        item: T,
-    ) -> SignalAnswer<T>
-        requires phaser { phaser < self.now.phasers }
-        requires log { me.old.log ≡ K.Logs.logs phaser }
-        requires empty { by.old.out ≡ [] }
-        ensures told { IsAnswered (λ _ r. IsSignalAnswer item (signal_result r) result) (signal task proposed) me.old.story me.new.story }
-        ensures item { IsBackFromSignal item result }
-        ensures nobody { has_signalled result ≡ false → by.new.out ≡ [] }
-        ensures log { me.new.log ≡ me.old.log }
-        ensures mine { by.new.mine ≡ plus (amount_if (has_signalled result) (Event.Sig task proposed)) by.old.mine }
-    {
-        let rt = by.rt;
-        let mut cell = self.lock(rt, phaser);
-        let mut books = Locked {
-            rt,
-            books: &self.books,
-        };
-        cell.signal(by, &mut books, me, task, proposed, item)
-    }
-
-    /// The cell's `pass`, under the phaser's lock. The item comes back, or it is parked. Where a task
-    /// that can wait has passed a phase, each who was registered then, and can signal, had signalled
-    /// it.
-    pub fn pass<R: Wait>(
-        &self,
-        by: &mut Caller<'_, T, K, R>,
-        me: &mut Front<K>,
-        phaser: usize,
-        task: u32,
-        item: T,
-    ) -> PassAnswer<T>
-        requires phaser { phaser < self.now.phasers }
-        requires log { me.old.log ≡ K.Logs.logs phaser }
-        requires empty { by.old.out ≡ [] }
-        ensures told { IsAnswered (λ h r. IsPassAnswer item (pass_result h r) result) (pass task) me.old.story me.new.story }
-        ensures closed { IfPassed result (λ p. has_mode can_wait task me.new.story.past ≡ true → IsClosed p me.new.story.past) }
-        ensures item { IsBack item result }
-        ensures nobody { goes_on result ≡ false → by.new.out ≡ [] }
-        ensures log { me.new.log ≡ me.old.log }
-        ensures mine { by.new.mine ≡ plus (amount_if (goes_on result) (Event.Pass task)) by.old.mine }
-    {
-        let rt = by.rt;
-        let mut cell = self.lock(rt, phaser);
-        let mut books = Locked {
-            rt,
-            books: &self.books,
-        };
-        cell.pass(by, &mut books, me, task, item)
-    }
-
-    /// The cell's `single_done`, under the phaser's lock.
-    pub fn single_done<R: Wait>(
-        &self,
-        by: &mut Caller<'_, T, K, R>,
-        me: &mut Front<K>,
-        phaser: usize,
-        task: u32,
-    ) -> Result<(), Refusal>
-        requires phaser { phaser < self.now.phasers }
-        requires log { me.old.log ≡ K.Logs.logs phaser }
-        requires empty { by.old.out ≡ [] }
-        ensures told { IsAnswered (λ _ r. result ≡ done_result r) (single_done task) me.old.story me.new.story }
-        ensures refused { OnErr result (by.new.out ≡ []) }
-        ensures log { me.new.log ≡ me.old.log }
-        ensures mine { by.new.mine ≡ plus (amount_if (is_ok result) (Event.Did task)) by.old.mine }
-    {
-        let rt = by.rt;
-        let mut cell = self.lock(rt, phaser);
-        let mut books = Locked {
-            rt,
-            books: &self.books,
-        };
-        cell.single_done(by, &mut books, me, task)
-    }
-
-    /// The cell's `drop_task`, under the phaser's lock.
-    pub fn drop_task<R: Wait>(
-        &self,
-        by: &mut Caller<'_, T, K, R>,
-        me: &mut Front<K>,
-        phaser: usize,
-        task: u32,
-    ) -> Result<(), Refusal>
-        requires phaser { phaser < self.now.phasers }
-        requires log { me.old.log ≡ K.Logs.logs phaser }
-        requires empty { by.old.out ≡ [] }
-        ensures told { IsAnswered (λ _ r. result ≡ done_result r) (drop_task task) me.old.story me.new.story }
-        ensures refused { OnErr result (by.new.out ≡ []) }
-        ensures log { me.new.log ≡ me.old.log }
-        ensures mine { by.new.mine ≡ plus (amount_if (is_ok result) (Event.Drop task)) by.old.mine }
-    {
-        let rt = by.rt;
-        let mut cell = self.lock(rt, phaser);
-        let mut books = Locked {
-            rt,
-            books: &self.books,
-        };
-        cell.drop_task(by, &mut books, me, task)
+        let mut books = self.books.lock(by.rt);
+        books.so_far(&mut by.mine)
     }
 }

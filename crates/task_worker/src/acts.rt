@@ -1,4 +1,4 @@
-//! How a task's act is begun, and made where it is one event.
+//! How a task's act is begun, and made if it is one event.
 ghost use Rattle.std.specs.Prelude.{◌≡◌, ℕ, List, None, Ok, true, IfOk, IfSome, OnOk, if◌then◌else◌};
 ghost use Rattle.world_model.specs.declared.event.WorldEvent.{WorldEvent};
 ghost use Rattle.table_receipts.specs.Seen.{story_at};
@@ -36,21 +36,21 @@ fn begun_by<B: Drop>(act: &Act<B>) -> Option<Begun>
 }
 
 impl<B: Body, K: RunNaming> Shared<B, K> {
-    /// The task gives up what it is about, and comes to its end.
+    /// The task gives up what it is about, and ends.
     pub(crate) fn fail(&self, task: &mut Task<B, K>, refusal: Refusal) -> Result<(), Refusal>
         ensures { OnOk result (task.new.standing ≡ given_up task.old.standing) }
     {
         task.fail(self.tickets.draw(), refusal)
     }
 
-    /// The act is refused, and the task comes to its end.
+    /// The act is refused, and the task ends.
     fn refuse(&self, task: &mut Task<B, K>, tried: Tried, refusal: Refusal) -> Result<(), Refusal>
         ensures { OnOk result (task.new.standing ≡ given_up task.old.standing) }
     {
         task.refuse(self.tickets.draw(), tried, refusal)
     }
 
-    /// Whether the task may make the act, as far as it knows itself; where it may not, it comes to
+    /// Whether the task may make the act, as far as it knows itself; if it may not, it comes to
     /// its end.
     fn may_try(&self, task: &mut Task<B, K>, tried: Tried) -> Result<bool, Refusal>
         ensures same { IfOk result (λ may. may ≡ true → task.new ≡ task.old) }
@@ -149,7 +149,7 @@ impl<B: Body, K: RunNaming> Shared<B, K> {
         }
     }
 
-    /// Begins an act that goes on by a plan, where it isn't refused. Once it has come to its end the
+    /// Begins an act that goes on by a plan, if it isn't refused. Once it has ended the
     /// body hears of it, if it hears anything more.
     fn begin(&self, task: &mut Task<B, K>, begun: Begun) -> Result<bool, Refusal>
         requires { ∥ (K.Supposing.supposed → HasAskedFor B.Body.shows task.old.body task.old.log.task begun (seen_by task.old.fronts task.old.standing task.old.log.log)) ∥₁ }
@@ -164,7 +164,7 @@ impl<B: Body, K: RunNaming> Shared<B, K> {
         Ok(true)
     }
 
-    /// The same, where nothing else comes of it.
+    /// The same, if nothing else comes of it.
     fn enter(&self, task: &mut Task<B, K>, begun: Begun) -> Result<(), Refusal>
         requires { ∥ (K.Supposing.supposed → HasAskedFor B.Body.shows task.old.body task.old.log.task begun (seen_by task.old.fronts task.old.standing task.old.log.log)) ∥₁ }
         ensures acted { OnOk result (HasActed (λ n. story_at task.old.fronts n) task.old.standing task.new.standing) }
@@ -173,7 +173,7 @@ impl<B: Body, K: RunNaming> Shared<B, K> {
         Ok(())
     }
 
-    /// Enters what begins by this act; `NotNow` where nothing does.
+    /// Enters what begins by this act; `NotNow` if nothing does.
     fn enter_by(&self, task: &mut Task<B, K>, act: &Act<B>) -> Result<(), Refusal>
         requires { ∥ (K.Supposing.supposed → B.Body.shows task.old.body task.old.log.task (asked_by (Ok act.now)) (seen_by task.old.fronts task.old.standing task.old.log.log)) ∥₁ }
         ensures acted { OnOk result (HasActed (λ n. story_at task.old.fronts n) task.old.standing task.new.standing) }

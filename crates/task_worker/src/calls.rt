@@ -39,7 +39,9 @@ impl<B: Body, K: RunNaming> Shared<B, K> {
         let number = self.place(phaser, Refusal::PhasersFull)?;
         let maker = task.number();
         let mut me = task.front(number);
-        self.phasers.make(by, &mut me, number, maker, mode, terms)?;
+        self.phasers
+            .lock(by.rt, number)
+            .make(by, &mut me, maker, mode, terms)?;
         task.made(phaser, mode, me)
     }
 
@@ -60,7 +62,8 @@ impl<B: Body, K: RunNaming> Shared<B, K> {
         let parent = task.number();
         let mut me = task.front(number);
         self.phasers
-            .register(by, &mut me, number, parent, child, pair.mode)?;
+            .lock(by.rt, number)
+            .register(by, &mut me, parent, child, pair.mode)?;
         task.registered(pair.phaser, me);
         Ok(())
     }
@@ -84,7 +87,8 @@ impl<B: Body, K: RunNaming> Shared<B, K> {
         let sender = task.number();
         let mut me = task.front(number);
         self.phasers
-            .send(by, &mut me, number, sender, accumulator, value)?;
+            .lock(by.rt, number)
+            .send(by, &mut me, sender, accumulator, value)?;
         task.sent(phaser, me);
         Ok(())
     }
@@ -106,7 +110,10 @@ impl<B: Body, K: RunNaming> Shared<B, K> {
         let number = self.place(phaser, Refusal::NotRegistered)?;
         let reader = task.number();
         let mut me = task.front(number);
-        let seen = self.phasers.look(by, &mut me, number, reader, accumulator)?;
+        let seen = self
+            .phasers
+            .lock(by.rt, number)
+            .look(by, &mut me, reader, accumulator)?;
         task.looked(phaser, me, seen);
         Ok(())
     }
@@ -135,7 +142,8 @@ impl<B: Body, K: RunNaming> Shared<B, K> {
         let Busy { seat, by, kept, .. } = busy;
         let answer = self
             .phasers
-            .signal(by, &mut me, number, task, proposed, item);
+            .lock(by.rt, number)
+            .signal(by, &mut me, task, proposed, item);
         self.flush(by.rt, seat, kept, &mut by.out)?;
         match answer {
             SignalAnswer::Signalled(signalled) => {
@@ -168,7 +176,10 @@ impl<B: Body, K: RunNaming> Shared<B, K> {
         let task = item.task.number();
         let mut me = item.task.front(number);
         let Busy { seat, by, kept, .. } = busy;
-        let answer = self.phasers.pass(by, &mut me, number, task, item);
+        let answer = self
+            .phasers
+            .lock(by.rt, number)
+            .pass(by, &mut me, task, item);
         self.flush(by.rt, seat, kept, &mut by.out)?;
         match answer {
             PassAnswer::Passed(passed, phase) => {
@@ -195,7 +206,9 @@ impl<B: Body, K: RunNaming> Shared<B, K> {
         let reporter = task.number();
         let mut me = task.front(number);
         let Busy { seat, by, kept, .. } = busy;
-        self.phasers.single_done(by, &mut me, number, reporter)?;
+        self.phasers
+            .lock(by.rt, number)
+            .single_done(by, &mut me, reporter)?;
         self.flush(by.rt, seat, kept, &mut by.out)
     }
 
@@ -215,7 +228,9 @@ impl<B: Body, K: RunNaming> Shared<B, K> {
         let number = self.place(phaser.get(), Refusal::NotRegistered)?;
         let mut me = task.front(number);
         let Busy { seat, by, kept, .. } = busy;
-        self.phasers.drop_task(by, &mut me, number, leaver.get())?;
+        self.phasers
+            .lock(by.rt, number)
+            .drop_task(by, &mut me, leaver.get())?;
         self.flush(by.rt, seat, kept, &mut by.out)
     }
 

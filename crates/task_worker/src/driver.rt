@@ -19,14 +19,14 @@ use task_standing::Due;
 use tasks_in_flight::{Body, Gate, Item, RootLeft, RunNaming, Task, TaskLeft};
 
 /// How many steps and events of a task a worker makes before it takes another, if there is one. A
-/// task that parks or ends comes to fewer. So the queue is asked once for many events, and whoever
+/// task that parks or ends makes fewer. So the queue is asked once for many events, and whoever
 /// stands in it comes on soon.
 const STRETCH: u32 = 64;
 
-/// A task that goes on; none where it is parked or has ended.
+/// A task that goes on; none if it is parked or has ended.
 type Next<B, K> = Option<Item<B, K>>;
 
-/// What is answered where a call on a phaser or a finish was refused that no act under way can be
+/// What is answered if a call on a phaser or a finish was refused that no act under way can be
 /// refused. Memory may be wanting anywhere.
 fn told(refusal: Refusal) -> Refusal
     ensures { IsRunRefused result }
@@ -38,7 +38,7 @@ fn told(refusal: Refusal) -> Refusal
 }
 
 impl<B: Body, K: RunNaming> Shared<B, K> {
-    /// The task gives up by this refusal, where its event may be refused by it.
+    /// The task gives up by this refusal, if its event may be refused by it.
     fn give_up(
         &self,
         item: Item<B, K>,
@@ -341,7 +341,7 @@ impl<B: Body, K: RunNaming> Shared<B, K> {
         self.give(busy, driven)
     }
 
-    /// Takes tasks and drives them, until the queue is closed. Where something is amiss, the queue
+    /// Takes tasks and drives them, until the queue is closed. If something is amiss, the queue
     /// is closed first, so that nobody waits at it for ever.
     pub fn work<G: Gate, R: Wait>(
         &self,

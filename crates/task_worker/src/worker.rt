@@ -145,7 +145,7 @@ impl<'a, B: Body, K: RunNaming, R: Wait> Busy<'a, B, K, R> {
 }
 
 impl<B: Body, K: RunNaming> Shared<B, K> {
-    /// The phaser's place in the table; the refusal where no phaser has the number.
+    /// The phaser's place in the table; the refusal if no phaser has the number.
     pub(crate) fn place(&self, phaser: u32, refusal: Refusal) -> Result<usize, Refusal>
         ensures place { IfOk result (λ n. n < K.Logs.limits.phasers) }
         ensures same { IfOk result (λ n. n ≡ phaser) }
@@ -165,7 +165,7 @@ impl<B: Body, K: RunNaming> Shared<B, K> {
         self.queue.take(busy.by.rt, &mut busy.seat)
     }
 
-    /// Gives a task to the queue, or keeps it where the queue has no memory for it; how many were
+    /// Gives a task to the queue, or keeps it if the queue has no memory for it; how many were
     /// given. Nobody is woken for it yet.
     fn put(
         &self,

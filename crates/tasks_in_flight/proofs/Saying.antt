@@ -66,7 +66,13 @@ module _ {B : Type 0} {P : Type 0} (Shows : Saying B) where
   pub ready_at_first : (b : B) (task : ℕ) (now : Seen) → now.log ≡ []
       → ∥ (P → Says Shows b task nothing (at_start now.stories)) ∥₁ → ∥ (P → IsReady Shows b task Idle (Some Started) now) ∥₁
   ready_at_first b task now blank says =
-      ∥∥₁_map says (λ f p. let s = f p in (nothing, s.0, s.1, ((s.2.0, ([], blank_log s.0 s.2.1)), λ lives. (started s.0 s.2.1, refl))))
+      ∥∥₁_map says (λ f p. let s = f p in record {
+        asked = nothing;
+        seen = s.0;
+        says = s.1;
+        more = (s.2.0, ([], blank_log s.0 s.2.1));
+        pending = λ lives. (started s.0 s.2.1, refl);
+      })
     where
       nothing_more : (xs ys : List TracedEvent) → [] ≡ xs ++ ys → xs ≡ []
       nothing_more [] ys e = refl
@@ -82,7 +88,7 @@ module _ {B : Type 0} {P : Type 0} (Shows : Saying B) where
   pub ready_since : (b : B) (task : ℕ) (p : Plan) (asked : Asked) (answer : Option Answer) (now new : Seen) → SeesMore now new
       → IsPending task p asked answer now new → ∥ (P → Shows b task asked now) ∥₁ → ∥ (P → IsReady Shows b task p answer new) ∥₁
   ready_since b task p asked answer now new goes is shows =
-      ∥∥₁_map shows (λ f q. (asked, now, f q, (goes, is)))
+      ∥∥₁_map shows (λ f q. record { asked = asked; seen = now; says = f q; more = goes; pending = is })
 
   -- the same of an act that is begun, which is noted and nothing else
   pub ready_begun : (b : B) (task : ℕ) (act : Begun) (fronts : List Sight) (k : Known) (own own' : TaskLog)
@@ -93,15 +99,13 @@ module _ {B : Type 0} {P : Type 0} (Shows : Saying B) where
       with_plan (plan_of act)
       (subst (λ (l : List TracedEvent). ∥ (P → IsReady Shows b task (plan_of act) (answer_of act) (record { stories = λ n. story_at fronts n; holding = k.holding; log = l })) ∥₁)
       (sym longer)
-      (∥∥₁_map asks (λ f q. let a = f q in (
-        a.0,
-        seen_by fronts k own,
-        a.2,
-        (
-          ((λ n. goes_itself (story_at fronts n)), (Begin task act ∷ [], refl)),
-          pending_begun task k (λ n. story_at fronts n) (map (λ (e : Entry). e.1) own.entries) act a.0 a.1,
-        ),
-      ))))
+      (∥∥₁_map asks (λ f q. let a = f q in record {
+        asked = a.0;
+        seen = seen_by fronts k own;
+        says = a.2;
+        more = ((λ n. goes_itself (story_at fronts n)), (Begin task act ∷ [], refl));
+        pending = pending_begun task k (λ n. story_at fronts n) (map (λ (e : Entry). e.1) own.entries) act a.0 a.1;
+      })))
     where
       with_plan : (p : Plan) → ∥ (P → IsReady Shows b task p (answer_of act) (seen_by fronts k own')) ∥₁
           → ∥ (P → IsReady Shows b task (begun p k).plan (answer_of act) (seen_by fronts (begun p k) own')) ∥₁
@@ -117,7 +121,13 @@ module _ {B : Type 0} {P : Type 0} (Shows : Saying B) where
       → ((asked : Asked) (seen : Seen) → SeesMore seen now → IsPending task p asked answer seen now → IsPending task p' asked answer seen new)
       → ∥ (P → IsReady Shows b task p answer now) ∥₁ → ∥ (P → IsReady Shows b task p' answer new) ∥₁
   ready_moves b task p p' answer now new goes is ready =
-      ∥∥₁_map ready (λ f q. let r = f q in (r.0, r.1, r.2, (sees_far r.1 now new r.3.0 goes, is r.0 r.1 r.3.0 r.3.1)))
+      ∥∥₁_map ready (λ f q. let r = f q in record {
+        asked = r.asked;
+        seen = r.seen;
+        says = r.says;
+        more = sees_far r.seen now new r.more goes;
+        pending = is r.asked r.seen r.more r.pending;
+      })
 
   -- it is so where the task knows the same of itself
   pub ready_at : (b : B) (task : ℕ) (answer : Option Answer) (fronts : List Sight) (k k' : Known) (own : TaskLog) → k' ≡ k
@@ -133,17 +143,15 @@ module _ {B : Type 0} {P : Type 0} (Shows : Saying B) where
       → ∥ (P → IsReady Shows b task k'.plan answer (seen_by fronts k' own)) ∥₁
   ready_newborn b task answer fronts k k' own same newborn ready =
       subst (λ (p : Plan). ∥ (P → IsReady Shows b task p answer (seen_by fronts k' own)) ∥₁) (sym same)
-      (∥∥₁_map₂ newborn ready (λ is f q. let r = f q in (
-        r.0,
-        r.1,
-        r.2,
-        (
-          r.3.0,
-          subst (λ (a : Option Answer). IsPending task k.plan r.0 a r.1 (seen_by fronts k' own)) (sym is)
-              (pending_newborn task r.1 (seen_by fronts k own) (seen_by fronts k' own) k.plan r.0 refl
-              (subst (λ (a : Option Answer). IsPending task k.plan r.0 a r.1 (seen_by fronts k own)) is r.3.1)),
-        ),
-      )))
+      (∥∥₁_map₂ newborn ready (λ is f q. let r = f q in record {
+        asked = r.asked;
+        seen = r.seen;
+        says = r.says;
+        more = r.more;
+        pending = subst (λ (a : Option Answer). IsPending task k.plan r.asked a r.seen (seen_by fronts k' own)) (sym is)
+            (pending_newborn task r.seen (seen_by fronts k own) (seen_by fronts k' own) k.plan r.asked refl
+            (subst (λ (a : Option Answer). IsPending task k.plan r.asked a r.seen (seen_by fronts k own)) is r.pending));
+      }))
 
   -- and where its number and its log stayed
   pub ready_kept : (b : B) (task task' : ℕ) (p : Plan) (answer : Option Answer) (fronts : List Sight) (k : Known) (own own' : TaskLog)
@@ -191,7 +199,13 @@ module _ {B : Type 0} {P : Type 0} (Shows : Saying B) where
       → ((task : ℕ) (asked : Asked) (seen : Seen) → Shows b task asked seen → Shows b' task asked seen)
       → ∥ (P → IsReady Shows b task p answer now) ∥₁ → ∥ (P → IsReady Shows b' task p answer now) ∥₁
   ready_single b b' task p answer now stays ready =
-      ∥∥₁_map ready (λ f q. let r = f q in (r.0, r.1, stays task r.0 r.1 r.2, r.3))
+      ∥∥₁_map ready (λ f q. let r = f q in record {
+        asked = r.asked;
+        seen = r.seen;
+        says = stays task r.asked r.seen r.says;
+        more = r.more;
+        pending = r.pending;
+      })
 
   -- what follows of a step
   pub after_step : (Q : Type 0) (b : B) (task : ℕ) (p : Plan) (answer : Answer) (now : Seen)
@@ -199,7 +213,7 @@ module _ {B : Type 0} {P : Type 0} (Shows : Saying B) where
       → ((asked : Asked) (seen : Seen) → Shows b task asked seen → IsHeard task asked answer seen now → Q)
       → ∥ (P → IsReady Shows b task p (Some answer) now) ∥₁ → ∥ (P → Q) ∥₁
   after_step Q b task p answer now hears step ready =
-      ∥∥₁_map ready (λ f q. let r = f q in step r.0 r.1 r.2 (r.3.0, hears r.0 r.1 r.3.0 r.3.1))
+      ∥∥₁_map ready (λ f q. let r = f q in step r.asked r.seen r.says (r.more, hears r.asked r.seen r.more r.pending))
 
   -- what it has said when it is over, where this is its number
   pub has_said : (b : B) (task number : ℕ) (p : Plan) (answer : Option Answer) (now : Seen) (held : Seen) → task ≡ number
@@ -207,7 +221,7 @@ module _ {B : Type 0} {P : Type 0} (Shows : Saying B) where
       → ∥ (P → IsReady Shows b task p answer now) ∥₁ → ∥ (P → HasSaid Shows b number held) ∥₁
   has_said b task number p answer now held is goes ready =
       subst (λ (t : ℕ). ∥ (P → HasSaid Shows b t held) ∥₁) is
-      (∥∥₁_map ready (λ f q. let r = f q in (r.0, (r.1, r.2, sees_far r.1 now held r.3.0 goes))))
+      (∥∥₁_map ready (λ f q. let r = f q in (r.asked, (r.seen, r.says, sees_far r.seen now held r.more goes))))
 
   -- it says it of just what it has seen
   pub says_now : (b : B) (task : ℕ) (asked : Asked) (now : Seen)

@@ -9,13 +9,13 @@ use Rattle.task_standing.specs.Standing.{handed}
 use Rattle.trace_model.specs.Run.{Entry}
 use Rattle.trace_model.specs.TaskLog.{TaskLog, has_room}
 
--- where the log has room, the entry comes to stand at its end, and nothing else changes; else it is refused by ActsFull, and
+-- if the log has room, the entry is added at its end, and nothing else changes; else it is refused by ActsFull, and
 -- the log stays as it was
 abbrev pub IsNoted : Entry → TaskLog → TaskLog → Result (Unit {0}) Refusal → Type 0
 IsNoted entry old new (Ok done) = (has_room old ≡ true) × (new ≡ record old { entries = old.entries ++ entry ∷ [] })
 IsNoted entry old new (Err refusal) = (has_room old ≡ false) × (refusal ≡ ActsFull) × (new ≡ old)
 
--- the child comes to hold the phaser of the pair, in the pair's mode, as its parent hands it on; where its parent doesn't
+-- the child holds the phaser of the pair, in the pair's mode, as its parent hands it on; if its parent doesn't
 -- hold that phaser, it stays as it is
 abbrev pub joined : Pair → Known → Known → Known
 joined p parent child =

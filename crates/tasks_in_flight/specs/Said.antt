@@ -50,7 +50,7 @@ abbrev pub has_end : List Entry → Bool
 has_end [] = false
 has_end (e ∷ es) = is_end e.1 || has_end es
 
--- there is a body which says this of the task, that has seen this much, where it has asked for the task's end
+-- there is a body which says this of the task, that has seen this much, if it has asked for the task's end
 abbrev pub IsSaidOf : {B : Type 0} → Saying B → ℕ → Seen → Type 0
 IsSaidOf {B} Shows task seen = (b : B) × Shows b task ends seen
 

@@ -6,7 +6,7 @@ use job_script::{Act, Answer, ScriptBody};
 use phase_modes::Refusal;
 
 /// A task's program: a value that gives one act after the other. It never waits itself: whoever runs
-/// it carries an act out, and comes back with what it came to. A body that allocates keeps its own
+/// it carries an act out, and comes back with its outcome. A body that allocates keeps its own
 /// allocator.
 ///
 /// A body may say something of what its task has seen (`shows`): whoever writes it proves of `step` that

@@ -32,7 +32,7 @@ fn is_end(event: &TracedEvent) -> bool
 
 impl Diary {
     /// The log of the task of this number, with no entries yet, for so many acts at most. `Memory`
-    /// where that is refused.
+    /// if that is refused.
     pub fn new(alloc: Global, task: TaskNumber, acts: u32) -> Result<Diary, Refusal>
         ensures task { IfOk result (λ d. d.task ≡ task) }
         ensures end { IfOk result (λ d. d.ended ≡ false) }
@@ -60,14 +60,14 @@ impl Diary {
         self.ended
     }
 
-    /// Whether it has begun to end, where this is noted too.
+    /// Whether it has begun to end, if this is noted too.
     fn ended_with(&self, event: &TracedEvent) -> bool
         ensures { result ≡ (self.now.ended || is_end event.now) }
     {
         self.ended || is_end(event)
     }
 
-    /// Adds an entry at the end, with the ticket that was drawn for it; `ActsFull` where there is no
+    /// Adds an entry at the end, with the ticket that was drawn for it; `ActsFull` if there is no
     /// room for it. It takes no memory.
     fn add(&mut self, ticket: u64, entry: TracedEvent) -> Result<(), Refusal>
         requires { whose entry ≡ log_of self.old.task }
@@ -84,7 +84,7 @@ impl Diary {
         Ok(())
     }
 
-    /// Notes that the task begins this act. `ActsFull` where there is no room for it.
+    /// Notes that the task begins this act. `ActsFull` if there is no room for it.
     pub(crate) fn note_begun(&mut self, ticket: u64, begun: Begun) -> Result<(), Refusal>
         ensures noted { IsNoted (ticket, TracedEvent.Begin self.old.task begun) self.old.log self.new.log result }
         ensures task { self.new.task ≡ self.old.task }
@@ -93,7 +93,7 @@ impl Diary {
         self.add(ticket, TracedEvent::Begin(self.task, begun))
     }
 
-    /// Notes that this act is refused. `ActsFull` where there is no room for it.
+    /// Notes that this act is refused. `ActsFull` if there is no room for it.
     pub(crate) fn note_refused(
         &mut self,
         ticket: u64,
@@ -110,7 +110,7 @@ impl Diary {
         )
     }
 
-    /// Notes that the task gives up what it is about. `ActsFull` where there is no room for it.
+    /// Notes that the task gives up what it is about. `ActsFull` if there is no room for it.
     pub(crate) fn note_failed(&mut self, ticket: u64, refusal: Refusal) -> Result<(), Refusal>
         ensures noted { IsNoted (ticket, TracedEvent.Fail self.old.task (number_of refusal)) self.old.log self.new.log result }
         ensures task { self.new.task ≡ self.old.task }

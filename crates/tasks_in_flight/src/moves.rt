@@ -1,4 +1,4 @@
-//! What a task in flight comes to by the events that it makes: each changes what it knows of itself and
+//! What becomes of a task in flight by the events that it makes: each changes what it knows of itself and
 //! what its body is about to hear, and is noted here and nowhere else.
 ghost use Rattle.std.specs.Prelude.{◌≡◌, ◌==◌, ◌<◌, ◌∷◌, ◌++◌, [], drop, ℕ, ℤ, not, false, true, None, Some, filter, length, map, IfErr, OnOk, OnErr};
 ghost use Rattle.finish_core.specs.declared.event.FinishEvent.TheVariants.{Spawned};
@@ -28,7 +28,7 @@ use task_standing::{Held, Plan};
 use trace_model::TracedEvent;
 use world_model::{Begun, Tried};
 
-/// What the body hears once this act has come to its end: after its task's end nothing.
+/// What the body hears once this act has ended: after its task's end nothing.
 fn answer_to(begun: &Begun) -> Option<Answer>
     ensures { result ≡ answer_of begun.now }
 {
@@ -113,7 +113,7 @@ impl<B: Body, K: RunNaming> Task<B, K> {
         Ok(())
     }
 
-    /// It begins this act, and logs that. Once the act has come to its end the body hears of it, if it
+    /// It begins this act, and logs that. Once the act has ended the body hears of it, if it
     /// hears anything more. `ActsFull` if the log has no room.
     pub fn begin(&mut self, ticket: u64, act: Begun) -> Result<(), Refusal>
         requires asked { ∥ (K.Supposing.supposed → HasAskedFor B.Body.shows self.old.body self.old.log.task act (seen_by self.old.fronts self.old.standing self.old.log.log)) ∥₁ }
@@ -128,7 +128,7 @@ impl<B: Body, K: RunNaming> Task<B, K> {
         Ok(())
     }
 
-    /// This act is refused, which it logs, and it comes to its end. `ActsFull` if the log has no room.
+    /// This act is refused, which it logs, and it ends. `ActsFull` if the log has no room.
     pub fn refuse(&mut self, ticket: u64, tried: Tried, refusal: Refusal) -> Result<(), Refusal>
         ensures given_up { OnOk result (self.new.standing ≡ record self.old.standing { plan = Plan.Ending }) }
         ensures noted { IsNoted (ticket, TracedEvent.Refuse self.old.log.task tried (number_of refusal)) self.old.log.log self.new.log.log result }
@@ -140,7 +140,7 @@ impl<B: Body, K: RunNaming> Task<B, K> {
         Ok(())
     }
 
-    /// It gives up what it is about, which it logs, and comes to its end. `ActsFull` if the log has no
+    /// It gives up what it is about, which it logs, and ends. `ActsFull` if the log has no
     /// room.
     pub fn fail(&mut self, ticket: u64, refusal: Refusal) -> Result<(), Refusal>
         ensures given_up { OnOk result (self.new.standing ≡ record self.old.standing { plan = Plan.Ending }) }

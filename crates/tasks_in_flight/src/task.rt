@@ -45,7 +45,7 @@ pub struct Item<B: Body, K: RunNaming> {
     ghost newborn: { ∥ IfSome unborn (λ c. c.value.answer ≡ Some Started) ∥₁ },
 }
 
-/// What a task leaves where it ends: its log, and what it has seen. Where it ends by itself, what its
+/// What a task leaves when it ends: its log, and what it has seen. If it ends by itself, what its
 /// body said of that stays told.
 #[derive(Drop)]
 pub struct TaskLeft<K: RunNaming> {
@@ -55,7 +55,7 @@ pub struct TaskLeft<K: RunNaming> {
     ghost told: { log.ended ≡ true → ∥ (K.Supposing.supposed → IsTold K.Supposing.told log.task (seen_at_end fronts log.log)) ∥₁ },
 }
 
-/// What the root leaves where the run is over: what each task does, and its body as it stands then.
+/// What the root leaves when the run is over: what each task does, and its body as it stands then.
 #[derive(Drop)]
 pub struct RootLeft<B: Body, K: RunNaming> {
     pub left: TaskLeft<K>,
@@ -66,7 +66,7 @@ pub struct RootLeft<B: Body, K: RunNaming> {
 
 impl<B: Body, K: RunNaming> Task<B, K> {
     /// A task before its first act. All memory that it needs to be run is taken here, but for the
-    /// finishes that it opens; `Memory` where that is refused.
+    /// finishes that it opens; `Memory` if that is refused.
     pub fn new(
         alloc: Global,
         number: TaskNumber,
@@ -155,7 +155,7 @@ impl<B: Body, K: RunNaming> Task<B, K> {
         self.log.has_ended()
     }
 
-    /// The body's next act, after what came of its last one; none where nothing did yet.
+    /// The body's next act, after what came of its last one; none if nothing did yet.
     pub fn next_act(&mut self) -> Option<Result<Act<B>, Refusal>>
         requires goes_on { self.old.log.ended ≡ false }
         requires due { IsDue None self.old.standing }
@@ -208,8 +208,8 @@ impl<B: Body, K: RunNaming> Item<B, K> {
         }
     }
 
-    /// Notes that the unborn child is registered on the phaser of this pair. `NotNow` where there is
-    /// none, or the task doesn't hold that phaser; `PhasersFull` where the child holds 16 already.
+    /// Notes that the unborn child is registered on the phaser of this pair. `NotNow` if there is
+    /// none, or the task doesn't hold that phaser; `PhasersFull` if the child holds 16 already.
     pub fn note_registration(&mut self, pair: Pair) -> Result<(), Refusal>
         ensures task { OnOk result (self.new.task.value.standing
             ≡ record self.old.task.value.standing { plan = registered_by self.old.task.value.standing.plan }) }

@@ -267,7 +267,7 @@ pub const REGISTRATIONS_FULL: Example = Example {
     ..PLAIN
 };
 
-/// A proposal needs room for its claim and its report; a plain signal has room where it hasn't.
+/// A proposal needs room for its claim and its report; a plain signal has room if it hasn't.
 pub const NO_ROOM_FOR_A_SINGLE: Example = Example {
     history: 4,
     rows: &[
@@ -281,7 +281,7 @@ pub const NO_ROOM_FOR_A_SINGLE: Example = Example {
     ..PLAIN
 };
 
-/// Where a proposal has room, its claim and its report never fail for room.
+/// If a proposal has room, its claim and its report never fail for room.
 pub const ROOM_FOR_A_SINGLE: Example = Example {
     history: 5,
     rows: &[
@@ -346,7 +346,7 @@ pub const BOUND_AND_REFUSALS: Example = Example {
     ..PLAIN
 };
 
-/// The calls of [`BOUND_AND_REFUSALS`], where a signaller that is parked asks again: a table gives
+/// The calls of [`BOUND_AND_REFUSALS`], if a signaller that is parked asks again: a table gives
 /// its item back, and the drop lets it go on. A phaser alone knows nothing of items, and answers
 /// `NotYet` once more: this one is for a table.
 pub const ASKED_AGAIN_WHILE_PARKED: Example = Example {
@@ -364,3 +364,26 @@ pub const ASKED_AGAIN_WHILE_PARKED: Example = Example {
     ],
     ..PLAIN
 };
+
+/// Those whose calls a table answers too, with `Parked` for `not yet`.
+pub const ON_A_TABLE: [&Example; 19] = [
+    &ONE_TASK_TURN,
+    &LATE_READER,
+    &TWO_TASKS_TURN,
+    &WAITER_ALONE,
+    &SPLIT_PHASE_CHILD,
+    &SIGNALLER_RUNS_AHEAD,
+    &VALUE_OF_DROPPED_SENDER,
+    &EMPTY_FOLDS,
+    &EXTREME_VALUES,
+    &VALUE_AFTER_SIGNAL,
+    &SINGLE_STATEMENT,
+    &HISTORY_FULL,
+    &REFUSALS_IN_ORDER,
+    &REGISTRATIONS_FULL,
+    &NO_ROOM_FOR_A_SINGLE,
+    &ROOM_FOR_A_SINGLE,
+    &BOUNDED_SIGNALLER,
+    &BOUND_AND_REFUSALS,
+    &ASKED_AGAIN_WHILE_PARKED,
+];

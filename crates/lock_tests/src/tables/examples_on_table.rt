@@ -77,7 +77,7 @@ impl<'a, K: Ledgers, R: Wait> Caller<'a, K, R> {
         }
     }
 
-    /// What the call on phaser 0 is answered; `Memory` where there is none for the list of those
+    /// What the call on phaser 0 is answered; `Memory` if there is none for the list of those
     /// whom it wakes. They are dropped.
     fn answer_alone(
         &mut self,
@@ -215,97 +215,11 @@ fn play<K: Ledgers, R: Abort + Wait>(
     gathered(rt, alloc, limits, table, shares)
 }
 
+/// Each worked example of one phaser, through a table.
 #[test]
-fn one_task_turn(rt: HostRuntime) -> Result<(), Fail> {
-    answers_as_worked_out(&rt, rt.alloc(), &ONE_TASK_TURN)
-}
-
-#[test]
-fn late_reader(rt: HostRuntime) -> Result<(), Fail> {
-    answers_as_worked_out(&rt, rt.alloc(), &LATE_READER)
-}
-
-#[test]
-fn two_tasks_turn(rt: HostRuntime) -> Result<(), Fail> {
-    answers_as_worked_out(&rt, rt.alloc(), &TWO_TASKS_TURN)
-}
-
-#[test]
-fn waiter_alone(rt: HostRuntime) -> Result<(), Fail> {
-    answers_as_worked_out(&rt, rt.alloc(), &WAITER_ALONE)
-}
-
-#[test]
-fn split_phase_child(rt: HostRuntime) -> Result<(), Fail> {
-    answers_as_worked_out(&rt, rt.alloc(), &SPLIT_PHASE_CHILD)
-}
-
-#[test]
-fn signaller_runs_ahead(rt: HostRuntime) -> Result<(), Fail> {
-    answers_as_worked_out(&rt, rt.alloc(), &SIGNALLER_RUNS_AHEAD)
-}
-
-#[test]
-fn value_of_dropped_sender(rt: HostRuntime) -> Result<(), Fail> {
-    answers_as_worked_out(&rt, rt.alloc(), &VALUE_OF_DROPPED_SENDER)
-}
-
-#[test]
-fn empty_folds(rt: HostRuntime) -> Result<(), Fail> {
-    answers_as_worked_out(&rt, rt.alloc(), &EMPTY_FOLDS)
-}
-
-#[test]
-fn extreme_values(rt: HostRuntime) -> Result<(), Fail> {
-    answers_as_worked_out(&rt, rt.alloc(), &EXTREME_VALUES)
-}
-
-#[test]
-fn value_after_signal(rt: HostRuntime) -> Result<(), Fail> {
-    answers_as_worked_out(&rt, rt.alloc(), &VALUE_AFTER_SIGNAL)
-}
-
-#[test]
-fn single_statement(rt: HostRuntime) -> Result<(), Fail> {
-    answers_as_worked_out(&rt, rt.alloc(), &SINGLE_STATEMENT)
-}
-
-#[test]
-fn history_full(rt: HostRuntime) -> Result<(), Fail> {
-    answers_as_worked_out(&rt, rt.alloc(), &HISTORY_FULL)
-}
-
-#[test]
-fn refusals_in_order(rt: HostRuntime) -> Result<(), Fail> {
-    answers_as_worked_out(&rt, rt.alloc(), &REFUSALS_IN_ORDER)
-}
-
-#[test]
-fn registrations_full(rt: HostRuntime) -> Result<(), Fail> {
-    answers_as_worked_out(&rt, rt.alloc(), &REGISTRATIONS_FULL)
-}
-
-#[test]
-fn no_room_for_a_single(rt: HostRuntime) -> Result<(), Fail> {
-    answers_as_worked_out(&rt, rt.alloc(), &NO_ROOM_FOR_A_SINGLE)
-}
-
-#[test]
-fn room_for_a_single(rt: HostRuntime) -> Result<(), Fail> {
-    answers_as_worked_out(&rt, rt.alloc(), &ROOM_FOR_A_SINGLE)
-}
-
-#[test]
-fn bounded_signaller(rt: HostRuntime) -> Result<(), Fail> {
-    answers_as_worked_out(&rt, rt.alloc(), &BOUNDED_SIGNALLER)
-}
-
-#[test]
-fn bound_and_refusals(rt: HostRuntime) -> Result<(), Fail> {
-    answers_as_worked_out(&rt, rt.alloc(), &BOUND_AND_REFUSALS)
-}
-
-#[test]
-fn asked_again_while_parked(rt: HostRuntime) -> Result<(), Fail> {
-    answers_as_worked_out(&rt, rt.alloc(), &ASKED_AGAIN_WHILE_PARKED)
+fn rows_on_table(rt: HostRuntime) -> Result<(), Fail> {
+    for example in ON_A_TABLE {
+        answers_as_worked_out(&rt, rt.alloc(), example)?;
+    }
+    Ok(())
 }

@@ -23,14 +23,14 @@ fn event_of(step: TracedStep) -> Event {
     }
 }
 
-/// Adds the step's event where there is room.
+/// Adds the step's event if there is room.
 fn add(history: &mut History, step: TracedStep) {
     if history.len() < history.limits().history {
         history.add(event_of(step));
     }
 }
 
-/// The step, where the event is one on this phaser.
+/// The step, if the event is one on this phaser.
 fn step_on(phaser: u32, event: TracedEvent) -> Option<TracedStep> {
     match event {
         TracedEvent::Phaser(number, step) if number == phaser => Some(step),

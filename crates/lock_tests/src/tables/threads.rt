@@ -1,216 +1,19 @@
-//! Threads that call at the same time: two phasers are locked apart, and four threads on eight
-//! phasers leave histories that are merged by their tickets, and books that are gathered.
+//! Threads that call at the same time: four threads on eight phasers leave histories that are merged
+//! by their tickets, and books that are gathered.
 ghost use Rattle.std.specs.Prelude.{◌≡◌, [], ◌<◌, true};
 ghost use Rattle.share_book.specs.Opening.{IsNamed, IsParted};
 
 use super::*;
 use crate::asserted::{equal, equal_at};
-use phase_model::Ops;
 use phase_modes::Mode;
 use share_book::{Seven, SharedLedgers};
 use std::marker::Brand;
 use std::sync::Wait;
-use std::sync::atomic::{AtomicU64, Ordering};
 use std::sync::ledger::Ledger;
 use std::test::Fail;
 use std::thread;
 use std::thread::Threads;
 use worked_examples::first_ops;
-
-/// How many turns a thread waits for the other before it gives up.
-const MOST_TURNS: u64 = 10_000_000;
-
-/// Waits until the word isn't 0, at most so many turns. Whether it saw that.
-fn saw(word: &AtomicU64, turns: u64) -> bool {
-    for _turn in 0..turns {
-        if word.load(Ordering::SeqCst) > 0 {
-            return true;
-        }
-        thread::yield_now();
-    }
-    false
-}
-
-/// What two threads tell each other: the one that it holds phaser 0's lock, the other that its call
-/// has answered. Each word is 0 before.
-#[derive(Drop)]
-struct Handshake {
-    held: AtomicU64,
-    answered: AtomicU64,
-}
-
-impl Handshake {
-    /// Neither thread has told anything yet.
-    fn new() -> Handshake {
-        Handshake {
-            held: AtomicU64::new(0),
-            answered: AtomicU64::new(0),
-        }
-    }
-
-    /// Tells the other thread that the lock is held, and waits for its answer, for so many turns.
-    /// Whether that came.
-    fn wait_for_answer(&self, turns: u64) -> bool {
-        self.held.store(1, Ordering::SeqCst);
-        saw(&self.answered, turns)
-    }
-}
-
-/// Holds phaser 0's lock until the other thread's call has answered, or for so many turns. Whether
-/// the call has answered before the lock was given back.
-fn hold<K: Ledgers, R: Wait>(
-    rt: &R,
-    table: &PhaserTable<u32, K>,
-    handshake: &Handshake,
-    turns: u64,
-) -> bool
-    requires { 0 < table.now.phasers }
-{
-    let guard = table.lock(rt, 0);
-    let seen = handshake.wait_for_answer(turns);
-    drop(guard);
-    seen
-}
-
-impl<'a, K: Ledgers, R: Wait> Caller<'a, K, R> {
-    /// Task 0 signals on the phaser once the other thread has phaser 0's lock.
-    /// Whether that was so, and it has signalled.
-    fn call(&mut self, table: &PhaserTable<u32, K>, number: usize, handshake: &Handshake) -> bool
-        requires number { number < table.now.phasers }
-        requires empty { self.old.out ≡ [] }
-    {
-        let Caller {
-            rt,
-            tickets,
-            mine,
-            out,
-        } = self;
-        let seen = saw(&handshake.held, MOST_TURNS);
-        let answer = signalled(table.signal(rt, number, tickets, mine, out, 0, None, 0));
-        handshake.answered.store(1, Ordering::SeqCst);
-        seen && answer == Reply::Done
-    }
-}
-
-/// Task 0 makes this phaser. Then one thread holds phaser 0's lock, for so many turns, while another
-/// signals on this one.
-fn hold_and_call<K: SharedLedgers, R: Threads + Wait + Sync>(
-    rt: &R,
-    alloc: Global,
-    table: &PhaserTable<u32, K>,
-    mut mine: Shares<K>,
-    number: usize,
-    turns: u64,
-) -> Result<(bool, bool), Refusal>
-    requires held { 0 < table.now.phasers }
-    requires number { number < table.now.phasers }
-{
-    let tickets = Tickets::new();
-    table.make(
-        rt,
-        number,
-        &tickets,
-        &mut mine,
-        0,
-        Mode::SigWait,
-        Ops::none(),
-        None,
-    )?;
-    let mut by = Caller {
-        rt,
-        tickets: &tickets,
-        mine,
-        out: Out::new(alloc)?,
-    };
-    let handshake = Handshake::new();
-    let shared = &handshake;
-    Ok(thread::join(
-        rt,
-        move || hold(rt, table, shared, turns),
-        move || by.call(table, number, shared),
-    ))
-}
-
-/// The share of the only worker.
-fn only_share<K: Ledgers>(mut shares: Vec<Shares<K>>) -> Result<Shares<K>, Refusal> {
-    shares.pop().ok_or(Refusal::SharesDiffer)
-}
-
-/// Both threads' parts, on a new table.
-fn apart<K: SharedLedgers, R: Threads + Wait + Sync>(
-    rt: &R,
-    alloc: Global,
-    blanks: Blanks,
-    number: usize,
-    turns: u64,
-) -> Result<(bool, bool), Refusal>
-    requires names { IsNamed blanks K.EventsByPhaser.name K.EventsByWorker.name K.UpByPhaser.name
-        K.UpByWorker.name K.DownByPhaser.name K.DownByWorker.name K.Room.name }
-    requires parts { IsParted blanks K.EventsByPhaser.parts K.EventsByWorker.parts K.UpByPhaser.parts
-        K.UpByWorker.parts K.DownByPhaser.parts K.DownByWorker.parts K.Room.parts }
-    requires two { blanks.phasers ≡ 2 }
-    requires number { number < 2 }
-{
-    let (table, shares) = fresh::<K>(alloc, Limits::default(), blanks)?;
-    let mine = only_share(shares)?;
-    hold_and_call(rt, alloc, &table, mine, number, turns)
-}
-
-fn named_apart<
-    R: Threads + Wait + Sync,
-    A: Ledger + Send + Sync,
-    B: Ledger + Send + Sync,
-    C: Ledger + Send + Sync,
-    D: Ledger + Send + Sync,
-    E: Ledger + Send + Sync,
-    F: Ledger + Send + Sync,
-    G: Ledger + Send + Sync,
->(rt: &R, alloc: Global, blanks: Blanks, number: usize, turns: u64) -> Result<(bool, bool), Refusal>
-    requires names { IsNamed blanks A.name B.name C.name D.name E.name F.name G.name }
-    requires parts { IsParted blanks A.parts B.parts C.parts D.parts E.parts F.parts G.parts }
-    requires two { blanks.phasers ≡ 2 }
-    requires number { number < 2 }
-{
-    apart::<Seven<A, B, C, D, E, F, G>, R>(rt, alloc, blanks, number, turns)
-}
-
-/// Names the ledgers.
-fn held_while_signalled<R: Threads + Wait + Sync>(
-    rt: &R,
-    alloc: Global,
-    number: usize,
-    turns: u64,
-) -> Result<(bool, bool), Refusal>
-    requires { number < 2 }
-{
-    let blanks = Blanks::new(2, 1);
-    named_apart::<R, Brand, Brand, Brand, Brand, Brand, Brand, Brand>(
-        rt, alloc, blanks, number, turns,
-    )
-}
-
-/// While one thread holds phaser 0's lock, another's signal on phaser 1 answers.
-#[test]
-fn two_phasers_lock_apart(rt: HostRuntime) -> Result<(), Fail> {
-    equal(
-        &rt,
-        held_while_signalled(&rt, rt.alloc(), 1, MOST_TURNS),
-        Ok((true, true)),
-    );
-    Ok(())
-}
-
-/// A signal on phaser 0 itself answers only once the lock is given back. So the test above would fail
-/// if one lock were for the whole table.
-#[test]
-fn one_phaser_locks_once(rt: HostRuntime) -> Result<(), Fail> {
-    equal(
-        &rt,
-        held_while_signalled(&rt, rt.alloc(), 0, 10_000),
-        Ok((false, true)),
-    );
-    Ok(())
-}
 
 const PHASERS: u32 = 8;
 
@@ -232,7 +35,7 @@ const CROWD: Limits = Limits {
 };
 
 impl<'a, K: Ledgers, R: Wait> Caller<'a, K, R> {
-    /// On one phaser the task signals, asks to pass, sends this value and looks. Refused where
+    /// On one phaser the task signals, asks to pass, sends this value and looks. Refused if
     /// somebody whom it woke before is still in the list.
     fn call_one(
         &mut self,
@@ -330,6 +133,7 @@ fn register_all<K: Ledgers, R: Abort + Wait>(
 )
     requires { number < table.now.phasers }
 {
+    equal(rt, table.lock(rt, number).parked.len(), 0);
     let made = table.make(
         rt,
         number,

@@ -40,7 +40,7 @@ impl<'a, K: Naming, R: Wait> Calls for Receipted<'a, K, R> {
     fn take_up(&mut self, number: usize) -> bool {
         let is_there = number < self.table.phasers;
         if is_there {
-            self.me = self.table.front(self.by.rt, number);
+            self.me = self.table.lock(self.by.rt, number).front();
             self.number = number;
         }
         is_there
@@ -48,19 +48,23 @@ impl<'a, K: Naming, R: Wait> Calls for Receipted<'a, K, R> {
 
     fn make(&mut self, task: u32, mode: Mode, ops: Ops) -> Result<(), Refusal> {
         let terms = Terms { ops, bound: None };
-        self.table.make(&mut self.by, &mut self.me, self.number, task, mode, &terms)
+        self.table
+            .lock(self.by.rt, self.number)
+            .make(&mut self.by, &mut self.me, task, mode, &terms)
     }
 
     fn register(&mut self, child: u32, mode: Mode) -> Result<(), Refusal> {
         self.table
-            .register(&mut self.by, &mut self.me, self.number, 0, child, mode)
+            .lock(self.by.rt, self.number)
+            .register(&mut self.by, &mut self.me, 0, child, mode)
     }
 
     fn signal(&mut self, task: u32) {
         if is_drained(&mut self.by.out) {
             let _signalled = self
                 .table
-                .signal(&mut self.by, &mut self.me, self.number, task, None, task);
+                .lock(self.by.rt, self.number)
+                .signal(&mut self.by, &mut self.me, task, None, task);
         }
     }
 
@@ -68,7 +72,8 @@ impl<'a, K: Naming, R: Wait> Calls for Receipted<'a, K, R> {
         if is_drained(&mut self.by.out) {
             let _passed = self
                 .table
-                .pass(&mut self.by, &mut self.me, self.number, task, task);
+                .lock(self.by.rt, self.number)
+                .pass(&mut self.by, &mut self.me, task, task);
         }
     }
 }
@@ -119,7 +124,7 @@ fn work<K: Naming, R: Wait>(
             mine,
             out: Out::new(alloc)?,
         },
-        me: table.front(rt, 0),
+        me: table.lock(rt, 0).front(),
     };
     call_all(&mut calls, thread, job)?;
     let Receipted {
@@ -214,7 +219,7 @@ fn named_events<
 }
 
 /// Does the job, and returns how many events there were on all its phasers, makings and
-/// registrations counted. `Memory` where a part got none.
+/// registrations counted. `Memory` if a part got none.
 pub fn events_of<R: Threads + Wait + Sync>(
     rt: &R,
     alloc: Global,

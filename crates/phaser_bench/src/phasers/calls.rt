@@ -43,7 +43,7 @@ fn look(state: &mut PhaserState, tasks: u32) {
     }
 }
 
-/// The first task registers a child and drops it, with each number that is still free. Where all
+/// The first task registers a child and drops it, with each number that is still free. If all
 /// registrations are taken, the last task goes first.
 fn register_and_drop(state: &mut PhaserState, tasks: u32) {
     if tasks == LIMITS.regs {
@@ -109,7 +109,7 @@ fn calls_on_stored(alloc: Global, job: CoreJob) -> Result<u64, Refusal> {
 }
 
 /// Makes the job's calls on its phasers one after the other, and returns how many were done in
-/// all. An error is `Memory`, where a phaser got none.
+/// all. An error is `Memory`, if a phaser got none.
 pub fn calls_on_all(alloc: Global, job: CoreJob) -> Result<u64, Refusal> {
     let mut calls: u64 = 0;
     for _ in 0..job.phasers {

@@ -20,7 +20,7 @@ pub enum Kind {
 }
 
 impl Kind {
-    /// The kind of this name; none where no kind has it.
+    /// The kind of this name; none if no kind has it.
     pub fn of_name(name: &str) -> Option<Kind>
         ensures { MatchOption result ((k : _) → name_of k ≢ name.now) (λ k. name_of k ≡ name.now) }
     {

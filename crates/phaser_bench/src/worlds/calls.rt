@@ -29,12 +29,12 @@ fn phaser(alloc: Global, limits: Limits, ends: Ends) -> Result<PhaserState, Refu
     Ok(state)
 }
 
-/// 1 where the task signals.
+/// 1 if the task signals.
 fn signal(state: &mut PhaserState, task: u32) -> u64 {
     u64::from(matches!(state.signal(task, None), Ok(Signalling::Signalled)))
 }
 
-/// 1 where the task passes.
+/// 1 if the task passes.
 fn pass(state: &mut PhaserState, task: u32) -> u64 {
     u64::from(matches!(state.pass(task), Ok(Passing::Passed(_))))
 }

@@ -149,7 +149,7 @@ pub struct TurnedWorld {
     pub steps: u64,
 }
 
-/// Makes a world, in which others stand by where that is wanted, and has both tasks go on for so
+/// Makes a world, in which others stand by if that is wanted, and has both tasks go on for so
 /// many turns, or until the histories are full.
 pub fn turned(
     alloc: Global,

@@ -27,7 +27,7 @@ abbrev pub IsReplied : Story → Step → Type 0
 IsReplied seen s =
     (before : Story) × GoesOn seen before × (reply before (call_for s) ≡ done (event_for before.terms before.past s))
 
--- where an item comes back from a signal of phaser n, its task knows what it knew; where it has signalled, it has noted that,
+-- if an item comes back from a signal of phaser n, its task knows what it knew; if it has signalled, it has noted that,
 -- and the phaser replies so
 abbrev pub IsOfSignal : {T : Type 0} → (T → Known) → Known → Story → ℕ → Step → SignalAnswer T → Type 0
 IsOfSignal known k seen n s (Signalled x) = (known x ≡ noted (Phaser n s) k) × IsReplied seen s
@@ -43,12 +43,12 @@ IsOfPass known k seen n t (Refused x r) = known x ≡ k
 
 -- ---- what is made and noted
 
--- the event was made: where it is a phaser's, that replies so; of finishes nothing is seen
+-- the event was made: if it is a phaser's, that replies so; of finishes nothing is seen
 abbrev pub IsMade : (ℕ → Story) → WorldEvent → Type 0
 IsMade seen (Phaser n s) = IsReplied (seen n) s
 IsMade seen _ = Unit {0}
 
--- the task gives up what it is about, and comes to its end
+-- the task gives up what it is about, and ends
 abbrev pub given_up : Known → Known
 given_up k = record k { plan = plan.Ending }
 
@@ -79,7 +79,7 @@ IsOfAct t _ = ⊥
 abbrev pub HasActed : (ℕ → Story) → Known → Known → Type 0
 HasActed seen k k' = (e : WorldEvent) × IsOfAct k.number e × IsMade seen e × (k' ≡ noted e k)
 
--- what a task knows once it has asked whether it may try an act: where it may not, it comes to its end
+-- what a task knows once it has asked whether it may try an act: if it may not, it ends
 abbrev pub tried_by : Bool → Known → Known
 tried_by true k = k
 tried_by false k = given_up k
@@ -88,8 +88,8 @@ tried_by false k = given_up k
 abbrev pub HasLeft : (ℕ → Story) → ℕ → ℕ → Known → Known → Type 0
 HasLeft seen n t k k' = IsReplied (seen n) (Drop t) × (k' ≡ (if t == k.number then noted (Phaser n (Drop t)) k else k))
 
--- what comes of the event that is due of a task, where the task goes on: after its end, and after the shut of finish 0, it
--- doesn't; where none is due, it has acted
+-- what comes of the event that is due of a task, if the task goes on: after its end, and after the shut of finish 0, it
+-- doesn't; if none is due, it has acted
 abbrev pub GoesBy : (ℕ → Story) → Option WorldEvent → Known → Known → Type 0
 GoesBy seen None k k' = HasActed seen k k'
 GoesBy seen (Some (Phaser n (Sig t x))) k k' = HasTried seen (Phaser n (Sig t x)) k k'

@@ -9,8 +9,8 @@ use Rattle.world_model.specs.declared.event.WorldEvent.TheVariants.{Phaser}
 abbrev pub PostsAtMost : ℕ → Amount → Amount → Type 0
 PostsAtMost n mine mine' = mine'.events ≤ mine.events + n
 
--- how many a step posts at most where this event is due: of a pass two, since in its place a single may be claimed and
--- reported; of a finish's event none; where none is due an act is begun, or made by one
+-- how many a step posts at most if this event is due: of a pass two, since in its place a single may be claimed and
+-- reported; of a finish's event none; if none is due an act is begun, or made by one
 abbrev pub most_posted : Option WorldEvent → ℕ
 most_posted (Some (Phaser n (Pass t))) = 2
 most_posted (Some (Phaser n s)) = 1

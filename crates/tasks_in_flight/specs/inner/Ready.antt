@@ -64,7 +64,7 @@ HasJustPassed task seen now =
     × IsTail seen.past before
     × (has_mode can_wait task (Pass task ∷ before) ≡ true → IsClosed (waits task before) (Pass task ∷ before))
 
--- what the body hears of an act that is begun so, once it has come to its end
+-- what the body hears of an act that is begun so, once it has ended
 abbrev pub answer_of : Begun → Option Answer
 answer_of (begun.Async c ps) = Some (Spawned c)
 answer_of begun.End = None
@@ -101,12 +101,12 @@ IsPending task plan asked (Some answer) seen now =
 IsPending task plan asked None seen now = Unit {0}
 
 -- by its last act it asked for something; it says this of what it had seen then; and it is about to hear this of it
-abbrev pub IsReady : {B : Type 0} → Saying B → B → ℕ → Plan → Option Answer → Seen → Type 0
-IsReady Shows b task plan answer now =
-    (asked : Asked)
-    × (seen : Seen)
-    × Shows b task asked seen
-    × (SeesMore seen now × IsPending task plan asked answer seen now)
+pub record IsReady {B : Type 0} (Shows : Saying B) (b : B) (task : ℕ) (plan : Plan) (answer : Option Answer) (now : Seen) : Type 0 where
+  pub asked : Asked
+  pub seen : Seen
+  pub says : Shows b task asked seen
+  pub more : SeesMore seen now
+  pub pending : IsPending task plan asked answer seen now
 
 -- what it is about to hear is of what comes phaser by phaser
 abbrev pub is_of_each : Option Answer → Bool

@@ -12,7 +12,7 @@ use Rattle.table_receipts.proofs.table.take_apart.Goals as goal
 
 pub returns-clause-told : goal.returns-clause-told
 returns-clause-told g c =
-    let cell = c.into_parts-cell.result.0 in
+    let cell = c.args.cell.cell in
     let ps : List (List Entry) = c.args.parts.now.items in
     let number : c.len-number.result ≡ length ps = omega (arith, c.len-number.ensures, c.args.parts.now.ok.0) in
     let last : IsPhaserPart (length ps) c.of_phaser.result cell.book.totals = record {
@@ -29,15 +29,15 @@ returns-clause-told g c =
 
 pub returns-clause-logged : goal.returns-clause-logged
 returns-clause-logged g c =
-    let cell = c.into_parts-cell.result.0 in
-    let log = c.into_parts-cell.result.1 in
+    let cell = c.args.cell.cell in
+    let log = c.args.cell.log in
     let ps : List (List Entry) = c.args.parts.now.items in
     let number : c.len-number.result ≡ length ps = omega (arith, c.len-number.ensures, c.args.parts.now.ok.0) in
     let same : c.args.cell.number ≡ length ps = eqb-true c.args.cell.number c.len-number.result c.must_be.ensures ∙ number in
-    let story : cell.state.story ≡ log.story = ap (λ x. x.state.story) c.into_parts-cell.ensures.cell ∙ sym c.into_parts-cell.ensures.told in
+    let story : cell.state.story ≡ log.story = sym c.args.cell.told in
     let last : IsLogged g.K.Logs.logs (length ps) c.of_phaser.result log = record {
       tickets = cell.drawn.items;
-      named = c.into_parts-cell.ensures.log ∙ ap g.K.Logs.logs same;
+      named = c.args.cell.named ∙ ap g.K.Logs.logs same;
       told = c.of_phaser.ensures
           ∙ (ap (λ n. phaser_told n c.into_history.result cell.drawn.items) number
           ∙ ap (λ (s : Story). phaser_told (length ps) s cell.drawn.items) (c.into_history.ensures ∙ story));

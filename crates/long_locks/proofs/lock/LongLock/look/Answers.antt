@@ -1,9 +1,0 @@
-use Rattle.std.proofs.Common.{refl, ◌∙◌}
-use Rattle.long_locks.specs.Told.{story_of}
-use Rattle.long_locks.proofs.Adds.{look_adds}
-use Rattle.long_locks.proofs.lock.LongLock.look.Goals as goal
-
-pub returns-clause-added : goal.returns-clause-added
-returns-clause-added g c =
-    let told = c.look.ensures.told in
-    (told.0, told.1, told.3 ∙ look_adds (story_of g.J.Naming.terms told.0) c.args.task c.args.accumulator c.look.result _ told.2 refl)

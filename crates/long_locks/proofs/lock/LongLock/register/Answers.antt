@@ -1,9 +1,0 @@
-use Rattle.std.proofs.Common.{refl, ◌∙◌}
-use Rattle.long_locks.specs.Told.{story_of}
-use Rattle.long_locks.proofs.Adds.{register_adds}
-use Rattle.long_locks.proofs.lock.LongLock.register.Goals as goal
-
-pub returns-clause-added : goal.returns-clause-added
-returns-clause-added g c =
-    let told = c.register.ensures.told in
-    (told.1.0, told.1.1, told.1.3 ∙ register_adds (story_of g.J.Naming.terms told.1.0) c.args.parent told.0 c.args.mode c.register.result _ told.1.2 refl)
