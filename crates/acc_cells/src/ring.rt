@@ -49,7 +49,7 @@ impl Row {
 }
 
 /// Rows of which each knows its phase, so that what an earlier phase left at a place is no value of
-/// a later one's. Those that no value ever comes to cost nothing.
+/// a later one's. Those that never get a value cost nothing.
 #[derive(Drop)]
 pub(crate) struct Ring {
     room: u32,
@@ -70,7 +70,7 @@ impl Model for Ring {
 }
 
 impl Ring {
-    /// No rows, and room for so many. All memory is taken here; `Memory` where it is refused.
+    /// No rows, and room for so many. All memory is taken here; `Memory` if it is refused.
     pub(crate) fn new(alloc: Global, room: u32) -> Result<Ring, Refusal>
         requires { 0 < room }
         ensures room { IfOk result (λ r. r.room ≡ room) }
@@ -112,7 +112,7 @@ impl Ring {
         }
     }
 
-    /// The cell of an accumulator and a phase: an empty one where no value came for the phase since
+    /// The cell of an accumulator and a phase: an empty one if no value came for the phase since
     /// an earlier one had its place.
     #[inline(always)]
     pub(crate) fn cell(&self, accumulator: u8, phase: u64) -> Cell

@@ -1,5 +1,5 @@
 -- When the tasks of a world's history go by a body: each act that a task makes or is refused is the one that
--- its body gives next, where the body hears what each act before it came to.
+-- its body gives next, if the body hears the outcome of each act before it.
 --
 -- A body is a function `next`: what a task does after it heard this, and what its body is after that.
 use Rattle.std.specs.Prelude.{ℕ, suc, ◌≡◌, Bool, true, false, ◌&&◌, if◌then◌else◌, List, [], ◌∷◌, take, Option, Some, None}
@@ -40,7 +40,7 @@ child_does next (acts.Async body pairs) before = next Started body
 child_does next (acts.AsyncAll body) before = next Started body
 child_does next _ before = before
 
--- what t does after an event, where this is who spawns it by the event, and this is what each did before it
+-- what t does after an event, if this is who spawns it by the event, and this is what each did before it
 abbrev pub does_after : {B : Type 0} → (Answer → B → Does B) → List WorldEvent → ℕ → WorldEvent
     → Option ℕ → (ℕ → Does B) → Does B
 does_after next w t e (Some u) before = child_does next (before u).0 (before t)

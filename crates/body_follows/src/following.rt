@@ -11,7 +11,7 @@ use trace_walk::{Goes, walk};
 
 /// Whether the tasks of an explained trace went by this root's body and those that come of it: `Ok`,
 /// or `NotExplained` with the place of the first act that its task's body doesn't give, counted from
-/// 1. `Memory` where there is too little for the bodies. Any trace is taken; of one that no world
+/// 1. `Memory` if there is too little for the bodies. Any trace is taken; of one that no world
 /// explains the answer says nothing.
 pub fn goes_by<B: Goes>(alloc: Global, root: B, trace: &Trace) -> Result<(), Refusal>
     ensures goes { is_explained trace.now ≡ true

@@ -1,5 +1,5 @@
 //! Whether the tasks of a run's trace went by their bodies: each act that a task made or was refused
-//! is the one that its body gives next, where the body hears what each act before it came to.
+//! is the one that its body gives next, if the body hears the outcome of each act before it.
 #![tactic(auto)]
 
 mod following;

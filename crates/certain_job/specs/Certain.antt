@@ -11,7 +11,7 @@ use Rattle.certify_job.specs.Certificate.{IsOfCertificate}
 use Rattle.certify_job.specs.declared.ending.NoCertificate.{NoCertificate}
 use Rattle.certify_job.specs.declared.ending.NoCertificate.TheVariants.{Failure, Luck}
 
--- the bytes spell a program, and the trace is one of a run of it; each run of the program that has memory comes to the
+-- the bytes spell a program, and the trace is one of a run of it; each run of the program that has memory gives the
 -- report of this one, and this is known of that report and of the trace
 abbrev pub RunsCertain : List ℕ → (Report → Run → Type 0) → Type 0
 RunsCertain bytes P =

@@ -18,11 +18,11 @@ use Rattle.run_laws.specs.declared.certificate.NoAnswer.TheVariants as answers
 use Rattle.certify_job.specs.declared.ending.NoCertificate.{NoCertificate}
 use Rattle.certify_job.specs.declared.ending.NoCertificate.TheVariants.{Failure, Luck}
 
--- the lines of a report, and the line that says that each run comes to them
+-- the lines of a report, and the line that says that each run gives them
 abbrev pub certificate_text : Report → List ℕ
 certificate_text r = report_text r ++ codes "certain\n"
 
--- the bytes spell a program, each run of which that has memory comes to a report, and this is known of it
+-- the bytes spell a program, each run of which that has memory gives a report, and this is known of it
 abbrev pub Certifies : List ℕ → (Report → Type 0) → Type 0
 Certifies bytes P = (p : Program) × (r : Report) × (program_spelled bytes ≡ Ok p) × IsCertified p r × P r
 
@@ -52,7 +52,7 @@ abbrev pub status_of : NoCertificate → Status
 status_of (Failure f) = ends.status_of f
 status_of (Luck at) = statuses.Refused
 
--- some reason has this status, and this is known of it; what was appended is its line, or where that was not reported, a
+-- some reason has this status, and this is known of it; what was appended is its line, or if that was not reported, a
 -- beginning of it
 abbrev pub Reports : (NoCertificate → Type 0) → Ending → Option (List ℕ) → Option (List ℕ) → Type 0
 Reports Known e old new =

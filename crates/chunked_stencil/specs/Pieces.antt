@@ -1,4 +1,4 @@
--- A row in pieces: what each comes to between its neighbours, and that together they are the stencil.
+-- A row in pieces: what each becomes between its neighbours, and that together they are the stencil.
 use Rattle.std.specs.Prelude.{ℕ, zero, suc, ◌≡◌, List, [], ◌∷◌}
 use Rattle.std.specs.List.{concat}
 use Rattle.job_kernels.specs.Stencil.{weighed, stencil}

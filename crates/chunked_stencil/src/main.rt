@@ -59,7 +59,7 @@ fn sum_of(cells: &[u32]) -> u64 {
     sum
 }
 
-/// What the job came to.
+/// What the job gives.
 #[derive(Drop)]
 struct Outcome {
     sum: u64,
@@ -88,7 +88,7 @@ fn outcome_of<R: Threads + Wait + Clock + Sync>(
     Ok(outcome)
 }
 
-/// Prints what the job came to.
+/// Prints what the job gives.
 fn tell(rt: &HostRuntime, job: Job, outcome: &Outcome) -> anyhow::Result<()> {
     let Job {
         cells,

@@ -173,12 +173,12 @@ asked_of arguments = option_and_then asked_among (subcommand_of program_app argu
 unfoldable pub asked_in : List Text → Option Asked
 asked_in arguments = if is_empty (fault_of program_app arguments) then asked_of arguments else None
 
--- the stencil of these values, where each is one
+-- the stencil of these values, if each is one
 abbrev pub stencil_of : Option (List ℕ) → Option ℕ → Option ℕ → Option Work
 stencil_of (Some first) (Some steps) (Some workers) = Some (cells first steps workers)
 stencil_of _ _ _ = None
 
--- the pipeline of these values, where each is one
+-- the pipeline of these values, if each is one
 abbrev pub pipeline_of : Option ℕ → Option ℕ → Option ℕ → Option Work
 pipeline_of (Some k) (Some items) (Some workers) = Some (stages k items workers)
 pipeline_of _ _ _ = None
@@ -195,7 +195,7 @@ work_for (stencil first steps workers) =
 work_for (pipeline k items workers) =
     pipeline_of (number_within 1 15 k) (number_within 0 100 items) (workers_in workers)
 
--- the value is named where it is none
+-- the value is named if it is none
 abbrev pub unless : {X : Type 0} → Value → Option X → Option Value
 unless v None = Some v
 unless v (Some x) = None
@@ -244,7 +244,7 @@ file_of (stages k items workers) = None
 abbrev pub work_in : List Text → Option Work
 work_in arguments = option_and_then work_for (asked_in arguments)
 
--- ---- what they come to
+-- ---- what they say
 
 abbrev pub asked_by : Words → Asked
 asked_by (words.Events file) = events file.now
@@ -298,12 +298,12 @@ IsNoJobFor asked e = (e ≡ Memory) ⊎ ((v : Value) × (e ≡ BadValue v) × (f
 
 -- ---- a command whose options stand after FILE
 
--- an option with its value, where it has one
+-- an option with its value, if it has one
 abbrev pub option_words : Text → Option Text → List Text
 option_words name None = []
 option_words name (Some value) = name ∷ value ∷ []
 
--- a flag, where it is wanted
+-- a flag, if it is wanted
 abbrev pub flag_words : Text → Bool → List Text
 flag_words name is_wanted = if is_wanted then name ∷ [] else []
 

@@ -14,19 +14,19 @@ pieces text = slice_split (λ c. c == 44) text
 abbrev pub is_numeral : List ℕ → Bool
 is_numeral text = not (is_empty text) && list_all is_ascii_digit text
 
--- the number that digits alone spell, where it has 32 bits
+-- the number that digits alone spell, if it has 32 bits
 abbrev pub number_in : List ℕ → Option ℕ
 number_in text =
     if is_numeral text && nat_lt (digits_value 10 text) (2 ^ 32) then Some (digits_value 10 text) else None
 
--- the same, where it isn't out of range
+-- the same, if it isn't out of range
 abbrev pub within : ℕ → ℕ → ℕ → Option ℕ
 within least greatest n = if nat_le least n && nat_le n greatest then Some n else None
 
 abbrev pub number_within : ℕ → ℕ → List ℕ → Option ℕ
 number_within least greatest text = option_and_then (within least greatest) (number_in text)
 
--- the number of each text, where each has one that is no greater
+-- the number of each text, if each has one that is no greater
 abbrev pub numbers_in : ℕ → List (List ℕ) → Option (List ℕ)
 numbers_in greatest [] = Some []
 numbers_in greatest (p ∷ ps) =
@@ -41,7 +41,7 @@ list_in most greatest text =
 abbrev pub picks_in : List ℕ → Option (List ℕ)
 picks_in text = list_in MOST_PICKS GREATEST_PICK text
 
--- the same, where LIST needn't be given: without it there are none
+-- the same, if LIST needn't be given: without it there are none
 abbrev pub listed_in : Option (List ℕ) → Option (List ℕ)
 listed_in None = Some []
 listed_in (Some text) = picks_in text
@@ -50,7 +50,7 @@ listed_in (Some text) = picks_in text
 abbrev pub first_in : List ℕ → Option (List ℕ)
 first_in text = list_in MOST_CELLS GREATEST_CELL text
 
--- how many workers: two, where that isn't given
+-- how many workers: two, if that isn't given
 abbrev pub workers_in : Option (List ℕ) → Option ℕ
 workers_in None = Some 2
 workers_in (Some text) = number_within 1 16 text

@@ -255,7 +255,7 @@ pub fn job_of<'a>(alloc: Global, arguments: &'a [&'a str]) -> Result<Job<'a>, No
         × (asked_in (map (λ w. w.now) arguments.entry.now) ≡ Some asked) × (work_for asked ≡ None)
         × (first_bad asked ≡ Some v)) }
     // So `events FILE` names that file, and the other commands theirs with the options after it,
-    // where no word of theirs looks like an option.
+    // if no word of theirs looks like an option.
     ensures plain { (program : List ℕ) (asked : Asked) (work : Work)
         → map (λ w. w.now) arguments.entry.now ≡ plain_words program asked → is_plainly_asked asked ≡ true
         → work_for asked ≡ Some work

@@ -29,7 +29,7 @@ fn is_digits(text: &str) -> bool
     text.as_bytes().iter().all(|byte| byte.is_ascii_digit())
 }
 
-/// The number that digits alone spell, where it has 32 bits.
+/// The number that digits alone spell, if it has 32 bits.
 #[tactic(auto, using(crate::proofs::Numbers::of_digits, crate::proofs::Numbers::of_others))]
 fn number_of(text: &str) -> Option<u32>
     ensures { result ≡ number_in text.now }
@@ -41,7 +41,7 @@ fn number_of(text: &str) -> Option<u32>
     }
 }
 
-/// The same, where it isn't out of range.
+/// The same, if it isn't out of range.
 pub(crate) fn number_within(range: RangeInclusive<u32>, text: &str) -> Option<u32>
     ensures { result ≡ number_within (range_inclusive_start range) (range_inclusive_end range) text.now }
 {
@@ -54,7 +54,7 @@ pub(crate) fn number_within(range: RangeInclusive<u32>, text: &str) -> Option<u3
     }
 }
 
-/// The numbers of a list, no more and none greater than are allowed; where it is none, the value
+/// The numbers of a list, no more and none greater than are allowed; if it is none, the value
 /// of this name is bad.
 pub(crate) fn list_of(
     alloc: Global,
@@ -82,7 +82,7 @@ pub(crate) fn list_of(
     Ok(numbers)
 }
 
-/// The picks that LIST spells, or none where it isn't given.
+/// The picks that LIST spells, or none if it isn't given.
 pub(crate) fn picks_of(alloc: Global, list: Option<&str>) -> Result<Vec<u32>, NoJob>
     ensures picks { IfOk result (λ picks. listed_in (option_map (λ t. t.now) list.entry) ≡ Some picks.items) }
     ensures none { IfErr result (IsOfValue Value.Picks (listed_in (option_map (λ t. t.now) list.entry))) }
@@ -102,7 +102,7 @@ pub(crate) fn first_of(alloc: Global, list: &str) -> Result<Vec<u32>, NoJob>
     list_of(alloc, Value::First, MOST_CELLS, GREATEST_CELL, list)
 }
 
-/// The number that the text spells, where it isn't out of range; else the value of this name is bad.
+/// The number that the text spells, if it isn't out of range; else the value of this name is bad.
 pub(crate) fn value_of(name: Value, range: RangeInclusive<u32>, text: &str) -> Result<u32, NoJob>
     ensures number { IfOk result (λ n.
         number_within (range_inclusive_start range) (range_inclusive_end range) text.now ≡ Some n) }
@@ -116,7 +116,7 @@ pub(crate) fn value_of(name: Value, range: RangeInclusive<u32>, text: &str) -> R
     }
 }
 
-/// How many workers: two, where that isn't given.
+/// How many workers: two, if that isn't given.
 pub(crate) fn workers_of(text: Option<&str>) -> Result<u32, NoJob>
     ensures workers { IfOk result (λ n. workers_in (option_map (λ t. t.now) text.entry) ≡ Some n) }
     ensures within { IfOk result (λ n. (0 < n) × (n ≤ 16)) }

@@ -17,7 +17,7 @@ impl Dice {
         Dice { last: 20_261 }
     }
 
-    /// A number below this one, 0 where there is none.
+    /// A number below this one, 0 if there is none.
     pub fn below(&mut self, bound: u32) -> u32 {
         self.last = (u64::from(self.last) * 48_271 % 2_147_483_647) as u32;
         (self.last >> 8).checked_rem(bound).unwrap_or(0)

@@ -23,7 +23,7 @@ fn line(task: u64) -> Entry
     }
 }
 
-/// Puts the task's line into the table, where it has none yet and there is room.
+/// Puts the task's line into the table, if it has none yet and there is room.
 fn put(table: &mut Table, task: u64) {
     let mut comparisons = Comparisons::none();
     if table.len() >= 256 {
@@ -101,7 +101,7 @@ fn a_line_is_written_in_place(rt: HostRuntime) -> Result<(), Fail> {
     Ok(())
 }
 
-/// Puts the task's line behind all others, where it comes last. Returns how many comparisons that
+/// Puts the task's line behind all others, if it comes last. Returns how many comparisons that
 /// took.
 fn put_last(table: &mut Table, task: u64) -> u32 {
     let mut comparisons = Comparisons::none();

@@ -19,7 +19,7 @@ mod left_behind;
 mod pairs;
 mod rows;
 
-/// A phaser that nobody has made yet, with the first so many accumulators; `NotNow` where the bound
+/// A phaser that nobody has made yet, with the first so many accumulators; `NotNow` if the bound
 /// is none.
 fn fresh(alloc: Global, operators: usize, bound: u32) -> Result<LongPhaser, Refusal> {
     let bound = Bound::of(bound).ok_or(Refusal::NotNow)?;
@@ -33,7 +33,7 @@ fn made(alloc: Global, operators: usize, bound: u32) -> Result<LongPhaser, Refus
     Ok(phaser)
 }
 
-/// A number of 64 bits as one of 32; the greatest where they have no room for it.
+/// A number of 64 bits as one of 32; the greatest if they have no room for it.
 fn short(number: u64) -> u32 {
     u32::try_from(number).unwrap_or(u32::MAX)
 }
@@ -81,7 +81,7 @@ fn looked(answer: Result<LongLook, Refusal>) -> Reply {
     }
 }
 
-/// Makes the call, and returns the reply. Where a task is registered, the call names the number that
+/// Makes the call, and returns the reply. If a task is registered, the call names the number that
 /// it has to be given.
 fn reply_of(rt: &impl Abort, phaser: &mut LongPhaser, call: Call) -> Reply {
     match call {

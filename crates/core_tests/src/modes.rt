@@ -101,7 +101,7 @@ fn registration_goes_step_by_step(rt: HostRuntime) -> Result<(), Fail> {
     Ok(())
 }
 
-/// A list of one number, `Memory` where it can't grow.
+/// A list of one number, `Memory` if it can't grow.
 fn one_number(alloc: Global) -> Result<Vec<u32>, Refusal> {
     let mut numbers = Vec::with_capacity(alloc, 1)?;
     numbers.push(7)?;

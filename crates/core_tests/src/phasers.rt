@@ -23,7 +23,7 @@ mod peer;
 mod side_by_side;
 mod waiting;
 
-/// A phaser that nobody has made yet; `NotNow` where the limits are none.
+/// A phaser that nobody has made yet; `NotNow` if the limits are none.
 fn fresh(
     alloc: Global,
     limits: Limits,
@@ -47,7 +47,7 @@ fn play(rt: &impl Abort, alloc: Global, example: &Example) -> Result<PhaserState
     Ok(state)
 }
 
-/// The mode in which the task was registered, none where it never was.
+/// The mode in which the task was registered, none if it never was.
 fn mode_in(history: &History, task: u32) -> Option<Mode> {
     for event in history.events() {
         match event {

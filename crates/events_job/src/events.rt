@@ -63,7 +63,7 @@ pub fn answer<W: Write>(alloc: Global, input: &[u8], out: &mut W) -> Result<(), 
     }
 }
 
-/// Answers an events file whose bytes are here. The line of a failure goes to `faults`; where it
+/// Answers an events file whose bytes are here. The line of a failure goes to `faults`; if it
 /// can't be written, the status stays what it is.
 pub fn ending_on<W: Write, F: Write>(
     alloc: Global,

@@ -78,17 +78,17 @@ call_in d = word_at 0 d >>= λ name.
 
 -- ---- the file
 
--- the operators, or none where the key is absent
+-- the operators, or none if the key is absent
 abbrev pub ops_or : Option Data → Option (List Op)
 ops_or None = Some []
 ops_or (Some d) = ops_in d
 
--- the bound, or none where the key is absent
+-- the bound, or none if the key is absent
 abbrev pub bound_or : Option Data → Option (Option ℕ)
 bound_or None = Some None
 bound_or (Some d) = bound_in d >>= λ b. Some (Some b)
 
--- the limits, the operators, the bound and the list of the calls, where nothing is wrong outside the calls
+-- the limits, the operators, the bound and the list of the calls, if nothing is wrong outside the calls
 unfoldable pub outer_in : Data → Option (Limits × List Op × Option ℕ × Items)
 outer_in d =
     if not (has_only (codes "limits" ∷ codes "accs" ∷ codes "bound" ∷ codes "calls" ∷ []) d) then None

@@ -162,7 +162,7 @@ struct Outer<'a> {
     calls: &'a Vec<Value>,
 }
 
-/// The outer object, where nothing is wrong outside the calls.
+/// The outer object, if nothing is wrong outside the calls.
 #[tactic(auto, unfolding(crate::specs::Form::outer_in))]
 fn outer_of(file: &Value) -> Option<Outer<'_>>
     ensures outer { option_map (λ o. (o.limits, o.ops, o.bound, items_view o.calls.now.items)) result
@@ -207,9 +207,9 @@ fn form_of_value(alloc: Global, value: &Value) -> Result<EventsFile, Refusal>
     })
 }
 
-/// Reads the bytes of an events file. `BadText` where they are not of the form: its place is 0
-/// where the bytes are no JSON or the outer object is wrong, else the number of the first call that
-/// is wrong, counted from 1. `Memory` where there is too little for the JSON value or for the
+/// Reads the bytes of an events file. `BadText` if they are not of the form: its place is 0
+/// if the bytes are no JSON or the outer object is wrong, else the number of the first call that
+/// is wrong, counted from 1. `Memory` if there is too little for the JSON value or for the
 /// calls.
 pub fn read_events(alloc: Global, bytes: &[u8]) -> Result<EventsFile, Refusal>
     ensures { Gives form_view result (form_of (reading bytes.now)) }

@@ -15,12 +15,12 @@ abbrev pub RepliesKeepLegal : Type 0
 RepliesKeepLegal = (tasks : ℕ) (calls : List FinishEvent)
     → is_legal_finish tasks (after_all (fresh tasks) calls).past ≡ true
 
--- a call is done exactly where its event is allowed
+-- a call is done exactly if its event is allowed
 abbrev pub DoneWhereAllowed : Type 0
 DoneWhereAllowed = (tasks : ℕ) (h : List FinishEvent) (e : FinishEvent)
     → (reply tasks h e ≡ Ok tt) ↔ (is_allowed tasks h e ≡ true)
 
--- the finish may be shut exactly where the call that shuts it is done
+-- the finish may be shut exactly if the call that shuts it is done
 abbrev pub ShutWhereItMay : Type 0
 ShutWhereItMay = (tasks : ℕ) (h : List FinishEvent) → (may_shut h ≡ true) ↔ (reply tasks h Shut ≡ Ok tt)
 
@@ -29,7 +29,7 @@ abbrev pub EachSpawnedEnds : List FinishEvent → Type 0
 EachSpawnedEnds h = (later before : List FinishEvent) (t : ℕ) → h ≡ later ++ Spawned t ∷ before
     → Contains later (Ended t)
 
--- where it was shut, nothing came after, and by then each task spawned in it had ended
+-- if it was shut, nothing came after, and by then each task spawned in it had ended
 abbrev pub IsAwaited : List FinishEvent → Type 0
 IsAwaited h = (later before : List FinishEvent) → h ≡ later ++ Shut ∷ before
     → (later ≡ []) × EachSpawnedEnds before

@@ -6,7 +6,7 @@ pub fn replies_keep_legal()
     ensures { RepliesKeepLegal }
 {}
 
-/// A call is done exactly where its event is allowed.
+/// A call is done exactly if its event is allowed.
 pub fn done_where_allowed()
     ensures { DoneWhereAllowed }
 {}
@@ -23,7 +23,7 @@ pub fn shut_awaits_all()
     ensures { ShutAwaitsAll }
 {}
 
-/// `may_shut` holds exactly where `shut` is done.
+/// `may_shut` holds exactly if `shut` is done.
 pub fn shut_where_it_may()
     ensures { ShutWhereItMay }
 {}

@@ -20,12 +20,12 @@ status_of (Refused r) = statuses.Refused
 status_of Read = statuses.Fault
 status_of Write = statuses.Fault
 
--- a beginning of the text was appended, and where all of it was written, exactly the text
+-- a beginning of the text was appended, and if all of it was written, exactly the text
 abbrev pub AppendsFront : Bool → Option (List ℕ) → Option (List ℕ) → List ℕ → Type 0
 AppendsFront all old new text =
     ((n : ℕ) × Appends old new (take n text)) × (all ≡ true → Appends old new text)
 
--- some failure has this status, and this is known of it; what was appended is its line, or where that was not
+-- some failure has this status, and this is known of it; what was appended is its line, or if that was not
 -- reported, a beginning of it
 abbrev pub Reports : (Failure → Type 0) → Ending → Option (List ℕ) → Option (List ℕ) → Type 0
 Reports Known e old new =

@@ -67,7 +67,7 @@ impl From<Refusal> for Failure {
 
 impl Failure {
     /// Ends the job with this failure, and writes its line: `refused 24 BadText at 2`,
-    /// `fault read`, `fault write`. Where the line can't be written, the status stays what it is.
+    /// `fault read`, `fault write`. If the line can't be written, the status stays what it is.
     pub fn end<F: Write>(self, alloc: Global, faults: &mut F) -> Ending
         ensures status { result.status ≡ status_of self }
         // A refusal whose line gets no memory is reported as want of memory.

@@ -29,7 +29,7 @@ pub fn put_text<W: Write>(out: &mut W, text: &str) -> Result<(), Failure>
 /// How many writes are tried for one text.
 const MOST_WRITES: u32 = 1_000;
 
-/// Writes the text: in one write, where the writer takes it whole. Returns whether all was written.
+/// Writes the text: in one write, if the writer takes it whole. Returns whether all was written.
 pub fn write_text<F: Write>(faults: &mut F, text: &str) -> bool
     ensures { AppendsFront result (F.contents faults.old) (F.contents faults.new) text.now }
 {

@@ -15,7 +15,7 @@ use Rattle.job_kernels.specs.PipelineTasks as pipelines
 use Rattle.body_follows.specs.Whole.{IsWhole}
 use Rattle.job_kernels.specs.Totals.{pipeline_totals, stencil_totals}
 
--- a step of two cells, 4 and 8, which come to 4 and 5
+-- a step of two cells, 4 and 8, which become 4 and 5
 abbrev pub step_of_two : List WorldEvent
 step_of_two = reverse (
     Phaser 0 (Make 0 SigWait (unbounded (Sum ∷ [])))
@@ -72,7 +72,7 @@ StepOfTwoIsCounted = stencil_totals (4 ∷ 8 ∷ []) 1 ≡ record {
   down = 0;
 }
 
--- an item behind one stage, which comes to 2
+-- an item behind one stage, which becomes 2
 abbrev pub one_item : List WorldEvent
 one_item = reverse (
     Phaser 0 (Make 0 SigWait (unbounded (Least ∷ [])))

@@ -33,7 +33,7 @@ items_at k p = shown k (number_at k p)
 abbrev pub ItemsInOrder : Type 0
 ItemsInOrder = (k p : ℕ) → items_at k (k + p) ≡ Value (pos (pipeline_item k (p + 1)))
 
--- ---- the tasks, where `sent k p` is what comes to phaser k for phase p
+-- ---- the tasks; `sent k p` is what is sent to phaser k for phase p
 
 -- a value is sent, if there is one
 abbrev pub sending : ℕ → Look ℤ → List (Line PipelineBody)
@@ -83,7 +83,7 @@ StagesGoByPipeline = (items k : ℕ) → items ≤ 100 → k < 15 → StageGoesB
 abbrev pub SinkSeesAll : Type 0
 SinkSeesAll = (items stages : ℕ) (sent : ℕ → ℕ → Look ℤ) → SinkGoesBy sent items stages
 
--- a law: whatever the source and the stages send, where each stage sees what came to the phaser before it
+-- a law: whatever the source and the stages send, if each stage sees what was sent to the phaser before it
 -- for the phase that has ended, they send the items of the pipeline
 abbrev pub TasksSendPipeline : Type 0
 TasksSendPipeline = (items stages : ℕ) (sent : ℕ → ℕ → Look ℤ) → items ≤ 100 → stages ≤ 15 →

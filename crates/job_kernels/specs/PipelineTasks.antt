@@ -16,13 +16,13 @@ use Rattle.job_kernels.specs.declared.pipeline_body.Role.TheVariants as kinds
 use Rattle.job_kernels.specs.declared.pipeline_body.PipelineBody.{PipelineBody}
 use Rattle.job_kernels.specs.Tasks.{seen_in, pair_on, Does}
 
--- the most that an item comes to
+-- the most that an item becomes
 abbrev pub greatest : ℕ
 greatest = 1000000
 
 -- ---- the source: it sends each item, and ends a turn after each
 
--- where no item is left, it ends
+-- if no item is left, it ends
 abbrev pub source_sends : Source → Act PipelineBody × Source
 source_sends s =
     if nat_lt s.sent s.items then
@@ -34,12 +34,12 @@ source_next s = if s.sends then source_sends s else (Next, record s { sends = tr
 
 -- ---- a stage: it adds its number, which is one more than that of the phaser before it, to each item
 
--- it ends its turn; where no turn is left, it ends
+-- it ends its turn; if no turn is left, it ends
 abbrev pub stage_turns : ℕ → Stage → Act PipelineBody × Stage
 stage_turns zero s = (End, s)
 stage_turns (suc turns) s = (Next, record s { turns = turns; moment = Looks })
 
--- it sends on what it saw, with its number added; where that is no item, it ends its turn
+-- it sends on what it saw, with its number added; if that is no item, it ends its turn
 abbrev pub stage_sends : Option ℕ → Stage → Act PipelineBody × Stage
 stage_sends None s = stage_turns s.turns s
 stage_sends (Some item) s =
@@ -112,6 +112,6 @@ role_next heard (kinds.Source s) = ((source_next s).0, kinds.Source (source_next
 role_next heard (kinds.Stage s) = ((stage_next heard s).0, kinds.Stage (stage_next heard s).1)
 role_next heard (kinds.Sink s) = ((sink_next s).0, kinds.Sink (sink_next s).1)
 
--- what a task of the pipeline does next, where it hears this, and what it is after that
+-- what a task of the pipeline does next, if it hears this, and what it is after that
 abbrev pub pipeline_next : Answer → PipelineBody → Does PipelineBody
 pipeline_next heard b = ((role_next heard b.role).0, record { role = (role_next heard b.role).1 })

@@ -1,4 +1,4 @@
--- What a run of the pipeline comes to, in whatever order its tasks go on.
+-- What a run of the pipeline gives, in whatever order its tasks go on.
 use Rattle.std.specs.Prelude.{ℕ, pos, ◌≡◌, ◌≤◌, List, map}
 use Rattle.phase_modes.specs.declared.limits.Limits.{Limits}
 use Rattle.world_model.specs.declared.event.WorldEvent.{WorldEvent}
@@ -8,7 +8,7 @@ use Rattle.job_kernels.specs.Pipeline.{pipeline}
 use Rattle.job_kernels.specs.PipelineTasks.{root_task, pipeline_next}
 use Rattle.body_follows.specs.Whole.{IsWhole}
 
--- a whole run comes to the items of the pipeline, in order
+-- a whole run gives the items of the pipeline, in order
 abbrev pub RunsComeToPipeline : Type 0
 RunsComeToPipeline = (l : Limits) (stages items : ℕ) (w : List WorldEvent)
     → stages ≤ 15 → items ≤ 100

@@ -1,4 +1,4 @@
--- What a kernel's run came to, as its report says.
+-- What a kernel's run gives, as its report says.
 use Rattle.std.specs.Prelude.{ℕ, ℤ, ◌==◌, if◌then◌else◌, List, [], ◌∷◌, flat_map, Option, is_some, option_and_then}
 use Rattle.std.specs.List.{find}
 use Rattle.phase_modes.specs.declared.refusal.Refusal.{Refusal}
@@ -22,7 +22,7 @@ value_in phase f = if f.phase == phase then value_seen f.value else []
 abbrev pub cell_of : ℕ → PhaserReport → List ℤ
 cell_of phase p = flat_map (value_in phase) p.folds
 
--- the cells: what each phaser came to in the phase after the last step, phaser by phaser
+-- the cells: what each phaser folded in the phase after the last step, phaser by phaser
 abbrev pub cells_of : ℕ → Report → List ℤ
 cells_of steps r = flat_map (cell_of steps) r.phasers
 

@@ -28,6 +28,6 @@ stencil (suc steps) cells = stencil_step (stencil steps cells)
 abbrev pub AtMost : ℕ → List ℕ → Type 0
 AtMost most cells = (i : ℕ) → slice_index cells i ≤ most
 
--- a law: no cell ever comes to more than the greatest did at first
+-- a law: no cell ever becomes greater than the greatest was at first
 abbrev pub StaysAtMost : Type 0
 StaysAtMost = (most steps : ℕ) (cells : List ℕ) → AtMost most cells → AtMost most (stencil steps cells)

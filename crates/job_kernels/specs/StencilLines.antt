@@ -48,7 +48,7 @@ abbrev pub CellsGoByStencil : Type 0
 CellsGoByStencil = (first : List ℕ) (steps i : ℕ) → AtMost greatest first → i < length first →
     CellGoesBy (cells_at first) first steps i
 
--- a law: whatever the tasks send, where each sees of its neighbours what they sent for the phase that has
+-- a law: whatever the tasks send, if each sees of its neighbours what they sent for the phase that has
 -- ended, they send the cells of the stencil
 abbrev pub CellsSendStencil : Type 0
 CellsSendStencil = (first : List ℕ) (steps : ℕ) (sent : ℕ → ℕ → ℤ) → AtMost greatest first →

@@ -41,7 +41,7 @@ neighbours cells i = left_of i ++ right_of cells i
 abbrev pub sends : Cell → Act StencilBody × Cell
 sends c = (Send c.place 0 (pos (min c.value greatest)), record c { moment = Turns })
 
--- it ends its turn; where no step is left, it ends
+-- it ends its turn; if no step is left, it ends
 abbrev pub turns : ℕ → Cell → Act StencilBody × Cell
 turns zero c = (End, c)
 turns (suc steps) c = (Next, record c { steps = steps; moment = LooksLeft })
@@ -50,12 +50,12 @@ turns (suc steps) c = (Next, record c { steps = steps; moment = LooksLeft })
 abbrev pub weighs : ℕ → Cell → Act StencilBody × Cell
 weighs right c = sends (record c { value = weighed c.left c.value right })
 
--- it looks at the cell on its right; where there is none, that counts as 0
+-- it looks at the cell on its right; if there is none, that counts as 0
 abbrev pub looks_right : List ℕ → Cell → Act StencilBody × Cell
 looks_right [] c = weighs 0 c
 looks_right (right ∷ _) c = (Look right 0, record c { moment = Weighs })
 
--- it looks at the cell on its left; where there is none, that counts as 0
+-- it looks at the cell on its left; if there is none, that counts as 0
 abbrev pub looks_left : List ℕ → Cell → Act StencilBody × Cell
 looks_left [] c = looks_right (right_of c.cells c.place) (record c { left = 0 })
 looks_left (left ∷ _) c = (Look left 0, record c { moment = LooksRight })
@@ -68,7 +68,7 @@ at_moment LooksRight heard c =
     looks_right (right_of c.cells c.place) (record c { left = value_of greatest heard })
 at_moment Weighs heard c = weighs (value_of greatest heard) c
 
--- what it does next, where it hears this, and what it is after that
+-- what it does next, if it hears this, and what it is after that
 abbrev pub cell_next : Answer → Cell → Act StencilBody × Cell
 cell_next heard c = at_moment c.moment heard c
 
@@ -119,6 +119,6 @@ abbrev pub role_next : Answer → roles.Role → Act StencilBody × roles.Role
 role_next heard (kinds.Root r) = ((root_next r).0, kinds.Root (root_next r).1)
 role_next heard (kinds.Cell c) = ((cell_next heard c).0, kinds.Cell (cell_next heard c).1)
 
--- what a task of the stencil does next, where it hears this, and what it is after that
+-- what a task of the stencil does next, if it hears this, and what it is after that
 abbrev pub stencil_next : Answer → StencilBody → Does StencilBody
 stencil_next heard b = ((role_next heard b.role).0, record { role = (role_next heard b.role).1 })

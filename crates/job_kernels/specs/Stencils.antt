@@ -1,4 +1,4 @@
--- What a run of the stencil comes to, in whatever order its tasks go on.
+-- What a run of the stencil gives, in whatever order its tasks go on.
 use Rattle.std.specs.Prelude.{ℕ, ℤ, pos, ◌+◌, ◌≡◌, ◌<◌, ◌≤◌, List, ◌∷◌, ◌++◌, length, map}
 use Rattle.phase_modes.specs.declared.limits.Limits.{Limits}
 use Rattle.phase_model.specs.declared.op.Look.TheVariants.{Value}
@@ -36,7 +36,7 @@ LooksSeeCells = OfEachStencil (λ first steps w.
     → waits t (phaser_past n before) ≡ p + 1
     → heard before (Phaser n (Look t a)) ≡ Saw (Value (cells_at first p n)))
 
--- a whole run comes to the cells of the stencil
+-- a whole run gives the cells of the stencil
 abbrev pub RunsComeToStencil : Type 0
 RunsComeToStencil = (l : Limits) (first : List ℕ) (steps : ℕ) (w : List WorldEvent)
     → length first ≤ 16 → AtMost greatest first

@@ -31,7 +31,7 @@ abbrev pub seen_in : ℕ → Answer → Option ℕ
 seen_in most (Saw look) = look_in most look
 seen_in most _ = None
 
--- it; 0 where none was
+-- it; 0 if none was
 abbrev pub value_of : ℕ → Answer → ℕ
 value_of most answer = unwrap_or (seen_in most answer) 0
 
@@ -45,15 +45,15 @@ Does B = Act B × B
 abbrev pub Line : Type 0 → Type 0
 Line B = Act B × Answer
 
--- a task goes by these lines: it does one act after the other, where it hears of each what its line
+-- a task goes by these lines: it does one act after the other, if it hears of each what its line
 -- says, and then ends
 abbrev pub GoesBy : {B : Type 0} → (Answer → B → Does B) → Does B → List (Line B) → Type 0
 GoesBy next does [] = does.0 ≡ End
 GoesBy next does (line ∷ lines) = (does.0 ≡ line.0) × GoesBy next (next line.1 does.1) lines
 
--- ---- what a phase comes to
+-- ---- what a phase folds to
 
--- a law: where one value is sent for a phase, that is its sum, and its least; and none has no least. So a
+-- a law: if one value is sent for a phase, that is its sum, and its least; and none has no least. So a
 -- look at it sees the value that was sent, or none
 abbrev pub LoneValuesAreSeen : Type 0
 LoneValuesAreSeen = (v : ℤ) →

@@ -1,4 +1,4 @@
--- What the events of a whole run come to in all: the totals of its report, by the arguments alone.
+-- What the events of a whole run add up to: the totals of its report, by the arguments alone.
 use Rattle.std.specs.Prelude.{ℕ, ◌+◌, ◌-◌, ◌*◌, ◌≡◌, ◌≤◌, List, length}
 use Rattle.std.specs.List.{sum, sum_by}
 use Rattle.phase_modes.specs.declared.limits.Limits.{Limits}

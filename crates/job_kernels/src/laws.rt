@@ -59,7 +59,7 @@ pub fn pipeline_sink_sees_all()
     ensures { SinkSeesAll }
 {}
 
-/// Whatever the source and the stages send, if each stage sees what came to the phaser before it for
+/// Whatever the source and the stages send, if each stage sees what was sent to the phaser before it for
 /// the phase that has ended, they send the items of the pipeline.
 pub fn pipeline_tasks_send_it()
     ensures { TasksSendPipeline }

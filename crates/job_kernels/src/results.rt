@@ -43,7 +43,7 @@ fn push_values(values: &mut Vec<i64>, phaser: &PhaserLines) -> Result<(), Refusa
     Ok(())
 }
 
-/// The cells of a stencil after its last step: what each phaser came to in that phase.
+/// The cells of a stencil after its last step: what each phaser folded in that phase.
 pub fn cells_of(alloc: Global, report: &WorldReport, steps: u32) -> Result<Vec<i64>, Refusal>
     ensures cells { IfOk result (λ v. v.items ≡ cells_of steps report.now) }
     ensures memory { IfErr result (λ e. e ≡ NoMemory) }

@@ -31,7 +31,7 @@ pub record One : Type 0 where
   pub next : ℕ
   pub seen : Seen
 
--- a child's body, which isn't kept where it is too long
+-- a child's body, which isn't kept if it is too long
 abbrev pub kept : Option ℕ → Acts → Acts
 kept None body = body
 kept (Some p) body = no_acts
@@ -40,7 +40,7 @@ kept (Some p) body = no_acts
 abbrev pub is_too_long : ℕ → Acts → Bool
 is_too_long k inner = nat_lt 10000 (k * flat_length inner)
 
--- An act at place p, the acts inside which were read. A repeat that comes to too much is at fault at its own place;
+-- An act at place p, the acts inside which were read. A repeat that is too long is at fault at its own place;
 -- a child's body that is too long is at fault at the act with which it is.
 abbrev pub one_of : ℕ → Head → Read → One
 one_of p (heads.Repeat k) r = record {
@@ -52,7 +52,7 @@ one_of p (heads.Repeat k) r = record {
 one_of p h r =
     record { head = h; body = kept r.passing r.acts; next = r.next; seen = noted_at r.passing r.seen }
 
--- the place of the act with which a list of n acts first passed ten thousand, where its last act stands at p
+-- the place of the act with which a list of n acts first passed ten thousand, if its last act stands at p
 abbrev pub passing_now : Option ℕ → ℕ → ℕ → Option ℕ
 passing_now (Some q) p n = Some q
 passing_now None p n = if nat_lt 10000 n then Some p else None
@@ -103,7 +103,7 @@ acts_in deep = acts_by (act_in deep)
 
 -- ---- the program
 
--- the limits and the list of the acts, where nothing is wrong outside the acts
+-- the limits and the list of the acts, if nothing is wrong outside the acts
 unfoldable pub outer_in : Data → Option (Limits × Items)
 outer_in d =
     if not (has_only (codes "limits" ∷ codes "main" ∷ []) d) then None

@@ -22,7 +22,7 @@ pub enum Act<B: Drop> {
     Signal,
     /// Ends the turn on each phaser, which the task has signalled before.
     Wait,
-    /// Signals where the task hasn't yet, then ends the turn on each phaser.
+    /// Signals if the task hasn't yet, then ends the turn on each phaser.
     Next,
     /// The same on the one phaser of the task, and proposes the single statement of this number.
     NextSingle(u32),
@@ -34,7 +34,7 @@ pub enum Act<B: Drop> {
     End,
 }
 
-/// What a task hears before its next act: that it starts, or what its last act came to.
+/// What a task hears before its next act: that it starts, or the outcome of its last act.
 #[derive(Clone, Copy, Debug, PartialEq, Eq)]
 pub enum Answer {
     /// It makes its first act.

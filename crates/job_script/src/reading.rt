@@ -113,7 +113,7 @@ fn head_of<'v>(
     })
 }
 
-/// An act of which the acts inside it were read. A repeat that comes to too much is a fault at its
+/// An act of which the acts inside it were read. A repeat that is too long is a fault at its
 /// own place. A child's body that is too long is one at the act with which it is, and is not kept.
 fn one_of(alloc: Global, seen: &mut Seen, place: u64, head: Head, list: List) -> Item
     requires { list.passing ≡ None → flat_length list.body < too_many }
@@ -229,7 +229,7 @@ pub(crate) struct Outer<'v> {
     pub(crate) main: &'v Vec<Value>,
 }
 
-/// The outer object, where nothing is wrong outside the acts.
+/// The outer object, if nothing is wrong outside the acts.
 #[tactic(auto, unfolding(crate::specs::Form::outer_in))]
 fn outer_of(value: &Value) -> Option<Outer<'_>>
     ensures outer { option_map outer_view result ≡ outer_in (view value.now) }
@@ -262,9 +262,9 @@ fn program_of(alloc: Global, value: &Value) -> Result<Program, Refusal>
     }
 }
 
-/// Reads the bytes of a program. `BadText` where they are not of the form: its place is 0 where the
+/// Reads the bytes of a program. `BadText` if they are not of the form: its place is 0 if the
 /// bytes are no JSON or the outer object is wrong, else the number of the first act that is at
-/// fault, counted from 1 in the order of the text, an act before those inside it. `Memory` where
+/// fault, counted from 1 in the order of the text, an act before those inside it. `Memory` if
 /// there is too little for the JSON value or for the acts.
 pub fn read_program(alloc: Global, bytes: &[u8]) -> Result<Program, Refusal>
     ensures { Gives (λ p. p) result (form_of (reading bytes.now)) }

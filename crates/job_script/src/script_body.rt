@@ -141,7 +141,7 @@ impl<'p> ScriptBody<'p> {
         ScriptBody::begun(body, [NOWHERE; 64])
     }
 
-    /// The next act, after the answer to the one before; `End` where none is left. It takes no
+    /// The next act, after the answer to the one before; `End` if none is left. It takes no
     /// memory and is never refused. A phaser that was `Made` has the name of its `new` from then
     /// on; a name without a meaning stands for phaser 4,294,967,295, on which nobody is registered.
     pub fn step(&mut self, answer: Answer) -> Result<Act<ScriptBody<'p>>, Refusal>

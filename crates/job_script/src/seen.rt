@@ -64,7 +64,7 @@ impl Seen {
 
     /// The number of a name, 0 to 63, in an act at a place. The sixty-fifth name has none: that is
     /// a fault at the act in which it first stands.
-    /// `Memory` where there is too little for the name.
+    /// `Memory` if there is too little for the name.
     pub(crate) fn number_of(&mut self, alloc: Global, place: u64, name: &str) -> Result<u8, Refusal>
         ensures numbered { IfOk result (λ n. number_of self.old place name.now ≡ (n, self.new)) }
         ensures memory { IfErr result (λ e. e ≡ NoMemory) }

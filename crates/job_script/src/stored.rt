@@ -81,7 +81,7 @@ fn item_at(items: &[Item], index: usize) -> Option<&Item>
 impl Item {
     ghost use Rattle.job_script.specs.Acts.{written_length, flat_length, too_many};
 
-    /// How many acts it comes to once it is written out,
+    /// How many acts it has once it is written out,
     /// as far as numbers go that are not too large.
     fn len(&self) -> u32
         ensures { result ≡ min (written_length self.now.head (flat_length self.now.body)) too_many }
@@ -110,7 +110,7 @@ impl Body {
         }
     }
 
-    /// How many acts it comes to once every repeat is written out, as far as numbers go that are
+    /// How many acts it has once every repeat is written out, as far as numbers go that are
     /// not too large.
     pub(crate) fn len(&self) -> u32
         ensures { result ≡ min (flat_length self.now) too_many }

@@ -1,7 +1,7 @@
 //! Tests of what a job without threads is made of, which call what these crates export: programs,
 //! their runs by picks, traces, and what a task in flight knows of itself.
 //!
-//! A library of tests alone: where they stood in the crates themselves, these would be proved once
+//! A library of tests alone: if they stood in the crates themselves, these would be proved once
 //! more with each change of a test.
 #![tactic(auto)]
 

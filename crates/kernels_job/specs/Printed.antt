@@ -16,7 +16,7 @@ abbrev pub word_of : Kernel → List ℕ
 word_of (Stencil steps) = codes "cells"
 word_of (Pipeline stages) = codes "items"
 
--- what the run came to
+-- what the run gave
 abbrev pub values_of : Kernel → Report → List ℤ
 values_of (Stencil steps) r = cells_of steps r
 values_of (Pipeline stages) r = items_of stages r
@@ -28,12 +28,12 @@ value_text v = codes " " ++ signed_decimal v
 abbrev pub kernel_text : Kernel → Report → List ℕ
 kernel_text k r = word_of k ++ flat_map value_text (values_of k r) ++ (codes "\n" ++ totals_row r.totals)
 
--- a report is not printed where one of its tasks was refused, by the refusal of the lowest; else only for
+-- a report is not printed if one of its tasks was refused, by the refusal of the lowest; else only for
 -- want of memory, or because a write fails
 abbrev pub IsOfReport : Report → Failure → Type 0
 IsOfReport r f = MatchOption (refusal_of r) ((f ≡ Refused Memory) ⊎ (f ≡ Write)) (λ refusal. f ≡ Refused refusal)
 
--- and where the run was refused, there is none
+-- and if the run was refused, there is none
 abbrev pub IsOfRun : Result Report Refusal → Failure → Type 0
 IsOfRun (Ok r) f = IsOfReport r f
 IsOfRun (Err refusal) f = f ≡ Refused refusal

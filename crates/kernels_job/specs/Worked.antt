@@ -1,4 +1,4 @@
--- What the run of a kernel comes to.
+-- What the run of a kernel gives.
 use Rattle.std.specs.Prelude.{◌≡◌, true, List, ◌++◌, reverse, map, pos, flat_map, codes, ℕ, Result, Ok, Err}
 use Rattle.phase_modes.specs.Limits.{default_limits}
 use Rattle.phase_modes.specs.declared.refusal.Refusal.{Refusal}

@@ -35,7 +35,7 @@ impl Kernel {
         }
     }
 
-    /// What the run came to.
+    /// What the run gave.
     fn values(self, alloc: Global, report: &WorldReport) -> Result<Vec<i64>, Refusal>
         ensures values { IfOk result (λ v. v.items ≡ values_of self report.now) }
         ensures memory { IfErr result (λ e. e ≡ Refusal.Memory) }
@@ -104,7 +104,7 @@ fn lines_of(alloc: Global, kernel: Kernel, report: &WorldReport) -> Result<Strin
     Ok(text)
 }
 
-/// Prints what the run came to: `cells 11 30`, or `items 4 5 6`, and the totals. Nothing is written
+/// Prints what the run gave: `cells 11 30`, or `items 4 5 6`, and the totals. Nothing is written
 /// before the whole text is there, and nothing if a task was refused.
 pub fn print_report<W: Write>(
     alloc: Global,

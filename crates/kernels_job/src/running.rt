@@ -1,4 +1,4 @@
-//! Runs a kernel by workers, and prints what it came to.
+//! Runs a kernel by workers, and prints what it gave.
 ghost use Rattle.std.specs.Prelude.{◌≡◌, ◌≢◌, ◌<◌, ◌≤◌, Result, Ok, None, length};
 ghost use Rattle.std.specs.Io.KnownBytes.{Appends, Keeps};
 ghost use Rattle.phase_modes.specs.declared.refusal.Refusal.{Refusal as Refusals};

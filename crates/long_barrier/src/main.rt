@@ -13,7 +13,7 @@ use std::env;
 
 const TASKS: usize = 4;
 
-/// How many phases there are where no argument says it.
+/// How many phases there are if no argument says it.
 const PHASES: u64 = 1_000_000;
 
 /// A phaser as a barrier, and the numbers of the tasks that meet there.

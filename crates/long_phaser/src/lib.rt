@@ -1,4 +1,4 @@
-//! A phaser that lives as long as its program: its memory hangs on its bound, and on nothing that
+//! A phaser that lives as long as its program: its memory depends on its bound, and on nothing that
 //! was ever done on it.
 #![tactic(auto)]
 

@@ -53,7 +53,7 @@ impl LongPhaser {
     /// ahead of a waiter by as many phases as the bound says: 2 makes nobody wait at a barrier who
     /// wouldn't wait anyway, and for producers and consumers it is the length of the queue. What was
     /// folded is kept for two phases more than the bound. All memory that it will ever need is taken
-    /// here; `Memory` where that is refused.
+    /// here; `Memory` if that is refused.
     pub fn new(alloc: Global, ops: Ops, bound: Bound) -> Result<LongPhaser, Refusal>
         ensures empty { IfOk result (λ p. p.story ≡ record { limits = long_limits; terms = record { ops = ops; bound = Some bound }; past = [] }) }
         ensures next { IfOk result (λ p. p.next ≡ 0) }
@@ -66,7 +66,7 @@ impl LongPhaser {
 
     /// Makes the phaser, and registers its maker at phase 0, under the number that is returned.
     ///
-    /// Refused: `NotNow` where it is made already.
+    /// Refused: `NotNow` if it is made already.
     pub fn make(&mut self, mode: Mode) -> Result<Task, Refusal>
         ensures number { IfOk result (λ t. t ≡ self.old.next) }
         ensures done { IfOk result (λ _. done_result (reply self.old.story (make self.old.next mode)) ≡ Ok tt) }
@@ -137,7 +137,7 @@ impl LongPhaser {
 
     /// Reports the single done that the task had claimed.
     ///
-    /// Refused, in this order: `NotRegistered`, `NotNow` where the task isn't the claimer.
+    /// Refused, in this order: `NotRegistered`, `NotNow` if the task isn't the claimer.
     pub fn single_done(&mut self, task: Task) -> Result<(), Refusal>
         ensures reply { result ≡ done_result (reply self.old.story (single_done task)) }
         ensures history { self.new.story ≡ after self.old.story (reply self.old.story (single_done task)) }
@@ -174,7 +174,7 @@ impl LongPhaser {
     /// Drops the task from the phaser. What it sent still counts, and its number is never given out
     /// again.
     ///
-    /// Refused, in this order: `NotRegistered`, `NotNow` where the task proposed a single that
+    /// Refused, in this order: `NotRegistered`, `NotNow` if the task proposed a single that
     /// isn't done.
     pub fn leave(&mut self, task: Task) -> Result<(), Refusal>
         ensures reply { result ≡ done_result (reply self.old.story (drop_task task)) }

@@ -29,7 +29,7 @@ impl Model for NumberSet {
 
 impl NumberSet {
     /// An empty set of the numbers below the size, which is at most 65,536. All memory is taken
-    /// here; `Memory` where it is refused.
+    /// here; `Memory` if it is refused.
     pub fn new(alloc: Global, size: u32) -> Result<NumberSet, Refusal>
         requires { size ≤ 65536 }
         ensures size { IfOk result (λ s. s.size ≡ size) }

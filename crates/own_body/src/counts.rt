@@ -54,7 +54,7 @@ impl Counts {
         }
     }
 
-    /// Counts what came of the last act, where it is known whether that was to end a turn.
+    /// Counts what came of the last act, if it is known whether that was to end a turn.
     pub fn hear(&mut self, turns: bool, answer: Answer)
         ensures { (task : ℕ) (asked : Asked) (seen now : Seen) → (turns ≡ true → asked ≡ next None)
             → (self.old.holds ≡ true → TakesNone asked) → AreCounted task self.old seen

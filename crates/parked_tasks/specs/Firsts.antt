@@ -24,7 +24,7 @@ first_to_pass ps = find (λ p. is_pass p.call) ps
 abbrev pub first_to_signal : {T : Type 0} → List (Parked T) → Option (Parked T)
 first_to_signal ps = find (λ p. not (is_pass p.call)) ps
 
--- it stands in an open phase; where there is none, that may count as so
+-- it stands in an open phase; if there is none, that may count as so
 abbrev pub is_open_for : {T : Type 0} → Story → Option (Parked T) → Bool
 is_open_for s None = true
 is_open_for s (Some p) = is_in_open_phase s p.task
@@ -33,7 +33,7 @@ is_open_for s (Some p) = is_in_open_phase s p.task
 abbrev pub is_phase_open : {T : Type 0} → Story → List (Parked T) → Bool
 is_phase_open s ps = is_open_for s (first_to_pass ps)
 
--- it would still be answered `NotYet`; where there is none, that may count as so
+-- it would still be answered `NotYet`; if there is none, that may count as so
 abbrev pub is_held_for : {T : Type 0} → Story → Option (Parked T) → Bool
 is_held_for s None = true
 is_held_for s (Some p) = would_park s p.task p.call

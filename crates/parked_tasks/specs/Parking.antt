@@ -68,7 +68,7 @@ IsBack x (Claimed y n) = y ≡ x
 IsBack x Waits = Unit {0}
 IsBack x (Refused y r) = y ≡ x
 
--- who is parked after a call: its task too, where it has to wait and isn't parked already
+-- who is parked after a call: its task too, if it has to wait and isn't parked already
 abbrev pub parking : {T : Type 0} → Bool → Bool → Parked T → List (Parked T) → List (Parked T)
 parking true false p ps = ps ++ p ∷ []
 parking true true p ps = ps

@@ -14,7 +14,7 @@ pub enum SignalAnswer<T> {
 }
 
 /// What a `pass` answers. The item comes back with it, or it is parked. Phases are counted by 32
-/// bits where nothing else is said.
+/// bits if nothing else is said.
 #[derive(Drop)]
 pub enum PassAnswer<T, P = u32> {
     /// The turn of this phase is ended.

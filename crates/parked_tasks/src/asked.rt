@@ -31,7 +31,7 @@ pub trait Asked {
         ensures { result ≡ is_some (story self.now).terms.bound };
 }
 
-/// The number as the phaser has it; none where it is too large to be registered.
+/// The number as the phaser has it; none if it is too large to be registered.
 fn narrow(state: &PhaserState, task: u64) -> Option<u32>
     ensures same { IfSome result (λ t. t ≡ task) }
     ensures unknown { IfNone result (is_live task state.now.story.past ≡ false) }

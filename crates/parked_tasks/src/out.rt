@@ -25,7 +25,7 @@ impl<T> Model for Out<T> {
 }
 
 impl<T> Out<T> {
-    /// An empty list. All its memory is taken here; `Memory` where that is refused.
+    /// An empty list. All its memory is taken here; `Memory` if that is refused.
     pub fn new(alloc: Global) -> Result<Out<T>, Refusal>
         ensures empty { IfOk result (λ o. o ≡ []) }
         ensures memory { IfErr result (λ e. e ≡ Refusal.Memory) }

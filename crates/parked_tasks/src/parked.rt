@@ -66,7 +66,7 @@ fn release<S: Asked, T>(state: &S, parked: &mut VecDeque<Parked<T>>, out: &mut O
     }
 }
 
-/// Wakes all who need no longer wait. Where nobody can have been woken, the list isn't
+/// Wakes all who need no longer wait. If nobody can have been woken, the list isn't
 /// gone through.
 pub fn release_if<S: Asked, T>(
     may_leave: bool,
@@ -95,8 +95,8 @@ pub fn is_parked<T>(parked: &VecDeque<Parked<T>>, task: u64) -> bool
     parked.iter().any(|p| p.task == task)
 }
 
-/// Hands the item back with the answer of a pass, or parks it where the task has to come again;
-/// `NotNow` where the task is parked already.
+/// Hands the item back with the answer of a pass, or parks it if the task has to come again;
+/// `NotNow` if the task is parked already.
 pub fn settle_pass<P, T>(
     answer: Result<Passing<P>, Refusal>,
     parked: &mut VecDeque<Parked<T>>,

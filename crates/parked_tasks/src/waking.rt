@@ -1,4 +1,4 @@
-//! Whether a call can have woken somebody. Where it can't, the parked ones are not gone through.
+//! Whether a call can have woken somebody. If it can't, the parked ones are not gone through.
 ghost use Rattle.std.specs.Prelude.{◌≡◌, option_map, ◌||◌, ◌&&◌, not, true, false, is_some};
 ghost use Rattle.phase_model.specs.Waiting.{would_wait};
 ghost use Rattle.parked_tasks.specs.Firsts.{is_pass, first_to_pass, first_to_signal, is_phase_open, is_first_held, has_gone_on, is_made};
@@ -32,7 +32,7 @@ fn first_to_signal<T>(parked: &VecDeque<Parked<T>>) -> Option<&Parked<T>>
     parked.iter().find(|p| !is_pass(p.call))
 }
 
-/// Whether the phase of those who wait to pass isn't closed; where it is, they wait for its single.
+/// Whether the phase of those who wait to pass isn't closed; if it is, they wait for its single.
 /// All of them stand at the same phase, so the first shows it.
 pub fn is_phase_open<S: Asked, T>(state: &S, parked: &VecDeque<Parked<T>>) -> bool
     ensures { result ≡ is_phase_open (S.story state.now) parked.now.items }

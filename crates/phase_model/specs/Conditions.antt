@@ -23,7 +23,7 @@ abbrev pub is_other_proposed : Option ℕ → ℕ → List Event → Bool
 is_other_proposed None p h = false
 is_other_proposed (Some n) p h = is_mismatch n p h
 
--- the conditions of a call, in the order in which they are asked, each with the refusal where it is not met
+-- the conditions of a call, in the order in which they are asked, each with the refusal if it is not met
 abbrev pub conditions : Limits → Terms → List Event → Call → List (Refusal × Bool)
 conditions l terms h (make t m) =
     (NotNow, is_empty h)

@@ -19,7 +19,7 @@ abbrev pub CallsKeepLegal : Type 0
 CallsKeepLegal = (s : Story) (cs : List Call) → IsLegal s
     → IsLegal (after_calls s cs) × IsOrdered (after_calls s cs).past
 
--- in a legal story a call is done exactly where the event that it would add is allowed
+-- in a legal story a call is done exactly if the event that it would add is allowed
 abbrev pub DoneWhereAllowed : Type 0
 DoneWhereAllowed = (s : Story) (c : Call) → IsLegal s
     → (reply s c ≡ done (event_for s.limits s.terms s.past c))

@@ -24,7 +24,7 @@ impl Model for Bound {
 }
 
 impl Bound {
-    /// The bound of so many phases; none where they aren't 1 to 65,536.
+    /// The bound of so many phases; none if they aren't 1 to 65,536.
     pub fn of(phases: u32) -> Option<Bound>
         ensures { MatchOption result ((phases ≡ 0) ⊎ (65536 < phases)) (λ b. b ≡ phases) }
     {

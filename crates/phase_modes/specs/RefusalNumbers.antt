@@ -5,7 +5,7 @@ use Rattle.phase_modes.specs.declared.refusal.Refusal.{Refusal}
 use Rattle.phase_modes.specs.declared.refusal.Refusal.TheVariants.{NotRegistered, NoSignal, NoWait, NoSingle, AlreadySignalled, NotSignalled, SingleMismatch, OnePhaserOnly, NoAccumulator, NoPhaseYet, MoreThanParent, OutsideScope, RegisteredTwice, RegsFull, HistoryFull, PhasersFull, TasksFull, FinishesFull, ActsFull, FinishOpen, NoFinish, NotNow, Memory, BadText, NotExplained, SharesDiffer}
 use Rattle.phase_modes.specs.Refusal.{number_of}
 
--- the refusals, in the order of their numbers; where one names a place, with place 0
+-- the refusals, in the order of their numbers; if one names a place, with place 0
 abbrev pub refusals : List Refusal
 refusals =
     NotRegistered ∷ NoSignal ∷ NoWait ∷ NoSingle ∷ AlreadySignalled ∷ NotSignalled ∷

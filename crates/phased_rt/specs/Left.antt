@@ -1,4 +1,4 @@
--- Who is left where a run has ended.
+-- Who is left once a run has ended.
 use Rattle.std.specs.Prelude.{◌≡◌, ℕ, false, List, reverse}
 use Rattle.phase_model.specs.Tasks.{is_live}
 use Rattle.world_model.specs.Parts.{phaser_past}

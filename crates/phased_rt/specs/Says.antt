@@ -24,7 +24,7 @@ SaysOfTrace Shows l es root =
 abbrev pub HasEnded : ℕ → List Entry → Type 0
 HasEnded task es = has_end (projection (log task) es) ≡ true
 
--- of each task that has ended there is a body that says this, as the task's own and where it has asked for its end, of what
+-- of each task that has ended there is a body that says this, as the task's own and if it has asked for its end, of what
 -- the task had seen: of each phaser that begins the story that the trace tells, and what it had noted begins its log there
 abbrev pub SaysOfEach : {B : Type 0} → Saying B → Limits → List Entry → Type 0
 SaysOfEach Shows l es =

@@ -2,7 +2,7 @@
 //!
 //! # A caller
 //!
-//! A task is a `Body`: it hears what its last act came to, and gives its next one. The root's comes
+//! A task is a `Body`: it hears the outcome of its last act, and gives its next one. The root's comes
 //! back in the report, with what it kept.
 //!
 //! ```rust

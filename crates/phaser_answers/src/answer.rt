@@ -9,7 +9,7 @@ pub enum Signalling {
     NotYet,
 }
 
-/// How a `pass` ended. Phases are counted by 32 bits where nothing else is said.
+/// How a `pass` ended. Phases are counted by 32 bits if nothing else is said.
 #[derive(Clone, Copy, Debug, PartialEq, Eq)]
 pub enum Passing<P = u32> {
     /// The turn of this phase is ended.

@@ -26,7 +26,7 @@ number_of_answer BadOperators = 70
 number_of_answer BadBound = 71
 number_of_answer BadTickets = 72
 
--- what is answered where a call on a phaser returns this
+-- what is answered if a call on a phaser returns this
 abbrev pub answer_for : Reply → Answer
 answer_for replies.Done = Done
 answer_for (replies.Phase p) = Done
@@ -36,18 +36,18 @@ answer_for (replies.Saw Unseen) = Nothing
 answer_for replies.NotYet = NotYet
 answer_for (replies.Refused r) = Refused r
 
--- the phase or the single's number that a reply gives; where it gives none, what was there before
+-- the phase or the single's number that a reply gives; if it gives none, what was there before
 abbrev pub number_given : ℕ → Option Reply → ℕ
 number_given old (Some (replies.Phase p)) = p
 number_given old (Some (replies.Claim n)) = n
 number_given old _ = old
 
--- the value that a reply gives; where it gives none, what was there before
+-- the value that a reply gives; if it gives none, what was there before
 abbrev pub value_given : ℤ → Option Reply → ℤ
 value_given old (Some (replies.Saw (Value v))) = v
 value_given old _ = old
 
--- the number that answers a call on what a handle holds, where none means that it holds no phaser
+-- the number that answers a call on what a handle holds, if none means that it holds no phaser
 abbrev pub number_for : Option Reply → ℕ
 number_for None = number_of_answer Closed
 number_for (Some r) = number_of_answer (answer_for r)
@@ -68,7 +68,7 @@ number_of_fold None = number_of_answer NotKept
 number_of_fold (Some (Value v)) = number_of_answer Done
 number_of_fold (Some Unseen) = number_of_answer Nothing
 
--- the value of a fold; where it has none, what was there before
+-- the value of a fold; if it has none, what was there before
 abbrev pub value_of_fold : ℤ → Option (Look ℤ) → ℤ
 value_of_fold old (Some (Value v)) = v
 value_of_fold old _ = old

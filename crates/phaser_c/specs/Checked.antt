@@ -40,23 +40,23 @@ IsEnd lines (Err f) checked.Lacking = ⊤
 abbrev pub IsRefusal : (Failure → Type 0) → List ℕ → Type 0
 IsRefusal Known text = (f : Failure) × (status_of f ≡ statuses.Refused) × Known f × (text ≡ failure_line f)
 
--- what replaying these bytes comes to: the report of the one trace that they spell, or a refusal
+-- what replaying these bytes gives: the report of the one trace that they spell, or a refusal
 abbrev pub IsReplayed : List ℕ → Checked → Type 0
 IsReplayed bytes (checked.Done text) = Explains bytes (λ t. text.items ≡ report_for t)
 IsReplayed bytes (checked.Refused text) = IsRefusal (IsOfReplay bytes) text.items
 IsReplayed bytes checked.Lacking = IsOfReplay bytes (Refused Memory)
 
--- what answering these bytes comes to: the reply lines of the file that they spell, or a refusal
+-- what answering these bytes gives: the reply lines of the file that they spell, or a refusal
 abbrev pub IsAnswered : List ℕ → Checked → Type 0
 IsAnswered bytes (checked.Done text) = (file : Form) × (file_spelled bytes ≡ Ok file) × (text.items ≡ text_for file)
 IsAnswered bytes (checked.Refused text) = IsRefusal (IsOfAnswer bytes) text.items
 IsAnswered bytes checked.Lacking = IsOfAnswer bytes (Refused Memory)
 
--- the number, where the room is large enough for the text
+-- the number, if the room is large enough for the text
 abbrev pub if_told : List ℕ → List ℕ → ℕ → ℕ
 if_told text room number = if nat_le (length text) (length room) then number else number_of_answer Short
 
--- what a check came to is told in a room, and answered by 0 or 1, the exit status of the program
+-- what a check gave is told in a room, and answered by 0 or 1, the exit status of the program
 abbrev pub IsHanded : Checked → List ℕ → List ℕ → ℕ → ℕ → Type 0
 IsHanded (checked.Done text) old new written number =
     IsTold text.items old new written × (number ≡ if_told text.items old 0)

@@ -8,7 +8,7 @@ use Rattle.phaser_c.specs.declared.answer.Answer.{Answer}
 use Rattle.phaser_c.specs.declared.answer.Answer.TheVariants.{Done, Claimed, Refused}
 use Rattle.phaser_c.specs.declared.freed.GivenFreed.{GivenFreed}
 
--- what is answered where a call ended so
+-- what is answered if a call ended so
 abbrev pub ended_answer : Ended → Answer
 ended_answer ends.Signalled = Done
 ended_answer (ends.Passed p) = Done

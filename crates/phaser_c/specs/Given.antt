@@ -20,12 +20,12 @@ mode_of number = slice_get (Sig ∷ Wait ∷ SigWait ∷ Single ∷ []) number
 abbrev pub op_of : ℕ → Option Op
 op_of number = slice_get (Sum ∷ Least ∷ Greatest ∷ []) number
 
--- these operators and behind them those of the numbers, where each is one
+-- these operators and behind them those of the numbers, if each is one
 abbrev pub with_ops : List Op → List ℕ → Option (List Op)
 with_ops ops [] = Some ops
 with_ops ops (n ∷ ns) = option_and_then (λ op. with_ops (ops ++ op ∷ []) ns) (op_of n)
 
--- the operators of at most four numbers, where each is one
+-- the operators of at most four numbers, if each is one
 abbrev pub ops_of : List ℕ → Option (List Op)
 ops_of ns = if nat_le (length ns) 4 then with_ops [] ns else None
 
@@ -37,12 +37,12 @@ limits_of l = record { acts = l.acts; finishes = l.finishes; history = l.history
 abbrev pub bound_of : ℕ → Option (Option ℕ)
 bound_of n = if nat_le n 65536 then Some (if nat_eq n 0 then None else Some n) else None
 
--- a phaser that nobody has made yet, of operators and a bound, where those are given
+-- a phaser that nobody has made yet, of operators and a bound, if those are given
 abbrev pub unmade : Limits → Option (List Op) → Option (Option ℕ) → Result Story Answer
 unmade l None bound = Err BadOperators
 unmade l (Some ops) None = Err BadBound
 unmade l (Some ops) (Some b) = Ok (record { limits = l; terms = record { ops = ops; bound = b }; past = [] })
 
--- the same of the operators and the bound of these numbers, where the limits fit
+-- the same of the operators and the bound of these numbers, if the limits fit
 abbrev pub story_given : Limits → List ℕ → ℕ → Result Story Answer
 story_given l ns b = if limits_fit l then unmade l (ops_of ns) (bound_of b) else Err BadLimits

@@ -23,7 +23,7 @@ abbrev pub nothing_at : Ptr → Fml
 nothing_at null_ptr = ftrue
 nothing_at (block_ptr b o) = ffalse
 
--- the phaser in a block of its own, with the right to free it; where there is none, null
+-- the phaser in a block of its own, with the right to free it; if there is none, null
 abbrev pub held : Ptr → Option Phaser → Fml
 held p None = nothing_at p
 held p (Some x) = box_owns chunk the_row p x

@@ -18,7 +18,7 @@ history_text number s tickets = trace_text (record { limits = s.limits; events =
 abbrev pub answer_in : List ℕ → List ℕ → Answer
 answer_in text room = if nat_le (length text) (length room) then Done else Short
 
--- the text of the history is told, or nothing where memory is refused or the tickets aren't one for each event
+-- the text of the history is told, or nothing if memory is refused or the tickets aren't one for each event
 abbrev pub IsHistory : ℕ → Story → List ℕ → List ℕ → List ℕ → ℕ → ℕ → Answer → Type 0
 IsHistory number s tickets old new before written a =
     (length tickets ≢ length s.past → (a ≡ BadTickets) × (new ≡ old) × (written ≡ before))

@@ -1,4 +1,4 @@
--- What a call comes to on a phaser for threads that wait, and on what a handle holds of one.
+-- What a call does to a phaser for threads that wait, and to what a handle holds of one.
 use Rattle.std.specs.Prelude.{◌≡◌, ℕ, ℤ, pos, neg_ℤ, int_le, int_lt, Bool, true, false, ◌+◌, ◌&&◌, if◌then◌else◌, List, [], Contains, length, nat_le, OnErr, Option, None, Some, Result, Ok, Err}
 use Rattle.phase_modes.specs.declared.refusal.Refusal.{Refusal}
 use Rattle.phase_modes.specs.declared.refusal.Refusal.TheVariants.{NotRegistered}
@@ -32,7 +32,7 @@ waiter t (Signal x) = to_signal t x
 waiter t Pass = to_pass t
 waiter t (Next x) = to_go_on t x
 
--- how things stand, where those were freed
+-- how things stand, if those were freed
 abbrev pub stands : WaitingCell → List Freed → Standing
 stands c fs = standing c.state.story c.parked.items fs
 
@@ -40,14 +40,14 @@ stands c fs = standing c.state.story c.parked.items fs
 abbrev pub asked : WaitingCell → Parked Then → cells.Answer
 asked c p = answer_to (is_parked p.task c.parked.items) (called c.state.story p)
 
--- how things stand after a task's own call, and those of all who went on by it; as before where it was turned away
+-- how things stand after a task's own call, and those of all who went on by it; as before if it was turned away
 abbrev pub IsAsked : Parked Then → WaitingCell → Standing → Type 0
 IsAsked p c w =
     let again = is_parked p.task c.parked.items in
     IsTurned (standing_after again (called c.state.story p) c.state.story c.parked.items) w
     × (is_turned_away again (course c.state.story p.task p.call p.item) ≡ true → w ≡ stands c [])
 
--- how things stand after another call, and those of all who went on by it; as before where it was refused
+-- how things stand after another call, and those of all who went on by it; as before if it was refused
 abbrev pub IsMade : Call → WaitingCell → Standing → Type 0
 IsMade call c w =
     let r = reply c.state.story call in
@@ -69,7 +69,7 @@ IsGoneOn How c d old new count =
 abbrev pub is_wide : List GivenFreed → Bool
 is_wide room = nat_le 256 (length room)
 
--- the same of what a handle holds; all is as before where the room is too small, or there is no phaser
+-- the same of what a handle holds; all is as before if the room is too small, or there is no phaser
 abbrev pub IsGoneOnAt : (WaitingCell → Standing → Type 0) → Option Waiting → Option Waiting → List GivenFreed
     → List GivenFreed → ℕ → ℕ → Bool → Type 0
 IsGoneOnAt How old new room room' count count' false = (new ≡ old) × (room' ≡ room) × (count' ≡ count)
@@ -77,13 +77,13 @@ IsGoneOnAt How None new room room' count count' true = (new ≡ None) × (room' 
 IsGoneOnAt How (Some w) new room room' count count' true =
     (v : Waiting) × (new ≡ Some v) × IsGoneOn How w.cell v.cell room room' count'
 
--- what is asked of what a handle holds; the answer says where there is too little room, or no phaser
+-- what is asked of what a handle holds; the answer says if there is too little room, or no phaser
 abbrev pub told_at : {A : Type 0} → Bool → Option Waiting → (WaitingCell → A) → Result A Answer
 told_at false held f = Err Short
 told_at true None f = Err Closed
 told_at true (Some w) f = Ok (f w.cell)
 
--- what is answered where a task was answered so by the cell
+-- what is answered if a task was answered so by the cell
 abbrev pub answer_of_cell : cells.Answer → Answer
 answer_of_cell (HasEnded e) = ended_answer e
 answer_of_cell IsParked = NotYet
@@ -93,13 +93,13 @@ abbrev pub answer_of_told : Result cells.Answer Answer → Answer
 answer_of_told (Ok a) = answer_of_cell a
 answer_of_told (Err why) = why
 
--- the phase or the single's number that the answer gives; where it gives none, what was there before
+-- the phase or the single's number that the answer gives; if it gives none, what was there before
 abbrev pub number_told : ℕ → Result cells.Answer Answer → ℕ
 number_told old (Ok (HasEnded (ends.Passed p))) = p
 number_told old (Ok (HasEnded (ends.Claimed n))) = n
 number_told old _ = old
 
--- what is answered where a call was done or refused
+-- what is answered if a call was done or refused
 abbrev pub answer_done : Result (Unit {0}) Refusal → Answer
 answer_done (Ok u) = Done
 answer_done (Err r) = Refused r
@@ -113,7 +113,7 @@ answer_of_done (Err why) = why
 abbrev pub is_short : ℤ → Bool
 is_short v = int_le (neg_ℤ (pos 9223372036854775808)) v && int_lt v (pos 9223372036854775808)
 
--- what is answered where a look returned this
+-- what is answered if a look returned this
 abbrev pub answer_seen : Result (Look ℤ) Refusal → Answer
 answer_seen (Ok (Value v)) = if is_short v then Done else TooGreat
 answer_seen (Ok Unseen) = Nothing
@@ -124,7 +124,7 @@ abbrev pub answer_of_seen : Result (Result (Look ℤ) Refusal) Answer → Answer
 answer_of_seen (Ok r) = answer_seen r
 answer_of_seen (Err why) = why
 
--- the value that a look gives; where it gives none, what was there before
+-- the value that a look gives; if it gives none, what was there before
 abbrev pub value_seen : ℤ → Result (Look ℤ) Refusal → ℤ
 value_seen old (Ok (Value v)) = if is_short v then v else old
 value_seen old _ = old
@@ -134,7 +134,7 @@ abbrev pub IsCalled : Call → WaitingCell → WaitingCell → Type 0
 IsCalled call c d =
     (d.state.story ≡ after c.state.story (reply c.state.story call)) × (d.state.next ≡ c.state.next) × (d.parked ≡ c.parked)
 
--- the number that is given out next, where the one before was given to a task, or refused
+-- the number that is given out next, if the one before was given to a task, or refused
 abbrev pub next_after : ℕ → Result (Unit {0}) Refusal → ℕ
 next_after n (Ok u) = n + 1
 next_after n (Err r) = n
@@ -154,7 +154,7 @@ abbrev pub IsHeldAfter : (WaitingCell → WaitingCell → Type 0) → Option Wai
 IsHeldAfter How None new = new ≡ None
 IsHeldAfter How (Some w) new = (v : Waiting) × (new ≡ Some v) × How w.cell v.cell
 
--- the number that a task was given; where it was given none, what was there before
+-- the number that a task was given; if it was given none, what was there before
 abbrev pub number_if : ℕ → ℕ → Result (Unit {0}) Refusal → ℕ
 number_if old next (Ok u) = next
 number_if old next (Err r) = old
@@ -169,12 +169,12 @@ abbrev pub value_seen_at : ℤ → Option Waiting → (WaitingCell → Result (L
 value_seen_at old None f = old
 value_seen_at old (Some w) f = value_seen old (f w.cell)
 
--- what is answered where a task was given this number, or refused
+-- what is answered if a task was given this number, or refused
 abbrev pub answer_given : Result ℕ Refusal → Answer
 answer_given (Ok t) = Done
 answer_given (Err r) = Refused r
 
--- the number; where there is none, what was there before
+-- the number; if there is none, what was there before
 abbrev pub task_given : ℕ → Result ℕ Refusal → ℕ
 task_given old (Ok t) = t
 task_given old (Err r) = old

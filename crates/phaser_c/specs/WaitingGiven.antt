@@ -9,7 +9,7 @@ use Rattle.phaser_c.specs.declared.answer.Answer.{Answer}
 use Rattle.phaser_c.specs.declared.answer.Answer.TheVariants.{Done, Open, BadOperators, BadBound, Refused}
 use Rattle.phaser_c.specs.declared.waiting.Waiting.{Waiting}
 
--- a phaser that nobody has made yet, of operators and a bound, where both are given
+-- a phaser that nobody has made yet, of operators and a bound, if both are given
 abbrev pub long_unmade : Option (List Op) → Option (Option ℕ) → Result Story Answer
 long_unmade None bound = Err BadOperators
 long_unmade (Some ops) None = Err BadBound
@@ -30,7 +30,7 @@ abbrev pub IsNew : Result Story Answer → Waiting → Type 0
 IsNew (Ok s) w = IsFresh s w
 IsNew (Err why) w = ⊥
 
--- how a phaser is made for a handle: one that holds a phaser keeps it; where what was given is bad, the answer says
+-- how a phaser is made for a handle: one that holds a phaser keeps it; if what was given is bad, the answer says
 -- why, and the handle holds none; else it holds the phaser that was given, unless memory is refused
 abbrev pub IsMadeFrom : Option Waiting → Option Waiting → Result Story Answer → Answer → Type 0
 IsMadeFrom (Some w) new given a = (a ≡ Open) × (new ≡ Some w)

@@ -43,7 +43,7 @@ pub enum Answer {
 }
 
 impl Answer {
-    /// The number, which is a refusal's own where the library refused.
+    /// The number, which is a refusal's own if the library refused.
     pub(crate) fn number(self) -> u32
         ensures { result ≡ number_of_answer self }
     {
@@ -66,7 +66,7 @@ impl Answer {
         }
     }
 
-    /// What is answered where a signal came to this.
+    /// What is answered if a signal ended so.
     pub(crate) fn of_signal(outcome: Result<Signalling, Refusal>) -> Answer
         ensures { result ≡ answer_for (signal_reply outcome) }
     {
@@ -77,7 +77,7 @@ impl Answer {
         }
     }
 
-    /// What is answered where a pass came to this.
+    /// What is answered if a pass ended so.
     pub(crate) fn of_pass(outcome: Result<Passing, Refusal>) -> Answer
         ensures { result ≡ answer_for (pass_reply outcome) }
     {
@@ -89,7 +89,7 @@ impl Answer {
         }
     }
 
-    /// What is answered where a call on a phaser returned this.
+    /// What is answered if a call on a phaser returned this.
     pub(crate) fn of(reply: Reply) -> Answer
         ensures { result ≡ answer_for reply }
     {

@@ -15,7 +15,7 @@ use phase_modes::Refusal;
 use phaser_core::Passing;
 use std::alloc::Global;
 
-/// Makes the call on the phaser that the handle holds; none where it holds none.
+/// Makes the call on the phaser that the handle holds; none if it holds none.
 fn call(alloc: Global, phaser: &mut Handle, call: Call) -> Option<Reply>
     ensures answer { result ≡ answered (story phaser.old.state) call }
     ensures history { story phaser.new.state ≡ gone_on (story phaser.old.state) call }

@@ -12,7 +12,7 @@ use phase_modes::Refusal;
 use replay_job::replay_bytes;
 use std::alloc::Global;
 
-/// What checking a text came to.
+/// What checking a text gave.
 #[derive(Drop)]
 enum Checked {
     /// The lines.
@@ -34,7 +34,7 @@ fn without_write(failure: Failure) -> Failure
     }
 }
 
-/// What a check came to that wrote these lines, or failed.
+/// What a check gave that wrote these lines, or failed.
 fn end(alloc: Global, lines: Vec<u8>, outcome: Result<(), Failure>) -> Checked
     ensures { IsEnd lines.items outcome result }
 {
@@ -71,7 +71,7 @@ fn answered(alloc: Global, file: &[u8]) -> Checked
     end(alloc, lines, outcome)
 }
 
-/// Writes the text to the room. The number, where the room is large enough.
+/// Writes the text to the room. The number, if the room is large enough.
 fn give(text: &[u8], number: u32, room: &mut [u8], written: &mut usize) -> u32
     ensures told { IsTold text.now room.old room.new written.new }
     ensures number { result ≡ if_told text.now room.old number }
@@ -83,7 +83,7 @@ fn give(text: &[u8], number: u32, room: &mut [u8], written: &mut usize) -> u32
     }
 }
 
-/// Writes what a check came to to the room. The number that answers the check.
+/// Writes what a check gave to the room. The number that answers the check.
 fn hand(ended: &Checked, room: &mut [u8], written: &mut usize) -> u32
     ensures { IsHanded ended.now room.old room.new written.new result }
 {

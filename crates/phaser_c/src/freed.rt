@@ -15,7 +15,7 @@ pub struct GivenFreed {
 }
 
 impl Answer {
-    /// What is answered where a call ended so.
+    /// What is answered if a call ended so.
     pub(crate) fn of_ended(ended: Ended) -> Answer
         ensures { result ≡ ended_answer ended }
     {

@@ -40,21 +40,21 @@ const MODES: [Mode; 4] = [Mode::Sig, Mode::Wait, Mode::SigWait, Mode::Single];
 /// The operators, by their numbers.
 const OPERATORS: [Op; 3] = [Op::Sum, Op::Least, Op::Greatest];
 
-/// The mode of this number; none where no mode has it.
+/// The mode of this number; none if no mode has it.
 pub(crate) fn mode_of(number: u32) -> Option<Mode>
     ensures { result ≡ mode_of number }
 {
     MODES.get(number as usize).copied()
 }
 
-/// The operator of this number; none where no operator has it.
+/// The operator of this number; none if no operator has it.
 fn op_of(number: u32) -> Option<Op>
     ensures { result ≡ op_of number }
 {
     OPERATORS.get(number as usize).copied()
 }
 
-/// The operators of these numbers; none where one is no operator's, or there are more than four.
+/// The operators of these numbers; none if one is no operator's, or there are more than four.
 pub(crate) fn ops_of(numbers: &[u32]) -> Option<Ops>
     ensures { result ≡ ops_of numbers.now }
 {

@@ -67,7 +67,7 @@ fn text_of(
     to_json(alloc, &trace)
 }
 
-/// Writes the text of the history to the room, where there are as many tickets as events.
+/// Writes the text of the history to the room, if there are as many tickets as events.
 fn tell_history(
     alloc: Global,
     number: u32,

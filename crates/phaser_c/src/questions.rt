@@ -77,7 +77,7 @@ pub extern "C" fn phaser_c_event_count(alloc: Global, phaser: &mut Handle, count
     Answer::Done.number()
 }
 
-/// The number that answers what is kept of a fold, and its value, where it has one.
+/// The number that answers what is kept of a fold, and its value, if it has one.
 fn give_fold(fold: Option<Look>, value: &mut i64) -> u32
     ensures answer { result ≡ number_of_fold fold }
     ensures value { value.new ≡ value_of_fold value.old fold }

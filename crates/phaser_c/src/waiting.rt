@@ -17,7 +17,7 @@ pub(crate) struct Waiting {
 
 impl Waiting {
     /// A phaser that nobody has made yet, with these operators and this bound. All memory that it
-    /// will ever need is taken here; `Memory` where that is refused.
+    /// will ever need is taken here; `Memory` if that is refused.
     pub(crate) fn new(alloc: Global, ops: Ops, bound: Bound) -> Result<Waiting, Refusal>
         ensures story { IfOk result (λ w. w.cell.state.story
             ≡ record { limits = long_limits; terms = record { ops = ops; bound = Some bound }; past = [] }) }

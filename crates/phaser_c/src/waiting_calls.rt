@@ -14,7 +14,7 @@ use long_phaser::Task;
 use std::alloc::Global;
 use waiting_cell::Ended;
 
-/// What is answered where a task was answered so by the cell.
+/// What is answered if a task was answered so by the cell.
 fn answer_of_cell(answer: waiting_cell::Answer) -> Answer
     ensures { result ≡ answer_of_cell answer }
 {

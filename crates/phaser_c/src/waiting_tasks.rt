@@ -15,7 +15,7 @@ use long_phaser::Task;
 use phase_modes::{Mode, Refusal};
 use std::alloc::Global;
 
-/// What is answered where a call was done or refused.
+/// What is answered if a call was done or refused.
 pub(crate) fn answer_done(outcome: Result<(), Refusal>) -> Answer
     ensures { result ≡ answer_done outcome }
 {

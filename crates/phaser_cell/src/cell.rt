@@ -174,7 +174,7 @@ impl<T, K: Ledgers> PhaserCell<T, K> {
     }
 
     /// The phaser's `signal`, with its refusals; a task that is too far ahead of a waiter leaves its
-    /// item here instead, or has it back with `NotNow` where it is parked already. The items of all
+    /// item here instead, or has it back with `NotNow` if it is parked already. The items of all
     /// whom it wakes are put into `out`.
     pub fn signal<B: Post<K>>(
         &mut self,
@@ -221,7 +221,7 @@ impl<T, K: Ledgers> PhaserCell<T, K> {
     }
 
     /// The phaser's `drop_task`, with its refusals. The items of all whom it wakes are put
-    /// into `out`, the dropped task's own too where it was parked.
+    /// into `out`, the dropped task's own too if it was parked.
     pub fn drop_task<B: Post<K>>(
         &mut self,
         tickets: &Tickets,
@@ -292,7 +292,7 @@ impl<T, K: Ledgers> PhaserCell<T, K> {
     }
 
     /// The phaser's `pass`, with its refusals; a task that has to wait leaves its item here
-    /// instead, or has it back with `NotNow` where it is parked already. The items of all whom it
+    /// instead, or has it back with `NotNow` if it is parked already. The items of all whom it
     /// wakes are put into `out`: those who waited to signal, for the bound.
     pub fn pass<B: Post<K>>(
         &mut self,
@@ -338,7 +338,7 @@ impl<T, K: Ledgers> PhaserCell<T, K> {
 
 impl<T: Drop, K: Ledgers> PhaserCell<T, K> {
     /// A phaser that nobody has made yet, and that has neither operators nor a bound before, with
-    /// its book, in which nothing is posted yet. All memory that it will ever need is taken here; `Memory` where that
+    /// its book, in which nothing is posted yet. All memory that it will ever need is taken here; `Memory` if that
     /// is refused.
     pub fn new(
         alloc: Global,
@@ -353,7 +353,7 @@ impl<T: Drop, K: Ledgers> PhaserCell<T, K> {
     {
         let drawn = Vec::with_capacity(alloc, limits.history as usize)?;
         let parked = VecDeque::with_capacity(alloc, 256)?;
-        // Last, since it is the dearest to give back where another gets no memory.
+        // Last, since it is the dearest to give back if another gets no memory.
         let state = PhaserState::blank(alloc, limits)?;
         Ok(PhaserCell {
             state,

@@ -13,7 +13,7 @@ use std::sync::{Mutex, Wait};
 
 /// Where events are posted.
 pub trait Post<K: Ledgers> {
-    /// What it says of the books before and after, where they rose by so much.
+    /// What it says of the books before and after, if they rose by so much.
     ghost rose: { Self → Self → Amount → Type 0 };
 
     /// Takes one of the phaser's room, and raises the books, the phaser's book and the worker's
@@ -25,7 +25,7 @@ pub trait Post<K: Ledgers> {
         ensures room { book.new.room + 1 ≡ book.old.room }
         ensures mine { mine.new ≡ plus (amount event.now) mine.old };
 
-    /// Where nothing is posted, the books rose by nothing.
+    /// If nothing is posted, the books rose by nothing.
     ghost stays: { (b : Self) → rose b b nothing };
 }
 
@@ -59,7 +59,7 @@ impl<'a, K: Ledgers, R: Wait> Post<K> for Locked<'a, K, R> {
     ghost stays = { λ b. tt };
 }
 
-/// Posts the event of a call where it was added, and draws its ticket.
+/// Posts the event of a call if it was added, and draws its ticket.
 // Where it is called the event's kind is known, so of most events only the count is written.
 #[inline(always)]
 pub(crate) fn post_if<K: Ledgers, B: Post<K>>(

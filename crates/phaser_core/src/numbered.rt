@@ -31,7 +31,7 @@ impl Model for NumberedHistory {
 
 impl NumberedHistory {
     /// An empty history, with room for as many events as the limits allow, and no number. `Memory`
-    /// where that room isn't to be had; nothing after it takes memory.
+    /// if that room isn't to be had; nothing after it takes memory.
     pub(crate) fn new(
         alloc: Global,
         limits: Limits,

@@ -43,7 +43,7 @@ impl PhaserState {
     }
 
     /// What the values sent to an accumulator for a closed phase fold to; of a phase that isn't
-    /// closed it is what was folded so far. None where there is no such accumulator, or the phase
+    /// closed it is what was folded so far. None if there is no such accumulator, or the phase
     /// is not below the limit of the history's events, so that no value can be sent for it, or it
     /// is given up. A phase is given up only once each live task that can wait has passed the phase
     /// after it.

@@ -13,7 +13,7 @@ use Rattle.phaser_answers.specs.Answers.{made_with}
 abbrev pub unmade : Limits → Terms → Story
 unmade l terms = record { limits = l; terms = terms; past = [] }
 
--- both ways of making a phaser are answered alike, and where it is made, both leave the same limits,
+-- both ways of making a phaser are answered alike, and if it is made, both leave the same limits,
 -- operators and history
 abbrev pub BothMakeAlike : Type 0
 BothMakeAlike = (l : Limits) (terms : Terms) (t : ℕ) (m : Mode)

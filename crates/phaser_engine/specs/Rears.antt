@@ -2,7 +2,7 @@
 use Rattle.std.specs.Prelude.{ℕ, ◌≡◌, ◌≢◌, ◌+◌, ◌<◌, ◌≤◌, Option, Some, None}
 use Rattle.phaser_engine.specs.declared.rear.Rear.{Rear}
 
--- so many stand at this phase and nobody behind it; where that is none, nobody stands anywhere
+-- so many stand at this phase and nobody behind it; if that is none, nobody stands anywhere
 pub record IsRear (counts : ℕ → ℕ) (rear : Rear) : Type 0 where
   pub here : counts rear.least ≡ rear.count
   pub behind : (n : ℕ) → n < rear.least → counts n ≡ 0

@@ -33,7 +33,7 @@ impl Model for LinePartials {
 }
 
 impl LinePartials {
-    /// No line's. Memory for those of all lines is taken here; `Memory` where it is refused.
+    /// No line's. Memory for those of all lines is taken here; `Memory` if it is refused.
     pub(crate) fn new(alloc: Global) -> Result<LinePartials, Refusal>
         ensures empty { IfOk result (λ p. p ≡ []) }
         ensures memory { IfErr result (λ r. r ≡ Refusal.Memory) }

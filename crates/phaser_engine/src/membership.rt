@@ -138,7 +138,7 @@ impl View<'_> {
     }
 
     /// Whether the task's line stands last and it may be dropped, seen by at most one comparison,
-    /// and by none where the table is full: then `find` may need all nine. `false` says nothing.
+    /// and by none if the table is full: then `find` may need all nine. `false` says nothing.
     #[inline(always)]
     pub(crate) fn may_drop_last(&self, task: u64, comparisons: &mut Comparisons) -> bool
         requires counted { comparisons.old + 1 < 2 ^ 32 }

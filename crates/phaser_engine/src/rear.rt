@@ -52,7 +52,7 @@ impl Rear {
         }
     }
 
-    /// Where the hindmost stand once one has left the phase. None where it was the last there and
+    /// Where the hindmost stand once one has left the phase. None if it was the last there and
     /// nobody stood behind: whoever comes next has to be looked for.
     #[inline(always)]
     pub(crate) fn without(self, phase: u64) -> Option<Rear>

@@ -1,6 +1,6 @@
 //! The roll: a line for each live task, sorted by task number, and where the hindmost signallers and
 //! the hindmost waiters stand, so that a phase's closing, and which phase may still be read, is
-//! asked at the same cost however many tasks there are. The lines are gone through only where the
+//! asked at the same cost however many tasks there are. The lines are gone through only if the
 //! last one leaves the least phase: in a barrier that is once a phase, a line for each call.
 ghost use Rattle.std.specs.Prelude.{◌≡◌, ◌+◌, ◌-◌, ◌==◌, ◌<◌, ◌≤◌, ◌^◌, ℕ, [], true, false, length, Some, IfNone, IfSome, IfOk, IfErr, slice_get, slice_set, slice_index_or, insert, remove, List, ℤ};
 ghost use Rattle.std.specs.List.{list_any, list_all};
@@ -45,7 +45,7 @@ impl Model for Roll {
 }
 
 impl Roll {
-    /// An empty roll. All its memory is taken here; `Memory` where that is refused.
+    /// An empty roll. All its memory is taken here; `Memory` if that is refused.
     pub(crate) fn new(alloc: Global) -> Result<Roll, Refusal>
         ensures lines { IfOk result (λ r. r.lines ≡ []) }
         ensures partials { IfOk result (λ r. r.partials ≡ []) }
@@ -79,7 +79,7 @@ impl Roll {
         self.table.find(task, comparisons)
     }
 
-    /// Where the task's line stands, and what it is: as `find` looks where nothing was compared
+    /// Where the task's line stands, and what it is: as `find` looks if nothing was compared
     /// yet, else by halving alone, since what was compared was a guess.
     pub(crate) fn find_after_guess(
         &self,
@@ -101,7 +101,7 @@ impl Roll {
         }
     }
 
-    /// The line where `find` looks first, where that is the task's.
+    /// The line where `find` looks first, if that is the task's.
     #[inline(always)]
     pub(crate) fn guess(&self, task: u64, comparisons: &mut Comparisons) -> Option<(usize, Entry)>
         requires { comparisons.old + 1 < 2 ^ 32 }
@@ -112,7 +112,7 @@ impl Roll {
         self.table.guess(task, comparisons)
     }
 
-    /// The last line, where it is the task's.
+    /// The last line, if it is the task's.
     #[inline(always)]
     pub(crate) fn last_of(&self, task: u64, comparisons: &mut Comparisons) -> Option<Entry>
         requires { comparisons.old + 1 < 2 ^ 32 }
@@ -174,7 +174,7 @@ impl Roll {
     }
 
     /// The first phase that a waiter may still look at, or an earlier one: each waiter has passed
-    /// it, where it isn't 0.
+    /// it, if it isn't 0.
     pub(crate) fn needed_from(&self) -> u64
         ensures each { 0 < result → list_all (λ e. has_passed result e.reg) self.now.lines ≡ true }
         ensures some { 0 < result → list_any (λ e. is_waiter_past result e.reg) self.now.lines ≡ true }
@@ -357,7 +357,7 @@ fn with_signaller(signallers: Rear, reg: LongReg) -> Rear
     }
 }
 
-/// Where they stand without it. None where it was the last there: whoever comes next has to be
+/// Where they stand without it. None if it was the last there: whoever comes next has to be
 /// looked for.
 #[inline(always)]
 fn without_signaller(signallers: Rear, reg: LongReg) -> Option<Rear>
@@ -372,7 +372,7 @@ fn without_signaller(signallers: Rear, reg: LongReg) -> Option<Rear>
     }
 }
 
-/// Where the hindmost signallers of the lines stand. They are looked for where it isn't known.
+/// Where the hindmost signallers of the lines stand. They are looked for if it isn't known.
 #[inline(always)]
 fn hindmost_signallers(known: Option<Rear>, lines: &[Entry]) -> Rear
     requires few { length lines.now ≤ 256 }
@@ -415,7 +415,7 @@ fn with_waiter(waiters: Rear, reg: LongReg) -> Rear
     }
 }
 
-/// Where they stand without it. None where it was the last there: whoever comes next has to be
+/// Where they stand without it. None if it was the last there: whoever comes next has to be
 /// looked for.
 #[inline(always)]
 fn without_waiter(waiters: Rear, reg: LongReg) -> Option<Rear>
@@ -429,7 +429,7 @@ fn without_waiter(waiters: Rear, reg: LongReg) -> Option<Rear>
     }
 }
 
-/// Where the hindmost waiters of the lines stand. They are looked for where it isn't known.
+/// Where the hindmost waiters of the lines stand. They are looked for if it isn't known.
 #[inline(always)]
 fn hindmost_waiters(known: Option<Rear>, lines: &[Entry]) -> Rear
     requires few { length lines.now ≤ 256 }

@@ -65,7 +65,7 @@ impl Model for Engine {
 impl Engine {
     /// A phaser that nobody has made yet, with these limits, the operators of its accumulators, and
     /// its bound, if it has one. What was folded is kept for so many phases at a time. All memory
-    /// that it will ever need is taken here; `Memory` where that is refused.
+    /// that it will ever need is taken here; `Memory` if that is refused.
     pub fn new(
         alloc: Global,
         limits: LongLimits,
@@ -83,7 +83,7 @@ impl Engine {
     {
         let history = Told::new(limits, ops, bound);
         let cells = Cells::new(alloc, history.ops(), room)?;
-        // Last, since it is the dearest to give back where another gets no memory.
+        // Last, since it is the dearest to give back if another gets no memory.
         let table = Roll::new(alloc)?;
         Ok(Engine {
             table,
@@ -109,7 +109,7 @@ impl Engine {
     /// Makes the phaser with these operators of its accumulators and this bound, and registers its
     /// maker at phase 0.
     ///
-    /// Refused, in this order: `NotNow` where it is made already, `TasksFull`.
+    /// Refused, in this order: `NotNow` if it is made already, `TasksFull`.
     pub fn make_with(
         &mut self,
         task: u64,
@@ -134,7 +134,7 @@ impl Engine {
 
     /// Makes the phaser, and registers its maker at phase 0.
     ///
-    /// Refused, in this order: `NotNow` where it is made already, `TasksFull`.
+    /// Refused, in this order: `NotNow` if it is made already, `TasksFull`.
     pub fn make(&mut self, task: u64, mode: Mode) -> Result<(), Refusal>
         ensures reply { result ≡ done_result (reply self.old.story (make task mode)) }
         ensures history { self.new.story ≡ after self.old.story (reply self.old.story (make task mode)) }
@@ -241,7 +241,7 @@ impl Engine {
 
     /// Reports the single done that the task had claimed.
     ///
-    /// Refused, in this order: `NotRegistered`, `NotNow` where the task isn't the claimer.
+    /// Refused, in this order: `NotRegistered`, `NotNow` if the task isn't the claimer.
     pub fn single_done(&mut self, task: u64) -> Result<(), Refusal>
         ensures reply { result ≡ done_result (reply self.old.story (single_done task)) }
         ensures history { self.new.story ≡ after self.old.story (reply self.old.story (single_done task)) }
@@ -298,7 +298,7 @@ impl Engine {
 
     /// Drops the task from the phaser. What it sent still counts, and its number stays known.
     ///
-    /// Refused, in this order: `NotRegistered`, `NotNow` where the task proposed a single that
+    /// Refused, in this order: `NotRegistered`, `NotNow` if the task proposed a single that
     /// isn't done.
     pub fn drop_task(&mut self, task: u64) -> Result<(), Refusal>
         ensures reply { result ≡ done_result (reply self.old.story (drop_task task)) }
@@ -327,7 +327,7 @@ impl Engine {
     }
 
     /// What the values sent to an accumulator for a closed phase fold to; of a phase that isn't
-    /// closed it is what was folded so far. None where there is no such accumulator, or the phase
+    /// closed it is what was folded so far. None if there is no such accumulator, or the phase
     /// is not below the limit of the history's events, so that no value can be sent for it, or it
     /// is given up. A phase is given up only once each live task that can wait has passed the phase
     /// after it.

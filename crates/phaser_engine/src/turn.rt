@@ -119,7 +119,7 @@ pub(crate) enum Turn {
     Waits,
 }
 
-/// The last single with a claim of the task; none where it may claim nothing.
+/// The last single with a claim of the task; none if it may claim nothing.
 fn with_claim(table: &Roll, single: Single, task: u64, entry: Entry) -> Option<Single>
     requires { entry.task ≡ task }
     ensures { result ≡ claiming table.now.lines single entry }

@@ -8,7 +8,7 @@ use std::io;
 use std::io::{ErrorKind, Write};
 use std::path::PathBuf;
 
-/// OUT, of which nothing is opened before the first write. Where OUT is a file, or isn't there,
+/// OUT, of which nothing is opened before the first write. If OUT is a file, or isn't there,
 /// what is written goes into a new file beside it, and a flush puts that in the place of OUT. So
 /// OUT is whole at any time, and may be FILE itself. A device or a pipe is written to as it is.
 pub(crate) struct Upgraded<'a> {

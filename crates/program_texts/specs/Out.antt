@@ -1,4 +1,4 @@
--- What is written to OUT, where there is an OUT.
+-- What is written to OUT, if there is an OUT.
 use Rattle.std.specs.Prelude.{ℕ, List, Option, Some, None, ⊤}
 use Rattle.std.specs.Io.KnownBytes.{Appends, Keeps}
 

@@ -38,8 +38,8 @@ fn text_of(alloc: Global, trace: &Trace) -> Result<String, Failure>
     }
 }
 
-/// Writes the text of the trace to OUT, where there is an OUT. Nothing is written before the text is
-/// there. `Memory` where there is too little for it; `Write` where it can't be written, and then there
+/// Writes the text of the trace to OUT, if there is an OUT. Nothing is written before the text is
+/// there. `Memory` if there is too little for it; `Write` if it can't be written, and then there
 /// may be a part of it.
 pub fn put_trace<T: Write>(
     alloc: Global,
@@ -61,9 +61,9 @@ pub fn put_trace<T: Write>(
     }
 }
 
-/// Writes the text of the trace to OUT, where there is an OUT, and then the lines of the report.
-/// Nothing is written before both texts are there. `Memory` where there is too little for a text;
-/// `Write` where one can't be written, and then there may be a part of it.
+/// Writes the text of the trace to OUT, if there is an OUT, and then the lines of the report.
+/// Nothing is written before both texts are there. `Memory` if there is too little for a text;
+/// `Write` if one can't be written, and then there may be a part of it.
 pub fn put_run<W: Write, T: Write>(
     alloc: Global,
     report: &WorldReport,

@@ -1,5 +1,5 @@
 //! Replays a trace's text: makes its events again one by one, and writes the trace in the newest
-//! version, where that is asked for, and the report of the run.
+//! version, if that is asked for, and the report of the run.
 #![tactic(auto)]
 
 mod replaying;

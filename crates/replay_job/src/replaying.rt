@@ -25,7 +25,7 @@ fn fits(input: &[u8]) -> bool
 }
 
 /// Reads a trace's text, makes its events again, and writes the text that `to_json` has for the
-/// trace to OUT, where there is an OUT, and then the report of its run. Nothing is written before
+/// trace to OUT, if there is an OUT, and then the report of its run. Nothing is written before
 /// both texts are there. More than 67,108,864 bytes are refused at place 0.
 pub fn replay_bytes<W: Write, T: Write>(
     alloc: Global,
@@ -42,7 +42,7 @@ pub fn replay_bytes<W: Write, T: Write>(
         → Keeps (W.contents out.old) (W.contents out.new)
         × KeepsOut T.contents trace_out.old trace_out.new) }
     // A text is refused at its first fault, a trace at its own,
-    // and a write fails only where there is none.
+    // and a write fails only if there is none.
     ensures failure { IfErr result (IsOfReplay input.now) }
 {
     if !fits(input) {
@@ -54,7 +54,7 @@ pub fn replay_bytes<W: Write, T: Write>(
     Ok(())
 }
 
-/// Replays a trace's text whose bytes are here. The line of a failure goes to `faults`; where it
+/// Replays a trace's text whose bytes are here. The line of a failure goes to `faults`; if it
 /// can't be written, the status stays what it is.
 pub fn ending_on<W: Write, F: Write, T: Write>(
     alloc: Global,

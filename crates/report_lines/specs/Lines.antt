@@ -4,7 +4,7 @@ use Rattle.phase_model.specs.Rules.{Story}
 use Rattle.world_model.specs.declared.report.TotalsLine.{TotalsLine}
 use Rattle.world_model.specs.Report.{PhaserReport, below, phase_count, folds_from}
 
--- a phaser with this number and story: how many phases it had, and what its accumulators came to, phase by
+-- a phaser with this number and story: how many phases it had, and what its accumulators folded, phase by
 -- phase
 abbrev pub lines_of : ℕ → Story → PhaserReport
 lines_of n s = record {

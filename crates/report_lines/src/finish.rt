@@ -1,4 +1,4 @@
-//! What a finish came to.
+//! The line of a finish.
 ghost use Rattle.std.specs.Prelude.{◌≡◌, ◌≤◌, length, reverse};
 ghost use Rattle.finish_core.specs.Finish.{spawned_tasks};
 

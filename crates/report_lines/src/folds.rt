@@ -1,4 +1,4 @@
-//! What the accumulators of a phaser came to so far, phase by phase.
+//! What the accumulators of a phaser folded so far, phase by phase.
 ghost use Rattle.std.specs.Prelude.{◌≡◌, ◌<◌, ◌≤◌, ◌+◌, ◌++◌, length, get_or, vec_capacity, vec_len, IfOk, IfErr, [], ℤ, pos, negsuc, ◌≤ℤ◌, ◌+ℤ◌};
 ghost use Rattle.std.specs.Int.{int_min, int_max};
 ghost use Rattle.phase_model.specs.Values.{fold, chosen_with};
@@ -71,7 +71,7 @@ impl FoldTable {
         Ok(())
     }
 
-    /// Opens the phase, where it is the next.
+    /// Opens the phase, if it is the next.
     fn reach(&mut self, phase: u32) -> Result<(), Refusal>
         requires { self.old.phases < 65536 }
         ensures reached { IfOk result (λ _. self.new ≡ reached phase self.old) }

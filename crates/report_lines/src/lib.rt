@@ -1,5 +1,5 @@
-//! The lines of a world's report: what a phaser's history comes to, found in one pass over it, and
-//! what a finish comes to.
+//! The lines of a world's report: what a phaser's history adds up to, found in one pass over it, and
+//! what a finish adds up to.
 #![tactic(auto)]
 
 mod finish;

@@ -1,4 +1,4 @@
-//! What a phaser's history comes to.
+//! What a phaser's history adds up to.
 ghost use Rattle.std.specs.Prelude.{◌≡◌, ◌∷◌, [], true, IfOk, IfErr};
 ghost use Rattle.phase_model.specs.Rules.{is_legal};
 ghost use Rattle.world_model.specs.Report.{totals_line};
@@ -11,15 +11,15 @@ use phase_modes::Refusal;
 use std::alloc::Global;
 use world_model::{PhaserLines, TotalsLine};
 
-/// What a phaser came to: its own lines, and its part of the totals.
+/// What a phaser adds up to: its own lines, and its part of the totals.
 #[derive(Drop)]
 pub struct PhaserSums {
     pub lines: PhaserLines,
     pub totals: TotalsLine,
 }
 
-/// What the phaser with this number and history came to, found in one pass over its events, the
-/// oldest first. `Memory` where there is too little for the lines, or for a line of each task.
+/// What the phaser with this number and history adds up to, found in one pass over its events, the
+/// oldest first. `Memory` if there is too little for the lines, or for a line of each task.
 pub fn phaser_sums(alloc: Global, phaser: u32, history: &History) -> Result<PhaserSums, Refusal>
     requires { is_legal history.now.limits history.now.terms history.now.past ≡ true }
     ensures lines { IfOk result (λ s. s.lines ≡ lines_of phaser history.now) }
@@ -39,7 +39,7 @@ pub fn phaser_sums(alloc: Global, phaser: u32, history: &History) -> Result<Phas
     })
 }
 
-/// What the events come to.
+/// What the events add up to.
 fn tally_of(alloc: Global, history: &History) -> Result<Tally, Refusal>
     requires { is_legal history.now.limits history.now.terms history.now.past ≡ true }
     ensures stands { IfOk result (λ t. StandsFor t history.now.past) }

@@ -1,4 +1,4 @@
-//! What a phaser's events came to so far.
+//! What a phaser's events add up to so far.
 ghost use Rattle.std.specs.Prelude.{◌≡◌, ◌+◌, ℕ, IfOk, IfErr};
 ghost use Rattle.report_lines.specs.Lines.{IsWithin};
 ghost use Rattle.report_lines.specs.inner.Tallied.{noted, no_events, IsNotable};
@@ -12,7 +12,7 @@ use std::alloc::Global;
 use std::marker::Model;
 use world_model::TotalsLine;
 
-/// How far each task has come, what the accumulators came to, and the totals.
+/// How far each task has come, what the accumulators folded, and the totals.
 #[derive(Drop)]
 pub(crate) struct Tally {
     pub(crate) tasks: Vec<Progress>,

@@ -14,7 +14,7 @@ use Rattle.run_laws.specs.Luck.{IsFirstLuck}
 use Rattle.run_laws.specs.declared.certificate.NoAnswer.{NoAnswer}
 use Rattle.run_laws.specs.declared.certificate.NoAnswer.TheVariants.{Luck, Memory}
 
--- each run of the program that has memory comes to this report; and there is one, by rounds: whole, with nobody refused,
+-- each run of the program that has memory gives this report; and there is one, by rounds: whole, with nobody refused,
 -- with its numbers in order, and roomy
 pub record IsCertified (p : Program) (r : Report) : Type 0 where
   pub each : EachRunComesTo p r
@@ -23,7 +23,7 @@ pub record IsCertified (p : Program) (r : Report) : Type 0 where
   pub roomy : is_roomy p.limits (run_within rounds p []) ≡ true
   pub report : report_of p.limits (run_within rounds p []) ≡ r
 
--- a program is certified to come to one report alone
+-- a program is certified to give one report alone
 abbrev pub CertificateIsOne : Type 0
 CertificateIsOne = (p : Program) (r s : Report) → IsCertified p r → IsCertified p s → r ≡ s
 

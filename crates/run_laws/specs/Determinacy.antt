@@ -1,4 +1,4 @@
--- Whatever the order in which tasks go on: what each of them does, and what a whole run comes to.
+-- Whatever the order in which tasks go on: what each of them does, and what a whole run gives.
 use Rattle.std.specs.Prelude.{ℕ, ◌≡◌, Bool, true, not, ◌||◌, ◌==◌, List, ◌∷◌, ◌++◌, None}
 use Rattle.phase_modes.specs.declared.limits.Limits.{Limits}
 use Rattle.job_script.specs.declared.act.Answer.{Answer}
@@ -32,7 +32,7 @@ OfEachTwoRuns {B = B} next P =
 abbrev pub TasksDoTheSame : {B : Type 0} → (Answer → B → Does B) → Type 0
 TasksDoTheSame next = OfEachTwoRuns next (λ l v w. (t : ℕ) → told t v ≡ told t w)
 
--- both come to the same report
+-- both give the same report
 abbrev pub RunsComeToTheSame : {B : Type 0} → (Answer → B → Does B) → Type 0
 RunsComeToTheSame next = OfEachTwoRuns next (λ l v w. report_of l v ≡ report_of l w)
 

@@ -1,4 +1,4 @@
--- Worked examples: two whole runs of the same bodies, in two orders; and what happens where a premise is left out.
+-- Worked examples: two whole runs of the same bodies, in two orders; and what happens if a premise is left out.
 use Rattle.std.specs.Prelude.{ℕ, pos, ◌≡◌, true, false, List, [], ◌∷◌, reverse, Some, None}
 use Rattle.phase_modes.specs.declared.limits.Limits.{Limits}
 use Rattle.phase_modes.specs.declared.reg.Mode.TheVariants.{Sig as OnlySig, SigWait}
@@ -118,7 +118,7 @@ PairRuns =
     IsRun pair_next root_begins in_order default_limits root_first
     × IsRun pair_next root_begins in_order default_limits child_first
 
--- ---- where two tasks draw numbers of one kind, who comes first decides which phaser is which
+-- ---- if two tasks draw numbers of one kind, who comes first decides which phaser is which
 
 -- where a task stands: the root, which spawns two, and these
 pub data Maker : Type 0 where
@@ -172,7 +172,7 @@ NumbersByLuck =
     × IsWhole maker_next spawns_one default_limits (made_as 1 0)
     × (report_of default_limits (made_as 0 1) ≡ report_of default_limits (made_as 1 0) → ⊥)
 
--- ---- where room is scarce, a task may be refused in one run and not in another
+-- ---- if room is scarce, a task may be refused in one run and not in another
 
 -- where a task stands: the root, which spawns two one after the other, and these
 pub data Crowd : Type 0 where
@@ -243,8 +243,8 @@ RefusedByLuck =
     × (is_ended 0 too_late ≡ true)
     × (refused_by 0 too_late ≡ Some 14)
 
--- so where somebody has to leave in time, want of memory isn't all that luck decides: the calm one of the two isn't
--- roomy, since three tasks were on the phaser in all; in the other the root gives up where registrations are full.
+-- so if somebody has to leave in time, want of memory isn't all that luck decides: the calm one of the two isn't
+-- roomy, since three tasks were on the phaser in all; in the other the root gives up if registrations are full.
 -- The run of a pair is roomy
 abbrev pub NotRoomy : Type 0
 NotRoomy =

@@ -1,4 +1,4 @@
--- Beside one whole run in which each kind of number is drawn by one task alone, in order: where always the least
+-- Beside one whole run in which each kind of number is drawn by one task alone, in order: if always the least
 -- numbers are drawn, no rule needs to be named.
 use Rattle.std.specs.Prelude.{ℕ, ◌≡◌, true, List, None}
 use Rattle.phase_modes.specs.declared.limits.Limits.{Limits}

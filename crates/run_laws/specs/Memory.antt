@@ -1,4 +1,4 @@
--- Beside one whole run in which nobody is refused: a phaser's history that fitted always fits, and where
+-- Beside one whole run in which nobody is refused: a phaser's history that fitted always fits, and if
 -- registrations would fit even if nobody ever left, want of memory is all that luck decides.
 use Rattle.std.specs.Prelude.{ℕ, ◌≡◌, ◌≤◌, Bool, true, false, ◌&&◌, ◌||◌, ◌==◌, not, nat_le, List, [], ◌∷◌, length, None}
 use Rattle.std.specs.List.{list_all}
@@ -56,7 +56,7 @@ is_roomy l w = list_all (λ n. nat_le (registrations n w) l.regs) (below l.phase
 abbrev pub is_next_refused : Limits → List WorldEvent → ℕ → ℕ → Bool
 is_next_refused l w t n = option_map_or (λ e. is_refused_by n (reply l w e)) (next_event l t w) false
 
--- who gives up by the event does so not for want of memory (23), and for full registrations (14) only where they
+-- who gives up by the event does so not for want of memory (23), and for full registrations (14) only if they
 -- are full; a legal history alone lets a task give up by 14 wherever it has a registration to make
 abbrev pub is_forced : Limits → List WorldEvent → WorldEvent → Bool
 is_forced l w (Fail t n) = not (n == 23) && (not (n == 14) || is_next_refused l w t n)

@@ -11,7 +11,7 @@ use Rattle.run_laws.specs.Programs.{IsProgramRun}
 use Rattle.run_laws.specs.Telling.{draws_least, in_order}
 
 -- a run of the program that has memory, as far as it has come, in any order of its tasks: the least numbers are drawn, and
--- nobody gives up for want of memory, nor for full registrations where they aren't
+-- nobody gives up for want of memory, nor for full registrations if they aren't
 pub record IsRunWithMemory (p : Program) (w : List WorldEvent) : Type 0 where
   pub legal : is_legal_world p.limits w ≡ true
   pub follows_it : follows p w ≡ true
@@ -23,7 +23,7 @@ pub record ComesTo (p : Program) (r : Report) (w : List WorldEvent) : Type 0 whe
   pub unrefused : (t : ℕ) → refused_by t w ≡ None
   pub report : is_ended 0 w ≡ true → report_of p.limits w ≡ r
 
--- each run of the program that has memory comes to this report
+-- each run of the program that has memory gives this report
 abbrev pub EachRunComesTo : Program → Report → Type 0
 EachRunComesTo p r = (w : List WorldEvent) → IsRunWithMemory p w → ComesTo p r w
 

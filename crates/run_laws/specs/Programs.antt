@@ -1,4 +1,4 @@
--- What a program comes to: the laws for programs that are texts, whose tasks go through lists of acts.
+-- What a program gives: the laws for programs that are texts, whose tasks go through lists of acts.
 use Rattle.std.specs.Prelude.{ℕ, ◌≡◌, true, List, None}
 use Rattle.job_script.specs.Program.{Program}
 use Rattle.job_script.specs.Steps.{Script, begun, no_meanings}
@@ -31,20 +31,20 @@ pub record IsProgramRun (p : Program) (names : ℕ → List Told → Numbers) (w
   pub ended : is_ended 0 w ≡ true
   pub draws : draws_by names w ≡ true
 
--- in two such runs by the same rule each task does the same, and both come to the same report
+-- in two such runs by the same rule each task does the same, and both give the same report
 abbrev pub ProgramsComeToTheSame : Type 0
 ProgramsComeToTheSame =
     (p : Program) (names : ℕ → List Told → Numbers) (v w : List WorldEvent)
     → IsProgramRun p names v → IsProgramRun p names w
     → ((t : ℕ) → told t v ≡ told t w) × (report_of p.limits v ≡ report_of p.limits w)
 
--- where nobody is refused, and the root alone draws numbers, and always the least, each kind is drawn in order
+-- if nobody is refused, and the root alone draws numbers, and always the least, each kind is drawn in order
 abbrev pub RootsDrawInOrder : Type 0
 RootsDrawInOrder = (l : Limits) (w : List WorldEvent)
     → is_legal_world l w ≡ true → ((t : ℕ) → refused_by t w ≡ None) → root_draws w ≡ true → draws_least l w ≡ true
     → draws_by in_order w ≡ true
 
--- where nobody is refused in a history of a program whose text says that the root alone draws, it does
+-- if nobody is refused in a history of a program whose text says that the root alone draws, it does
 abbrev pub TextsTellWhoDraws : Type 0
 TextsTellWhoDraws = (p : Program) (w : List WorldEvent)
     → root_draws_alone p ≡ true → is_legal_world p.limits w ≡ true → follows p w ≡ true
@@ -58,7 +58,7 @@ pub record IsLeastRun (p : Program) (w : List WorldEvent) : Type 0 where
   pub ended : is_ended 0 w ≡ true
   pub draws : draws_least p.limits w ≡ true
 
--- so of a program whose text says that the root alone draws: in two such runs each task does the same, and both come to
+-- so of a program whose text says that the root alone draws: in two such runs each task does the same, and both give
 -- the same report
 abbrev pub TextsForetell : Type 0
 TextsForetell = (p : Program) (v w : List WorldEvent) → root_draws_alone p ≡ true → IsLeastRun p v → IsLeastRun p w

@@ -1,4 +1,4 @@
--- What any two schedules of a program come to.
+-- What any two schedules of a program give.
 use Rattle.std.specs.Prelude.{ℕ, ◌≡◌, ◌≤◌, true, List, length, None}
 use Rattle.std.specs.List.{list_all}
 use Rattle.phase_modes.specs.Limits.{limits_fit}
@@ -55,7 +55,7 @@ OrderlySchedulesEnd =
     (p : Program) (picks others : List ℕ) (most more : ℕ) → limits_fit p.limits ≡ true → IsOrderly p picks most
     → length (run_within most p picks) ≤ more → is_ended 0 (run_within more p others) ≡ true
 
--- where the text says that the root alone draws, the order needn't be asked
+-- if the text says that the root alone draws, the order needn't be asked
 abbrev pub RoomyTextsAreOrderly : Type 0
 RoomyTextsAreOrderly =
     (p : Program) (picks : List ℕ) (most : ℕ) → root_draws_alone p ≡ true → IsCalm p picks most

@@ -36,7 +36,7 @@ abbrev pub told_of : List WorldEvent → WorldEvent → Told
 told_of w e = record { event = e; heard = heard w e; phase = phase_of w e }
 
 -- t makes the event, and it is neither the claim of a single nor the report that it is done: who of those that
--- proposed a single runs it hangs on luck, and `next`, which tells what a body does, doesn't hear of it
+-- proposed a single runs it depends on luck, and `next`, which tells what a body does, doesn't hear of it
 abbrev pub tells : ℕ → List WorldEvent → WorldEvent → Bool
 tells t w e = actor w e == t && not (is_of_single e)
 
@@ -65,7 +65,7 @@ abbrev pub draws_by : (ℕ → List Told → Numbers) → List WorldEvent → Bo
 draws_by names [] = true
 draws_by names (e ∷ w) = draws_next names w (act_of e) && draws_by names w
 
--- ---- the rule by which numbers are drawn where each kind is drawn by one task alone
+-- ---- the rule by which numbers are drawn if each kind is drawn by one task alone
 
 -- the event makes a phaser
 abbrev pub makes : WorldEvent → Bool
@@ -83,7 +83,7 @@ opens (Finish f (Opened t)) = true
 opens _ = false
 
 -- each task counts what it has drawn itself: phasers from 0, tasks and finishes from 1, since the root is task 0, and
--- finish 0 is open from the start. No number is given twice, so where nobody is refused one task alone draws of a kind
+-- finish 0 is open from the start. No number is given twice, so if nobody is refused one task alone draws of a kind
 abbrev pub in_order : ℕ → List Told → Numbers
 in_order t xs = record {
   phaser = count_by (λ (x : Told). makes x.event) xs;
@@ -91,7 +91,7 @@ in_order t xs = record {
   finish = count_by (λ (x : Told). opens x.event) xs + 1;
 }
 
--- ---- where the root alone draws, and always the least numbers that aren't in use
+-- ---- if the root alone draws, and always the least numbers that aren't in use
 
 -- the act, if it is one, draws the least number of its kind that isn't in use
 abbrev pub draws_least_next : Limits → List WorldEvent → Option Made → Bool
@@ -103,7 +103,7 @@ abbrev pub draws_least : Limits → List WorldEvent → Bool
 draws_least l [] = true
 draws_least l (e ∷ w) = draws_least_next l w (act_of e) && draws_least l w
 
--- where the event draws a number, the root makes it
+-- if the event draws a number, the root makes it
 abbrev pub is_root_draw : WorldEvent → Bool
 is_root_draw (Phaser n (Make t m terms)) = t == 0
 is_root_draw (Begin t (Async c pairs)) = t == 0

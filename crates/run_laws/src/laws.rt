@@ -98,7 +98,7 @@ pub fn texts_foretell()
 
 /// One whole run of a program, in which nobody is refused, each kind of number is drawn by one task
 /// alone, in order, and no phaser has more registrations in all than may stand at a time, tells all:
-/// in each run that has memory nobody is refused or gives up, and if its root ends it comes to the
+/// in each run that has memory nobody is refused or gives up, and if its root ends it gives the
 /// same report.
 pub fn one_run_tells_all()
     ensures { OneRunTellsAll }
@@ -111,7 +111,7 @@ pub fn schedules_come_to_the_same()
 {}
 
 /// Beside one such run by picks: in each other in which nobody is refused or gives up for want of
-/// room or memory, nobody is refused or gives up at all, and if its root ends it comes to the same
+/// room or memory, nobody is refused or gives up at all, and if its root ends it gives the same
 /// report.
 pub fn schedules_with_room_come_to_the_same()
     ensures { SchedulesWithRoomComeToTheSame }

@@ -14,7 +14,7 @@ use std::process::Abort;
 use std::sync::Wait;
 use std::thread::Threads;
 
-/// Runs the text by as many workers, and compares how that ends. A trace is written where there are
+/// Runs the text by as many workers, and compares how that ends. A trace is written if there are
 /// lines, and else none.
 fn check_by<R: Abort + Threads + Wait + Sync>(
     rt: &R,

@@ -1,4 +1,4 @@
-//! What programs are certified to come to, and the first event in which luck has a part.
+//! What programs are certified to give, and the first event in which luck has a part.
 use crate::asserted::{equal, equal_at};
 use certify_job::{NoCertificate, certify_bytes, certify_on, ending_on};
 use job_ends::Status;
@@ -53,7 +53,7 @@ const LUCKY: [(&str, u64, Luck, &str); 3] = [
     ),
 ];
 
-/// What the text's program is certified to come to, or why it isn't.
+/// What the text's program is certified to give, or why it isn't.
 fn certified(alloc: Global, text: &str) -> Result<Result<String, NoAnswer>, Fail> {
     let Ok(program) = read_program(alloc, text.as_bytes()) else {
         return Err(Fail::from("it is no program"));

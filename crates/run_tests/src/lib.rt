@@ -1,8 +1,8 @@
-//! Tests of what runs on workers, and of what each run comes to, which call what these crates export: the
+//! Tests of what runs on workers, and of what each run gives, which call what these crates export: the
 //! jobs `run_job`, `kernels_job`, `certify_job` and `certain_job`, and below them `phased_rt`, `task_queue`, `job_kernels`,
 //! `body_follows` and `run_laws`.
 //!
-//! A library of tests alone: where they stood in the crates themselves, these would be proved once
+//! A library of tests alone: if they stood in the crates themselves, these would be proved once
 //! more with each change of a test.
 #![tactic(auto)]
 

@@ -1,4 +1,4 @@
--- The words of the worked examples: how a program is written down, and what its run comes to.
+-- The words of the worked examples: how a program is written down, and what its run gives.
 use Rattle.std.specs.Prelude.{ℕ, ◌≡◌, Bool, true, ◌&&◌, List, [], ◌∷◌, Option}
 use Rattle.phase_modes.specs.Limits.{default_limits}
 use Rattle.phase_modes.specs.declared.limits.Limits.{Limits}
@@ -44,7 +44,7 @@ program main = record { limits = default_limits; main = listed main }
 abbrev pub with_limits : Limits → List Act → Program
 with_limits l main = record { limits = l; main = listed main }
 
--- ---- what a run comes to
+-- ---- what a run gives
 
 -- sixty rounds are enough for each example
 abbrev pub run : Program → List ℕ → List WorldEvent

@@ -22,15 +22,15 @@ RunsAreLegal =
 abbrev pub RunsFollow : Type 0
 RunsFollow = (p : Program) (picks : List ℕ) (most : ℕ) → follows p (run_within most p picks) ≡ true
 
--- as long as the root hasn't ended, a round makes an event: so a run never comes to a round in which nobody moves
+-- as long as the root hasn't ended, a round makes an event: so a run never has a round in which nobody moves
 abbrev pub RoundsMove : Type 0
 RoundsMove =
     (p : Program) (picks : List ℕ) (most : ℕ) → limits_fit p.limits ≡ true
     → let w = run_within most p picks in
     is_ended 0 w ≡ false → length w < length (round_from p.limits.tasks 0 p w)
 
--- t gives up by this number where the event that continues its act is refused by it: that is never want of memory, and
--- full registrations only where it has a registration to make
+-- t gives up by this number if the event that continues its act is refused by it: that is never want of memory, and
+-- full registrations only if it has a registration to make
 pub record GivesUp (l : Limits) (w : List WorldEvent) (t n : ℕ) : Type 0 where
   pub event : WorldEvent
   pub next : next_event l t w ≡ Some event
@@ -53,7 +53,7 @@ abbrev pub first_wrong : Program → List WorldEvent → ℕ → List WorldEvent
 first_wrong p w k [] = None
 first_wrong p w k (e ∷ es) = if is_next p w (act_of e) then first_wrong p (e ∷ w) (k + 1) es else Some (k + 1)
 
--- where a place is found, the events before it follow the program, and with that event they no longer do; where none
+-- if a place is found, the events before it follow the program, and with that event they no longer do; if none
 -- is, all do
 abbrev pub IsFirstWrong : Program → List WorldEvent → Option ℕ → Type 0
 IsFirstWrong p es None = follows p (reverse es) ≡ true

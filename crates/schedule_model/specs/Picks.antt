@@ -38,12 +38,12 @@ event_of t (Sending n a v) = Phaser n (Send t a v)
 event_of t (Looking n a) = Phaser n (Look t a)
 event_of t (Beginning b) = Begin t b
 
--- what a task does where it is picked: the event that it asks for, and how it reports a refusal in its log
+-- what a task does if it is picked: the event that it asks for, and how it reports a refusal in its log
 pub record Asked : Type 0 where
   pub event : WorldEvent
   pub reporting : ℕ → WorldEvent
 
--- a task goes on with its act by this event, if there is one, and gives it up where that is refused
+-- a task goes on with its act by this event, if there is one, and gives it up if that is refused
 abbrev pub going_on : ℕ → Option WorldEvent → Option Asked
 going_on t None = None
 going_on t (Some e) = Some (record { event = e; reporting = λ n. Fail t n })

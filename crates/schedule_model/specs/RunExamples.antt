@@ -1,4 +1,4 @@
--- Worked examples of runs: what a program comes to, by rounds alone and by picks.
+-- Worked examples of runs: what a program gives, by rounds alone and by picks.
 use Rattle.std.specs.Prelude.{ℕ, ◌≡◌, List, [], ◌∷◌, ◌++◌, reverse, replicate, Some, None, pos}
 use Rattle.phase_modes.specs.declared.reg.Mode.TheVariants.{Sig as OnlySig, Wait as OnlyWait, SigWait}
 use Rattle.phase_model.specs.declared.op.Op.TheVariants.{Sum}
@@ -168,7 +168,7 @@ bounded_report = record {
   totals = in_all 3 3 6 3 3 3 0;
 }
 
--- by rounds alone, and where the signaller is picked as long as it goes on, and longer
+-- by rounds alone, and if the signaller is picked as long as it goes on, and longer
 abbrev pub BoundedProducer : Type 0
 BoundedProducer = ComesTo bounded_producer [] bounded_report
     × ComesTo bounded_producer (replicate 7 0 ++ replicate 20 1) bounded_report

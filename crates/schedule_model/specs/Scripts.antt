@@ -49,7 +49,7 @@ abbrev pub parent_by : ℕ → WorldEvent → Option ℕ
 parent_by t (Begin u (Async c pairs)) = if c == t then Some u else None
 parent_by t _ = None
 
--- what t has left after an event, where this is who spawns it by the event
+-- what t has left after an event, if this is who spawns it by the event
 abbrev pub left_after : ℕ → WorldEvent → Option ℕ → (ℕ → List Act) → List Act
 left_after t e (Some u) before = flat (body_of (slice_get (before u) 0))
 left_after t e None before = if is_of t (act_of e) then drop 1 (before t) else before t
@@ -60,13 +60,13 @@ abbrev pub acts_left : Program → List WorldEvent → ℕ → List Act
 acts_left p [] t = if t == 0 then flat p.main else []
 acts_left p (e ∷ w) t = left_after t e (parent_by t e) (acts_left p w)
 
--- the act that t makes next, its end where there is none
+-- the act that t makes next, its end if there is none
 abbrev pub next_act : Program → List WorldEvent → ℕ → Option Act
 next_act p w t = slice_get (acts_left p w t) 0
 
 -- ---- what names mean
 
--- what the names mean to t after an event, where this is who spawns it by the event
+-- what the names mean to t after an event, if this is who spawns it by the event
 abbrev pub meant_after : Program → List WorldEvent → ℕ → WorldEvent → Option ℕ → (ℕ → List ℕ) → List ℕ
 meant_after p w t e (Some u) before = before u
 meant_after p w t (Phaser n (Make u m terms)) None before =
@@ -87,7 +87,7 @@ pub record Numbers : Type 0 where
   pub task : ℕ
   pub finish : ℕ
 
--- the act as the world knows it, where these numbers are drawn for it; a repeat is in no flat list
+-- the act as the world knows it, if these numbers are drawn for it; a repeat is in no flat list
 abbrev pub tried_as : List WorldEvent → ℕ → List ℕ → Numbers → Head → Tried
 tried_as w t ms new (acts.New name m terms) = New new.phaser m terms
 tried_as w t ms new (acts.Async xs) = Beginning (Async new.task (map (pair_for ms) xs))
@@ -102,11 +102,11 @@ tried_as w t ms new (acts.Send name a v) = Sending (meaning ms name) a v
 tried_as w t ms new (acts.Look name a) = Looking (meaning ms name) a
 tried_as w t ms new (acts.Repeat k) = Beginning End
 
--- the same of the next act, and the end where there is none
+-- the same of the next act, and the end if there is none
 abbrev pub tried_next : List WorldEvent → ℕ → List ℕ → Numbers → Option Act → Tried
 tried_next w t ms new None = Beginning End
 tried_next w t ms new (Some a) = tried_as w t ms new a.head
 
--- the act that t makes next, where these numbers are drawn for it
+-- the act that t makes next, if these numbers are drawn for it
 abbrev pub tried : Program → List WorldEvent → ℕ → Numbers → Tried
 tried p w t new = tried_next w t (meanings p w t) new (next_act p w t)

@@ -1,4 +1,4 @@
-//! The worked examples: programs, and what their runs come to, by rounds alone and by picks. Each
+//! The worked examples: programs, and what their runs give, by rounds alone and by picks. Each
 //! function does nothing: its contract says it, and the check computes it.
 ghost use Rattle.schedule_model.specs.RefusalExamples.{ActsFullRun, FinishOpenRun, FinishesFullRun, HistoryFullInNext, NoFinishRun, NotRegisteredRun, OnePhaserOnlyRun, PhasersFullRun, TasksFullRun, UnbornChildDropped};
 ghost use Rattle.schedule_model.specs.RunExamples.{BoundedProducer, CrossedSignals, CrossedSignalsByOne, CrossedSignalsRefused, NestedFinish, NestedFinishEvents, NothingToDo, OutsideScope, OwnerLeavesBeforeShut, TwoSenders, TwoSendersPicked};

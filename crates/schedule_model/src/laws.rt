@@ -18,7 +18,7 @@ pub fn rounds_move()
 {}
 
 /// Each task that gives up in a run does so by the number of the refusal that it meets: never for
-/// want of memory, and for full registrations only where a registration of its own is refused.
+/// want of memory, and for full registrations only if a registration of its own is refused.
 pub fn runs_give_up()
     ensures { RunsGiveUp }
 {}

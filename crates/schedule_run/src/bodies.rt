@@ -27,7 +27,7 @@ pub(crate) struct Bodies<'p> {
 
 impl<'p> Bodies<'p> {
     /// The tasks before the first event: the root has its body, and no other task has one. It takes
-    /// a place for each task that the limits allow; `Memory` where there is too little for them.
+    /// a place for each task that the limits allow; `Memory` if there is too little for them.
     pub(crate) fn new(alloc: Global, program: &'p Program) -> Result<Bodies<'p>, Refusal>
         ensures stand { IfOk result (λ b. BodiesStand program.now [] b.seats.items) }
         ensures places { IfOk result (λ b. length b.seats.items ≡ program.now.limits.tasks) }
@@ -42,7 +42,7 @@ impl<'p> Bodies<'p> {
         Ok(Bodies { seats })
     }
 
-    /// The next act of a task; its end where it has no seat.
+    /// The next act of a task; its end if it has no seat.
     pub(crate) fn next_act(&mut self, task: u32) -> Act<ScriptBody<'p>>
         ensures given { (p : programs.Program) (w : List events.WorldEvent)
             → BodiesStand p w self.old.seats.items

@@ -15,7 +15,7 @@ pub(crate) struct Ended {
 }
 
 impl Ended {
-    /// Nothing is known yet. `Memory` where there is too little for a count for each task.
+    /// Nothing is known yet. `Memory` if there is too little for a count for each task.
     pub(crate) fn new(alloc: Global, limits: Limits) -> Result<Ended, Refusal>
         ensures known { IfOk result (λ e. (w : List Event) → HaveEnded w e.runs.items) }
         ensures memory { IfErr result (λ e. e ≡ NoMemory) }
@@ -68,7 +68,7 @@ impl Ended {
         }
     }
 
-    /// The first task from this one on that isn't known to have ended; `tasks` where all below have.
+    /// The first task from this one on that isn't known to have ended; `tasks` if all below have.
     pub(crate) fn first_left(&mut self, task: u32, tasks: u32) -> u32
         requires { task ≤ tasks }
         ensures from { task ≤ result }

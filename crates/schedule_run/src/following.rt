@@ -13,9 +13,9 @@ use trace_walk::walk;
 
 /// Whether each act of a trace, made or refused, is its task's next one by the program: `Ok`, or
 /// `NotExplained` with the place of the first event that isn't, counted from 1. Any trace is
-/// taken, whether the world explains it or not. `Memory` where there is too little for the tasks.
+/// taken, whether the world explains it or not. `Memory` if there is too little for the tasks.
 /// A spawn on all phasers goes over the events before it, once for each phaser that its task ever
-/// came to.
+/// was on.
 pub fn follows(alloc: Global, program: &Program, trace: &Trace) -> Result<(), Refusal>
     ensures place { AnswersPlace (first_not_next program.now trace.now) result }
     ensures follows { IfOk result (λ _. follows program.now (history trace.now.events) ≡ true) }

@@ -68,7 +68,7 @@ fn mark(last: &mut Vec<u64>, number: u32, events: u64)
 }
 
 impl Notes {
-    /// The notes before the first event: nobody waits. `Memory` where there is too little for one
+    /// The notes before the first event: nobody waits. `Memory` if there is too little for one
     /// of each task, and for a count for each place.
     pub(crate) fn new(alloc: Global, limits: Limits) -> Result<Notes, Refusal>
         ensures stand { IfOk result (λ n. (l : RunLimits) → NotesStand l [] n) }

@@ -16,7 +16,7 @@ use trace_model::{Trace, TracedEvent, TracedStep};
 use world_core::World;
 use world_model::{Begun, Reply, Step, Tried, WorldEvent};
 
-/// What an event comes to.
+/// What becomes of an event.
 #[derive(Clone, Copy, Debug, PartialEq, Eq)]
 pub(crate) enum Outcome {
     /// The world made it, and the trace has it.
@@ -44,7 +44,7 @@ fn seen(reply: Reply) -> Look
     }
 }
 
-/// The step as a trace has it, where it was answered this.
+/// The step as a trace has it, if it was answered this.
 fn traced_step(step: Step, reply: Reply) -> TracedStep
     ensures { result ≡ traced_step step reply }
 {
@@ -61,7 +61,7 @@ fn traced_step(step: Step, reply: Reply) -> TracedStep
     }
 }
 
-/// The event as a trace has it, where it was answered this.
+/// The event as a trace has it, if it was answered this.
 fn traced(event: WorldEvent, reply: Reply) -> TracedEvent
     ensures { result ≡ traced event reply }
 {
@@ -96,7 +96,7 @@ impl Record {
         Ok(Record { world, trace })
     }
 
-    /// Makes the event, if the world lets it, and traces it. `Memory` where the trace can't grow:
+    /// Makes the event, if the world lets it, and traces it. `Memory` if the trace can't grow:
     /// the world has made the event then.
     pub(crate) fn make(&mut self, event: WorldEvent) -> Result<Outcome, Refusal>
         ensures outcome { IfOk result (λ o. (l : limits.Limits) (w : List Event)

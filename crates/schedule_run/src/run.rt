@@ -25,7 +25,7 @@ pub struct Run {
 /// The program's run by these picks. Each pick is a task's number, and makes at most one event of
 /// that task: one that has to wait, has ended, or was never spawned makes none. After the list the
 /// tasks are picked by number, round after round, until the root has ended. The trace's tickets
-/// count from 1. `Memory` where there is too little for the run, its trace or its report.
+/// count from 1. `Memory` if there is too little for the run, its trace or its report.
 pub fn run_picks(alloc: Global, program: &Program, picks: &[u32]) -> Result<Run, Refusal>
     ensures limits { IfOk result (λ r. r.trace.limits ≡ program.now.limits) }
     ensures explained { IfOk result (λ r. is_explained r.trace ≡ true) }
@@ -36,7 +36,7 @@ pub fn run_picks(alloc: Global, program: &Program, picks: &[u32]) -> Result<Run,
         × (past (reverse r.trace.events) ≡ run_within n program.now picks.now)) }
     ensures follows { IfOk result (λ r. follows program.now (past (reverse r.trace.events)) ≡ true) }
     // No task gives up for want of memory,
-    // and none for full registrations but where its own is refused.
+    // and none for full registrations but if its own is refused.
     ensures give_up { IfOk result (λ r. AllGiveUp program.now.limits (past (reverse r.trace.events))) }
     ensures report { IfOk result (λ r. r.report
         ≡ report_of program.now.limits (past (reverse r.trace.events))) }

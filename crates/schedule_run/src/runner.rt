@@ -112,7 +112,7 @@ fn try_event(
 }
 
 impl<'p> Runner<'p> {
-    /// The run before its first event. `Memory` where there is too little for the world, for a
+    /// The run before its first event. `Memory` if there is too little for the world, for a
     /// place for each task, or for the notes.
     pub(crate) fn new(alloc: Global, program: &'p Program) -> Result<Runner<'p>, Refusal>
         ensures stands { IfOk result (λ r. RunStands program.now [] r) }
@@ -160,7 +160,7 @@ impl<'p> Runner<'p> {
         }
     }
 
-    /// An idle task begins its next act. Where that is refused, its log says so, and it ends.
+    /// An idle task begins its next act. If that is refused, its log says so, and it ends.
     fn begin(&mut self, task: u32) -> Result<(), Refusal>
         ensures stands { IfOk result (λ _. (p : programs.Program) (w : List Event) → RunStands p w self.old
             → is_idle task w ≡ true → RunStands p (pick p w task) self.new) }
@@ -185,7 +185,7 @@ impl<'p> Runner<'p> {
         }
     }
 
-    /// A task goes on with its act. Where its event is not yet made, that is noted, and where it is
+    /// A task goes on with its act. If its event is not yet made, that is noted, and if it is
     /// refused, the task gives up, and ends.
     fn go_on(&mut self, task: u32) -> Result<(), Refusal>
         ensures stands { IfOk result (λ _. (p : programs.Program) (w : List Event) → RunStands p w self.old
@@ -212,7 +212,7 @@ impl<'p> Runner<'p> {
     }
 
     /// The task is asked for its next event: it makes at most one. One that has to wait, has ended,
-    /// or was never spawned makes none. `Memory` where the trace can't grow.
+    /// or was never spawned makes none. `Memory` if the trace can't grow.
     fn ask(&mut self, task: u32) -> Result<(), Refusal>
         ensures stands { IfOk result (λ _. (p : programs.Program) (w : List Event) → RunStands p w self.old
             → RunStands p (pick p w task) self.new) }
@@ -281,7 +281,7 @@ impl<'p> Runner<'p> {
         Ok(())
     }
 
-    /// The task is asked; where it has ended, that is noted.
+    /// The task is asked; if it has ended, that is noted.
     fn ask_or_note(&mut self, task: u32, ended: &mut Ended) -> Result<(), Refusal>
         ensures stands { IfOk result (λ _. (p : programs.Program) (w : List Event) → RunStands p w self.old
             → HaveEnded w ended.old.runs.items → RoundStands p (pick p w task) self.new ended.new) }
@@ -302,7 +302,7 @@ impl<'p> Runner<'p> {
     }
 
     /// The tasks are picked by number, round after round, until the root has ended. In each round
-    /// some task moves, so the rounds come to an end before they can't be counted any more.
+    /// some task moves, so the rounds end before they can't be counted any more.
     fn rounds(&mut self, ended: &mut Ended) -> Result<(), Refusal>
         requires stands { (p : programs.Program) × (w : List Event) × RunStands p w self.old }
         requires ended { (w : List Event) → HaveEnded w ended.old.runs.items }
@@ -334,7 +334,7 @@ impl<'p> Runner<'p> {
     }
 }
 
-/// The run by these picks, and then by rounds until the root has ended. `Memory` where there is too
+/// The run by these picks, and then by rounds until the root has ended. `Memory` if there is too
 /// little for it.
 pub(crate) fn played<'p>(
     alloc: Global,

@@ -200,7 +200,7 @@ fn are_phasers_all<K: Ledgers>(books: &mut Books<K>, phasers: Vec<PhaserBook<K>>
     events_are && up_are && down_are
 }
 
-/// What the run added up to, where of each kind the shares and the phasers' books each add up to
+/// What the run added up to, if of each kind the shares and the phasers' books each add up to
 /// the books; else `SharesDiffer`. With all parts of one `open` they do.
 pub fn gather<K: Ledgers>(
     shares: Vec<Shares<K>>,

@@ -103,7 +103,7 @@ fn worker_shares<K: Ledgers>(
 
 /// The books of a run before its first event, one phaser's book for each phaser in order, and one
 /// worker's shares for each worker: all amounts 0, and room for 65,536 events of each phaser. Fails
-/// with `Memory` where a growth is refused.
+/// with `Memory` if a growth is refused.
 pub fn open<K: Ledgers>(
     alloc: Global,
     blanks: Blanks,
@@ -165,7 +165,7 @@ pub fn open<K: Ledgers>(
     Ok((books, phasers, workers))
 }
 
-// Nothing is added where there is no part.
+// Nothing is added if there is no part.
 fn add_room<L: Ledger>(book: &mut Book<L>, all: &mut Share<L>, room: u64)
     requires { all.old.parts ≡ 0 → room ≡ 0 }
     ensures book { book.new.total ≡ book.old.total + room }

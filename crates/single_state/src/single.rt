@@ -6,7 +6,7 @@ use crate::statement::{Stage, Statement};
 use phase_modes::Refusal;
 use std::marker::Model;
 
-/// The last proposed single of a phaser, none where nothing was proposed yet. A single is proposed
+/// The last proposed single of a phaser, none if nothing was proposed yet. A single is proposed
 /// only once the one before it is done, so that the older ones need not be remembered. Contracts
 /// see the statement.
 #[derive(Clone, Copy, Debug, PartialEq, Eq)]
@@ -34,7 +34,7 @@ impl Single {
     }
 
     /// Proposes a number for a phase. To propose the same once more changes nothing.
-    /// `SingleMismatch` where another number stands for the phase.
+    /// `SingleMismatch` if another number stands for the phase.
     pub fn propose(&mut self, phase: u64, number: u32) -> Result<(), Refusal>
         requires { MayPropose self.old phase }
         ensures result { result
@@ -59,7 +59,7 @@ impl Single {
         Ok(())
     }
 
-    /// Lets the task run the single of the phase, which no other task does then. `NotNow` where the
+    /// Lets the task run the single of the phase, which no other task does then. `NotNow` if the
     /// phase has no number, or a task has claimed it.
     pub fn claim(&mut self, phase: u64, task: u64) -> Result<(), Refusal>
         ensures result { result ≡ (if is_claimable self.old phase then Ok tt else Err Refusal.NotNow) }
@@ -84,7 +84,7 @@ impl Single {
         }
     }
 
-    /// The task reports that it has run the single. `NotNow` where it claimed none, or has reported
+    /// The task reports that it has run the single. `NotNow` if it claimed none, or has reported
     /// it already.
     pub fn done(&mut self, task: u64) -> Result<(), Refusal>
         ensures result { result ≡ (if is_claimed_by self.old task then Ok tt else Err Refusal.NotNow) }
@@ -119,7 +119,7 @@ impl Single {
         }
     }
 
-    /// The number that stands for the phase; none where there is none, or where a later phase has
+    /// The number that stands for the phase; none if there is none, or if a later phase has
     /// one.
     pub fn number(&self, phase: u64) -> Option<u32>
         ensures { result ≡ number_for self.now phase }

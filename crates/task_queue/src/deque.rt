@@ -21,7 +21,7 @@ pub fn fresh<T: Drop>(alloc: Global, room: usize) -> Result<Deque<T>, AllocError
     Deque::fifo_as(alloc, room)
 }
 
-/// The owner puts an item last, or has it back where the deque refuses it.
+/// The owner puts an item last, or has it back if the deque refuses it.
 pub fn put<T>(own: &mut Deque<T>, item: T) -> Result<(), T>
     requires { 0 < (worker_view own.old).parts }
     ensures same { (worker_deque own.new ≡ worker_deque own.old) × (worker_flavor own.new ≡ worker_flavor own.old) }
@@ -30,7 +30,7 @@ pub fn put<T>(own: &mut Deque<T>, item: T) -> Result<(), T>
     own.push_as::<Puts>(item)
 }
 
-/// The owner takes the first item. None only where nothing is held, once all parts are the owner's.
+/// The owner takes the first item. None only if nothing is held, once all parts are the owner's.
 pub fn take<T>(own: &mut Deque<T>) -> Option<T>
     requires part { 0 < (worker_view own.old).parts }
     requires fifo { worker_flavor own.old ≡ 0 }
@@ -42,7 +42,7 @@ pub fn take<T>(own: &mut Deque<T>) -> Option<T>
     own.pop_as::<Takes>()
 }
 
-/// Takes the first item by a pass; `Retry` where another thread came first.
+/// Takes the first item by a pass; `Retry` if another thread came first.
 pub fn steal<T>(thief: &Thief<T>, pass: &mut Pass<T, Hand<T>>) -> Steal<T>
     requires part { 0 < (view pass.old).parts }
     requires table { IsPassOf (stealer_deque thief.now) pass.old }

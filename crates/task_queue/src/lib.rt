@@ -3,8 +3,8 @@
 //! # What it is
 //!
 //! A worker puts tasks into its own deque and takes them from its front, first in, first out; to take
-//! one of its own it asks for no lock. Where its own has none it steals the first of another worker's,
-//! and where none has one it sleeps until somebody puts one or closes the queue. A put wakes one
+//! one of its own it asks for no lock. If its own has none it steals the first of another worker's,
+//! and if none has one it sleeps until somebody puts one or closes the queue. A put wakes one
 //! sleeper, if there is one, and closing wakes all. Several are put quietly, and then as many are
 //! woken at once. Each worker has a `Seat`, which goes with its
 //! thread.
@@ -34,7 +34,7 @@
 //!
 //! # What is not
 //!
-//! That `take` answers None only where nothing is held, in which order items of different workers
+//! That `take` answers None only if nothing is held, in which order items of different workers
 //! come, that a sleeper wakes, and that any call returns: tests show the first and the third.
 #![tactic(auto)]
 

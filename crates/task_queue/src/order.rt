@@ -8,7 +8,7 @@ use crate::opening::add;
 use crate::seat::Seat;
 use std::alloc::{AllocError, Global};
 
-// Where the seat of this worker is.
+// If the seat of this worker is.
 fn place_of<T>(seats: &[Seat<T>], worker: usize) -> usize
     requires { Contains (map (λ s. s.worker) seats.now) worker }
     ensures within { result < length seats.now }

@@ -4,7 +4,7 @@
 //! by a word to which it adds 1, before it searches once more. `put` pushes, and asks that word
 //! afterwards, by adding 0. All that is added to the word has one order. So either the put sees that
 //! somebody watches, or whoever begins to watch later finds the item, unless another took it; and
-//! where nobody watches no put asks for the lock. Where somebody does, it counts under the lock, and
+//! if nobody watches no put asks for the lock. If somebody does, it counts under the lock, and
 //! wakes one sleeper if the lock counts any. Whoever puts several pushes them all, counts them at
 //! once, and wakes as many, or as many as there are. A watcher reads the count, searches, and sleeps
 //! only if the count is unchanged under the lock, under which it is counted as a sleeper. So its
@@ -49,7 +49,7 @@ pub struct RunQueue<T> {
 
 impl<T: Drop> RunQueue<T> {
     /// A queue, and a seat for each of its 1 to 16 workers. `room` items fit into each deque before
-    /// it grows. `Memory` where memory is refused.
+    /// it grows. `Memory` if memory is refused.
     pub fn new(
         alloc: Global,
         workers: u32,
@@ -79,7 +79,7 @@ impl<T: Drop> RunQueue<T> {
     }
 
     /// What the deques still hold, worker by worker, once all seats are back, in whatever order.
-    /// `SharesDiffer` where their number isn't that of the workers, `Memory` where memory is refused;
+    /// `SharesDiffer` if their number isn't that of the workers, `Memory` if memory is refused;
     /// the items are dropped then.
     pub fn into_rest(self, seats: Vec<Seat<T>>) -> Result<Vec<T>, Refusal>
         requires { vec_len seats ≡ self.workers → AreTogether seats.items }
@@ -100,7 +100,7 @@ impl<T: Drop> RunQueue<T> {
 
 impl<T> RunQueue<T> {
     /// Puts an item last into the deque of this seat's worker, and wakes one of those that wait for
-    /// one. The item comes back where the deque refuses it, for memory or another cause.
+    /// one. The item comes back if the deque refuses it, for memory or another cause.
     pub fn put<R: Wait>(&self, rt: &R, seat: &mut Seat<T>, item: T) -> Result<(), T>
         ensures { MatchResult result (λ _. HasPut seat.old item seat.new)
             (λ x. (x ≡ item) × IsSame seat.old seat.new) }
@@ -131,9 +131,9 @@ impl<T> RunQueue<T> {
     }
 
     /// Takes the first item of this worker's deque, or else of the next worker's that has one; waits
-    /// where there is none. None once the queue is closed and no item was found after that.
+    /// if there is none. None once the queue is closed and no item was found after that.
     ///
-    /// Where all workers wait nobody is left to wake them: a worker that others wait for puts first,
+    /// If all workers wait nobody is left to wake them: a worker that others wait for puts first,
     /// and one that is done or fails closes the queue.
     pub fn take<R: Wait>(&self, rt: &R, seat: &mut Seat<T>) -> Option<T>
         ensures { MatchOption result (IsSame seat.old seat.new)
@@ -163,7 +163,7 @@ impl<T> RunQueue<T> {
     }
 
     // Takes from another worker's deque, for a worker whose own is empty and who is counted as a
-    // watcher; waits where there is none.
+    // watcher; waits if there is none.
     fn watch<R: Wait>(&self, rt: &R, seat: &mut Seat<T>) -> Option<T>
         ensures { MatchOption result (IsSame seat.old seat.new)
             (λ x. HasTaken seat.old x seat.new) }

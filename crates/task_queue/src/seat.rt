@@ -31,7 +31,7 @@ impl<T> Model for Seat<T> {
 }
 
 impl<T> Seat<T> {
-    // Puts an item last into its own deque, or hands it back where the deque refuses it.
+    // Puts an item last into its own deque, or hands it back if the deque refuses it.
     pub(crate) fn put(&mut self, item: T) -> Result<(), T>
         ensures { MatchResult result (λ _. HasPut self.old item self.new)
             (λ x. (x ≡ item) × IsSame self.old self.new) }

@@ -9,7 +9,7 @@ use crossbeam_deque::Steal;
 use std::sync::Wait;
 use std::thread;
 
-// Steals from one deque, again where another thread came first.
+// Steals from one deque, again if another thread came first.
 pub(crate) fn steal_one<T, R: Wait>(rt: &R, reach: &mut Reach<T>) -> Option<T>
     requires { IsReach reach.old }
     ensures same { reach_deque reach.new ≡ reach_deque reach.old }

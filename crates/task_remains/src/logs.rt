@@ -40,7 +40,7 @@ impl Gathered {
         })
     }
 
-    /// Adds a log. `NotExplained(0)` where there is one of its task, or none may have the number.
+    /// Adds a log. `NotExplained(0)` if there is one of its task, or none may have the number.
     fn add<K: RunNaming>(
         &mut self,
         left: TaskLeft<K>,
@@ -90,7 +90,7 @@ impl Gathered {
 
 /// The parts of all logs that tasks left, of a run in which so many tasks may be, the root's at the end;
 /// and what was told of them is told of what begins these phasers' logs, and their own. `NotExplained(0)`
-/// where two are of one task.
+/// if two are of one task.
 pub(crate) fn logs_of<K: RunNaming>(
     alloc: Global,
     tasks: u32,

@@ -31,7 +31,7 @@ pub struct Remains<B> {
     pub root: B,
 }
 
-/// What a run leaves, by what its tables and its workers leave. `NotExplained` where two logs are of one
+/// What a run leaves, by what its tables and its workers leave. `NotExplained` if two logs are of one
 /// task.
 pub fn gathered<K: RunNaming, B: Body>(
     alloc: Global,

@@ -13,7 +13,7 @@ use Rattle.task_standing.specs.Noted.{noted}
 use Rattle.task_standing.specs.Histories.{IsAbout}
 use Rattle.task_standing.specs.Laws.{NamesFew, named_child}
 
--- where the event is that it gives up, its plan names no child
+-- if the event is that it gives up, its plan names no child
 abbrev pub fails_alone : WorldEvent → Known → Type 0
 fails_alone (Fail t n) k = t ≡ k.number → named_child k.plan ≡ []
 fails_alone _ k = Unit {0}
@@ -22,7 +22,7 @@ fails_alone _ k = Unit {0}
 abbrev pub known_after : WorldEvent → List WorldEvent → Known → Known
 known_after e w k = if actor w e == k.number then noted e k else k
 
--- all rows at once: after any event but its end it knows what the history says, where it doesn't give up beside a child
+-- all rows at once: after any event but its end it knows what the history says, if it doesn't give up beside a child
 -- that was never born
 abbrev pub EventsAreNoted : Type 0
 EventsAreNoted = (l : Limits) (e : WorldEvent) (w : List WorldEvent) (k : Known) → limits_fit l ≡ true

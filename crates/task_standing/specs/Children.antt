@@ -1,4 +1,4 @@
--- What a child knows of itself before it is born, and its parent where it never is.
+-- What a child knows of itself before it is born, and its parent if it never is.
 use Rattle.std.specs.Prelude.{ℕ, ◌≡◌, true, false, ◌==◌, not, List, [], ◌∷◌, ◌++◌, map, filter, find, Some}
 use Rattle.phase_modes.specs.declared.limits.Limits.{Limits}
 use Rattle.phase_modes.specs.declared.phased.Pair.{Pair}
@@ -32,7 +32,7 @@ abbrev pub ChildrenStartFresh : Type 0
 ChildrenStartFresh = (l : Limits) (w : List WorldEvent) (q c home : ℕ) (pairs : List Pair)
     → is_legal_world l (Begin q (Async c pairs) ∷ w) ≡ true → IsUnborn (Begin q (Async c pairs) ∷ w) (fresh c home)
 
--- its registration: it comes to hold what its parent hands it
+-- its registration: it holds what its parent hands it
 abbrev pub ChildrenJoin : Type 0
 ChildrenJoin = (l : Limits) (w : List WorldEvent) (child k : Known) (n : ℕ) (m : Mode) (h : Held)
     → is_legal_world l (Phaser n (Reg k.number child.number m) ∷ w) ≡ true
@@ -50,7 +50,7 @@ abbrev pub UnbornStay : Type 0
 UnbornStay = (l : Limits) (e : WorldEvent) (w : List WorldEvent) (child : Known) → is_legal_world l (e ∷ w) ≡ true
     → (actor w e == spawner child.number w) ≡ false → IsUnborn w child → IsUnborn (e ∷ w) child
 
--- where its parent gives up before it is born, it leaves its phasers before its parent does
+-- if its parent gives up before it is born, it leaves its phasers before its parent does
 abbrev pub FailuresEndWith : Type 0
 FailuresEndWith = (l : Limits) (w : List WorldEvent) (child k : Known) (n : ℕ)
     → is_legal_world l (Fail k.number n ∷ w) ≡ true → named_child k.plan ≡ child.number ∷ []

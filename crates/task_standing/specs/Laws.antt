@@ -60,7 +60,7 @@ LooksAreActs = (l : Limits) (w : List WorldEvent) (k : Known) (n i : ℕ) → li
     → is_legal_world l (Phaser n (Look k.number i) ∷ w) ≡ true → IsAbout w k
     → IsAbout (Phaser n (Look k.number i) ∷ w) (acted k)
 
--- where it leaves a phaser, it holds all others as before
+-- if it leaves a phaser, it holds all others as before
 abbrev pub LeavesLeave : Type 0
 LeavesLeave = (l : Limits) (w : List WorldEvent) (k : Known) (n : ℕ)
     → is_legal_world l (Phaser n (Drop k.number) ∷ w) ≡ true → is_born k.number w ≡ true → IsAbout w k
@@ -119,12 +119,12 @@ abbrev pub named_child : Plan → List ℕ
 named_child (plan.Spawning c pairs made) = c ∷ []
 named_child _ = []
 
--- where it gives up, that is the one child that it named and that was never born
+-- if it gives up, that is the one child that it named and that was never born
 abbrev pub UnbornAreNamed : Type 0
 UnbornAreNamed = (l : Limits) (w : List WorldEvent) (k : Known) (n : ℕ)
     → is_legal_world l (Fail k.number n ∷ w) ≡ true → IsAbout w k → unborn k.number w ≡ named_child k.plan
 
--- where its plan names none, giving up brings it to its end
+-- if its plan names none, giving up brings it to its end
 abbrev pub FailuresEnd : Type 0
 FailuresEnd = (l : Limits) (w : List WorldEvent) (k : Known) (n : ℕ)
     → is_legal_world l (Fail k.number n ∷ w) ≡ true → named_child k.plan ≡ [] → IsAbout w k

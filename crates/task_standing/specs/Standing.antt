@@ -12,7 +12,7 @@ use Rattle.task_standing.specs.Known.{Known}
 abbrev pub owes : Held → Bool
 owes h = can_signal h.mode && not h.ahead
 
--- what a child in this mode is handed: it is ahead where its parent is, if it can signal
+-- what a child in this mode is handed: it is ahead if its parent is, if it can signal
 abbrev pub handed : Mode → Held → Held
 handed m h = record h { mode = m; ahead = h.ahead && can_signal m }
 
@@ -25,7 +25,7 @@ abbrev pub fresh : ℕ → ℕ → Known
 fresh number home =
     record { number = number; plan = Idle; holding = []; finishes = []; home = home; acts = 0 }
 
--- its innermost open finish: its own, and where it has none, the one in which it was spawned
+-- its innermost open finish: its own, and if it has none, the one in which it was spawned
 abbrev pub inner_of : Known → ℕ
 inner_of k = slice_index_or k.finishes 0 k.home
 

@@ -47,7 +47,7 @@ planned k plan.Ending =
 abbrev pub still_to_make : Known → List WorldEvent
 still_to_make k = planned k k.plan
 
--- the same of a task with a child that was never born: where the task comes to its end, the child leaves its phasers first
+-- the same of a task with a child that was never born: if the task ends, the child leaves its phasers first
 abbrev pub planned_with : Known → Known → Plan → List WorldEvent
 planned_with child k plan.Ending = drops_of child.number child.holding ++ planned k plan.Ending
 planned_with child k p = planned k p
@@ -55,7 +55,7 @@ planned_with child k p = planned k p
 abbrev pub still_with : Known → Known → List WorldEvent
 still_with child k = planned_with child k k.plan
 
--- the event that is named as due of t; none where t may begin an act
+-- the event that is named as due of t; none if t may begin an act
 abbrev pub event_of : ℕ → Due → Option WorldEvent
 event_of t due.Step = None
 event_of t (due.Signal n x) = Some (Phaser n (Sig t x))

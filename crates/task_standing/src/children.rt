@@ -7,7 +7,7 @@ pub fn children_start_fresh()
     ensures { ChildrenStartFresh }
 {}
 
-/// With its registration a child comes to hold what its parent hands it.
+/// With its registration a child holds what its parent hands it.
 pub fn children_join()
     ensures { ChildrenJoin }
 {}
@@ -22,7 +22,7 @@ pub fn unborn_stay()
     ensures { UnbornStay }
 {}
 
-/// A task that gives up beside a child that was never born comes to its end, and the child leaves its phasers first.
+/// A task that gives up beside a child that was never born ends, and the child leaves its phasers first.
 pub fn failures_end_with()
     ensures { FailuresEndWith }
 {}

@@ -45,7 +45,7 @@ impl Standing {
         None
     }
 
-    /// What comes where it is to signal.
+    /// What comes if it is to signal.
     fn to_signal(&self, number: Option<u32>, turns: bool) -> Due
         ensures { event_of self.now.number result
             ≡ slice_get (planned self.now (Plan.Signalling number turns)) 0 }
@@ -57,7 +57,7 @@ impl Standing {
         }
     }
 
-    /// What comes where it is to pass from this place on.
+    /// What comes if it is to pass from this place on.
     fn to_pass(&self, next: u32) -> Due
         ensures { event_of self.now.number result ≡ slice_get (planned self.now (Plan.Turning next)) 0 }
     {
@@ -67,7 +67,7 @@ impl Standing {
         }
     }
 
-    /// What comes where it is to spawn this child.
+    /// What comes if it is to spawn this child.
     fn to_spawn(&self, child: u32, pairs: &Phased, made: u32) -> Due
         ensures { event_of self.now.number result
             ≡ slice_get (planned self.now (Plan.Spawning child pairs.now made)) 0 }
@@ -78,7 +78,7 @@ impl Standing {
         }
     }
 
-    /// What comes where it is to shut its innermost finish.
+    /// What comes if it is to shut its innermost finish.
     fn to_shut(&self) -> Due
         ensures { event_of self.now.number result ≡ slice_get (planned self.now Plan.Shutting) 0 }
     {
@@ -89,7 +89,7 @@ impl Standing {
         }
     }
 
-    /// What comes where it is to end, once it holds no phaser.
+    /// What comes if it is to end, once it holds no phaser.
     fn to_close(&self) -> Due
         ensures { event_of self.now.number result
             ≡ slice_get (shuts_of self.now.finishes ++ end_of self.now ∷ []) 0 }
@@ -101,7 +101,7 @@ impl Standing {
         }
     }
 
-    /// What comes where it is to end.
+    /// What comes if it is to end.
     fn to_end(&self) -> Due
         ensures { event_of self.now.number result ≡ slice_get (planned self.now Plan.Ending) 0 }
     {
@@ -128,7 +128,7 @@ impl Standing {
         }
     }
 
-    /// The same of a task with a child that was never born: where the task comes to its end, the
+    /// The same of a task with a child that was never born: if the task ends, the
     /// child leaves its phasers first.
     pub fn due_with(&self, unborn: &Standing) -> Due
         ensures next { event_of self.now.number result ≡ slice_get (still_with unborn.now self.now) 0 }

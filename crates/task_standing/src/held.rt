@@ -22,7 +22,7 @@ impl Held {
         self.mode.can_signal() && !self.ahead
     }
 
-    /// What a child in this mode comes to know of the phaser, where the task hands it on.
+    /// What a child in this mode knows of the phaser, if the task hands it on.
     pub fn handed(self, mode: Mode) -> Held
         ensures { result ≡ handed mode self }
     {
@@ -33,7 +33,7 @@ impl Held {
         }
     }
 
-    /// The same, with the mark where it is of this phaser.
+    /// The same, with the mark if it is of this phaser.
     pub(crate) fn marked(self, phaser: u32, ahead: bool) -> Held
         ensures { result ≡ marked phaser ahead self }
     {

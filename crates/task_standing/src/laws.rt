@@ -68,12 +68,12 @@ pub fn begins_begin()
     ensures { BeginsBegin }
 {}
 
-/// A task whose act is refused comes to its end.
+/// A task whose act is refused ends.
 pub fn refusals_end()
     ensures { RefusalsEnd }
 {}
 
-/// A task that gives up comes to its end, where it named no child that was never born.
+/// A task that gives up ends, if it named no child that was never born.
 pub fn failures_end()
     ensures { FailuresEnd }
 {}
@@ -83,12 +83,12 @@ pub fn roots_start_fresh()
     ensures { RootsStartFresh }
 {}
 
-/// Where a task gives up, its plan says which child it named that was never born.
+/// If a task gives up, its plan says which child it named that was never born.
 pub fn unborn_are_named()
     ensures { UnbornAreNamed }
 {}
 
-/// After any event but its end a task knows what the history says, where it doesn't give up beside a
+/// After any event but its end a task knows what the history says, if it doesn't give up beside a
 /// child that was never born.
 pub fn events_are_noted()
     ensures { EventsAreNoted }

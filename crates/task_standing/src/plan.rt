@@ -5,7 +5,7 @@ ghost use Rattle.task_standing.specs.Noted.{plan_of};
 use phase_modes::{Pair, Phased};
 use world_model::Begun;
 
-/// What a task is about. Where nothing is left to make of it the task may begin an act, whatever
+/// What a task is about. If nothing is left to make of it the task may begin an act, whatever
 /// plan it has.
 #[derive(Clone, Copy, Debug, PartialEq, Eq)]
 pub enum Plan {
@@ -46,9 +46,9 @@ impl Plan {
 pub enum Due {
     /// None: the task may begin an act.
     Step,
-    /// A signal on the phaser of this number, with this number where it proposes a single.
+    /// A signal on the phaser of this number, with this number if it proposes a single.
     Signal(u32, Option<u32>),
-    /// A pass of the phaser of this number; where the task may, the claim of a single and its
+    /// A pass of the phaser of this number; if the task may, the claim of a single and its
     /// report come before it.
     Pass(u32),
     /// The registration of the child of this number.

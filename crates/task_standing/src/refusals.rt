@@ -24,7 +24,7 @@ fn is_among(pairs: &[Pair], phaser: u32) -> bool
 }
 
 impl Standing {
-    /// What handing on the phaser of a pair is refused by, where the spawn has named others before.
+    /// What handing on the phaser of a pair is refused by, if the spawn has named others before.
     fn may_hand(&self, before: &[Pair], pair: Pair) -> Result<(), Refusal>
         ensures { result ≡ free_unless (first_refusal (hand_conditions (facts self.now) (list_any (pair_names pair.phaser) before.now) pair)) }
     {

@@ -18,7 +18,7 @@ const MOST_HELD: usize = 16;
 pub struct Standing {
     pub(crate) number: u32,
     pub(crate) plan: Plan,
-    /// The phasers that it holds, in the order in which it came to them.
+    /// The phasers that it holds, in the order in which it got them.
     pub(crate) holding: Vec<Held>,
     /// Its own open finishes, the innermost last.
     pub(crate) finishes: Vec<u32>,
@@ -47,8 +47,8 @@ impl Model for Standing {
 }
 
 impl Standing {
-    /// A task before its first act, which is spawned in the finish `home`. `Memory` where there is
-    /// none for the phasers that it may come to hold; the finishes that it opens take theirs later.
+    /// A task before its first act, which is spawned in the finish `home`. `Memory` if there is
+    /// none for the phasers that it may hold later; the finishes that it opens take theirs later.
     pub fn new(alloc: Global, number: TaskNumber, home: FinishNumber) -> Result<Standing, Refusal>
         ensures fresh { IfOk result (λ s. s ≡ fresh number home) }
         ensures memory { IfErr result (λ e. e ≡ Refusal.Memory) }
@@ -73,7 +73,7 @@ impl Standing {
         self.number
     }
 
-    /// Its innermost open finish: the one that it was spawned in, where it has none of its own.
+    /// Its innermost open finish: the one that it was spawned in, if it has none of its own.
     pub fn inner(&self) -> u32
         ensures { result ≡ inner_of self.now }
     {
@@ -108,7 +108,7 @@ impl Standing {
         pairs
     }
 
-    /// Comes to hold one phaser more. `PhasersFull` where it holds 16, and then it stays as it was.
+    /// Holds one phaser more. `PhasersFull` if it holds 16, and then it stays as it was.
     pub fn join(&mut self, held: Held) -> Result<(), Refusal>
         ensures joined { OnOk result (self.new
             ≡ record self.old { holding = self.old.holding ++ held ∷ [] }) }
@@ -129,7 +129,7 @@ impl Standing {
         self.finishes.reserve(1)
     }
 
-    /// Notes that it opened this finish, by an act of one event. `Memory` where there is none to
+    /// Notes that it opened this finish, by an act of one event. `Memory` if there is none to
     /// keep it, and then it stays as it was; after `reserve_opening` there is.
     pub fn note_opening(&mut self, finish: u32) -> Result<(), Refusal>
         ensures opened { OnOk result (self.new
@@ -145,7 +145,7 @@ impl Standing {
     }
 
     /// Notes that it made this phaser, by an act of one event: it holds it in this mode, in its
-    /// innermost finish. `PhasersFull` where it holds 16, and then it stays as it was.
+    /// innermost finish. `PhasersFull` if it holds 16, and then it stays as it was.
     pub fn note_making(&mut self, phaser: u32, mode: Mode) -> Result<(), Refusal>
         ensures made { OnOk result (self.new
             ≡ record (acted self.old) {
@@ -185,7 +185,7 @@ impl Standing {
         self.plan = plan;
     }
 
-    /// Notes that it gives up what it is about, and comes to its end.
+    /// Notes that it gives up what it is about, and ends.
     pub fn give_up(&mut self)
         ensures { self.new ≡ record self.old { plan = Plan.Ending } }
     {
@@ -199,7 +199,7 @@ impl Standing {
         mark(&mut self.holding, phaser, true);
     }
 
-    /// Notes a pass of this phaser, with which a turn comes to the next one.
+    /// Notes a pass of this phaser, with which a turn goes on to the next one.
     pub fn note_pass(&mut self, phaser: u32)
         ensures { self.new ≡ record self.old {
           plan = passed_by self.old.plan;

@@ -10,9 +10,9 @@ use json::{Reader, Token};
 use serde_json::{Map, Number, Value};
 use std::alloc::Global;
 
-/// The next value of the reader, in which arrays and objects nest at most so deep. None where there
+/// The next value of the reader, in which arrays and objects nest at most so deep. None if there
 /// is none, as where it nests deeper; where a number in it isn't whole, as `-0`, `1.0` and `1e3`
-/// aren't, or hasn't room in 64 bits; or where memory is refused. What the reader then still has is of
+/// aren't, or hasn't room in 64 bits; or if memory is refused. What the reader then still has is of
 /// no use.
 #[cycle(read)]
 pub fn next_value(alloc: Global, reader: &mut Reader<'_>, depth: usize) -> Option<Value>
@@ -75,7 +75,7 @@ fn next_members(alloc: Global, reader: &mut Reader<'_>, depth: usize) -> Option<
     Some(found)
 }
 
-// The number that a token of JSON writes, where it is whole and has room in 64 bits.
+// The number that a token of JSON writes, if it is whole and has room in 64 bits.
 fn whole_number(text: &str) -> Option<Number>
     ensures { IfSome result (λ n. number_of text.now ≡ Some (number_view n)) }
 {

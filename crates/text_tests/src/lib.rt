@@ -1,7 +1,7 @@
 //! Tests of what needs no world, which call what these crates export: the words of the command line
 //! and of the texts, events files and their job, and how a job ends.
 //!
-//! A library of tests alone: where they stood in the crates themselves, these would be proved once
+//! A library of tests alone: if they stood in the crates themselves, these would be proved once
 //! more with each change of a test.
 #![tactic(auto)]
 

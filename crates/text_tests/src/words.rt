@@ -329,7 +329,7 @@ fn kernel_words(rt: HostRuntime) {
     );
 }
 
-/// How many picks LIST spells; none where it is no list.
+/// How many picks LIST spells; none if it is no list.
 fn length(alloc: Global, list: &str) -> Result<Option<usize>, Fail> {
     let option = format!(in alloc; "--picks={list}")?;
     match job_of(alloc, &["phaser_run", "schedule", "p", option.as_str()]) {

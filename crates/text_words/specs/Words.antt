@@ -132,12 +132,12 @@ has_only names d = option_map_or (only_keys names) (as_object d) false
 
 -- ---- the limits
 
--- the number, or the default where there is no value
+-- the number, or the default if there is no value
 abbrev pub limit_or : ℕ → Option Data → Option ℕ
 limit_or default None = Some default
 limit_or default (Some d) = number_in (2 ^ 32 - 1) d
 
--- the number at a key, or the default where there is no such key
+-- the number at a key, or the default if there is no such key
 abbrev pub limit_at : List ℕ → ℕ → Data → Option ℕ
 limit_at key default d = limit_or default (get key d)
 
@@ -166,7 +166,7 @@ limit_keys = codes "acts" ∷ codes "finishes" ∷ codes "history" ∷ codes "ph
 unfoldable pub limits_in : Data → Option Limits
 limits_in d = if has_only limit_keys d then named_limits_in d else None
 
--- the limits, or the defaults where the key is absent
+-- the limits, or the defaults if the key is absent
 abbrev pub limits_or : Option Data → Option Limits
 limits_or None = Some default_limits
 limits_or (Some d) = limits_in d

@@ -1,5 +1,5 @@
 //! The JSON value that bytes are, and the items of a list: numbers, values, words, modes, operators.
-//! An item is none where it is absent, of another kind or out of its range.
+//! An item is none if it is absent, of another kind or out of its range.
 ghost use Rattle.std.specs.Prelude.{◌≡◌, ◌↔◌, IsTrue, option_map};
 ghost use Rattle.serde_json.specs.Errors.{IsMemory};
 ghost use Rattle.serde_json.specs.View.{view, items_view};
@@ -19,8 +19,8 @@ fn is_memory(error: &Error) -> bool
     error.classify() == Category::Memory
 }
 
-/// The JSON value that the bytes are. `BadText` at place 0 where they are none, nest deeper than
-/// the JSON reader goes, or aren't UTF-8; `Memory` where there is too little for the value.
+/// The JSON value that the bytes are. `BadText` at place 0 if they are none, nest deeper than
+/// the JSON reader goes, or aren't UTF-8; `Memory` if there is too little for the value.
 pub fn json_of(alloc: Global, bytes: &[u8]) -> Result<Value, Refusal>
     ensures { Gives view result (json_read (reading bytes.now)) }
 {

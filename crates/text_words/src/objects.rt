@@ -38,7 +38,7 @@ pub fn has_only_keys(value: &Value, names: &[&str]) -> bool
 
 // ---- the limits
 
-/// The number at a key, or the default where there is no such key.
+/// The number at a key, or the default if there is no such key.
 fn limit_at(limits: &Value, key: &str, default: u32) -> Option<u32>
     ensures { result ≡ limit_at key.now default (view limits.now) }
 {
@@ -87,7 +87,7 @@ fn limits_in(limits: &Value) -> Option<Limits>
 }
 
 /// The limits of a text: what stands at its key `limits`, with the default for each limit that
-/// isn't named there, and the defaults alone where there is no such key. None where one isn't
+/// isn't named there, and the defaults alone if there is no such key. None if one isn't
 /// between its least and its greatest, or where another key stands among them.
 pub fn limits_of(text: &Value) -> Option<Limits>
     ensures limits { result ≡ limits_of (view text.now) }

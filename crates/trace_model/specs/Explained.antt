@@ -80,7 +80,7 @@ is_over es = list_any (λ e. ends_run e.1) es
 abbrev pub is_explained : Run → Bool
 is_explained r = let es = reverse r.events in all_follow r.limits es && is_over es
 
--- the place of the first of the entries that may not follow those before it, the newest of these first; where all may, the place after the last, unless the run has ended
+-- the place of the first of the entries that may not follow those before it, the newest of these first; if all may, the place after the last, unless the run has ended
 abbrev pub fault_after : Limits → List Entry → List Entry → Option ℕ
 fault_after l before [] = if is_over before then None else Some (length before + 1)
 fault_after l before (e ∷ es) =

@@ -11,11 +11,11 @@ use Rattle.trace_model.specs.Parts.{IsTraceOf}
 use Rattle.trace_model.specs.Projections.{Whose, phaser, finish, projection, AreOf, AreNotOf, HaveOwners}
 use Rattle.trace_model.specs.Told.{phaser_told, finish_told}
 
--- a trace is explained exactly where it has no fault
+-- a trace is explained exactly if it has no fault
 abbrev pub FaultlessIsExplained : Type 0
 FaultlessIsExplained = (r : Run) → is_explained r ≡ is_none (first_fault r)
 
--- the first of these entries may not follow those before, the newest of these first; where there is none, the
+-- the first of these entries may not follow those before, the newest of these first; if there is none, the
 -- run hasn't ended
 abbrev pub IsAtFault : Limits → List Entry → List Entry → Type 0
 IsAtFault l before [] = is_over before ≡ false
@@ -40,7 +40,7 @@ abbrev pub ExplainedIsLegal : Type 0
 ExplainedIsLegal =
     (r : Run) → is_explained r ≡ true → is_legal_world r.limits (past (reverse r.events)) ≡ true
 
--- what a trace has of each owner is exactly its part, entry by entry, where no two parts have the same owner
+-- what a trace has of each owner is exactly its part, entry by entry, if no two parts have the same owner
 abbrev pub ProjectionsAreParts : Type 0
 ProjectionsAreParts =
     (owners : List Whose) (parts : List (List Entry)) (es : List Entry)

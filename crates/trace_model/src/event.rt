@@ -12,7 +12,7 @@ pub enum TracedStep {
     Make(u32, Mode, Terms),
     /// The parent registered a child, in this mode.
     Reg(u32, u32, Mode),
-    /// The task signalled its phase, with a number where it proposed a single.
+    /// The task signalled its phase, with a number if it proposed a single.
     Sig(u32, Option<u32>),
     /// The task claimed the single of its phase.
     Claim(u32),

@@ -81,7 +81,7 @@ impl Kept {
         }
     }
 
-    /// The event as it is lent, where these are the long ones.
+    /// The event as it is lent, if these are the long ones.
     pub(crate) fn view(self, long: &[LongEvent]) -> EventView<'_>
         requires { IsWithin (length long.now) self }
         ensures { viewed result ≡ event_kept long.now self }

@@ -3,7 +3,7 @@
 ghost use Rattle.trace_model.specs.Examples.{NestedFinish, SentAndSeen, SmallestProjections, SmallestTrace};
 ghost use Rattle.trace_model.specs.Laws.{ExplainedIsLegal, FaultlessIsExplained, FinishesTellTheirOwn, FirstFaultIsFirst, OthersHaveNone, PhasersTellTheirOwn, ProjectionIsPart, ProjectionsAreParts};
 
-/// A trace is explained exactly where no place of it is at fault.
+/// A trace is explained exactly if no place of it is at fault.
 pub fn faultless_is_explained()
     ensures { FaultlessIsExplained }
 {}
@@ -18,7 +18,7 @@ pub fn explained_is_legal()
     ensures { ExplainedIsLegal }
 {}
 
-/// A trace of given parts has exactly these as its projections, where no two are of one phaser, one
+/// A trace of given parts has exactly these as its projections, if no two are of one phaser, one
 /// finish or one task's log.
 pub fn projections_are_parts()
     ensures parts { ProjectionsAreParts }

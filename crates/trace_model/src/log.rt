@@ -35,7 +35,7 @@ impl Model for Log {
 
 impl Log {
     /// A log with no entries yet, of a task that begins so many acts at most: each act has one
-    /// entry, and two more may come at the end. `Memory` where that is refused.
+    /// entry, and two more may come at the end. `Memory` if that is refused.
     pub fn new(alloc: Global, acts: u32) -> Result<Log, Refusal>
         ensures blank { IfOk result (λ l. l ≡ record { acts = acts; entries = [] }) }
         ensures memory { IfErr result (λ r. r ≡ Refusal.Memory) }

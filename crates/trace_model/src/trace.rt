@@ -44,7 +44,7 @@ impl Trace {
     }
 
     /// A trace with no events yet, and room for so many, but for what a long event takes beyond a
-    /// short one. `Memory` where there is too little for them.
+    /// short one. `Memory` if there is too little for them.
     pub fn with_capacity(alloc: Global, limits: Limits, events: usize) -> Result<Trace, Refusal>
         requires { limits_fit limits ≡ true }
         ensures empty { IfOk result (λ t. t ≡ record { limits = limits; events = [] }) }

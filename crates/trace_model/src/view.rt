@@ -18,7 +18,7 @@ use world_model::{Begun, Reply};
 pub enum ShortStep {
     /// The parent registered a child, in this mode.
     Reg(u32, u32, Mode),
-    /// The task signalled its phase, with a number where it proposed a single.
+    /// The task signalled its phase, with a number if it proposed a single.
     Sig(u32, Option<u32>),
     /// The task claimed the single of its phase.
     Claim(u32),

@@ -47,7 +47,7 @@ merge_fault ms = fault_from None 1 ms
 abbrev pub entry_of : Mark → Entry
 entry_of m = (m.ticket, m.event)
 
--- the trace with these limits and events, where none is at fault, else the place of the first; or memory ran out
+-- the trace with these limits and events, if none is at fault, else the place of the first; or memory ran out
 abbrev pub Traces : Limits → List Mark → Result Run Refusal → Type 0
 Traces l ms (Ok r) = (merge_fault ms ≡ None) × (r ≡ record { limits = l; events = map entry_of ms })
 Traces l ms (Err Memory) = Unit {0}

@@ -95,7 +95,7 @@ fn trace_of(alloc: Global, limits: Limits, marks: &[Mark]) -> Result<Trace, Refu
 /// The trace of the parts of a run's log: the events of all of them by rising ticket.
 /// `NotExplained` at the first place, counted from 1, whose ticket is that of the one before, or
 /// whose event stands in its part after one with a greater ticket; events of one ticket stand there
-/// in the order of the parts. `Memory` where there is too little for the trace. Whether a run makes
+/// in the order of the parts. `Memory` if there is too little for the trace. Whether a run makes
 /// these events is not asked.
 pub fn merge(alloc: Global, limits: Limits, parts: &[Part]) -> Result<Trace, Refusal>
     requires { limits_fit limits ≡ true }

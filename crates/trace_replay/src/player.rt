@@ -49,7 +49,7 @@ impl Player {
         }
     }
 
-    /// Hands the event to the world. Whether it may follow those before it; where it may not, the
+    /// Hands the event to the world. Whether it may follow those before it; if it may not, the
     /// replay is at its end.
     fn take(&mut self, ticket: u64, event: EventView<'_>) -> bool
         ensures answer { (l : Limits) (es : List Entry) → HandedOver l es self.old
@@ -103,7 +103,7 @@ fn played(alloc: Global, trace: &Trace) -> Result<World, Refusal>
 /// The report of the run that left this trace. `NotExplained` at the first place, counted from 1,
 /// that is at fault: a ticket that isn't greater than the one before, an event that the world
 /// refuses or answers `NotYet`, a look that saw something else; or the place after the last event,
-/// where finish 0 isn't shut. `Memory` where there is too little for the world or its report.
+/// if finish 0 isn't shut. `Memory` if there is too little for the world or its report.
 pub fn replay(alloc: Global, trace: &Trace) -> Result<WorldReport, Refusal>
     ensures { Replays trace.now result }
 {

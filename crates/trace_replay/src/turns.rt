@@ -11,7 +11,7 @@ use trace_model::{Part, Trace};
 /// It is no part's turn.
 const NOBODY: u32 = u32::MAX;
 
-/// How many events the parts have, or the greatest number where they have more.
+/// How many events the parts have, or the greatest number if they have more.
 fn events_in(parts: &[Part]) -> usize {
     let mut events = 0usize;
     for part in parts {
@@ -62,8 +62,8 @@ fn are_taken(parts: &[Part], next: &[usize]) -> bool
     true
 }
 
-/// The trace of the parts, where these turns lead through all their entries by rising ticket. None
-/// where they don't.
+/// The trace of the parts, if these turns lead through all their entries by rising ticket. None
+/// if they don't.
 fn in_turn(
     alloc: Global,
     limits: Limits,
@@ -101,8 +101,8 @@ fn in_turn(
     }
 }
 
-/// The trace of the parts, where the tickets are nearly dense, no event is at fault, and none has
-/// ticket 0. None where it can't be told so.
+/// The trace of the parts, if the tickets are nearly dense, no event is at fault, and none has
+/// ticket 0. None if it can't be told so.
 pub(crate) fn merged_in_turn(
     alloc: Global,
     limits: Limits,

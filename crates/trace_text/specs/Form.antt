@@ -243,7 +243,7 @@ version_numbered n = if n == 1 then Some First else (if n == 2 then Some Second 
 abbrev pub version_in : Data → Option Version
 version_in d = whole_in d >>= version_numbered
 
--- the limits, the version and the list of the events, where nothing is wrong outside the events
+-- the limits, the version and the list of the events, if nothing is wrong outside the events
 unfoldable pub outer_in : Data → Option (Limits × Version × Items)
 outer_in d =
     if not (has_only (codes "events" ∷ codes "limits" ∷ codes "version" ∷ []) d) then None

@@ -12,13 +12,13 @@ use Rattle.trace_text.specs.Form.{form_of}
 use Rattle.trace_text.specs.Text.{trace_text, older_text, has_bounds, has_form}
 use Rattle.trace_model.specs.Run.{Run}
 
--- the text of a trace is read as that trace, where its limits fit and each of its events has a form
+-- the text of a trace is read as that trace, if its limits fit and each of its events has a form
 abbrev pub TracesAreReadBack : Type 0
 TracesAreReadBack =
     (r : Run) → limits_fit r.limits ≡ true → has_form r ≡ true
     → form_of (reading (trace_text r)) ≡ Ok r
 
--- its text in version 1 is read as that trace too, where no phaser in it is bounded
+-- its text in version 1 is read as that trace too, if no phaser in it is bounded
 abbrev pub OlderTextsAreReadBack : Type 0
 OlderTextsAreReadBack =
     (r : Run) → limits_fit r.limits ≡ true → has_form r ≡ true → has_bounds r ≡ false

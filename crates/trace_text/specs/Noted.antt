@@ -7,7 +7,7 @@ use Rattle.trace_model.specs.Explained.{is_explained}
 use Rattle.trace_model.specs.Run.{Run}
 use Rattle.trace_text.specs.Form.{is_refusal}
 
--- where the event notes a refusal, its number is that of one
+-- if the event notes a refusal, its number is that of one
 abbrev pub notes_refusal : TracedEvent → Bool
 notes_refusal (Refuse t a n) = is_refusal n
 notes_refusal (Fail t n) = is_refusal n

@@ -96,7 +96,7 @@ struct Outer<'a> {
     events: &'a Vec<Value>,
 }
 
-/// The outer object, where nothing is wrong outside the events.
+/// The outer object, if nothing is wrong outside the events.
 #[tactic(auto, unfolding(crate::specs::Form::outer_in))]
 fn outer_of(file: &Value) -> Option<Outer<'_>>
     ensures outer { option_map (λ o. (o.limits, o.version, items_view o.events.now.items)) result
@@ -128,10 +128,10 @@ fn form_of_value(alloc: Global, value: &Value) -> Result<Trace, Refusal>
 }
 
 /// Reads the bytes of a trace, of version 1 or 2; each phaser of a text of version 1 is unbounded.
-/// `BadText` where they are not of the form: its place is 0 where the bytes are no JSON or the outer
+/// `BadText` if they are not of the form: its place is 0 if the bytes are no JSON or the outer
 /// object is wrong, as where its version is another one, else the number of the first event that is
 /// wrong, counted from 1: also of one that makes a phaser, or would have, in the form of the other
-/// version. `Memory` where there is too little for the JSON value or for the events. Whether a run
+/// version. `Memory` if there is too little for the JSON value or for the events. Whether a run
 /// makes such events is no matter of the text.
 pub fn from_json(alloc: Global, bytes: &[u8]) -> Result<Trace, Refusal>
     ensures { Gives (λ t. t) result (form_of (reading bytes.now)) }

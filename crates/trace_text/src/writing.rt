@@ -332,7 +332,7 @@ fn write_trace(out: &mut String, trace: &Trace) -> Result<(), AllocError>
     Ok(())
 }
 
-/// The text of the trace: version 2, no blank and no newline, all six limits. `Memory` where there
+/// The text of the trace: version 2, no blank and no newline, all six limits. `Memory` if there
 /// is too little for it. Any trace has a text. It is read back if the number of each refusal in it is
 /// one (`REFUSALS`), as in each explained trace (`held_traces_are_read_back`).
 pub fn to_json(alloc: Global, trace: &Trace) -> Result<String, Refusal>

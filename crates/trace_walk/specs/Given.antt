@@ -13,7 +13,7 @@ use Rattle.schedule_model.specs.Scripts.{Made, Numbers}
 use Rattle.trace_walk.specs.declared.acts.Numbers as stored
 use Rattle.trace_walk.specs.declared.acts.MadeAct.{MadeAct}
 
--- the act as it is tried by a task that holds these phasers, where these numbers are drawn for it
+-- the act as it is tried by a task that holds these phasers, if these numbers are drawn for it
 abbrev pub tried_of : {B : Type 0} → List Pair → Numbers → tasks.Act B → Tried
 tried_of own new (acts.New m ops b) = New new.phaser m (record { ops = ops; bound = b })
 tried_of own new (acts.Async child pairs) = Beginning (Async new.task pairs)

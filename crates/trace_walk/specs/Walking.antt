@@ -1,4 +1,4 @@
--- What the tasks of a trace do by a body, where each hears what the trace itself tells it. The trace may be any, explained or
+-- What the tasks of a trace do by a body, if each hears what the trace itself tells it. The trace may be any, explained or
 -- not; what is said of an explained one is said by its world's history.
 --
 -- A body is a function `next`: what a task does after it heard this, and what its body is after that.
@@ -39,7 +39,7 @@ told_by _ = Done
 
 -- ---- the seat of a task: its body, and what it hears before its next act
 
--- the act that is due of a task: its end where it has no seat
+-- the act that is due of a task: its end if it has no seat
 abbrev pub act_due : {B : Type 0} → (Answer → B → Does B) → Option (Seat B) → Act B
 act_due next None = acts.End
 act_due next (Some s) = (next s.heard s.body).0
@@ -55,7 +55,7 @@ child_seat (acts.Async body pairs) before = Some (record { body = body; heard = 
 child_seat (acts.AsyncAll body) before = Some (record { body = body; heard = Started })
 child_seat _ before = before
 
--- the seat of t after an event, where this is who spawns it by the event, and these were the seats before
+-- the seat of t after an event, if this is who spawns it by the event, and these were the seats before
 abbrev pub seat_after : {B : Type 0} → (Answer → B → Does B) → TracedEvent → ℕ → Option ℕ
     → (ℕ → Option (Seat B)) → Option (Seat B)
 seat_after next e t (Some u) before = child_seat (act_due next (before u)) (before t)

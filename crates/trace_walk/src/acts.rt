@@ -30,7 +30,7 @@ pub struct Numbers {
     pub finish: u32,
 }
 
-/// The act as it is tried by a task that holds these phasers, where these numbers are drawn for it.
+/// The act as it is tried by a task that holds these phasers, if these numbers are drawn for it.
 pub fn tried_of<B: Drop>(own: Phased, new: Numbers, act: &Act<B>) -> Tried
     ensures { result ≡ tried_of own (numbers_view new) act.now }
 {

@@ -81,7 +81,7 @@ fn gives_long<B: Drop>(trace: &Trace, count: usize, event: &LongEvent, act: &Act
 
 /// Whether an event is an act, made or refused, and the one that its task's body gives after so many
 /// events of a trace, the numbers that it drew being any. Of a spawn on all phasers it goes over the
-/// events before it, once for each phaser that the task ever came to.
+/// events before it, once for each phaser that the task ever was on.
 pub fn is_given<B: Drop>(trace: &Trace, count: usize, event: EventView<'_>, act: &Act<B>) -> bool
     requires { count ≤ length trace.now.events }
     ensures { result ≡ gives (history (take count trace.now.events))

@@ -6,7 +6,7 @@ ghost use Rattle.trace_walk.specs.Walking.{Does};
 use job_script::{Act, Answer, ScriptBody};
 
 /// A body of which it is told what it does: a function of what it is and of what it hears, and of
-/// nothing else. Where a run steps it too, `go` is to be what its `step` gives, which no clause says.
+/// nothing else. If a run steps it too, `go` is to be what its `step` gives, which no clause says.
 pub trait Goes: Drop {
     /// What a task does that hears this, and what its body is after that.
     ghost next: { answers.Answer → Self → Does Self };

@@ -1,5 +1,5 @@
 //! Whether the acts of a trace are those that its tasks' bodies give. A body is told by a function of
-//! what it is and of what it hears; a trace tells what each act came to. So one walk over its events
+//! what it is and of what it hears; a trace tells the outcome of each act. So one walk over its events
 //! asks it of a program's tasks and of any other bodies, of any trace, explained or not.
 #![tactic(auto)]
 

@@ -63,7 +63,7 @@ impl Stay {
     }
 }
 
-/// The mode in which a task is registered on a phaser after so many events of a trace; none where
+/// The mode in which a task is registered on a phaser after so many events of a trace; none if
 /// it isn't.
 fn mode_on(trace: &Trace, count: usize, phaser: u32, task: TaskNumber) -> Option<Mode>
     requires { count ≤ length trace.now.events }
@@ -92,7 +92,7 @@ fn joined_by(task: u32, event: EventView<'_>) -> Option<u32>
 }
 
 /// The phaser on which an event registers a task, with the task's mode on it after so many events
-/// of a trace; none where it isn't registered there any more.
+/// of a trace; none if it isn't registered there any more.
 fn pair_by(trace: &Trace, count: usize, task: u32, event: EventView<'_>) -> Option<Pair>
     requires { count ≤ length trace.now.events }
     ensures { result ≡ pair_by task (history (take count trace.now.events)) (event_of (viewed event.entry)) }
@@ -103,8 +103,8 @@ fn pair_by(trace: &Trace, count: usize, task: u32, event: EventView<'_>) -> Opti
 }
 
 /// Whether these are all phasers that a task holds after so many events of a trace, in the order in
-/// which it came to them and each in its own mode. It goes over the events once for each phaser
-/// that the task ever came to, and once more.
+/// which it got them and each in its own mode. It goes over the events once for each phaser
+/// that the task ever was on, and once more.
 pub(crate) fn are_own_pairs(trace: &Trace, count: usize, task: u32, pairs: &[Pair]) -> bool
     requires { count ≤ length trace.now.events }
     ensures { result ≡ same_pairs pairs.now (own_pairs task (history (take count trace.now.events))) }

@@ -70,7 +70,7 @@ impl<B: Goes> Seats<B> {
         Ok(())
     }
 
-    /// The next act of a task, of which it hears this; its end where it has no seat.
+    /// The next act of a task, of which it hears this; its end if it has no seat.
     pub(crate) fn next_act(&mut self, task: u32, heard: Answer) -> Act<B>
         ensures act { result ≡ act_due B.next (seat_of self.old.seats task) }
         ensures own { seat_of self.new.seats task ≡ gone_on B.next heard (seat_of self.old.seats task) }

@@ -61,7 +61,7 @@ fn body_of<B: Drop>(act: Act<B>) -> Option<B>
     }
 }
 
-/// Gives the child of an act its seat, where the act is a spawn.
+/// Gives the child of an act its seat, if the act is a spawn.
 fn seat_child<B: Goes>(
     seats: &mut Seats<B>,
     event: EventView<'_>,
@@ -129,7 +129,7 @@ fn takes<B: Goes>(
 /// Whether each act of a trace, made or refused, is the one that its task's body gives next: `Ok`, or
 /// `NotExplained` with the place of the first event that isn't, counted from 1. A body hears what the
 /// trace tells of each act before, and a task that nobody spawned has its end alone. Any trace is
-/// taken, whether a world explains it or not. `Memory` where there is too little for the bodies. A
+/// taken, whether a world explains it or not. `Memory` if there is too little for the bodies. A
 /// spawn on all phasers goes over the events before it, once for each phaser that its task ever came
 /// to.
 pub fn walk<B: Goes>(alloc: Global, root: B, trace: &Trace) -> Result<(), Refusal>

@@ -46,12 +46,12 @@ called_on Waits s p = record { course = Waits; story = s; waiter = p }
 abbrev pub called : Story → Parked Then → Called
 called s p = called_on (course s p.task p.call p.item) (story_after s p.task p.call) p
 
--- what it is answered; not now, where the task is parked already
+-- what it is answered; not now, if the task is parked already
 abbrev pub answer_to : Bool → Called → Answer
 answer_to true k = HasEnded (Refused NotNow)
 answer_to false k = answer_of k.course
 
--- how things stand after it: the task is parked where it has to wait; nothing is changed where it is parked
+-- how things stand after it: the task is parked if it has to wait; nothing is changed if it is parked
 -- already
 abbrev pub standing_after : Bool → Called → Story → List (Parked Then) → Standing
 standing_after true k s ps = standing s ps []

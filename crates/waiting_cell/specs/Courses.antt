@@ -79,7 +79,7 @@ is_refused (Over e) = false
 is_refused HasSignalled = false
 is_refused Waits = false
 
--- what the task is answered; it is parked where its call isn't over
+-- what the task is answered; it is parked if its call isn't over
 abbrev pub answer_of : Course → Answer
 answer_of (Over e) = HasEnded e
 answer_of HasSignalled = IsParked

@@ -36,7 +36,7 @@ pub struct WaitingCell {
 
 impl WaitingCell {
     /// A phaser that nobody has made yet, with the operators of its accumulators and its bound, at
-    /// which nobody waits. All memory that it will ever need is taken here; `Memory` where that is
+    /// which nobody waits. All memory that it will ever need is taken here; `Memory` if that is
     /// refused.
     pub fn new(alloc: Global, ops: Ops, bound: Bound) -> Result<WaitingCell, Refusal>
         ensures story { IfOk result (λ c. c.state.story
@@ -107,7 +107,7 @@ impl WaitingCell {
     }
 
     /// The phaser's `signal`, with its refusals; a task that is too far ahead of a waiter is parked
-    /// instead. `NotNow` where it is parked already.
+    /// instead. `NotNow` if it is parked already.
     pub fn signal(&mut self, freed: &mut FreedList, task: Task, number: Option<u32>) -> Answer
         requires { freed.old ≡ [] }
         ensures answer { result ≡ answer_to (is_parked task self.old.parked.items)
@@ -130,7 +130,7 @@ impl WaitingCell {
     }
 
     /// The phaser's `pass`, with its refusals; a task that has to wait is parked instead. `NotNow`
-    /// where it is parked already.
+    /// if it is parked already.
     pub fn pass(&mut self, freed: &mut FreedList, task: Task) -> Answer
         requires { freed.old ≡ [] }
         ensures answer { result ≡ answer_to (is_parked task self.old.parked.items)
@@ -150,7 +150,7 @@ impl WaitingCell {
     }
 
     /// A signal, and once that is made a pass: the end of a turn at a barrier. The task is parked
-    /// for whichever of the two has to wait. `NotNow` where it is parked already. Where the pass is
+    /// for whichever of the two has to wait. `NotNow` if it is parked already. If the pass is
     /// refused the signal stands.
     pub fn next(&mut self, freed: &mut FreedList, task: Task, number: Option<u32>) -> Answer
         requires { freed.old ≡ [] }
@@ -161,7 +161,7 @@ impl WaitingCell {
             (called self.old.state.story (to_go_on task number))
             self.old.state.story self.old.parked.items)
             (standing self.new.state.story self.new.parked.items freed.new) }
-        // Where its signal is refused.
+        // If its signal is refused.
         ensures refused { is_turned_away (is_parked task self.old.parked.items)
             (course self.old.state.story task (ParkedCall.Signal number) Then.Pass) ≡ true
             → standing self.new.state.story self.new.parked.items freed.new

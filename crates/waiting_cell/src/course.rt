@@ -82,7 +82,7 @@ pub fn has_moved(course: Course) -> bool
     }
 }
 
-/// What the task is answered whose call came so far; it is parked where the call isn't over.
+/// What the task is answered whose call came so far; it is parked if the call isn't over.
 pub fn answer_of(course: Course) -> Answer
     ensures { result ≡ answer_of course }
 {

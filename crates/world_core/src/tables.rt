@@ -141,7 +141,7 @@ fn first_tasks(alloc: Global, limits: Limits) -> Result<Vec<Task>, Refusal>
 
 impl Tables {
     /// A world in which nothing has happened yet. All memory that its steps will ever need is taken
-    /// here; `Memory` where that is refused.
+    /// here; `Memory` if that is refused.
     pub(crate) fn new(alloc: Global, limits: Limits) -> Result<Tables, Refusal>
         requires { limits_fit limits ≡ true }
         ensures limits { IfOk result (λ s. s.limits ≡ limits) }
@@ -168,7 +168,7 @@ impl Tables {
         };
         let finishes = first_finishes(alloc, limits)?;
         let tasks = first_tasks(alloc, limits)?;
-        // Last, since they are the dearest to give back where others get no memory.
+        // Last, since they are the dearest to give back if others get no memory.
         let phasers = blank_phasers(alloc, limits)?;
         Ok(Tables {
             limits,

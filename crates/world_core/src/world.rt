@@ -44,7 +44,7 @@ impl Model for World {
 
 impl World {
     /// A world in which nothing has happened yet: task 0 runs, and finish 0 is open. All memory
-    /// that its steps will ever need is taken here; `Memory` where that is refused.
+    /// that its steps will ever need is taken here; `Memory` if that is refused.
     pub fn new(alloc: Global, limits: Limits) -> Result<World, Refusal>
         requires { limits_fit limits ≡ true }
         ensures limits { IfOk result (λ s. s.limits ≡ limits) }
@@ -55,7 +55,7 @@ impl World {
         Ok(World { tables })
     }
 
-    /// One event: it is made, has to wait (`NotYet`), or is refused. Only where it is made does
+    /// One event: it is made, has to wait (`NotYet`), or is refused. Only if it is made does
     /// anything change.
     pub fn step(&mut self, event: &WorldEvent) -> Result<Reply, Refusal>
         ensures { IsStep event.now self.old self.new result }
@@ -70,7 +70,7 @@ impl World {
         self.tables.step_traced(event)
     }
 
-    /// What the task is about; `None` where it hasn't been spawned.
+    /// What the task is about; `None` if it hasn't been spawned.
     pub fn condition(&self, task: u32) -> Option<Condition>
         ensures { (w : List Event) → StandsFor w self.now → result ≡ condition_of task w }
     {
@@ -91,8 +91,8 @@ impl World {
         self.tables.clock(TaskNumber::of(task))
     }
 
-    /// Whether the task can go on now: some event of its own would be made. It can't where it has
-    /// to wait for others, and where it has ended or was never spawned.
+    /// Whether the task can go on now: some event of its own would be made. It can't if it has
+    /// to wait for others, and if it has ended or was never spawned.
     pub fn able(&self, task: u32) -> bool
         ensures { (w : List Event) → StandsFor w self.now → result ≡ is_able self.now.limits w task }
     {
@@ -119,7 +119,7 @@ impl World {
         self.tables.unused()
     }
 
-    /// All phasers of the task, in the order in which it came to them, each in its own mode: what a
+    /// All phasers of the task, in the order in which it got them, each in its own mode: what a
     /// spawn names that hands them all on.
     pub fn own_pairs(&self, task: u32) -> Phased
         ensures { (w : List Event) → StandsFor w self.now → result ≡ own_pairs task w }
@@ -127,8 +127,8 @@ impl World {
         self.tables.own_pairs(TaskNumber::of(task))
     }
 
-    /// What the phasers, the tasks and the finishes came to, by rising number. Each phaser's
-    /// history is read once. The lines take memory; `Memory` where that is refused.
+    /// What the phasers, the tasks and the finishes add up to, by rising number. Each phaser's
+    /// history is read once. The lines take memory; `Memory` if that is refused.
     pub fn report(&self, alloc: Global) -> Result<WorldReport, Refusal>
         ensures report { (w : List Event) → StandsFor w self.now
             → IfOk result (λ r. r ≡ report_of self.now.limits w) }

@@ -10,11 +10,11 @@ use Rattle.world_model.specs.Replies.{is_accepted}
 use Rattle.world_model.specs.Tasks.{is_ended}
 use Rattle.world_model.specs.Due.{next_event}
 
--- a task is able where it hasn't ended and some event of its own is accepted
+-- a task is able if it hasn't ended and some event of its own is accepted
 abbrev pub IsAble : Limits → List WorldEvent → ℕ → Type 0
 IsAble l w t = (is_ended t w ≡ false) × (e : WorldEvent) × (actor w e ≡ t) × (is_accepted l w e ≡ true)
 
--- the events of which one is accepted where any of t's is: to give up, or to go on
+-- the events of which one is accepted if any of t's is: to give up, or to go on
 abbrev pub candidates : Limits → List WorldEvent → ℕ → List WorldEvent
 candidates l w t = Fail t 7 ∷ Fail t 14 ∷ Fail t 15 ∷ Fail t 23 ∷ option_to_list (next_event l t w)
 

@@ -51,7 +51,7 @@ hand_conditions k is_named p =
     ∷ (RegisteredTwice, not is_named)
     ∷ []
 
--- pair by pair, where the spawn has named others before
+-- pair by pair, if the spawn has named others before
 abbrev pub pair_conditions : Facts → List ℕ → List Pair → List (Refusal × Bool)
 pair_conditions k named [] = []
 pair_conditions k named (p ∷ ps) =

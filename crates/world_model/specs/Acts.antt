@@ -1,4 +1,4 @@
--- What is replied where a task tries an act: what its history answers to the conditions of the act, and what it then comes to.
+-- What is replied if a task tries an act: what its history answers to the conditions of the act, and what then becomes of it.
 use Rattle.std.specs.Prelude.{ℕ, Bool, false, ◌==◌, not, List, ◌∷◌, length, Option, Some, None, Result, Ok, Err}
 use Rattle.std.specs.List.{list_any, list_all}
 use Rattle.phase_modes.specs.declared.refusal.Refusal.TheVariants.{NotNow}

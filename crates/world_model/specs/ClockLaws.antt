@@ -36,12 +36,12 @@ leads_to_end (Some (Refuse t a n)) = true
 leads_to_end (Some (Fail t n)) = true
 leads_to_end _ = false
 
--- t's clock, and one more where it has passed phaser n in the turn under way
+-- t's clock, and one more if it has passed phaser n in the turn under way
 abbrev pub clock_here : ℕ → ℕ → List WorldEvent → ℕ
 clock_here t n w = clock t w + (if has_passed t n w then 1 else 0)
 
 -- on a phaser, a task that goes on has ended as many turns as its clock was raised since the phaser was made,
--- and one more where it has passed in the turn under way;
+-- and one more if it has passed in the turn under way;
 -- a task that was refused or failed stays where it was
 abbrev pub ClocksAgree : Type 0
 ClocksAgree = OfEachWorld (λ l w. (t n : ℕ)

@@ -98,7 +98,7 @@ due t (e ∷ w) =
     else (if actor w e == t && not (is_of_single e) then drop 1 (due t w)
     else due t w)
 
--- where a pass is due: the claim where t may claim, the report where t claimed, else the pass
+-- if a pass is due: the claim if t may claim, the report if t claimed, else the pass
 abbrev pub before_pass : Limits → ℕ → ℕ → List WorldEvent → WorldEvent
 before_pass l n t w =
     if is_permitted l (terms_of n w) (phaser_past n w) (Claimed t) then Phaser n (Claim t)

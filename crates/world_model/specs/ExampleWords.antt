@@ -52,7 +52,7 @@ ok = Ok Done
 abbrev pub phases_of : ℕ → ℕ → List FoldLine → PhaserReport
 phases_of n k fs = record { phaser = n; phases = k; folds = fs }
 
--- what the one accumulator, a sum, came to in a phase
+-- what the one accumulator, a sum, folded in a phase
 abbrev pub sum_is : ℕ → ℕ → FoldLine
 sum_is p v = record { phase = p; acc = 0; value = Saw (pos v) }
 

@@ -25,9 +25,9 @@ abbrev pub is_reg : WorldEvent → Bool
 is_reg (Phaser n (Reg q t m)) = true
 is_reg _ = false
 
--- t may give up by this number: of another single's number or a full history where the event that
+-- t may give up by this number: of another single's number or a full history if the event that
 -- continues its act is now refused by it, of full registrations while it still has one to make, of memory
--- where it is idle
+-- if it is idle
 abbrev pub may_fail : Limits → List WorldEvent → ℕ → ℕ → Bool
 may_fail l w t n =
     ((n == 7 || n == 15) && option_map_or (λ e. is_refused_by n (next_done l w e)) (next_event l t w) false)

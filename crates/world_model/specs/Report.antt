@@ -32,13 +32,13 @@ phase_count (Pass t ∷ h) = max (waits t h + 1) (phase_count h)
 phase_count (Send t a v ∷ h) = max (signals t h + 1) (phase_count h)
 phase_count (_ ∷ h) = phase_count h
 
--- what the accumulators from a on came to in phase p
+-- what the accumulators from a on folded in phase p
 abbrev pub folds_from : ℕ → ℕ → List Op → List Event → List FoldLine
 folds_from p a [] h = []
 folds_from p a (op ∷ ops) h =
     record { phase = p; acc = a; value = fold op (sent a p h) } ∷ folds_from p (a + 1) ops h
 
--- a phaser, how many phases it had, and what its accumulators came to, phase by phase
+-- a phaser, how many phases it had, and what its accumulators folded, phase by phase
 pub record PhaserReport : Type 0 where
   pub phaser : ℕ
   pub phases : ℕ

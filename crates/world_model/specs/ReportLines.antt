@@ -10,7 +10,7 @@ use Rattle.world_model.specs.declared.report.TaskLine.{TaskLine}
 use Rattle.world_model.specs.declared.report.TotalsLine.{TotalsLine}
 use Rattle.world_model.specs.Report.{PhaserReport, Report}
 
--- what an accumulator came to in a phase
+-- what an accumulator folded in a phase
 abbrev pub fold_text : FoldLine → List ℕ
 fold_text l =
     codes "phase " ++ decimal l.phase ++ codes " acc " ++ decimal l.acc ++ codes " " ++ look_text l.value

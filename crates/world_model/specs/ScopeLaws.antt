@@ -1,4 +1,4 @@
--- Laws of finishes and tasks: what a child may get, how many phasers a task is on, and who is left where a finish is shut.
+-- Laws of finishes and tasks: what a child may get, how many phasers a task is on, and who is left if a finish is shut.
 use Rattle.std.specs.Prelude.{ℕ, ◌≤◌, ◌≡◌, true, false, List, ◌∷◌, ◌++◌, length}
 use Rattle.phase_modes.specs.declared.reg.Mode.{Mode}
 use Rattle.phase_model.specs.Tasks.{is_live}
@@ -32,14 +32,14 @@ pub data Inside (w : List WorldEvent) (f : ℕ) : ℕ → Type 0 where
   further : {t : ℕ} (g : ℕ) → is_finish g w ≡ true → is_spawned t (finish_past g w) ≡ true
       → Inside w f (owner g w) → Inside w f t
 
--- where f is shut, each task inside it has ended, and nobody is left on a phaser that f encloses
+-- if f is shut, each task inside it has ended, and nobody is left on a phaser that f encloses
 abbrev pub ShutsLeaveNobody : Type 0
 ShutsLeaveNobody = OfEachWorld (λ l w.
     (later before : List WorldEvent) (f : ℕ) → w ≡ later ++ Finish f Shutting ∷ before
     → ((t : ℕ) → Inside before f t → is_ended t before ≡ true)
     × ((t n : ℕ) → enclosing n before ≡ f → is_live t (phaser_past n before) ≡ false))
 
--- where the root has ended, each task has, and none is registered on any phaser
+-- if the root has ended, each task has, and none is registered on any phaser
 abbrev pub EndedRootsLeaveNobody : Type 0
 EndedRootsLeaveNobody = OfEachWorld (λ l w. is_ended 0 w ≡ true
     → ((t : ℕ) → is_born t w ≡ true → is_ended t w ≡ true)

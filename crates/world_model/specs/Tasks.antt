@@ -47,7 +47,7 @@ joined_by t (Phaser n (Make u m terms)) = if u == t then Some n else None
 joined_by t (Phaser n (Reg q u m)) = if u == t then Some n else None
 joined_by t _ = None
 
--- the phasers on which t is registered now, in the order in which it came to them
+-- the phasers on which t is registered now, in the order in which it got them
 abbrev pub phasers_of : ℕ → List WorldEvent → List ℕ
 phasers_of t w = filter (λ n. is_live t (phaser_past n w)) (reverse (filter_map (joined_by t) w))
 

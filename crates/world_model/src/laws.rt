@@ -39,19 +39,19 @@ pub fn phasers_held_are_few()
     ensures { PhasersHeldAreFew }
 {}
 
-/// Where a finish is shut, each task inside it has ended, and nobody is left on a phaser that it
+/// If a finish is shut, each task inside it has ended, and nobody is left on a phaser that it
 /// encloses.
 pub fn shuts_leave_nobody()
     ensures { ShutsLeaveNobody }
 {}
 
-/// Where the root has ended, each task has, and none is registered on any phaser.
+/// If the root has ended, each task has, and none is registered on any phaser.
 pub fn ended_roots_leave_nobody()
     ensures { EndedRootsLeaveNobody }
 {}
 
 /// On a phaser, a task that goes on has ended as many turns as its clock was raised since the
-/// phaser was made, and one more where it has passed in the turn under way.
+/// phaser was made, and one more if it has passed in the turn under way.
 pub fn clocks_agree()
     ensures { ClocksAgree }
 {}

@@ -1,9 +1,9 @@
-//! The report of a world: what its phasers, tasks and finishes came to, by rising number.
+//! The report of a world: what its phasers, tasks and finishes add up to, by rising number.
 use phase_model::Look;
 use std::marker::Model;
 use std::vec::Vec;
 
-/// What an accumulator came to in a phase, both counted from 0.
+/// What an accumulator folded in a phase, both counted from 0.
 #[derive(Clone, Copy, Debug, PartialEq, Eq)]
 pub struct FoldLine {
     pub phase: u32,
@@ -11,7 +11,7 @@ pub struct FoldLine {
     pub value: Look,
 }
 
-/// A phaser that was made: how many phases it had, and what its accumulators came to, phase by
+/// A phaser that was made: how many phases it had, and what its accumulators folded, phase by
 /// phase and in each phase by their index. The last phase is the last that was signalled, passed
 /// or sent for.
 #[derive(Drop)]

@@ -68,7 +68,7 @@ impl Model for Task {
 }
 
 impl Task {
-    /// A number that no task has yet. `Memory` where there is none for its lists.
+    /// A number that no task has yet. `Memory` if there is none for its lists.
     pub fn blank(alloc: Global) -> Result<Task, Refusal>
         ensures blank { IfOk result (λ t. t ≡ blank_task) }
         ensures memory { IfErr result (λ r. r ≡ Refusal.Memory) }
@@ -176,7 +176,7 @@ impl Task {
         self.innermost
     }
 
-    /// Its innermost open finish: the one that it was spawned in, where it has none of its own.
+    /// Its innermost open finish: the one that it was spawned in, if it has none of its own.
     pub fn inner(&self) -> FinishNumber
         ensures { result ≡ inner_at self.now }
     {
@@ -204,7 +204,7 @@ impl Task {
         }
     }
 
-    /// Notes that the first signal was made: after the last one a turn comes to its passes, and a
+    /// Notes that the first signal was made: after the last one a turn goes on to its passes, and a
     /// plain signal is done.
     pub fn note_signal(&mut self)
         ensures { self.new ≡ signal_noted self.old }

@@ -52,7 +52,7 @@ past_in stories n = option_map_or (λ s. s.past) (slice_get stories n) []
 abbrev pub finish_at : WorldState → ℕ → FinishStory
 finish_at s f = get_or s.finishes f (fresh s.limits.tasks)
 
--- the task's innermost finish: its own innermost open one, and where it has none, the one in which it was spawned
+-- the task's innermost finish: its own innermost open one, and if it has none, the one in which it was spawned
 abbrev pub inner_at : TaskState → ℕ
 inner_at k = unwrap_or k.innermost k.home
 

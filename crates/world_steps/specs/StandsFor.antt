@@ -26,7 +26,7 @@ use Rattle.world_model.specs.TaskConditions.{last_entry}
 use Rattle.world_model.specs.Report.{refused_by}
 use Rattle.world_model.specs.Replies.{is_made, is_legal_world, reply}
 
--- the innermost open finish, where these are the task's own
+-- the innermost open finish, if these are the task's own
 abbrev pub inner_of : TaskState → List ℕ → ℕ
 inner_of k fs = slice_index_or fs 0 k.home
 
@@ -80,7 +80,7 @@ pub record FinishStands (s : WorldState) (w : List WorldEvent) (f : ℕ) : Type 
   pub story : finish_at s f ≡ record { tasks = s.limits.tasks; past = finish_past f w }
   pub owner : get_or s.owners f 0 ≡ scope.owner f w
 
--- a world stands for a legal history where all that it keeps is what is read off it
+-- a world stands for a legal history if all that it keeps is what is read off it
 pub record StandsFor (w : List WorldEvent) (s : WorldState) : Type 0 where
   pub fit : limits_fit s.limits ≡ true
   pub finishes_size : length s.finishes ≡ s.limits.finishes
@@ -91,7 +91,7 @@ pub record StandsFor (w : List WorldEvent) (s : WorldState) : Type 0 where
   pub finishes : (f : ℕ) → FinishStands s w f
   pub tasks : (t : ℕ) → TaskStands s.outers w t (task_at s t)
 
--- a step: the limits stay; what is not made changes nothing; for each history for which the world stood, the answer is the history's reply; and where the event is made, the world stands for what follows
+-- a step: the limits stay; what is not made changes nothing; for each history for which the world stood, the answer is the history's reply; and if the event is made, the world stands for what follows
 pub record IsStep (e : WorldEvent) (old new : WorldState) (answered : Result Reply Refusal) : Type 0 where
   pub limits : new.limits ≡ old.limits
   pub unchanged : is_made answered ≡ false → new ≡ old

@@ -17,7 +17,7 @@ mod generator;
 mod past;
 mod peer;
 
-/// A world in which nothing has happened; `NotNow` where the limits are none.
+/// A world in which nothing has happened; `NotNow` if the limits are none.
 fn fresh(alloc: Global, limits: Limits) -> Result<World, Refusal> {
     if !limits.fits() {
         return Err(Refusal::NotNow);
@@ -167,7 +167,7 @@ fn step_both(
     Ok(())
 }
 
-/// The root makes a phaser with this bound, and spawns a task that signals there: where the root
+/// The root makes a phaser with this bound, and spawns a task that signals there: if the root
 /// doesn't pass, the bound holds it up.
 fn play_producer(
     rt: &impl Abort,
@@ -182,7 +182,7 @@ fn play_producer(
     step_both(rt, world, plain, &spawned, counts)
 }
 
-/// Hands events to the world and to a fresh peer: those of a bounded producer, where there is a bound,
+/// Hands events to the world and to a fresh peer: those of a bounded producer, if there is a bound,
 /// and 50 that are drawn.
 fn play_beside(
     rt: &impl Abort,

@@ -50,7 +50,7 @@ fn history_of(alloc: Global, events: &[Event]) -> Result<History, Refusal> {
     Ok(history)
 }
 
-/// What the accumulators come to.
+/// What the accumulators fold.
 const FOLDS: [FoldLine; 4] = [
     FoldLine {
         phase: 0,

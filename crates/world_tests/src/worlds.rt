@@ -73,7 +73,7 @@ enum Row {
     NoneDue(u32),
 }
 
-/// A world in which nothing has happened; `NotNow` where the limits are none.
+/// A world in which nothing has happened; `NotNow` if the limits are none.
 fn fresh(alloc: Global, limits: Limits) -> Result<World, Refusal> {
     if !limits.fits() {
         return Err(Refusal::NotNow);
@@ -144,7 +144,7 @@ fn replies(rt: &impl Abort, world: &mut World, event: TableEvent, reply: Result<
     equal_at(rt, event, world.step(&event), reply);
 }
 
-/// The row's event and its reply; none where the row is a question.
+/// The row's event and its reply; none if the row is a question.
 fn event_in(row: &Row) -> Option<(TableEvent, Result<Reply, Refusal>)> {
     match *row {
         Row::Done(event) => Some((event, Ok(Reply::Done))),

@@ -51,7 +51,7 @@ fn a_slow_waiter_leaves(rt: HostRuntime) -> Result<(), Fail> {
     Ok(())
 }
 
-/// A slow waiter holds the quick ones where they are 2,000 phases ahead, and not before, until it
+/// A slow waiter holds the quick ones if they are 2,000 phases ahead, and not before, until it
 /// leaves.
 #[test]
 fn a_slow_waiter_holds_the_others(rt: HostRuntime) -> Result<(), Fail> {

@@ -108,7 +108,7 @@ fn widened(reg: Reg) -> LongReg {
     }
 }
 
-/// Whether the call registers a task, where it is done.
+/// Whether the call registers a task, if it is done.
 fn is_registration(call: Call) -> bool {
     matches!(&call, Call::Make(_, _) | Call::Register(_, _, _))
 }

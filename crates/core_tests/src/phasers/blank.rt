@@ -12,7 +12,7 @@ const SMALL: Example = Example {
     ..PLAIN
 };
 
-/// A phaser that nobody has made yet, without accumulators and unbounded; `NotNow` where the limits
+/// A phaser that nobody has made yet, without accumulators and unbounded; `NotNow` if the limits
 /// are none.
 fn blank(alloc: Global) -> Result<PhaserState, Refusal> {
     let limits = SMALL.limits();

@@ -107,7 +107,7 @@ fn last_signaller_is_dropped(rt: HostRuntime) -> Result<(), Fail> {
         // Task 0 has signalled two phases, and is the only signaller that is left.
         Line::FirstOpen(2),
         Line::Replied(Call::Drop(0), Reply::Done),
-        // Each phase is closed, where nobody can signal.
+        // Each phase is closed, if nobody can signal.
         Line::Closed(2, u32::MAX),
         Line::Replied(Call::Pass(2), Reply::Phase(0)),
         Line::Replied(Call::Pass(2), Reply::Phase(1)),

@@ -136,7 +136,7 @@ fn cause(history: &History, call: Call) -> Option<Refusal> {
     }
 }
 
-/// Whether a task that waits may not pass yet, where it may claim nothing.
+/// Whether a task that waits may not pass yet, if it may claim nothing.
 fn is_early(history: &History, task: u32) -> bool {
     let phase = waits(history, task);
     let is_settled = proposed(history, phase).is_none() || did(history, phase);

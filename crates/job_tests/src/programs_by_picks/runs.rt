@@ -1,4 +1,4 @@
-//! A program run by picks, with the events that it comes to, one by one. The worked examples and
+//! A program run by picks, with the events that it makes, one by one. The worked examples and
 //! their traces stand in `examples/schedules` alone.
 use crate::asserted::{equal, holds_at};
 use crate::entries::entry_of;

@@ -11,7 +11,7 @@ use task_numbers::TaskNumber;
 use trace_model::{Trace, TracedEvent, TracedStep};
 use world_model::{Begun, Tried};
 
-/// The place at which these events leave the program of this text; none where they follow it.
+/// The place at which these events leave the program of this text; none if they follow it.
 fn place_in(alloc: Global, text: &str, events: &[TracedEvent]) -> Result<Option<u64>, Fail> {
     let program = program_of(alloc, text)?;
     let mut trace = Trace::new(alloc, Limits::default());
@@ -29,7 +29,7 @@ fn place_in(alloc: Global, text: &str, events: &[TracedEvent]) -> Result<Option<
     }
 }
 
-/// The events leave the program of this text at this place; none where they follow it.
+/// The events leave the program of this text at this place; none if they follow it.
 fn leaves_at(
     rt: &impl Abort,
     alloc: Global,

@@ -7,7 +7,7 @@ use std::test::Fail;
 use trace_model::{Log, TracedEvent};
 use world_model::Begun;
 
-/// The entry is added where the log has room, as it has.
+/// The entry is added if the log has room, as it has.
 fn adds(rt: &impl Abort, log: &mut Log, ticket: u64, entry: &TracedEvent) {
     holds_at(rt, entry, log.has_room());
     if log.has_room() {

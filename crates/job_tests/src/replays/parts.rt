@@ -36,7 +36,7 @@ fn two_parts(alloc: Global, first: &[u64], second: &[u64]) -> Result<Vec<Part>, 
     Ok(parts)
 }
 
-/// What merging those two parts comes to.
+/// What merging those two parts gives.
 fn merged(alloc: Global, first: &[u64], second: &[u64]) -> Result<Result<Trace, Refusal>, Fail> {
     let parts = two_parts(alloc, first, second)?;
     Ok(merge(alloc, Limits::default(), &parts))
@@ -83,7 +83,7 @@ fn parts_by_rising_ticket(rt: HostRuntime) -> Result<(), Fail> {
     is_merged(&rt, rt.alloc(), &[2, 5], &[1, 9], entries.as_slice())
 }
 
-/// The same where no ticket is left out.
+/// The same if no ticket is left out.
 #[test]
 fn parts_in_turn(rt: HostRuntime) -> Result<(), Fail> {
     let entries = [(1, end(2)), (2, end(1)), (3, end(2)), (4, end(1))];

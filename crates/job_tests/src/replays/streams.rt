@@ -9,7 +9,7 @@ use text_stream::next_value;
 use trace_model::Trace;
 
 /// The next value of the reader, in which so many lists may stand in one another, is spelled so; there
-/// is none where that is nothing.
+/// is none if that is nothing.
 fn next_is(
     rt: &impl Abort,
     alloc: Global,
@@ -93,7 +93,7 @@ fn is_read_as(rt: &impl Abort, alloc: Global, text: &str, trace: &Trace) -> Resu
     Ok(())
 }
 
-// Where the events come last, the text is read as one value; where they come first, entry by entry.
+// If the events come last, the text is read as one value; if they come first, entry by entry.
 #[test]
 fn keys_in_any_order(rt: HostRuntime) -> Result<(), Fail> {
     let first = read(rt.alloc(), EVENTS_FIRST)?;

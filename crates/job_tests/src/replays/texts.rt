@@ -15,7 +15,7 @@ use world_model::{Begun, Tried};
 const SMALLEST: &str =
     r#"{"events":[[1,"p",0,"make",0,"SIG_WAIT",[],null],[2,"t",0,"begin",["next"]],[3,"p",0,"sig",0],[4,"p",0,"pass",0],[5,"t",0,"begin",["end"]],[6,"p",0,"drop",0],[7,"f",0,"shut"]],"limits":{"acts":4096,"finishes":64,"history":4096,"phasers":64,"regs":256,"tasks":256},"version":2}"#;
 
-/// The place of the text's first fault; none where it is of the form.
+/// The place of the text's first fault; none if it is of the form.
 fn place_of(alloc: Global, text: &str) -> Result<Option<u64>, Fail> {
     match from_json(alloc, text.as_bytes()) {
         Ok(_) => Ok(None),

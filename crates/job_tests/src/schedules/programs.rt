@@ -7,7 +7,7 @@ use std::alloc::Global;
 use std::process::Abort;
 use std::test::Fail;
 
-/// The place of the text's first fault; none where it is a program.
+/// The place of the text's first fault; none if it is a program.
 fn place_of(alloc: Global, text: &str) -> Result<Option<u64>, Fail> {
     match read_program(alloc, text.as_bytes()) {
         Ok(_) => Ok(None),

@@ -1,4 +1,4 @@
--- What a phaser's events came to, with one event more, and which history that stands for.
+-- What a phaser's events add up to, with one event more, and which history that stands for.
 use Rattle.std.specs.Prelude.{ℕ, ◌≡◌, ◌+◌, ◌<◌, Bool, true, ◌&&◌, nat_lt, List, [], ◌∷◌, length, get_or, set, replicate, flat_map, All, Option, Some, None}
 use Rattle.phase_model.specs.declared.history.Event.{Event}
 use Rattle.phase_model.specs.declared.history.Event.TheVariants.{Make, Reg, Sig, Pass, Send}
@@ -43,7 +43,7 @@ progress_noted (Sig t x) ts =
 progress_noted (Pass t) ts = set ts t (record (progress_at ts t) { waits = (progress_at ts t).waits + 1 })
 progress_noted _ ts = ts
 
--- how far each task has come, by number, what the accumulators came to, and the totals
+-- how far each task has come, by number, what the accumulators folded, and the totals
 pub record Tallied : Type 0 where
   pub tasks : List Progress
   pub folds : folds.FoldState

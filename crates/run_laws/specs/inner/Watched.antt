@@ -85,7 +85,7 @@ is_on n (Some m) = m == n
 abbrev pub OneMore : Option ℕ → BTreeMap ℕ ℕ → BTreeMap ℕ ℕ → Type 0
 OneMore o old new = (n : ℕ) → count_in new n ≡ (if is_on n o then 1 else 0) + count_in old n
 
--- where it was taken, one task more was counted on phaser n; all else stays
+-- if it was taken, one task more was counted on phaser n; all else stays
 pub record CountsMore (n : ℕ) (is_so : Bool) (old new : Watch) : Type 0 where
   pub phasers : new.phasers ≡ old.phasers
   pub tasks : new.tasks ≡ old.tasks
@@ -93,7 +93,7 @@ pub record CountsMore (n : ℕ) (is_so : Bool) (old new : Watch) : Type 0 where
   pub most : new.most ≡ old.most
   pub registered : is_so ≡ true → OneMore (Some n) old.registered new.registered
 
--- where the event was taken, it was gone past
+-- if the event was taken, it was gone past
 pub record IsAfter (e : WorldEvent) (is_so : Bool) (old new : Watch) : Type 0 where
   pub phasers : new.phasers ≡ phasers_after old e
   pub tasks : new.tasks ≡ tasks_after old e

@@ -15,7 +15,7 @@ use trace_model::{EventView, ShortStep, Trace};
 use trace_replay::replay;
 use world_model::WorldReport;
 
-/// The place of the first value that is sent, counted from 1; 0 where none is.
+/// The place of the first value that is sent, counted from 1; 0 if none is.
 fn first_send(trace: &Trace) -> u64 {
     for place in 0..trace.len() {
         if let (_, EventView::Phaser(_, ShortStep::Send(_, _, _))) = trace.entry(place) {

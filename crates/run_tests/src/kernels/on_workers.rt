@@ -37,7 +37,7 @@ fn are_same(plain: &[u32], seen: &[i64]) -> bool {
     plain.iter().map(|x| i64::from(*x)).eq(seen.iter().copied())
 }
 
-/// The stencil by so many workers comes to these lines, and to what one thread comes to; so its
+/// The stencil by so many workers gives these lines, and what one thread gives; so its
 /// command writes them.
 fn stencil_prints<R: Threads + Wait + Sync + Abort>(
     rt: &R,
@@ -73,7 +73,7 @@ fn stencil_prints<R: Threads + Wait + Sync + Abort>(
     Ok(())
 }
 
-/// The pipeline by so many workers comes to these lines, and to what one thread comes to; so its
+/// The pipeline by so many workers gives these lines, and what one thread gives; so its
 /// command writes them.
 fn pipeline_prints<R: Threads + Wait + Sync + Abort>(
     rt: &R,
@@ -109,7 +109,7 @@ fn pipeline_prints<R: Threads + Wait + Sync + Abort>(
     Ok(())
 }
 
-// In two steps the cells 8 4 0 come to 5 4 1, since 20, 16 and 4 are divided by 4, and then to 3 3
+// In two steps the cells 8 4 0 become 5 4 1, since 20, 16 and 4 are divided by 4, and then to 3 3
 // 1, since 14, 14 and 6 are. The root makes 3 phasers, and the tasks are on 2, 3 and 2 of them: 10
 // registrations, and as many drops. In each step each of the 3 tasks signals on its own phaser, and
 // passes all of its own: 3 * 2 signals, and 7 * 2 passes. Each sends 3 values, together 12 at
@@ -126,7 +126,7 @@ fn stencil_three_cells(rt: HostRuntime) -> Result<(), Fail> {
     )
 }
 
-// The items 1 and 2 come to 2 and 3 behind the first stage, to 4 and 5, and to 7 and 8: with those
+// The items 1 and 2 become 2 and 3 behind the first stage, to 4 and 5, and to 7 and 8: with those
 // of the source 3, 5, 9 and 15, in 4 * 2 sends. The root makes 4 phasers, the source is on one, the
 // 3 stages on two each, and the sink on one: 12 registrations, and as many drops. The source takes
 // 2 turns, the stages 2, 3 and 4, since each waits for a phase more, and the sink 5. Source and

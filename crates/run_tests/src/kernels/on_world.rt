@@ -109,7 +109,7 @@ impl<B: Body> Run<B> {
     }
 }
 
-/// What the tasks of this root come to.
+/// What the tasks of this root give.
 fn report_of<B: Body>(alloc: Global, root: B) -> Result<WorldReport, Refusal> {
     let world = World::new(alloc, Limits::default())?;
     let mut seats = Vec::new(alloc);

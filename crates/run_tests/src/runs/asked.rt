@@ -1,5 +1,5 @@
 //! What is asked of a run's trace is answered of the trace that comes back, below and from the count of
-//! events on from which the question has a thread of its own where there are two workers.
+//! events on from which the question has a thread of its own if there are two workers.
 ghost use Rattle.std.specs.Prelude.{◌<◌, ◌≤◌};
 
 use crate::asserted::equal_at;
@@ -34,7 +34,7 @@ const SHORT: &str =
 
 const LONG: &str = r#"{"main":[["new","p","SIG_WAIT",[]],["repeat",682,[["next"],["next"]]]]}"#;
 
-/// What is run, what its trace is asked to follow, how many events it has, and the answer. Where one of
+/// What is run, what its trace is asked to follow, how many events it has, and the answer. If one of
 /// both has a phase more, they part after 1 + 3 · 1363 events.
 const ROWS: [(&str, &str, usize, Result<(), Refusal>); 4] = [
     (SHORT, SHORT, 4093, Ok(())),

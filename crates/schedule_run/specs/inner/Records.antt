@@ -12,7 +12,7 @@ use Rattle.trace_model.specs.Explained.{past, all_follow}
 use Rattle.schedule_run.specs.declared.record.Outcome.{Outcome}
 use Rattle.schedule_run.specs.declared.record.Outcome.TheVariants.{Made, Waits, Refused}
 
--- what an event comes to, by its reply
+-- what becomes of an event, by its reply
 abbrev pub outcome_of : Result Reply Refusal → Outcome
 outcome_of (Err r) = Refused r
 outcome_of (Ok NotYet) = Waits

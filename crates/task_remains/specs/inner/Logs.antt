@@ -26,7 +26,7 @@ IsToldOfStart Told task logs part =
     × IsSeenBy (Told task) part stories
     × ((n : ℕ) → n < length logs → GoesOn (stories n) (story_at logs n))
 
--- where this is supposed, that is told of the task of this part, if the part has its end
+-- if this is supposed, that is told of the task of this part, if the part has its end
 abbrev pub IsToldIn : Type 0 → (ℕ → Seen → Type 0) → List Sight → List Entry → Type 0
 IsToldIn P Told logs part =
     (task : ℕ) → AreOf (log task) part → has_end part ≡ true → ∥ (P → IsToldOfStart Told task logs part) ∥₁

@@ -146,7 +146,7 @@ fn fault_line_fails(rt: HostRuntime) {
     }
 }
 
-/// The job that reads from there comes to this.
+/// The job that reads from there ends so.
 fn job_from<R: Read>(
     rt: &impl Abort,
     alloc: Global,
@@ -195,14 +195,14 @@ fn no_read_after_a_fault(rt: HostRuntime) {
     equal(&rt, reader.calls, 9);
 }
 
-/// How the text is refused, where its line is written to a writer that fails after these calls.
+/// How the text is refused, if its line is written to a writer that fails after these calls.
 fn refused_to(alloc: Global, calls: usize) -> Ending {
     let mut out = Vec::new(alloc);
     let mut faults = FailsAfter { calls };
     ending_on(alloc, b"7", &mut out, &mut faults)
 }
 
-// Where the line can't be written whole, the ending says so.
+// If the line can't be written whole, the ending says so.
 #[test]
 fn line_not_reported(rt: HostRuntime) {
     let line = b"refused 24 BadText at 0\n";
@@ -234,7 +234,7 @@ fn too_long(rt: HostRuntime) -> Result<(), Fail> {
     Ok(())
 }
 
-/// The job on these bytes comes to this.
+/// The job on these bytes ends so.
 fn job_on(rt: &impl Abort, alloc: Global, text: &[u8], wanted: Outcome<'_>) {
     let mut out = Vec::new(alloc);
     let mut faults = Vec::new(alloc);

@@ -1,4 +1,4 @@
-//! The places at which texts are refused, and what is read where they are not.
+//! The places at which texts are refused, and what is read if they are not.
 use crate::asserted::{equal, equal_at};
 use events_text::{EventsFile, read_events};
 use phase_model::{Bound, Call, Op};
@@ -7,7 +7,7 @@ use std::alloc::Global;
 use std::process::Abort;
 use std::test::Fail;
 
-/// The place of the text's first fault; none where it is of the form.
+/// The place of the text's first fault; none if it is of the form.
 fn place_of(alloc: Global, text: &str) -> Result<Option<u64>, Fail> {
     match read_events(alloc, text.as_bytes()) {
         Ok(_) => Ok(None),

@@ -11,7 +11,7 @@ use Rattle.trace_model.specs.declared.kept.Kept.TheVariants as kept
 use Rattle.trace_model.specs.Run.{Entry}
 use Rattle.trace_model.specs.Views.{short_step, short_act, long_event}
 
--- the event, where these are the long ones: a long event is the one at its place
+-- the event, if these are the long ones: a long event is the one at its place
 abbrev pub event_kept : List LongEvent → Kept → TracedEvent
 event_kept long (kept.Phaser n s) = Phaser n (short_step s)
 event_kept long (kept.Finish f e) = Finish f e
@@ -19,7 +19,7 @@ event_kept long (kept.Begin t a) = Begin t (short_act a)
 event_kept long (kept.Fail t n) = Fail t n
 event_kept long (kept.Long place) = long_event (get_or long place (Refuse 0 (Open 0) 0))
 
--- where there are so many long events, each with its ticket
+-- if there are so many long events, each with its ticket
 abbrev pub entries_kept : List LongEvent → List (ℕ × Kept) → List Entry
 entries_kept long ks = map (λ k. (k.0, event_kept long k.1)) ks
 
@@ -32,7 +32,7 @@ IsWithin n _ = ⊤
 abbrev pub AreWithin : ℕ → List (ℕ × Kept) → Type 0
 AreWithin n ks = All (λ k. IsWithin n k.1) ks
 
--- where these are the long events, it is kept as this one
+-- if these are the long events, it is kept as this one
 pub record Keeps (long : List LongEvent) (k : Kept) (e : TracedEvent) : Type 0 where
   pub within : IsWithin (length long) k
   pub is : event_kept long k ≡ e

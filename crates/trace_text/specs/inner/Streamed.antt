@@ -27,7 +27,7 @@ AtEvents text ts = tokens text ≡ begin_object ∷ key (codes "events") ∷ ts
 abbrev pub IsLast : List Token → Data → Type 0
 IsLast ts d = (r : List Token) × (converted of_json (value member_depth ts) ≡ Some (d, r)) × (length r < length ts) × (read_key r ≡ Some (None, []))
 
--- the members with the limits, where they are named, and the version
+-- the members with the limits, if they are named, and the version
 abbrev pub after : Option Data → Data → Members → Members
 after None version before = put (codes "version") version before
 after (Some limits) version before = put (codes "version") version (put (codes "limits") limits before)

@@ -29,7 +29,7 @@ const MEMBER_DEPTH: usize = 126;
 /// How deep an entry of the list of events may nest.
 const ENTRY_DEPTH: usize = 125;
 
-/// Passes the next key, where it is this one.
+/// Passes the next key, if it is this one.
 fn takes_key(reader: &mut Reader<'_>, key: &str) -> bool
     ensures { result ≡ true → read_key reader.old ≡ Some (Some key.now, reader.new) }
 {
@@ -39,7 +39,7 @@ fn takes_key(reader: &mut Reader<'_>, key: &str) -> bool
     }
 }
 
-/// A reader that stands before the events, where they come first.
+/// A reader that stands before the events, if they come first.
 fn at_events<'a>(text: &'a str, scratch: &'a mut Scratch) -> Option<Reader<'a>>
     ensures { IfSome result (λ r. AtEvents text.now r) }
 {
@@ -75,7 +75,7 @@ struct Rest {
     version: Value,
 }
 
-/// What stands after the events, in this order; none where something else does.
+/// What stands after the events, in this order; none if something else does.
 fn rest_of(alloc: Global, reader: &mut Reader<'_>) -> Option<Rest>
     ensures { IfSome result (λ r. IsRest reader.old (option_map view r.limits) (view r.version)) }
 {
@@ -185,8 +185,8 @@ fn entries_of(
     Some(trace)
 }
 
-/// The trace of a text in which the events come first, then the limits, where they are named, and
-/// then the version. None of another text, and where something in it is wrong.
+/// The trace of a text in which the events come first, then the limits, if they are named, and
+/// then the version. None of another text, and if something in it is wrong.
 fn trace_of_text(alloc: Global, text: &str) -> Option<Trace>
     ensures { IfSome result (λ t. form_of (read text.now) ≡ Ok t) }
 {

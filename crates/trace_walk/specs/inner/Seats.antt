@@ -39,7 +39,7 @@ body_handed (acts.Async body pairs) = Some body
 body_handed (acts.AsyncAll body) = Some body
 body_handed _ = None
 
--- a task's seat after an act, where this is who spawns the task by it
+-- a task's seat after an act, if this is who spawns the task by it
 abbrev pub seat_given : {B : Type 0} → Option ℕ → Act B → Option (Seat B) → Option (Seat B)
 seat_given None act before = before
 seat_given (Some u) act before = child_seat act before

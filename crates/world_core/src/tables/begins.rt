@@ -158,7 +158,7 @@ impl Tables {
         }
     }
 
-    /// Begins the act where it is not refused.
+    /// Begins the act if it is not refused.
     fn begin(&mut self, task: TaskNumber, begun: Begun) -> Result<Reply, Refusal>
         ensures answer { result ≡ begin_answer self.old task begun }
         ensures state { self.new ≡ begin_state self.old task begun }

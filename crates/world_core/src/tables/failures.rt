@@ -1,4 +1,4 @@
-//! A task gives up what it is about, and comes to its end.
+//! A task gives up what it is about, and ends.
 ghost use Rattle.std.specs.Prelude.{◌≡◌, ◌≤◌, ◌<◌, ◌==◌, length, take, true, Some, None};
 ghost use Rattle.world_model.specs.PartReplies.{call_for};
 ghost use Rattle.world_model.specs.GivingUp.{done_where, is_reg};
@@ -125,7 +125,7 @@ impl Tables {
     }
 
     #[tactic(auto, using(world_steps::proofs::FailMade::fail_within))]
-    /// Gives up what the task is about, where it may by the refusal of this number.
+    /// Gives up what the task is about, if it may by the refusal of this number.
     fn fail(&mut self, task: TaskNumber, number: u8) -> Result<Reply, Refusal>
         ensures answer { result ≡ done_where (may_fail_by self.old task number) }
         ensures state { self.new ≡ fail_state self.old task number }

@@ -46,7 +46,7 @@ impl Tables {
         line.inner()
     }
 
-    /// What handing on the phaser of a pair is refused by, where the spawn has named others before.
+    /// What handing on the phaser of a pair is refused by, if the spawn has named others before.
     fn may_hand(&self, task: TaskNumber, before: &[Pair], pair: Pair) -> Result<(), Refusal>
         requires { task < length self.now.tasks }
         ensures { result ≡ free_unless (first_refusal (hand_conditions (facts self.now task) (list_any (pair_names pair.phaser) before.now) pair)) }

@@ -18,7 +18,7 @@ use world_model::{Condition, Step, WorldEvent};
 use world_steps::Plan;
 
 impl Tables {
-    /// What the task is about; `None` where it hasn't been spawned.
+    /// What the task is about; `None` if it hasn't been spawned.
     pub(crate) fn condition(&self, task: TaskNumber) -> Option<Condition>
         ensures { (w : List Event) → StandsFor w self.now → result ≡ condition_of task w }
     {
@@ -76,8 +76,8 @@ impl Tables {
         self.kept_next(task)
     }
 
-    /// Whether the task can go on now: some event of its own would be made. It can't where it has
-    /// to wait for others, and where it has ended or was never spawned.
+    /// Whether the task can go on now: some event of its own would be made. It can't if it has
+    /// to wait for others, and if it has ended or was never spawned.
     pub(crate) fn able(&self, task: TaskNumber) -> bool
         ensures { (w : List Event) → StandsFor w self.now → result ≡ is_able self.now.limits w task }
     {
@@ -135,7 +135,7 @@ impl Tables {
         state.signal_would_wait(task, number)
     }
 
-    /// What comes where a pass is due: the single may come first.
+    /// What comes if a pass is due: the single may come first.
     fn turn_event(&self, phaser: PhaserNumber, task: TaskNumber) -> WorldEvent
         ensures { result ≡ turn_event self.now task phaser }
     {

@@ -1,4 +1,4 @@
-//! A task notes that an act of its own is refused, and comes to its end.
+//! A task notes that an act of its own is refused, and ends.
 ghost use Rattle.std.specs.Prelude.{◌≡◌, ◌<◌, length, true};
 ghost use Rattle.world_steps.specs.Kept.{story_at};
 ghost use Rattle.world_model.specs.ActConditions.{free_unless};
@@ -77,7 +77,7 @@ impl Tables {
         }
     }
 
-    /// Ends the task by the refusal of this number, where it may be noted.
+    /// Ends the task by the refusal of this number, if it may be noted.
     fn give_up(&mut self, task: TaskNumber, noted: bool, number: u8) -> Result<Reply, Refusal>
         requires { noted ≡ true → task < length self.old.tasks }
         ensures answer { result ≡ done_where noted }

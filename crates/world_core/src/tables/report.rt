@@ -12,7 +12,7 @@ use std::alloc::Global;
 use world_model::WorldReport;
 
 impl Tables {
-    /// The report of the world: each phaser's history is read once. `Memory` where there is too
+    /// The report of the world: each phaser's history is read once. `Memory` if there is too
     /// little for the lines.
     pub(crate) fn report(&self, alloc: Global) -> Result<WorldReport, Refusal>
         ensures report { (w : List Event) → StandsFor w self.now

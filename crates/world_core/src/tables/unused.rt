@@ -15,7 +15,7 @@ use phase_modes::{Mode, Pair, Phased};
 use task_numbers::{PhaserNumber, TaskNumber};
 use world_records::{KeptPhaser, Task};
 
-/// The least numbers of each kind that aren't in use; where all are, the limit itself, under which
+/// The least numbers of each kind that aren't in use; if all are, the limit itself, under which
 /// an act that names it is refused.
 #[derive(Clone, Copy, Debug, PartialEq, Eq)]
 pub struct Unused {
@@ -25,7 +25,7 @@ pub struct Unused {
 }
 
 impl Tables {
-    /// All phasers of the task, in the order in which it came to them, each in its own mode: what a
+    /// All phasers of the task, in the order in which it got them, each in its own mode: what a
     /// spawn names that hands them all on.
     pub(crate) fn own_pairs(&self, task: TaskNumber) -> Phased
         ensures { (w : List Event) → StandsFor w self.now → result ≡ own_pairs task w }

@@ -15,7 +15,7 @@ impl Task {
         self.ended = true;
     }
 
-    /// Notes that it shut this finish: where that was its innermost one, the one that it had open
+    /// Notes that it shut this finish: if that was its innermost one, the one that it had open
     /// before is innermost now. The shut of finish 0 is the root's end.
     pub fn note_shut(&mut self, finish: FinishNumber, own: TaskNumber, outers: &[Option<u32>])
         requires { finish < length outers.now }

@@ -1,4 +1,4 @@
-//! What a task's record notes where the task gives up what it is about, or what it tried.
+//! What a task's record notes if the task gives up what it is about, or what it tried.
 ghost use Rattle.std.specs.Prelude.{◌≡◌, ◌≤◌, length, take};
 ghost use Rattle.world_steps.specs.inner.Refusals.{given_up};
 ghost use Rattle.world_steps.specs.inner.Failures.{spawn_given_up};

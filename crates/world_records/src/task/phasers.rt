@@ -6,7 +6,7 @@ use super::*;
 use task_numbers::PhaserNumber;
 
 impl Task {
-    /// Whether it may come to another phaser.
+    /// Whether it may be registered on another phaser.
     pub fn has_room(&self) -> bool
         ensures { result ≡ nat_lt (length self.now.phasers) 16 }
     {

@@ -48,7 +48,7 @@ impl Task {
         }
     }
 
-    /// The next event of a task that comes to its end, where it drops this child first.
+    /// The next event of a task that ends, if it drops this child first.
     pub fn ending(&self, own: TaskNumber, child: TaskNumber) -> WorldEvent
         ensures { result ≡ drop_or child (slice_get self.now.left 0)
             (drop_or own (slice_get self.now.phasers 0)

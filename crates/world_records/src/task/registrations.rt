@@ -39,7 +39,7 @@ impl Task {
     }
 }
 
-/// The plan with its next pair behind it: a plan to spawn comes to the pair after that.
+/// The plan with its next pair behind it: a plan to spawn goes on to the pair after that.
 fn to_next_pair(plan: Plan) -> Plan
     ensures { result ≡ to_next_pair plan }
 {

@@ -1,4 +1,4 @@
--- What a world answers and how it changes where a task begins an act, by its state alone.
+-- What a world answers and how it changes if a task begins an act, by its state alone.
 use Rattle.std.specs.Prelude.{ℕ, ◌+◌, Bool, true, false, ◌<◌, ◌==◌, min, if◌then◌else◌, List, [], ◌++◌, length, filter, get_or, Option, Some, None, Result}
 use Rattle.phase_modes.specs.Lists.{is_empty}
 use Rattle.phase_modes.specs.declared.phased.Pair.{Pair}
@@ -45,7 +45,7 @@ abbrev pub shut_begun : List ℕ → TaskState → TaskState
 shut_begun enclosing k =
     record (counted k) { plan = plan.Shutting; left = enclosed enclosing (inner_at k) k.phasers }
 
--- the task comes to its end: this child is dropped from no phaser
+-- the task ends: this child is dropped from no phaser
 abbrev pub end_begun : ℕ → TaskState → TaskState
 end_begun c k = record k { plan = plan.Ending c; left = [] }
 

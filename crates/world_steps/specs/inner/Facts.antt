@@ -14,7 +14,7 @@ use Rattle.world_steps.specs.Kept.{task_at, inner_at, past_in}
 abbrev pub leads : ℕ → List Event → Bool
 leads t h = option_map_or (λ r. r.ahead) (registration t h) false
 
--- a task that is registered now owes a signal where it can signal and isn't ahead
+-- a task that is registered now owes a signal if it can signal and isn't ahead
 abbrev pub owes : ℕ → List Event → Bool
 owes t h = option_map_or (λ r. can_signal r.mode && not r.ahead) (registration t h) false
 

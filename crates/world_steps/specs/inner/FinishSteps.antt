@@ -69,7 +69,7 @@ shut_answer s f =
     then (if all_ended (finish_at s f).past then done_by (said (finish_at s f) Shut) else Ok NotYet)
     else Err NotNow
 
--- a task that comes to its end goes on after the shut of an own finish; else the shut is the last of its act
+-- a task that ends goes on after the shut of an own finish; else the shut is the last of its act
 abbrev pub plan_after_shut : Plan → Option ℕ → Plan
 plan_after_shut (plan.Ending c) (Some g) = plan.Ending c
 plan_after_shut _ _ = plan.Idle

@@ -17,7 +17,7 @@ use Rattle.world_steps.specs.Kept.{task_at, story_at, finish_at, inner_at}
 use Rattle.world_steps.specs.inner.Steps.{may_claim, may_report}
 use Rattle.world_steps.specs.StandsFor.{end_of}
 
--- what comes where a pass is due: the single may come first
+-- what comes if a pass is due: the single may come first
 abbrev pub turn_event : WorldState → ℕ → ℕ → WorldEvent
 turn_event s t n =
     if may_claim (story_at s n) t then Phaser n (Claim t)

@@ -1,4 +1,4 @@
--- What an act of a task is refused by, and what a world becomes where the task notes it by its number: by the state alone.
+-- What an act of a task is refused by, and what a world becomes if the task notes it by its number: by the state alone.
 use Rattle.std.specs.Prelude.{ℕ, Bool, true, false, ◌&&◌, ◌==◌, not, Option, Some, None, Result, Ok, Err}
 use Rattle.phase_modes.specs.declared.reg.Mode.{Mode}
 use Rattle.phase_modes.specs.declared.refusal.Refusal.{Refusal}
@@ -60,7 +60,7 @@ is_noted (Err r) n = number_of r == n && not (n == 22) && not (n == 23)
 abbrev pub refuse_noted : WorldState → ℕ → Tried → ℕ → Bool
 refuse_noted s t a n = is_noted (free_unless (act_refusal s t a)) n
 
--- the task comes to its end, by the refusal of this number; this child is dropped from no phaser
+-- the task ends, by the refusal of this number; this child is dropped from no phaser
 abbrev pub given_up : ℕ → ℕ → TaskState → TaskState
 given_up c n k = record (end_begun c k) { refused = Some n }
 

@@ -47,7 +47,7 @@ register_answer s n q c m = done_by (register_result s n q c m)
 abbrev pub joining : ℕ → TaskState → TaskState
 joining n k = record k { phasers = k.phasers ++ n ∷ [] }
 
--- a plan to spawn comes to its next pair
+-- a plan to spawn goes on to its next pair
 abbrev pub to_next_pair : Plan → Plan
 to_next_pair (plan.Spawning c pairs made) =
     plan.Spawning c pairs (if nat_lt made (length pairs) then made + 1 else made)

@@ -1,4 +1,4 @@
--- What a world answers and how it changes where a task sends a value or looks at one, by its state alone.
+-- What a world answers and how it changes if a task sends a value or looks at one, by its state alone.
 use Rattle.std.specs.Prelude.{ℕ, true, false, Option, Some, None, Result, Ok, Err, ℤ}
 use Rattle.phase_modes.specs.declared.refusal.Refusal.{Refusal}
 use Rattle.phase_modes.specs.Refusal.{first_refusal}
@@ -14,7 +14,7 @@ use Rattle.world_steps.specs.Kept.{task_at, story_at}
 use Rattle.world_steps.specs.inner.Steps.{first_conditions, phaser_called, with_task, done_by, state_by}
 use Rattle.world_steps.specs.inner.Begins.{counted}
 
--- what an act comes to that may be refused before its phaser is asked
+-- what becomes of an act that may be refused before its phaser is asked
 abbrev pub unless_before : {X : Type 0} → Option Refusal → Result X Refusal → Result X Refusal
 unless_before None asked = asked
 unless_before (Some r) asked = Err r

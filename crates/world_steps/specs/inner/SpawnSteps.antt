@@ -13,7 +13,7 @@ use Rattle.world_steps.specs.WorldState.{WorldState}
 use Rattle.world_steps.specs.Kept.{task_at, finish_at, inner_at}
 use Rattle.world_steps.specs.inner.Steps.{done_by, state_by, with_task}
 
--- the plan's next event is to spawn c in finish f, where this is the innermost one
+-- the plan's next event is to spawn c in finish f, if this is the innermost one
 abbrev pub wants_spawn : Plan → ℕ → ℕ → ℕ → Bool
 wants_spawn (plan.Spawning d pairs made) inner f c =
     not (nat_lt made (length pairs)) && (inner == f && d == c)

@@ -46,7 +46,7 @@ abbrev pub unless_refused : Option Refusal → WorldState → WorldState → Wor
 unless_refused None old new = new
 unless_refused (Some r) old new = old
 
--- a task comes to the passes of a turn on these phasers: without phasers the turn is ended
+-- a task goes on to the passes of a turn on these phasers: without phasers the turn is ended
 abbrev pub passing_on : List ℕ → TaskState → TaskState
 passing_on [] k = record k { plan = plan.Idle; left = []; clock = min (k.clock + 1) 4294967295 }
 passing_on (n ∷ ns) k = record k { plan = plan.Turning; left = n ∷ ns }
@@ -85,7 +85,7 @@ wants_signal _ left n x = false
 abbrev pub is_to_signal : TaskState → ℕ → Option ℕ → Bool
 is_to_signal k n x = wants_signal k.plan k.left n x
 
--- after a signal: the next one, or where it was the last one, the passes of a turn or nothing
+-- after a signal: the next one, or if it was the last one, the passes of a turn or nothing
 abbrev pub to_passes : List ℕ → TaskState → TaskState
 to_passes [] k = record k { plan = plan.Idle; left = [] }
 to_passes (n ∷ ns) k = record k { plan = plan.Turning; left = n ∷ ns }
@@ -155,7 +155,7 @@ may_claim s t = is_permitted s.limits s.terms s.past (Claimed t)
 abbrev pub may_report : Story → ℕ → Bool
 may_report s t = is_permitted s.limits s.terms s.past (Reported t)
 
--- a pass, a claim and a report of an act under way are asked of the phaser where they are what comes next
+-- a pass, a claim and a report of an act under way are asked of the phaser if they are what comes next
 abbrev pub pass_asked : WorldState → ℕ → ℕ → Bool
 pass_asked s n t =
     is_to_pass (task_at s t) n && not (may_claim (story_at s n) t) && not (may_report (story_at s n) t)
@@ -178,7 +178,7 @@ reply_by_pass (Ok (Claims i)) = Ok Done
 reply_by_pass (Ok Waits) = Ok NotYet
 reply_by_pass (Err r) = Err r
 
--- after a pass: the next one, or where it was the last one, the turn is ended
+-- after a pass: the next one, or if it was the last one, the turn is ended
 abbrev pub note_pass : List ℕ → TaskState → TaskState
 note_pass (m ∷ n ∷ ns) k = record k { left = n ∷ ns }
 note_pass (m ∷ []) k = record k { plan = plan.Idle; left = []; clock = min (k.clock + 1) 4294967295 }

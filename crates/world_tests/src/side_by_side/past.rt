@@ -130,7 +130,7 @@ pub(super) fn is_live(events: &[WorldEvent], phaser: PhaserNumber, task: u32) ->
     joined && !events.iter().any(|event| *event == left)
 }
 
-/// Adds the phaser on which the event registers the task, where it still is.
+/// Adds the phaser on which the event registers the task, if it still is.
 fn add_phaser(
     list: &mut Vec<u32>,
     events: &[WorldEvent],
@@ -146,7 +146,7 @@ fn add_phaser(
     Ok(())
 }
 
-/// The phasers on which the task is registered now, in the order in which it came to them.
+/// The phasers on which the task is registered now, in the order in which it got them.
 pub(super) fn phasers_of(
     events: &[WorldEvent],
     task: u32,
@@ -159,7 +159,7 @@ pub(super) fn phasers_of(
     Ok(list)
 }
 
-/// Adds the finish that the task opens by the event, where it is still open.
+/// Adds the finish that the task opens by the event, if it is still open.
 fn add_finish(
     list: &mut Vec<u32>,
     events: &[WorldEvent],

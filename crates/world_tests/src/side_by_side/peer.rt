@@ -88,7 +88,7 @@ fn unmade_phasers(alloc: Global, limits: Limits) -> Result<Vec<PhaserState>, Ref
     Ok(phasers)
 }
 
-/// A further phaser; `NotNow` where the limits are none.
+/// A further phaser; `NotNow` if the limits are none.
 fn add_unmade(
     phasers: &mut Vec<PhaserState>,
     alloc: Global,
@@ -110,7 +110,7 @@ fn nothing_due(alloc: Global, limits: Limits) -> Result<Vec<Vec<WorldEvent>>, Re
     Ok(due)
 }
 
-/// Where the step makes the phaser, it begins anew with the step's terms.
+/// If the step makes the phaser, it begins anew with the step's terms.
 fn renew(
     state: &mut PhaserState,
     alloc: Global,
@@ -157,7 +157,7 @@ impl Plain {
         due.first().copied()
     }
 
-    /// The event that continues the task's act: where a pass is due, the single may come first.
+    /// The event that continues the task's act: if a pass is due, the single may come first.
     pub(super) fn next_event(&self, task: u32) -> Option<WorldEvent> {
         let first = self.first_due(task)?;
         if let WorldEvent::Phaser(phaser, Step::Pass(_)) = first

@@ -9,11 +9,11 @@ use crate::asserted::equal;
 pub(super) enum Line {
     /// The phaser had so many phases.
     Phaser(u32, u32),
-    /// The phaser's first accumulator, a sum, came to this in the phase.
+    /// The phaser's first accumulator, a sum, folded to this in the phase.
     Sum(u32, u32, i64),
     /// Something else of the phaser's.
     Fold(u32, FoldLine),
-    /// The task ended, by the refusal of this number where one is given.
+    /// The task ended, by the refusal of this number if one is given.
     Task(u32, Option<u8>),
     /// So many tasks were spawned in the finish.
     Finish(u32, u32),

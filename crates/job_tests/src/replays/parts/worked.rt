@@ -19,7 +19,7 @@ fn within(finish: u32, event: FinishEvent) -> TracedEvent {
     TracedEvent::Finish(finish, event)
 }
 
-/// What replaying the trace of these entries comes to.
+/// What replaying the trace of these entries gives.
 fn replayed(alloc: Global, entries: &[Entry]) -> Result<Result<WorldReport, Refusal>, Fail> {
     let trace = trace_of(alloc, entries)?;
     Ok(replay(alloc, &trace))
@@ -38,7 +38,7 @@ fn has_lines(rt: &impl Abort, alloc: Global, entries: &[Entry], lines: &str) -> 
     Ok(())
 }
 
-/// The place at which a trace is first at fault; none where it is explained.
+/// The place at which a trace is first at fault; none if it is explained.
 fn fault_of(alloc: Global, entries: &[Entry]) -> Result<Option<u64>, Fail> {
     match replayed(alloc, entries)? {
         Ok(_) => Ok(None),
