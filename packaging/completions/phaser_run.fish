@@ -1,0 +1,21 @@
+# fish completion of phaser_run
+
+complete -c phaser_run -n __fish_use_subcommand -f -a events -d 'Apply the calls of an events file to one phaser'
+complete -c phaser_run -n __fish_use_subcommand -f -a schedule -d 'Run a program of tasks without threads'
+complete -c phaser_run -n __fish_use_subcommand -f -a run -d 'Run a program of tasks on threads'
+complete -c phaser_run -n __fish_use_subcommand -f -a replay -d 'Make the events of a trace again'
+complete -c phaser_run -n __fish_use_subcommand -f -a certify -d 'Say whether every run of a program prints the same report'
+complete -c phaser_run -n __fish_use_subcommand -f -a stencil -d 'Run a stencil over a row of cells on threads'
+complete -c phaser_run -n __fish_use_subcommand -f -a pipeline -d 'Run a pipeline of stages on threads'
+complete -c phaser_run -n __fish_use_subcommand -l version -s V -d 'Print version'
+complete -c phaser_run -l help -s h -d 'Print help'
+
+complete -c phaser_run -n '__fish_seen_subcommand_from schedule' -l picks -x -d 'The tasks that are picked first'
+complete -c phaser_run -n '__fish_seen_subcommand_from schedule run' -l trace -r -d 'Write the trace into this file'
+complete -c phaser_run -n '__fish_seen_subcommand_from run stencil pipeline' -l workers -x -d 'How many threads, 1 to 16'
+complete -c phaser_run -n '__fish_seen_subcommand_from run' -l certain -d 'Only if every run prints the same'
+complete -c phaser_run -n '__fish_seen_subcommand_from replay' -l upgrade -r -d 'Write the trace as version 2 into this file'
+complete -c phaser_run -n '__fish_seen_subcommand_from stencil' -l first -x -d 'The first values of the cells'
+complete -c phaser_run -n '__fish_seen_subcommand_from stencil' -l steps -x -d 'How many steps, 0 to 100'
+complete -c phaser_run -n '__fish_seen_subcommand_from pipeline' -l stages -x -d 'How many stages, 1 to 15'
+complete -c phaser_run -n '__fish_seen_subcommand_from pipeline' -l items -x -d 'How many items, 0 to 100'

@@ -1,0 +1,78 @@
+/* The functions of the headers as symbols of a shared library, for those who can't include C: Python, Go, C#, dlopen.
+ * paldwosk_so_NAME is paldwosk_NAME of the header: it takes, answers and asks for the same. A mode, an operator, an
+ * answer and a status are numbers of 32 bits.
+ *
+ * Memory for a barrier has to be zeroed, aligned to 16 and paldwosk_so_barrier_size() bytes long. A task is a
+ * pointer and a number of 64 bits. A barrier is used by these functions alone, or by those of one header alone.
+ *
+ * Tested by tests/packages, not proved. */
+#include "paldwosk_barrier.h"
+
+#pragma GCC visibility push(default)
+
+size_t paldwosk_so_barrier_size(void) { return sizeof(paldwosk_barrier); }
+
+paldwosk_answer paldwosk_so_barrier_new(paldwosk_barrier *barrier, uint32_t bound, const paldwosk_operator *operators,
+                                        size_t count) {
+  return paldwosk_barrier_new(barrier, bound, operators, count);
+}
+
+paldwosk_answer paldwosk_so_barrier_new_traced(paldwosk_barrier *barrier, uint32_t bound,
+                                               const paldwosk_operator *operators, size_t count) {
+  return paldwosk_barrier_new_traced(barrier, bound, operators, count);
+}
+
+paldwosk_answer paldwosk_so_barrier_free(paldwosk_barrier *barrier) { return paldwosk_barrier_free(barrier); }
+
+paldwosk_answer paldwosk_so_barrier_make(paldwosk_barrier *barrier, paldwosk_mode mode, paldwosk_task *task) {
+  return paldwosk_barrier_make(barrier, mode, task);
+}
+
+paldwosk_answer paldwosk_so_barrier_join(const paldwosk_task *parent, paldwosk_mode mode, paldwosk_task *task) {
+  return paldwosk_barrier_join(parent, mode, task);
+}
+
+paldwosk_answer paldwosk_so_barrier_next(const paldwosk_task *task, uint64_t *phase) {
+  return paldwosk_barrier_next(task, phase);
+}
+
+paldwosk_answer paldwosk_so_barrier_signal(const paldwosk_task *task) { return paldwosk_barrier_signal(task); }
+
+paldwosk_answer paldwosk_so_barrier_wait(const paldwosk_task *task, uint64_t *phase) {
+  return paldwosk_barrier_wait(task, phase);
+}
+
+paldwosk_answer paldwosk_so_barrier_send(const paldwosk_task *task, uint32_t accumulator, int32_t value) {
+  return paldwosk_barrier_send(task, accumulator, value);
+}
+
+paldwosk_answer paldwosk_so_barrier_look(const paldwosk_task *task, uint32_t accumulator, int64_t *value) {
+  return paldwosk_barrier_look(task, accumulator, value);
+}
+
+paldwosk_answer paldwosk_so_barrier_single(const paldwosk_task *task, uint32_t number, void (*run)(void *data),
+                                           void *data, uint64_t *phase) {
+  return paldwosk_barrier_single(task, number, run, data, phase);
+}
+
+paldwosk_answer paldwosk_so_barrier_leave(const paldwosk_task *task) { return paldwosk_barrier_leave(task); }
+
+paldwosk_answer paldwosk_so_barrier_spin(paldwosk_barrier *barrier, uint32_t most) {
+  return paldwosk_barrier_spin(barrier, most);
+}
+
+paldwosk_answer paldwosk_so_barrier_trace(paldwosk_barrier *barrier, char *text, size_t room, size_t *written) {
+  return paldwosk_barrier_trace(barrier, text, room, written);
+}
+
+int paldwosk_so_barrier_trace_ended(paldwosk_barrier *barrier) { return paldwosk_barrier_trace_ended(barrier); }
+
+paldwosk_status paldwosk_so_replay(const char *trace, size_t length, char *report, size_t room, size_t *written) {
+  return paldwosk_replay(trace, length, report, room, written);
+}
+
+paldwosk_status paldwosk_so_events(const char *file, size_t length, char *lines, size_t room, size_t *written) {
+  return paldwosk_events(file, length, lines, room, written);
+}
+
+#pragma GCC visibility pop
