@@ -33,8 +33,19 @@
 #ifndef PALDWOSK_H
 #define PALDWOSK_H
 
+#include "paldwosk_version.h"
+
 #include <stddef.h>
 #include <stdint.h>
+
+/* A compiler warns of a call whose answer isn't looked at. */
+#if defined __cplusplus && __cplusplus >= 201703L
+#define PALDWOSK_MUST_CHECK [[nodiscard]]
+#elif defined __GNUC__
+#define PALDWOSK_MUST_CHECK __attribute__((warn_unused_result))
+#else
+#define PALDWOSK_MUST_CHECK
+#endif
 
 #ifdef __cplusplus
 extern "C" {
@@ -90,6 +101,91 @@ typedef enum paldwosk_answer {
   PALDWOSK_BAD_BOUND = 71,     /* the bound is over 65,536; for threads that wait also 0 */
   PALDWOSK_BAD_TICKETS = 72    /* there aren't as many tickets as events */
 } paldwosk_answer;
+
+/* What an answer means and what to do about it, in one sentence for a person, beginning with its name and number: of
+ * PALDWOSK_REGS_FULL "RegsFull (14): as many tasks are registered as the limits allow; let one leave first". It is never
+ * NULL, also if no answer has the number. It is nobody's to free, and may be asked for by any thread at any time.
+ *
+ *     fprintf(stderr, "the barrier wasn't made: %s\n", paldwosk_answer_text(answer)); */
+static inline const char *paldwosk_answer_text(paldwosk_answer answer) {
+  switch (answer) {
+    case PALDWOSK_DONE: return "Done (0): the call was done; go on";
+    case PALDWOSK_NOT_REGISTERED: return "NotRegistered (1): the task isn't registered, or it has left; join it first";
+    case PALDWOSK_NO_SIGNAL:
+      return "NoSignal (2): the task's mode can't signal; join the task with SIG, SIG_WAIT or SINGLE, or have it wait";
+    case PALDWOSK_NO_WAIT: return "NoWait (3): the task's mode can't wait; join the task with WAIT, SIG_WAIT or SINGLE";
+    case PALDWOSK_NO_SINGLE: return "NoSingle (4): the task's mode has no singles; join the task with SINGLE";
+    case PALDWOSK_ALREADY_SIGNALLED:
+      return "AlreadySignalled (5): the task has signalled this phase; let it wait before it signals again";
+    case PALDWOSK_NOT_SIGNALLED:
+      return "NotSignalled (6): the task hasn't signalled this phase; let it signal before it waits";
+    case PALDWOSK_SINGLE_MISMATCH:
+      return "SingleMismatch (7): another single is proposed in this phase; propose that number, or signal without one";
+    case PALDWOSK_ONE_PHASER_ONLY:
+      return "OnePhaserOnly (8): a single asks for exactly one registration; leave the other phasers first";
+    case PALDWOSK_NO_ACCUMULATOR:
+      return "NoAccumulator (9): the phaser has no accumulator of that index; "
+             "name its operator when you make the phaser";
+    case PALDWOSK_NO_PHASE_YET:
+      return "NoPhaseYet (10): the task has passed no phase yet; let it pass one before it looks";
+    case PALDWOSK_MORE_THAN_PARENT:
+      return "MoreThanParent (11): the child's mode isn't within its parent's; give the parent more, or the child less";
+    case PALDWOSK_OUTSIDE_SCOPE:
+      return "OutsideScope (12): the phaser wasn't made in the innermost finish; register on it from its own finish";
+    case PALDWOSK_REGISTERED_TWICE:
+      return "RegisteredTwice (13): the child was registered before; give it a number that is new";
+    case PALDWOSK_REGS_FULL:
+      return "RegsFull (14): as many tasks are registered as the limits allow; let one leave first";
+    case PALDWOSK_HISTORY_FULL:
+      return "HistoryFull (15): the history has no room for the event; raise its limit, or make a new phaser";
+    case PALDWOSK_PHASERS_FULL:
+      return "PhasersFull (16): there are as many phasers as the limits allow; raise the limit, or use fewer";
+    case PALDWOSK_TASKS_FULL:
+      return "TasksFull (17): the task number is at the limit; raise the limit, or use smaller numbers";
+    case PALDWOSK_FINISHES_FULL:
+      return "FinishesFull (18): there are as many finishes as the limits allow; raise the limit";
+    case PALDWOSK_ACTS_FULL:
+      return "ActsFull (19): the task has made as many acts as the limits allow; raise the limit";
+    case PALDWOSK_FINISH_OPEN: return "FinishOpen (20): the task has an open finish; shut it before the task ends";
+    case PALDWOSK_NO_FINISH: return "NoFinish (21): the task has no open finish; open one before it shuts one";
+    case PALDWOSK_NOT_NOW:
+      return "NotNow (22): the call has no place at this moment; wait until the task's other call or single is over";
+    case PALDWOSK_MEMORY: return "Memory (23): memory was refused; free some, or ask for less";
+    case PALDWOSK_BAD_TEXT: return "BadText (24): the text isn't of the form; compare it with docs/formats.md";
+    case PALDWOSK_NOT_EXPLAINED:
+      return "NotExplained (25): an event of the trace can't follow those before it; look at the place that is named";
+    case PALDWOSK_SHARES_DIFFER:
+      return "SharesDiffer (26): what was gathered on threads differs; report it as a fault of the library";
+    case PALDWOSK_NOT_YET: return "NotYet (32): nothing has changed; ask again after another task's call";
+    case PALDWOSK_CLAIMED:
+      return "Claimed (33): the task is to run the single; run it, report it done, and ask to pass again";
+    case PALDWOSK_NOTHING: return "Nothing (34): there is no least and no greatest of no values; go on without one";
+    case PALDWOSK_NOT_KEPT:
+      return "NotKept (35): what is asked for isn't kept; "
+             "make a traced barrier, or ask of another phase or accumulator";
+    case PALDWOSK_TOO_GREAT:
+      return "TooGreat (36): the fold isn't within an int64_t; send fewer or smaller values in a phase";
+    case PALDWOSK_NULL:
+      return "Null (64): a pointer is NULL that may not be, or the task is zeroed; pass the address of a variable";
+    case PALDWOSK_CLOSED:
+      return "Closed (65): there is no phaser, or it was freed, or a fork has left it behind; make one first";
+    case PALDWOSK_OPEN: return "Open (66): there is a phaser already; free it before you make another there";
+    case PALDWOSK_SHORT:
+      return "Short (67): the room is too small; call again with as much as the call says that it takes";
+    case PALDWOSK_BAD_MODE: return "BadMode (68): no mode has this number; use one of the four of paldwosk_mode";
+    case PALDWOSK_BAD_LIMITS:
+      return "BadLimits (69): a limit isn't within its range; begin with PALDWOSK_DEFAULT_LIMITS";
+    case PALDWOSK_BAD_OPERATORS:
+      return "BadOperators (70): no operator has one of the numbers, or there are more than four; "
+             "use those of paldwosk_operator";
+    case PALDWOSK_BAD_BOUND:
+      return "BadBound (71): the bound is over 65,536, or 0 for threads that wait; "
+             "take 2 if each task signals and waits";
+    case PALDWOSK_BAD_TICKETS:
+      return "BadTickets (72): there aren't as many tickets as events; draw one for each event";
+  }
+  return "no answer has this number; compare the versions of the header and of the archive";
+}
 
 /* What a task may do on a phaser. */
 typedef enum paldwosk_mode {
@@ -227,6 +323,7 @@ static inline paldwosk_status paldwosk_events(const char *file, size_t length, c
 /* Makes a phaser that nobody has made yet: of these limits, with an accumulator for each of at most four operators, and
  * with a bound of 1 to 65,536 phases, or 0 for none. It takes all memory that the phaser will ever need. Answers, in this
  * order: OPEN, BAD_LIMITS, BAD_OPERATORS, BAD_BOUND, MEMORY. On DONE the phaser is to be freed by paldwosk_free. */
+PALDWOSK_MUST_CHECK
 static inline paldwosk_answer paldwosk_new(paldwosk_phaser *phaser, const paldwosk_limits *limits,
                                            const paldwosk_operator *operators, size_t count, uint32_t bound) {
   uint32_t numbers[4] = {0, 0, 0, 0};
@@ -242,12 +339,14 @@ static inline void paldwosk_free(paldwosk_phaser *phaser) {
 }
 
 /* The task makes the phaser, and is registered on it. NOT_NOW, TASKS_FULL. */
+PALDWOSK_MUST_CHECK
 static inline paldwosk_answer paldwosk_make(paldwosk_phaser *phaser, uint32_t task, paldwosk_mode mode) {
   return phaser ? (paldwosk_answer)phaser_c_make(phaser, task, (uint32_t)mode) : PALDWOSK_NULL;
 }
 
 /* The parent registers the child at its own phase. NOT_REGISTERED, MORE_THAN_PARENT, TASKS_FULL, REGISTERED_TWICE,
  * REGS_FULL, HISTORY_FULL. */
+PALDWOSK_MUST_CHECK
 static inline paldwosk_answer paldwosk_register(paldwosk_phaser *phaser, uint32_t parent, uint32_t child,
                                                 paldwosk_mode mode) {
   return phaser ? (paldwosk_answer)phaser_c_register(phaser, parent, child, (uint32_t)mode) : PALDWOSK_NULL;
@@ -255,29 +354,34 @@ static inline paldwosk_answer paldwosk_register(paldwosk_phaser *phaser, uint32_
 
 /* The task signals its phase. NOT_REGISTERED, NO_SIGNAL, ALREADY_SIGNALLED, then NOT_YET on a bounded phaser, then
  * HISTORY_FULL. */
+PALDWOSK_MUST_CHECK
 static inline paldwosk_answer paldwosk_signal(paldwosk_phaser *phaser, uint32_t task) {
   return phaser ? (paldwosk_answer)phaser_c_signal(phaser, task) : PALDWOSK_NULL;
 }
 
 /* The task signals, and proposes the single of this number. As paldwosk_signal, with NO_SINGLE after NO_SIGNAL, and
  * SINGLE_MISMATCH after ALREADY_SIGNALLED. */
+PALDWOSK_MUST_CHECK
 static inline paldwosk_answer paldwosk_signal_single(paldwosk_phaser *phaser, uint32_t task, uint32_t number) {
   return phaser ? (paldwosk_answer)phaser_c_signal_single(phaser, task, number) : PALDWOSK_NULL;
 }
 
 /* The task asks to end its turn. On DONE *number is the phase that it passed, on CLAIMED the number of the single that
  * it runs; else it isn't written. NOT_REGISTERED, NOT_SIGNALLED, then NOT_YET, then HISTORY_FULL. */
+PALDWOSK_MUST_CHECK
 static inline paldwosk_answer paldwosk_pass(paldwosk_phaser *phaser, uint32_t task, uint32_t *number) {
   return phaser && number ? (paldwosk_answer)phaser_c_pass(phaser, task, number) : PALDWOSK_NULL;
 }
 
 /* The task reports the single done that it claimed. NOT_REGISTERED, NOT_NOW. */
+PALDWOSK_MUST_CHECK
 static inline paldwosk_answer paldwosk_single_done(paldwosk_phaser *phaser, uint32_t task) {
   return phaser ? (paldwosk_answer)phaser_c_single_done(phaser, task) : PALDWOSK_NULL;
 }
 
 /* The task sends a value to an accumulator, for the phase that it hasn't signalled yet. NOT_REGISTERED, NO_SIGNAL,
  * NO_ACCUMULATOR, HISTORY_FULL. */
+PALDWOSK_MUST_CHECK
 static inline paldwosk_answer paldwosk_send(paldwosk_phaser *phaser, uint32_t task, uint32_t accumulator,
                                             int32_t value) {
   uint8_t index = accumulator < 255 ? (uint8_t)accumulator : 255; /* there are four at most */
@@ -286,6 +390,7 @@ static inline paldwosk_answer paldwosk_send(paldwosk_phaser *phaser, uint32_t ta
 
 /* What an accumulator holds of the phase before the task's own: on DONE *value is it; else it isn't written. NOTHING if
  * there is no least and no greatest. NOT_REGISTERED, NO_WAIT, NO_ACCUMULATOR, NO_PHASE_YET, HISTORY_FULL. */
+PALDWOSK_MUST_CHECK
 static inline paldwosk_answer paldwosk_look(paldwosk_phaser *phaser, uint32_t task, uint32_t accumulator,
                                             int64_t *value) {
   uint8_t index = accumulator < 255 ? (uint8_t)accumulator : 255;
@@ -293,22 +398,26 @@ static inline paldwosk_answer paldwosk_look(paldwosk_phaser *phaser, uint32_t ta
 }
 
 /* The task is dropped from the phaser. NOT_REGISTERED, NOT_NOW if it proposed a single that isn't done. */
+PALDWOSK_MUST_CHECK
 static inline paldwosk_answer paldwosk_drop(paldwosk_phaser *phaser, uint32_t task) {
   return phaser ? (paldwosk_answer)phaser_c_drop(phaser, task) : PALDWOSK_NULL;
 }
 
 /* Whether each task that is registered and can signal has signalled the phase: *closed is 1 or 0. */
+PALDWOSK_MUST_CHECK
 static inline paldwosk_answer paldwosk_is_closed(paldwosk_phaser *phaser, uint32_t phase, uint32_t *closed) {
   return phaser && closed ? (paldwosk_answer)phaser_c_is_closed(phaser, phase, closed) : PALDWOSK_NULL;
 }
 
 /* Whether an event that registers nobody and proposes nothing has no room in the history: *full is 1 or 0. */
+PALDWOSK_MUST_CHECK
 static inline paldwosk_answer paldwosk_is_full(paldwosk_phaser *phaser, uint32_t *full) {
   return phaser && full ? (paldwosk_answer)phaser_c_is_full(phaser, full) : PALDWOSK_NULL;
 }
 
 /* What the values sent to an accumulator for a closed phase fold to; of a phase that isn't closed, what was folded so far.
  * On DONE *value is it; else it isn't written. NOTHING, NOT_KEPT. */
+PALDWOSK_MUST_CHECK
 static inline paldwosk_answer paldwosk_fold_at(paldwosk_phaser *phaser, uint32_t accumulator, uint32_t phase,
                                                int64_t *value) {
   uint8_t index = accumulator < 255 ? (uint8_t)accumulator : 255;
@@ -316,11 +425,13 @@ static inline paldwosk_answer paldwosk_fold_at(paldwosk_phaser *phaser, uint32_t
 }
 
 /* How many comparisons of task numbers the last call made that changes the phaser. */
+PALDWOSK_MUST_CHECK
 static inline paldwosk_answer paldwosk_compared(paldwosk_phaser *phaser, uint32_t *count) {
   return phaser && count ? (paldwosk_answer)phaser_c_compared(phaser, count) : PALDWOSK_NULL;
 }
 
 /* How many events the history has. */
+PALDWOSK_MUST_CHECK
 static inline paldwosk_answer paldwosk_event_count(paldwosk_phaser *phaser, uint32_t *count) {
   return phaser && count ? (paldwosk_answer)phaser_c_event_count(phaser, count) : PALDWOSK_NULL;
 }
@@ -331,6 +442,7 @@ static inline paldwosk_answer paldwosk_event_count(paldwosk_phaser *phaser, uint
  * of all its phasers, finishes and tasks together, by ticket (docs/checking.md): the events of a phaser alone are no
  * run. No NUL is added; the room and *written are as for paldwosk_replay. Answers, in this order: CLOSED, BAD_TICKETS,
  * MEMORY, SHORT. */
+PALDWOSK_MUST_CHECK
 static inline paldwosk_answer paldwosk_history_text(paldwosk_phaser *phaser, uint32_t number, const uint64_t *tickets,
                                                     size_t count, char *text, size_t room, size_t *written) {
   uint64_t none = 0;

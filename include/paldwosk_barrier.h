@@ -3,16 +3,20 @@
  *
  *     paldwosk_barrier barrier = PALDWOSK_NO_BARRIER;
  *     paldwosk_task first = PALDWOSK_NO_TASK, second = PALDWOSK_NO_TASK;
- *     paldwosk_barrier_new(&barrier, 2, NULL, 0);
- *     paldwosk_barrier_make(&barrier, PALDWOSK_SIG_WAIT, &first);
- *     paldwosk_barrier_join(&first, PALDWOSK_SIG_WAIT, &second);
- *     .. and in the thread of each:  paldwosk_barrier_next(&task, NULL);  ..  paldwosk_barrier_leave(&task);
- *     paldwosk_barrier_free(&barrier);
+ *     must(paldwosk_barrier_new(&barrier, 2, NULL, 0));
+ *     must(paldwosk_barrier_make(&barrier, PALDWOSK_SIG_WAIT, &first));
+ *     must(paldwosk_barrier_join(&first, PALDWOSK_SIG_WAIT, &second));
+ *     .. and in the thread of each:  must(paldwosk_barrier_next(&task, NULL));  ..  must(paldwosk_barrier_leave(&task));
+ *     must(paldwosk_barrier_free(&barrier));
+ *
+ * Each call answers a paldwosk_answer, and a compiler warns if it isn't looked at. Here that is for `must`, which the
+ * programs of examples/linked have.
  *
  * WHAT IS PROVED. The archive's functions phaser_c_waiting_.. make every decision: which tasks a call frees, with which
  * answer, in which order. They let no task go on too early, and a task that waits after a call still has to wait.
  * NOT PROVED, but tested by tests/waiting, is what this header adds: a mutex round each of these calls, and threads
- * that sleep and are woken. Nor is the trace that it writes proved; a replay judges it.
+ * that sleep and are woken. So is what it notes of each task, to say who is missing. Nor is the trace that it writes
+ * proved; a replay judges it.
  *
  * WHAT IT NEEDS. gcc or clang, C11 or C++17, and the threads of POSIX. -std=c11 does: nothing has to be defined
  * before it, and it defines nothing that changes what other headers declare. Link what paldwosk.h asks for, and
@@ -22,14 +26,22 @@
  *
  * WHAT YOU OWE, beside what stands at the head of paldwosk.h:
  *
- *   - A paldwosk_barrier is zeroed before its first use, is never moved, and is only passed to these functions.
- *     paldwosk_barrier_new and paldwosk_barrier_free don't overlap with other calls on it.
+ *   - A paldwosk_barrier is zeroed before its first use, or it is made by paldwosk_barrier_init. It is never moved, and
+ *     is only passed to these functions. Making and freeing it don't overlap with other calls on it.
  *   - One thread at a time makes calls for a task. (While the task waits, a second thread's signal,
  *     wait, next or single is answered PALDWOSK_NOT_NOW; its send, look, join and leave are carried out.)
  *   - A thread that has a task goes on with it or leaves; else the others wait for it. A thread that ends doesn't
  *     leave by itself.
  *   - No call is made from a signal handler, or by a thread that may be cancelled asynchronously. A call takes up to
  *     8 KB of stack.
+ *
+ * IF A PROGRAM HANGS. Run it with PALDWOSK_WATCH=SECONDS in the environment, from 1 to 86,400. A thread that waits for
+ * longer than that writes a line to standard error, once for each wait:
+ *
+ *     paldwosk: task 0 waits for more than 5 s; waiting: 0 (phase 3), 2 (phase 3); missing: 1
+ *
+ * It names at most 16 tasks of each kind, and how many more there are. The variable is read when a barrier is made. A
+ * watched thread doesn't spin.
  *
  * CANCELLATION AND FORK. No call is a cancellation point, also not while it waits. A thread that may be cancelled
  * elsewhere leaves by a cleanup handler of its own (pthread_cleanup_push). In a forked child each call on a barrier
@@ -50,6 +62,7 @@
 #include <pthread.h>
 #include <sched.h>
 #include <stdlib.h>
+#include <time.h>
 #include <unistd.h>
 
 #if defined __linux__ && !defined PALDWOSK_PORTABLE
@@ -67,6 +80,7 @@ extern "C" {
 long syscall(long number, ...); /* -std=c11 hides it */
 #endif
 
+struct paldwosk_member;
 struct paldwosk_sleeper;
 struct paldwosk_trace;
 
@@ -83,6 +97,9 @@ typedef struct paldwosk_barrier {
   struct paldwosk_sleeper *first; /* the waiting calls, the earliest in front */
   struct paldwosk_sleeper **last; /* the place of the next of them */
   struct paldwosk_trace *trace;   /* NULL if none is kept */
+  struct paldwosk_member *members; /* the registered tasks, by their numbers */
+  uint32_t bound;
+  uint32_t watch;                 /* after how many seconds a thread tells that it waits; 0: it never does */
   uint32_t to_wake;               /* bits of sleepers that were freed, and are to be woken */
   uint32_t coming;                /* how many run a single, and will be back */
   uint64_t claimer;               /* the task that claimed a single last */
@@ -406,11 +423,138 @@ static inline struct paldwosk_sleeper *paldwosk_take_asking(paldwosk_barrier *ba
   return paldwosk_take(barrier, place);
 }
 
+/* ---- Who is registered, and where each task stands. The core knows, but isn't asked: it has no export that tells. All
+ * this is with the lock. What a waiting call has done so far isn't noted. It follows from the list of sleepers. */
+
+enum { PALDWOSK_MOST_MEMBERS = 256, PALDWOSK_MEMBER_PLACES = 512 };
+
+/* A registered task, in the first place that is free from its number on. */
+struct paldwosk_member {
+  uint64_t number;
+  uint64_t passes : 60, mode : 2, is_there : 1;
+  uint64_t is_ahead : 1; /* it has signalled since its last pass, by a call that is over */
+};
+
+/* The place of this task, or the free one that it would have. Half of the places are free. */
+static inline struct paldwosk_member *paldwosk_member_of(paldwosk_barrier *barrier, uint64_t number) {
+  size_t at = number % PALDWOSK_MEMBER_PLACES;
+  while (barrier->members[at].is_there && barrier->members[at].number != number) at = (at + 1) % PALDWOSK_MEMBER_PLACES;
+  return &barrier->members[at];
+}
+
+/* Takes a task out. Those behind it move up, if else a free place came before them. */
+static inline void paldwosk_remove_member(paldwosk_barrier *barrier, uint64_t number) {
+  struct paldwosk_member *members = barrier->members;
+  size_t hole = (size_t)(paldwosk_member_of(barrier, number) - members);
+  for (size_t at = (hole + 1) % PALDWOSK_MEMBER_PLACES; members[at].is_there; at = (at + 1) % PALDWOSK_MEMBER_PLACES) {
+    size_t from_first = (at - members[at].number) % PALDWOSK_MEMBER_PLACES;
+    if (from_first < (at - hole) % PALDWOSK_MEMBER_PLACES) continue;
+    members[hole] = members[at];
+    hole = at;
+  }
+  members[hole].is_there = 0;
+  barrier->tasks--;
+}
+
+static inline int paldwosk_can_signal(const struct paldwosk_member *member) { return member->mode != PALDWOSK_WAIT; }
+
+static inline int paldwosk_can_wait(const struct paldwosk_member *member) { return member->mode != PALDWOSK_SIG; }
+
+/* The least phase in which a task is that can wait; UINT64_MAX if there is none. */
+static inline uint64_t paldwosk_least_phase(const paldwosk_barrier *barrier) {
+  uint64_t least = UINT64_MAX;
+  for (size_t at = 0; at < PALDWOSK_MEMBER_PLACES; at++) {
+    const struct paldwosk_member *member = &barrier->members[at];
+    if (member->is_there && paldwosk_can_wait(member) && member->passes < least) least = member->passes;
+  }
+  return least;
+}
+
+/* Whether the bound holds back the signal of a waiting call in this phase. Else the call has signalled. */
+static inline int paldwosk_is_held(const paldwosk_barrier *barrier, const struct paldwosk_sleeper *sleeper,
+                                   uint64_t phase, uint64_t least) {
+  return sleeper->call != PALDWOSK_CALL_WAIT && least <= phase && phase - least >= barrier->bound;
+}
+
+/* Whether a task has signalled its phase, also if it waits in the call that did so. */
+static inline int paldwosk_is_ahead(const paldwosk_barrier *barrier, const struct paldwosk_member *member) {
+  const struct paldwosk_sleeper *sleeper = barrier->first;
+  if (member->is_ahead) return 1;
+  while (sleeper && sleeper->task != member->number) sleeper = sleeper->next;
+  return sleeper && sleeper->call != PALDWOSK_CALL_WAIT &&
+         !paldwosk_is_held(barrier, sleeper, member->passes, paldwosk_least_phase(barrier));
+}
+
+/* A new task, that stands where its parent stands; or the first, which is its own parent. */
+static inline void paldwosk_add_member(paldwosk_barrier *barrier, uint64_t parent, uint32_t mode, uint64_t number) {
+  const struct paldwosk_member *from = paldwosk_member_of(barrier, parent);
+  struct paldwosk_member *member = paldwosk_member_of(barrier, number);
+  uint64_t passes = from->is_there ? from->passes : 0;
+  int is_ahead = from->is_there && mode != PALDWOSK_WAIT && paldwosk_is_ahead(barrier, from);
+  member->number = number;
+  member->passes = passes;
+  member->mode = mode & 3;
+  member->is_ahead = is_ahead & 1;
+  member->is_there = 1;
+  barrier->tasks++;
+}
+
+/* A call of a task was made: it has passed this phase, or it has signalled. */
+static inline void paldwosk_move_member(paldwosk_barrier *barrier, const struct paldwosk_sleeper *sleeper) {
+  struct paldwosk_member *member = paldwosk_member_of(barrier, sleeper->task);
+  int has_passed = sleeper->answer == PALDWOSK_DONE && sleeper->call != PALDWOSK_CALL_SIGNAL;
+  if (has_passed) member->passes = (sleeper->number + 1) & (UINT64_MAX >> 4);
+  member->is_ahead = !has_passed;
+}
+
+/* For which calls of others the waiting calls wait. */
+struct paldwosk_want {
+  uint8_t is_waiting[PALDWOSK_MEMBER_PLACES]; /* of each member */
+  uint64_t signals;                           /* so many signals each task has to make; 0: nobody waits to pass */
+  uint64_t held;                              /* the phase after the greatest that the bound holds back; 0: none */
+};
+
+static inline void paldwosk_find_want(paldwosk_barrier *barrier, struct paldwosk_want *want) {
+  static const struct paldwosk_want none = {{0}, 0, 0};
+  uint64_t least = paldwosk_least_phase(barrier);
+  *want = none;
+  for (struct paldwosk_sleeper *at = barrier->first; at; at = at->next) {
+    const struct paldwosk_member *member = paldwosk_member_of(barrier, at->task);
+    uint64_t *most = paldwosk_is_held(barrier, at, member->passes, least) ? &want->held : &want->signals;
+    want->is_waiting[member - barrier->members] = 1;
+    if (*most <= member->passes) *most = member->passes + 1;
+  }
+}
+
+static inline int paldwosk_is_missing(const paldwosk_barrier *barrier, const struct paldwosk_member *member,
+                                      const struct paldwosk_want *want) {
+  int is_running = barrier->coming && barrier->claimer == member->number;
+  if (!member->is_there || want->is_waiting[member - barrier->members]) return 0;
+  if (paldwosk_can_signal(member) && member->passes + member->is_ahead < want->signals) return 1;
+  if (paldwosk_can_wait(member) && member->passes + barrier->bound < want->held) return 1;
+  return is_running && member->passes < want->signals;
+}
+
+/* The missing tasks, by their numbers: how many they are. */
+static inline size_t paldwosk_find_missing(paldwosk_barrier *barrier, uint64_t missing[PALDWOSK_MOST_MEMBERS]) {
+  struct paldwosk_want want;
+  size_t count = 0;
+  paldwosk_find_want(barrier, &want);
+  for (size_t at = 0; at < PALDWOSK_MEMBER_PLACES; at++) {
+    if (!paldwosk_is_missing(barrier, &barrier->members[at], &want)) continue;
+    size_t place = count++;
+    for (; place && missing[place - 1] > barrier->members[at].number; place--) missing[place] = missing[place - 1];
+    missing[place] = barrier->members[at].number;
+  }
+  return count;
+}
+
 /* With the lock: the call of a sleeper that isn't in the list any more is over. */
 static inline void paldwosk_set_answer(paldwosk_barrier *barrier, struct paldwosk_sleeper *sleeper, uint32_t answer,
                                        uint64_t number) {
   sleeper->answer = answer;
   sleeper->number = number;
+  if (answer == PALDWOSK_DONE || answer == PALDWOSK_CLAIMED) paldwosk_move_member(barrier, sleeper);
   if (answer != PALDWOSK_CLAIMED) return;
   barrier->coming++;
   barrier->claimer = sleeper->task;
@@ -643,7 +787,7 @@ PALDWOSK_APART void paldwosk_ask_to_leave(paldwosk_barrier *barrier, struct pald
   paldwosk_freed freed[PALDWOSK_MOST_FREED];
   size_t count = 0;
   me->answer = phaser_c_waiting_leave(&barrier->phaser, me->task, freed, PALDWOSK_MOST_FREED, &count);
-  if (me->answer == PALDWOSK_DONE) barrier->tasks--;
+  if (me->answer == PALDWOSK_DONE) paldwosk_remove_member(barrier, me->task);
   if (me->answer == PALDWOSK_DONE && barrier->trace) paldwosk_trace_left(barrier->trace, me->task);
   paldwosk_free_those(barrier, freed, count);
 }
@@ -656,10 +800,127 @@ PALDWOSK_APART void paldwosk_report(paldwosk_barrier *barrier, struct paldwosk_s
   paldwosk_free_those(barrier, freed, count);
 }
 
+/* ---- A wait that is watched: before it sleeps for as long as it has to, it sleeps until it is to be told of. */
+
+enum { PALDWOSK_MOST_TOLD = 16, PALDWOSK_LINE_ROOM = 2048 }; /* sixteen tasks of each kind take less than 1,400 bytes */
+
+static inline int paldwosk_is_over(const struct paldwosk_sleeper *me) {
+  return __atomic_load_n(&me->state, __ATOMIC_ACQUIRE) == PALDWOSK_READY;
+}
+
+#ifdef PALDWOSK_BY_FUTEX
+
+/* Gives the lock back, sleeps until the call is over or the time has come, and takes the lock again. The turn is read
+ * before the state, as in paldwosk_sleep. */
+static inline void paldwosk_sleep_until(paldwosk_barrier *barrier, struct paldwosk_sleeper *me,
+                                        const struct timespec *until) {
+  enum { WAIT_BITSET = 9, IS_PRIVATE = 128, BY_REAL_TIME = 256 };
+  long slept = 0;
+  me->is_parked = 0; /* or paldwosk_unlock would wait */
+  paldwosk_unlock(barrier, me);
+  do {
+    uint32_t seen = __atomic_load_n(&barrier->turn, __ATOMIC_ACQUIRE);
+    if (paldwosk_is_over(me)) break;
+    slept = syscall(SYS_futex, &barrier->turn, WAIT_BITSET | IS_PRIVATE | BY_REAL_TIME, seen, until, NULL,
+                    paldwosk_bit(me->task));
+  } while (slept == 0 || errno != ETIMEDOUT);
+  paldwosk_lock(barrier);
+  me->is_parked = 1;
+}
+
+#else
+
+static inline void paldwosk_sleep_until(paldwosk_barrier *barrier, struct paldwosk_sleeper *me,
+                                        const struct timespec *until) {
+  int slept = 0;
+  if (barrier->to_wake) pthread_cond_broadcast(&barrier->turned);
+  barrier->to_wake = 0;
+  while (slept == 0 && !paldwosk_is_over(me)) slept = pthread_cond_timedwait(&barrier->turned, &barrier->lock, until);
+}
+
+#endif
+
+/* Names a task in a list, after so many others. Whether it did: the list is cut. */
+static inline int paldwosk_text_task(struct paldwosk_text *line, size_t before, uint64_t task) {
+  if (before >= PALDWOSK_MOST_TOLD) return 0;
+  paldwosk_text_word(line, before ? ", " : " ");
+  paldwosk_text_number(line, (int64_t)task);
+  return 1;
+}
+
+static inline void paldwosk_text_more(struct paldwosk_text *line, size_t count) {
+  if (count <= PALDWOSK_MOST_TOLD) return;
+  paldwosk_text_word(line, " and ");
+  paldwosk_text_number(line, (int64_t)(count - PALDWOSK_MOST_TOLD));
+  paldwosk_text_word(line, " more");
+}
+
+static inline void paldwosk_text_waiting(struct paldwosk_text *line, paldwosk_barrier *barrier) {
+  size_t count = 0;
+  paldwosk_text_word(line, "; waiting:");
+  for (struct paldwosk_sleeper *at = barrier->first; at; at = at->next) {
+    if (!paldwosk_text_task(line, count++, at->task)) continue;
+    paldwosk_text_word(line, " (phase ");
+    paldwosk_text_number(line, (int64_t)paldwosk_member_of(barrier, at->task)->passes);
+    paldwosk_text_word(line, ")");
+  }
+  paldwosk_text_more(line, count);
+}
+
+static inline void paldwosk_text_missing(struct paldwosk_text *line, paldwosk_barrier *barrier) {
+  uint64_t missing[PALDWOSK_MOST_MEMBERS];
+  size_t count = paldwosk_find_missing(barrier, missing);
+  paldwosk_text_word(line, "; missing:");
+  for (size_t at = 0; at < count; at++) paldwosk_text_task(line, at, missing[at]);
+  paldwosk_text_more(line, count);
+}
+
+/* Writes the line about a wait. Others may have the lock meanwhile: standard error may be slow. */
+PALDWOSK_APART void paldwosk_tell_wait(paldwosk_barrier *barrier, const struct paldwosk_sleeper *me) {
+  char room[PALDWOSK_LINE_ROOM];
+  struct paldwosk_text line = {room, 0, 0, NULL};
+  paldwosk_text_word(&line, "paldwosk: task ");
+  paldwosk_text_number(&line, (int64_t)me->task);
+  paldwosk_text_word(&line, " waits for more than ");
+  paldwosk_text_number(&line, barrier->watch);
+  paldwosk_text_word(&line, " s");
+  paldwosk_text_waiting(&line, barrier);
+  paldwosk_text_missing(&line, barrier);
+  paldwosk_text_word(&line, "\n");
+  pthread_mutex_unlock(&barrier->lock);
+  ssize_t written = write(STDERR_FILENO, room, line.length);
+  (void)written; /* there is nobody to tell that it failed */
+  paldwosk_lock(barrier);
+}
+
+/* It counts as asleep from the start, so others wake it. Writing and a timed wait would be cancellation points. */
+static inline void paldwosk_watch(paldwosk_barrier *barrier, struct paldwosk_sleeper *me) {
+  struct timespec until;
+  uint32_t state = PALDWOSK_SPINNING;
+  int old = 0, kept = errno;
+  me->patience = 0;
+  __atomic_compare_exchange_n(&me->state, &state, PALDWOSK_ASLEEP, 0, __ATOMIC_ACQUIRE, __ATOMIC_ACQUIRE);
+  timespec_get(&until, TIME_UTC);
+  until.tv_sec += (time_t)barrier->watch;
+  pthread_setcancelstate(PTHREAD_CANCEL_DISABLE, &old);
+  paldwosk_sleep_until(barrier, me, &until);
+  if (!paldwosk_is_over(me)) paldwosk_tell_wait(barrier, me);
+  pthread_setcancelstate(old, &old);
+  errno = kept;
+}
+
+/* After how many seconds a wait is told of; 0 if it never is. */
+static inline uint32_t paldwosk_watch_of_environment(void) {
+  const char *words = getenv("PALDWOSK_WATCH");
+  unsigned long seconds = words ? strtoul(words, NULL, 10) : 0;
+  return seconds < 86400 ? (uint32_t)seconds : 86400;
+}
+
 /* The call's own part is done. Sleepers that are still to ask do so, the lock is given back, and it waits if it must. */
 static inline void paldwosk_end_call(paldwosk_barrier *barrier, struct paldwosk_sleeper *me) {
   struct paldwosk_sleeper *sleeper;
   while (barrier->trace && (sleeper = paldwosk_take_asking(barrier))) paldwosk_ask_traced(barrier, sleeper);
+  if (barrier->watch && me->is_parked) paldwosk_watch(barrier, me);
   paldwosk_unlock(barrier, me);
 }
 
@@ -773,6 +1034,7 @@ static inline void paldwosk_open(paldwosk_barrier *barrier) {
   barrier->probe = barrier->probe_after = PALDWOSK_PROBE_AFTER;
   barrier->processors = processors > 0 ? (uint32_t)processors : 1;
   barrier->most_pauses = PALDWOSK_MOST_PAUSES;
+  barrier->watch = paldwosk_watch_of_environment();
   barrier->first = NULL;
   barrier->last = &barrier->first;
   barrier->forks_then = __atomic_load_n(&paldwosk_forks, __ATOMIC_RELAXED);
@@ -789,14 +1051,26 @@ static inline paldwosk_answer paldwosk_new_barrier(paldwosk_barrier *barrier, ui
   if (pthread_once(&paldwosk_forks_once, paldwosk_watch_forks) || paldwosk_are_forks_missed) return PALDWOSK_MEMORY;
   paldwosk_answer made = (paldwosk_answer)phaser_c_waiting_new(&barrier->phaser, numbers, count > 4 ? 4 : count, bound);
   if (made != PALDWOSK_DONE) return made;
+  barrier->bound = bound;
+  barrier->members = (struct paldwosk_member *)calloc(PALDWOSK_MEMBER_PLACES, sizeof *barrier->members);
   barrier->trace = is_traced ? paldwosk_new_trace(bound, numbers, count) : NULL;
-  if ((is_traced && !barrier->trace) || !paldwosk_init_lock(barrier)) {
+  if (!barrier->members || (is_traced && !barrier->trace) || !paldwosk_init_lock(barrier)) {
+    free(barrier->members);
     free(barrier->trace);
     phaser_c_waiting_free(&barrier->phaser);
     return PALDWOSK_MEMORY;
   }
   paldwosk_open(barrier);
   return PALDWOSK_DONE;
+}
+
+/* The same where there is no barrier, whatever the memory has. */
+static inline paldwosk_answer paldwosk_init_barrier(paldwosk_barrier *barrier, uint32_t bound,
+                                                    const paldwosk_operator *operators, size_t count, int is_traced) {
+  static const paldwosk_barrier none = PALDWOSK_NO_BARRIER;
+  if (!barrier || (!operators && count)) return PALDWOSK_NULL;
+  *barrier = none;
+  return paldwosk_new_barrier(barrier, bound, operators, count, is_traced);
 }
 
 /* The threads that are counted as inside have been woken, and only need a processor for a moment. If yielding doesn't
@@ -814,24 +1088,47 @@ static inline void paldwosk_let_others_run(uint32_t tried) {
 
 /* ---- The barrier */
 
-/* Makes a barrier; paldwosk_barrier_make then makes the first task. The bound is 1 to 65,536 phases: no task signals a
- * phase while a waiting task hasn't passed the phase that is so many before it. If each task signals and waits, a bound
- * of 2 adds no wait; between producers and consumers the bound is the length of the queue. There is an accumulator for
- * each of at most four operators. All memory is taken here. OPEN, BAD_OPERATORS, BAD_BOUND, MEMORY. On DONE, free it by
- * paldwosk_barrier_free. */
+/* Makes a barrier in memory that was zeroed, or whose barrier was freed; paldwosk_barrier_make then makes the first
+ * task. A barrier that is there and isn't freed is left as it is: that is answered OPEN. The bound is 1 to 65,536
+ * phases: no task signals a phase while a waiting task hasn't passed the phase that is so many before it. If each task
+ * signals and waits, a bound of 2 adds no wait; between producers and consumers the bound is the length of the queue.
+ * There is an accumulator for each of at most four operators. All memory is taken here. OPEN, BAD_OPERATORS, BAD_BOUND,
+ * MEMORY. On DONE, free it by paldwosk_barrier_free. */
+PALDWOSK_MUST_CHECK
 static inline paldwosk_answer paldwosk_barrier_new(paldwosk_barrier *barrier, uint32_t bound,
                                                    const paldwosk_operator *operators, size_t count) {
   return paldwosk_new_barrier(barrier, bound, operators, count, 0);
 }
 
-/* The same, and it keeps a trace of what is done, for paldwosk_barrier_trace. That takes some 1 MB. */
+/* As paldwosk_barrier_new, and it keeps a trace of what is done, for paldwosk_barrier_trace. That takes some 1 MB. */
+PALDWOSK_MUST_CHECK
 static inline paldwosk_answer paldwosk_barrier_new_traced(paldwosk_barrier *barrier, uint32_t bound,
                                                           const paldwosk_operator *operators, size_t count) {
   return paldwosk_new_barrier(barrier, bound, operators, count, 1);
 }
 
+/* As paldwosk_barrier_new, but it doesn't read the memory, as pthread_barrier_init doesn't: use it for memory of malloc.
+ * It never answers OPEN: a barrier that is there already is lost, and its memory with it. If no barrier was made, the
+ * other calls answer CLOSED. BAD_OPERATORS, BAD_BOUND, MEMORY.
+ *
+ *     paldwosk_barrier *barrier = (paldwosk_barrier *)malloc(sizeof *barrier);
+ *     paldwosk_answer answer = barrier ? paldwosk_barrier_init(barrier, 2, NULL, 0) : PALDWOSK_MEMORY; */
+PALDWOSK_MUST_CHECK
+static inline paldwosk_answer paldwosk_barrier_init(paldwosk_barrier *barrier, uint32_t bound,
+                                                    const paldwosk_operator *operators, size_t count) {
+  return paldwosk_init_barrier(barrier, bound, operators, count, 0);
+}
+
+/* As paldwosk_barrier_init, and it keeps a trace as paldwosk_barrier_new_traced does. */
+PALDWOSK_MUST_CHECK
+static inline paldwosk_answer paldwosk_barrier_init_traced(paldwosk_barrier *barrier, uint32_t bound,
+                                                           const paldwosk_operator *operators, size_t count) {
+  return paldwosk_init_barrier(barrier, bound, operators, count, 1);
+}
+
 /* Frees the barrier. NOT_NOW if a task waits, or runs a single. A thread that another's call has freed may still be on
  * its way out of its own call. This call waits for it, so the memory may be used for something else at once. */
+PALDWOSK_MUST_CHECK
 static inline paldwosk_answer paldwosk_barrier_free(paldwosk_barrier *barrier) {
   for (uint32_t tried = 0;; tried++) {
     paldwosk_answer entered = paldwosk_enter(barrier);
@@ -844,7 +1141,9 @@ static inline paldwosk_answer paldwosk_barrier_free(paldwosk_barrier *barrier) {
     paldwosk_let_others_run(tried);
   }
   phaser_c_waiting_free(&barrier->phaser);
+  free(barrier->members);
   free(barrier->trace);
+  barrier->members = NULL;
   barrier->trace = NULL;
   barrier->forks = NULL;
   pthread_mutex_unlock(&barrier->lock);
@@ -853,6 +1152,7 @@ static inline paldwosk_answer paldwosk_barrier_free(paldwosk_barrier *barrier) {
 }
 
 /* Makes the first task, in any mode. BAD_MODE, NOT_NOW if it was made before. */
+PALDWOSK_MUST_CHECK
 static inline paldwosk_answer paldwosk_barrier_make(paldwosk_barrier *barrier, paldwosk_mode mode,
                                                     paldwosk_task *task) {
   paldwosk_answer answer = task ? paldwosk_enter(barrier) : PALDWOSK_NULL;
@@ -861,7 +1161,7 @@ static inline paldwosk_answer paldwosk_barrier_make(paldwosk_barrier *barrier, p
   answer = (paldwosk_answer)phaser_c_waiting_make(&barrier->phaser, (uint32_t)mode, &number);
   if (answer == PALDWOSK_DONE) {
     if (barrier->trace) paldwosk_trace_new_task(barrier->trace, number, (uint32_t)mode, number);
-    barrier->tasks++;
+    paldwosk_add_member(barrier, number, (uint32_t)mode, number);
     task->barrier = barrier;
     task->number = number;
   }
@@ -872,6 +1172,7 @@ static inline paldwosk_answer paldwosk_barrier_make(paldwosk_barrier *barrier, p
 /* Makes a task for another thread, in a mode within the parent's. It begins in the parent's phase, and is ahead if the
  * parent is ahead. BAD_MODE, NOT_REGISTERED, MORE_THAN_PARENT, REGS_FULL if there are 256 tasks, HISTORY_FULL after 2^62
  * events. */
+PALDWOSK_MUST_CHECK
 static inline paldwosk_answer paldwosk_barrier_join(const paldwosk_task *parent, paldwosk_mode mode,
                                                     paldwosk_task *task) {
   paldwosk_answer answer = task ? paldwosk_enter_by(parent) : PALDWOSK_NULL;
@@ -881,7 +1182,7 @@ static inline paldwosk_answer paldwosk_barrier_join(const paldwosk_task *parent,
   answer = (paldwosk_answer)phaser_c_waiting_register(&barrier->phaser, parent->number, (uint32_t)mode, &number);
   if (answer == PALDWOSK_DONE) {
     if (barrier->trace) paldwosk_trace_new_task(barrier->trace, parent->number, (uint32_t)mode, number);
-    barrier->tasks++;
+    paldwosk_add_member(barrier, parent->number, (uint32_t)mode, number);
     task->barrier = barrier;
     task->number = number;
   }
@@ -892,12 +1193,14 @@ static inline paldwosk_answer paldwosk_barrier_join(const paldwosk_task *parent,
 /* Signals, and waits until the phase is over: until each task that signals has signalled it, and its single is done.
  * On DONE *phase is the phase, unless `phase` is NULL. NOT_REGISTERED, NO_SIGNAL, ALREADY_SIGNALLED, NOT_NOW,
  * HISTORY_FULL. */
+PALDWOSK_MUST_CHECK
 static inline paldwosk_answer paldwosk_barrier_next(const paldwosk_task *task, uint64_t *phase) {
   return paldwosk_call_by(task, PALDWOSK_CALL_NEXT, 0, phase);
 }
 
 /* Signals, and goes on. It waits only if the task would be ahead of a waiting task by more than the bound.
  * NOT_REGISTERED, NO_SIGNAL, ALREADY_SIGNALLED, NOT_NOW, HISTORY_FULL. */
+PALDWOSK_MUST_CHECK
 static inline paldwosk_answer paldwosk_barrier_signal(const paldwosk_task *task) {
   return paldwosk_call_by(task, PALDWOSK_CALL_SIGNAL, 0, NULL);
 }
@@ -906,12 +1209,14 @@ static inline paldwosk_answer paldwosk_barrier_signal(const paldwosk_task *task)
  * for yet. A task that only signals doesn't wait: this begins its next phase. On DONE *phase is the phase, unless
  * `phase` is NULL. NOT_REGISTERED, NOT_SIGNALLED, NOT_NOW (also in the statement of the task's own single),
  * HISTORY_FULL. */
+PALDWOSK_MUST_CHECK
 static inline paldwosk_answer paldwosk_barrier_wait(const paldwosk_task *task, uint64_t *phase) {
   return paldwosk_call_by(task, PALDWOSK_CALL_WAIT, 0, phase);
 }
 
 /* Sends a value to an accumulator, for the phase that the task hasn't signalled yet. NOT_REGISTERED, NO_SIGNAL,
  * NO_ACCUMULATOR, HISTORY_FULL. */
+PALDWOSK_MUST_CHECK
 static inline paldwosk_answer paldwosk_barrier_send(const paldwosk_task *task, uint32_t accumulator, int32_t value) {
   paldwosk_answer answer = paldwosk_enter_by(task);
   if (answer != PALDWOSK_DONE) return answer;
@@ -927,6 +1232,7 @@ static inline paldwosk_answer paldwosk_barrier_send(const paldwosk_task *task, u
 /* What an accumulator holds of the phase that the task passed last. On DONE *value is it. NOTHING if it is the least or
  * the greatest, and no task sent a value; TOO_GREAT if it isn't within an int64_t, which takes 2^32 values.
  * NOT_REGISTERED, NO_WAIT, NO_ACCUMULATOR, NO_PHASE_YET, HISTORY_FULL. */
+PALDWOSK_MUST_CHECK
 static inline paldwosk_answer paldwosk_barrier_look(const paldwosk_task *task, uint32_t accumulator, int64_t *value) {
   paldwosk_answer answer = value ? paldwosk_enter_by(task) : PALDWOSK_NULL;
   if (answer != PALDWOSK_DONE) return answer;
@@ -948,6 +1254,7 @@ static inline paldwosk_answer paldwosk_barrier_look(const paldwosk_task *task, u
  * cancellable. All other waiting tasks are held until it returns; it has to return, and neither throws nor jumps. In the
  * statement its task can send, look and join, but not go on or leave. All are answered DONE. NOT_REGISTERED, NO_SIGNAL,
  * NO_SINGLE, ALREADY_SIGNALLED, SINGLE_MISMATCH if another number is proposed in this phase, NOT_NOW, HISTORY_FULL. */
+PALDWOSK_MUST_CHECK
 static inline paldwosk_answer paldwosk_barrier_single(const paldwosk_task *task, uint32_t number,
                                                       void (*run)(void *data), void *data, uint64_t *phase) {
   int old = 0;
@@ -964,6 +1271,7 @@ static inline paldwosk_answer paldwosk_barrier_single(const paldwosk_task *task,
 /* The task leaves: no task waits for it any more. What it has sent counts. NOT_REGISTERED, also if it has left before;
  * NOT_NOW if it has proposed a single that isn't done. If another thread waits for this task, that call is
  * answered NOT_REGISTERED. */
+PALDWOSK_MUST_CHECK
 static inline paldwosk_answer paldwosk_barrier_leave(const paldwosk_task *task) {
   paldwosk_answer entered = paldwosk_enter_by(task);
   if (entered != PALDWOSK_DONE) return entered;
@@ -973,9 +1281,33 @@ static inline paldwosk_answer paldwosk_barrier_leave(const paldwosk_task *task) 
   return (paldwosk_answer)me.answer;
 }
 
+/* Who keeps others waiting: writes the numbers of these tasks, the least first, to `tasks`, which has `room` places.
+ * Such a task hasn't signalled a phase that others wait for, or it runs a single. Or the bound holds back a signal until
+ * this task has waited. A task that waits itself isn't among them. *count is how many there are, 256 at most; it is 0 if
+ * nobody waits. `tasks` may be NULL if the room is 0. SHORT if the room is too small: then only *count is written. The
+ * call looks at all tasks under the lock: it is for finding a fault, not for each phase.
+ *
+ *     uint64_t missing[256];
+ *     size_t count = 0;
+ *     paldwosk_answer answer = paldwosk_barrier_missing(&barrier, missing, 256, &count);
+ *     for (size_t at = 0; answer == PALDWOSK_DONE && at < count; at++) printf("task %" PRIu64 "\n", missing[at]); */
+PALDWOSK_MUST_CHECK
+static inline paldwosk_answer paldwosk_barrier_missing(paldwosk_barrier *barrier, uint64_t *tasks, size_t room,
+                                                       size_t *count) {
+  uint64_t missing[PALDWOSK_MOST_MEMBERS];
+  paldwosk_answer answer = count && (tasks || !room) ? paldwosk_enter(barrier) : PALDWOSK_NULL;
+  if (answer != PALDWOSK_DONE) return answer;
+  *count = paldwosk_find_missing(barrier, missing);
+  pthread_mutex_unlock(&barrier->lock);
+  if (*count > room) return PALDWOSK_SHORT;
+  for (size_t at = 0; at < *count; at++) tasks[at] = missing[at];
+  return PALDWOSK_DONE;
+}
+
 /* For how many pauses a thread spins at most before it sleeps; 0: it never spins. The barrier finds out by itself for
  * how long to spin, up to this. No thread spins if there are more tasks than processors, or if threads sleep by a
  * condition variable. */
+PALDWOSK_MUST_CHECK
 static inline paldwosk_answer paldwosk_barrier_spin(paldwosk_barrier *barrier, uint32_t most) {
   paldwosk_answer answer = paldwosk_enter(barrier);
   if (answer != PALDWOSK_DONE) return answer;
@@ -990,6 +1322,7 @@ static inline paldwosk_answer paldwosk_barrier_spin(paldwosk_barrier *barrier, u
  * judge it, ./trace_picture draws it. It is a whole run: tasks that haven't left yet are told as ending now, after
  * their single, if one is under way. No NUL is added; *written is how many bytes the text has, even if the room is too
  * small for it. The text may be NULL if the room is 0. NOT_KEPT if the barrier keeps no trace; SHORT. */
+PALDWOSK_MUST_CHECK
 static inline paldwosk_answer paldwosk_barrier_trace(paldwosk_barrier *barrier, char *text, size_t room,
                                                      size_t *written) {
   paldwosk_answer answer = written && (text || !room) ? paldwosk_enter(barrier) : PALDWOSK_NULL;

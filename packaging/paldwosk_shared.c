@@ -22,6 +22,16 @@ paldwosk_answer paldwosk_so_barrier_new_traced(paldwosk_barrier *barrier, uint32
   return paldwosk_barrier_new_traced(barrier, bound, operators, count);
 }
 
+paldwosk_answer paldwosk_so_barrier_init(paldwosk_barrier *barrier, uint32_t bound, const paldwosk_operator *operators,
+                                         size_t count) {
+  return paldwosk_barrier_init(barrier, bound, operators, count);
+}
+
+paldwosk_answer paldwosk_so_barrier_init_traced(paldwosk_barrier *barrier, uint32_t bound,
+                                                const paldwosk_operator *operators, size_t count) {
+  return paldwosk_barrier_init_traced(barrier, bound, operators, count);
+}
+
 paldwosk_answer paldwosk_so_barrier_free(paldwosk_barrier *barrier) { return paldwosk_barrier_free(barrier); }
 
 paldwosk_answer paldwosk_so_barrier_make(paldwosk_barrier *barrier, paldwosk_mode mode, paldwosk_task *task) {
@@ -60,6 +70,12 @@ paldwosk_answer paldwosk_so_barrier_leave(const paldwosk_task *task) { return pa
 paldwosk_answer paldwosk_so_barrier_spin(paldwosk_barrier *barrier, uint32_t most) {
   return paldwosk_barrier_spin(barrier, most);
 }
+
+paldwosk_answer paldwosk_so_barrier_missing(paldwosk_barrier *barrier, uint64_t *tasks, size_t room, size_t *count) {
+  return paldwosk_barrier_missing(barrier, tasks, room, count);
+}
+
+const char *paldwosk_so_answer_text(paldwosk_answer answer) { return paldwosk_answer_text(answer); }
 
 paldwosk_answer paldwosk_so_barrier_trace(paldwosk_barrier *barrier, char *text, size_t room, size_t *written) {
   return paldwosk_barrier_trace(barrier, text, room, written);

@@ -5,6 +5,7 @@
  * linked calls: the calls that standard input lists, one on each line, on one phaser; a line for each reply, as the program
  *   prints it. The first three lines are the limits, the operators and the bound.
  * linked wrong: wrong pointers, numbers and rooms, each of which must be answered so, and change nothing.
+ * linked told: the text of each answer; the version is printed.
  * Status 4: something wasn't as it must be; it is named on standard error. */
 #include "../include/paldwosk.h"
 
@@ -249,7 +250,7 @@ static void asked(paldwosk_phaser *phaser) {
 }
 
 /* The text of its history, in a room that is too small and in one that is just large enough. */
-static void told(paldwosk_phaser *phaser) {
+static void written_history(paldwosk_phaser *phaser) {
   const uint64_t tickets[3] = {4, 7, 18446744073709551615u};
   const char *text = "{\"events\":[[4,\"p\",9,\"make\",0,\"SIG_WAIT\",[\"sum\",\"least\"],null],[7,\"p\",9,\"send\",0,0,-5],"
                      "[18446744073709551615,\"p\",9,\"sig\",0]],\"limits\":{\"acts\":4096,\"finishes\":64,\"history\":4096,"
@@ -271,10 +272,47 @@ static int wrong(void) {
   no_phaser(&phaser);
   wrong_numbers();
   asked(&phaser);
-  told(&phaser);
+  written_history(&phaser);
   paldwosk_free(&phaser);
   no_phaser(&phaser);
   paldwosk_free(&phaser);
+  return 0;
+}
+
+/* ---- What answers say */
+
+typedef struct answer_name {
+  int number;
+  const char *name;
+} answer_name;
+
+static const answer_name OTHERS[] = {
+    {0, "Done"},        {24, "BadText"},    {25, "NotExplained"}, {26, "SharesDiffer"}, {32, "NotYet"},
+    {33, "Claimed"},    {34, "Nothing"},    {35, "NotKept"},      {36, "TooGreat"},     {64, "Null"},
+    {65, "Closed"},     {66, "Open"},       {67, "Short"},        {68, "BadMode"},      {69, "BadLimits"},
+    {70, "BadOperators"}, {71, "BadBound"}, {72, "BadTickets"}};
+
+/* It begins with the name and the number, and has two parts: what the answer means, and what to do. */
+static void answer_text(int number, const char *name) {
+  char wanted[40];
+  int length = snprintf(wanted, sizeof wanted, "%s (%d): ", name, number);
+  const char *text = paldwosk_answer_text((paldwosk_answer)number);
+  MUST(!strncmp(text, wanted, (size_t)length) && strlen(text) > (size_t)length + 20 && !strchr(text, '\n'));
+  MUST(strstr(text, "; ") != NULL);
+}
+
+static int told(void) {
+  const int others = sizeof OTHERS / sizeof *OTHERS;
+  const char *unknown = paldwosk_answer_text((paldwosk_answer)-1);
+  int named = 0;
+  for (int number = 1; number <= 23; number++) answer_text(number, NAMES[number]);
+  for (int at = 0; at < others; at++) answer_text(OTHERS[at].number, OTHERS[at].name);
+  for (int number = 0; number < 1000; number++) named += paldwosk_answer_text((paldwosk_answer)number) != unknown;
+  MUST(unknown != NULL && !strchr(unknown, '(') && named == 23 + others);
+  MUST(!strcmp(paldwosk_answer_text(PALDWOSK_REGS_FULL),
+               "RegsFull (14): as many tasks are registered as the limits allow; let one leave first"));
+  MUST(PALDWOSK_VERSION == 10000 * PALDWOSK_VERSION_MAJOR + 100 * PALDWOSK_VERSION_MINOR + PALDWOSK_VERSION_PATCH);
+  printf("%d.%d.%d %s\n", PALDWOSK_VERSION_MAJOR, PALDWOSK_VERSION_MINOR, PALDWOSK_VERSION_PATCH, PALDWOSK_VERSION_TEXT);
   return 0;
 }
 
@@ -284,5 +322,6 @@ int main(int count, char **words) {
   else if (count == 3 && !strcmp(words[1], "events")) status = checked(paldwosk_events, words[2]);
   else if (count == 2 && !strcmp(words[1], "calls")) status = calls();
   else if (count == 2 && !strcmp(words[1], "wrong")) status = wrong();
+  else if (count == 2 && !strcmp(words[1], "told")) status = told();
   return faults ? 4 : status;
 }

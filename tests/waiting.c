@@ -3,6 +3,8 @@
  * waiting wrong: pointers, numbers, tasks and moments that are wrong, each of which must be answered so, and change
  *   nothing.
  * waiting memory: barriers that are made, or not for want of memory.
+ * waiting missing: who keeps others waiting, at barriers with and without a trace.
+ * waiting watched: what threads say that wait for longer than two seconds, and that each says it once.
  * waiting freed TIMES: barriers that are freed, and their memory taken away, right after the call that freed all who
  *   waited.
  * waiting forked TIMES: calls in the child of a fork, while another thread has the lock now and then.
@@ -122,6 +124,16 @@ static void make_party(paldwosk_barrier *barrier, paldwosk_task *tasks, int coun
   for (int at = 1; at < count; at++) DONE(paldwosk_barrier_join(&tasks[0], PALDWOSK_SINGLE, &tasks[at]));
 }
 
+/* Makes a barrier in one of four ways: without a trace and with one, in memory of nulls and in memory of anything. */
+static paldwosk_answer make_in_way(paldwosk_barrier *barrier, int way, uint32_t bound) {
+  const paldwosk_operator sum = PALDWOSK_SUM;
+  memset(barrier, way < 2 ? 0 : 0xa5, sizeof *barrier);
+  if (way == 0) return paldwosk_barrier_new(barrier, bound, &sum, 1);
+  if (way == 1) return paldwosk_barrier_new_traced(barrier, bound, &sum, 1);
+  if (way == 2) return paldwosk_barrier_init(barrier, bound, &sum, 1);
+  return paldwosk_barrier_init_traced(barrier, bound, &sum, 1);
+}
+
 /* ---- What is wrong is answered so */
 
 static void wrong_pointers(void) {
@@ -156,6 +168,9 @@ static void wrong_pointers(void) {
   MUST(paldwosk_barrier_look(&task, 0, NULL) == PALDWOSK_NULL);
   MUST(paldwosk_barrier_single(&task, 1, NULL, NULL, &phase) == PALDWOSK_NULL);
   MUST(paldwosk_barrier_spin(NULL, 1) == PALDWOSK_NULL);
+  MUST(paldwosk_barrier_missing(NULL, &phase, 1, &written) == PALDWOSK_NULL);
+  MUST(paldwosk_barrier_missing(&barrier, &phase, 1, NULL) == PALDWOSK_NULL);
+  MUST(paldwosk_barrier_missing(&barrier, NULL, 1, &written) == PALDWOSK_NULL);
   MUST(paldwosk_barrier_trace(NULL, NULL, 0, &written) == PALDWOSK_NULL);
   MUST(paldwosk_barrier_trace(&barrier, NULL, 1, &written) == PALDWOSK_NULL);
   MUST(paldwosk_barrier_trace(&barrier, NULL, 0, NULL) == PALDWOSK_NULL);
@@ -166,6 +181,30 @@ static void wrong_pointers(void) {
   DONE(paldwosk_barrier_next(&task, &phase));
   MUST(phase == 1);
   DONE(paldwosk_barrier_free(&barrier));
+}
+
+static void wrong_init(void) {
+  paldwosk_barrier *barrier = (paldwosk_barrier *)malloc(sizeof *barrier); /* memcheck tells if it is read */
+  paldwosk_task task = PALDWOSK_NO_TASK;
+  if (!barrier) exit(5);
+  MUST(paldwosk_barrier_init(NULL, 2, NULL, 0) == PALDWOSK_NULL);
+  MUST(paldwosk_barrier_init_traced(NULL, 2, NULL, 0) == PALDWOSK_NULL);
+  MUST(paldwosk_barrier_init(barrier, 0, NULL, 0) == PALDWOSK_BAD_BOUND);
+  MUST(paldwosk_barrier_make(barrier, PALDWOSK_SIG, &task) == PALDWOSK_CLOSED);
+  MUST(paldwosk_barrier_free(barrier) == PALDWOSK_CLOSED);
+  free(barrier);
+  barrier = (paldwosk_barrier *)malloc(sizeof *barrier);
+  if (!barrier) exit(5);
+  DONE(paldwosk_barrier_init(barrier, 2, NULL, 0));
+  MUST(paldwosk_barrier_init(barrier, 2, NULL, 1) == PALDWOSK_NULL); /* before anything is written */
+  MUST(paldwosk_barrier_new(barrier, 2, NULL, 0) == PALDWOSK_OPEN);
+  DONE(paldwosk_barrier_make(barrier, PALDWOSK_SIG_WAIT, &task));
+  DONE(paldwosk_barrier_next(&task, NULL));
+  DONE(paldwosk_barrier_free(barrier));
+  DONE(paldwosk_barrier_init_traced(barrier, 2, NULL, 0));
+  MUST(!paldwosk_barrier_trace_ended(barrier) && barrier->trace);
+  DONE(paldwosk_barrier_free(barrier));
+  free(barrier);
 }
 
 static void wrong_numbers(void) {
@@ -260,6 +299,7 @@ static void wrong_tasks(void) {
   MUST(paldwosk_barrier_join(&tasks[0], PALDWOSK_SIG, &more) == PALDWOSK_CLOSED);
   MUST(paldwosk_barrier_make(&barrier, PALDWOSK_SIG, &more) == PALDWOSK_CLOSED);
   MUST(paldwosk_barrier_spin(&barrier, 1) == PALDWOSK_CLOSED);
+  MUST(paldwosk_barrier_missing(&barrier, NULL, 0, &written) == PALDWOSK_CLOSED && written == 77);
   MUST(paldwosk_barrier_trace(&barrier, NULL, 0, &written) == PALDWOSK_CLOSED);
   DONE(paldwosk_barrier_new(&barrier, 1, NULL, 0)); /* its struct may be used again */
   DONE(paldwosk_barrier_free(&barrier));
@@ -355,6 +395,7 @@ static void wrong_in_statement(void) {
 
 static void wrong(void) {
   wrong_pointers();
+  wrong_init();
   wrong_numbers();
   wrong_modes();
   wrong_tasks();
@@ -364,12 +405,11 @@ static void wrong(void) {
 }
 
 static void memory(void) {
-  for (int is_traced = 0; is_traced < 2; is_traced++) {
-    paldwosk_barrier barrier = PALDWOSK_NO_BARRIER;
+  for (int way = 0; way < 4; way++) {
+    paldwosk_barrier barrier;
     paldwosk_task task = PALDWOSK_NO_TASK;
-    const paldwosk_operator sum = PALDWOSK_SUM;
-    paldwosk_answer answer = is_traced ? paldwosk_barrier_new_traced(&barrier, 2, &sum, 1)
-                                       : paldwosk_barrier_new(&barrier, 2, &sum, 1);
+    paldwosk_answer answer = make_in_way(&barrier, way, 2);
+    int is_traced = way % 2;
     MUST(answer == PALDWOSK_DONE || answer == PALDWOSK_MEMORY);
     paldwosk_answer made = paldwosk_barrier_make(&barrier, PALDWOSK_SIG_WAIT, &task);
     MUST(made == (answer == PALDWOSK_DONE ? PALDWOSK_DONE : PALDWOSK_CLOSED));
@@ -381,6 +421,235 @@ static void memory(void) {
     }
     MUST(paldwosk_barrier_free(&barrier) == made);
   }
+}
+
+/* ---- Who keeps others waiting */
+
+/* Whether these are the missing tasks: their numbers, as text. */
+static int misses(paldwosk_barrier *barrier, const char *wanted) {
+  uint64_t tasks[THREADS];
+  char found[400] = "";
+  size_t count = 77, again = 77, length = 0;
+  tasks[0] = 77;
+  paldwosk_answer answer = paldwosk_barrier_missing(barrier, tasks, 0, &count);
+  MUST(answer == (count ? PALDWOSK_SHORT : PALDWOSK_DONE) && tasks[0] == 77);
+  if (count) MUST(paldwosk_barrier_missing(barrier, tasks, count - 1, &again) == PALDWOSK_SHORT && tasks[0] == 77);
+  DONE(paldwosk_barrier_missing(barrier, tasks, count, &again));
+  MUST(again == count);
+  for (size_t at = 0; at < count && length < 300; at++)
+    length += (size_t)snprintf(found + length, 24, at ? " %" PRIu64 : "%" PRIu64, tasks[at]);
+  if (strcmp(found, wanted)) fprintf(stderr, "waiting: missing are \"%s\", not \"%s\"\n", found, wanted);
+  return !strcmp(found, wanted);
+}
+
+static void make_in_turn(paldwosk_barrier *barrier, int way, uint32_t bound, paldwosk_task *tasks, int count) {
+  DONE(make_in_way(barrier, way, bound));
+  DONE(paldwosk_barrier_make(barrier, PALDWOSK_SINGLE, &tasks[0]));
+  for (int at = 1; at < count; at++) DONE(paldwosk_barrier_join(&tasks[0], PALDWOSK_SINGLE, &tasks[at]));
+}
+
+static void missing_in_turn(int way) {
+  paldwosk_barrier barrier;
+  paldwosk_task tasks[4] = {PALDWOSK_NO_TASK}, late = PALDWOSK_NO_TASK;
+  call first, second;
+  make_in_turn(&barrier, way, 2, tasks, 4);
+  MUST(misses(&barrier, "")); /* none has signalled, but nobody waits */
+  begin_call(&first, tasks[0], 'n');
+  MUST(are_parked(&barrier, 1) && misses(&barrier, "1 2 3"));
+  DONE(paldwosk_barrier_signal(&tasks[2]));
+  MUST(misses(&barrier, "1 3"));
+  DONE(paldwosk_barrier_join(&tasks[0], PALDWOSK_SIG_WAIT, &late)); /* it has signalled, as its parent has */
+  MUST(misses(&barrier, "1 3"));
+  begin_call(&second, tasks[1], 'n');
+  MUST(are_parked(&barrier, 2) && misses(&barrier, "3"));
+  DONE(paldwosk_barrier_leave(&tasks[3]));
+  end_call(&first, PALDWOSK_DONE, 0);
+  end_call(&second, PALDWOSK_DONE, 0);
+  MUST(misses(&barrier, ""));
+  begin_call(&first, tasks[0], 'n'); /* the tasks 2 and 4 have signalled phase 0, and haven't passed it */
+  MUST(are_parked(&barrier, 1) && misses(&barrier, "1 2 4"));
+  DONE(paldwosk_barrier_leave(&tasks[0])); /* so nobody waits */
+  end_call(&first, PALDWOSK_NOT_REGISTERED, 77);
+  MUST(misses(&barrier, ""));
+  DONE(paldwosk_barrier_free(&barrier));
+}
+
+static void see_missing(void *given) { MUST(misses((paldwosk_barrier *)given, "1")); }
+
+static void *propose_and_see(void *given) {
+  paldwosk_task *task = (paldwosk_task *)given;
+  DONE(paldwosk_barrier_single(task, 5, see_missing, task->barrier, NULL));
+  return NULL;
+}
+
+/* Task 1 proposes and task 0 doesn't. So task 1 runs the statement, and task 0 waits for that. */
+static void missing_in_single(int way) {
+  paldwosk_barrier barrier;
+  paldwosk_task tasks[2] = {PALDWOSK_NO_TASK};
+  pthread_t proposer;
+  call next;
+  make_in_turn(&barrier, way, 2, tasks, 2);
+  begin_call(&next, tasks[0], 'n');
+  MUST(are_parked(&barrier, 1));
+  start(&proposer, propose_and_see, &tasks[1]);
+  end_call(&next, PALDWOSK_DONE, 0);
+  pthread_join(proposer, NULL);
+  MUST(misses(&barrier, ""));
+  DONE(paldwosk_barrier_free(&barrier));
+}
+
+/* A signaller, number 1, and two waiters, 2 and 3. The bound is 1, so phase 1 is signalled once both have waited for
+ * phase 0. */
+static void missing_by_bound(int way) {
+  paldwosk_barrier barrier;
+  paldwosk_task root = PALDWOSK_NO_TASK, signals = PALDWOSK_NO_TASK, waits[2] = {PALDWOSK_NO_TASK};
+  paldwosk_task late = PALDWOSK_NO_TASK;
+  call first, second;
+  make_in_turn(&barrier, way, 1, &root, 1);
+  DONE(paldwosk_barrier_join(&root, PALDWOSK_SIG, &signals));
+  for (int at = 0; at < 2; at++) DONE(paldwosk_barrier_join(&root, PALDWOSK_WAIT, &waits[at]));
+  DONE(paldwosk_barrier_leave(&root));
+  DONE(paldwosk_barrier_next(&signals, NULL));
+  begin_call(&first, signals, 's');
+  MUST(are_parked(&barrier, 1) && misses(&barrier, "2 3"));
+  DONE(paldwosk_barrier_wait(&waits[0], NULL));
+  MUST(misses(&barrier, "3"));
+  DONE(paldwosk_barrier_wait(&waits[1], NULL));
+  end_call(&first, PALDWOSK_DONE, 77);
+  MUST(misses(&barrier, ""));
+  DONE(paldwosk_barrier_wait(&waits[0], NULL));
+  begin_call(&second, waits[0], 'w'); /* for phase 2 */
+  MUST(are_parked(&barrier, 1) && misses(&barrier, "1"));
+  DONE(paldwosk_barrier_wait(&signals, NULL));
+  begin_call(&first, signals, 'n'); /* held until task 3 has waited for phase 1 */
+  MUST(are_parked(&barrier, 2) && misses(&barrier, "3"));
+  DONE(paldwosk_barrier_join(&signals, PALDWOSK_SIG, &late)); /* task 4 hasn't signalled phase 2, nor has its parent */
+  MUST(misses(&barrier, "3 4"));
+  DONE(paldwosk_barrier_wait(&waits[1], NULL));
+  end_call(&first, PALDWOSK_DONE, 2);
+  MUST(misses(&barrier, "4"));
+  DONE(paldwosk_barrier_signal(&late));
+  end_call(&second, PALDWOSK_DONE, 2);
+  DONE(paldwosk_barrier_free(&barrier));
+}
+
+/* The numbers 1, 513 and 1,025 have the same first place in the header's table, and 2 has the next. */
+static void missing_of_many(int way) {
+  paldwosk_barrier barrier;
+  paldwosk_task root = PALDWOSK_NO_TASK, task = PALDWOSK_NO_TASK, kept[4] = {PALDWOSK_NO_TASK};
+  call next;
+  make_in_turn(&barrier, way, 2, &root, 1);
+  for (int at = 1, count = 0; at <= 1025; at++) {
+    DONE(paldwosk_barrier_join(&root, PALDWOSK_SIG, &task));
+    if (at == 1 || at == 2 || at == 513 || at == 1025) kept[count++] = task;
+    else DONE(paldwosk_barrier_leave(&task));
+  }
+  begin_call(&next, root, 'n');
+  MUST(are_parked(&barrier, 1) && misses(&barrier, "1 2 513 1025"));
+  DONE(paldwosk_barrier_leave(&kept[0]));
+  MUST(misses(&barrier, "2 513 1025"));
+  DONE(paldwosk_barrier_signal(&kept[2]));
+  MUST(misses(&barrier, "2 1025"));
+  DONE(paldwosk_barrier_leave(&kept[1]));
+  MUST(misses(&barrier, "1025"));
+  DONE(paldwosk_barrier_signal(&kept[3]));
+  end_call(&next, PALDWOSK_DONE, 0);
+  MUST(misses(&barrier, "") && barrier.tasks == 3);
+  DONE(paldwosk_barrier_free(&barrier));
+}
+
+static void missing(void) {
+  for (int way = 0; way < 4; way++) {
+    missing_in_turn(way);
+    missing_in_single(way);
+    missing_by_bound(way);
+    missing_of_many(way);
+  }
+}
+
+/* ---- What a thread says that waits for long */
+
+int setenv(const char *name, const char *value, int is_forced); /* -std=c11 hides it */
+
+static size_t count_of(const char *text, const char *word) {
+  size_t count = 0;
+  for (; (text = strstr(text, word)) != NULL; text += strlen(word)) count++;
+  return count;
+}
+
+/* Half of the tasks wait, the others come after three and a half seconds. What was said to standard error meanwhile is
+ * left in `said`. */
+static void wait_for_long(int way, int count, char *said, size_t room) {
+  static call calls[THREADS];
+  paldwosk_barrier barrier;
+  paldwosk_task tasks[THREADS] = {PALDWOSK_NO_TASK};
+  int ends[2], kept = dup(STDERR_FILENO);
+  make_in_turn(&barrier, way, 2, tasks, count);
+  for (int at = 0; at < count; at++) DONE(paldwosk_barrier_signal(&tasks[at]));
+  for (int at = 0; at < count; at++) DONE(paldwosk_barrier_wait(&tasks[at], NULL));
+  if (kept < 0 || pipe(ends) != 0 || dup2(ends[1], STDERR_FILENO) < 0) exit(5);
+  for (int at = 0; at < count / 2; at++) {
+    begin_call(&calls[at], tasks[at], 'n');
+    MUST(are_parked(&barrier, (unsigned)at + 1)); /* so they wait in the order of their numbers */
+  }
+  rest(3500);
+  for (int at = count / 2; at < count; at++) DONE(paldwosk_barrier_signal(&tasks[at]));
+  for (int at = 0; at < count / 2; at++) end_call(&calls[at], PALDWOSK_DONE, 1);
+  if (dup2(kept, STDERR_FILENO) < 0) exit(5);
+  close(kept);
+  close(ends[1]);
+  size_t length = 0;
+  for (ssize_t got; (got = read(ends[0], said + length, room - 1 - length)) > 0;) length += (size_t)got;
+  said[length] = 0;
+  close(ends[0]);
+  DONE(paldwosk_barrier_free(&barrier));
+}
+
+/* Who is freed before it is time to say so is woken at once, and says nothing. */
+static void wait_for_short(int way) {
+  paldwosk_barrier barrier;
+  paldwosk_task tasks[2] = {PALDWOSK_NO_TASK};
+  call waiter;
+  time_t began = time(NULL);
+  make_in_turn(&barrier, way, 2, tasks, 2);
+  barrier.pauses = 1 << 20; /* as if it had been good to spin for so long */
+  begin_call(&waiter, tasks[0], 'n');
+  MUST(are_parked(&barrier, 1));
+  DONE(paldwosk_barrier_next(&tasks[1], NULL));
+  end_call(&waiter, PALDWOSK_DONE, 0);
+  MUST(barrier.watch == 60 && time(NULL) - began < 40);
+  DONE(paldwosk_barrier_free(&barrier));
+}
+
+static void watched(void) {
+  static char said[1 << 15];
+  char wanted[1000] = "";
+  const char *last = "paldwosk: task 1 waits for more than 2 s; waiting: 0 (phase 1), 1 (phase 1); missing: 2, 3\n";
+  const char *off[] = {"0", "", "often"};
+  for (int at = 0; at < 3; at++) {
+    paldwosk_barrier barrier = PALDWOSK_NO_BARRIER;
+    setenv("PALDWOSK_WATCH", off[at], 1);
+    DONE(paldwosk_barrier_new(&barrier, 2, NULL, 0));
+    MUST(barrier.watch == 0);
+    DONE(paldwosk_barrier_free(&barrier));
+  }
+  setenv("PALDWOSK_WATCH", "60", 1);
+  for (int way = 0; way < 4; way++) wait_for_short(way);
+  setenv("PALDWOSK_WATCH", "2", 1);
+  for (int way = 0; way < 2; way++) {
+    wait_for_long(way, 4, said, sizeof said);
+    MUST(count_of(said, last) == 1 && count_of(said, "\n") == 2);
+    MUST(count_of(said, "paldwosk: task 0 waits for more than 2 s; waiting: 0 (phase 1)") == 1);
+    if (count_of(said, last) != 1) fprintf(stderr, "%s", said);
+  }
+  wait_for_long(0, 36, said, sizeof said); /* 16 of the 18 of each kind are named */
+  size_t length = (size_t)snprintf(wanted, sizeof wanted, "paldwosk: task 17 waits for more than 2 s; waiting:");
+  for (int at = 0; at < 16; at++)
+    length += (size_t)snprintf(wanted + length, 40, at ? ", %d (phase 1)" : " %d (phase 1)", at);
+  length += (size_t)snprintf(wanted + length, 40, " and 2 more; missing:");
+  for (int at = 18; at < 34; at++) length += (size_t)snprintf(wanted + length, 40, at > 18 ? ", %d" : " %d", at);
+  snprintf(wanted + length, 40, " and 2 more\n");
+  MUST(count_of(said, wanted) == 1 && count_of(said, "\n") == 18);
 }
 
 /* ---- A barrier that is freed at once */
@@ -441,6 +710,7 @@ static void in_child(paldwosk_barrier *barrier, paldwosk_task *tasks) {
   MUST(paldwosk_barrier_join(&tasks[0], PALDWOSK_SIG, &child) == PALDWOSK_CLOSED);
   MUST(paldwosk_barrier_make(barrier, PALDWOSK_SIG, &child) == PALDWOSK_CLOSED);
   MUST(paldwosk_barrier_spin(barrier, 1) == PALDWOSK_CLOSED);
+  MUST(paldwosk_barrier_missing(barrier, NULL, 0, &written) == PALDWOSK_CLOSED);
   MUST(paldwosk_barrier_trace(barrier, NULL, 0, &written) == PALDWOSK_CLOSED);
   MUST(paldwosk_barrier_free(barrier) == PALDWOSK_CLOSED);
   MUST(paldwosk_barrier_new(barrier, 2, NULL, 0) == PALDWOSK_CLOSED);
@@ -1129,11 +1399,24 @@ static void end_its_turn(visitor *me) {
   has_passed(me, phase, 0);
 }
 
+/* The header has noted of it what it has counted itself. If others wait, somebody keeps them waiting. */
+static void see_itself(const visitor *me) {
+  uint64_t missing[THREADS];
+  paldwosk_barrier *barrier = &crowd.barrier;
+  pthread_mutex_lock(&barrier->lock);
+  const struct paldwosk_member *member = paldwosk_member_of(barrier, me->task.number);
+  MUST(member->is_there && member->mode == (unsigned)me->mode && member->passes == (uint64_t)me->passes);
+  MUST(member->is_ahead == (unsigned)(can_signal(me) && me->made > me->passes));
+  MUST((paldwosk_find_missing(barrier, missing) > 0) == (barrier->first != NULL));
+  pthread_mutex_unlock(&barrier->lock);
+}
+
 static void *visit(void *given) {
   static __thread char report[1 << 16];
   visitor *me = (visitor *)given;
   for (uint32_t acts = 1 + drawn(me, 80); acts; acts--) {
     uint32_t act = drawn(me, 100);
+    see_itself(me);
     if (act < 12) bring_child(me);
     else if (act < 35 && can_signal(me)) send_value(me);
     else if (act == 99 && crowd.is_traced && drawn(me, 8) == 0) replay(&crowd.barrier, report, sizeof report);
@@ -1360,6 +1643,8 @@ int main(int count, char **words) {
   for (int at = 2; at < count && at < 5; at++) given[at - 2] = atoi(words[at]);
   if (!strcmp(what, "wrong")) wrong();
   else if (!strcmp(what, "memory")) memory();
+  else if (!strcmp(what, "missing")) missing();
+  else if (!strcmp(what, "watched")) watched();
   else if (!strcmp(what, "freed")) freed(given[0]);
   else if (!strcmp(what, "forked")) forked(given[0]);
   else if (!strcmp(what, "interrupted")) interrupted();

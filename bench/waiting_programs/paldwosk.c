@@ -11,7 +11,7 @@ static int meet(int thread, uint64_t phase) {
 }
 
 static void must(paldwosk_answer answer) {
-  if (answer != PALDWOSK_DONE) stop(3, "the barrier and its tasks couldn't be made");
+  if (answer != PALDWOSK_DONE) stop(3, paldwosk_answer_text(answer));
 }
 
 /* By the bound 2 nobody waits who wouldn't wait anyway. */
@@ -27,6 +27,6 @@ int main(int count, char **words) {
   make_all();
   go_through_by_threads();
   print_times();
-  paldwosk_barrier_free(&all);
+  must(paldwosk_barrier_free(&all));
   return 0;
 }

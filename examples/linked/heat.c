@@ -12,7 +12,7 @@ static int steps[THREADS];
 
 static void must(paldwosk_answer answer) {
   if (answer == PALDWOSK_DONE) return;
-  fprintf(stderr, "answer %d\n", (int)answer);
+  fprintf(stderr, "%s\n", paldwosk_answer_text(answer));
   exit(1);
 }
 

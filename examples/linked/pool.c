@@ -15,7 +15,7 @@ typedef struct worker {
 
 static void must(paldwosk_answer answer) {
   if (answer == PALDWOSK_DONE) return;
-  fprintf(stderr, "answer %d\n", (int)answer);
+  fprintf(stderr, "%s\n", paldwosk_answer_text(answer));
   exit(1);
 }
 

@@ -11,7 +11,7 @@ static int64_t seen[THREADS][3];
 
 static void must(paldwosk_answer answer) {
   if (answer == PALDWOSK_DONE) return;
-  fprintf(stderr, "answer %d\n", (int)answer);
+  fprintf(stderr, "%s\n", paldwosk_answer_text(answer));
   exit(1);
 }
 
