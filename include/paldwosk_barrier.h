@@ -15,8 +15,8 @@
  * WHAT IS PROVED. The archive's functions phaser_c_waiting_.. make every decision: which tasks a call frees, with which
  * answer, in which order. They let no task go on too early, and a task that waits after a call still has to wait.
  * NOT PROVED, but tested by tests/waiting, is what this header adds: a mutex round each of these calls, and threads
- * that sleep and are woken. So is what it notes of each task, to say who is missing. Nor is the trace that it writes
- * proved; a replay judges it.
+ * that spin, yield, sleep and are woken. So is what it notes of each task, to say who is missing. Nor is the trace that
+ * it writes proved; a replay judges it.
  *
  * WHAT IT NEEDS. gcc or clang, C11 or C++17, and the threads of POSIX. -std=c11 does: nothing has to be defined
  * before it, and it defines nothing that changes what other headers declare. Link what paldwosk.h asks for, and
@@ -109,6 +109,7 @@ typedef struct paldwosk_barrier {
   uint32_t inside;                /* atomic: how many threads wait, or read the barrier still after they were freed */
   uint32_t pauses, most_pauses;   /* atomic: for how many a thread spins, and may spin */
   uint32_t probe_after;           /* atomic: how many don't from one that spins for as long as it may to the next */
+  int32_t credit;                 /* atomic: a thread that waits yields its processor while this is positive */
 } paldwosk_barrier;
 
 /* A task of a barrier. It may be copied. */
@@ -135,6 +136,19 @@ typedef struct paldwosk_task {
 
 /* After so many others have waited one tries whether it is good to spin. */
 #define PALDWOSK_PROBE_AFTER 64
+
+/* How often a thread yields its processor at most before it sleeps. Yields of so many microseconds are long: others have
+ * much to do there. */
+#define PALDWOSK_MOST_YIELDS 10
+#define PALDWOSK_LONG_YIELDS 200
+
+/* A barrier has credit for yields. Yields in vain cost some for each microsecond. A wait that a yield ends earns some,
+ * and a wait without yields earns 1. So 1 ms in vain is paid by 63 waits that yields end, or by 4,000 without. A new
+ * barrier has the most, which pays for 40 ms. */
+#define PALDWOSK_YIELDS_COST 4
+#define PALDWOSK_YIELDS_EARN 64
+#define PALDWOSK_MOST_CREDIT 160000
+#define PALDWOSK_LEAST_CREDIT (-1000000)
 
 /* ---- What stands here, down to the barrier itself, isn't to be called. First: the trace of a barrier. It has an
  * event for each event of the phaser, in their order. What else the text needs, follows from these. */
@@ -390,6 +404,7 @@ struct paldwosk_sleeper {
   uint32_t call, single, answer;
   uint32_t state;     /* atomic if threads sleep by futex, else guarded by the lock */
   uint32_t patience;  /* for how many pauses it spins */
+  uint32_t yields;    /* and then, how often it yields its processor at most */
   uint8_t is_probe;   /* that is as long as it may */
   uint8_t is_parked;  /* it has to wait: it was put into the list, and counted as inside */
   uint8_t is_to_ask;  /* of a traced barrier: it makes its next call before the lock is given back */
@@ -560,6 +575,61 @@ static inline void paldwosk_set_answer(paldwosk_barrier *barrier, struct paldwos
   barrier->claimer = sleeper->task;
 }
 
+static inline int paldwosk_is_ready(const struct paldwosk_sleeper *me) {
+  return __atomic_load_n(&me->state, __ATOMIC_ACQUIRE) == PALDWOSK_READY;
+}
+
+static inline int64_t paldwosk_microseconds(void) {
+  struct timespec now = {0, 0};
+  timespec_get(&now, TIME_UTC); /* of the clocks it is the one that -std=c11 doesn't hide */
+  return (int64_t)now.tv_sec * 1000000 + now.tv_nsec / 1000;
+}
+
+/* With the lock: how often the thread that waits now may yield. */
+static inline uint32_t paldwosk_yields(paldwosk_barrier *barrier) {
+  int32_t credit = __atomic_load_n(&barrier->credit, __ATOMIC_RELAXED);
+  if (!__atomic_load_n(&barrier->most_pauses, __ATOMIC_RELAXED)) return 0;
+  if (credit > 0) return PALDWOSK_MOST_YIELDS;
+  __atomic_store_n(&barrier->credit, credit + 1, __ATOMIC_RELAXED);
+  return 0;
+}
+
+/* What is learned of yields that took so many microseconds. They are in vain if the thread has to sleep all the same, or
+ * if they were long. A change that another thread's overtakes is lost: the credit orders nothing. */
+static inline void paldwosk_learn_of_yields(paldwosk_barrier *barrier, int64_t took, int is_in_vain) {
+  int32_t credit = __atomic_load_n(&barrier->credit, __ATOMIC_RELAXED);
+  int64_t better = (int64_t)credit + PALDWOSK_YIELDS_EARN;
+  if (is_in_vain) better = credit - PALDWOSK_YIELDS_COST * took;
+  if (better > PALDWOSK_MOST_CREDIT) better = PALDWOSK_MOST_CREDIT;
+  if (better < PALDWOSK_LEAST_CREDIT) better = PALDWOSK_LEAST_CREDIT;
+  if (better != credit) __atomic_store_n(&barrier->credit, (int32_t)better, __ATOMIC_RELAXED);
+}
+
+/* Lets others have the processor, and the lock if threads sleep with it by a condition variable. */
+static inline void paldwosk_give_way(paldwosk_barrier *barrier) {
+#ifdef PALDWOSK_BY_FUTEX
+  (void)barrier;
+  sched_yield();
+#else
+  pthread_mutex_unlock(&barrier->lock);
+  sched_yield();
+  pthread_mutex_lock(&barrier->lock);
+#endif
+}
+
+/* With more threads than processors those that the call waits for may have none. To yield to them takes less time than
+ * to sleep and to be woken. */
+static inline void paldwosk_yield(paldwosk_barrier *barrier, struct paldwosk_sleeper *me) {
+  if (!me->yields || paldwosk_is_ready(me)) return;
+  int64_t began = paldwosk_microseconds(), took = 0;
+  for (uint32_t done = 0; done < me->yields && took < PALDWOSK_LONG_YIELDS && !paldwosk_is_ready(me); done++) {
+    paldwosk_give_way(barrier);
+    took = paldwosk_microseconds() - began;
+    if (took < 0) took = 0; /* somebody has set the clock */
+  }
+  paldwosk_learn_of_yields(barrier, took, took >= PALDWOSK_LONG_YIELDS || !paldwosk_is_ready(me));
+}
+
 #ifdef PALDWOSK_BY_FUTEX
 
 static inline void paldwosk_pause(void) {
@@ -583,11 +653,12 @@ static inline uint32_t paldwosk_patience(paldwosk_barrier *barrier, struct paldw
   return __atomic_load_n(&barrier->most_pauses, __ATOMIC_RELAXED);
 }
 
-/* A thread that doesn't spin counts as asleep from the start; but not at a traced barrier, because its call may be over
- * before the lock is given back. */
+/* A thread that neither spins nor yields counts as asleep from the start; but not at a traced barrier, because its call
+ * may be over before the lock is given back. */
 static inline void paldwosk_prepare(paldwosk_barrier *barrier, struct paldwosk_sleeper *me) {
   me->patience = paldwosk_patience(barrier, me);
-  me->state = me->patience || barrier->trace ? PALDWOSK_SPINNING : PALDWOSK_ASLEEP;
+  me->yields = paldwosk_yields(barrier);
+  me->state = me->patience || me->yields || barrier->trace ? PALDWOSK_SPINNING : PALDWOSK_ASLEEP;
 }
 
 /* What a thread learns that has spun. If it was freed meanwhile, others spin longer, else half as long, and soon not
@@ -629,15 +700,12 @@ static inline void paldwosk_lock(paldwosk_barrier *barrier) {
   pthread_mutex_lock(&barrier->lock);
 }
 
-static inline int paldwosk_is_ready(const struct paldwosk_sleeper *me) {
-  return __atomic_load_n(&me->state, __ATOMIC_ACQUIRE) == PALDWOSK_READY;
-}
-
 /* After it the sleeper is READY, or ASLEEP: then others have to wake it. */
 static inline void paldwosk_spin(paldwosk_barrier *barrier, struct paldwosk_sleeper *me) {
   uint32_t spun = 0, state = PALDWOSK_SPINNING;
   for (; spun < me->patience && !paldwosk_is_ready(me); spun++) paldwosk_pause();
   if (me->patience) paldwosk_learn(barrier, me, spun == me->patience);
+  paldwosk_yield(barrier, me);
   if (__atomic_load_n(&me->state, __ATOMIC_RELAXED) != PALDWOSK_SPINNING) return;
   __atomic_compare_exchange_n(&me->state, &state, PALDWOSK_ASLEEP, 0, __ATOMIC_ACQUIRE, __ATOMIC_ACQUIRE);
 }
@@ -670,8 +738,7 @@ static inline void paldwosk_unlock(paldwosk_barrier *barrier, struct paldwosk_sl
 static inline void paldwosk_lock(paldwosk_barrier *barrier) { pthread_mutex_lock(&barrier->lock); }
 
 static inline void paldwosk_prepare(paldwosk_barrier *barrier, struct paldwosk_sleeper *me) {
-  (void)barrier;
-  (void)me;
+  me->yields = paldwosk_yields(barrier);
 }
 
 static inline void paldwosk_set_ready(paldwosk_barrier *barrier, struct paldwosk_sleeper *sleeper) {
@@ -679,11 +746,12 @@ static inline void paldwosk_set_ready(paldwosk_barrier *barrier, struct paldwosk
   barrier->to_wake = 1;
 }
 
-/* Sleeps until the call is over. The waiting for a condition variable would be a cancellation point. */
+/* Yields, and sleeps until the call is over. The waiting for a condition variable would be a cancellation point. */
 static inline void paldwosk_sleep(paldwosk_barrier *barrier, struct paldwosk_sleeper *me) {
   int old = 0;
+  paldwosk_yield(barrier, me);
   pthread_setcancelstate(PTHREAD_CANCEL_DISABLE, &old);
-  while (me->state != PALDWOSK_READY) pthread_cond_wait(&barrier->turned, &barrier->lock);
+  while (!paldwosk_is_ready(me)) pthread_cond_wait(&barrier->turned, &barrier->lock);
   pthread_setcancelstate(old, &old);
 }
 
@@ -933,7 +1001,7 @@ static inline void paldwosk_call(paldwosk_barrier *barrier, struct paldwosk_slee
 }
 
 static inline struct paldwosk_sleeper paldwosk_new_sleeper(uint64_t task, uint32_t call, uint32_t single) {
-  struct paldwosk_sleeper me = {NULL, task, 0, call, single, PALDWOSK_NOT_YET, PALDWOSK_SPINNING, 0, 0, 0, 0, 0};
+  struct paldwosk_sleeper me = {NULL, task, 0, call, single, PALDWOSK_NOT_YET, PALDWOSK_SPINNING, 0, 0, 0, 0, 0, 0};
   return me;
 }
 
@@ -1035,6 +1103,7 @@ static inline void paldwosk_open(paldwosk_barrier *barrier) {
   barrier->processors = processors > 0 ? (uint32_t)processors : 1;
   barrier->most_pauses = PALDWOSK_MOST_PAUSES;
   barrier->watch = paldwosk_watch_of_environment();
+  barrier->credit = PALDWOSK_MOST_CREDIT;
   barrier->first = NULL;
   barrier->last = &barrier->first;
   barrier->forks_then = __atomic_load_n(&paldwosk_forks, __ATOMIC_RELAXED);
@@ -1304,9 +1373,11 @@ static inline paldwosk_answer paldwosk_barrier_missing(paldwosk_barrier *barrier
   return PALDWOSK_DONE;
 }
 
-/* For how many pauses a thread spins at most before it sleeps; 0: it never spins. The barrier finds out by itself for
- * how long to spin, up to this. No thread spins if there are more tasks than processors, or if threads sleep by a
- * condition variable. */
+/* For how many pauses of the processor a thread spins at most before it yields and then sleeps. A new barrier has
+ * PALDWOSK_MOST_PAUSES; a number over 2^30 - 1 counts as that. paldwosk_barrier_spin(&barrier, 0) has each thread that
+ * waits sleep at once: it neither spins nor yields. The barrier finds out by itself for how long to spin, up to this,
+ * and whether to yield. No thread spins if there are more tasks than processors, or if threads sleep by a condition
+ * variable. */
 PALDWOSK_MUST_CHECK
 static inline paldwosk_answer paldwosk_barrier_spin(paldwosk_barrier *barrier, uint32_t most) {
   paldwosk_answer answer = paldwosk_enter(barrier);

@@ -7,6 +7,7 @@
  * waiting watched: what threads say that wait for longer than two seconds, and that each says it once.
  * waiting freed TIMES: barriers that are freed, and their memory taken away, right after the call that freed all who
  *   waited.
+ * waiting yielding: threads that yield, are freed meanwhile, or sleep in the end.
  * waiting forked TIMES: calls in the child of a fork, while another thread has the lock now and then.
  * waiting interrupted: a call that a signal interrupts while it waits.
  * waiting cancelled: threads that are cancelled, in a call and out of one.
@@ -28,6 +29,7 @@
 #include <stdio.h>
 #include <string.h>
 #include <sys/mman.h>
+#include <sys/syscall.h>
 #include <sys/wait.h>
 #include <time.h>
 
@@ -70,7 +72,30 @@ static void start(pthread_t *thread, void *(*body)(void *), void *given) {
 
 static void rest(int milliseconds) { poll(NULL, 0, milliseconds); }
 
-/* Whether as many threads as this sleep or spin in calls of the barrier, in time. */
+/* ---- Yields: the header's calls find this sched_yield. It counts, and does what the test wants in place of a yield. */
+
+#ifdef __cplusplus
+#define OF_LIBC extern "C"
+#define AS_IN_LIBC noexcept
+#else
+#define OF_LIBC
+#define AS_IN_LIBC
+long syscall(long number, ...); /* -std=c11 hides it */
+#endif
+
+static struct yields {
+  int count;                   /* atomic */
+  void (*instead)(int number); /* NULL: a yield; it is set while no thread yields */
+} yields;
+
+OF_LIBC int sched_yield(void) AS_IN_LIBC {
+  int number = __atomic_add_fetch(&yields.count, 1, __ATOMIC_RELAXED);
+  if (!yields.instead) return (int)syscall(SYS_sched_yield);
+  yields.instead(number);
+  return 0;
+}
+
+/* Whether as many threads as this sleep, spin or yield in calls of the barrier, in time. */
 static int are_parked(paldwosk_barrier *barrier, unsigned count) {
   for (int tried = 0; tried < 20000; tried++, rest(1)) {
     unsigned found = 0;
@@ -659,18 +684,25 @@ static void *pass_once(void *given) {
   return NULL;
 }
 
+static void yield_long(int number) {
+  (void)number;
+  rest(1);
+}
+
 /* The last of four frees the barrier when its own call has returned; the others may not have come out of theirs yet.
- * Then nobody may touch its memory any more: whoever still does is stopped. */
+ * They sleep, spin, or are in a yield of 1 ms then. Nobody may touch its memory any more: whoever still does is stopped.
+ */
 static void freed(int times) {
   const size_t page = 1 << 16;
   paldwosk_barrier *barrier = (paldwosk_barrier *)aligned_alloc(page, page);
   if (!barrier) exit(5);
+  yields.instead = yield_long;
   for (int time = 0; time < times; time++) {
     paldwosk_task tasks[4] = {PALDWOSK_NO_TASK};
     pthread_t threads[3];
     make_party(barrier, tasks, 4);
-    DONE(paldwosk_barrier_spin(barrier, time % 2 ? 0 : 1 << 22));
-    barrier->pauses = 1 << 20; /* as if it had been good to spin for so long */
+    DONE(paldwosk_barrier_spin(barrier, time % 3 ? 1 << 22 : 0));
+    barrier->pauses = time % 3 == 1 ? 1 << 20 : 0; /* as if it had been good to spin for so long, or not at all */
     for (int at = 0; at < 3; at++) start(&threads[at], pass_once, &tasks[at + 1]);
     if (time % 4 < 2) MUST(are_parked(barrier, 3)); /* else some may come first who haven't been waited for */
     pass_once(&tasks[0]);
@@ -682,6 +714,113 @@ static void freed(int times) {
     MUST(mprotect(barrier, page, PROT_READ | PROT_WRITE) == 0);
   }
   free(barrier);
+}
+
+/* ---- A thread that yields */
+
+/* In the first yield of task 0 its own thread makes the call of task 1, which frees it. */
+static paldwosk_task last_task;
+
+static void come_at_first(int number) {
+  if (number == 1) DONE(paldwosk_barrier_next(&last_task, NULL));
+}
+
+static void no_yield(int number) { (void)number; }
+
+/* A party of two, who don't spin, since that didn't pay before. It has this credit. */
+static void make_yielding(paldwosk_barrier *barrier, paldwosk_task *tasks, int32_t credit, void (*instead)(int)) {
+  make_party(barrier, tasks, 2);
+  last_task = tasks[1];
+  barrier->credit = credit;
+  yields.count = 0;
+  yields.instead = instead;
+}
+
+/* A call that a yield ends earns 64. If others took the processor from the test it was long: 200 us cost 800. */
+static void yields_until_it_is_freed(void) {
+  paldwosk_barrier barrier;
+  paldwosk_task tasks[2] = {PALDWOSK_NO_TASK};
+  uint64_t phase = 77;
+  make_yielding(&barrier, tasks, 1000, come_at_first);
+  DONE(paldwosk_barrier_next(&tasks[0], &phase));
+  MUST(phase == 0 && yields.count == 1);
+  MUST(barrier.credit == 1064 || barrier.credit <= 200);
+  DONE(paldwosk_barrier_free(&barrier));
+}
+
+/* Whether a thread yields within some seconds, and stops to. */
+static int yields_come_to_an_end(void) {
+  for (int tried = 0, before = 0; tried < 1000; tried++, rest(20)) {
+    int now = __atomic_load_n(&yields.count, __ATOMIC_RELAXED);
+    if (now != 0 && now == before) return 1;
+    before = now;
+  }
+  return 0;
+}
+
+/* It yields ten times, or fewer if that takes long. */
+static void sleeps_in_the_end(void) {
+  paldwosk_barrier barrier;
+  paldwosk_task tasks[2] = {PALDWOSK_NO_TASK};
+  call waiter;
+  make_yielding(&barrier, tasks, 1, no_yield);
+  begin_call(&waiter, tasks[0], 'n');
+  MUST(yields_come_to_an_end());
+  DONE(paldwosk_barrier_next(&tasks[1], NULL));
+  end_call(&waiter, PALDWOSK_DONE, 0);
+  MUST(yields.count >= 1 && yields.count <= 10);
+  DONE(paldwosk_barrier_free(&barrier));
+}
+
+/* Yields in vain of 1 ms cost 4,000: one is enough, and the next call sleeps at once, which earns 1. */
+static void long_yields_are_paid(void) {
+  paldwosk_barrier barrier;
+  paldwosk_task tasks[2] = {PALDWOSK_NO_TASK};
+  call waiter;
+  make_yielding(&barrier, tasks, 16, yield_long);
+  begin_call(&waiter, tasks[0], 'n');
+  MUST(yields_come_to_an_end());
+  DONE(paldwosk_barrier_next(&tasks[1], NULL));
+  end_call(&waiter, PALDWOSK_DONE, 0);
+  int32_t credit = barrier.credit;
+  MUST(yields.count == 1 && credit <= 16 - 4000 && credit >= -1000000);
+  begin_call(&waiter, tasks[0], 'n');
+  MUST(are_parked(&barrier, 1));
+  DONE(paldwosk_barrier_next(&tasks[1], NULL));
+  end_call(&waiter, PALDWOSK_DONE, 1);
+  MUST(yields.count == 1 && barrier.credit == credit + 1);
+  DONE(paldwosk_barrier_free(&barrier));
+}
+
+/* The credit as it is worked out by hand, and its least and its most. */
+static void credit_is_counted(void) {
+  paldwosk_barrier barrier;
+  paldwosk_task tasks[2] = {PALDWOSK_NO_TASK};
+  make_yielding(&barrier, tasks, 100, no_yield);
+  paldwosk_learn_of_yields(&barrier, 5, 1);
+  MUST(barrier.credit == 80);
+  paldwosk_learn_of_yields(&barrier, 199, 0);
+  MUST(barrier.credit == 144 && paldwosk_yields(&barrier) == 10);
+  paldwosk_learn_of_yields(&barrier, 39, 1);
+  MUST(barrier.credit == -12);
+  for (int wait = 0; wait < 12; wait++) MUST(paldwosk_yields(&barrier) == 0);
+  MUST(barrier.credit == 0 && paldwosk_yields(&barrier) == 0);
+  MUST(barrier.credit == 1 && paldwosk_yields(&barrier) == 10);
+  paldwosk_learn_of_yields(&barrier, INT64_C(3600000000), 1);
+  MUST(barrier.credit == -1000000);
+  barrier.credit = 159999;
+  paldwosk_learn_of_yields(&barrier, 1, 0);
+  MUST(barrier.credit == 160000);
+  DONE(paldwosk_barrier_spin(&barrier, 0));
+  MUST(paldwosk_yields(&barrier) == 0 && barrier.credit == 160000);
+  DONE(paldwosk_barrier_free(&barrier));
+}
+
+static void yielding(void) {
+  credit_is_counted();
+  yields_until_it_is_freed();
+  sleeps_in_the_end();
+  long_yields_are_paid();
 }
 
 /* ---- Forks */
@@ -1641,11 +1780,13 @@ int main(int count, char **words) {
   int given[3] = {0, 0, 0};
   const char *what = count > 1 ? words[1] : "";
   for (int at = 2; at < count && at < 5; at++) given[at - 2] = atoi(words[at]);
+  UNCHECKED(&yields, sizeof yields);
   if (!strcmp(what, "wrong")) wrong();
   else if (!strcmp(what, "memory")) memory();
   else if (!strcmp(what, "missing")) missing();
   else if (!strcmp(what, "watched")) watched();
   else if (!strcmp(what, "freed")) freed(given[0]);
+  else if (!strcmp(what, "yielding")) yielding();
   else if (!strcmp(what, "forked")) forked(given[0]);
   else if (!strcmp(what, "interrupted")) interrupted();
   else if (!strcmp(what, "cancelled")) cancelled();

@@ -1,11 +1,12 @@
 //! A barrier of the form of `std::sync::Barrier`.
 use crate::answers::{Mode, Refusal};
 use crate::bell::Bell;
-use crate::spins::{have_processors, Spins};
+use crate::spins::{have_processors, lock, Spins};
 use crate::waiting_cell::{Answer, Ended, WaitingCell};
+use crate::yields::Yields;
 use std::fmt;
 use std::sync::atomic::Ordering::{AcqRel, Acquire, Relaxed};
-use std::sync::{Mutex, MutexGuard, PoisonError};
+use std::sync::{Mutex, MutexGuard};
 
 /// As `std::sync::Barrier`, over a phaser: any so many threads may meet at it, again and again. A program takes it by one
 /// changed line, `use paldwosk::Barrier`, but for a `static`: [`Barrier::new`] takes memory, so there it stands in a
@@ -29,6 +30,7 @@ pub struct Barrier {
     /// 2^31 generations: a thread would have to stand still so long between two instructions to take one for another.
     bell: Bell,
     spins: Spins,
+    yields: Yields,
     threads: usize,
 }
 
@@ -83,12 +85,13 @@ impl Barrier {
             Ok(cell) => cell,
             Err(refusal) => panic!("a paldwosk::Barrier for {threads} threads: {refusal}"),
         };
-        Barrier { meeting: Mutex::new(Meeting { cell, came: 0 }), bell: Bell::new(), spins: Spins::new(), threads }
+        let meeting = Mutex::new(Meeting { cell, came: 0 });
+        Barrier { meeting, bell: Bell::new(), spins: Spins::new(), yields: Yields::new(), threads }
     }
 
     /// Waits until as many threads have come as the barrier is for.
     pub fn wait(&self) -> BarrierWaitResult {
-        let mut meeting = self.lock();
+        let mut meeting = lock(&self.meeting);
         // With the lock held the generation stays.
         let generation = self.bell.word.load(Relaxed) & !SLEEPERS;
         let task = meeting.came;
@@ -120,7 +123,7 @@ impl Barrier {
 
     fn wait_past(&self, generation: u32) {
         let is_over = || self.bell.word.load(Acquire) & !SLEEPERS != generation;
-        if have_processors(self.threads) && self.spins.until(is_over) {
+        if have_processors(self.threads) && self.spins.until(is_over) || self.yields.until(is_over) {
             return;
         }
         let sleeping = generation | SLEEPERS;
@@ -133,11 +136,6 @@ impl Barrier {
             }
             self.bell.sleep(sleeping, u32::MAX);
         }
-    }
-
-    /// No code of a caller's runs with the lock held, so a poisoned one guards what is whole.
-    fn lock(&self) -> MutexGuard<'_, Meeting> {
-        self.meeting.lock().unwrap_or_else(PoisonError::into_inner)
     }
 }
 

@@ -6,13 +6,14 @@
 use crate::answers::{Look, Mode, Operator, Refusal};
 use crate::bell::Bell;
 use crate::seats::{bit, Seat, SEATS};
-use crate::spins::{have_processors, Spins};
+use crate::spins::{have_processors, lock, Spins};
 use crate::trace::Trace;
 use crate::waiting_cell::{outcome, Answer, Outcome, WaitingCell};
+use crate::yields::Yields;
 use std::collections::VecDeque;
 use std::mem::take;
 use std::sync::atomic::Ordering::{Acquire, Release};
-use std::sync::{Mutex, MutexGuard, PoisonError};
+use std::sync::{Mutex, MutexGuard};
 
 /// A call that may have to wait.
 #[derive(Clone, Copy, Debug, PartialEq, Eq)]
@@ -121,6 +122,7 @@ pub(crate) struct Shared {
     /// Its word is raised before sleepers are woken.
     bell: Bell,
     spins: Spins,
+    yields: Yields,
     is_traced: bool,
 }
 
@@ -131,12 +133,12 @@ impl Shared {
         let sleepers = VecDeque::with_capacity(SEATS);
         let held = Held { cell, sleepers, free: (0..SEATS).rev().collect(), woken: 0, trace };
         let seats = (0..SEATS).map(|_| Seat::new()).collect();
-        Ok(Shared { held: Mutex::new(held), seats, bell: Bell::new(), spins: Spins::new(), is_traced })
+        let (held, bell, spins, yields) = (Mutex::new(held), Bell::new(), Spins::new(), Yields::new());
+        Ok(Shared { held, seats, bell, spins, yields, is_traced })
     }
 
-    /// No code of a caller's runs with the lock held, so a poisoned one guards what is whole.
     fn lock(&self) -> MutexGuard<'_, Held> {
-        self.held.lock().unwrap_or_else(PoisonError::into_inner)
+        lock(&self.held)
     }
 
     /// Gives the lock back, and wakes those who sleep and were answered under it.
@@ -154,7 +156,8 @@ impl Shared {
     /// Waits until the answer stands at the seat.
     fn answer_at(&self, at: usize, may_spin: bool) -> Outcome {
         let seat = &self.seats[at];
-        let is_ready = may_spin && self.spins.until(|| seat.is_ready());
+        let has_come = || seat.is_ready();
+        let is_ready = may_spin && self.spins.until(has_come) || self.yields.until(has_come);
         if !is_ready && seat.falls_asleep() {
             loop {
                 // The word comes first. If it was raised for this task, the seat is ready; if it is raised after this, the

@@ -1,7 +1,7 @@
-//! For how long a thread looks for its answer before it sleeps.
+//! For how long a thread looks for its answer, or tries to take a lock, before it yields or sleeps.
 use std::hint::spin_loop;
 use std::sync::atomic::{AtomicU32, Ordering::Relaxed};
-use std::sync::OnceLock;
+use std::sync::{Mutex, MutexGuard, OnceLock, PoisonError, TryLockError};
 use std::thread::available_parallelism;
 
 /// As many rounds as take about as long as to fall asleep and to be woken.
@@ -10,6 +10,9 @@ const MOST: u32 = 1_000;
 /// Below it a thread sleeps at once, but for one in so many.
 const LEAST: u32 = 32;
 const PROBES: u32 = 64;
+
+/// How often a thread tries to take a lock before it waits for it.
+const LOCK_TRIES: u32 = 100;
 
 /// How many rounds are likely to do, by what those did who waited here before. All who wait share it.
 // It orders nothing: a number that is lost or late makes a thread spin for too long or too short a time.
@@ -63,6 +66,20 @@ impl Spins {
 pub(crate) fn have_processors(threads: usize) -> bool {
     static PROCESSORS: OnceLock<usize> = OnceLock::new();
     threads <= *PROCESSORS.get_or_init(|| available_parallelism().map_or(1, usize::from))
+}
+
+/// Takes a lock that is held for a fraction of a microsecond. std's `lock` sleeps at once if another thread sleeps there: so
+/// one after the other would have to be woken. No code of a caller's runs with it held, so a poisoned one guards what is
+/// whole.
+pub(crate) fn lock<T>(mutex: &Mutex<T>) -> MutexGuard<'_, T> {
+    for _ in 0..LOCK_TRIES {
+        match mutex.try_lock() {
+            Ok(held) => return held,
+            Err(TryLockError::Poisoned(poisoned)) => return poisoned.into_inner(),
+            Err(TryLockError::WouldBlock) => spin_loop(),
+        }
+    }
+    mutex.lock().unwrap_or_else(PoisonError::into_inner)
 }
 
 #[cfg(test)]
