@@ -88,10 +88,12 @@ def refuse_edits():
 
 
 def refuse_other_version(version):
-    """The crate and the headers say their version themselves."""
+    """The crate, the Python package and the headers say their version themselves."""
     if not re.fullmatch(r"\d+\.\d+\.\d+", version):
         raise Refused("packaging/VERSION isn't of the form 1.2.3")
     said = {"wrappers/rust/Cargo.toml": re.findall(r'^version = "(.*)"', (TOP / "wrappers/rust/Cargo.toml").read_text(), flags=re.M)[0]}
+    package = TOP / "wrappers/python/paldwosk/__init__.py"
+    said["wrappers/python/paldwosk/__init__.py"] = re.findall(r'^__version__ = "(.*)"', package.read_text(), flags=re.M)[0]
     header = TOP / "include/paldwosk_version.h"
     if header.exists():
         parts = dict(re.findall(r"#define PALDWOSK_VERSION_(MAJOR|MINOR|PATCH)\s+(\d+)", header.read_text()))
