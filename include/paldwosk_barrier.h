@@ -872,10 +872,6 @@ PALDWOSK_APART void paldwosk_report(paldwosk_barrier *barrier, struct paldwosk_s
 
 enum { PALDWOSK_MOST_TOLD = 16, PALDWOSK_LINE_ROOM = 2048 }; /* sixteen tasks of each kind take less than 1,400 bytes */
 
-static inline int paldwosk_is_over(const struct paldwosk_sleeper *me) {
-  return __atomic_load_n(&me->state, __ATOMIC_ACQUIRE) == PALDWOSK_READY;
-}
-
 #ifdef PALDWOSK_BY_FUTEX
 
 /* Gives the lock back, sleeps until the call is over or the time has come, and takes the lock again. The turn is read
@@ -888,7 +884,7 @@ static inline void paldwosk_sleep_until(paldwosk_barrier *barrier, struct paldwo
   paldwosk_unlock(barrier, me);
   do {
     uint32_t seen = __atomic_load_n(&barrier->turn, __ATOMIC_ACQUIRE);
-    if (paldwosk_is_over(me)) break;
+    if (paldwosk_is_ready(me)) break;
     slept = syscall(SYS_futex, &barrier->turn, WAIT_BITSET | IS_PRIVATE | BY_REAL_TIME, seen, until, NULL,
                     paldwosk_bit(me->task));
   } while (slept == 0 || errno != ETIMEDOUT);
@@ -903,7 +899,7 @@ static inline void paldwosk_sleep_until(paldwosk_barrier *barrier, struct paldwo
   int slept = 0;
   if (barrier->to_wake) pthread_cond_broadcast(&barrier->turned);
   barrier->to_wake = 0;
-  while (slept == 0 && !paldwosk_is_over(me)) slept = pthread_cond_timedwait(&barrier->turned, &barrier->lock, until);
+  while (slept == 0 && !paldwosk_is_ready(me)) slept = pthread_cond_timedwait(&barrier->turned, &barrier->lock, until);
 }
 
 #endif
@@ -972,7 +968,7 @@ static inline void paldwosk_watch(paldwosk_barrier *barrier, struct paldwosk_sle
   until.tv_sec += (time_t)barrier->watch;
   pthread_setcancelstate(PTHREAD_CANCEL_DISABLE, &old);
   paldwosk_sleep_until(barrier, me, &until);
-  if (!paldwosk_is_over(me)) paldwosk_tell_wait(barrier, me);
+  if (!paldwosk_is_ready(me)) paldwosk_tell_wait(barrier, me);
   pthread_setcancelstate(old, &old);
   errno = kept;
 }
