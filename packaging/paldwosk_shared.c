@@ -1,4 +1,4 @@
-/* The functions of the headers as symbols of a shared library, for those who can't include C: Python, Go, C#, dlopen.
+/* The functions of the headers as symbols of a shared library, for programs that can't include C: Python, Go, C#, dlopen.
  * paldwosk_so_NAME is paldwosk_NAME of the header: it takes, answers and asks for the same. A mode, an operator, an
  * answer and a status are numbers of 32 bits.
  *

@@ -87,7 +87,7 @@ mod tests {
     use super::*;
     use std::cell::Cell;
 
-    /// How often a thread looks, where it has come at the look of this number.
+    /// How often a thread looks, if its turn ends at the look of this number.
     fn looks(spins: &Spins, comes_at: u32) -> u32 {
         let looks = Cell::new(0);
         let came = spins.until(|| {

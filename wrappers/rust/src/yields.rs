@@ -74,7 +74,7 @@ mod tests {
         Yields { credit: AtomicI32::new(credit) }
     }
 
-    /// How often a thread looks, where it has come at the look of this number. The first is before the first yield.
+    /// How often a thread looks, if its turn ends at the look of this number. The first is before the first yield.
     fn looks(yields: &Yields, comes_at: u32) -> u32 {
         let looks = Cell::new(0);
         let came = yields.until(|| {
