@@ -1,12 +1,12 @@
-//! A word by which threads sleep until it changes: a futex on Linux, elsewhere a condition variable. Each sleeper has a bit,
+//! A word by which threads sleep until it changes: a futex, or for tests a condition variable. Each sleeper has a bit,
 //! and is woken by it; it may also wake for nothing, so it looks again for what it waits for.
-#[cfg(has_futex)]
+#[cfg(not(feature = "_condition_variable"))]
 pub(crate) use futex::Bell;
 
-#[cfg(not(has_futex))]
+#[cfg(feature = "_condition_variable")]
 pub(crate) use condition_variable::Bell;
 
-#[cfg(has_futex)]
+#[cfg(not(feature = "_condition_variable"))]
 mod futex {
     use std::ffi::{c_int, c_long};
     use std::ptr::null;
@@ -49,7 +49,7 @@ mod futex {
     }
 }
 
-#[cfg(not(has_futex))]
+#[cfg(feature = "_condition_variable")]
 mod condition_variable {
     use std::sync::atomic::{AtomicU32, Ordering::Acquire};
     use std::sync::{Condvar, Mutex, MutexGuard, PoisonError};

@@ -22,7 +22,6 @@
 #![deny(unsafe_op_in_unsafe_fn)]
 
 mod answers;
-mod archive;
 mod barrier;
 mod bell;
 mod checker;
@@ -35,6 +34,8 @@ mod spins;
 mod trace;
 mod waiting_cell;
 mod yields;
+
+use paldwosk_sys as archive;
 
 pub use answers::{Look, Mode, Operator, Passing, Refusal, Signalling};
 pub use barrier::{Barrier, BarrierWaitResult};

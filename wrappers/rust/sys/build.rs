@@ -1,15 +1,17 @@
 //! Says what is linked: the first of these that is there.
 //!
-//! 1. `libphaser_c.a` in the folder `PALDWOSK_ARCHIVE`;
+//! 1. `libpaldwosk.a` or `libphaser_c.a` in the folder `PALDWOSK_ARCHIVE`;
 //! 2. what `pkg-config` names for `paldwosk`;
 //! 3. `vendor/x86_64-unknown-linux-gnu/libpaldwosk.a` in this package;
 //! 4. what `tools/build_program phaser_c` makes in the checkout.
 //!
 //! A `libpaldwosk.a` is whole. With a `libphaser_c.a` goes the toolchain's archive by which it calls malloc. That stands in
 //! the folder `RATTLE_C`, or in the folder `c` of the kit whose command `rt` is on the PATH.
+//!
+//! If there is nothing to link a warning says why. Only what links fails then: `cargo check` and `cargo doc` go on.
 use std::env::{split_paths, var, var_os};
 use std::path::{Path, PathBuf};
-use std::process::{exit, Command};
+use std::process::Command;
 
 /// The target that there are archives for.
 const TARGET: &str = "x86_64-unknown-linux-gnu";
@@ -18,22 +20,20 @@ const TARGET: &str = "x86_64-unknown-linux-gnu";
 type Lines = Result<Vec<String>, String>;
 
 fn main() {
-    // Pages are made without an archive.
-    let lines = if var_os("DOCS_RS").is_some() { Ok(Vec::new()) } else { linked() };
-    if let Err(fault) = &lines {
-        println!("cargo::error={fault}");
-        exit(1);
+    println!("cargo::rerun-if-changed=build.rs");
+    for name in ["PALDWOSK_ARCHIVE", "RATTLE_C", "PKG_CONFIG_PATH", "PKG_CONFIG_LIBDIR"] {
+        println!("cargo::rerun-if-env-changed={name}");
     }
-    println!("cargo:rerun-if-changed=build.rs");
-    for name in ["DOCS_RS", "PALDWOSK_ARCHIVE", "RATTLE_C", "PKG_CONFIG_PATH", "PKG_CONFIG_LIBDIR"] {
-        println!("cargo:rerun-if-env-changed={name}");
+    match linked() {
+        Ok(lines) => lines.iter().for_each(|line| println!("cargo::{line}")),
+        Err(fault) => {
+            println!("cargo::warning={fault}");
+            // The compiler finds no such library where it has to link one.
+            println!("cargo::rustc-link-lib=static=paldwosk");
+            // As long as this file isn't there, and it never is, the script runs each time: an archive may have come.
+            println!("cargo::rerun-if-changed=no_archive");
+        }
     }
-    println!("cargo:rustc-check-cfg=cfg(has_futex)");
-    // The other way to sleep, by a condition variable, is there for tests.
-    if var_os("CARGO_FEATURE__CONDITION_VARIABLE").is_none() {
-        println!("cargo:rustc-cfg=has_futex");
-    }
-    lines.iter().flatten().for_each(|line| println!("cargo:{line}"));
 }
 
 fn linked() -> Lines {
@@ -44,17 +44,18 @@ fn linked() -> Lines {
     // As it is now: the same script is run for a package that was moved.
     let package = PathBuf::from(var_os("CARGO_MANIFEST_DIR").unwrap_or_default());
     if let Some(folder) = var_os("PALDWOSK_ARCHIVE") {
-        return with_toolchain(Path::new(&folder))
-            .unwrap_or_else(|| Err(format!("there is no libphaser_c.a in the folder PALDWOSK_ARCHIVE, {folder:?}")));
+        let found = whole(Path::new(&folder)).map(Ok).or_else(|| with_toolchain(Path::new(&folder)));
+        let fault = || format!("there is no libpaldwosk.a or libphaser_c.a in the folder PALDWOSK_ARCHIVE, {folder:?}");
+        return found.unwrap_or_else(|| Err(fault()));
     }
     installed()
         .or_else(|| whole(&package.join("vendor").join(TARGET)).map(Ok))
-        .or_else(|| with_toolchain(&package.join("../../crates/phaser_c/out")))
+        .or_else(|| with_toolchain(&package.join("../../../crates/phaser_c/out")))
         .unwrap_or_else(|| Err(NOTHING_TO_LINK.to_string()))
 }
 
 const NOTHING_TO_LINK: &str = "paldwosk finds no archive to link: install one that `pkg-config --libs paldwosk` names, \
-    or set PALDWOSK_ARCHIVE to the folder of libphaser_c.a, or in a checkout make it by `tools/build_program phaser_c`";
+    or set PALDWOSK_ARCHIVE to the folder of libpaldwosk.a, or in a checkout make it by `tools/build_program phaser_c`";
 
 const NO_TOOLCHAIN: &str =
     "there is no liblibc_c.a of the Rattle toolchain: set RATTLE_C to its folder, or put the command `rt` on the PATH";

@@ -1,0 +1,155 @@
+//! The functions of Paldwosk's static library, as `include/paldwosk.h` declares them. The crate `paldwosk` has safe ones over
+//! them. What a caller has to uphold, and what each function answers, stands in that header.
+//!
+//! ```
+//! let file = br#"{"accs":["sum"],"calls":[["make",0,"SIG_WAIT"],["send",0,0,1]]}"#;
+//! let (mut lines, mut length) = ([0; 64], 0);
+//! // SAFETY: the pointers and lengths are those of two arrays, of which nobody else has the second.
+//! let status = unsafe {
+//!     paldwosk_sys::phaser_c_events(file.as_ptr(), file.len(), lines.as_mut_ptr(), lines.len(), &mut length)
+//! };
+//! assert_eq!((status, &lines[..length]), (0, &b"ok\nok\n"[..]));
+//! ```
+//!
+//! Nothing compares the declarations with those of `crates/phaser_c`: who changes one changes the other.
+#![no_std]
+
+use core::ffi::c_void;
+
+/// What the library keeps of a phaser: a pointer, null while there is none.
+#[repr(C)]
+pub struct Handle {
+    pub held: *mut c_void,
+}
+
+/// `paldwosk_limits`.
+#[repr(C)]
+pub struct GivenLimits {
+    pub acts: u32,
+    pub finishes: u32,
+    pub history: u32,
+    pub phasers: u32,
+    pub regs: u32,
+    pub tasks: u32,
+}
+
+/// `paldwosk_freed`: a task that had to wait. Another task's call has now ended its wait.
+#[repr(C)]
+#[derive(Clone, Copy)]
+pub struct Freed {
+    pub task: u64,
+    pub number: u64,
+    pub answer: u32,
+}
+
+/// `PALDWOSK_MOST_FREED`: how many tasks may wait at once, and be freed by one call.
+pub const MOST_FREED: usize = 256;
+
+unsafe extern "C" {
+    pub fn phaser_c_replay(
+        trace: *const u8,
+        length: usize,
+        report: *mut u8,
+        room: usize,
+        written: &mut usize,
+    ) -> u32;
+    pub fn phaser_c_events(
+        file: *const u8,
+        length: usize,
+        lines: *mut u8,
+        room: usize,
+        written: &mut usize,
+    ) -> u32;
+    pub fn phaser_c_new(
+        phaser: &mut Handle,
+        limits: &GivenLimits,
+        operators: *const u32,
+        count: usize,
+        bound: u32,
+    ) -> u32;
+    pub fn phaser_c_free(phaser: &mut Handle);
+    pub fn phaser_c_make(phaser: &mut Handle, task: u32, mode: u32) -> u32;
+    pub fn phaser_c_register(phaser: &mut Handle, parent: u32, child: u32, mode: u32) -> u32;
+    pub fn phaser_c_signal(phaser: &mut Handle, task: u32) -> u32;
+    pub fn phaser_c_signal_single(phaser: &mut Handle, task: u32, number: u32) -> u32;
+    pub fn phaser_c_pass(phaser: &mut Handle, task: u32, number: &mut u32) -> u32;
+    pub fn phaser_c_single_done(phaser: &mut Handle, task: u32) -> u32;
+    pub fn phaser_c_send(phaser: &mut Handle, task: u32, accumulator: u8, value: i32) -> u32;
+    pub fn phaser_c_look(phaser: &mut Handle, task: u32, accumulator: u8, value: &mut i64) -> u32;
+    pub fn phaser_c_drop(phaser: &mut Handle, task: u32) -> u32;
+    pub fn phaser_c_is_closed(phaser: &mut Handle, phase: u32, closed: &mut u32) -> u32;
+    pub fn phaser_c_is_full(phaser: &mut Handle, full: &mut u32) -> u32;
+    pub fn phaser_c_fold_at(phaser: &mut Handle, accumulator: u8, phase: u32, value: &mut i64) -> u32;
+    pub fn phaser_c_compared(phaser: &mut Handle, count: &mut u32) -> u32;
+    pub fn phaser_c_event_count(phaser: &mut Handle, count: &mut u32) -> u32;
+    pub fn phaser_c_history_text(
+        phaser: &mut Handle,
+        number: u32,
+        tickets: *const u64,
+        count: usize,
+        text: *mut u8,
+        room: usize,
+        written: &mut usize,
+    ) -> u32;
+
+    pub fn phaser_c_waiting_new(phaser: &mut Handle, operators: *const u32, count: usize, bound: u32) -> u32;
+    pub fn phaser_c_waiting_free(phaser: &mut Handle);
+    pub fn phaser_c_waiting_make(phaser: &mut Handle, mode: u32, task: &mut u64) -> u32;
+    pub fn phaser_c_waiting_register(phaser: &mut Handle, parent: u64, mode: u32, task: &mut u64) -> u32;
+    pub fn phaser_c_waiting_send(phaser: &mut Handle, task: u64, accumulator: u8, value: i32) -> u32;
+    pub fn phaser_c_waiting_look(phaser: &mut Handle, task: u64, accumulator: u8, value: &mut i64) -> u32;
+    pub fn phaser_c_waiting_signal(
+        phaser: &mut Handle,
+        task: u64,
+        freed: *mut Freed,
+        room: usize,
+        count: &mut usize,
+    ) -> u32;
+    pub fn phaser_c_waiting_signal_single(
+        phaser: &mut Handle,
+        task: u64,
+        proposed: u32,
+        freed: *mut Freed,
+        room: usize,
+        count: &mut usize,
+    ) -> u32;
+    pub fn phaser_c_waiting_pass(
+        phaser: &mut Handle,
+        task: u64,
+        number: &mut u64,
+        freed: *mut Freed,
+        room: usize,
+        count: &mut usize,
+    ) -> u32;
+    pub fn phaser_c_waiting_next(
+        phaser: &mut Handle,
+        task: u64,
+        number: &mut u64,
+        freed: *mut Freed,
+        room: usize,
+        count: &mut usize,
+    ) -> u32;
+    pub fn phaser_c_waiting_next_single(
+        phaser: &mut Handle,
+        task: u64,
+        proposed: u32,
+        number: &mut u64,
+        freed: *mut Freed,
+        room: usize,
+        count: &mut usize,
+    ) -> u32;
+    pub fn phaser_c_waiting_single_done(
+        phaser: &mut Handle,
+        task: u64,
+        freed: *mut Freed,
+        room: usize,
+        count: &mut usize,
+    ) -> u32;
+    pub fn phaser_c_waiting_leave(
+        phaser: &mut Handle,
+        task: u64,
+        freed: *mut Freed,
+        room: usize,
+        count: &mut usize,
+    ) -> u32;
+}
