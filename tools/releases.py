@@ -145,6 +145,12 @@ def record_of(tree, asked, origin):
     return "".join(line + "\n" for line in lines + sums)
 
 
+def oldest_glibc(files):
+    """The second number of the oldest glibc that has what these files call."""
+    found = [int(it) for file in files for it in re.findall(rb"GLIBC_2\.(\d+)", file.read_bytes())]
+    return max(found, default=2)
+
+
 def make_tree(tree, asked, origin):
     """Puts all that the tarball has into a new folder, and answers the path of its record there."""
     told(TOP / "packaging/make_tree", tree, asked.archive, asked.program)
