@@ -22,7 +22,7 @@
  * before it, and it defines nothing that changes what other headers declare. Link what paldwosk.h asks for, and
  * -pthread if the C library keeps its threads apart. On Linux threads sleep by futex. Elsewhere, and if
  * PALDWOSK_PORTABLE is defined, they sleep by a condition variable. Compile all files that share a barrier with it, or
- * all without.
+ * all without; in C++ all files of the program.
  *
  * WHAT YOU OWE, beside what stands at the head of paldwosk.h:
  *
@@ -200,8 +200,8 @@ struct paldwosk_trace {
 };
 
 /* Adds an event, after which the task stands so. */
-static inline void paldwosk_trace_add(struct paldwosk_trace *trace, uint8_t kind, uint64_t task, uint8_t stands,
-                                      uint32_t other, int64_t value) {
+PALDWOSK_INLINE void paldwosk_trace_add(struct paldwosk_trace *trace, uint8_t kind, uint64_t task, uint8_t stands,
+                                        uint32_t other, int64_t value) {
   if (trace->count == trace->room) trace->has_ended = 1;
   if (trace->has_ended) return;
   struct paldwosk_event event = {kind, 0, (uint16_t)task, other, value};
@@ -213,7 +213,7 @@ static inline void paldwosk_trace_add(struct paldwosk_trace *trace, uint8_t kind
 /* A task is about to do something of which no `next` and no single consists: a second thread calls for it, or the
  * statement of a single does. A `next` is then told as the two acts `signal` and `wait`. With a single the trace
  * ends: that can't be told. */
-static inline void paldwosk_trace_part(struct paldwosk_trace *trace, uint64_t task) {
+PALDWOSK_INLINE void paldwosk_trace_part(struct paldwosk_trace *trace, uint64_t task) {
   if (trace->has_ended) return;
   if (trace->stands[task] == PALDWOSK_TASK_IN_NEXT) {
     trace->events[trace->began[task]].kind = PALDWOSK_EVENT_SIGNAL;
@@ -223,8 +223,8 @@ static inline void paldwosk_trace_part(struct paldwosk_trace *trace, uint64_t ta
 }
 
 /* A new task, that `parent` joined; or the first, which is its own parent. */
-static inline void paldwosk_trace_new_task(struct paldwosk_trace *trace, uint64_t parent, uint32_t mode,
-                                           uint64_t task) {
+PALDWOSK_INLINE void paldwosk_trace_new_task(struct paldwosk_trace *trace, uint64_t parent, uint32_t mode,
+                                             uint64_t task) {
   uint8_t kind = task ? PALDWOSK_EVENT_JOIN : PALDWOSK_EVENT_MAKE;
   if (task >= PALDWOSK_TRACE_TASKS) trace->has_ended = 1;
   if (task) paldwosk_trace_part(trace, parent);
@@ -235,25 +235,25 @@ static inline void paldwosk_trace_new_task(struct paldwosk_trace *trace, uint64_
   trace->tasks = (uint32_t)task + 1;
 }
 
-static inline void paldwosk_trace_act(struct paldwosk_trace *trace, uint8_t kind, uint64_t task, uint32_t other,
-                                      int64_t value) {
+PALDWOSK_INLINE void paldwosk_trace_act(struct paldwosk_trace *trace, uint8_t kind, uint64_t task, uint32_t other,
+                                        int64_t value) {
   paldwosk_trace_part(trace, task);
   paldwosk_trace_add(trace, kind, task, PALDWOSK_TASK_IDLE, other, value);
 }
 
-static inline void paldwosk_trace_passed(struct paldwosk_trace *trace, uint64_t task) {
+PALDWOSK_INLINE void paldwosk_trace_passed(struct paldwosk_trace *trace, uint64_t task) {
   int is_whole = !trace->has_ended && trace->stands[task] == PALDWOSK_TASK_IDLE;
   paldwosk_trace_add(trace, is_whole ? PALDWOSK_EVENT_WAIT : PALDWOSK_EVENT_PASS, task, PALDWOSK_TASK_IDLE, 0, 0);
 }
 
 /* The claimer reports. Now all tasks that proposed the single may pass: there is one single at a time. */
-static inline void paldwosk_trace_did(struct paldwosk_trace *trace, uint64_t task) {
+PALDWOSK_INLINE void paldwosk_trace_did(struct paldwosk_trace *trace, uint64_t task) {
   paldwosk_trace_add(trace, PALDWOSK_EVENT_DID, task, PALDWOSK_TASK_REPORTED, 0, 0);
   for (uint32_t other = 0; other < trace->tasks && !trace->has_ended; other++)
     if (trace->stands[other] == PALDWOSK_TASK_PROPOSED) trace->stands[other] = PALDWOSK_TASK_REPORTED;
 }
 
-static inline void paldwosk_trace_left(struct paldwosk_trace *trace, uint64_t task) {
+PALDWOSK_INLINE void paldwosk_trace_left(struct paldwosk_trace *trace, uint64_t task) {
   paldwosk_trace_part(trace, task);
   paldwosk_trace_add(trace, PALDWOSK_EVENT_LEAVE, task, PALDWOSK_TASK_ABSENT, 0, 0);
 }
@@ -267,12 +267,12 @@ struct paldwosk_text {
   const struct paldwosk_trace *trace;
 };
 
-static inline void paldwosk_text_word(struct paldwosk_text *out, const char *word) {
+PALDWOSK_INLINE void paldwosk_text_word(struct paldwosk_text *out, const char *word) {
   for (; *word; word++, out->length++)
     if (out->text) out->text[out->length] = *word;
 }
 
-static inline void paldwosk_text_number(struct paldwosk_text *out, int64_t number) {
+PALDWOSK_INLINE void paldwosk_text_number(struct paldwosk_text *out, int64_t number) {
   char digits[24], *digit = digits + 23;
   uint64_t left = number < 0 ? 0 - (uint64_t)number : (uint64_t)number;
   *digit = 0;
@@ -282,7 +282,7 @@ static inline void paldwosk_text_number(struct paldwosk_text *out, int64_t numbe
   paldwosk_text_word(out, digit);
 }
 
-static inline void paldwosk_text_operators(struct paldwosk_text *out) {
+PALDWOSK_INLINE void paldwosk_text_operators(struct paldwosk_text *out) {
   static const char *const names[] = {"\"sum\"", "\"least\"", "\"greatest\""};
   for (uint32_t at = 0; at < out->trace->operator_count; at++) {
     paldwosk_text_word(out, at ? "," : "");
@@ -291,7 +291,7 @@ static inline void paldwosk_text_operators(struct paldwosk_text *out) {
 }
 
 /* What stands for a letter after a $ in a form. */
-static inline void paldwosk_text_field(struct paldwosk_text *out, const struct paldwosk_event *event, char letter) {
+PALDWOSK_INLINE void paldwosk_text_field(struct paldwosk_text *out, const struct paldwosk_event *event, char letter) {
   static const char *const modes[] = {"\"SIG\"", "\"WAIT\"", "\"SIG_WAIT\"", "\"SINGLE\""};
   if (letter == 't') paldwosk_text_number(out, event->task);
   else if (letter == 'o') paldwosk_text_number(out, event->other);
@@ -302,8 +302,8 @@ static inline void paldwosk_text_field(struct paldwosk_text *out, const struct p
 }
 
 /* One entry of the text. */
-static inline void paldwosk_text_entry(struct paldwosk_text *out, const struct paldwosk_event *event,
-                                       const char *form) {
+PALDWOSK_INLINE void paldwosk_text_entry(struct paldwosk_text *out, const struct paldwosk_event *event,
+                                         const char *form) {
   paldwosk_text_word(out, out->ticket ? ",[" : "[");
   paldwosk_text_number(out, (int64_t)++out->ticket);
   for (char letter[2] = {0, 0}; *form; form++) {
@@ -315,7 +315,7 @@ static inline void paldwosk_text_entry(struct paldwosk_text *out, const struct p
 }
 
 /* The entries of an event. That of the root's end comes later, in place of its `ended`. */
-static inline void paldwosk_text_event(struct paldwosk_text *out, const struct paldwosk_event *event) {
+PALDWOSK_INLINE void paldwosk_text_event(struct paldwosk_text *out, const struct paldwosk_event *event) {
   static const char *const forms[][3] = {
       {",\"p\",0,\"make\",$t,$m,[$a],$b", NULL, NULL},
       {",\"t\",$t,\"begin\",[\"async\",$o,[[0,$m]]]", ",\"p\",0,\"reg\",$t,$o,$m", ",\"f\",0,\"spawned\",$o"},
@@ -337,7 +337,7 @@ static inline void paldwosk_text_event(struct paldwosk_text *out, const struct p
 }
 
 /* All events that were made. A `next` without its pass is told as the act `signal`. */
-static inline void paldwosk_text_made(struct paldwosk_text *out) {
+PALDWOSK_INLINE void paldwosk_text_made(struct paldwosk_text *out) {
   for (uint32_t at = 0; at < out->trace->count; at++) {
     struct paldwosk_event event = out->trace->events[at];
     int is_open = out->trace->stands[event.task] == PALDWOSK_TASK_IN_NEXT && out->trace->began[event.task] == at;
@@ -346,13 +346,13 @@ static inline void paldwosk_text_made(struct paldwosk_text *out) {
   }
 }
 
-static inline void paldwosk_text_of_task(struct paldwosk_text *out, uint8_t kind, uint32_t task) {
+PALDWOSK_INLINE void paldwosk_text_of_task(struct paldwosk_text *out, uint8_t kind, uint32_t task) {
   struct paldwosk_event event = {kind, 0, (uint16_t)task, 0, 0};
   paldwosk_text_event(out, &event);
 }
 
 /* The ends of all tasks that stand so, after their passes if these are due. */
-static inline void paldwosk_text_ends(struct paldwosk_text *out, uint8_t stands, int is_pass_due) {
+PALDWOSK_INLINE void paldwosk_text_ends(struct paldwosk_text *out, uint8_t stands, int is_pass_due) {
   for (uint32_t task = 0; task < out->trace->tasks; task++) {
     if (out->trace->stands[task] != stands) continue;
     if (is_pass_due) paldwosk_text_of_task(out, PALDWOSK_EVENT_PASS, task);
@@ -360,7 +360,7 @@ static inline void paldwosk_text_ends(struct paldwosk_text *out, uint8_t stands,
   }
 }
 
-static inline uint32_t paldwosk_text_first(const struct paldwosk_trace *trace, uint8_t stands) {
+PALDWOSK_INLINE uint32_t paldwosk_text_first(const struct paldwosk_trace *trace, uint8_t stands) {
   uint32_t task = 0;
   while (task < trace->tasks && trace->stands[task] != stands) task++;
   return task;
@@ -369,7 +369,7 @@ static inline uint32_t paldwosk_text_first(const struct paldwosk_trace *trace, u
 /* Makes a run of the events: all tasks that are still there end. Idle tasks end first, because they would hold up a task
  * that has proposed a single. Then the statement is told as done, if it isn't, and the others pass and end: no task of a
  * run leaves a single behind. */
-static inline void paldwosk_text_closed(struct paldwosk_text *out) {
+PALDWOSK_INLINE void paldwosk_text_closed(struct paldwosk_text *out) {
   uint32_t tasks = out->trace->tasks, claimer = paldwosk_text_first(out->trace, PALDWOSK_TASK_CLAIMED);
   uint32_t proposer = paldwosk_text_first(out->trace, PALDWOSK_TASK_PROPOSED);
   paldwosk_text_ends(out, PALDWOSK_TASK_IDLE, 0);
@@ -383,7 +383,7 @@ static inline void paldwosk_text_closed(struct paldwosk_text *out) {
   paldwosk_text_of_task(out, PALDWOSK_EVENT_SHUT, 0);
 }
 
-static inline size_t paldwosk_text_whole(const struct paldwosk_trace *trace, char *text) {
+PALDWOSK_INLINE size_t paldwosk_text_whole(const struct paldwosk_trace *trace, char *text) {
   struct paldwosk_text out = {text, 0, 0, trace};
   paldwosk_text_word(&out, "{\"events\":[");
   paldwosk_text_made(&out);
@@ -411,13 +411,13 @@ struct paldwosk_sleeper {
   uint8_t is_to_pass; /* of a traced barrier: that call is the pass */
 };
 
-static inline void paldwosk_put_last(paldwosk_barrier *barrier, struct paldwosk_sleeper *sleeper) {
+PALDWOSK_INLINE void paldwosk_put_last(paldwosk_barrier *barrier, struct paldwosk_sleeper *sleeper) {
   sleeper->next = NULL;
   *barrier->last = sleeper;
   barrier->last = &sleeper->next;
 }
 
-static inline struct paldwosk_sleeper *paldwosk_take(paldwosk_barrier *barrier, struct paldwosk_sleeper **place) {
+PALDWOSK_INLINE struct paldwosk_sleeper *paldwosk_take(paldwosk_barrier *barrier, struct paldwosk_sleeper **place) {
   struct paldwosk_sleeper *sleeper = *place;
   if (!sleeper) return NULL;
   *place = sleeper->next;
@@ -426,13 +426,13 @@ static inline struct paldwosk_sleeper *paldwosk_take(paldwosk_barrier *barrier, 
 }
 
 /* Takes out the call of this task. The phaser frees calls nearly in their order, so it stands near the front. */
-static inline struct paldwosk_sleeper *paldwosk_take_task(paldwosk_barrier *barrier, uint64_t task) {
+PALDWOSK_INLINE struct paldwosk_sleeper *paldwosk_take_task(paldwosk_barrier *barrier, uint64_t task) {
   struct paldwosk_sleeper **place = &barrier->first;
   while (*place && (*place)->task != task) place = &(*place)->next;
   return paldwosk_take(barrier, place);
 }
 
-static inline struct paldwosk_sleeper *paldwosk_take_asking(paldwosk_barrier *barrier) {
+PALDWOSK_INLINE struct paldwosk_sleeper *paldwosk_take_asking(paldwosk_barrier *barrier) {
   struct paldwosk_sleeper **place = &barrier->first;
   while (*place && !(*place)->is_to_ask) place = &(*place)->next;
   return paldwosk_take(barrier, place);
@@ -451,14 +451,14 @@ struct paldwosk_member {
 };
 
 /* The place of this task, or the free one that it would have. Half of the places are free. */
-static inline struct paldwosk_member *paldwosk_member_of(paldwosk_barrier *barrier, uint64_t number) {
+PALDWOSK_INLINE struct paldwosk_member *paldwosk_member_of(paldwosk_barrier *barrier, uint64_t number) {
   size_t at = number % PALDWOSK_MEMBER_PLACES;
   while (barrier->members[at].is_there && barrier->members[at].number != number) at = (at + 1) % PALDWOSK_MEMBER_PLACES;
   return &barrier->members[at];
 }
 
 /* Takes a task out. Those behind it move up, if else a free place came before them. */
-static inline void paldwosk_remove_member(paldwosk_barrier *barrier, uint64_t number) {
+PALDWOSK_INLINE void paldwosk_remove_member(paldwosk_barrier *barrier, uint64_t number) {
   struct paldwosk_member *members = barrier->members;
   size_t hole = (size_t)(paldwosk_member_of(barrier, number) - members);
   for (size_t at = (hole + 1) % PALDWOSK_MEMBER_PLACES; members[at].is_there; at = (at + 1) % PALDWOSK_MEMBER_PLACES) {
@@ -471,12 +471,12 @@ static inline void paldwosk_remove_member(paldwosk_barrier *barrier, uint64_t nu
   barrier->tasks--;
 }
 
-static inline int paldwosk_can_signal(const struct paldwosk_member *member) { return member->mode != PALDWOSK_WAIT; }
+PALDWOSK_INLINE int paldwosk_can_signal(const struct paldwosk_member *member) { return member->mode != PALDWOSK_WAIT; }
 
-static inline int paldwosk_can_wait(const struct paldwosk_member *member) { return member->mode != PALDWOSK_SIG; }
+PALDWOSK_INLINE int paldwosk_can_wait(const struct paldwosk_member *member) { return member->mode != PALDWOSK_SIG; }
 
 /* The least phase in which a task is that can wait; UINT64_MAX if there is none. */
-static inline uint64_t paldwosk_least_phase(const paldwosk_barrier *barrier) {
+PALDWOSK_INLINE uint64_t paldwosk_least_phase(const paldwosk_barrier *barrier) {
   uint64_t least = UINT64_MAX;
   for (size_t at = 0; at < PALDWOSK_MEMBER_PLACES; at++) {
     const struct paldwosk_member *member = &barrier->members[at];
@@ -486,13 +486,13 @@ static inline uint64_t paldwosk_least_phase(const paldwosk_barrier *barrier) {
 }
 
 /* Whether the bound holds back the signal of a waiting call in this phase. Else the call has signalled. */
-static inline int paldwosk_is_held(const paldwosk_barrier *barrier, const struct paldwosk_sleeper *sleeper,
-                                   uint64_t phase, uint64_t least) {
+PALDWOSK_INLINE int paldwosk_is_held(const paldwosk_barrier *barrier, const struct paldwosk_sleeper *sleeper,
+                                     uint64_t phase, uint64_t least) {
   return sleeper->call != PALDWOSK_CALL_WAIT && least <= phase && phase - least >= barrier->bound;
 }
 
 /* Whether a task has signalled its phase, also if it waits in the call that did so. */
-static inline int paldwosk_is_ahead(const paldwosk_barrier *barrier, const struct paldwosk_member *member) {
+PALDWOSK_INLINE int paldwosk_is_ahead(const paldwosk_barrier *barrier, const struct paldwosk_member *member) {
   const struct paldwosk_sleeper *sleeper = barrier->first;
   if (member->is_ahead) return 1;
   while (sleeper && sleeper->task != member->number) sleeper = sleeper->next;
@@ -501,7 +501,7 @@ static inline int paldwosk_is_ahead(const paldwosk_barrier *barrier, const struc
 }
 
 /* A new task, that stands where its parent stands; or the first, which is its own parent. */
-static inline void paldwosk_add_member(paldwosk_barrier *barrier, uint64_t parent, uint32_t mode, uint64_t number) {
+PALDWOSK_INLINE void paldwosk_add_member(paldwosk_barrier *barrier, uint64_t parent, uint32_t mode, uint64_t number) {
   const struct paldwosk_member *from = paldwosk_member_of(barrier, parent);
   struct paldwosk_member *member = paldwosk_member_of(barrier, number);
   uint64_t passes = from->is_there ? from->passes : 0;
@@ -515,7 +515,7 @@ static inline void paldwosk_add_member(paldwosk_barrier *barrier, uint64_t paren
 }
 
 /* A call of a task was made: it has passed this phase, or it has signalled. */
-static inline void paldwosk_move_member(paldwosk_barrier *barrier, const struct paldwosk_sleeper *sleeper) {
+PALDWOSK_INLINE void paldwosk_move_member(paldwosk_barrier *barrier, const struct paldwosk_sleeper *sleeper) {
   struct paldwosk_member *member = paldwosk_member_of(barrier, sleeper->task);
   int has_passed = sleeper->answer == PALDWOSK_DONE && sleeper->call != PALDWOSK_CALL_SIGNAL;
   if (has_passed) member->passes = (sleeper->number + 1) & (UINT64_MAX >> 4);
@@ -529,7 +529,7 @@ struct paldwosk_want {
   uint64_t held;                              /* the phase after the greatest that the bound holds back; 0: none */
 };
 
-static inline void paldwosk_find_want(paldwosk_barrier *barrier, struct paldwosk_want *want) {
+PALDWOSK_INLINE void paldwosk_find_want(paldwosk_barrier *barrier, struct paldwosk_want *want) {
   static const struct paldwosk_want none = {{0}, 0, 0};
   uint64_t least = paldwosk_least_phase(barrier);
   *want = none;
@@ -541,8 +541,8 @@ static inline void paldwosk_find_want(paldwosk_barrier *barrier, struct paldwosk
   }
 }
 
-static inline int paldwosk_is_missing(const paldwosk_barrier *barrier, const struct paldwosk_member *member,
-                                      const struct paldwosk_want *want) {
+PALDWOSK_INLINE int paldwosk_is_missing(const paldwosk_barrier *barrier, const struct paldwosk_member *member,
+                                        const struct paldwosk_want *want) {
   int is_running = barrier->coming && barrier->claimer == member->number;
   if (!member->is_there || want->is_waiting[member - barrier->members]) return 0;
   if (paldwosk_can_signal(member) && member->passes + member->is_ahead < want->signals) return 1;
@@ -551,7 +551,7 @@ static inline int paldwosk_is_missing(const paldwosk_barrier *barrier, const str
 }
 
 /* The missing tasks, by their numbers: how many they are. */
-static inline size_t paldwosk_find_missing(paldwosk_barrier *barrier, uint64_t missing[PALDWOSK_MOST_MEMBERS]) {
+PALDWOSK_INLINE size_t paldwosk_find_missing(paldwosk_barrier *barrier, uint64_t missing[PALDWOSK_MOST_MEMBERS]) {
   struct paldwosk_want want;
   size_t count = 0;
   paldwosk_find_want(barrier, &want);
@@ -565,8 +565,8 @@ static inline size_t paldwosk_find_missing(paldwosk_barrier *barrier, uint64_t m
 }
 
 /* With the lock: the call of a sleeper that isn't in the list any more is over. */
-static inline void paldwosk_set_answer(paldwosk_barrier *barrier, struct paldwosk_sleeper *sleeper, uint32_t answer,
-                                       uint64_t number) {
+PALDWOSK_INLINE void paldwosk_set_answer(paldwosk_barrier *barrier, struct paldwosk_sleeper *sleeper, uint32_t answer,
+                                         uint64_t number) {
   sleeper->answer = answer;
   sleeper->number = number;
   if (answer == PALDWOSK_DONE || answer == PALDWOSK_CLAIMED) paldwosk_move_member(barrier, sleeper);
@@ -575,18 +575,18 @@ static inline void paldwosk_set_answer(paldwosk_barrier *barrier, struct paldwos
   barrier->claimer = sleeper->task;
 }
 
-static inline int paldwosk_is_ready(const struct paldwosk_sleeper *me) {
+PALDWOSK_INLINE int paldwosk_is_ready(const struct paldwosk_sleeper *me) {
   return __atomic_load_n(&me->state, __ATOMIC_ACQUIRE) == PALDWOSK_READY;
 }
 
-static inline int64_t paldwosk_microseconds(void) {
+PALDWOSK_INLINE int64_t paldwosk_microseconds(void) {
   struct timespec now = {0, 0};
   timespec_get(&now, TIME_UTC); /* of the clocks it is the one that -std=c11 doesn't hide */
   return (int64_t)now.tv_sec * 1000000 + now.tv_nsec / 1000;
 }
 
 /* With the lock: how often the thread that waits now may yield. */
-static inline uint32_t paldwosk_yields(paldwosk_barrier *barrier) {
+PALDWOSK_INLINE uint32_t paldwosk_yields(paldwosk_barrier *barrier) {
   int32_t credit = __atomic_load_n(&barrier->credit, __ATOMIC_RELAXED);
   if (!__atomic_load_n(&barrier->most_pauses, __ATOMIC_RELAXED)) return 0;
   if (credit > 0) return PALDWOSK_MOST_YIELDS;
@@ -596,7 +596,7 @@ static inline uint32_t paldwosk_yields(paldwosk_barrier *barrier) {
 
 /* What is learned of yields that took so many microseconds. They are in vain if the thread has to sleep all the same, or
  * if they were long. A change that another thread's overtakes is lost: the credit orders nothing. */
-static inline void paldwosk_learn_of_yields(paldwosk_barrier *barrier, int64_t took, int is_in_vain) {
+PALDWOSK_INLINE void paldwosk_learn_of_yields(paldwosk_barrier *barrier, int64_t took, int is_in_vain) {
   int32_t credit = __atomic_load_n(&barrier->credit, __ATOMIC_RELAXED);
   int64_t better = (int64_t)credit + PALDWOSK_YIELDS_EARN;
   if (is_in_vain) better = credit - PALDWOSK_YIELDS_COST * took;
@@ -606,7 +606,7 @@ static inline void paldwosk_learn_of_yields(paldwosk_barrier *barrier, int64_t t
 }
 
 /* Lets others have the processor, and the lock if threads sleep with it by a condition variable. */
-static inline void paldwosk_give_way(paldwosk_barrier *barrier) {
+PALDWOSK_INLINE void paldwosk_give_way(paldwosk_barrier *barrier) {
 #ifdef PALDWOSK_BY_FUTEX
   (void)barrier;
   sched_yield();
@@ -619,7 +619,7 @@ static inline void paldwosk_give_way(paldwosk_barrier *barrier) {
 
 /* With more threads than processors those that the call waits for may have none. To yield to them takes less time than
  * to sleep and to be woken. */
-static inline void paldwosk_yield(paldwosk_barrier *barrier, struct paldwosk_sleeper *me) {
+PALDWOSK_INLINE void paldwosk_yield(paldwosk_barrier *barrier, struct paldwosk_sleeper *me) {
   if (!me->yields || paldwosk_is_ready(me)) return;
   int64_t began = paldwosk_microseconds(), took = 0;
   for (uint32_t done = 0; done < me->yields && took < PALDWOSK_LONG_YIELDS && !paldwosk_is_ready(me); done++) {
@@ -632,7 +632,7 @@ static inline void paldwosk_yield(paldwosk_barrier *barrier, struct paldwosk_sle
 
 #ifdef PALDWOSK_BY_FUTEX
 
-static inline void paldwosk_pause(void) {
+PALDWOSK_INLINE void paldwosk_pause(void) {
 #if defined __x86_64__ || defined __i386__
   __builtin_ia32_pause();
 #elif defined __aarch64__
@@ -645,7 +645,7 @@ static inline void paldwosk_pause(void) {
 /* For how many pauses a thread that waits now spins before it sleeps: as many as the barrier has learned to be good.
  * Now and then it spins for as long as it may, to see whether that is good again. With more tasks than processors it
  * would only keep others off. */
-static inline uint32_t paldwosk_patience(paldwosk_barrier *barrier, struct paldwosk_sleeper *me) {
+PALDWOSK_INLINE uint32_t paldwosk_patience(paldwosk_barrier *barrier, struct paldwosk_sleeper *me) {
   if (barrier->tasks > barrier->processors) return 0;
   me->is_probe = ++barrier->waits == barrier->probe;
   if (!me->is_probe) return __atomic_load_n(&barrier->pauses, __ATOMIC_RELAXED);
@@ -655,7 +655,7 @@ static inline uint32_t paldwosk_patience(paldwosk_barrier *barrier, struct paldw
 
 /* A thread that neither spins nor yields counts as asleep from the start; but not at a traced barrier, because its call
  * may be over before the lock is given back. */
-static inline void paldwosk_prepare(paldwosk_barrier *barrier, struct paldwosk_sleeper *me) {
+PALDWOSK_INLINE void paldwosk_prepare(paldwosk_barrier *barrier, struct paldwosk_sleeper *me) {
   me->patience = paldwosk_patience(barrier, me);
   me->yields = paldwosk_yields(barrier);
   me->state = me->patience || me->yields || barrier->trace ? PALDWOSK_SPINNING : PALDWOSK_ASLEEP;
@@ -663,7 +663,7 @@ static inline void paldwosk_prepare(paldwosk_barrier *barrier, struct paldwosk_s
 
 /* What a thread learns that has spun. If it was freed meanwhile, others spin longer, else half as long, and soon not
  * at all: so a barrier at which it is in vain loses little by it. If a probe was in vain the next comes later. */
-static inline void paldwosk_learn(paldwosk_barrier *barrier, const struct paldwosk_sleeper *me, int is_in_vain) {
+PALDWOSK_INLINE void paldwosk_learn(paldwosk_barrier *barrier, const struct paldwosk_sleeper *me, int is_in_vain) {
   uint32_t pauses = __atomic_load_n(&barrier->pauses, __ATOMIC_RELAXED);
   uint32_t after = __atomic_load_n(&barrier->probe_after, __ATOMIC_RELAXED);
   uint32_t most = __atomic_load_n(&barrier->most_pauses, __ATOMIC_RELAXED);
@@ -675,24 +675,24 @@ static inline void paldwosk_learn(paldwosk_barrier *barrier, const struct paldwo
 }
 
 /* Sleeps while the word is as it was seen; or wakes all that sleep there and have one of the bits. */
-static inline void paldwosk_futex(uint32_t *word, int is_wake, uint32_t seen, uint32_t bits) {
+PALDWOSK_INLINE void paldwosk_futex(uint32_t *word, int is_wake, uint32_t seen, uint32_t bits) {
   enum { WAIT_BITSET = 9, WAKE_BITSET = 10, IS_PRIVATE = 128 };
   int kept = errno;
   (void)syscall(SYS_futex, word, (is_wake ? WAKE_BITSET : WAIT_BITSET) | IS_PRIVATE, seen, NULL, NULL, bits);
   errno = kept;
 }
 
-static inline uint32_t paldwosk_bit(uint64_t task) { return (uint32_t)1 << task % 32; }
+PALDWOSK_INLINE uint32_t paldwosk_bit(uint64_t task) { return (uint32_t)1 << task % 32; }
 
 /* With the lock. A spinning thread sees it by itself; a sleeping one has to be woken. */
-static inline void paldwosk_set_ready(paldwosk_barrier *barrier, struct paldwosk_sleeper *sleeper) {
+PALDWOSK_INLINE void paldwosk_set_ready(paldwosk_barrier *barrier, struct paldwosk_sleeper *sleeper) {
   uint32_t bit = paldwosk_bit(sleeper->task);
   uint32_t state = __atomic_exchange_n(&sleeper->state, PALDWOSK_READY, __ATOMIC_ACQ_REL);
   if (state == PALDWOSK_ASLEEP) barrier->to_wake |= bit; /* by now a sleeper that wasn't may be gone */
 }
 
 /* The lock is held for a fraction of a microsecond: to wait for it in the kernel would take many times that. */
-static inline void paldwosk_lock(paldwosk_barrier *barrier) {
+PALDWOSK_INLINE void paldwosk_lock(paldwosk_barrier *barrier) {
   for (int tried = 0; tried < PALDWOSK_LOCK_TRIES; tried++) {
     if (pthread_mutex_trylock(&barrier->lock) == 0) return;
     paldwosk_pause();
@@ -701,7 +701,7 @@ static inline void paldwosk_lock(paldwosk_barrier *barrier) {
 }
 
 /* After it the sleeper is READY, or ASLEEP: then others have to wake it. */
-static inline void paldwosk_spin(paldwosk_barrier *barrier, struct paldwosk_sleeper *me) {
+PALDWOSK_INLINE void paldwosk_spin(paldwosk_barrier *barrier, struct paldwosk_sleeper *me) {
   uint32_t spun = 0, state = PALDWOSK_SPINNING;
   for (; spun < me->patience && !paldwosk_is_ready(me); spun++) paldwosk_pause();
   if (me->patience) paldwosk_learn(barrier, me, spun == me->patience);
@@ -712,7 +712,7 @@ static inline void paldwosk_spin(paldwosk_barrier *barrier, struct paldwosk_slee
 
 /* The turn is read before the state. Who is freed after that finds that the turn isn't what it was, and doesn't
  * sleep. */
-static inline void paldwosk_sleep(paldwosk_barrier *barrier, struct paldwosk_sleeper *me) {
+PALDWOSK_INLINE void paldwosk_sleep(paldwosk_barrier *barrier, struct paldwosk_sleeper *me) {
   while (!paldwosk_is_ready(me)) {
     uint32_t seen = __atomic_load_n(&barrier->turn, __ATOMIC_ACQUIRE);
     if (!paldwosk_is_ready(me)) paldwosk_futex(&barrier->turn, 0, seen, paldwosk_bit(me->task));
@@ -721,7 +721,7 @@ static inline void paldwosk_sleep(paldwosk_barrier *barrier, struct paldwosk_sle
 
 /* Gives the lock back, wakes the threads that the call has freed, and waits until the call itself is over. After the
  * unlock only threads that are counted as inside read the barrier; a thread's last access takes it off that count. */
-static inline void paldwosk_unlock(paldwosk_barrier *barrier, struct paldwosk_sleeper *me) {
+PALDWOSK_INLINE void paldwosk_unlock(paldwosk_barrier *barrier, struct paldwosk_sleeper *me) {
   uint32_t bits = barrier->to_wake, leaving = (uint32_t)(bits != 0) + me->is_parked;
   barrier->to_wake = 0;
   if (bits) __atomic_fetch_add(&barrier->inside, 1, __ATOMIC_RELAXED);
@@ -735,19 +735,19 @@ static inline void paldwosk_unlock(paldwosk_barrier *barrier, struct paldwosk_sl
 
 #else
 
-static inline void paldwosk_lock(paldwosk_barrier *barrier) { pthread_mutex_lock(&barrier->lock); }
+PALDWOSK_INLINE void paldwosk_lock(paldwosk_barrier *barrier) { pthread_mutex_lock(&barrier->lock); }
 
-static inline void paldwosk_prepare(paldwosk_barrier *barrier, struct paldwosk_sleeper *me) {
+PALDWOSK_INLINE void paldwosk_prepare(paldwosk_barrier *barrier, struct paldwosk_sleeper *me) {
   me->yields = paldwosk_yields(barrier);
 }
 
-static inline void paldwosk_set_ready(paldwosk_barrier *barrier, struct paldwosk_sleeper *sleeper) {
+PALDWOSK_INLINE void paldwosk_set_ready(paldwosk_barrier *barrier, struct paldwosk_sleeper *sleeper) {
   sleeper->state = PALDWOSK_READY;
   barrier->to_wake = 1;
 }
 
 /* Yields, and sleeps until the call is over. The waiting for a condition variable would be a cancellation point. */
-static inline void paldwosk_sleep(paldwosk_barrier *barrier, struct paldwosk_sleeper *me) {
+PALDWOSK_INLINE void paldwosk_sleep(paldwosk_barrier *barrier, struct paldwosk_sleeper *me) {
   int old = 0;
   paldwosk_yield(barrier, me);
   pthread_setcancelstate(PTHREAD_CANCEL_DISABLE, &old);
@@ -756,7 +756,7 @@ static inline void paldwosk_sleep(paldwosk_barrier *barrier, struct paldwosk_sle
 }
 
 /* Wakes the threads that the call has freed, waits until the call itself is over, and gives the lock back. */
-static inline void paldwosk_unlock(paldwosk_barrier *barrier, struct paldwosk_sleeper *me) {
+PALDWOSK_INLINE void paldwosk_unlock(paldwosk_barrier *barrier, struct paldwosk_sleeper *me) {
   if (barrier->to_wake) pthread_cond_broadcast(&barrier->turned);
   barrier->to_wake = 0;
   if (me->is_parked) paldwosk_sleep(barrier, me);
@@ -766,7 +766,7 @@ static inline void paldwosk_unlock(paldwosk_barrier *barrier, struct paldwosk_sl
 
 #endif
 
-static inline void paldwosk_park(paldwosk_barrier *barrier, struct paldwosk_sleeper *me) {
+PALDWOSK_INLINE void paldwosk_park(paldwosk_barrier *barrier, struct paldwosk_sleeper *me) {
   me->is_parked = 1;
   paldwosk_prepare(barrier, me);
   paldwosk_put_last(barrier, me);
@@ -777,8 +777,8 @@ static inline void paldwosk_park(paldwosk_barrier *barrier, struct paldwosk_slee
  * all: in place of a signal with a pass a signal, and then, once that is made, a pass. Whoever is freed at its signal
  * is put into the list again, and asks to pass before the lock is given back. */
 
-static inline uint32_t paldwosk_ask_whole(paldwosk_barrier *barrier, struct paldwosk_sleeper *me, paldwosk_freed *freed,
-                                          size_t *count) {
+PALDWOSK_INLINE uint32_t paldwosk_ask_whole(paldwosk_barrier *barrier, struct paldwosk_sleeper *me,
+                                            paldwosk_freed *freed, size_t *count) {
   paldwosk_waiting *phaser = &barrier->phaser;
   size_t room = PALDWOSK_MOST_FREED;
   if (me->call == PALDWOSK_CALL_NEXT) return phaser_c_waiting_next(phaser, me->task, &me->number, freed, room, count);
@@ -787,8 +787,8 @@ static inline uint32_t paldwosk_ask_whole(paldwosk_barrier *barrier, struct pald
   return phaser_c_waiting_next_single(phaser, me->task, me->single, &me->number, freed, room, count);
 }
 
-static inline uint32_t paldwosk_ask_once(paldwosk_barrier *barrier, struct paldwosk_sleeper *me, paldwosk_freed *freed,
-                                         size_t *count) {
+PALDWOSK_INLINE uint32_t paldwosk_ask_once(paldwosk_barrier *barrier, struct paldwosk_sleeper *me,
+                                           paldwosk_freed *freed, size_t *count) {
   paldwosk_waiting *phaser = &barrier->phaser;
   size_t room = PALDWOSK_MOST_FREED;
   if (me->is_to_pass) return phaser_c_waiting_pass(phaser, me->task, &me->number, freed, room, count);
@@ -797,8 +797,8 @@ static inline uint32_t paldwosk_ask_once(paldwosk_barrier *barrier, struct paldw
 }
 
 /* The event of a traced call that was made. */
-static inline void paldwosk_trace_call(struct paldwosk_trace *trace, const struct paldwosk_sleeper *of,
-                                       uint32_t answer) {
+PALDWOSK_INLINE void paldwosk_trace_call(struct paldwosk_trace *trace, const struct paldwosk_sleeper *of,
+                                         uint32_t answer) {
   static const uint8_t kinds[] = {PALDWOSK_EVENT_SIGNAL, 0, PALDWOSK_EVENT_NEXT, PALDWOSK_EVENT_SINGLE};
   static const uint8_t stands[] = {PALDWOSK_TASK_IDLE, 0, PALDWOSK_TASK_IN_NEXT, PALDWOSK_TASK_PROPOSED};
   uint64_t task = of->task;
@@ -809,8 +809,8 @@ static inline void paldwosk_trace_call(struct paldwosk_trace *trace, const struc
 }
 
 /* A call of a sleeper that isn't in the list has ended so. */
-static inline void paldwosk_go_on(paldwosk_barrier *barrier, struct paldwosk_sleeper *sleeper, uint32_t answer,
-                                  uint64_t number) {
+PALDWOSK_INLINE void paldwosk_go_on(paldwosk_barrier *barrier, struct paldwosk_sleeper *sleeper, uint32_t answer,
+                                    uint64_t number) {
   if (barrier->trace) paldwosk_trace_call(barrier->trace, sleeper, answer);
   if (barrier->trace && answer == PALDWOSK_DONE && !sleeper->is_to_pass && sleeper->call != PALDWOSK_CALL_SIGNAL) {
     sleeper->is_to_ask = sleeper->is_to_pass = 1;
@@ -821,7 +821,7 @@ static inline void paldwosk_go_on(paldwosk_barrier *barrier, struct paldwosk_sle
   paldwosk_set_ready(barrier, sleeper);
 }
 
-static inline void paldwosk_free_those(paldwosk_barrier *barrier, const paldwosk_freed *freed, size_t count) {
+PALDWOSK_INLINE void paldwosk_free_those(paldwosk_barrier *barrier, const paldwosk_freed *freed, size_t count) {
   for (size_t at = 0; at < count; at++) {
     struct paldwosk_sleeper *sleeper = paldwosk_take_task(barrier, freed[at].task);
     if (sleeper) paldwosk_go_on(barrier, sleeper, freed[at].answer, freed[at].number);
@@ -830,7 +830,11 @@ static inline void paldwosk_free_those(paldwosk_barrier *barrier, const paldwosk
 
 /* The places for freed tasks take 6 KB of stack. The functions that have them aren't inlined: no two have them at
  * once. */
+#ifdef __cplusplus
+#define PALDWOSK_APART inline __attribute__((noinline))
+#else
 #define PALDWOSK_APART static __attribute__((noinline, unused))
+#endif
 
 PALDWOSK_APART void paldwosk_ask_and_free(paldwosk_barrier *barrier, struct paldwosk_sleeper *me) {
   paldwosk_freed freed[PALDWOSK_MOST_FREED];
@@ -876,8 +880,8 @@ enum { PALDWOSK_MOST_TOLD = 16, PALDWOSK_LINE_ROOM = 2048 }; /* sixteen tasks of
 
 /* Gives the lock back, sleeps until the call is over or the time has come, and takes the lock again. The turn is read
  * before the state, as in paldwosk_sleep. */
-static inline void paldwosk_sleep_until(paldwosk_barrier *barrier, struct paldwosk_sleeper *me,
-                                        const struct timespec *until) {
+PALDWOSK_INLINE void paldwosk_sleep_until(paldwosk_barrier *barrier, struct paldwosk_sleeper *me,
+                                          const struct timespec *until) {
   enum { WAIT_BITSET = 9, IS_PRIVATE = 128, BY_REAL_TIME = 256 };
   long slept = 0;
   me->is_parked = 0; /* or paldwosk_unlock would wait */
@@ -894,8 +898,8 @@ static inline void paldwosk_sleep_until(paldwosk_barrier *barrier, struct paldwo
 
 #else
 
-static inline void paldwosk_sleep_until(paldwosk_barrier *barrier, struct paldwosk_sleeper *me,
-                                        const struct timespec *until) {
+PALDWOSK_INLINE void paldwosk_sleep_until(paldwosk_barrier *barrier, struct paldwosk_sleeper *me,
+                                          const struct timespec *until) {
   int slept = 0;
   if (barrier->to_wake) pthread_cond_broadcast(&barrier->turned);
   barrier->to_wake = 0;
@@ -905,21 +909,21 @@ static inline void paldwosk_sleep_until(paldwosk_barrier *barrier, struct paldwo
 #endif
 
 /* Names a task in a list, after so many others. Whether it did: the list is cut. */
-static inline int paldwosk_text_task(struct paldwosk_text *line, size_t before, uint64_t task) {
+PALDWOSK_INLINE int paldwosk_text_task(struct paldwosk_text *line, size_t before, uint64_t task) {
   if (before >= PALDWOSK_MOST_TOLD) return 0;
   paldwosk_text_word(line, before ? ", " : " ");
   paldwosk_text_number(line, (int64_t)task);
   return 1;
 }
 
-static inline void paldwosk_text_more(struct paldwosk_text *line, size_t count) {
+PALDWOSK_INLINE void paldwosk_text_more(struct paldwosk_text *line, size_t count) {
   if (count <= PALDWOSK_MOST_TOLD) return;
   paldwosk_text_word(line, " and ");
   paldwosk_text_number(line, (int64_t)(count - PALDWOSK_MOST_TOLD));
   paldwosk_text_word(line, " more");
 }
 
-static inline void paldwosk_text_waiting(struct paldwosk_text *line, paldwosk_barrier *barrier) {
+PALDWOSK_INLINE void paldwosk_text_waiting(struct paldwosk_text *line, paldwosk_barrier *barrier) {
   size_t count = 0;
   paldwosk_text_word(line, "; waiting:");
   for (struct paldwosk_sleeper *at = barrier->first; at; at = at->next) {
@@ -931,7 +935,7 @@ static inline void paldwosk_text_waiting(struct paldwosk_text *line, paldwosk_ba
   paldwosk_text_more(line, count);
 }
 
-static inline void paldwosk_text_missing(struct paldwosk_text *line, paldwosk_barrier *barrier) {
+PALDWOSK_INLINE void paldwosk_text_missing(struct paldwosk_text *line, paldwosk_barrier *barrier) {
   uint64_t missing[PALDWOSK_MOST_MEMBERS];
   size_t count = paldwosk_find_missing(barrier, missing);
   paldwosk_text_word(line, "; missing:");
@@ -958,7 +962,7 @@ PALDWOSK_APART void paldwosk_tell_wait(paldwosk_barrier *barrier, const struct p
 }
 
 /* It counts as asleep from the start, so others wake it. Writing and a timed wait would be cancellation points. */
-static inline void paldwosk_watch(paldwosk_barrier *barrier, struct paldwosk_sleeper *me) {
+PALDWOSK_INLINE void paldwosk_watch(paldwosk_barrier *barrier, struct paldwosk_sleeper *me) {
   struct timespec until;
   uint32_t state = PALDWOSK_SPINNING;
   int old = 0, kept = errno;
@@ -974,21 +978,21 @@ static inline void paldwosk_watch(paldwosk_barrier *barrier, struct paldwosk_sle
 }
 
 /* After how many seconds a wait is told of; 0 if it never is. */
-static inline uint32_t paldwosk_watch_of_environment(void) {
+PALDWOSK_INLINE uint32_t paldwosk_watch_of_environment(void) {
   const char *words = getenv("PALDWOSK_WATCH");
   unsigned long seconds = words ? strtoul(words, NULL, 10) : 0;
   return seconds < 86400 ? (uint32_t)seconds : 86400;
 }
 
 /* The call's own part is done. Sleepers that are still to ask do so, the lock is given back, and it waits if it must. */
-static inline void paldwosk_end_call(paldwosk_barrier *barrier, struct paldwosk_sleeper *me) {
+PALDWOSK_INLINE void paldwosk_end_call(paldwosk_barrier *barrier, struct paldwosk_sleeper *me) {
   struct paldwosk_sleeper *sleeper;
   while (barrier->trace && (sleeper = paldwosk_take_asking(barrier))) paldwosk_ask_traced(barrier, sleeper);
   if (barrier->watch && me->is_parked) paldwosk_watch(barrier, me);
   paldwosk_unlock(barrier, me);
 }
 
-static inline void paldwosk_call(paldwosk_barrier *barrier, struct paldwosk_sleeper *me) {
+PALDWOSK_INLINE void paldwosk_call(paldwosk_barrier *barrier, struct paldwosk_sleeper *me) {
   me->is_to_ask = barrier->trace != NULL;
   me->is_to_pass = me->call == PALDWOSK_CALL_WAIT;
   if (barrier->trace) paldwosk_park(barrier, me);
@@ -996,47 +1000,53 @@ static inline void paldwosk_call(paldwosk_barrier *barrier, struct paldwosk_slee
   paldwosk_end_call(barrier, me);
 }
 
-static inline struct paldwosk_sleeper paldwosk_new_sleeper(uint64_t task, uint32_t call, uint32_t single) {
+PALDWOSK_INLINE struct paldwosk_sleeper paldwosk_new_sleeper(uint64_t task, uint32_t call, uint32_t single) {
   struct paldwosk_sleeper me = {NULL, task, 0, call, single, PALDWOSK_NOT_YET, PALDWOSK_SPINNING, 0, 0, 0, 0, 0, 0};
   return me;
 }
 
 /* ---- Who may enter */
 
-static uint32_t paldwosk_forks; /* atomic: how many forks lie above this process since this file was first used */
-static int paldwosk_are_forks_missed;
-static pthread_once_t paldwosk_forks_once = PTHREAD_ONCE_INIT;
+#ifdef __cplusplus
+#define PALDWOSK_OF_HEADER inline
+#else
+#define PALDWOSK_OF_HEADER static
+#endif
 
-static inline void paldwosk_count_fork(void) { __atomic_fetch_add(&paldwosk_forks, 1, __ATOMIC_RELAXED); }
+PALDWOSK_OF_HEADER uint32_t paldwosk_forks; /* atomic: how many forks lie above this process since its first use */
+PALDWOSK_OF_HEADER int paldwosk_are_forks_missed;
+PALDWOSK_OF_HEADER pthread_once_t paldwosk_forks_once = PTHREAD_ONCE_INIT;
 
-static inline void paldwosk_watch_forks(void) {
+PALDWOSK_INLINE void paldwosk_count_fork(void) { __atomic_fetch_add(&paldwosk_forks, 1, __ATOMIC_RELAXED); }
+
+PALDWOSK_INLINE void paldwosk_watch_forks(void) {
   paldwosk_are_forks_missed = pthread_atfork(NULL, NULL, paldwosk_count_fork) != 0;
 }
 
-static inline int paldwosk_is_inherited(const paldwosk_barrier *barrier) {
+PALDWOSK_INLINE int paldwosk_is_inherited(const paldwosk_barrier *barrier) {
   return __atomic_load_n(barrier->forks, __ATOMIC_RELAXED) != barrier->forks_then;
 }
 
 /* Takes the lock if it answers DONE. */
-static inline paldwosk_answer paldwosk_enter(paldwosk_barrier *barrier) {
+PALDWOSK_INLINE paldwosk_answer paldwosk_enter(paldwosk_barrier *barrier) {
   if (!barrier) return PALDWOSK_NULL;
   if (!barrier->forks || paldwosk_is_inherited(barrier)) return PALDWOSK_CLOSED;
   paldwosk_lock(barrier);
   return PALDWOSK_DONE;
 }
 
-static inline paldwosk_answer paldwosk_enter_by(const paldwosk_task *task) {
+PALDWOSK_INLINE paldwosk_answer paldwosk_enter_by(const paldwosk_task *task) {
   return task ? paldwosk_enter(task->barrier) : PALDWOSK_NULL;
 }
 
 /* With the lock. A task passes once its running single is reported: a wait in the statement would never end. */
-static inline int paldwosk_is_in_single(const paldwosk_task *task) {
+PALDWOSK_INLINE int paldwosk_is_in_single(const paldwosk_task *task) {
   return task->barrier->coming && task->barrier->claimer == task->number;
 }
 
 /* The call of a task that may have to wait. */
-static inline paldwosk_answer paldwosk_call_by(const paldwosk_task *task, uint32_t call, uint32_t single,
-                                               uint64_t *phase) {
+PALDWOSK_INLINE paldwosk_answer paldwosk_call_by(const paldwosk_task *task, uint32_t call, uint32_t single,
+                                                 uint64_t *phase) {
   paldwosk_answer entered = paldwosk_enter_by(task);
   if (entered != PALDWOSK_DONE) return entered;
   struct paldwosk_sleeper me = paldwosk_new_sleeper(task->number, call, single);
@@ -1048,7 +1058,7 @@ static inline paldwosk_answer paldwosk_call_by(const paldwosk_task *task, uint32
 }
 
 /* The task that has run its single reports that, and passes. */
-static inline paldwosk_answer paldwosk_report_by(const paldwosk_task *task, uint64_t *phase) {
+PALDWOSK_INLINE paldwosk_answer paldwosk_report_by(const paldwosk_task *task, uint64_t *phase) {
   paldwosk_answer entered = paldwosk_enter_by(task);
   if (entered != PALDWOSK_DONE) return entered;
   struct paldwosk_sleeper me = paldwosk_new_sleeper(task->number, PALDWOSK_CALL_WAIT, 0);
@@ -1062,7 +1072,7 @@ static inline paldwosk_answer paldwosk_report_by(const paldwosk_task *task, uint
 
 /* ---- Making and freeing */
 
-static inline struct paldwosk_trace *paldwosk_new_trace(uint32_t bound, const uint32_t *operators, size_t count) {
+PALDWOSK_INLINE struct paldwosk_trace *paldwosk_new_trace(uint32_t bound, const uint32_t *operators, size_t count) {
   struct paldwosk_trace *trace = (struct paldwosk_trace *)calloc(1, sizeof *trace);
   if (!trace) return NULL;
   trace->bound = bound;
@@ -1072,7 +1082,7 @@ static inline struct paldwosk_trace *paldwosk_new_trace(uint32_t bound, const ui
   return trace;
 }
 
-static inline int paldwosk_init_lock(paldwosk_barrier *barrier) {
+PALDWOSK_INLINE int paldwosk_init_lock(paldwosk_barrier *barrier) {
   if (pthread_mutex_init(&barrier->lock, NULL) != 0) return 0;
 #ifndef PALDWOSK_BY_FUTEX
   if (pthread_cond_init(&barrier->turned, NULL) != 0) {
@@ -1083,7 +1093,7 @@ static inline int paldwosk_init_lock(paldwosk_barrier *barrier) {
   return 1;
 }
 
-static inline void paldwosk_destroy_lock(paldwosk_barrier *barrier) {
+PALDWOSK_INLINE void paldwosk_destroy_lock(paldwosk_barrier *barrier) {
 #ifndef PALDWOSK_BY_FUTEX
   pthread_cond_destroy(&barrier->turned);
 #endif
@@ -1091,7 +1101,7 @@ static inline void paldwosk_destroy_lock(paldwosk_barrier *barrier) {
 }
 
 /* What a barrier has besides its phaser, its trace and its lock. */
-static inline void paldwosk_open(paldwosk_barrier *barrier) {
+PALDWOSK_INLINE void paldwosk_open(paldwosk_barrier *barrier) {
   long processors = sysconf(_SC_NPROCESSORS_ONLN);
   barrier->turn = barrier->to_wake = barrier->coming = barrier->tasks = barrier->waits = 0;
   barrier->inside = barrier->pauses = 0;
@@ -1106,8 +1116,8 @@ static inline void paldwosk_open(paldwosk_barrier *barrier) {
   barrier->forks = &paldwosk_forks;
 }
 
-static inline paldwosk_answer paldwosk_new_barrier(paldwosk_barrier *barrier, uint32_t bound,
-                                                   const paldwosk_operator *operators, size_t count, int is_traced) {
+PALDWOSK_INLINE paldwosk_answer paldwosk_new_barrier(paldwosk_barrier *barrier, uint32_t bound,
+                                                     const paldwosk_operator *operators, size_t count, int is_traced) {
   uint32_t numbers[4] = {0, 0, 0, 0};
   if (!barrier || (!operators && count)) return PALDWOSK_NULL;
   if (barrier->forks) return paldwosk_is_inherited(barrier) ? PALDWOSK_CLOSED : PALDWOSK_OPEN;
@@ -1130,8 +1140,8 @@ static inline paldwosk_answer paldwosk_new_barrier(paldwosk_barrier *barrier, ui
 }
 
 /* The same where there is no barrier, whatever the memory has. */
-static inline paldwosk_answer paldwosk_init_barrier(paldwosk_barrier *barrier, uint32_t bound,
-                                                    const paldwosk_operator *operators, size_t count, int is_traced) {
+PALDWOSK_INLINE paldwosk_answer paldwosk_init_barrier(paldwosk_barrier *barrier, uint32_t bound,
+                                                      const paldwosk_operator *operators, size_t count, int is_traced) {
   static const paldwosk_barrier none = PALDWOSK_NO_BARRIER;
   if (!barrier || (!operators && count)) return PALDWOSK_NULL;
   *barrier = none;
@@ -1140,7 +1150,7 @@ static inline paldwosk_answer paldwosk_init_barrier(paldwosk_barrier *barrier, u
 
 /* The threads that are counted as inside have been woken, and only need a processor for a moment. If yielding doesn't
  * give them one, this thread sleeps: theirs may be of a lower priority. */
-static inline void paldwosk_let_others_run(uint32_t tried) {
+PALDWOSK_INLINE void paldwosk_let_others_run(uint32_t tried) {
   int old = 0;
   if (tried < 100) {
     sched_yield();
@@ -1160,15 +1170,15 @@ static inline void paldwosk_let_others_run(uint32_t tried) {
  * There is an accumulator for each of at most four operators. All memory is taken here. OPEN, BAD_OPERATORS, BAD_BOUND,
  * MEMORY. On DONE, free it by paldwosk_barrier_free. */
 PALDWOSK_MUST_CHECK
-static inline paldwosk_answer paldwosk_barrier_new(paldwosk_barrier *barrier, uint32_t bound,
-                                                   const paldwosk_operator *operators, size_t count) {
+PALDWOSK_INLINE paldwosk_answer paldwosk_barrier_new(paldwosk_barrier *barrier, uint32_t bound,
+                                                     const paldwosk_operator *operators, size_t count) {
   return paldwosk_new_barrier(barrier, bound, operators, count, 0);
 }
 
 /* As paldwosk_barrier_new, and it keeps a trace of what is done, for paldwosk_barrier_trace. That takes some 1 MB. */
 PALDWOSK_MUST_CHECK
-static inline paldwosk_answer paldwosk_barrier_new_traced(paldwosk_barrier *barrier, uint32_t bound,
-                                                          const paldwosk_operator *operators, size_t count) {
+PALDWOSK_INLINE paldwosk_answer paldwosk_barrier_new_traced(paldwosk_barrier *barrier, uint32_t bound,
+                                                            const paldwosk_operator *operators, size_t count) {
   return paldwosk_new_barrier(barrier, bound, operators, count, 1);
 }
 
@@ -1179,22 +1189,22 @@ static inline paldwosk_answer paldwosk_barrier_new_traced(paldwosk_barrier *barr
  *     paldwosk_barrier *barrier = (paldwosk_barrier *)malloc(sizeof *barrier);
  *     paldwosk_answer answer = barrier ? paldwosk_barrier_init(barrier, 2, NULL, 0) : PALDWOSK_MEMORY; */
 PALDWOSK_MUST_CHECK
-static inline paldwosk_answer paldwosk_barrier_init(paldwosk_barrier *barrier, uint32_t bound,
-                                                    const paldwosk_operator *operators, size_t count) {
+PALDWOSK_INLINE paldwosk_answer paldwosk_barrier_init(paldwosk_barrier *barrier, uint32_t bound,
+                                                      const paldwosk_operator *operators, size_t count) {
   return paldwosk_init_barrier(barrier, bound, operators, count, 0);
 }
 
 /* As paldwosk_barrier_init, and it keeps a trace as paldwosk_barrier_new_traced does. */
 PALDWOSK_MUST_CHECK
-static inline paldwosk_answer paldwosk_barrier_init_traced(paldwosk_barrier *barrier, uint32_t bound,
-                                                           const paldwosk_operator *operators, size_t count) {
+PALDWOSK_INLINE paldwosk_answer paldwosk_barrier_init_traced(paldwosk_barrier *barrier, uint32_t bound,
+                                                             const paldwosk_operator *operators, size_t count) {
   return paldwosk_init_barrier(barrier, bound, operators, count, 1);
 }
 
 /* Frees the barrier. NOT_NOW if a task waits, or runs a single. A thread that another's call has freed may still be on
  * its way out of its own call. This call waits for it, so the memory may be used for something else at once. */
 PALDWOSK_MUST_CHECK
-static inline paldwosk_answer paldwosk_barrier_free(paldwosk_barrier *barrier) {
+PALDWOSK_INLINE paldwosk_answer paldwosk_barrier_free(paldwosk_barrier *barrier) {
   for (uint32_t tried = 0;; tried++) {
     paldwosk_answer entered = paldwosk_enter(barrier);
     if (entered != PALDWOSK_DONE) return entered;
@@ -1218,8 +1228,8 @@ static inline paldwosk_answer paldwosk_barrier_free(paldwosk_barrier *barrier) {
 
 /* Makes the first task, in any mode. BAD_MODE, NOT_NOW if it was made before. */
 PALDWOSK_MUST_CHECK
-static inline paldwosk_answer paldwosk_barrier_make(paldwosk_barrier *barrier, paldwosk_mode mode,
-                                                    paldwosk_task *task) {
+PALDWOSK_INLINE paldwosk_answer paldwosk_barrier_make(paldwosk_barrier *barrier, paldwosk_mode mode,
+                                                      paldwosk_task *task) {
   paldwosk_answer answer = task ? paldwosk_enter(barrier) : PALDWOSK_NULL;
   if (answer != PALDWOSK_DONE) return answer;
   uint64_t number = 0;
@@ -1238,8 +1248,8 @@ static inline paldwosk_answer paldwosk_barrier_make(paldwosk_barrier *barrier, p
  * parent is ahead. BAD_MODE, NOT_REGISTERED, MORE_THAN_PARENT, REGS_FULL if there are 256 tasks, HISTORY_FULL after 2^62
  * events. */
 PALDWOSK_MUST_CHECK
-static inline paldwosk_answer paldwosk_barrier_join(const paldwosk_task *parent, paldwosk_mode mode,
-                                                    paldwosk_task *task) {
+PALDWOSK_INLINE paldwosk_answer paldwosk_barrier_join(const paldwosk_task *parent, paldwosk_mode mode,
+                                                      paldwosk_task *task) {
   paldwosk_answer answer = task ? paldwosk_enter_by(parent) : PALDWOSK_NULL;
   if (answer != PALDWOSK_DONE) return answer;
   paldwosk_barrier *barrier = parent->barrier;
@@ -1259,14 +1269,14 @@ static inline paldwosk_answer paldwosk_barrier_join(const paldwosk_task *parent,
  * On DONE *phase is the phase, unless `phase` is NULL. NOT_REGISTERED, NO_SIGNAL, ALREADY_SIGNALLED, NOT_NOW,
  * HISTORY_FULL. */
 PALDWOSK_MUST_CHECK
-static inline paldwosk_answer paldwosk_barrier_next(const paldwosk_task *task, uint64_t *phase) {
+PALDWOSK_INLINE paldwosk_answer paldwosk_barrier_next(const paldwosk_task *task, uint64_t *phase) {
   return paldwosk_call_by(task, PALDWOSK_CALL_NEXT, 0, phase);
 }
 
 /* Signals, and goes on. It waits only if the task would be ahead of a waiting task by more than the bound.
  * NOT_REGISTERED, NO_SIGNAL, ALREADY_SIGNALLED, NOT_NOW, HISTORY_FULL. */
 PALDWOSK_MUST_CHECK
-static inline paldwosk_answer paldwosk_barrier_signal(const paldwosk_task *task) {
+PALDWOSK_INLINE paldwosk_answer paldwosk_barrier_signal(const paldwosk_task *task) {
   return paldwosk_call_by(task, PALDWOSK_CALL_SIGNAL, 0, NULL);
 }
 
@@ -1275,14 +1285,14 @@ static inline paldwosk_answer paldwosk_barrier_signal(const paldwosk_task *task)
  * `phase` is NULL. NOT_REGISTERED, NOT_SIGNALLED, NOT_NOW (also in the statement of the task's own single),
  * HISTORY_FULL. */
 PALDWOSK_MUST_CHECK
-static inline paldwosk_answer paldwosk_barrier_wait(const paldwosk_task *task, uint64_t *phase) {
+PALDWOSK_INLINE paldwosk_answer paldwosk_barrier_wait(const paldwosk_task *task, uint64_t *phase) {
   return paldwosk_call_by(task, PALDWOSK_CALL_WAIT, 0, phase);
 }
 
 /* Sends a value to an accumulator, for the phase that the task hasn't signalled yet. NOT_REGISTERED, NO_SIGNAL,
  * NO_ACCUMULATOR, HISTORY_FULL. */
 PALDWOSK_MUST_CHECK
-static inline paldwosk_answer paldwosk_barrier_send(const paldwosk_task *task, uint32_t accumulator, int32_t value) {
+PALDWOSK_INLINE paldwosk_answer paldwosk_barrier_send(const paldwosk_task *task, uint32_t accumulator, int32_t value) {
   paldwosk_answer answer = paldwosk_enter_by(task);
   if (answer != PALDWOSK_DONE) return answer;
   paldwosk_barrier *barrier = task->barrier;
@@ -1298,7 +1308,7 @@ static inline paldwosk_answer paldwosk_barrier_send(const paldwosk_task *task, u
  * the greatest, and no task sent a value; TOO_GREAT if it isn't within an int64_t, which takes 2^32 values.
  * NOT_REGISTERED, NO_WAIT, NO_ACCUMULATOR, NO_PHASE_YET, HISTORY_FULL. */
 PALDWOSK_MUST_CHECK
-static inline paldwosk_answer paldwosk_barrier_look(const paldwosk_task *task, uint32_t accumulator, int64_t *value) {
+PALDWOSK_INLINE paldwosk_answer paldwosk_barrier_look(const paldwosk_task *task, uint32_t accumulator, int64_t *value) {
   paldwosk_answer answer = value ? paldwosk_enter_by(task) : PALDWOSK_NULL;
   if (answer != PALDWOSK_DONE) return answer;
   paldwosk_barrier *barrier = task->barrier;
@@ -1320,8 +1330,8 @@ static inline paldwosk_answer paldwosk_barrier_look(const paldwosk_task *task, u
  * statement its task can send, look and join, but not go on or leave. All are answered DONE. NOT_REGISTERED, NO_SIGNAL,
  * NO_SINGLE, ALREADY_SIGNALLED, SINGLE_MISMATCH if another number is proposed in this phase, NOT_NOW, HISTORY_FULL. */
 PALDWOSK_MUST_CHECK
-static inline paldwosk_answer paldwosk_barrier_single(const paldwosk_task *task, uint32_t number,
-                                                      void (*run)(void *data), void *data, uint64_t *phase) {
+PALDWOSK_INLINE paldwosk_answer paldwosk_barrier_single(const paldwosk_task *task, uint32_t number,
+                                                        void (*run)(void *data), void *data, uint64_t *phase) {
   int old = 0;
   if (!task || !run) return PALDWOSK_NULL;
   paldwosk_task mine = *task;
@@ -1337,7 +1347,7 @@ static inline paldwosk_answer paldwosk_barrier_single(const paldwosk_task *task,
  * NOT_NOW if it has proposed a single that isn't done. If another thread waits for this task, that call is
  * answered NOT_REGISTERED. */
 PALDWOSK_MUST_CHECK
-static inline paldwosk_answer paldwosk_barrier_leave(const paldwosk_task *task) {
+PALDWOSK_INLINE paldwosk_answer paldwosk_barrier_leave(const paldwosk_task *task) {
   paldwosk_answer entered = paldwosk_enter_by(task);
   if (entered != PALDWOSK_DONE) return entered;
   struct paldwosk_sleeper me = paldwosk_new_sleeper(task->number, PALDWOSK_CALL_WAIT, 0);
@@ -1357,8 +1367,8 @@ static inline paldwosk_answer paldwosk_barrier_leave(const paldwosk_task *task) 
  *     paldwosk_answer answer = paldwosk_barrier_missing(&barrier, missing, 256, &count);
  *     for (size_t at = 0; answer == PALDWOSK_DONE && at < count; at++) printf("task %" PRIu64 "\n", missing[at]); */
 PALDWOSK_MUST_CHECK
-static inline paldwosk_answer paldwosk_barrier_missing(paldwosk_barrier *barrier, uint64_t *tasks, size_t room,
-                                                       size_t *count) {
+PALDWOSK_INLINE paldwosk_answer paldwosk_barrier_missing(paldwosk_barrier *barrier, uint64_t *tasks, size_t room,
+                                                         size_t *count) {
   uint64_t missing[PALDWOSK_MOST_MEMBERS];
   paldwosk_answer answer = count && (tasks || !room) ? paldwosk_enter(barrier) : PALDWOSK_NULL;
   if (answer != PALDWOSK_DONE) return answer;
@@ -1375,7 +1385,7 @@ static inline paldwosk_answer paldwosk_barrier_missing(paldwosk_barrier *barrier
  * and whether to yield. No thread spins if there are more tasks than processors, or if threads sleep by a condition
  * variable. */
 PALDWOSK_MUST_CHECK
-static inline paldwosk_answer paldwosk_barrier_spin(paldwosk_barrier *barrier, uint32_t most) {
+PALDWOSK_INLINE paldwosk_answer paldwosk_barrier_spin(paldwosk_barrier *barrier, uint32_t most) {
   paldwosk_answer answer = paldwosk_enter(barrier);
   if (answer != PALDWOSK_DONE) return answer;
   if (most > UINT32_MAX / 4) most = UINT32_MAX / 4;
@@ -1390,8 +1400,8 @@ static inline paldwosk_answer paldwosk_barrier_spin(paldwosk_barrier *barrier, u
  * their single, if one is under way. No NUL is added; *written is how many bytes the text has, even if the room is too
  * small for it. The text may be NULL if the room is 0. NOT_KEPT if the barrier keeps no trace; SHORT. */
 PALDWOSK_MUST_CHECK
-static inline paldwosk_answer paldwosk_barrier_trace(paldwosk_barrier *barrier, char *text, size_t room,
-                                                     size_t *written) {
+PALDWOSK_INLINE paldwosk_answer paldwosk_barrier_trace(paldwosk_barrier *barrier, char *text, size_t room,
+                                                       size_t *written) {
   paldwosk_answer answer = written && (text || !room) ? paldwosk_enter(barrier) : PALDWOSK_NULL;
   if (answer != PALDWOSK_DONE) return answer;
   if (!barrier->trace) answer = PALDWOSK_NOT_KEPT;
@@ -1404,7 +1414,7 @@ static inline paldwosk_answer paldwosk_barrier_trace(paldwosk_barrier *barrier, 
 /* Whether a limit of the trace has come, so that it tells of the run up to there: 60,000 events of the phaser, a task
  * number over 4,095, or what no trace can tell: that a task sends, looks or joins another in the statement of its
  * single. */
-static inline int paldwosk_barrier_trace_ended(paldwosk_barrier *barrier) {
+PALDWOSK_INLINE int paldwosk_barrier_trace_ended(paldwosk_barrier *barrier) {
   if (paldwosk_enter(barrier) != PALDWOSK_DONE) return 0;
   int has_ended = barrier->trace && barrier->trace->has_ended;
   pthread_mutex_unlock(&barrier->lock);
