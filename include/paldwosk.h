@@ -98,6 +98,9 @@ typedef enum paldwosk_answer {
   PALDWOSK_NOT_KEPT = 35, /* no such accumulator, or the phase is too great, or its fold is given up */
   PALDWOSK_TOO_GREAT = 36, /* the fold isn't within an int64_t: it takes 2^32 values in one phase */
 
+  /* An answer of paldwosk_barrier.h alone. No function of the archive has it. */
+  PALDWOSK_TIMED_OUT = 48, /* the time is over and the call isn't: it goes on, and the same call waits for its answer */
+
   /* What was passed is at fault. Nothing changed, except *written if the room is too small. */
   PALDWOSK_NULL = 64,          /* a pointer is NULL */
   PALDWOSK_CLOSED = 65,        /* the paldwosk_phaser holds no phaser */
@@ -173,6 +176,8 @@ PALDWOSK_INLINE const char *paldwosk_answer_text(paldwosk_answer answer) {
              "make a traced barrier, or ask of another phase or accumulator";
     case PALDWOSK_TOO_GREAT:
       return "TooGreat (36): the fold isn't within an int64_t; send fewer or smaller values in a phase";
+    case PALDWOSK_TIMED_OUT:
+      return "TimedOut (48): the time is over and the call isn't; make the same call again, or let the task leave";
     case PALDWOSK_NULL:
       return "Null (64): a pointer is NULL that may not be, or the task is zeroed; pass the address of a variable";
     case PALDWOSK_CLOSED:

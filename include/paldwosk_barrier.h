@@ -35,6 +35,23 @@
  *   - No call is made from a signal handler, or by a thread that may be cancelled asynchronously. A call takes up to
  *     8 KB of stack.
  *
+ * WAITS WITH A TIME. Of each call that may wait there is a form .._for, which waits for so many milliseconds at most,
+ * and a form try_.., which doesn't wait. If the answer hasn't come by then, it is PALDWOSK_TIMED_OUT. Nothing is taken
+ * back then: a call that has to wait can't be withdrawn.
+ *
+ *   - The call goes on without its thread. A next or a single has signalled, unless the bound holds its signal back;
+ *     then it does so once it may. Others go on by that, and none of them is disturbed.
+ *   - The task's next call of the same name waits for the same answer, with a time or without. A next goes on with a
+ *     next, a single with a single of the same number, in whichever form. It doesn't signal once more.
+ *   - Until that answer is given, each other signal, next, wait or single of the task is answered PALDWOSK_NOT_NOW.
+ *     Its send, look, join and leave are carried out. A leave ends the call; a single's is refused until it is done.
+ *   - So a task that has proposed a single comes back. Others wait for it, if it is the one that is to run the
+ *     statement. The time is for the waiting, not for the statement.
+ *
+ *     while ((answer = paldwosk_barrier_next_for(&task, 100, &phase)) == PALDWOSK_TIMED_OUT) tell_that_it_waits();
+ *
+ * The time is that of CLOCK_MONOTONIC on Linux, whatever is set meanwhile, and elsewhere that of the day.
+ *
  * IF A PROGRAM HANGS. Run it with PALDWOSK_WATCH=SECONDS in the environment, from 1 to 86,400. A thread that waits for
  * longer than that writes a line to standard error, once for each wait:
  *
@@ -80,7 +97,13 @@ extern "C" {
 long syscall(long number, ...); /* -std=c11 hides it */
 #endif
 
+#if defined __linux__ && !defined __cplusplus
+int clock_gettime(int clock, struct timespec *now); /* it hides these too */
+int pthread_condattr_setclock(pthread_condattr_t *by, int clock);
+#endif
+
 struct paldwosk_member;
+struct paldwosk_overdue;
 struct paldwosk_sleeper;
 struct paldwosk_trace;
 
@@ -97,7 +120,9 @@ typedef struct paldwosk_barrier {
   struct paldwosk_sleeper *first; /* the waiting calls, the earliest in front */
   struct paldwosk_sleeper **last; /* the place of the next of them */
   struct paldwosk_trace *trace;   /* NULL if none is kept */
+  struct paldwosk_overdue *overdue; /* the calls whose time is over, and whose answer hasn't been given */
   struct paldwosk_member *members; /* the registered tasks, by their numbers */
+  struct paldwosk_overdue *room, *spare; /* room for a call of each task whose time is over; what is free of it */
   uint32_t bound;
   uint32_t watch;                 /* after how many seconds a thread tells that it waits; 0: it never does */
   uint32_t to_wake;               /* bits of sleepers that were freed, and are to be woken */
@@ -169,7 +194,8 @@ enum {
   PALDWOSK_EVENT_LOOK,
   PALDWOSK_EVENT_LOOK_AT_NOTHING,
   PALDWOSK_EVENT_LEAVE,
-  PALDWOSK_EVENT_SHUT /* the end of the root, which is the last of all */
+  PALDWOSK_EVENT_STILL, /* of the text alone: the task is still there, where the text has to end */
+  PALDWOSK_EVENT_SHUT   /* the end of the root, which is the last of all */
 };
 
 /* Where a task stands in the trace. */
@@ -330,8 +356,10 @@ PALDWOSK_INLINE void paldwosk_text_event(struct paldwosk_text *out, const struct
       {",\"p\",0,\"look\",$t,$o,$v", NULL, NULL},
       {",\"p\",0,\"look\",$t,$o,null", NULL, NULL},
       {",\"t\",$t,\"begin\",[\"end\"]", ",\"p\",0,\"drop\",$t", ",\"f\",0,\"ended\",$t"},
+      {",\"t\",$t,\"refuse\",[\"shut\"],21", ",\"p\",0,\"drop\",$t", ",\"f\",0,\"ended\",$t"},
       {",\"f\",0,\"shut\"", NULL, NULL}};
-  int entries = event->kind == PALDWOSK_EVENT_LEAVE && event->task == 0 ? 2 : 3;
+  int is_end = event->kind == PALDWOSK_EVENT_LEAVE || event->kind == PALDWOSK_EVENT_STILL;
+  int entries = is_end && event->task == 0 ? 2 : 3;
   for (int at = 0; at < entries && forms[event->kind][at]; at++)
     paldwosk_text_entry(out, event, forms[event->kind][at]);
 }
@@ -351,12 +379,13 @@ PALDWOSK_INLINE void paldwosk_text_of_task(struct paldwosk_text *out, uint8_t ki
   paldwosk_text_event(out, &event);
 }
 
-/* The ends of all tasks that stand so, after their passes if these are due. */
+/* The ends of all tasks that stand so, after their passes if these are due. Each is told as a refusal that no call of a
+ * barrier is answered: so a reader knows from the ends that were made those that the text alone has. */
 PALDWOSK_INLINE void paldwosk_text_ends(struct paldwosk_text *out, uint8_t stands, int is_pass_due) {
   for (uint32_t task = 0; task < out->trace->tasks; task++) {
     if (out->trace->stands[task] != stands) continue;
     if (is_pass_due) paldwosk_text_of_task(out, PALDWOSK_EVENT_PASS, task);
-    paldwosk_text_of_task(out, PALDWOSK_EVENT_LEAVE, task);
+    paldwosk_text_of_task(out, PALDWOSK_EVENT_STILL, task);
   }
 }
 
@@ -396,6 +425,7 @@ PALDWOSK_INLINE size_t paldwosk_text_whole(const struct paldwosk_trace *trace, c
 
 enum { PALDWOSK_CALL_SIGNAL, PALDWOSK_CALL_WAIT, PALDWOSK_CALL_NEXT, PALDWOSK_CALL_SINGLE };
 enum { PALDWOSK_SPINNING = 0, PALDWOSK_READY = 1, PALDWOSK_ASLEEP = 2 };
+enum { PALDWOSK_CLOCK = 1 }; /* CLOCK_MONOTONIC */
 
 /* A call that may have to wait, on the stack of the thread that makes it. Once it is READY it may be gone. */
 struct paldwosk_sleeper {
@@ -436,6 +466,16 @@ PALDWOSK_INLINE struct paldwosk_sleeper *paldwosk_take_asking(paldwosk_barrier *
   struct paldwosk_sleeper **place = &barrier->first;
   while (*place && !(*place)->is_to_ask) place = &(*place)->next;
   return paldwosk_take(barrier, place);
+}
+
+/* Puts another in the place of a sleeper. It is the same call from then on. */
+PALDWOSK_INLINE void paldwosk_replace(paldwosk_barrier *barrier, struct paldwosk_sleeper *sleeper,
+                                      struct paldwosk_sleeper *other) {
+  struct paldwosk_sleeper **place = &barrier->first;
+  while (*place != sleeper) place = &(*place)->next;
+  *other = *sleeper;
+  *place = other;
+  if (!other->next) barrier->last = &other->next;
 }
 
 /* ---- Who is registered, and where each task stands. The core knows, but isn't asked: it has no export that tells. All
@@ -583,6 +623,25 @@ PALDWOSK_INLINE int64_t paldwosk_microseconds(void) {
   struct timespec now = {0, 0};
   timespec_get(&now, TIME_UTC); /* of the clocks it is the one that -std=c11 doesn't hide */
   return (int64_t)now.tv_sec * 1000000 + now.tv_nsec / 1000;
+}
+
+/* The time by which a wait ends. Nobody sets this clock. */
+PALDWOSK_INLINE struct timespec paldwosk_now(void) {
+  struct timespec now = {0, 0};
+#ifdef __linux__
+  clock_gettime(PALDWOSK_CLOCK, &now);
+#else
+  timespec_get(&now, TIME_UTC); /* as condition variables have it */
+#endif
+  return now;
+}
+
+PALDWOSK_INLINE struct timespec paldwosk_after(uint32_t milliseconds) {
+  struct timespec until = paldwosk_now();
+  until.tv_sec += (time_t)(milliseconds / 1000);
+  until.tv_nsec += (long)(milliseconds % 1000) * 1000000;
+  if (until.tv_nsec >= 1000000000) until.tv_sec++, until.tv_nsec -= 1000000000;
+  return until;
 }
 
 /* With the lock: how often the thread that waits now may yield. */
@@ -766,11 +825,15 @@ PALDWOSK_INLINE void paldwosk_unlock(paldwosk_barrier *barrier, struct paldwosk_
 
 #endif
 
-PALDWOSK_INLINE void paldwosk_park(paldwosk_barrier *barrier, struct paldwosk_sleeper *me) {
+PALDWOSK_INLINE void paldwosk_set_parked(paldwosk_barrier *barrier, struct paldwosk_sleeper *me) {
   me->is_parked = 1;
   paldwosk_prepare(barrier, me);
-  paldwosk_put_last(barrier, me);
   __atomic_fetch_add(&barrier->inside, 1, __ATOMIC_RELAXED);
+}
+
+PALDWOSK_INLINE void paldwosk_park(paldwosk_barrier *barrier, struct paldwosk_sleeper *me) {
+  paldwosk_set_parked(barrier, me);
+  paldwosk_put_last(barrier, me);
 }
 
 /* ---- The phaser's calls, all with the lock. A traced barrier makes one call for each event, so that it knows them
@@ -855,6 +918,57 @@ PALDWOSK_APART void paldwosk_ask_traced(paldwosk_barrier *barrier, struct paldwo
   paldwosk_free_those(barrier, freed, count);
 }
 
+/* ---- Calls whose time is over. Such a call stands among the sleepers until it is freed, and keeps its answer. */
+
+struct paldwosk_overdue {
+  struct paldwosk_sleeper call;
+  struct paldwosk_overdue *next;
+};
+
+/* The place of a task's overdue call in their list; that of NULL if it has none. */
+PALDWOSK_INLINE struct paldwosk_overdue **paldwosk_overdue_of(paldwosk_barrier *barrier, uint64_t task) {
+  struct paldwosk_overdue **place = &barrier->overdue;
+  while (*place && (*place)->call.task != task) place = &(*place)->next;
+  return place;
+}
+
+/* The time is over: the call goes on without its thread. There is room, since a task waits in one call at once. */
+PALDWOSK_INLINE void paldwosk_go_overdue(paldwosk_barrier *barrier, struct paldwosk_sleeper *me) {
+  struct paldwosk_overdue *it = barrier->spare;
+  barrier->spare = it->next;
+  it->next = barrier->overdue;
+  barrier->overdue = it;
+  paldwosk_replace(barrier, me, &it->call);
+  it->call.state = PALDWOSK_SPINNING; /* nobody has to be woken */
+  it->call.is_parked = 0;
+  me->is_parked = 0;
+  me->answer = PALDWOSK_TIMED_OUT;
+  __atomic_fetch_sub(&barrier->inside, 1, __ATOMIC_RELAXED);
+}
+
+/* The task's overdue call, if it has one, isn't overdue any more. */
+PALDWOSK_INLINE void paldwosk_end_overdue(paldwosk_barrier *barrier, uint64_t task) {
+  struct paldwosk_overdue **place = paldwosk_overdue_of(barrier, task), *it = *place;
+  if (!it) return;
+  *place = it->next;
+  it->next = barrier->spare;
+  barrier->spare = it;
+}
+
+/* A task calls that has an overdue call. If it is the same, the thread waits for it again, or has its answer. */
+PALDWOSK_APART void paldwosk_go_on_overdue(paldwosk_barrier *barrier, struct paldwosk_sleeper *me) {
+  struct paldwosk_sleeper *call = &(*paldwosk_overdue_of(barrier, me->task))->call;
+  me->answer = PALDWOSK_NOT_NOW;
+  if (me->call != call->call || me->single != call->single) return;
+  if (paldwosk_is_ready(call)) {
+    *me = *call;
+  } else {
+    paldwosk_replace(barrier, call, me);
+    paldwosk_set_parked(barrier, me);
+  }
+  paldwosk_end_overdue(barrier, me->task);
+}
+
 PALDWOSK_APART void paldwosk_ask_to_leave(paldwosk_barrier *barrier, struct paldwosk_sleeper *me) {
   paldwosk_freed freed[PALDWOSK_MOST_FREED];
   size_t count = 0;
@@ -862,6 +976,7 @@ PALDWOSK_APART void paldwosk_ask_to_leave(paldwosk_barrier *barrier, struct pald
   if (me->answer == PALDWOSK_DONE) paldwosk_remove_member(barrier, me->task);
   if (me->answer == PALDWOSK_DONE && barrier->trace) paldwosk_trace_left(barrier->trace, me->task);
   paldwosk_free_those(barrier, freed, count);
+  if (me->answer == PALDWOSK_DONE) paldwosk_end_overdue(barrier, me->task);
 }
 
 PALDWOSK_APART void paldwosk_report(paldwosk_barrier *barrier, struct paldwosk_sleeper *me) {
@@ -872,28 +987,29 @@ PALDWOSK_APART void paldwosk_report(paldwosk_barrier *barrier, struct paldwosk_s
   paldwosk_free_those(barrier, freed, count);
 }
 
-/* ---- A wait that is watched: before it sleeps for as long as it has to, it sleeps until it is to be told of. */
+/* ---- Waits that have a time. One that is watched sleeps until it is to be told of, and then for as long as it has to. */
 
 enum { PALDWOSK_MOST_TOLD = 16, PALDWOSK_LINE_ROOM = 2048 }; /* sixteen tasks of each kind take less than 1,400 bytes */
 
 #ifdef PALDWOSK_BY_FUTEX
 
-/* Gives the lock back, sleeps until the call is over or the time has come, and takes the lock again. The turn is read
- * before the state, as in paldwosk_sleep. */
+/* Gives the lock back, spins, sleeps until the call is over or the time has come, and takes the lock again. The turn is
+ * read before the state, as in paldwosk_sleep. */
 PALDWOSK_INLINE void paldwosk_sleep_until(paldwosk_barrier *barrier, struct paldwosk_sleeper *me,
                                           const struct timespec *until) {
-  enum { WAIT_BITSET = 9, IS_PRIVATE = 128, BY_REAL_TIME = 256 };
+  enum { WAIT_BITSET = 9, IS_PRIVATE = 128 };
   long slept = 0;
   me->is_parked = 0; /* or paldwosk_unlock would wait */
   paldwosk_unlock(barrier, me);
+  paldwosk_spin(barrier, me);
   do {
     uint32_t seen = __atomic_load_n(&barrier->turn, __ATOMIC_ACQUIRE);
     if (paldwosk_is_ready(me)) break;
-    slept = syscall(SYS_futex, &barrier->turn, WAIT_BITSET | IS_PRIVATE | BY_REAL_TIME, seen, until, NULL,
-                    paldwosk_bit(me->task));
+    slept = syscall(SYS_futex, &barrier->turn, WAIT_BITSET | IS_PRIVATE, seen, until, NULL, paldwosk_bit(me->task));
   } while (slept == 0 || errno != ETIMEDOUT);
   paldwosk_lock(barrier);
   me->is_parked = 1;
+  me->patience = me->yields = 0; /* it has spun */
 }
 
 #else
@@ -903,6 +1019,8 @@ PALDWOSK_INLINE void paldwosk_sleep_until(paldwosk_barrier *barrier, struct pald
   int slept = 0;
   if (barrier->to_wake) pthread_cond_broadcast(&barrier->turned);
   barrier->to_wake = 0;
+  paldwosk_yield(barrier, me);
+  me->yields = 0;
   while (slept == 0 && !paldwosk_is_ready(me)) slept = pthread_cond_timedwait(&barrier->turned, &barrier->lock, until);
 }
 
@@ -961,18 +1079,27 @@ PALDWOSK_APART void paldwosk_tell_wait(paldwosk_barrier *barrier, const struct p
   paldwosk_lock(barrier);
 }
 
-/* It counts as asleep from the start, so others wake it. Writing and a timed wait would be cancellation points. */
+/* It sleeps at once, and counts as asleep, so others wake it. Writing and a timed wait would be cancellation points. */
 PALDWOSK_INLINE void paldwosk_watch(paldwosk_barrier *barrier, struct paldwosk_sleeper *me) {
-  struct timespec until;
-  uint32_t state = PALDWOSK_SPINNING;
+  struct timespec until = paldwosk_after(1000 * barrier->watch);
   int old = 0, kept = errno;
-  me->patience = 0;
-  __atomic_compare_exchange_n(&me->state, &state, PALDWOSK_ASLEEP, 0, __ATOMIC_ACQUIRE, __ATOMIC_ACQUIRE);
-  timespec_get(&until, TIME_UTC);
-  until.tv_sec += (time_t)barrier->watch;
+  me->patience = me->yields = 0;
   pthread_setcancelstate(PTHREAD_CANCEL_DISABLE, &old);
   paldwosk_sleep_until(barrier, me, &until);
   if (!paldwosk_is_ready(me)) paldwosk_tell_wait(barrier, me);
+  pthread_setcancelstate(old, &old);
+  errno = kept;
+}
+
+/* Waits for so many milliseconds at most. It spins no longer than a barrier does that nobody has set. */
+PALDWOSK_INLINE void paldwosk_wait_in_time(paldwosk_barrier *barrier, struct paldwosk_sleeper *me,
+                                           uint32_t milliseconds) {
+  struct timespec until = paldwosk_after(milliseconds);
+  int old = 0, kept = errno;
+  if (me->patience > PALDWOSK_MOST_PAUSES) me->patience = PALDWOSK_MOST_PAUSES;
+  pthread_setcancelstate(PTHREAD_CANCEL_DISABLE, &old);
+  if (barrier->watch && barrier->watch < milliseconds / 1000) paldwosk_watch(barrier, me);
+  if (!paldwosk_is_ready(me)) paldwosk_sleep_until(barrier, me, &until);
   pthread_setcancelstate(old, &old);
   errno = kept;
 }
@@ -984,20 +1111,33 @@ PALDWOSK_INLINE uint32_t paldwosk_watch_of_environment(void) {
   return seconds < 86400 ? (uint32_t)seconds : 86400;
 }
 
-/* The call's own part is done. Sleepers that are still to ask do so, the lock is given back, and it waits if it must. */
-PALDWOSK_INLINE void paldwosk_end_call(paldwosk_barrier *barrier, struct paldwosk_sleeper *me) {
+/* The call's own part is done. Sleepers that are still to ask do so. */
+PALDWOSK_INLINE void paldwosk_let_ask(paldwosk_barrier *barrier) {
   struct paldwosk_sleeper *sleeper;
   while (barrier->trace && (sleeper = paldwosk_take_asking(barrier))) paldwosk_ask_traced(barrier, sleeper);
+}
+
+/* They do so, the lock is given back, and it waits if it must. */
+PALDWOSK_INLINE void paldwosk_end_call(paldwosk_barrier *barrier, struct paldwosk_sleeper *me) {
+  paldwosk_let_ask(barrier);
   if (barrier->watch && me->is_parked) paldwosk_watch(barrier, me);
   paldwosk_unlock(barrier, me);
 }
 
-PALDWOSK_INLINE void paldwosk_call(paldwosk_barrier *barrier, struct paldwosk_sleeper *me) {
+/* The same, but it waits for so many milliseconds at most. */
+PALDWOSK_INLINE void paldwosk_end_in_time(paldwosk_barrier *barrier, struct paldwosk_sleeper *me,
+                                          uint32_t milliseconds) {
+  paldwosk_let_ask(barrier);
+  if (milliseconds && me->is_parked && !paldwosk_is_ready(me)) paldwosk_wait_in_time(barrier, me, milliseconds);
+  if (me->is_parked && !paldwosk_is_ready(me)) paldwosk_go_overdue(barrier, me);
+  paldwosk_unlock(barrier, me);
+}
+
+PALDWOSK_INLINE void paldwosk_begin_call(paldwosk_barrier *barrier, struct paldwosk_sleeper *me) {
   me->is_to_ask = barrier->trace != NULL;
   me->is_to_pass = me->call == PALDWOSK_CALL_WAIT;
   if (barrier->trace) paldwosk_park(barrier, me);
   else paldwosk_ask_and_free(barrier, me);
-  paldwosk_end_call(barrier, me);
 }
 
 PALDWOSK_INLINE struct paldwosk_sleeper paldwosk_new_sleeper(uint64_t task, uint32_t call, uint32_t single) {
@@ -1044,15 +1184,34 @@ PALDWOSK_INLINE int paldwosk_is_in_single(const paldwosk_task *task) {
   return task->barrier->coming && task->barrier->claimer == task->number;
 }
 
+/* With the lock: begins a call that may have to wait, or goes on with the task's overdue call. */
+PALDWOSK_INLINE void paldwosk_begin_or_go_on(const paldwosk_task *task, struct paldwosk_sleeper *me) {
+  paldwosk_barrier *barrier = task->barrier;
+  if (barrier->overdue && *paldwosk_overdue_of(barrier, me->task)) paldwosk_go_on_overdue(barrier, me);
+  else if (me->call == PALDWOSK_CALL_WAIT && paldwosk_is_in_single(task)) me->answer = PALDWOSK_NOT_NOW;
+  else paldwosk_begin_call(barrier, me);
+}
+
 /* The call of a task that may have to wait. */
 PALDWOSK_INLINE paldwosk_answer paldwosk_call_by(const paldwosk_task *task, uint32_t call, uint32_t single,
                                                  uint64_t *phase) {
   paldwosk_answer entered = paldwosk_enter_by(task);
   if (entered != PALDWOSK_DONE) return entered;
   struct paldwosk_sleeper me = paldwosk_new_sleeper(task->number, call, single);
-  if (call == PALDWOSK_CALL_WAIT && paldwosk_is_in_single(task)) me.answer = PALDWOSK_NOT_NOW;
-  if (me.answer == PALDWOSK_NOT_NOW) paldwosk_end_call(task->barrier, &me);
-  else paldwosk_call(task->barrier, &me);
+  paldwosk_begin_or_go_on(task, &me);
+  paldwosk_end_call(task->barrier, &me);
+  if (me.answer == PALDWOSK_DONE && phase) *phase = me.number;
+  return (paldwosk_answer)me.answer;
+}
+
+/* The same, but it waits for so many milliseconds at most. */
+PALDWOSK_APART paldwosk_answer paldwosk_call_in_time(const paldwosk_task *task, uint32_t call, uint32_t single,
+                                                     uint32_t milliseconds, uint64_t *phase) {
+  paldwosk_answer entered = paldwosk_enter_by(task);
+  if (entered != PALDWOSK_DONE) return entered;
+  struct paldwosk_sleeper me = paldwosk_new_sleeper(task->number, call, single);
+  paldwosk_begin_or_go_on(task, &me);
+  paldwosk_end_in_time(task->barrier, &me, milliseconds);
   if (me.answer == PALDWOSK_DONE && phase) *phase = me.number;
   return (paldwosk_answer)me.answer;
 }
@@ -1064,10 +1223,21 @@ PALDWOSK_INLINE paldwosk_answer paldwosk_report_by(const paldwosk_task *task, ui
   struct paldwosk_sleeper me = paldwosk_new_sleeper(task->number, PALDWOSK_CALL_WAIT, 0);
   task->barrier->coming--;
   paldwosk_report(task->barrier, &me);
-  if (me.answer == PALDWOSK_DONE) paldwosk_call(task->barrier, &me);
-  else paldwosk_end_call(task->barrier, &me);
+  if (me.answer == PALDWOSK_DONE) paldwosk_begin_call(task->barrier, &me);
+  paldwosk_end_call(task->barrier, &me);
   if (me.answer == PALDWOSK_DONE && phase) *phase = me.number;
   return (paldwosk_answer)me.answer;
+}
+
+/* What a single was answered. If the task has claimed it, it runs the statement. */
+PALDWOSK_INLINE paldwosk_answer paldwosk_run_claimed(const paldwosk_task *task, paldwosk_answer answer,
+                                                     void (*run)(void *data), void *data, uint64_t *phase) {
+  int old = 0;
+  if (answer != PALDWOSK_CLAIMED) return answer;
+  pthread_setcancelstate(PTHREAD_CANCEL_DISABLE, &old);
+  run(data);
+  pthread_setcancelstate(old, &old);
+  return paldwosk_report_by(task, phase);
 }
 
 /* ---- Making and freeing */
@@ -1082,10 +1252,25 @@ PALDWOSK_INLINE struct paldwosk_trace *paldwosk_new_trace(uint32_t bound, const 
   return trace;
 }
 
+#ifndef PALDWOSK_BY_FUTEX
+/* Timed waits at it are by the clock of paldwosk_now. */
+PALDWOSK_INLINE int paldwosk_init_cond(pthread_cond_t *cond) {
+#ifdef __linux__
+  pthread_condattr_t by;
+  if (pthread_condattr_init(&by) != 0) return 0;
+  int is_made = pthread_condattr_setclock(&by, PALDWOSK_CLOCK) == 0 && pthread_cond_init(cond, &by) == 0;
+  pthread_condattr_destroy(&by);
+  return is_made;
+#else
+  return pthread_cond_init(cond, NULL) == 0;
+#endif
+}
+#endif
+
 PALDWOSK_INLINE int paldwosk_init_lock(paldwosk_barrier *barrier) {
   if (pthread_mutex_init(&barrier->lock, NULL) != 0) return 0;
 #ifndef PALDWOSK_BY_FUTEX
-  if (pthread_cond_init(&barrier->turned, NULL) != 0) {
+  if (!paldwosk_init_cond(&barrier->turned)) {
     pthread_mutex_destroy(&barrier->lock);
     return 0;
   }
@@ -1112,6 +1297,9 @@ PALDWOSK_INLINE void paldwosk_open(paldwosk_barrier *barrier) {
   barrier->credit = PALDWOSK_MOST_CREDIT;
   barrier->first = NULL;
   barrier->last = &barrier->first;
+  barrier->overdue = NULL;
+  barrier->spare = barrier->room;
+  for (int at = 0; at < PALDWOSK_MOST_MEMBERS - 1; at++) barrier->room[at].next = &barrier->room[at + 1];
   barrier->forks_then = __atomic_load_n(&paldwosk_forks, __ATOMIC_RELAXED);
   barrier->forks = &paldwosk_forks;
 }
@@ -1128,9 +1316,12 @@ PALDWOSK_INLINE paldwosk_answer paldwosk_new_barrier(paldwosk_barrier *barrier, 
   if (made != PALDWOSK_DONE) return made;
   barrier->bound = bound;
   barrier->members = (struct paldwosk_member *)calloc(PALDWOSK_MEMBER_PLACES, sizeof *barrier->members);
+  barrier->room = (struct paldwosk_overdue *)calloc(PALDWOSK_MOST_MEMBERS, sizeof *barrier->room);
   barrier->trace = is_traced ? paldwosk_new_trace(bound, numbers, count) : NULL;
-  if (!barrier->members || (is_traced && !barrier->trace) || !paldwosk_init_lock(barrier)) {
+  int has_room = barrier->members && barrier->room && (barrier->trace || !is_traced);
+  if (!has_room || !paldwosk_init_lock(barrier)) {
     free(barrier->members);
+    free(barrier->room);
     free(barrier->trace);
     phaser_c_waiting_free(&barrier->phaser);
     return PALDWOSK_MEMORY;
@@ -1201,8 +1392,9 @@ PALDWOSK_INLINE paldwosk_answer paldwosk_barrier_init_traced(paldwosk_barrier *b
   return paldwosk_init_barrier(barrier, bound, operators, count, 1);
 }
 
-/* Frees the barrier. NOT_NOW if a task waits, or runs a single. A thread that another's call has freed may still be on
- * its way out of its own call. This call waits for it, so the memory may be used for something else at once. */
+/* Frees the barrier. NOT_NOW if a task waits, also by a call whose time is over, or runs a single, or is to. A thread
+ * that another's call has freed may still be on its way out of its own call. This call waits for it, so the memory may
+ * be used for something else at once. */
 PALDWOSK_MUST_CHECK
 PALDWOSK_INLINE paldwosk_answer paldwosk_barrier_free(paldwosk_barrier *barrier) {
   for (uint32_t tried = 0;; tried++) {
@@ -1217,8 +1409,10 @@ PALDWOSK_INLINE paldwosk_answer paldwosk_barrier_free(paldwosk_barrier *barrier)
   }
   phaser_c_waiting_free(&barrier->phaser);
   free(barrier->members);
+  free(barrier->room);
   free(barrier->trace);
   barrier->members = NULL;
+  barrier->room = NULL;
   barrier->trace = NULL;
   barrier->forks = NULL;
   pthread_mutex_unlock(&barrier->lock);
@@ -1332,16 +1526,77 @@ PALDWOSK_INLINE paldwosk_answer paldwosk_barrier_look(const paldwosk_task *task,
 PALDWOSK_MUST_CHECK
 PALDWOSK_INLINE paldwosk_answer paldwosk_barrier_single(const paldwosk_task *task, uint32_t number,
                                                         void (*run)(void *data), void *data, uint64_t *phase) {
-  int old = 0;
   if (!task || !run) return PALDWOSK_NULL;
   paldwosk_task mine = *task;
   paldwosk_answer answer = paldwosk_call_by(&mine, PALDWOSK_CALL_SINGLE, number, phase);
-  if (answer != PALDWOSK_CLAIMED) return answer;
-  pthread_setcancelstate(PTHREAD_CANCEL_DISABLE, &old);
-  run(data);
-  pthread_setcancelstate(old, &old);
-  return paldwosk_report_by(&mine, phase);
+  return paldwosk_run_claimed(&mine, answer, run, data, phase);
 }
+
+/* ---- The same calls, with a time. What that means stands at the head: WAITS WITH A TIME. Each answers what the call
+ * without a time does, or TIMED_OUT: then the call goes on, and the task's next call of the same name waits for its
+ * answer. */
+
+/* paldwosk_barrier_next, which waits for so many milliseconds at most. TIMED_OUT: the task has signalled, or will. */
+PALDWOSK_MUST_CHECK
+PALDWOSK_INLINE paldwosk_answer paldwosk_barrier_next_for(const paldwosk_task *task, uint32_t milliseconds,
+                                                          uint64_t *phase) {
+  return paldwosk_call_in_time(task, PALDWOSK_CALL_NEXT, 0, milliseconds, phase);
+}
+
+/* paldwosk_barrier_next, which doesn't wait. TIMED_OUT: the task has signalled, or will. */
+PALDWOSK_MUST_CHECK
+PALDWOSK_INLINE paldwosk_answer paldwosk_barrier_try_next(const paldwosk_task *task, uint64_t *phase) {
+  return paldwosk_call_in_time(task, PALDWOSK_CALL_NEXT, 0, 0, phase);
+}
+
+/* paldwosk_barrier_signal, which waits for so many milliseconds at most. TIMED_OUT: it will signal, once the bound lets
+ * it. */
+PALDWOSK_MUST_CHECK
+PALDWOSK_INLINE paldwosk_answer paldwosk_barrier_signal_for(const paldwosk_task *task, uint32_t milliseconds) {
+  return paldwosk_call_in_time(task, PALDWOSK_CALL_SIGNAL, 0, milliseconds, NULL);
+}
+
+/* paldwosk_barrier_signal, which doesn't wait. TIMED_OUT: it will signal, once the bound lets it. */
+PALDWOSK_MUST_CHECK
+PALDWOSK_INLINE paldwosk_answer paldwosk_barrier_try_signal(const paldwosk_task *task) {
+  return paldwosk_call_in_time(task, PALDWOSK_CALL_SIGNAL, 0, 0, NULL);
+}
+
+/* paldwosk_barrier_wait, which waits for so many milliseconds at most. TIMED_OUT. */
+PALDWOSK_MUST_CHECK
+PALDWOSK_INLINE paldwosk_answer paldwosk_barrier_wait_for(const paldwosk_task *task, uint32_t milliseconds,
+                                                          uint64_t *phase) {
+  return paldwosk_call_in_time(task, PALDWOSK_CALL_WAIT, 0, milliseconds, phase);
+}
+
+/* paldwosk_barrier_wait, which doesn't wait: whether the phase is over. TIMED_OUT if it isn't. */
+PALDWOSK_MUST_CHECK
+PALDWOSK_INLINE paldwosk_answer paldwosk_barrier_try_wait(const paldwosk_task *task, uint64_t *phase) {
+  return paldwosk_call_in_time(task, PALDWOSK_CALL_WAIT, 0, 0, phase);
+}
+
+/* paldwosk_barrier_single, which waits for so many milliseconds at most, and then for its statement if it runs that.
+ * TIMED_OUT: the task can't leave, and has to come back with the same number; if it is to run the statement, all wait
+ * for it. */
+PALDWOSK_MUST_CHECK
+PALDWOSK_INLINE paldwosk_answer paldwosk_barrier_single_for(const paldwosk_task *task, uint32_t number,
+                                                            uint32_t milliseconds, void (*run)(void *data), void *data,
+                                                            uint64_t *phase) {
+  if (!task || !run) return PALDWOSK_NULL;
+  paldwosk_task mine = *task;
+  paldwosk_answer answer = paldwosk_call_in_time(&mine, PALDWOSK_CALL_SINGLE, number, milliseconds, phase);
+  return paldwosk_run_claimed(&mine, answer, run, data, phase);
+}
+
+/* paldwosk_barrier_single, which doesn't wait, but runs its statement if that is its turn. TIMED_OUT as of
+ * paldwosk_barrier_single_for. */
+PALDWOSK_MUST_CHECK
+PALDWOSK_INLINE paldwosk_answer paldwosk_barrier_try_single(const paldwosk_task *task, uint32_t number,
+                                                            void (*run)(void *data), void *data, uint64_t *phase) {
+  return paldwosk_barrier_single_for(task, number, 0, run, data, phase);
+}
+
+/* ---- Leaving, and looking on */
 
 /* The task leaves: no task waits for it any more. What it has sent counts. NOT_REGISTERED, also if it has left before;
  * NOT_NOW if it has proposed a single that isn't done. If another thread waits for this task, that call is
@@ -1396,9 +1651,11 @@ PALDWOSK_INLINE paldwosk_answer paldwosk_barrier_spin(paldwosk_barrier *barrier,
 }
 
 /* Writes the trace of what was done so far, as text (docs/formats.md). `./phaser_run replay` and paldwosk_replay
- * judge it, ./trace_picture draws it. It is a whole run: tasks that haven't left yet are told as ending now, after
- * their single, if one is under way. No NUL is added; *written is how many bytes the text has, even if the room is too
- * small for it. The text may be NULL if the room is 0. NOT_KEPT if the barrier keeps no trace; SHORT. */
+ * judge it, ./trace_picture draws it. It is a whole run, so a task that is still there has to end in it. That is told
+ * after its single, if one is under way, and by a refusal that no call of a barrier is answered. The report has the line
+ * `task 1 refused 21 NoFinish` for it, in place of `task 1 ended`. No NUL is added; *written is how many bytes the text
+ * has, even if the room is too small for it. The text may be NULL if the room is 0. NOT_KEPT if the barrier keeps no
+ * trace; SHORT. */
 PALDWOSK_MUST_CHECK
 PALDWOSK_INLINE paldwosk_answer paldwosk_barrier_trace(paldwosk_barrier *barrier, char *text, size_t room,
                                                        size_t *written) {
