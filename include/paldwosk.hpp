@@ -111,7 +111,7 @@ public:
   /* Signals, and goes on; as paldwosk_barrier_signal. */
   void signal() { must(paldwosk_barrier_signal(&mine)); }
 
-  /* As signal(), which waits for the bound for so long at most: whether it has signalled. As paldwosk_barrier_signal_for. */
+  /* As signal(), which waits for so long at most: whether it has signalled. As paldwosk_barrier_signal_for. */
   template <class Count, class Period> bool signal_for(std::chrono::duration<Count, Period> time) {
     return is_done(paldwosk_barrier_signal_for(&mine, milliseconds_of(time)));
   }

@@ -987,7 +987,7 @@ PALDWOSK_APART void paldwosk_report(paldwosk_barrier *barrier, struct paldwosk_s
   paldwosk_free_those(barrier, freed, count);
 }
 
-/* ---- Waits that have a time. One that is watched sleeps until it is to be told of, and then for as long as it has to. */
+/* ---- Waits that have a time. One that is watched sleeps until it is to be told of, and then as long as it has to. */
 
 enum { PALDWOSK_MOST_TOLD = 16, PALDWOSK_LINE_ROOM = 2048 }; /* sixteen tasks of each kind take less than 1,400 bytes */
 
@@ -1652,10 +1652,10 @@ PALDWOSK_INLINE paldwosk_answer paldwosk_barrier_spin(paldwosk_barrier *barrier,
 
 /* Writes the trace of what was done so far, as text (docs/formats.md). `./phaser_run replay` and paldwosk_replay
  * judge it, ./trace_picture draws it. It is a whole run, so a task that is still there has to end in it. That is told
- * after its single, if one is under way, and by a refusal that no call of a barrier is answered. The report has the line
- * `task 1 refused 21 NoFinish` for it, in place of `task 1 ended`. No NUL is added; *written is how many bytes the text
- * has, even if the room is too small for it. The text may be NULL if the room is 0. NOT_KEPT if the barrier keeps no
- * trace; SHORT. */
+ * after its single, if one is under way, and by a refusal that no call of a barrier is answered. The report has the
+ * line `task 1 refused 21 NoFinish` for it, in place of `task 1 ended`. No NUL is added; *written is how many bytes the
+ * text has, even if the room is too small for it. The text may be NULL if the room is 0. NOT_KEPT if the barrier keeps
+ * no trace; SHORT. */
 PALDWOSK_MUST_CHECK
 PALDWOSK_INLINE paldwosk_answer paldwosk_barrier_trace(paldwosk_barrier *barrier, char *text, size_t room,
                                                        size_t *written) {

@@ -139,7 +139,8 @@ static void timed() {
   tasks[0].send(0, 5);
   tasks[1].send(0, 4);
   MUST(tasks[1].try_next() == 0 && tasks[0].next_for(0.5s) == 0 && tasks[0].look(0) == 7);
-  MUST(tasks[0].try_signal() && tasks[0].try_wait() == std::nullopt && tasks[0].wait_for(nanoseconds(1)) == std::nullopt);
+  MUST(tasks[0].try_signal() && tasks[0].try_wait() == std::nullopt);
+  MUST(tasks[0].wait_for(nanoseconds(1)) == std::nullopt);
   std::thread other([&] { MUST(tasks[1].next_for(hours(24 * 365)) == 1); });
   MUST(tasks[0].wait_for(minutes(1)) == 1 && tasks[0].look(0) == 5);
   other.join();
