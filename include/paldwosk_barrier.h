@@ -1098,7 +1098,7 @@ PALDWOSK_INLINE void paldwosk_wait_in_time(paldwosk_barrier *barrier, struct pal
   int old = 0, kept = errno;
   if (me->patience > PALDWOSK_MOST_PAUSES) me->patience = PALDWOSK_MOST_PAUSES;
   pthread_setcancelstate(PTHREAD_CANCEL_DISABLE, &old);
-  if (barrier->watch && barrier->watch < milliseconds / 1000) paldwosk_watch(barrier, me);
+  if (barrier->watch && 1000 * barrier->watch < milliseconds) paldwosk_watch(barrier, me);
   if (!paldwosk_is_ready(me)) paldwosk_sleep_until(barrier, me, &until);
   pthread_setcancelstate(old, &old);
   errno = kept;

@@ -1818,7 +1818,23 @@ static void who_ran_out_leaves(int way) {
   DONE(paldwosk_barrier_free(&barrier));
 }
 
+/* A try neither yields nor sleeps. A call with a time yields first, as one without does. */
+static void tries_do_not_yield(void) {
+  paldwosk_barrier barrier;
+  paldwosk_task tasks[2] = {PALDWOSK_NO_TASK};
+  make_yielding(&barrier, tasks, 1000, no_yield);
+  MUST(paldwosk_barrier_try_next(&tasks[0], NULL) == PALDWOSK_TIMED_OUT);
+  MUST(paldwosk_barrier_try_next(&tasks[0], NULL) == PALDWOSK_TIMED_OUT);
+  MUST(yields.count == 0 && barrier.credit == 1000);
+  MUST(paldwosk_barrier_next_for(&tasks[0], 5, NULL) == PALDWOSK_TIMED_OUT);
+  MUST(yields.count >= 1 && yields.count <= 10);
+  DONE(paldwosk_barrier_leave(&tasks[0]));
+  DONE(paldwosk_barrier_free(&barrier));
+  yields.instead = NULL;
+}
+
 static void timed(void) {
+  tries_do_not_yield();
   for (int way = 0; way < 4; way++) {
     next_runs_out(way);
     others_are_refused(way);
