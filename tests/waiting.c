@@ -1937,6 +1937,20 @@ static void send_value(visitor *me) {
   DONE(paldwosk_barrier_send(&me->task, 1, value));
 }
 
+/* A next or a wait. Each third has a time, which is often too short: then it comes back. */
+static void pass_in_crowd(visitor *me, int is_next, uint64_t *phase) {
+  paldwosk_answer answer = PALDWOSK_TIMED_OUT;
+  int has_time = drawn(me, 3) == 0;
+  while (has_time && answer == PALDWOSK_TIMED_OUT) {
+    uint32_t time = drawn(me, 3);
+    if (is_next) answer = paldwosk_barrier_next_for(&me->task, time, phase);
+    else answer = paldwosk_barrier_wait_for(&me->task, time, phase);
+  }
+  if (has_time) DONE(answer);
+  else if (is_next) DONE(paldwosk_barrier_next(&me->task, phase));
+  else DONE(paldwosk_barrier_wait(&me->task, phase));
+}
+
 static void run_in_crowd(void *given) { __atomic_fetch_add((int64_t *)given, 1, __ATOMIC_RELAXED); }
 
 /* Two numbers are about: who comes with another than the first of its phase is refused, and goes on without. */
@@ -1944,7 +1958,10 @@ static void propose(visitor *me) {
   uint64_t phase = 77;
   uint32_t number = 1 + (drawn(me, 8) == 0);
   int64_t *runs = &crowd.runs[me->passes];
-  paldwosk_answer answer = paldwosk_barrier_single(&me->task, number, run_in_crowd, runs, &phase);
+  paldwosk_answer answer = PALDWOSK_TIMED_OUT;
+  for (int has_time = drawn(me, 3) == 0; has_time && answer == PALDWOSK_TIMED_OUT;)
+    answer = paldwosk_barrier_single_for(&me->task, number, drawn(me, 2), run_in_crowd, runs, &phase);
+  if (answer == PALDWOSK_TIMED_OUT) answer = paldwosk_barrier_single(&me->task, number, run_in_crowd, runs, &phase);
   MUST(answer == PALDWOSK_DONE || answer == PALDWOSK_SINGLE_MISMATCH);
   int is_refused = answer == PALDWOSK_SINGLE_MISMATCH;
   if (is_refused) DONE(paldwosk_barrier_next(&me->task, &phase));
@@ -1962,11 +1979,23 @@ static void end_its_turn(visitor *me) {
       return;
     }
     if (how == 1) DONE(paldwosk_barrier_signal(&me->task));
-    else DONE(paldwosk_barrier_next(&me->task, &phase));
+    else pass_in_crowd(me, 1, &phase);
     me->made++;
     if (how == 1) return; /* it is ahead now, and passes in a later act */
-  } else DONE(paldwosk_barrier_wait(&me->task, &phase));
+  } else pass_in_crowd(me, 0, &phase);
   has_passed(me, phase, 0);
+}
+
+/* Some leave while a call of theirs goes on. */
+static void leave_crowd(visitor *me) {
+  int is_ahead = can_signal(me) && me->made > me->passes;
+  if (drawn(me, 3) == 0 && can_signal(me) && !is_ahead) {
+    __atomic_fetch_add(&me->signals, 1, __ATOMIC_RELAXED);
+    paldwosk_answer answer = paldwosk_barrier_try_next(&me->task, NULL);
+    MUST(answer == PALDWOSK_DONE || answer == PALDWOSK_TIMED_OUT);
+  }
+  __atomic_store_n(&me->is_there, 0, __ATOMIC_RELEASE);
+  DONE(paldwosk_barrier_leave(&me->task));
 }
 
 /* The header has noted of it what it has counted itself. If others wait, somebody keeps them waiting. */
@@ -1992,8 +2021,7 @@ static void *visit(void *given) {
     else if (act == 99 && crowd.is_traced && drawn(me, 8) == 0) replay(&crowd.barrier, report, sizeof report);
     else end_its_turn(me);
   }
-  __atomic_store_n(&me->is_there, 0, __ATOMIC_RELEASE);
-  DONE(paldwosk_barrier_leave(&me->task));
+  leave_crowd(me);
   return NULL;
 }
 
