@@ -88,25 +88,21 @@ impl Held {
         // Before anybody is answered: the caller itself may be among them.
         let park = || seats[me.seat].takes();
         let mut answer = self.ask(seats, me, call, park);
-        if self.is_signal(call) && call != Call::Signal && matches!(answer, Ok(Answer::Ended(_))) {
+        if self.is_split(call) && matches!(answer, Ok(Answer::Ended(_))) {
             answer = self.ask(seats, me, Call::Pass, park);
         }
         self.let_pass(seats);
         answer
     }
 
-    /// Whether the archive is asked for a signal alone.
-    fn is_signal(&self, call: Call) -> bool {
-        match call {
-            Call::Signal => true,
-            Call::Pass => false,
-            Call::Turn(_) => self.trace.is_some(),
-        }
+    /// Whether the archive is asked for a signal first, and then for a pass.
+    fn is_split(&self, call: Call) -> bool {
+        matches!(call, Call::Turn(_)) && self.trace.is_some()
     }
 
-    /// What a call of the archive does that has ended.
-    fn moved(&self, call: Call) -> Call {
-        if self.is_signal(call) {
+    /// What a call of the archive did that has ended.
+    fn made(&self, call: Call) -> Call {
+        if self.is_split(call) {
             Call::Signal
         } else {
             call
@@ -127,7 +123,7 @@ impl Held {
                 self.sleepers.push_back(Sleeper { place: me, call });
                 self.members.waits(me.seat, call);
             }
-            Ok(Answer::Ended(ended)) => self.members.ended(me.seat, self.moved(call), Ok(ended)),
+            Ok(Answer::Ended(ended)) => self.members.ended(me.seat, self.made(call), Ok(ended)),
             Err(_) => {}
         }
         if let Some(trace) = &mut self.trace {
@@ -186,8 +182,8 @@ impl Held {
             let Some(Sleeper { place, call }) = at.and_then(|at| self.sleepers.remove(at)) else {
                 unreachable!("the archive freed a task that isn't parked")
             };
-            self.members.ended(place.seat, self.moved(call), outcome);
-            if outcome.is_ok() && self.is_signal(call) && call != Call::Signal {
+            self.members.ended(place.seat, self.made(call), outcome);
+            if self.is_split(call) && outcome.is_ok() {
                 self.passing.push_back(place);
             } else {
                 self.give(seats, place, &freed);
