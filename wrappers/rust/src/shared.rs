@@ -10,7 +10,7 @@ use crate::members::Members;
 use crate::seats::{bit, Seat, SEATS};
 use crate::spins::{have_processors, lock, Spins};
 use crate::trace::Trace;
-use crate::waiting_cell::{outcome, Answer, Outcome, WaitingCell};
+use crate::waiting_cell::{freed_with, outcome, Answer, Outcome, WaitingCell};
 use crate::yields::Yields;
 use std::collections::VecDeque;
 use std::mem::take;
@@ -141,7 +141,7 @@ impl Held {
                 Ok(Answer::Ended(ended)) => Ok(ended),
                 Err(refusal) => Err(refusal),
             };
-            self.give(seats, place, &Freed::of(place.task, outcome));
+            self.give(seats, place, &freed_with(place.task, outcome));
         }
     }
 
