@@ -47,6 +47,14 @@
 #define PALDWOSK_MUST_CHECK
 #endif
 
+/* In C each file has its own copy of a header's functions. In C++ all files have one, as its rule of one definition asks
+ * of functions that other inline functions call. */
+#ifdef __cplusplus
+#define PALDWOSK_INLINE inline
+#else
+#define PALDWOSK_INLINE static inline
+#endif
+
 #ifdef __cplusplus
 extern "C" {
 #endif
@@ -90,6 +98,9 @@ typedef enum paldwosk_answer {
   PALDWOSK_NOT_KEPT = 35, /* no such accumulator, or the phase is too great, or its fold is given up */
   PALDWOSK_TOO_GREAT = 36, /* the fold isn't within an int64_t: it takes 2^32 values in one phase */
 
+  /* An answer of paldwosk_barrier.h alone. No function of the archive has it. */
+  PALDWOSK_TIMED_OUT = 48, /* the time is over and the call isn't: it goes on, and the same call waits for its answer */
+
   /* What was passed is at fault. Nothing changed, except *written if the room is too small. */
   PALDWOSK_NULL = 64,          /* a pointer is NULL */
   PALDWOSK_CLOSED = 65,        /* the paldwosk_phaser holds no phaser */
@@ -107,7 +118,7 @@ typedef enum paldwosk_answer {
  * NULL, also if no answer has the number. It is nobody's to free, and may be asked for by any thread at any time.
  *
  *     fprintf(stderr, "the barrier wasn't made: %s\n", paldwosk_answer_text(answer)); */
-static inline const char *paldwosk_answer_text(paldwosk_answer answer) {
+PALDWOSK_INLINE const char *paldwosk_answer_text(paldwosk_answer answer) {
   switch (answer) {
     case PALDWOSK_DONE: return "Done (0): the call was done; go on";
     case PALDWOSK_NOT_REGISTERED: return "NotRegistered (1): the task isn't registered, or it has left; join it first";
@@ -165,6 +176,8 @@ static inline const char *paldwosk_answer_text(paldwosk_answer answer) {
              "make a traced barrier, or ask of another phase or accumulator";
     case PALDWOSK_TOO_GREAT:
       return "TooGreat (36): the fold isn't within an int64_t; send fewer or smaller values in a phase";
+    case PALDWOSK_TIMED_OUT:
+      return "TimedOut (48): the time is over and the call isn't; make the same call again, or let the task leave";
     case PALDWOSK_NULL:
       return "Null (64): a pointer is NULL that may not be, or the task is zeroed; pass the address of a variable";
     case PALDWOSK_CLOSED:
@@ -300,8 +313,8 @@ uint32_t phaser_c_waiting_leave(paldwosk_waiting *phaser, uint64_t task, paldwos
  * a run, it writes the lines of the report to `report`, else the line of the refusal, as `refused 25 NotExplained at 7`.
  * No NUL is added. *written is how many bytes the text has. If the room is too small, nothing else is written, and a second
  * call with that much room writes it, unless memory is refused to one of the two. `report` may be NULL if the room is 0. */
-static inline paldwosk_status paldwosk_replay(const char *trace, size_t length, char *report, size_t room,
-                                              size_t *written) {
+PALDWOSK_INLINE paldwosk_status paldwosk_replay(const char *trace, size_t length, char *report, size_t room,
+                                                size_t *written) {
   uint8_t none = 0, nowhere = 0;
   if ((!trace && length) || (!report && room) || !written) return PALDWOSK_STATUS_NULL;
   return (paldwosk_status)phaser_c_replay(trace ? (const uint8_t *)trace : &none, length,
@@ -310,8 +323,8 @@ static inline paldwosk_status paldwosk_replay(const char *trace, size_t length, 
 
 /* Answers an events file (docs/formats.md), at most 1,048,576 bytes: makes its calls on one phaser, and writes the line of
  * each reply to `lines`, or the line of the refusal of the file. The room and *written are as for paldwosk_replay. */
-static inline paldwosk_status paldwosk_events(const char *file, size_t length, char *lines, size_t room,
-                                              size_t *written) {
+PALDWOSK_INLINE paldwosk_status paldwosk_events(const char *file, size_t length, char *lines, size_t room,
+                                                size_t *written) {
   uint8_t none = 0, nowhere = 0;
   if ((!file && length) || (!lines && room) || !written) return PALDWOSK_STATUS_NULL;
   return (paldwosk_status)phaser_c_events(file ? (const uint8_t *)file : &none, length,
@@ -324,8 +337,8 @@ static inline paldwosk_status paldwosk_events(const char *file, size_t length, c
  * with a bound of 1 to 65,536 phases, or 0 for none. It takes all memory that the phaser will ever need. Answers, in this
  * order: OPEN, BAD_LIMITS, BAD_OPERATORS, BAD_BOUND, MEMORY. On DONE the phaser is to be freed by paldwosk_free. */
 PALDWOSK_MUST_CHECK
-static inline paldwosk_answer paldwosk_new(paldwosk_phaser *phaser, const paldwosk_limits *limits,
-                                           const paldwosk_operator *operators, size_t count, uint32_t bound) {
+PALDWOSK_INLINE paldwosk_answer paldwosk_new(paldwosk_phaser *phaser, const paldwosk_limits *limits,
+                                             const paldwosk_operator *operators, size_t count, uint32_t bound) {
   uint32_t numbers[4] = {0, 0, 0, 0};
   if (!phaser || !limits || (!operators && count)) return PALDWOSK_NULL;
   for (size_t at = 0; at < count && at < 4; at++) numbers[at] = (uint32_t)operators[at];
@@ -334,56 +347,56 @@ static inline paldwosk_answer paldwosk_new(paldwosk_phaser *phaser, const paldwo
 }
 
 /* Frees the phaser, if there is one; `phaser` holds none from then on, and paldwosk_new may make one for it again. */
-static inline void paldwosk_free(paldwosk_phaser *phaser) {
+PALDWOSK_INLINE void paldwosk_free(paldwosk_phaser *phaser) {
   if (phaser) phaser_c_free(phaser);
 }
 
 /* The task makes the phaser, and is registered on it. NOT_NOW, TASKS_FULL. */
 PALDWOSK_MUST_CHECK
-static inline paldwosk_answer paldwosk_make(paldwosk_phaser *phaser, uint32_t task, paldwosk_mode mode) {
+PALDWOSK_INLINE paldwosk_answer paldwosk_make(paldwosk_phaser *phaser, uint32_t task, paldwosk_mode mode) {
   return phaser ? (paldwosk_answer)phaser_c_make(phaser, task, (uint32_t)mode) : PALDWOSK_NULL;
 }
 
 /* The parent registers the child at its own phase. NOT_REGISTERED, MORE_THAN_PARENT, TASKS_FULL, REGISTERED_TWICE,
  * REGS_FULL, HISTORY_FULL. */
 PALDWOSK_MUST_CHECK
-static inline paldwosk_answer paldwosk_register(paldwosk_phaser *phaser, uint32_t parent, uint32_t child,
-                                                paldwosk_mode mode) {
+PALDWOSK_INLINE paldwosk_answer paldwosk_register(paldwosk_phaser *phaser, uint32_t parent, uint32_t child,
+                                                  paldwosk_mode mode) {
   return phaser ? (paldwosk_answer)phaser_c_register(phaser, parent, child, (uint32_t)mode) : PALDWOSK_NULL;
 }
 
 /* The task signals its phase. NOT_REGISTERED, NO_SIGNAL, ALREADY_SIGNALLED, then NOT_YET on a bounded phaser, then
  * HISTORY_FULL. */
 PALDWOSK_MUST_CHECK
-static inline paldwosk_answer paldwosk_signal(paldwosk_phaser *phaser, uint32_t task) {
+PALDWOSK_INLINE paldwosk_answer paldwosk_signal(paldwosk_phaser *phaser, uint32_t task) {
   return phaser ? (paldwosk_answer)phaser_c_signal(phaser, task) : PALDWOSK_NULL;
 }
 
 /* The task signals, and proposes the single of this number. As paldwosk_signal, with NO_SINGLE after NO_SIGNAL, and
  * SINGLE_MISMATCH after ALREADY_SIGNALLED. */
 PALDWOSK_MUST_CHECK
-static inline paldwosk_answer paldwosk_signal_single(paldwosk_phaser *phaser, uint32_t task, uint32_t number) {
+PALDWOSK_INLINE paldwosk_answer paldwosk_signal_single(paldwosk_phaser *phaser, uint32_t task, uint32_t number) {
   return phaser ? (paldwosk_answer)phaser_c_signal_single(phaser, task, number) : PALDWOSK_NULL;
 }
 
 /* The task asks to end its turn. On DONE *number is the phase that it passed, on CLAIMED the number of the single that
  * it runs; else it isn't written. NOT_REGISTERED, NOT_SIGNALLED, then NOT_YET, then HISTORY_FULL. */
 PALDWOSK_MUST_CHECK
-static inline paldwosk_answer paldwosk_pass(paldwosk_phaser *phaser, uint32_t task, uint32_t *number) {
+PALDWOSK_INLINE paldwosk_answer paldwosk_pass(paldwosk_phaser *phaser, uint32_t task, uint32_t *number) {
   return phaser && number ? (paldwosk_answer)phaser_c_pass(phaser, task, number) : PALDWOSK_NULL;
 }
 
 /* The task reports the single done that it claimed. NOT_REGISTERED, NOT_NOW. */
 PALDWOSK_MUST_CHECK
-static inline paldwosk_answer paldwosk_single_done(paldwosk_phaser *phaser, uint32_t task) {
+PALDWOSK_INLINE paldwosk_answer paldwosk_single_done(paldwosk_phaser *phaser, uint32_t task) {
   return phaser ? (paldwosk_answer)phaser_c_single_done(phaser, task) : PALDWOSK_NULL;
 }
 
 /* The task sends a value to an accumulator, for the phase that it hasn't signalled yet. NOT_REGISTERED, NO_SIGNAL,
  * NO_ACCUMULATOR, HISTORY_FULL. */
 PALDWOSK_MUST_CHECK
-static inline paldwosk_answer paldwosk_send(paldwosk_phaser *phaser, uint32_t task, uint32_t accumulator,
-                                            int32_t value) {
+PALDWOSK_INLINE paldwosk_answer paldwosk_send(paldwosk_phaser *phaser, uint32_t task, uint32_t accumulator,
+                                              int32_t value) {
   uint8_t index = accumulator < 255 ? (uint8_t)accumulator : 255; /* there are four at most */
   return phaser ? (paldwosk_answer)phaser_c_send(phaser, task, index, value) : PALDWOSK_NULL;
 }
@@ -391,48 +404,48 @@ static inline paldwosk_answer paldwosk_send(paldwosk_phaser *phaser, uint32_t ta
 /* What an accumulator holds of the phase before the task's own: on DONE *value is it; else it isn't written. NOTHING if
  * there is no least and no greatest. NOT_REGISTERED, NO_WAIT, NO_ACCUMULATOR, NO_PHASE_YET, HISTORY_FULL. */
 PALDWOSK_MUST_CHECK
-static inline paldwosk_answer paldwosk_look(paldwosk_phaser *phaser, uint32_t task, uint32_t accumulator,
-                                            int64_t *value) {
+PALDWOSK_INLINE paldwosk_answer paldwosk_look(paldwosk_phaser *phaser, uint32_t task, uint32_t accumulator,
+                                              int64_t *value) {
   uint8_t index = accumulator < 255 ? (uint8_t)accumulator : 255;
   return phaser && value ? (paldwosk_answer)phaser_c_look(phaser, task, index, value) : PALDWOSK_NULL;
 }
 
 /* The task is dropped from the phaser. NOT_REGISTERED, NOT_NOW if it proposed a single that isn't done. */
 PALDWOSK_MUST_CHECK
-static inline paldwosk_answer paldwosk_drop(paldwosk_phaser *phaser, uint32_t task) {
+PALDWOSK_INLINE paldwosk_answer paldwosk_drop(paldwosk_phaser *phaser, uint32_t task) {
   return phaser ? (paldwosk_answer)phaser_c_drop(phaser, task) : PALDWOSK_NULL;
 }
 
 /* Whether each task that is registered and can signal has signalled the phase: *closed is 1 or 0. */
 PALDWOSK_MUST_CHECK
-static inline paldwosk_answer paldwosk_is_closed(paldwosk_phaser *phaser, uint32_t phase, uint32_t *closed) {
+PALDWOSK_INLINE paldwosk_answer paldwosk_is_closed(paldwosk_phaser *phaser, uint32_t phase, uint32_t *closed) {
   return phaser && closed ? (paldwosk_answer)phaser_c_is_closed(phaser, phase, closed) : PALDWOSK_NULL;
 }
 
 /* Whether an event that registers nobody and proposes nothing has no room in the history: *full is 1 or 0. */
 PALDWOSK_MUST_CHECK
-static inline paldwosk_answer paldwosk_is_full(paldwosk_phaser *phaser, uint32_t *full) {
+PALDWOSK_INLINE paldwosk_answer paldwosk_is_full(paldwosk_phaser *phaser, uint32_t *full) {
   return phaser && full ? (paldwosk_answer)phaser_c_is_full(phaser, full) : PALDWOSK_NULL;
 }
 
 /* What the values sent to an accumulator for a closed phase fold to; of a phase that isn't closed, what was folded so far.
  * On DONE *value is it; else it isn't written. NOTHING, NOT_KEPT. */
 PALDWOSK_MUST_CHECK
-static inline paldwosk_answer paldwosk_fold_at(paldwosk_phaser *phaser, uint32_t accumulator, uint32_t phase,
-                                               int64_t *value) {
+PALDWOSK_INLINE paldwosk_answer paldwosk_fold_at(paldwosk_phaser *phaser, uint32_t accumulator, uint32_t phase,
+                                                 int64_t *value) {
   uint8_t index = accumulator < 255 ? (uint8_t)accumulator : 255;
   return phaser && value ? (paldwosk_answer)phaser_c_fold_at(phaser, index, phase, value) : PALDWOSK_NULL;
 }
 
 /* How many comparisons of task numbers the last call made that changes the phaser. */
 PALDWOSK_MUST_CHECK
-static inline paldwosk_answer paldwosk_compared(paldwosk_phaser *phaser, uint32_t *count) {
+PALDWOSK_INLINE paldwosk_answer paldwosk_compared(paldwosk_phaser *phaser, uint32_t *count) {
   return phaser && count ? (paldwosk_answer)phaser_c_compared(phaser, count) : PALDWOSK_NULL;
 }
 
 /* How many events the history has. */
 PALDWOSK_MUST_CHECK
-static inline paldwosk_answer paldwosk_event_count(paldwosk_phaser *phaser, uint32_t *count) {
+PALDWOSK_INLINE paldwosk_answer paldwosk_event_count(paldwosk_phaser *phaser, uint32_t *count) {
   return phaser && count ? (paldwosk_answer)phaser_c_event_count(phaser, count) : PALDWOSK_NULL;
 }
 
@@ -443,8 +456,8 @@ static inline paldwosk_answer paldwosk_event_count(paldwosk_phaser *phaser, uint
  * run. No NUL is added; the room and *written are as for paldwosk_replay. Answers, in this order: CLOSED, BAD_TICKETS,
  * MEMORY, SHORT. */
 PALDWOSK_MUST_CHECK
-static inline paldwosk_answer paldwosk_history_text(paldwosk_phaser *phaser, uint32_t number, const uint64_t *tickets,
-                                                    size_t count, char *text, size_t room, size_t *written) {
+PALDWOSK_INLINE paldwosk_answer paldwosk_history_text(paldwosk_phaser *phaser, uint32_t number, const uint64_t *tickets,
+                                                      size_t count, char *text, size_t room, size_t *written) {
   uint64_t none = 0;
   uint8_t nowhere = 0;
   if (!phaser || (!tickets && count) || (!text && room) || !written) return PALDWOSK_NULL;

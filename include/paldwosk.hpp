@@ -8,7 +8,11 @@
  *     std::optional<int64_t> sum = task.look(0);
  *
  * What a call does, and what its caller owes, stands at its function in paldwosk_barrier.h. If a call isn't answered
- * PALDWOSK_DONE it throws a paldwosk::error. What is proved is what paldwosk_barrier.h says; this header is tested. */
+ * PALDWOSK_DONE it throws a paldwosk::error. What is proved is what paldwosk_barrier.h says; this header is tested.
+ *
+ * The calls .._for and try_.. wait for some time at most, or not at all. They answer nothing, or false, if the time is
+ * over and the call isn't. Then the call goes on, and the task's next call of the same name waits for its answer;
+ * paldwosk_barrier.h says more, under WAITS WITH A TIME. A single has no such form here: its task couldn't leave. */
 #ifndef PALDWOSK_HPP
 #define PALDWOSK_HPP
 
@@ -18,6 +22,9 @@
 
 #include "paldwosk_barrier.h"
 
+#include <algorithm>
+#include <chrono>
+#include <cmath>
 #include <exception>
 #include <initializer_list>
 #include <memory>
@@ -47,6 +54,12 @@ private:
 /* Throws unless the answer is PALDWOSK_DONE. */
 inline void must(paldwosk_answer answer) {
   if (answer != PALDWOSK_DONE) throw error(answer);
+}
+
+/* A time as paldwosk_barrier.h takes it: milliseconds, at most 2^32 - 1 of them, and a part of one counts as one. */
+template <class Count, class Period> uint32_t milliseconds_of(std::chrono::duration<Count, Period> time) {
+  std::chrono::duration<double, std::milli> given = time;
+  return static_cast<uint32_t>(std::clamp(std::ceil(given.count()), 0.0, double(UINT32_MAX)));
 }
 
 /* A task of a barrier. It is moved to the thread that calls by it, and leaves when it is destroyed, also if that thread
@@ -80,14 +93,50 @@ public:
     return phase;
   }
 
+  /* As next(), for so long at most: nothing if the time is over. As paldwosk_barrier_next_for.
+   *
+   *     while (!task.next_for(std::chrono::seconds(1))) std::puts("others are late"); */
+  template <class Count, class Period>
+  std::optional<uint64_t> next_for(std::chrono::duration<Count, Period> time) {
+    uint64_t phase = 0;
+    return phase_if(paldwosk_barrier_next_for(&mine, milliseconds_of(time), &phase), phase);
+  }
+
+  /* As next(), but it doesn't wait: nothing if it would have to. As paldwosk_barrier_try_next. */
+  std::optional<uint64_t> try_next() {
+    uint64_t phase = 0;
+    return phase_if(paldwosk_barrier_try_next(&mine, &phase), phase);
+  }
+
   /* Signals, and goes on; as paldwosk_barrier_signal. */
   void signal() { must(paldwosk_barrier_signal(&mine)); }
+
+  /* As signal(), which waits for so long at most: whether it has signalled. As paldwosk_barrier_signal_for. */
+  template <class Count, class Period> bool signal_for(std::chrono::duration<Count, Period> time) {
+    return is_done(paldwosk_barrier_signal_for(&mine, milliseconds_of(time)));
+  }
+
+  /* As signal(), but it doesn't wait: whether it has signalled. As paldwosk_barrier_try_signal. */
+  bool try_signal() { return is_done(paldwosk_barrier_try_signal(&mine)); }
 
   /* Waits until the phase is over. Answers the phase, from 0 on; as paldwosk_barrier_wait. */
   uint64_t wait() {
     uint64_t phase = 0;
     must(paldwosk_barrier_wait(&mine, &phase));
     return phase;
+  }
+
+  /* As wait(), for so long at most: nothing if the time is over. As paldwosk_barrier_wait_for. */
+  template <class Count, class Period>
+  std::optional<uint64_t> wait_for(std::chrono::duration<Count, Period> time) {
+    uint64_t phase = 0;
+    return phase_if(paldwosk_barrier_wait_for(&mine, milliseconds_of(time), &phase), phase);
+  }
+
+  /* As wait(), but it doesn't wait: the phase if it is over, else nothing. As paldwosk_barrier_try_wait. */
+  std::optional<uint64_t> try_wait() {
+    uint64_t phase = 0;
+    return phase_if(paldwosk_barrier_try_wait(&mine, &phase), phase);
   }
 
   /* Sends a value to an accumulator, numbered from 0, for the phase that isn't signalled yet. */
@@ -140,6 +189,16 @@ private:
   friend class barrier;
   task(std::shared_ptr<paldwosk_barrier> of, paldwosk_task made) : shared(std::move(of)), mine(made) {}
 
+  static bool is_done(paldwosk_answer answer) {
+    if (answer != PALDWOSK_TIMED_OUT) must(answer);
+    return answer == PALDWOSK_DONE;
+  }
+
+  /* `phase` by reference: it is read after the call whose answer this is. */
+  static std::optional<uint64_t> phase_if(paldwosk_answer answer, const uint64_t &phase) {
+    return is_done(answer) ? std::optional<uint64_t>(phase) : std::nullopt;
+  }
+
   std::shared_ptr<paldwosk_barrier> shared; /* the barrier stays until its last task is gone */
   paldwosk_task mine;
 };
@@ -171,7 +230,7 @@ public:
     return tasks;
   }
 
-  /* The trace of what was done so far, as text; as paldwosk_barrier_trace. */
+  /* The trace of what was done so far, as text; as paldwosk_barrier_trace. Tasks that are still there are marked. */
   std::string trace() const {
     std::string text;
     size_t written = 0;

@@ -22,7 +22,7 @@
  * before it, and it defines nothing that changes what other headers declare. Link what paldwosk.h asks for, and
  * -pthread if the C library keeps its threads apart. On Linux threads sleep by futex. Elsewhere, and if
  * PALDWOSK_PORTABLE is defined, they sleep by a condition variable. Compile all files that share a barrier with it, or
- * all without.
+ * all without; in C++ all files of the program.
  *
  * WHAT YOU OWE, beside what stands at the head of paldwosk.h:
  *
@@ -34,6 +34,23 @@
  *     leave by itself.
  *   - No call is made from a signal handler, or by a thread that may be cancelled asynchronously. A call takes up to
  *     8 KB of stack.
+ *
+ * WAITS WITH A TIME. Of each call that may wait there is a form .._for, which waits for so many milliseconds at most,
+ * and a form try_.., which doesn't wait. If the answer hasn't come by then, it is PALDWOSK_TIMED_OUT. Nothing is taken
+ * back then: a call that has to wait can't be withdrawn.
+ *
+ *   - The call goes on without its thread. A next or a single has signalled, unless the bound holds its signal back;
+ *     then it does so once it may. Others go on by that, and none of them is disturbed.
+ *   - The task's next call of the same name waits for the same answer, with a time or without. A next goes on with a
+ *     next, a single with a single of the same number, in whichever form. It doesn't signal once more.
+ *   - Until that answer is given, each other signal, next, wait or single of the task is answered PALDWOSK_NOT_NOW.
+ *     Its send, look, join and leave are carried out. A leave ends the call; a single's is refused until it is done.
+ *   - So a task that has proposed a single comes back. Others wait for it, if it is the one that is to run the
+ *     statement. The time is for the waiting, not for the statement.
+ *
+ *     while ((answer = paldwosk_barrier_next_for(&task, 100, &phase)) == PALDWOSK_TIMED_OUT) tell_that_it_waits();
+ *
+ * The time is that of CLOCK_MONOTONIC on Linux, whatever is set meanwhile, and elsewhere that of the day.
  *
  * IF A PROGRAM HANGS. Run it with PALDWOSK_WATCH=SECONDS in the environment, from 1 to 86,400. A thread that waits for
  * longer than that writes a line to standard error, once for each wait:
@@ -80,7 +97,13 @@ extern "C" {
 long syscall(long number, ...); /* -std=c11 hides it */
 #endif
 
+#if defined __linux__ && !defined __cplusplus
+int clock_gettime(int clock, struct timespec *now); /* it hides these too */
+int pthread_condattr_setclock(pthread_condattr_t *by, int clock);
+#endif
+
 struct paldwosk_member;
+struct paldwosk_overdue;
 struct paldwosk_sleeper;
 struct paldwosk_trace;
 
@@ -97,7 +120,9 @@ typedef struct paldwosk_barrier {
   struct paldwosk_sleeper *first; /* the waiting calls, the earliest in front */
   struct paldwosk_sleeper **last; /* the place of the next of them */
   struct paldwosk_trace *trace;   /* NULL if none is kept */
+  struct paldwosk_overdue *overdue; /* the calls whose time is over, and whose answer hasn't been given */
   struct paldwosk_member *members; /* the registered tasks, by their numbers */
+  struct paldwosk_overdue *room, *spare; /* room for a call of each task whose time is over; what is free of it */
   uint32_t bound;
   uint32_t watch;                 /* after how many seconds a thread tells that it waits; 0: it never does */
   uint32_t to_wake;               /* bits of sleepers that were freed, and are to be woken */
@@ -169,7 +194,8 @@ enum {
   PALDWOSK_EVENT_LOOK,
   PALDWOSK_EVENT_LOOK_AT_NOTHING,
   PALDWOSK_EVENT_LEAVE,
-  PALDWOSK_EVENT_SHUT /* the end of the root, which is the last of all */
+  PALDWOSK_EVENT_STILL, /* of the text alone: the task is still there, where the text has to end */
+  PALDWOSK_EVENT_SHUT   /* the end of the root, which is the last of all */
 };
 
 /* Where a task stands in the trace. */
@@ -200,8 +226,8 @@ struct paldwosk_trace {
 };
 
 /* Adds an event, after which the task stands so. */
-static inline void paldwosk_trace_add(struct paldwosk_trace *trace, uint8_t kind, uint64_t task, uint8_t stands,
-                                      uint32_t other, int64_t value) {
+PALDWOSK_INLINE void paldwosk_trace_add(struct paldwosk_trace *trace, uint8_t kind, uint64_t task, uint8_t stands,
+                                        uint32_t other, int64_t value) {
   if (trace->count == trace->room) trace->has_ended = 1;
   if (trace->has_ended) return;
   struct paldwosk_event event = {kind, 0, (uint16_t)task, other, value};
@@ -213,7 +239,7 @@ static inline void paldwosk_trace_add(struct paldwosk_trace *trace, uint8_t kind
 /* A task is about to do something of which no `next` and no single consists: a second thread calls for it, or the
  * statement of a single does. A `next` is then told as the two acts `signal` and `wait`. With a single the trace
  * ends: that can't be told. */
-static inline void paldwosk_trace_part(struct paldwosk_trace *trace, uint64_t task) {
+PALDWOSK_INLINE void paldwosk_trace_part(struct paldwosk_trace *trace, uint64_t task) {
   if (trace->has_ended) return;
   if (trace->stands[task] == PALDWOSK_TASK_IN_NEXT) {
     trace->events[trace->began[task]].kind = PALDWOSK_EVENT_SIGNAL;
@@ -223,8 +249,8 @@ static inline void paldwosk_trace_part(struct paldwosk_trace *trace, uint64_t ta
 }
 
 /* A new task, that `parent` joined; or the first, which is its own parent. */
-static inline void paldwosk_trace_new_task(struct paldwosk_trace *trace, uint64_t parent, uint32_t mode,
-                                           uint64_t task) {
+PALDWOSK_INLINE void paldwosk_trace_new_task(struct paldwosk_trace *trace, uint64_t parent, uint32_t mode,
+                                             uint64_t task) {
   uint8_t kind = task ? PALDWOSK_EVENT_JOIN : PALDWOSK_EVENT_MAKE;
   if (task >= PALDWOSK_TRACE_TASKS) trace->has_ended = 1;
   if (task) paldwosk_trace_part(trace, parent);
@@ -235,25 +261,25 @@ static inline void paldwosk_trace_new_task(struct paldwosk_trace *trace, uint64_
   trace->tasks = (uint32_t)task + 1;
 }
 
-static inline void paldwosk_trace_act(struct paldwosk_trace *trace, uint8_t kind, uint64_t task, uint32_t other,
-                                      int64_t value) {
+PALDWOSK_INLINE void paldwosk_trace_act(struct paldwosk_trace *trace, uint8_t kind, uint64_t task, uint32_t other,
+                                        int64_t value) {
   paldwosk_trace_part(trace, task);
   paldwosk_trace_add(trace, kind, task, PALDWOSK_TASK_IDLE, other, value);
 }
 
-static inline void paldwosk_trace_passed(struct paldwosk_trace *trace, uint64_t task) {
+PALDWOSK_INLINE void paldwosk_trace_passed(struct paldwosk_trace *trace, uint64_t task) {
   int is_whole = !trace->has_ended && trace->stands[task] == PALDWOSK_TASK_IDLE;
   paldwosk_trace_add(trace, is_whole ? PALDWOSK_EVENT_WAIT : PALDWOSK_EVENT_PASS, task, PALDWOSK_TASK_IDLE, 0, 0);
 }
 
 /* The claimer reports. Now all tasks that proposed the single may pass: there is one single at a time. */
-static inline void paldwosk_trace_did(struct paldwosk_trace *trace, uint64_t task) {
+PALDWOSK_INLINE void paldwosk_trace_did(struct paldwosk_trace *trace, uint64_t task) {
   paldwosk_trace_add(trace, PALDWOSK_EVENT_DID, task, PALDWOSK_TASK_REPORTED, 0, 0);
   for (uint32_t other = 0; other < trace->tasks && !trace->has_ended; other++)
     if (trace->stands[other] == PALDWOSK_TASK_PROPOSED) trace->stands[other] = PALDWOSK_TASK_REPORTED;
 }
 
-static inline void paldwosk_trace_left(struct paldwosk_trace *trace, uint64_t task) {
+PALDWOSK_INLINE void paldwosk_trace_left(struct paldwosk_trace *trace, uint64_t task) {
   paldwosk_trace_part(trace, task);
   paldwosk_trace_add(trace, PALDWOSK_EVENT_LEAVE, task, PALDWOSK_TASK_ABSENT, 0, 0);
 }
@@ -267,12 +293,12 @@ struct paldwosk_text {
   const struct paldwosk_trace *trace;
 };
 
-static inline void paldwosk_text_word(struct paldwosk_text *out, const char *word) {
+PALDWOSK_INLINE void paldwosk_text_word(struct paldwosk_text *out, const char *word) {
   for (; *word; word++, out->length++)
     if (out->text) out->text[out->length] = *word;
 }
 
-static inline void paldwosk_text_number(struct paldwosk_text *out, int64_t number) {
+PALDWOSK_INLINE void paldwosk_text_number(struct paldwosk_text *out, int64_t number) {
   char digits[24], *digit = digits + 23;
   uint64_t left = number < 0 ? 0 - (uint64_t)number : (uint64_t)number;
   *digit = 0;
@@ -282,7 +308,7 @@ static inline void paldwosk_text_number(struct paldwosk_text *out, int64_t numbe
   paldwosk_text_word(out, digit);
 }
 
-static inline void paldwosk_text_operators(struct paldwosk_text *out) {
+PALDWOSK_INLINE void paldwosk_text_operators(struct paldwosk_text *out) {
   static const char *const names[] = {"\"sum\"", "\"least\"", "\"greatest\""};
   for (uint32_t at = 0; at < out->trace->operator_count; at++) {
     paldwosk_text_word(out, at ? "," : "");
@@ -291,7 +317,7 @@ static inline void paldwosk_text_operators(struct paldwosk_text *out) {
 }
 
 /* What stands for a letter after a $ in a form. */
-static inline void paldwosk_text_field(struct paldwosk_text *out, const struct paldwosk_event *event, char letter) {
+PALDWOSK_INLINE void paldwosk_text_field(struct paldwosk_text *out, const struct paldwosk_event *event, char letter) {
   static const char *const modes[] = {"\"SIG\"", "\"WAIT\"", "\"SIG_WAIT\"", "\"SINGLE\""};
   if (letter == 't') paldwosk_text_number(out, event->task);
   else if (letter == 'o') paldwosk_text_number(out, event->other);
@@ -302,8 +328,8 @@ static inline void paldwosk_text_field(struct paldwosk_text *out, const struct p
 }
 
 /* One entry of the text. */
-static inline void paldwosk_text_entry(struct paldwosk_text *out, const struct paldwosk_event *event,
-                                       const char *form) {
+PALDWOSK_INLINE void paldwosk_text_entry(struct paldwosk_text *out, const struct paldwosk_event *event,
+                                         const char *form) {
   paldwosk_text_word(out, out->ticket ? ",[" : "[");
   paldwosk_text_number(out, (int64_t)++out->ticket);
   for (char letter[2] = {0, 0}; *form; form++) {
@@ -315,7 +341,7 @@ static inline void paldwosk_text_entry(struct paldwosk_text *out, const struct p
 }
 
 /* The entries of an event. That of the root's end comes later, in place of its `ended`. */
-static inline void paldwosk_text_event(struct paldwosk_text *out, const struct paldwosk_event *event) {
+PALDWOSK_INLINE void paldwosk_text_event(struct paldwosk_text *out, const struct paldwosk_event *event) {
   static const char *const forms[][3] = {
       {",\"p\",0,\"make\",$t,$m,[$a],$b", NULL, NULL},
       {",\"t\",$t,\"begin\",[\"async\",$o,[[0,$m]]]", ",\"p\",0,\"reg\",$t,$o,$m", ",\"f\",0,\"spawned\",$o"},
@@ -330,14 +356,16 @@ static inline void paldwosk_text_event(struct paldwosk_text *out, const struct p
       {",\"p\",0,\"look\",$t,$o,$v", NULL, NULL},
       {",\"p\",0,\"look\",$t,$o,null", NULL, NULL},
       {",\"t\",$t,\"begin\",[\"end\"]", ",\"p\",0,\"drop\",$t", ",\"f\",0,\"ended\",$t"},
+      {",\"t\",$t,\"refuse\",[\"shut\"],21", ",\"p\",0,\"drop\",$t", ",\"f\",0,\"ended\",$t"},
       {",\"f\",0,\"shut\"", NULL, NULL}};
-  int entries = event->kind == PALDWOSK_EVENT_LEAVE && event->task == 0 ? 2 : 3;
+  int is_end = event->kind == PALDWOSK_EVENT_LEAVE || event->kind == PALDWOSK_EVENT_STILL;
+  int entries = is_end && event->task == 0 ? 2 : 3;
   for (int at = 0; at < entries && forms[event->kind][at]; at++)
     paldwosk_text_entry(out, event, forms[event->kind][at]);
 }
 
 /* All events that were made. A `next` without its pass is told as the act `signal`. */
-static inline void paldwosk_text_made(struct paldwosk_text *out) {
+PALDWOSK_INLINE void paldwosk_text_made(struct paldwosk_text *out) {
   for (uint32_t at = 0; at < out->trace->count; at++) {
     struct paldwosk_event event = out->trace->events[at];
     int is_open = out->trace->stands[event.task] == PALDWOSK_TASK_IN_NEXT && out->trace->began[event.task] == at;
@@ -346,21 +374,22 @@ static inline void paldwosk_text_made(struct paldwosk_text *out) {
   }
 }
 
-static inline void paldwosk_text_of_task(struct paldwosk_text *out, uint8_t kind, uint32_t task) {
+PALDWOSK_INLINE void paldwosk_text_of_task(struct paldwosk_text *out, uint8_t kind, uint32_t task) {
   struct paldwosk_event event = {kind, 0, (uint16_t)task, 0, 0};
   paldwosk_text_event(out, &event);
 }
 
-/* The ends of all tasks that stand so, after their passes if these are due. */
-static inline void paldwosk_text_ends(struct paldwosk_text *out, uint8_t stands, int is_pass_due) {
+/* The ends of all tasks that stand so, after their passes if these are due. Each is told as a refusal that no call of a
+ * barrier is answered: so a reader knows from the ends that were made those that the text alone has. */
+PALDWOSK_INLINE void paldwosk_text_ends(struct paldwosk_text *out, uint8_t stands, int is_pass_due) {
   for (uint32_t task = 0; task < out->trace->tasks; task++) {
     if (out->trace->stands[task] != stands) continue;
     if (is_pass_due) paldwosk_text_of_task(out, PALDWOSK_EVENT_PASS, task);
-    paldwosk_text_of_task(out, PALDWOSK_EVENT_LEAVE, task);
+    paldwosk_text_of_task(out, PALDWOSK_EVENT_STILL, task);
   }
 }
 
-static inline uint32_t paldwosk_text_first(const struct paldwosk_trace *trace, uint8_t stands) {
+PALDWOSK_INLINE uint32_t paldwosk_text_first(const struct paldwosk_trace *trace, uint8_t stands) {
   uint32_t task = 0;
   while (task < trace->tasks && trace->stands[task] != stands) task++;
   return task;
@@ -369,7 +398,7 @@ static inline uint32_t paldwosk_text_first(const struct paldwosk_trace *trace, u
 /* Makes a run of the events: all tasks that are still there end. Idle tasks end first, because they would hold up a task
  * that has proposed a single. Then the statement is told as done, if it isn't, and the others pass and end: no task of a
  * run leaves a single behind. */
-static inline void paldwosk_text_closed(struct paldwosk_text *out) {
+PALDWOSK_INLINE void paldwosk_text_closed(struct paldwosk_text *out) {
   uint32_t tasks = out->trace->tasks, claimer = paldwosk_text_first(out->trace, PALDWOSK_TASK_CLAIMED);
   uint32_t proposer = paldwosk_text_first(out->trace, PALDWOSK_TASK_PROPOSED);
   paldwosk_text_ends(out, PALDWOSK_TASK_IDLE, 0);
@@ -383,7 +412,7 @@ static inline void paldwosk_text_closed(struct paldwosk_text *out) {
   paldwosk_text_of_task(out, PALDWOSK_EVENT_SHUT, 0);
 }
 
-static inline size_t paldwosk_text_whole(const struct paldwosk_trace *trace, char *text) {
+PALDWOSK_INLINE size_t paldwosk_text_whole(const struct paldwosk_trace *trace, char *text) {
   struct paldwosk_text out = {text, 0, 0, trace};
   paldwosk_text_word(&out, "{\"events\":[");
   paldwosk_text_made(&out);
@@ -396,6 +425,7 @@ static inline size_t paldwosk_text_whole(const struct paldwosk_trace *trace, cha
 
 enum { PALDWOSK_CALL_SIGNAL, PALDWOSK_CALL_WAIT, PALDWOSK_CALL_NEXT, PALDWOSK_CALL_SINGLE };
 enum { PALDWOSK_SPINNING = 0, PALDWOSK_READY = 1, PALDWOSK_ASLEEP = 2 };
+enum { PALDWOSK_CLOCK = 1 }; /* CLOCK_MONOTONIC */
 
 /* A call that may have to wait, on the stack of the thread that makes it. Once it is READY it may be gone. */
 struct paldwosk_sleeper {
@@ -411,13 +441,13 @@ struct paldwosk_sleeper {
   uint8_t is_to_pass; /* of a traced barrier: that call is the pass */
 };
 
-static inline void paldwosk_put_last(paldwosk_barrier *barrier, struct paldwosk_sleeper *sleeper) {
+PALDWOSK_INLINE void paldwosk_put_last(paldwosk_barrier *barrier, struct paldwosk_sleeper *sleeper) {
   sleeper->next = NULL;
   *barrier->last = sleeper;
   barrier->last = &sleeper->next;
 }
 
-static inline struct paldwosk_sleeper *paldwosk_take(paldwosk_barrier *barrier, struct paldwosk_sleeper **place) {
+PALDWOSK_INLINE struct paldwosk_sleeper *paldwosk_take(paldwosk_barrier *barrier, struct paldwosk_sleeper **place) {
   struct paldwosk_sleeper *sleeper = *place;
   if (!sleeper) return NULL;
   *place = sleeper->next;
@@ -426,16 +456,26 @@ static inline struct paldwosk_sleeper *paldwosk_take(paldwosk_barrier *barrier, 
 }
 
 /* Takes out the call of this task. The phaser frees calls nearly in their order, so it stands near the front. */
-static inline struct paldwosk_sleeper *paldwosk_take_task(paldwosk_barrier *barrier, uint64_t task) {
+PALDWOSK_INLINE struct paldwosk_sleeper *paldwosk_take_task(paldwosk_barrier *barrier, uint64_t task) {
   struct paldwosk_sleeper **place = &barrier->first;
   while (*place && (*place)->task != task) place = &(*place)->next;
   return paldwosk_take(barrier, place);
 }
 
-static inline struct paldwosk_sleeper *paldwosk_take_asking(paldwosk_barrier *barrier) {
+PALDWOSK_INLINE struct paldwosk_sleeper *paldwosk_take_asking(paldwosk_barrier *barrier) {
   struct paldwosk_sleeper **place = &barrier->first;
   while (*place && !(*place)->is_to_ask) place = &(*place)->next;
   return paldwosk_take(barrier, place);
+}
+
+/* Puts another in the place of a sleeper. It is the same call from then on. */
+PALDWOSK_INLINE void paldwosk_replace(paldwosk_barrier *barrier, struct paldwosk_sleeper *sleeper,
+                                      struct paldwosk_sleeper *other) {
+  struct paldwosk_sleeper **place = &barrier->first;
+  while (*place != sleeper) place = &(*place)->next;
+  *other = *sleeper;
+  *place = other;
+  if (!other->next) barrier->last = &other->next;
 }
 
 /* ---- Who is registered, and where each task stands. The core knows, but isn't asked: it has no export that tells. All
@@ -451,14 +491,14 @@ struct paldwosk_member {
 };
 
 /* The place of this task, or the free one that it would have. Half of the places are free. */
-static inline struct paldwosk_member *paldwosk_member_of(paldwosk_barrier *barrier, uint64_t number) {
+PALDWOSK_INLINE struct paldwosk_member *paldwosk_member_of(paldwosk_barrier *barrier, uint64_t number) {
   size_t at = number % PALDWOSK_MEMBER_PLACES;
   while (barrier->members[at].is_there && barrier->members[at].number != number) at = (at + 1) % PALDWOSK_MEMBER_PLACES;
   return &barrier->members[at];
 }
 
 /* Takes a task out. Those behind it move up, if else a free place came before them. */
-static inline void paldwosk_remove_member(paldwosk_barrier *barrier, uint64_t number) {
+PALDWOSK_INLINE void paldwosk_remove_member(paldwosk_barrier *barrier, uint64_t number) {
   struct paldwosk_member *members = barrier->members;
   size_t hole = (size_t)(paldwosk_member_of(barrier, number) - members);
   for (size_t at = (hole + 1) % PALDWOSK_MEMBER_PLACES; members[at].is_there; at = (at + 1) % PALDWOSK_MEMBER_PLACES) {
@@ -471,12 +511,12 @@ static inline void paldwosk_remove_member(paldwosk_barrier *barrier, uint64_t nu
   barrier->tasks--;
 }
 
-static inline int paldwosk_can_signal(const struct paldwosk_member *member) { return member->mode != PALDWOSK_WAIT; }
+PALDWOSK_INLINE int paldwosk_can_signal(const struct paldwosk_member *member) { return member->mode != PALDWOSK_WAIT; }
 
-static inline int paldwosk_can_wait(const struct paldwosk_member *member) { return member->mode != PALDWOSK_SIG; }
+PALDWOSK_INLINE int paldwosk_can_wait(const struct paldwosk_member *member) { return member->mode != PALDWOSK_SIG; }
 
 /* The least phase in which a task is that can wait; UINT64_MAX if there is none. */
-static inline uint64_t paldwosk_least_phase(const paldwosk_barrier *barrier) {
+PALDWOSK_INLINE uint64_t paldwosk_least_phase(const paldwosk_barrier *barrier) {
   uint64_t least = UINT64_MAX;
   for (size_t at = 0; at < PALDWOSK_MEMBER_PLACES; at++) {
     const struct paldwosk_member *member = &barrier->members[at];
@@ -486,13 +526,13 @@ static inline uint64_t paldwosk_least_phase(const paldwosk_barrier *barrier) {
 }
 
 /* Whether the bound holds back the signal of a waiting call in this phase. Else the call has signalled. */
-static inline int paldwosk_is_held(const paldwosk_barrier *barrier, const struct paldwosk_sleeper *sleeper,
-                                   uint64_t phase, uint64_t least) {
+PALDWOSK_INLINE int paldwosk_is_held(const paldwosk_barrier *barrier, const struct paldwosk_sleeper *sleeper,
+                                     uint64_t phase, uint64_t least) {
   return sleeper->call != PALDWOSK_CALL_WAIT && least <= phase && phase - least >= barrier->bound;
 }
 
 /* Whether a task has signalled its phase, also if it waits in the call that did so. */
-static inline int paldwosk_is_ahead(const paldwosk_barrier *barrier, const struct paldwosk_member *member) {
+PALDWOSK_INLINE int paldwosk_is_ahead(const paldwosk_barrier *barrier, const struct paldwosk_member *member) {
   const struct paldwosk_sleeper *sleeper = barrier->first;
   if (member->is_ahead) return 1;
   while (sleeper && sleeper->task != member->number) sleeper = sleeper->next;
@@ -501,7 +541,7 @@ static inline int paldwosk_is_ahead(const paldwosk_barrier *barrier, const struc
 }
 
 /* A new task, that stands where its parent stands; or the first, which is its own parent. */
-static inline void paldwosk_add_member(paldwosk_barrier *barrier, uint64_t parent, uint32_t mode, uint64_t number) {
+PALDWOSK_INLINE void paldwosk_add_member(paldwosk_barrier *barrier, uint64_t parent, uint32_t mode, uint64_t number) {
   const struct paldwosk_member *from = paldwosk_member_of(barrier, parent);
   struct paldwosk_member *member = paldwosk_member_of(barrier, number);
   uint64_t passes = from->is_there ? from->passes : 0;
@@ -515,7 +555,7 @@ static inline void paldwosk_add_member(paldwosk_barrier *barrier, uint64_t paren
 }
 
 /* A call of a task was made: it has passed this phase, or it has signalled. */
-static inline void paldwosk_move_member(paldwosk_barrier *barrier, const struct paldwosk_sleeper *sleeper) {
+PALDWOSK_INLINE void paldwosk_move_member(paldwosk_barrier *barrier, const struct paldwosk_sleeper *sleeper) {
   struct paldwosk_member *member = paldwosk_member_of(barrier, sleeper->task);
   int has_passed = sleeper->answer == PALDWOSK_DONE && sleeper->call != PALDWOSK_CALL_SIGNAL;
   if (has_passed) member->passes = (sleeper->number + 1) & (UINT64_MAX >> 4);
@@ -529,7 +569,7 @@ struct paldwosk_want {
   uint64_t held;                              /* the phase after the greatest that the bound holds back; 0: none */
 };
 
-static inline void paldwosk_find_want(paldwosk_barrier *barrier, struct paldwosk_want *want) {
+PALDWOSK_INLINE void paldwosk_find_want(paldwosk_barrier *barrier, struct paldwosk_want *want) {
   static const struct paldwosk_want none = {{0}, 0, 0};
   uint64_t least = paldwosk_least_phase(barrier);
   *want = none;
@@ -541,8 +581,8 @@ static inline void paldwosk_find_want(paldwosk_barrier *barrier, struct paldwosk
   }
 }
 
-static inline int paldwosk_is_missing(const paldwosk_barrier *barrier, const struct paldwosk_member *member,
-                                      const struct paldwosk_want *want) {
+PALDWOSK_INLINE int paldwosk_is_missing(const paldwosk_barrier *barrier, const struct paldwosk_member *member,
+                                        const struct paldwosk_want *want) {
   int is_running = barrier->coming && barrier->claimer == member->number;
   if (!member->is_there || want->is_waiting[member - barrier->members]) return 0;
   if (paldwosk_can_signal(member) && member->passes + member->is_ahead < want->signals) return 1;
@@ -551,7 +591,7 @@ static inline int paldwosk_is_missing(const paldwosk_barrier *barrier, const str
 }
 
 /* The missing tasks, by their numbers: how many they are. */
-static inline size_t paldwosk_find_missing(paldwosk_barrier *barrier, uint64_t missing[PALDWOSK_MOST_MEMBERS]) {
+PALDWOSK_INLINE size_t paldwosk_find_missing(paldwosk_barrier *barrier, uint64_t missing[PALDWOSK_MOST_MEMBERS]) {
   struct paldwosk_want want;
   size_t count = 0;
   paldwosk_find_want(barrier, &want);
@@ -565,8 +605,8 @@ static inline size_t paldwosk_find_missing(paldwosk_barrier *barrier, uint64_t m
 }
 
 /* With the lock: the call of a sleeper that isn't in the list any more is over. */
-static inline void paldwosk_set_answer(paldwosk_barrier *barrier, struct paldwosk_sleeper *sleeper, uint32_t answer,
-                                       uint64_t number) {
+PALDWOSK_INLINE void paldwosk_set_answer(paldwosk_barrier *barrier, struct paldwosk_sleeper *sleeper, uint32_t answer,
+                                         uint64_t number) {
   sleeper->answer = answer;
   sleeper->number = number;
   if (answer == PALDWOSK_DONE || answer == PALDWOSK_CLAIMED) paldwosk_move_member(barrier, sleeper);
@@ -575,18 +615,37 @@ static inline void paldwosk_set_answer(paldwosk_barrier *barrier, struct paldwos
   barrier->claimer = sleeper->task;
 }
 
-static inline int paldwosk_is_ready(const struct paldwosk_sleeper *me) {
+PALDWOSK_INLINE int paldwosk_is_ready(const struct paldwosk_sleeper *me) {
   return __atomic_load_n(&me->state, __ATOMIC_ACQUIRE) == PALDWOSK_READY;
 }
 
-static inline int64_t paldwosk_microseconds(void) {
+PALDWOSK_INLINE int64_t paldwosk_microseconds(void) {
   struct timespec now = {0, 0};
   timespec_get(&now, TIME_UTC); /* of the clocks it is the one that -std=c11 doesn't hide */
   return (int64_t)now.tv_sec * 1000000 + now.tv_nsec / 1000;
 }
 
+/* The time by which a wait ends. Nobody sets this clock. */
+PALDWOSK_INLINE struct timespec paldwosk_now(void) {
+  struct timespec now = {0, 0};
+#ifdef __linux__
+  clock_gettime(PALDWOSK_CLOCK, &now);
+#else
+  timespec_get(&now, TIME_UTC); /* as condition variables have it */
+#endif
+  return now;
+}
+
+PALDWOSK_INLINE struct timespec paldwosk_after(uint32_t milliseconds) {
+  struct timespec until = paldwosk_now();
+  until.tv_sec += (time_t)(milliseconds / 1000);
+  until.tv_nsec += (long)(milliseconds % 1000) * 1000000;
+  if (until.tv_nsec >= 1000000000) until.tv_sec++, until.tv_nsec -= 1000000000;
+  return until;
+}
+
 /* With the lock: how often the thread that waits now may yield. */
-static inline uint32_t paldwosk_yields(paldwosk_barrier *barrier) {
+PALDWOSK_INLINE uint32_t paldwosk_yields(paldwosk_barrier *barrier) {
   int32_t credit = __atomic_load_n(&barrier->credit, __ATOMIC_RELAXED);
   if (!__atomic_load_n(&barrier->most_pauses, __ATOMIC_RELAXED)) return 0;
   if (credit > 0) return PALDWOSK_MOST_YIELDS;
@@ -596,7 +655,7 @@ static inline uint32_t paldwosk_yields(paldwosk_barrier *barrier) {
 
 /* What is learned of yields that took so many microseconds. They are in vain if the thread has to sleep all the same, or
  * if they were long. A change that another thread's overtakes is lost: the credit orders nothing. */
-static inline void paldwosk_learn_of_yields(paldwosk_barrier *barrier, int64_t took, int is_in_vain) {
+PALDWOSK_INLINE void paldwosk_learn_of_yields(paldwosk_barrier *barrier, int64_t took, int is_in_vain) {
   int32_t credit = __atomic_load_n(&barrier->credit, __ATOMIC_RELAXED);
   int64_t better = (int64_t)credit + PALDWOSK_YIELDS_EARN;
   if (is_in_vain) better = credit - PALDWOSK_YIELDS_COST * took;
@@ -606,7 +665,7 @@ static inline void paldwosk_learn_of_yields(paldwosk_barrier *barrier, int64_t t
 }
 
 /* Lets others have the processor, and the lock if threads sleep with it by a condition variable. */
-static inline void paldwosk_give_way(paldwosk_barrier *barrier) {
+PALDWOSK_INLINE void paldwosk_give_way(paldwosk_barrier *barrier) {
 #ifdef PALDWOSK_BY_FUTEX
   (void)barrier;
   sched_yield();
@@ -619,7 +678,7 @@ static inline void paldwosk_give_way(paldwosk_barrier *barrier) {
 
 /* With more threads than processors those that the call waits for may have none. To yield to them takes less time than
  * to sleep and to be woken. */
-static inline void paldwosk_yield(paldwosk_barrier *barrier, struct paldwosk_sleeper *me) {
+PALDWOSK_INLINE void paldwosk_yield(paldwosk_barrier *barrier, struct paldwosk_sleeper *me) {
   if (!me->yields || paldwosk_is_ready(me)) return;
   int64_t began = paldwosk_microseconds(), took = 0;
   for (uint32_t done = 0; done < me->yields && took < PALDWOSK_LONG_YIELDS && !paldwosk_is_ready(me); done++) {
@@ -632,7 +691,7 @@ static inline void paldwosk_yield(paldwosk_barrier *barrier, struct paldwosk_sle
 
 #ifdef PALDWOSK_BY_FUTEX
 
-static inline void paldwosk_pause(void) {
+PALDWOSK_INLINE void paldwosk_pause(void) {
 #if defined __x86_64__ || defined __i386__
   __builtin_ia32_pause();
 #elif defined __aarch64__
@@ -645,7 +704,7 @@ static inline void paldwosk_pause(void) {
 /* For how many pauses a thread that waits now spins before it sleeps: as many as the barrier has learned to be good.
  * Now and then it spins for as long as it may, to see whether that is good again. With more tasks than processors it
  * would only keep others off. */
-static inline uint32_t paldwosk_patience(paldwosk_barrier *barrier, struct paldwosk_sleeper *me) {
+PALDWOSK_INLINE uint32_t paldwosk_patience(paldwosk_barrier *barrier, struct paldwosk_sleeper *me) {
   if (barrier->tasks > barrier->processors) return 0;
   me->is_probe = ++barrier->waits == barrier->probe;
   if (!me->is_probe) return __atomic_load_n(&barrier->pauses, __ATOMIC_RELAXED);
@@ -655,7 +714,7 @@ static inline uint32_t paldwosk_patience(paldwosk_barrier *barrier, struct paldw
 
 /* A thread that neither spins nor yields counts as asleep from the start; but not at a traced barrier, because its call
  * may be over before the lock is given back. */
-static inline void paldwosk_prepare(paldwosk_barrier *barrier, struct paldwosk_sleeper *me) {
+PALDWOSK_INLINE void paldwosk_prepare(paldwosk_barrier *barrier, struct paldwosk_sleeper *me) {
   me->patience = paldwosk_patience(barrier, me);
   me->yields = paldwosk_yields(barrier);
   me->state = me->patience || me->yields || barrier->trace ? PALDWOSK_SPINNING : PALDWOSK_ASLEEP;
@@ -663,7 +722,7 @@ static inline void paldwosk_prepare(paldwosk_barrier *barrier, struct paldwosk_s
 
 /* What a thread learns that has spun. If it was freed meanwhile, others spin longer, else half as long, and soon not
  * at all: so a barrier at which it is in vain loses little by it. If a probe was in vain the next comes later. */
-static inline void paldwosk_learn(paldwosk_barrier *barrier, const struct paldwosk_sleeper *me, int is_in_vain) {
+PALDWOSK_INLINE void paldwosk_learn(paldwosk_barrier *barrier, const struct paldwosk_sleeper *me, int is_in_vain) {
   uint32_t pauses = __atomic_load_n(&barrier->pauses, __ATOMIC_RELAXED);
   uint32_t after = __atomic_load_n(&barrier->probe_after, __ATOMIC_RELAXED);
   uint32_t most = __atomic_load_n(&barrier->most_pauses, __ATOMIC_RELAXED);
@@ -675,24 +734,24 @@ static inline void paldwosk_learn(paldwosk_barrier *barrier, const struct paldwo
 }
 
 /* Sleeps while the word is as it was seen; or wakes all that sleep there and have one of the bits. */
-static inline void paldwosk_futex(uint32_t *word, int is_wake, uint32_t seen, uint32_t bits) {
+PALDWOSK_INLINE void paldwosk_futex(uint32_t *word, int is_wake, uint32_t seen, uint32_t bits) {
   enum { WAIT_BITSET = 9, WAKE_BITSET = 10, IS_PRIVATE = 128 };
   int kept = errno;
   (void)syscall(SYS_futex, word, (is_wake ? WAKE_BITSET : WAIT_BITSET) | IS_PRIVATE, seen, NULL, NULL, bits);
   errno = kept;
 }
 
-static inline uint32_t paldwosk_bit(uint64_t task) { return (uint32_t)1 << task % 32; }
+PALDWOSK_INLINE uint32_t paldwosk_bit(uint64_t task) { return (uint32_t)1 << task % 32; }
 
 /* With the lock. A spinning thread sees it by itself; a sleeping one has to be woken. */
-static inline void paldwosk_set_ready(paldwosk_barrier *barrier, struct paldwosk_sleeper *sleeper) {
+PALDWOSK_INLINE void paldwosk_set_ready(paldwosk_barrier *barrier, struct paldwosk_sleeper *sleeper) {
   uint32_t bit = paldwosk_bit(sleeper->task);
   uint32_t state = __atomic_exchange_n(&sleeper->state, PALDWOSK_READY, __ATOMIC_ACQ_REL);
   if (state == PALDWOSK_ASLEEP) barrier->to_wake |= bit; /* by now a sleeper that wasn't may be gone */
 }
 
 /* The lock is held for a fraction of a microsecond: to wait for it in the kernel would take many times that. */
-static inline void paldwosk_lock(paldwosk_barrier *barrier) {
+PALDWOSK_INLINE void paldwosk_lock(paldwosk_barrier *barrier) {
   for (int tried = 0; tried < PALDWOSK_LOCK_TRIES; tried++) {
     if (pthread_mutex_trylock(&barrier->lock) == 0) return;
     paldwosk_pause();
@@ -701,7 +760,7 @@ static inline void paldwosk_lock(paldwosk_barrier *barrier) {
 }
 
 /* After it the sleeper is READY, or ASLEEP: then others have to wake it. */
-static inline void paldwosk_spin(paldwosk_barrier *barrier, struct paldwosk_sleeper *me) {
+PALDWOSK_INLINE void paldwosk_spin(paldwosk_barrier *barrier, struct paldwosk_sleeper *me) {
   uint32_t spun = 0, state = PALDWOSK_SPINNING;
   for (; spun < me->patience && !paldwosk_is_ready(me); spun++) paldwosk_pause();
   if (me->patience) paldwosk_learn(barrier, me, spun == me->patience);
@@ -712,7 +771,7 @@ static inline void paldwosk_spin(paldwosk_barrier *barrier, struct paldwosk_slee
 
 /* The turn is read before the state. Who is freed after that finds that the turn isn't what it was, and doesn't
  * sleep. */
-static inline void paldwosk_sleep(paldwosk_barrier *barrier, struct paldwosk_sleeper *me) {
+PALDWOSK_INLINE void paldwosk_sleep(paldwosk_barrier *barrier, struct paldwosk_sleeper *me) {
   while (!paldwosk_is_ready(me)) {
     uint32_t seen = __atomic_load_n(&barrier->turn, __ATOMIC_ACQUIRE);
     if (!paldwosk_is_ready(me)) paldwosk_futex(&barrier->turn, 0, seen, paldwosk_bit(me->task));
@@ -721,7 +780,7 @@ static inline void paldwosk_sleep(paldwosk_barrier *barrier, struct paldwosk_sle
 
 /* Gives the lock back, wakes the threads that the call has freed, and waits until the call itself is over. After the
  * unlock only threads that are counted as inside read the barrier; a thread's last access takes it off that count. */
-static inline void paldwosk_unlock(paldwosk_barrier *barrier, struct paldwosk_sleeper *me) {
+PALDWOSK_INLINE void paldwosk_unlock(paldwosk_barrier *barrier, struct paldwosk_sleeper *me) {
   uint32_t bits = barrier->to_wake, leaving = (uint32_t)(bits != 0) + me->is_parked;
   barrier->to_wake = 0;
   if (bits) __atomic_fetch_add(&barrier->inside, 1, __ATOMIC_RELAXED);
@@ -735,19 +794,19 @@ static inline void paldwosk_unlock(paldwosk_barrier *barrier, struct paldwosk_sl
 
 #else
 
-static inline void paldwosk_lock(paldwosk_barrier *barrier) { pthread_mutex_lock(&barrier->lock); }
+PALDWOSK_INLINE void paldwosk_lock(paldwosk_barrier *barrier) { pthread_mutex_lock(&barrier->lock); }
 
-static inline void paldwosk_prepare(paldwosk_barrier *barrier, struct paldwosk_sleeper *me) {
+PALDWOSK_INLINE void paldwosk_prepare(paldwosk_barrier *barrier, struct paldwosk_sleeper *me) {
   me->yields = paldwosk_yields(barrier);
 }
 
-static inline void paldwosk_set_ready(paldwosk_barrier *barrier, struct paldwosk_sleeper *sleeper) {
+PALDWOSK_INLINE void paldwosk_set_ready(paldwosk_barrier *barrier, struct paldwosk_sleeper *sleeper) {
   sleeper->state = PALDWOSK_READY;
   barrier->to_wake = 1;
 }
 
 /* Yields, and sleeps until the call is over. The waiting for a condition variable would be a cancellation point. */
-static inline void paldwosk_sleep(paldwosk_barrier *barrier, struct paldwosk_sleeper *me) {
+PALDWOSK_INLINE void paldwosk_sleep(paldwosk_barrier *barrier, struct paldwosk_sleeper *me) {
   int old = 0;
   paldwosk_yield(barrier, me);
   pthread_setcancelstate(PTHREAD_CANCEL_DISABLE, &old);
@@ -756,7 +815,7 @@ static inline void paldwosk_sleep(paldwosk_barrier *barrier, struct paldwosk_sle
 }
 
 /* Wakes the threads that the call has freed, waits until the call itself is over, and gives the lock back. */
-static inline void paldwosk_unlock(paldwosk_barrier *barrier, struct paldwosk_sleeper *me) {
+PALDWOSK_INLINE void paldwosk_unlock(paldwosk_barrier *barrier, struct paldwosk_sleeper *me) {
   if (barrier->to_wake) pthread_cond_broadcast(&barrier->turned);
   barrier->to_wake = 0;
   if (me->is_parked) paldwosk_sleep(barrier, me);
@@ -766,19 +825,23 @@ static inline void paldwosk_unlock(paldwosk_barrier *barrier, struct paldwosk_sl
 
 #endif
 
-static inline void paldwosk_park(paldwosk_barrier *barrier, struct paldwosk_sleeper *me) {
+PALDWOSK_INLINE void paldwosk_set_parked(paldwosk_barrier *barrier, struct paldwosk_sleeper *me) {
   me->is_parked = 1;
   paldwosk_prepare(barrier, me);
-  paldwosk_put_last(barrier, me);
   __atomic_fetch_add(&barrier->inside, 1, __ATOMIC_RELAXED);
+}
+
+PALDWOSK_INLINE void paldwosk_park(paldwosk_barrier *barrier, struct paldwosk_sleeper *me) {
+  paldwosk_set_parked(barrier, me);
+  paldwosk_put_last(barrier, me);
 }
 
 /* ---- The phaser's calls, all with the lock. A traced barrier makes one call for each event, so that it knows them
  * all: in place of a signal with a pass a signal, and then, once that is made, a pass. Whoever is freed at its signal
  * is put into the list again, and asks to pass before the lock is given back. */
 
-static inline uint32_t paldwosk_ask_whole(paldwosk_barrier *barrier, struct paldwosk_sleeper *me, paldwosk_freed *freed,
-                                          size_t *count) {
+PALDWOSK_INLINE uint32_t paldwosk_ask_whole(paldwosk_barrier *barrier, struct paldwosk_sleeper *me,
+                                            paldwosk_freed *freed, size_t *count) {
   paldwosk_waiting *phaser = &barrier->phaser;
   size_t room = PALDWOSK_MOST_FREED;
   if (me->call == PALDWOSK_CALL_NEXT) return phaser_c_waiting_next(phaser, me->task, &me->number, freed, room, count);
@@ -787,8 +850,8 @@ static inline uint32_t paldwosk_ask_whole(paldwosk_barrier *barrier, struct pald
   return phaser_c_waiting_next_single(phaser, me->task, me->single, &me->number, freed, room, count);
 }
 
-static inline uint32_t paldwosk_ask_once(paldwosk_barrier *barrier, struct paldwosk_sleeper *me, paldwosk_freed *freed,
-                                         size_t *count) {
+PALDWOSK_INLINE uint32_t paldwosk_ask_once(paldwosk_barrier *barrier, struct paldwosk_sleeper *me,
+                                           paldwosk_freed *freed, size_t *count) {
   paldwosk_waiting *phaser = &barrier->phaser;
   size_t room = PALDWOSK_MOST_FREED;
   if (me->is_to_pass) return phaser_c_waiting_pass(phaser, me->task, &me->number, freed, room, count);
@@ -797,8 +860,8 @@ static inline uint32_t paldwosk_ask_once(paldwosk_barrier *barrier, struct paldw
 }
 
 /* The event of a traced call that was made. */
-static inline void paldwosk_trace_call(struct paldwosk_trace *trace, const struct paldwosk_sleeper *of,
-                                       uint32_t answer) {
+PALDWOSK_INLINE void paldwosk_trace_call(struct paldwosk_trace *trace, const struct paldwosk_sleeper *of,
+                                         uint32_t answer) {
   static const uint8_t kinds[] = {PALDWOSK_EVENT_SIGNAL, 0, PALDWOSK_EVENT_NEXT, PALDWOSK_EVENT_SINGLE};
   static const uint8_t stands[] = {PALDWOSK_TASK_IDLE, 0, PALDWOSK_TASK_IN_NEXT, PALDWOSK_TASK_PROPOSED};
   uint64_t task = of->task;
@@ -809,8 +872,8 @@ static inline void paldwosk_trace_call(struct paldwosk_trace *trace, const struc
 }
 
 /* A call of a sleeper that isn't in the list has ended so. */
-static inline void paldwosk_go_on(paldwosk_barrier *barrier, struct paldwosk_sleeper *sleeper, uint32_t answer,
-                                  uint64_t number) {
+PALDWOSK_INLINE void paldwosk_go_on(paldwosk_barrier *barrier, struct paldwosk_sleeper *sleeper, uint32_t answer,
+                                    uint64_t number) {
   if (barrier->trace) paldwosk_trace_call(barrier->trace, sleeper, answer);
   if (barrier->trace && answer == PALDWOSK_DONE && !sleeper->is_to_pass && sleeper->call != PALDWOSK_CALL_SIGNAL) {
     sleeper->is_to_ask = sleeper->is_to_pass = 1;
@@ -821,7 +884,7 @@ static inline void paldwosk_go_on(paldwosk_barrier *barrier, struct paldwosk_sle
   paldwosk_set_ready(barrier, sleeper);
 }
 
-static inline void paldwosk_free_those(paldwosk_barrier *barrier, const paldwosk_freed *freed, size_t count) {
+PALDWOSK_INLINE void paldwosk_free_those(paldwosk_barrier *barrier, const paldwosk_freed *freed, size_t count) {
   for (size_t at = 0; at < count; at++) {
     struct paldwosk_sleeper *sleeper = paldwosk_take_task(barrier, freed[at].task);
     if (sleeper) paldwosk_go_on(barrier, sleeper, freed[at].answer, freed[at].number);
@@ -830,7 +893,11 @@ static inline void paldwosk_free_those(paldwosk_barrier *barrier, const paldwosk
 
 /* The places for freed tasks take 6 KB of stack. The functions that have them aren't inlined: no two have them at
  * once. */
+#ifdef __cplusplus
+#define PALDWOSK_APART inline __attribute__((noinline))
+#else
 #define PALDWOSK_APART static __attribute__((noinline, unused))
+#endif
 
 PALDWOSK_APART void paldwosk_ask_and_free(paldwosk_barrier *barrier, struct paldwosk_sleeper *me) {
   paldwosk_freed freed[PALDWOSK_MOST_FREED];
@@ -851,6 +918,57 @@ PALDWOSK_APART void paldwosk_ask_traced(paldwosk_barrier *barrier, struct paldwo
   paldwosk_free_those(barrier, freed, count);
 }
 
+/* ---- Calls whose time is over. Such a call stands among the sleepers until it is freed, and keeps its answer. */
+
+struct paldwosk_overdue {
+  struct paldwosk_sleeper call;
+  struct paldwosk_overdue *next;
+};
+
+/* The place of a task's overdue call in their list; that of NULL if it has none. */
+PALDWOSK_INLINE struct paldwosk_overdue **paldwosk_overdue_of(paldwosk_barrier *barrier, uint64_t task) {
+  struct paldwosk_overdue **place = &barrier->overdue;
+  while (*place && (*place)->call.task != task) place = &(*place)->next;
+  return place;
+}
+
+/* The time is over: the call goes on without its thread. There is room, since a task waits in one call at once. */
+PALDWOSK_INLINE void paldwosk_go_overdue(paldwosk_barrier *barrier, struct paldwosk_sleeper *me) {
+  struct paldwosk_overdue *it = barrier->spare;
+  barrier->spare = it->next;
+  it->next = barrier->overdue;
+  barrier->overdue = it;
+  paldwosk_replace(barrier, me, &it->call);
+  it->call.state = PALDWOSK_SPINNING; /* nobody has to be woken */
+  it->call.is_parked = 0;
+  me->is_parked = 0;
+  me->answer = PALDWOSK_TIMED_OUT;
+  __atomic_fetch_sub(&barrier->inside, 1, __ATOMIC_RELAXED);
+}
+
+/* The task's overdue call, if it has one, isn't overdue any more. */
+PALDWOSK_INLINE void paldwosk_end_overdue(paldwosk_barrier *barrier, uint64_t task) {
+  struct paldwosk_overdue **place = paldwosk_overdue_of(barrier, task), *it = *place;
+  if (!it) return;
+  *place = it->next;
+  it->next = barrier->spare;
+  barrier->spare = it;
+}
+
+/* A task calls that has an overdue call. If it is the same, the thread waits for it again, or has its answer. */
+PALDWOSK_APART void paldwosk_go_on_overdue(paldwosk_barrier *barrier, struct paldwosk_sleeper *me) {
+  struct paldwosk_sleeper *call = &(*paldwosk_overdue_of(barrier, me->task))->call;
+  me->answer = PALDWOSK_NOT_NOW;
+  if (me->call != call->call || me->single != call->single) return;
+  if (paldwosk_is_ready(call)) {
+    *me = *call;
+  } else {
+    paldwosk_replace(barrier, call, me);
+    paldwosk_set_parked(barrier, me);
+  }
+  paldwosk_end_overdue(barrier, me->task);
+}
+
 PALDWOSK_APART void paldwosk_ask_to_leave(paldwosk_barrier *barrier, struct paldwosk_sleeper *me) {
   paldwosk_freed freed[PALDWOSK_MOST_FREED];
   size_t count = 0;
@@ -858,6 +976,7 @@ PALDWOSK_APART void paldwosk_ask_to_leave(paldwosk_barrier *barrier, struct pald
   if (me->answer == PALDWOSK_DONE) paldwosk_remove_member(barrier, me->task);
   if (me->answer == PALDWOSK_DONE && barrier->trace) paldwosk_trace_left(barrier->trace, me->task);
   paldwosk_free_those(barrier, freed, count);
+  if (me->answer == PALDWOSK_DONE) paldwosk_end_overdue(barrier, me->task);
 }
 
 PALDWOSK_APART void paldwosk_report(paldwosk_barrier *barrier, struct paldwosk_sleeper *me) {
@@ -868,58 +987,61 @@ PALDWOSK_APART void paldwosk_report(paldwosk_barrier *barrier, struct paldwosk_s
   paldwosk_free_those(barrier, freed, count);
 }
 
-/* ---- A wait that is watched: before it sleeps for as long as it has to, it sleeps until it is to be told of. */
+/* ---- Waits that have a time. One that is watched sleeps until it is to be told of, and then as long as it has to. */
 
 enum { PALDWOSK_MOST_TOLD = 16, PALDWOSK_LINE_ROOM = 2048 }; /* sixteen tasks of each kind take less than 1,400 bytes */
 
 #ifdef PALDWOSK_BY_FUTEX
 
-/* Gives the lock back, sleeps until the call is over or the time has come, and takes the lock again. The turn is read
- * before the state, as in paldwosk_sleep. */
-static inline void paldwosk_sleep_until(paldwosk_barrier *barrier, struct paldwosk_sleeper *me,
-                                        const struct timespec *until) {
-  enum { WAIT_BITSET = 9, IS_PRIVATE = 128, BY_REAL_TIME = 256 };
+/* Gives the lock back, spins, sleeps until the call is over or the time has come, and takes the lock again. The turn is
+ * read before the state, as in paldwosk_sleep. */
+PALDWOSK_INLINE void paldwosk_sleep_until(paldwosk_barrier *barrier, struct paldwosk_sleeper *me,
+                                          const struct timespec *until) {
+  enum { WAIT_BITSET = 9, IS_PRIVATE = 128 };
   long slept = 0;
   me->is_parked = 0; /* or paldwosk_unlock would wait */
   paldwosk_unlock(barrier, me);
+  paldwosk_spin(barrier, me);
   do {
     uint32_t seen = __atomic_load_n(&barrier->turn, __ATOMIC_ACQUIRE);
     if (paldwosk_is_ready(me)) break;
-    slept = syscall(SYS_futex, &barrier->turn, WAIT_BITSET | IS_PRIVATE | BY_REAL_TIME, seen, until, NULL,
-                    paldwosk_bit(me->task));
+    slept = syscall(SYS_futex, &barrier->turn, WAIT_BITSET | IS_PRIVATE, seen, until, NULL, paldwosk_bit(me->task));
   } while (slept == 0 || errno != ETIMEDOUT);
   paldwosk_lock(barrier);
   me->is_parked = 1;
+  me->patience = me->yields = 0; /* it has spun */
 }
 
 #else
 
-static inline void paldwosk_sleep_until(paldwosk_barrier *barrier, struct paldwosk_sleeper *me,
-                                        const struct timespec *until) {
+PALDWOSK_INLINE void paldwosk_sleep_until(paldwosk_barrier *barrier, struct paldwosk_sleeper *me,
+                                          const struct timespec *until) {
   int slept = 0;
   if (barrier->to_wake) pthread_cond_broadcast(&barrier->turned);
   barrier->to_wake = 0;
+  paldwosk_yield(barrier, me);
+  me->yields = 0;
   while (slept == 0 && !paldwosk_is_ready(me)) slept = pthread_cond_timedwait(&barrier->turned, &barrier->lock, until);
 }
 
 #endif
 
 /* Names a task in a list, after so many others. Whether it did: the list is cut. */
-static inline int paldwosk_text_task(struct paldwosk_text *line, size_t before, uint64_t task) {
+PALDWOSK_INLINE int paldwosk_text_task(struct paldwosk_text *line, size_t before, uint64_t task) {
   if (before >= PALDWOSK_MOST_TOLD) return 0;
   paldwosk_text_word(line, before ? ", " : " ");
   paldwosk_text_number(line, (int64_t)task);
   return 1;
 }
 
-static inline void paldwosk_text_more(struct paldwosk_text *line, size_t count) {
+PALDWOSK_INLINE void paldwosk_text_more(struct paldwosk_text *line, size_t count) {
   if (count <= PALDWOSK_MOST_TOLD) return;
   paldwosk_text_word(line, " and ");
   paldwosk_text_number(line, (int64_t)(count - PALDWOSK_MOST_TOLD));
   paldwosk_text_word(line, " more");
 }
 
-static inline void paldwosk_text_waiting(struct paldwosk_text *line, paldwosk_barrier *barrier) {
+PALDWOSK_INLINE void paldwosk_text_waiting(struct paldwosk_text *line, paldwosk_barrier *barrier) {
   size_t count = 0;
   paldwosk_text_word(line, "; waiting:");
   for (struct paldwosk_sleeper *at = barrier->first; at; at = at->next) {
@@ -931,7 +1053,7 @@ static inline void paldwosk_text_waiting(struct paldwosk_text *line, paldwosk_ba
   paldwosk_text_more(line, count);
 }
 
-static inline void paldwosk_text_missing(struct paldwosk_text *line, paldwosk_barrier *barrier) {
+PALDWOSK_INLINE void paldwosk_text_missing(struct paldwosk_text *line, paldwosk_barrier *barrier) {
   uint64_t missing[PALDWOSK_MOST_MEMBERS];
   size_t count = paldwosk_find_missing(barrier, missing);
   paldwosk_text_word(line, "; missing:");
@@ -957,15 +1079,11 @@ PALDWOSK_APART void paldwosk_tell_wait(paldwosk_barrier *barrier, const struct p
   paldwosk_lock(barrier);
 }
 
-/* It counts as asleep from the start, so others wake it. Writing and a timed wait would be cancellation points. */
-static inline void paldwosk_watch(paldwosk_barrier *barrier, struct paldwosk_sleeper *me) {
-  struct timespec until;
-  uint32_t state = PALDWOSK_SPINNING;
+/* It sleeps at once, and counts as asleep, so others wake it. Writing and a timed wait would be cancellation points. */
+PALDWOSK_INLINE void paldwosk_watch(paldwosk_barrier *barrier, struct paldwosk_sleeper *me) {
+  struct timespec until = paldwosk_after(1000 * barrier->watch);
   int old = 0, kept = errno;
-  me->patience = 0;
-  __atomic_compare_exchange_n(&me->state, &state, PALDWOSK_ASLEEP, 0, __ATOMIC_ACQUIRE, __ATOMIC_ACQUIRE);
-  timespec_get(&until, TIME_UTC);
-  until.tv_sec += (time_t)barrier->watch;
+  me->patience = me->yields = 0;
   pthread_setcancelstate(PTHREAD_CANCEL_DISABLE, &old);
   paldwosk_sleep_until(barrier, me, &until);
   if (!paldwosk_is_ready(me)) paldwosk_tell_wait(barrier, me);
@@ -973,96 +1091,158 @@ static inline void paldwosk_watch(paldwosk_barrier *barrier, struct paldwosk_sle
   errno = kept;
 }
 
+/* Waits for so many milliseconds at most. It spins no longer than a barrier does that nobody has set. */
+PALDWOSK_INLINE void paldwosk_wait_in_time(paldwosk_barrier *barrier, struct paldwosk_sleeper *me,
+                                           uint32_t milliseconds) {
+  struct timespec until = paldwosk_after(milliseconds);
+  int old = 0, kept = errno;
+  if (me->patience > PALDWOSK_MOST_PAUSES) me->patience = PALDWOSK_MOST_PAUSES;
+  pthread_setcancelstate(PTHREAD_CANCEL_DISABLE, &old);
+  if (barrier->watch && 1000 * barrier->watch < milliseconds) paldwosk_watch(barrier, me);
+  if (!paldwosk_is_ready(me)) paldwosk_sleep_until(barrier, me, &until);
+  pthread_setcancelstate(old, &old);
+  errno = kept;
+}
+
 /* After how many seconds a wait is told of; 0 if it never is. */
-static inline uint32_t paldwosk_watch_of_environment(void) {
+PALDWOSK_INLINE uint32_t paldwosk_watch_of_environment(void) {
   const char *words = getenv("PALDWOSK_WATCH");
   unsigned long seconds = words ? strtoul(words, NULL, 10) : 0;
   return seconds < 86400 ? (uint32_t)seconds : 86400;
 }
 
-/* The call's own part is done. Sleepers that are still to ask do so, the lock is given back, and it waits if it must. */
-static inline void paldwosk_end_call(paldwosk_barrier *barrier, struct paldwosk_sleeper *me) {
+/* The call's own part is done. Sleepers that are still to ask do so. */
+PALDWOSK_INLINE void paldwosk_let_ask(paldwosk_barrier *barrier) {
   struct paldwosk_sleeper *sleeper;
   while (barrier->trace && (sleeper = paldwosk_take_asking(barrier))) paldwosk_ask_traced(barrier, sleeper);
+}
+
+/* They do so, the lock is given back, and it waits if it must. */
+PALDWOSK_INLINE void paldwosk_end_call(paldwosk_barrier *barrier, struct paldwosk_sleeper *me) {
+  paldwosk_let_ask(barrier);
   if (barrier->watch && me->is_parked) paldwosk_watch(barrier, me);
   paldwosk_unlock(barrier, me);
 }
 
-static inline void paldwosk_call(paldwosk_barrier *barrier, struct paldwosk_sleeper *me) {
+/* The same, but it waits for so many milliseconds at most. */
+PALDWOSK_INLINE void paldwosk_end_in_time(paldwosk_barrier *barrier, struct paldwosk_sleeper *me,
+                                          uint32_t milliseconds) {
+  paldwosk_let_ask(barrier);
+  if (milliseconds && me->is_parked && !paldwosk_is_ready(me)) paldwosk_wait_in_time(barrier, me, milliseconds);
+  if (me->is_parked && !paldwosk_is_ready(me)) paldwosk_go_overdue(barrier, me);
+  paldwosk_unlock(barrier, me);
+}
+
+PALDWOSK_INLINE void paldwosk_begin_call(paldwosk_barrier *barrier, struct paldwosk_sleeper *me) {
   me->is_to_ask = barrier->trace != NULL;
   me->is_to_pass = me->call == PALDWOSK_CALL_WAIT;
   if (barrier->trace) paldwosk_park(barrier, me);
   else paldwosk_ask_and_free(barrier, me);
-  paldwosk_end_call(barrier, me);
 }
 
-static inline struct paldwosk_sleeper paldwosk_new_sleeper(uint64_t task, uint32_t call, uint32_t single) {
+PALDWOSK_INLINE struct paldwosk_sleeper paldwosk_new_sleeper(uint64_t task, uint32_t call, uint32_t single) {
   struct paldwosk_sleeper me = {NULL, task, 0, call, single, PALDWOSK_NOT_YET, PALDWOSK_SPINNING, 0, 0, 0, 0, 0, 0};
   return me;
 }
 
 /* ---- Who may enter */
 
-static uint32_t paldwosk_forks; /* atomic: how many forks lie above this process since this file was first used */
-static int paldwosk_are_forks_missed;
-static pthread_once_t paldwosk_forks_once = PTHREAD_ONCE_INIT;
+#ifdef __cplusplus
+#define PALDWOSK_OF_HEADER inline
+#else
+#define PALDWOSK_OF_HEADER static
+#endif
 
-static inline void paldwosk_count_fork(void) { __atomic_fetch_add(&paldwosk_forks, 1, __ATOMIC_RELAXED); }
+PALDWOSK_OF_HEADER uint32_t paldwosk_forks; /* atomic: how many forks lie above this process since its first use */
+PALDWOSK_OF_HEADER int paldwosk_are_forks_missed;
+PALDWOSK_OF_HEADER pthread_once_t paldwosk_forks_once = PTHREAD_ONCE_INIT;
 
-static inline void paldwosk_watch_forks(void) {
+PALDWOSK_INLINE void paldwosk_count_fork(void) { __atomic_fetch_add(&paldwosk_forks, 1, __ATOMIC_RELAXED); }
+
+PALDWOSK_INLINE void paldwosk_watch_forks(void) {
   paldwosk_are_forks_missed = pthread_atfork(NULL, NULL, paldwosk_count_fork) != 0;
 }
 
-static inline int paldwosk_is_inherited(const paldwosk_barrier *barrier) {
+PALDWOSK_INLINE int paldwosk_is_inherited(const paldwosk_barrier *barrier) {
   return __atomic_load_n(barrier->forks, __ATOMIC_RELAXED) != barrier->forks_then;
 }
 
 /* Takes the lock if it answers DONE. */
-static inline paldwosk_answer paldwosk_enter(paldwosk_barrier *barrier) {
+PALDWOSK_INLINE paldwosk_answer paldwosk_enter(paldwosk_barrier *barrier) {
   if (!barrier) return PALDWOSK_NULL;
   if (!barrier->forks || paldwosk_is_inherited(barrier)) return PALDWOSK_CLOSED;
   paldwosk_lock(barrier);
   return PALDWOSK_DONE;
 }
 
-static inline paldwosk_answer paldwosk_enter_by(const paldwosk_task *task) {
+PALDWOSK_INLINE paldwosk_answer paldwosk_enter_by(const paldwosk_task *task) {
   return task ? paldwosk_enter(task->barrier) : PALDWOSK_NULL;
 }
 
 /* With the lock. A task passes once its running single is reported: a wait in the statement would never end. */
-static inline int paldwosk_is_in_single(const paldwosk_task *task) {
+PALDWOSK_INLINE int paldwosk_is_in_single(const paldwosk_task *task) {
   return task->barrier->coming && task->barrier->claimer == task->number;
 }
 
+/* With the lock: begins a call that may have to wait, or goes on with the task's overdue call. */
+PALDWOSK_INLINE void paldwosk_begin_or_go_on(const paldwosk_task *task, struct paldwosk_sleeper *me) {
+  paldwosk_barrier *barrier = task->barrier;
+  if (barrier->overdue && *paldwosk_overdue_of(barrier, me->task)) paldwosk_go_on_overdue(barrier, me);
+  else if (me->call == PALDWOSK_CALL_WAIT && paldwosk_is_in_single(task)) me->answer = PALDWOSK_NOT_NOW;
+  else paldwosk_begin_call(barrier, me);
+}
+
 /* The call of a task that may have to wait. */
-static inline paldwosk_answer paldwosk_call_by(const paldwosk_task *task, uint32_t call, uint32_t single,
-                                               uint64_t *phase) {
+PALDWOSK_INLINE paldwosk_answer paldwosk_call_by(const paldwosk_task *task, uint32_t call, uint32_t single,
+                                                 uint64_t *phase) {
   paldwosk_answer entered = paldwosk_enter_by(task);
   if (entered != PALDWOSK_DONE) return entered;
   struct paldwosk_sleeper me = paldwosk_new_sleeper(task->number, call, single);
-  if (call == PALDWOSK_CALL_WAIT && paldwosk_is_in_single(task)) me.answer = PALDWOSK_NOT_NOW;
-  if (me.answer == PALDWOSK_NOT_NOW) paldwosk_end_call(task->barrier, &me);
-  else paldwosk_call(task->barrier, &me);
+  paldwosk_begin_or_go_on(task, &me);
+  paldwosk_end_call(task->barrier, &me);
+  if (me.answer == PALDWOSK_DONE && phase) *phase = me.number;
+  return (paldwosk_answer)me.answer;
+}
+
+/* The same, but it waits for so many milliseconds at most. */
+PALDWOSK_APART paldwosk_answer paldwosk_call_in_time(const paldwosk_task *task, uint32_t call, uint32_t single,
+                                                     uint32_t milliseconds, uint64_t *phase) {
+  paldwosk_answer entered = paldwosk_enter_by(task);
+  if (entered != PALDWOSK_DONE) return entered;
+  struct paldwosk_sleeper me = paldwosk_new_sleeper(task->number, call, single);
+  paldwosk_begin_or_go_on(task, &me);
+  paldwosk_end_in_time(task->barrier, &me, milliseconds);
   if (me.answer == PALDWOSK_DONE && phase) *phase = me.number;
   return (paldwosk_answer)me.answer;
 }
 
 /* The task that has run its single reports that, and passes. */
-static inline paldwosk_answer paldwosk_report_by(const paldwosk_task *task, uint64_t *phase) {
+PALDWOSK_INLINE paldwosk_answer paldwosk_report_by(const paldwosk_task *task, uint64_t *phase) {
   paldwosk_answer entered = paldwosk_enter_by(task);
   if (entered != PALDWOSK_DONE) return entered;
   struct paldwosk_sleeper me = paldwosk_new_sleeper(task->number, PALDWOSK_CALL_WAIT, 0);
   task->barrier->coming--;
   paldwosk_report(task->barrier, &me);
-  if (me.answer == PALDWOSK_DONE) paldwosk_call(task->barrier, &me);
-  else paldwosk_end_call(task->barrier, &me);
+  if (me.answer == PALDWOSK_DONE) paldwosk_begin_call(task->barrier, &me);
+  paldwosk_end_call(task->barrier, &me);
   if (me.answer == PALDWOSK_DONE && phase) *phase = me.number;
   return (paldwosk_answer)me.answer;
 }
 
+/* What a single was answered. If the task has claimed it, it runs the statement. */
+PALDWOSK_INLINE paldwosk_answer paldwosk_run_claimed(const paldwosk_task *task, paldwosk_answer answer,
+                                                     void (*run)(void *data), void *data, uint64_t *phase) {
+  int old = 0;
+  if (answer != PALDWOSK_CLAIMED) return answer;
+  pthread_setcancelstate(PTHREAD_CANCEL_DISABLE, &old);
+  run(data);
+  pthread_setcancelstate(old, &old);
+  return paldwosk_report_by(task, phase);
+}
+
 /* ---- Making and freeing */
 
-static inline struct paldwosk_trace *paldwosk_new_trace(uint32_t bound, const uint32_t *operators, size_t count) {
+PALDWOSK_INLINE struct paldwosk_trace *paldwosk_new_trace(uint32_t bound, const uint32_t *operators, size_t count) {
   struct paldwosk_trace *trace = (struct paldwosk_trace *)calloc(1, sizeof *trace);
   if (!trace) return NULL;
   trace->bound = bound;
@@ -1072,10 +1252,25 @@ static inline struct paldwosk_trace *paldwosk_new_trace(uint32_t bound, const ui
   return trace;
 }
 
-static inline int paldwosk_init_lock(paldwosk_barrier *barrier) {
+#ifndef PALDWOSK_BY_FUTEX
+/* Timed waits at it are by the clock of paldwosk_now. */
+PALDWOSK_INLINE int paldwosk_init_cond(pthread_cond_t *cond) {
+#ifdef __linux__
+  pthread_condattr_t by;
+  if (pthread_condattr_init(&by) != 0) return 0;
+  int is_made = pthread_condattr_setclock(&by, PALDWOSK_CLOCK) == 0 && pthread_cond_init(cond, &by) == 0;
+  pthread_condattr_destroy(&by);
+  return is_made;
+#else
+  return pthread_cond_init(cond, NULL) == 0;
+#endif
+}
+#endif
+
+PALDWOSK_INLINE int paldwosk_init_lock(paldwosk_barrier *barrier) {
   if (pthread_mutex_init(&barrier->lock, NULL) != 0) return 0;
 #ifndef PALDWOSK_BY_FUTEX
-  if (pthread_cond_init(&barrier->turned, NULL) != 0) {
+  if (!paldwosk_init_cond(&barrier->turned)) {
     pthread_mutex_destroy(&barrier->lock);
     return 0;
   }
@@ -1083,7 +1278,7 @@ static inline int paldwosk_init_lock(paldwosk_barrier *barrier) {
   return 1;
 }
 
-static inline void paldwosk_destroy_lock(paldwosk_barrier *barrier) {
+PALDWOSK_INLINE void paldwosk_destroy_lock(paldwosk_barrier *barrier) {
 #ifndef PALDWOSK_BY_FUTEX
   pthread_cond_destroy(&barrier->turned);
 #endif
@@ -1091,7 +1286,7 @@ static inline void paldwosk_destroy_lock(paldwosk_barrier *barrier) {
 }
 
 /* What a barrier has besides its phaser, its trace and its lock. */
-static inline void paldwosk_open(paldwosk_barrier *barrier) {
+PALDWOSK_INLINE void paldwosk_open(paldwosk_barrier *barrier) {
   long processors = sysconf(_SC_NPROCESSORS_ONLN);
   barrier->turn = barrier->to_wake = barrier->coming = barrier->tasks = barrier->waits = 0;
   barrier->inside = barrier->pauses = 0;
@@ -1102,12 +1297,15 @@ static inline void paldwosk_open(paldwosk_barrier *barrier) {
   barrier->credit = PALDWOSK_MOST_CREDIT;
   barrier->first = NULL;
   barrier->last = &barrier->first;
+  barrier->overdue = NULL;
+  barrier->spare = barrier->room;
+  for (int at = 0; at < PALDWOSK_MOST_MEMBERS - 1; at++) barrier->room[at].next = &barrier->room[at + 1];
   barrier->forks_then = __atomic_load_n(&paldwosk_forks, __ATOMIC_RELAXED);
   barrier->forks = &paldwosk_forks;
 }
 
-static inline paldwosk_answer paldwosk_new_barrier(paldwosk_barrier *barrier, uint32_t bound,
-                                                   const paldwosk_operator *operators, size_t count, int is_traced) {
+PALDWOSK_INLINE paldwosk_answer paldwosk_new_barrier(paldwosk_barrier *barrier, uint32_t bound,
+                                                     const paldwosk_operator *operators, size_t count, int is_traced) {
   uint32_t numbers[4] = {0, 0, 0, 0};
   if (!barrier || (!operators && count)) return PALDWOSK_NULL;
   if (barrier->forks) return paldwosk_is_inherited(barrier) ? PALDWOSK_CLOSED : PALDWOSK_OPEN;
@@ -1118,9 +1316,12 @@ static inline paldwosk_answer paldwosk_new_barrier(paldwosk_barrier *barrier, ui
   if (made != PALDWOSK_DONE) return made;
   barrier->bound = bound;
   barrier->members = (struct paldwosk_member *)calloc(PALDWOSK_MEMBER_PLACES, sizeof *barrier->members);
+  barrier->room = (struct paldwosk_overdue *)calloc(PALDWOSK_MOST_MEMBERS, sizeof *barrier->room);
   barrier->trace = is_traced ? paldwosk_new_trace(bound, numbers, count) : NULL;
-  if (!barrier->members || (is_traced && !barrier->trace) || !paldwosk_init_lock(barrier)) {
+  int has_room = barrier->members && barrier->room && (barrier->trace || !is_traced);
+  if (!has_room || !paldwosk_init_lock(barrier)) {
     free(barrier->members);
+    free(barrier->room);
     free(barrier->trace);
     phaser_c_waiting_free(&barrier->phaser);
     return PALDWOSK_MEMORY;
@@ -1130,8 +1331,8 @@ static inline paldwosk_answer paldwosk_new_barrier(paldwosk_barrier *barrier, ui
 }
 
 /* The same where there is no barrier, whatever the memory has. */
-static inline paldwosk_answer paldwosk_init_barrier(paldwosk_barrier *barrier, uint32_t bound,
-                                                    const paldwosk_operator *operators, size_t count, int is_traced) {
+PALDWOSK_INLINE paldwosk_answer paldwosk_init_barrier(paldwosk_barrier *barrier, uint32_t bound,
+                                                      const paldwosk_operator *operators, size_t count, int is_traced) {
   static const paldwosk_barrier none = PALDWOSK_NO_BARRIER;
   if (!barrier || (!operators && count)) return PALDWOSK_NULL;
   *barrier = none;
@@ -1140,7 +1341,7 @@ static inline paldwosk_answer paldwosk_init_barrier(paldwosk_barrier *barrier, u
 
 /* The threads that are counted as inside have been woken, and only need a processor for a moment. If yielding doesn't
  * give them one, this thread sleeps: theirs may be of a lower priority. */
-static inline void paldwosk_let_others_run(uint32_t tried) {
+PALDWOSK_INLINE void paldwosk_let_others_run(uint32_t tried) {
   int old = 0;
   if (tried < 100) {
     sched_yield();
@@ -1160,15 +1361,15 @@ static inline void paldwosk_let_others_run(uint32_t tried) {
  * There is an accumulator for each of at most four operators. All memory is taken here. OPEN, BAD_OPERATORS, BAD_BOUND,
  * MEMORY. On DONE, free it by paldwosk_barrier_free. */
 PALDWOSK_MUST_CHECK
-static inline paldwosk_answer paldwosk_barrier_new(paldwosk_barrier *barrier, uint32_t bound,
-                                                   const paldwosk_operator *operators, size_t count) {
+PALDWOSK_INLINE paldwosk_answer paldwosk_barrier_new(paldwosk_barrier *barrier, uint32_t bound,
+                                                     const paldwosk_operator *operators, size_t count) {
   return paldwosk_new_barrier(barrier, bound, operators, count, 0);
 }
 
 /* As paldwosk_barrier_new, and it keeps a trace of what is done, for paldwosk_barrier_trace. That takes some 1 MB. */
 PALDWOSK_MUST_CHECK
-static inline paldwosk_answer paldwosk_barrier_new_traced(paldwosk_barrier *barrier, uint32_t bound,
-                                                          const paldwosk_operator *operators, size_t count) {
+PALDWOSK_INLINE paldwosk_answer paldwosk_barrier_new_traced(paldwosk_barrier *barrier, uint32_t bound,
+                                                            const paldwosk_operator *operators, size_t count) {
   return paldwosk_new_barrier(barrier, bound, operators, count, 1);
 }
 
@@ -1179,22 +1380,23 @@ static inline paldwosk_answer paldwosk_barrier_new_traced(paldwosk_barrier *barr
  *     paldwosk_barrier *barrier = (paldwosk_barrier *)malloc(sizeof *barrier);
  *     paldwosk_answer answer = barrier ? paldwosk_barrier_init(barrier, 2, NULL, 0) : PALDWOSK_MEMORY; */
 PALDWOSK_MUST_CHECK
-static inline paldwosk_answer paldwosk_barrier_init(paldwosk_barrier *barrier, uint32_t bound,
-                                                    const paldwosk_operator *operators, size_t count) {
+PALDWOSK_INLINE paldwosk_answer paldwosk_barrier_init(paldwosk_barrier *barrier, uint32_t bound,
+                                                      const paldwosk_operator *operators, size_t count) {
   return paldwosk_init_barrier(barrier, bound, operators, count, 0);
 }
 
 /* As paldwosk_barrier_init, and it keeps a trace as paldwosk_barrier_new_traced does. */
 PALDWOSK_MUST_CHECK
-static inline paldwosk_answer paldwosk_barrier_init_traced(paldwosk_barrier *barrier, uint32_t bound,
-                                                           const paldwosk_operator *operators, size_t count) {
+PALDWOSK_INLINE paldwosk_answer paldwosk_barrier_init_traced(paldwosk_barrier *barrier, uint32_t bound,
+                                                             const paldwosk_operator *operators, size_t count) {
   return paldwosk_init_barrier(barrier, bound, operators, count, 1);
 }
 
-/* Frees the barrier. NOT_NOW if a task waits, or runs a single. A thread that another's call has freed may still be on
- * its way out of its own call. This call waits for it, so the memory may be used for something else at once. */
+/* Frees the barrier. NOT_NOW if a task waits, also by a call whose time is over, or runs a single, or is to. A thread
+ * that another's call has freed may still be on its way out of its own call. This call waits for it, so the memory may
+ * be used for something else at once. */
 PALDWOSK_MUST_CHECK
-static inline paldwosk_answer paldwosk_barrier_free(paldwosk_barrier *barrier) {
+PALDWOSK_INLINE paldwosk_answer paldwosk_barrier_free(paldwosk_barrier *barrier) {
   for (uint32_t tried = 0;; tried++) {
     paldwosk_answer entered = paldwosk_enter(barrier);
     if (entered != PALDWOSK_DONE) return entered;
@@ -1207,8 +1409,10 @@ static inline paldwosk_answer paldwosk_barrier_free(paldwosk_barrier *barrier) {
   }
   phaser_c_waiting_free(&barrier->phaser);
   free(barrier->members);
+  free(barrier->room);
   free(barrier->trace);
   barrier->members = NULL;
+  barrier->room = NULL;
   barrier->trace = NULL;
   barrier->forks = NULL;
   pthread_mutex_unlock(&barrier->lock);
@@ -1218,8 +1422,8 @@ static inline paldwosk_answer paldwosk_barrier_free(paldwosk_barrier *barrier) {
 
 /* Makes the first task, in any mode. BAD_MODE, NOT_NOW if it was made before. */
 PALDWOSK_MUST_CHECK
-static inline paldwosk_answer paldwosk_barrier_make(paldwosk_barrier *barrier, paldwosk_mode mode,
-                                                    paldwosk_task *task) {
+PALDWOSK_INLINE paldwosk_answer paldwosk_barrier_make(paldwosk_barrier *barrier, paldwosk_mode mode,
+                                                      paldwosk_task *task) {
   paldwosk_answer answer = task ? paldwosk_enter(barrier) : PALDWOSK_NULL;
   if (answer != PALDWOSK_DONE) return answer;
   uint64_t number = 0;
@@ -1238,8 +1442,8 @@ static inline paldwosk_answer paldwosk_barrier_make(paldwosk_barrier *barrier, p
  * parent is ahead. BAD_MODE, NOT_REGISTERED, MORE_THAN_PARENT, REGS_FULL if there are 256 tasks, HISTORY_FULL after 2^62
  * events. */
 PALDWOSK_MUST_CHECK
-static inline paldwosk_answer paldwosk_barrier_join(const paldwosk_task *parent, paldwosk_mode mode,
-                                                    paldwosk_task *task) {
+PALDWOSK_INLINE paldwosk_answer paldwosk_barrier_join(const paldwosk_task *parent, paldwosk_mode mode,
+                                                      paldwosk_task *task) {
   paldwosk_answer answer = task ? paldwosk_enter_by(parent) : PALDWOSK_NULL;
   if (answer != PALDWOSK_DONE) return answer;
   paldwosk_barrier *barrier = parent->barrier;
@@ -1259,14 +1463,14 @@ static inline paldwosk_answer paldwosk_barrier_join(const paldwosk_task *parent,
  * On DONE *phase is the phase, unless `phase` is NULL. NOT_REGISTERED, NO_SIGNAL, ALREADY_SIGNALLED, NOT_NOW,
  * HISTORY_FULL. */
 PALDWOSK_MUST_CHECK
-static inline paldwosk_answer paldwosk_barrier_next(const paldwosk_task *task, uint64_t *phase) {
+PALDWOSK_INLINE paldwosk_answer paldwosk_barrier_next(const paldwosk_task *task, uint64_t *phase) {
   return paldwosk_call_by(task, PALDWOSK_CALL_NEXT, 0, phase);
 }
 
 /* Signals, and goes on. It waits only if the task would be ahead of a waiting task by more than the bound.
  * NOT_REGISTERED, NO_SIGNAL, ALREADY_SIGNALLED, NOT_NOW, HISTORY_FULL. */
 PALDWOSK_MUST_CHECK
-static inline paldwosk_answer paldwosk_barrier_signal(const paldwosk_task *task) {
+PALDWOSK_INLINE paldwosk_answer paldwosk_barrier_signal(const paldwosk_task *task) {
   return paldwosk_call_by(task, PALDWOSK_CALL_SIGNAL, 0, NULL);
 }
 
@@ -1275,14 +1479,14 @@ static inline paldwosk_answer paldwosk_barrier_signal(const paldwosk_task *task)
  * `phase` is NULL. NOT_REGISTERED, NOT_SIGNALLED, NOT_NOW (also in the statement of the task's own single),
  * HISTORY_FULL. */
 PALDWOSK_MUST_CHECK
-static inline paldwosk_answer paldwosk_barrier_wait(const paldwosk_task *task, uint64_t *phase) {
+PALDWOSK_INLINE paldwosk_answer paldwosk_barrier_wait(const paldwosk_task *task, uint64_t *phase) {
   return paldwosk_call_by(task, PALDWOSK_CALL_WAIT, 0, phase);
 }
 
 /* Sends a value to an accumulator, for the phase that the task hasn't signalled yet. NOT_REGISTERED, NO_SIGNAL,
  * NO_ACCUMULATOR, HISTORY_FULL. */
 PALDWOSK_MUST_CHECK
-static inline paldwosk_answer paldwosk_barrier_send(const paldwosk_task *task, uint32_t accumulator, int32_t value) {
+PALDWOSK_INLINE paldwosk_answer paldwosk_barrier_send(const paldwosk_task *task, uint32_t accumulator, int32_t value) {
   paldwosk_answer answer = paldwosk_enter_by(task);
   if (answer != PALDWOSK_DONE) return answer;
   paldwosk_barrier *barrier = task->barrier;
@@ -1298,7 +1502,7 @@ static inline paldwosk_answer paldwosk_barrier_send(const paldwosk_task *task, u
  * the greatest, and no task sent a value; TOO_GREAT if it isn't within an int64_t, which takes 2^32 values.
  * NOT_REGISTERED, NO_WAIT, NO_ACCUMULATOR, NO_PHASE_YET, HISTORY_FULL. */
 PALDWOSK_MUST_CHECK
-static inline paldwosk_answer paldwosk_barrier_look(const paldwosk_task *task, uint32_t accumulator, int64_t *value) {
+PALDWOSK_INLINE paldwosk_answer paldwosk_barrier_look(const paldwosk_task *task, uint32_t accumulator, int64_t *value) {
   paldwosk_answer answer = value ? paldwosk_enter_by(task) : PALDWOSK_NULL;
   if (answer != PALDWOSK_DONE) return answer;
   paldwosk_barrier *barrier = task->barrier;
@@ -1320,24 +1524,85 @@ static inline paldwosk_answer paldwosk_barrier_look(const paldwosk_task *task, u
  * statement its task can send, look and join, but not go on or leave. All are answered DONE. NOT_REGISTERED, NO_SIGNAL,
  * NO_SINGLE, ALREADY_SIGNALLED, SINGLE_MISMATCH if another number is proposed in this phase, NOT_NOW, HISTORY_FULL. */
 PALDWOSK_MUST_CHECK
-static inline paldwosk_answer paldwosk_barrier_single(const paldwosk_task *task, uint32_t number,
-                                                      void (*run)(void *data), void *data, uint64_t *phase) {
-  int old = 0;
+PALDWOSK_INLINE paldwosk_answer paldwosk_barrier_single(const paldwosk_task *task, uint32_t number,
+                                                        void (*run)(void *data), void *data, uint64_t *phase) {
   if (!task || !run) return PALDWOSK_NULL;
   paldwosk_task mine = *task;
   paldwosk_answer answer = paldwosk_call_by(&mine, PALDWOSK_CALL_SINGLE, number, phase);
-  if (answer != PALDWOSK_CLAIMED) return answer;
-  pthread_setcancelstate(PTHREAD_CANCEL_DISABLE, &old);
-  run(data);
-  pthread_setcancelstate(old, &old);
-  return paldwosk_report_by(&mine, phase);
+  return paldwosk_run_claimed(&mine, answer, run, data, phase);
 }
+
+/* ---- The same calls, with a time. What that means stands at the head: WAITS WITH A TIME. Each answers what the call
+ * without a time does, or TIMED_OUT: then the call goes on, and the task's next call of the same name waits for its
+ * answer. */
+
+/* paldwosk_barrier_next, which waits for so many milliseconds at most. TIMED_OUT: the task has signalled, or will. */
+PALDWOSK_MUST_CHECK
+PALDWOSK_INLINE paldwosk_answer paldwosk_barrier_next_for(const paldwosk_task *task, uint32_t milliseconds,
+                                                          uint64_t *phase) {
+  return paldwosk_call_in_time(task, PALDWOSK_CALL_NEXT, 0, milliseconds, phase);
+}
+
+/* paldwosk_barrier_next, which doesn't wait. TIMED_OUT: the task has signalled, or will. */
+PALDWOSK_MUST_CHECK
+PALDWOSK_INLINE paldwosk_answer paldwosk_barrier_try_next(const paldwosk_task *task, uint64_t *phase) {
+  return paldwosk_call_in_time(task, PALDWOSK_CALL_NEXT, 0, 0, phase);
+}
+
+/* paldwosk_barrier_signal, which waits for so many milliseconds at most. TIMED_OUT: it will signal, once the bound lets
+ * it. */
+PALDWOSK_MUST_CHECK
+PALDWOSK_INLINE paldwosk_answer paldwosk_barrier_signal_for(const paldwosk_task *task, uint32_t milliseconds) {
+  return paldwosk_call_in_time(task, PALDWOSK_CALL_SIGNAL, 0, milliseconds, NULL);
+}
+
+/* paldwosk_barrier_signal, which doesn't wait. TIMED_OUT: it will signal, once the bound lets it. */
+PALDWOSK_MUST_CHECK
+PALDWOSK_INLINE paldwosk_answer paldwosk_barrier_try_signal(const paldwosk_task *task) {
+  return paldwosk_call_in_time(task, PALDWOSK_CALL_SIGNAL, 0, 0, NULL);
+}
+
+/* paldwosk_barrier_wait, which waits for so many milliseconds at most. TIMED_OUT. */
+PALDWOSK_MUST_CHECK
+PALDWOSK_INLINE paldwosk_answer paldwosk_barrier_wait_for(const paldwosk_task *task, uint32_t milliseconds,
+                                                          uint64_t *phase) {
+  return paldwosk_call_in_time(task, PALDWOSK_CALL_WAIT, 0, milliseconds, phase);
+}
+
+/* paldwosk_barrier_wait, which doesn't wait: whether the phase is over. TIMED_OUT if it isn't. */
+PALDWOSK_MUST_CHECK
+PALDWOSK_INLINE paldwosk_answer paldwosk_barrier_try_wait(const paldwosk_task *task, uint64_t *phase) {
+  return paldwosk_call_in_time(task, PALDWOSK_CALL_WAIT, 0, 0, phase);
+}
+
+/* paldwosk_barrier_single, which waits for so many milliseconds at most, and then for its statement if it runs that.
+ * TIMED_OUT: the task can't leave, and has to come back with the same number; if it is to run the statement, all wait
+ * for it. */
+PALDWOSK_MUST_CHECK
+PALDWOSK_INLINE paldwosk_answer paldwosk_barrier_single_for(const paldwosk_task *task, uint32_t number,
+                                                            uint32_t milliseconds, void (*run)(void *data), void *data,
+                                                            uint64_t *phase) {
+  if (!task || !run) return PALDWOSK_NULL;
+  paldwosk_task mine = *task;
+  paldwosk_answer answer = paldwosk_call_in_time(&mine, PALDWOSK_CALL_SINGLE, number, milliseconds, phase);
+  return paldwosk_run_claimed(&mine, answer, run, data, phase);
+}
+
+/* paldwosk_barrier_single, which doesn't wait, but runs its statement if that is its turn. TIMED_OUT as of
+ * paldwosk_barrier_single_for. */
+PALDWOSK_MUST_CHECK
+PALDWOSK_INLINE paldwosk_answer paldwosk_barrier_try_single(const paldwosk_task *task, uint32_t number,
+                                                            void (*run)(void *data), void *data, uint64_t *phase) {
+  return paldwosk_barrier_single_for(task, number, 0, run, data, phase);
+}
+
+/* ---- Leaving, and looking on */
 
 /* The task leaves: no task waits for it any more. What it has sent counts. NOT_REGISTERED, also if it has left before;
  * NOT_NOW if it has proposed a single that isn't done. If another thread waits for this task, that call is
  * answered NOT_REGISTERED. */
 PALDWOSK_MUST_CHECK
-static inline paldwosk_answer paldwosk_barrier_leave(const paldwosk_task *task) {
+PALDWOSK_INLINE paldwosk_answer paldwosk_barrier_leave(const paldwosk_task *task) {
   paldwosk_answer entered = paldwosk_enter_by(task);
   if (entered != PALDWOSK_DONE) return entered;
   struct paldwosk_sleeper me = paldwosk_new_sleeper(task->number, PALDWOSK_CALL_WAIT, 0);
@@ -1357,8 +1622,8 @@ static inline paldwosk_answer paldwosk_barrier_leave(const paldwosk_task *task) 
  *     paldwosk_answer answer = paldwosk_barrier_missing(&barrier, missing, 256, &count);
  *     for (size_t at = 0; answer == PALDWOSK_DONE && at < count; at++) printf("task %" PRIu64 "\n", missing[at]); */
 PALDWOSK_MUST_CHECK
-static inline paldwosk_answer paldwosk_barrier_missing(paldwosk_barrier *barrier, uint64_t *tasks, size_t room,
-                                                       size_t *count) {
+PALDWOSK_INLINE paldwosk_answer paldwosk_barrier_missing(paldwosk_barrier *barrier, uint64_t *tasks, size_t room,
+                                                         size_t *count) {
   uint64_t missing[PALDWOSK_MOST_MEMBERS];
   paldwosk_answer answer = count && (tasks || !room) ? paldwosk_enter(barrier) : PALDWOSK_NULL;
   if (answer != PALDWOSK_DONE) return answer;
@@ -1375,7 +1640,7 @@ static inline paldwosk_answer paldwosk_barrier_missing(paldwosk_barrier *barrier
  * and whether to yield. No thread spins if there are more tasks than processors, or if threads sleep by a condition
  * variable. */
 PALDWOSK_MUST_CHECK
-static inline paldwosk_answer paldwosk_barrier_spin(paldwosk_barrier *barrier, uint32_t most) {
+PALDWOSK_INLINE paldwosk_answer paldwosk_barrier_spin(paldwosk_barrier *barrier, uint32_t most) {
   paldwosk_answer answer = paldwosk_enter(barrier);
   if (answer != PALDWOSK_DONE) return answer;
   if (most > UINT32_MAX / 4) most = UINT32_MAX / 4;
@@ -1386,12 +1651,14 @@ static inline paldwosk_answer paldwosk_barrier_spin(paldwosk_barrier *barrier, u
 }
 
 /* Writes the trace of what was done so far, as text (docs/formats.md). `./phaser_run replay` and paldwosk_replay
- * judge it, ./trace_picture draws it. It is a whole run: tasks that haven't left yet are told as ending now, after
- * their single, if one is under way. No NUL is added; *written is how many bytes the text has, even if the room is too
- * small for it. The text may be NULL if the room is 0. NOT_KEPT if the barrier keeps no trace; SHORT. */
+ * judge it, ./trace_picture draws it. It is a whole run, so a task that is still there has to end in it. That is told
+ * after its single, if one is under way, and by a refusal that no call of a barrier is answered. The report has the
+ * line `task 1 refused 21 NoFinish` for it, in place of `task 1 ended`. No NUL is added; *written is how many bytes the
+ * text has, even if the room is too small for it. The text may be NULL if the room is 0. NOT_KEPT if the barrier keeps
+ * no trace; SHORT. */
 PALDWOSK_MUST_CHECK
-static inline paldwosk_answer paldwosk_barrier_trace(paldwosk_barrier *barrier, char *text, size_t room,
-                                                     size_t *written) {
+PALDWOSK_INLINE paldwosk_answer paldwosk_barrier_trace(paldwosk_barrier *barrier, char *text, size_t room,
+                                                       size_t *written) {
   paldwosk_answer answer = written && (text || !room) ? paldwosk_enter(barrier) : PALDWOSK_NULL;
   if (answer != PALDWOSK_DONE) return answer;
   if (!barrier->trace) answer = PALDWOSK_NOT_KEPT;
@@ -1404,7 +1671,7 @@ static inline paldwosk_answer paldwosk_barrier_trace(paldwosk_barrier *barrier, 
 /* Whether a limit of the trace has come, so that it tells of the run up to there: 60,000 events of the phaser, a task
  * number over 4,095, or what no trace can tell: that a task sends, looks or joins another in the statement of its
  * single. */
-static inline int paldwosk_barrier_trace_ended(paldwosk_barrier *barrier) {
+PALDWOSK_INLINE int paldwosk_barrier_trace_ended(paldwosk_barrier *barrier) {
   if (paldwosk_enter(barrier) != PALDWOSK_DONE) return 0;
   int has_ended = barrier->trace && barrier->trace->has_ended;
   pthread_mutex_unlock(&barrier->lock);

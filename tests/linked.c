@@ -288,9 +288,9 @@ typedef struct answer_name {
 
 static const answer_name OTHERS[] = {
     {0, "Done"},        {24, "BadText"},    {25, "NotExplained"}, {26, "SharesDiffer"}, {32, "NotYet"},
-    {33, "Claimed"},    {34, "Nothing"},    {35, "NotKept"},      {36, "TooGreat"},     {64, "Null"},
-    {65, "Closed"},     {66, "Open"},       {67, "Short"},        {68, "BadMode"},      {69, "BadLimits"},
-    {70, "BadOperators"}, {71, "BadBound"}, {72, "BadTickets"}};
+    {33, "Claimed"},    {34, "Nothing"},    {35, "NotKept"},      {36, "TooGreat"},     {48, "TimedOut"},
+    {64, "Null"},       {65, "Closed"},     {66, "Open"},         {67, "Short"},        {68, "BadMode"},
+    {69, "BadLimits"},  {70, "BadOperators"}, {71, "BadBound"},   {72, "BadTickets"}};
 
 /* It begins with the name and the number, and has two parts: what the answer means, and what to do. */
 static void answer_text(int number, const char *name) {

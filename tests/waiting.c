@@ -19,6 +19,8 @@
  * waiting traced THREADS PHASES: a traced run, whose trace is replayed, and has the report worked out by hand.
  * waiting told: traces that are asked for in the midst of calls, that can't tell all, and that end at each of their
  *   events.
+ * waiting timed: calls with a time, each of which ends in time or later, and what goes on meanwhile.
+ * waiting hasty THREADS PHASES: turns of threads as in stress, whose calls have a time that is often too short.
  * waiting crowd SECONDS SEED VISITORS: so many threads that join, leave, and make any calls, at barriers with and
  *   without a trace.
  * Status 4: something wasn't as it must be, which standard error names. Status 5: there was no thread, or no memory. */
@@ -111,7 +113,7 @@ static int are_parked(paldwosk_barrier *barrier, unsigned count) {
 
 typedef struct call {
   paldwosk_task task;
-  int kind; /* 'n'ext, 's'ignal, 'w'ait, 1: the single of this number */
+  int kind; /* 'n'ext, 's'ignal, 'w'ait, in 'N' and 'W' with a minute's time, 1: the single of this number */
   paldwosk_answer answer;
   uint64_t phase;
   pthread_t thread;
@@ -124,6 +126,8 @@ static void *make_call(void *given) {
   if (it->kind == 'n') it->answer = paldwosk_barrier_next(&it->task, &it->phase);
   else if (it->kind == 's') it->answer = paldwosk_barrier_signal(&it->task);
   else if (it->kind == 'w') it->answer = paldwosk_barrier_wait(&it->task, &it->phase);
+  else if (it->kind == 'N') it->answer = paldwosk_barrier_next_for(&it->task, 60000, &it->phase);
+  else if (it->kind == 'W') it->answer = paldwosk_barrier_wait_for(&it->task, 60000, &it->phase);
   else it->answer = paldwosk_barrier_single(&it->task, (uint32_t)it->kind, nothing, NULL, &it->phase);
   MUST(errno == 77);
   return NULL;
@@ -188,10 +192,20 @@ static void wrong_pointers(void) {
     MUST(paldwosk_barrier_send(none[at], 0, 1) == PALDWOSK_NULL);
     MUST(paldwosk_barrier_look(none[at], 0, &value) == PALDWOSK_NULL);
     MUST(paldwosk_barrier_single(none[at], 1, nothing, NULL, &phase) == PALDWOSK_NULL);
+    MUST(paldwosk_barrier_next_for(none[at], 1, &phase) == PALDWOSK_NULL);
+    MUST(paldwosk_barrier_try_next(none[at], &phase) == PALDWOSK_NULL);
+    MUST(paldwosk_barrier_signal_for(none[at], 1) == PALDWOSK_NULL);
+    MUST(paldwosk_barrier_try_signal(none[at]) == PALDWOSK_NULL);
+    MUST(paldwosk_barrier_wait_for(none[at], 1, &phase) == PALDWOSK_NULL);
+    MUST(paldwosk_barrier_try_wait(none[at], &phase) == PALDWOSK_NULL);
+    MUST(paldwosk_barrier_single_for(none[at], 1, 1, nothing, NULL, &phase) == PALDWOSK_NULL);
+    MUST(paldwosk_barrier_try_single(none[at], 1, nothing, NULL, &phase) == PALDWOSK_NULL);
     MUST(paldwosk_barrier_leave(none[at]) == PALDWOSK_NULL);
   }
   MUST(paldwosk_barrier_look(&task, 0, NULL) == PALDWOSK_NULL);
   MUST(paldwosk_barrier_single(&task, 1, NULL, NULL, &phase) == PALDWOSK_NULL);
+  MUST(paldwosk_barrier_single_for(&task, 1, 1, NULL, NULL, &phase) == PALDWOSK_NULL);
+  MUST(paldwosk_barrier_try_single(&task, 1, NULL, NULL, &phase) == PALDWOSK_NULL);
   MUST(paldwosk_barrier_spin(NULL, 1) == PALDWOSK_NULL);
   MUST(paldwosk_barrier_missing(NULL, &phase, 1, &written) == PALDWOSK_NULL);
   MUST(paldwosk_barrier_missing(&barrier, &phase, 1, NULL) == PALDWOSK_NULL);
@@ -203,8 +217,9 @@ static void wrong_pointers(void) {
   MUST(!paldwosk_barrier_trace_ended(NULL) && !paldwosk_barrier_trace_ended(&barrier));
   MUST(value == 77 && phase == 77 && written == 77);
   DONE(paldwosk_barrier_next(&task, NULL)); /* nothing was signalled; and the phase isn't wanted */
+  DONE(paldwosk_barrier_next_for(&task, 1, NULL));
   DONE(paldwosk_barrier_next(&task, &phase));
-  MUST(phase == 1);
+  MUST(phase == 2);
   DONE(paldwosk_barrier_free(&barrier));
 }
 
@@ -279,11 +294,16 @@ static void wrong_modes(void) {
   DONE(paldwosk_barrier_join(&all, PALDWOSK_SIG, &signals));
   DONE(paldwosk_barrier_join(&all, PALDWOSK_WAIT, &waits));
   MUST(paldwosk_barrier_next(&waits, &phase) == PALDWOSK_NO_SIGNAL);
+  MUST(paldwosk_barrier_next_for(&waits, 1, &phase) == PALDWOSK_NO_SIGNAL);
+  MUST(paldwosk_barrier_try_signal(&waits) == PALDWOSK_NO_SIGNAL);
   MUST(paldwosk_barrier_signal(&waits) == PALDWOSK_NO_SIGNAL);
   MUST(paldwosk_barrier_send(&waits, 0, 1) == PALDWOSK_NO_SIGNAL);
   MUST(paldwosk_barrier_look(&signals, 0, &value) == PALDWOSK_NO_WAIT);
   MUST(paldwosk_barrier_single(&all, 1, nothing, NULL, &phase) == PALDWOSK_NO_SINGLE);
   MUST(paldwosk_barrier_wait(&all, &phase) == PALDWOSK_NOT_SIGNALLED);
+  MUST(paldwosk_barrier_wait_for(&all, 1, &phase) == PALDWOSK_NOT_SIGNALLED);
+  MUST(paldwosk_barrier_try_wait(&all, &phase) == PALDWOSK_NOT_SIGNALLED);
+  MUST(paldwosk_barrier_try_single(&all, 1, nothing, NULL, &phase) == PALDWOSK_NO_SINGLE);
   DONE(paldwosk_barrier_signal(&all));
   MUST(paldwosk_barrier_signal(&all) == PALDWOSK_ALREADY_SIGNALLED);
   MUST(paldwosk_barrier_next(&all, &phase) == PALDWOSK_ALREADY_SIGNALLED && phase == 77);
@@ -320,6 +340,7 @@ static void wrong_tasks(void) {
   MUST(paldwosk_barrier_single(&tasks[0], 1, nothing, NULL, NULL) == PALDWOSK_CLOSED);
   MUST(paldwosk_barrier_send(&tasks[0], 0, 1) == PALDWOSK_CLOSED);
   MUST(paldwosk_barrier_look(&tasks[0], 0, &value) == PALDWOSK_CLOSED);
+  MUST(paldwosk_barrier_try_next(&tasks[0], NULL) == PALDWOSK_CLOSED);
   MUST(paldwosk_barrier_leave(&tasks[0]) == PALDWOSK_CLOSED);
   MUST(paldwosk_barrier_join(&tasks[0], PALDWOSK_SIG, &more) == PALDWOSK_CLOSED);
   MUST(paldwosk_barrier_make(&barrier, PALDWOSK_SIG, &more) == PALDWOSK_CLOSED);
@@ -343,6 +364,7 @@ static void wrong_moments(void) {
   MUST(paldwosk_barrier_wait(&tasks[0], NULL) == PALDWOSK_NOT_NOW);
   MUST(paldwosk_barrier_signal(&tasks[0]) == PALDWOSK_NOT_NOW);
   MUST(paldwosk_barrier_single(&tasks[0], 1, nothing, NULL, NULL) == PALDWOSK_NOT_NOW);
+  MUST(paldwosk_barrier_next_for(&tasks[0], 1, NULL) == PALDWOSK_NOT_NOW); /* another thread has its call */
   begin_call(&second, tasks[1], 5); /* it proposes single 5 */
   MUST(are_parked(&barrier, 2));
   MUST(paldwosk_barrier_single(&tasks[2], 6, nothing, NULL, NULL) == PALDWOSK_SINGLE_MISMATCH);
@@ -398,6 +420,7 @@ static void in_statement(void *given) {
   MUST(paldwosk_barrier_leave(&it->task) == PALDWOSK_NOT_NOW);
   MUST(paldwosk_barrier_signal(&it->task) == PALDWOSK_ALREADY_SIGNALLED);
   MUST(paldwosk_barrier_wait(&it->task, NULL) == PALDWOSK_NOT_NOW);
+  MUST(paldwosk_barrier_try_wait(&it->task, NULL) == PALDWOSK_NOT_NOW);
   DONE(paldwosk_barrier_send(&it->task, 0, 40)); /* for the next phase */
   DONE(paldwosk_barrier_join(&it->task, PALDWOSK_SIG, &child));
   DONE(paldwosk_barrier_leave(&child));
@@ -602,17 +625,37 @@ static size_t count_of(const char *text, const char *word) {
   return count;
 }
 
+/* What is said to standard error from here on is listened to. */
+static struct ear {
+  int ends[2], kept;
+} ear;
+
+static void listen_to_errors(void) {
+  ear.kept = dup(STDERR_FILENO);
+  if (ear.kept < 0 || pipe(ear.ends) != 0 || dup2(ear.ends[1], STDERR_FILENO) < 0) exit(5);
+}
+
+/* Leaves in `said` what was said since, and listens no longer. */
+static void hear(char *said, size_t room) {
+  size_t length = 0;
+  if (dup2(ear.kept, STDERR_FILENO) < 0) exit(5);
+  close(ear.kept);
+  close(ear.ends[1]);
+  for (ssize_t got; (got = read(ear.ends[0], said + length, room - 1 - length)) > 0;) length += (size_t)got;
+  said[length] = 0;
+  close(ear.ends[0]);
+}
+
 /* Half of the tasks wait, the others come after three and a half seconds. What was said to standard error meanwhile is
  * left in `said`. */
 static void wait_for_long(int way, int count, char *said, size_t room) {
   static call calls[THREADS];
   paldwosk_barrier barrier;
   paldwosk_task tasks[THREADS] = {PALDWOSK_NO_TASK};
-  int ends[2], kept = dup(STDERR_FILENO);
   make_in_turn(&barrier, way, 2, tasks, count);
   for (int at = 0; at < count; at++) DONE(paldwosk_barrier_signal(&tasks[at]));
   for (int at = 0; at < count; at++) DONE(paldwosk_barrier_wait(&tasks[at], NULL));
-  if (kept < 0 || pipe(ends) != 0 || dup2(ends[1], STDERR_FILENO) < 0) exit(5);
+  listen_to_errors();
   for (int at = 0; at < count / 2; at++) {
     begin_call(&calls[at], tasks[at], 'n');
     MUST(are_parked(&barrier, (unsigned)at + 1)); /* so they wait in the order of their numbers */
@@ -620,13 +663,22 @@ static void wait_for_long(int way, int count, char *said, size_t room) {
   rest(3500);
   for (int at = count / 2; at < count; at++) DONE(paldwosk_barrier_signal(&tasks[at]));
   for (int at = 0; at < count / 2; at++) end_call(&calls[at], PALDWOSK_DONE, 1);
-  if (dup2(kept, STDERR_FILENO) < 0) exit(5);
-  close(kept);
-  close(ends[1]);
-  size_t length = 0;
-  for (ssize_t got; (got = read(ends[0], said + length, room - 1 - length)) > 0;) length += (size_t)got;
-  said[length] = 0;
-  close(ends[0]);
+  hear(said, room);
+  DONE(paldwosk_barrier_free(&barrier));
+}
+
+/* Task 0 waits for three and a half seconds, and says so after two; then for one, which isn't worth a line. */
+static void wait_in_time(int way) {
+  static char said[1 << 12];
+  paldwosk_barrier barrier;
+  paldwosk_task tasks[2] = {PALDWOSK_NO_TASK};
+  make_in_turn(&barrier, way, 2, tasks, 2);
+  listen_to_errors();
+  MUST(paldwosk_barrier_next_for(&tasks[0], 3500, NULL) == PALDWOSK_TIMED_OUT);
+  MUST(paldwosk_barrier_next_for(&tasks[0], 1000, NULL) == PALDWOSK_TIMED_OUT);
+  hear(said, sizeof said);
+  MUST(!strcmp(said, "paldwosk: task 0 waits for more than 2 s; waiting: 0 (phase 0); missing: 1\n"));
+  DONE(paldwosk_barrier_leave(&tasks[0]));
   DONE(paldwosk_barrier_free(&barrier));
 }
 
@@ -666,6 +718,7 @@ static void watched(void) {
     MUST(count_of(said, last) == 1 && count_of(said, "\n") == 2);
     MUST(count_of(said, "paldwosk: task 0 waits for more than 2 s; waiting: 0 (phase 1)") == 1);
     if (count_of(said, last) != 1) fprintf(stderr, "%s", said);
+    wait_in_time(way);
   }
   wait_for_long(0, 36, said, sizeof said); /* 16 of the 18 of each kind are named */
   size_t length = (size_t)snprintf(wanted, sizeof wanted, "paldwosk: task 17 waits for more than 2 s; waiting:");
@@ -843,6 +896,7 @@ static void in_child(paldwosk_barrier *barrier, paldwosk_task *tasks) {
   MUST(paldwosk_barrier_signal(&tasks[0]) == PALDWOSK_CLOSED);
   MUST(paldwosk_barrier_wait(&tasks[0], &phase) == PALDWOSK_CLOSED);
   MUST(paldwosk_barrier_single(&tasks[0], 1, nothing, NULL, &phase) == PALDWOSK_CLOSED);
+  MUST(paldwosk_barrier_next_for(&tasks[0], 60000, &phase) == PALDWOSK_CLOSED);
   MUST(paldwosk_barrier_send(&tasks[0], 0, 1) == PALDWOSK_CLOSED);
   MUST(paldwosk_barrier_look(&tasks[0], 0, &value) == PALDWOSK_CLOSED);
   MUST(paldwosk_barrier_leave(&tasks[0]) == PALDWOSK_CLOSED);
@@ -919,7 +973,7 @@ static void interrupted(void) {
 
 /* ---- Cancellation */
 
-static int has_returned;
+static int has_returned, has_time;
 
 static void leave(void *given) { DONE(paldwosk_barrier_leave((paldwosk_task *)given)); }
 
@@ -940,8 +994,10 @@ static void *is_cancelled_outside(void *given) {
 
 /* It is cancelled while it waits: the call goes on until it is over. */
 static void *is_cancelled_inside(void *given) {
+  paldwosk_task *task = (paldwosk_task *)given;
   pthread_cleanup_push(leave, given);
-  DONE(paldwosk_barrier_next((paldwosk_task *)given, NULL));
+  if (has_time) DONE(paldwosk_barrier_next_for(task, 60000, NULL));
+  else DONE(paldwosk_barrier_next(task, NULL));
   __atomic_store_n(&has_returned, 1, __ATOMIC_RELAXED);
   pthread_testcancel();
   MUST(0 && "it goes on after it was cancelled");
@@ -949,12 +1005,13 @@ static void *is_cancelled_inside(void *given) {
   return NULL;
 }
 
-static void cancelled(void) {
+static void cancelled_in(int in_time) {
   paldwosk_barrier barrier;
   paldwosk_task tasks[3] = {PALDWOSK_NO_TASK};
   pthread_t outside, within;
   void *result = NULL;
-  UNCHECKED(&has_returned, sizeof has_returned);
+  has_time = in_time;
+  has_returned = 0;
   make_party(&barrier, tasks, 3);
   start(&outside, is_cancelled_outside, &tasks[1]);
   start(&within, is_cancelled_inside, &tasks[2]);
@@ -975,12 +1032,18 @@ static void cancelled(void) {
   DONE(paldwosk_barrier_free(&barrier));
 }
 
+static void cancelled(void) {
+  UNCHECKED(&has_returned, sizeof has_returned);
+  cancelled_in(0);
+  cancelled_in(1);
+}
+
 /* ---- Turns of threads */
 
 typedef struct party {
   paldwosk_barrier barrier;
   paldwosk_task tasks[THREADS];
-  int threads, phases;
+  int threads, phases, are_hasty;
   int64_t arrived[THREADS]; /* atomic: how many phases each thread has come to the end of */
   int64_t written[THREADS]; /* not atomic: the barrier alone orders who writes and who reads it */
   int64_t ran;              /* not atomic either */
@@ -1005,6 +1068,20 @@ static void run_members(void *(*body)(void *)) {
   for (int at = 0; at < the_party.threads; at++) pthread_join(members[at].thread, NULL);
 }
 
+/* The same with times that are often too short: 0 to 2 ms. Some wait without a time in the end. */
+static void end_turn_in_haste(const paldwosk_task *task, int by_two, uint64_t *phase) {
+  paldwosk_answer answer = by_two ? paldwosk_barrier_signal_for(task, 1) : paldwosk_barrier_try_next(task, phase);
+  if (by_two) MUST(answer == PALDWOSK_DONE); /* no bound holds it back */
+  if (by_two) answer = paldwosk_barrier_try_wait(task, phase);
+  for (uint32_t tries = 0; answer == PALDWOSK_TIMED_OUT; tries++) {
+    MUST(paldwosk_barrier_signal(task) == PALDWOSK_NOT_NOW);
+    if (by_two) answer = paldwosk_barrier_wait_for(task, tries % 3, phase);
+    else if (tries == 2) answer = paldwosk_barrier_next(task, phase);
+    else answer = paldwosk_barrier_next_for(task, tries % 3, phase);
+  }
+  DONE(answer);
+}
+
 /* Some end their turn by one call, and some by two. */
 static void end_turn(const paldwosk_task *task, int by_two, uint64_t *phase) {
   if (!by_two) DONE(paldwosk_barrier_next(task, phase));
@@ -1026,7 +1103,9 @@ static void *take_turns(void *given) {
     DONE(paldwosk_barrier_send(task, 0, (int32_t)(7 * me->index + at)));
     if (at % 2 == 0) all->written[me->index] = at;
     __atomic_store_n(&all->arrived[me->index], at + 1, __ATOMIC_RELEASE);
-    end_turn(task, (at + me->index) % 3 == 0, &phase);
+    int by_two = (at + me->index) % 3 == 0;
+    if (all->are_hasty && (at + me->index) % 4) end_turn_in_haste(task, by_two, &phase);
+    else end_turn(task, by_two, &phase);
     MUST(phase == (uint64_t)at);
     for (int other = 0; other < threads; other++) {
       MUST(__atomic_load_n(&all->arrived[other], __ATOMIC_ACQUIRE) > at);
@@ -1039,7 +1118,8 @@ static void *take_turns(void *given) {
   return NULL;
 }
 
-static void stress(int threads, int phases, uint32_t most) {
+static void stress(int threads, int phases, uint32_t most, int are_hasty) {
+  the_party.are_hasty = are_hasty;
   the_party.threads = threads;
   the_party.phases = phases;
   make_party(&the_party.barrier, the_party.tasks, threads);
@@ -1409,12 +1489,363 @@ static void told_to_each_event(void) {
   MUST(events == 31);
 }
 
+/* Task 0 waits, task 1 has left, task 2 hasn't signalled. The ends of 0 and 2 are the text's alone, and it says so. */
+static void told_of_a_hang(void) {
+  paldwosk_barrier barrier;
+  paldwosk_task root = PALDWOSK_NO_TASK, child = PALDWOSK_NO_TASK, late = PALDWOSK_NO_TASK;
+  make_traced(&barrier, 2, &root);
+  DONE(paldwosk_barrier_join(&root, PALDWOSK_SIG_WAIT, &child));
+  DONE(paldwosk_barrier_join(&root, PALDWOSK_SIG_WAIT, &late));
+  DONE(paldwosk_barrier_leave(&child));
+  MUST(paldwosk_barrier_try_next(&root, NULL) == PALDWOSK_TIMED_OUT);
+  MUST(tells(&barrier, "task 0 refused 21 NoFinish\ntask 1 ended\ntask 2 refused 21 NoFinish\nfinish 0 tasks 2\n"));
+  MUST(tells(&barrier, "totals registered 3 signals 1 passes 0 drops 3 sends 0 up 0 down 0\n"));
+  MUST(has_word(&barrier, "\"t\",2,\"refuse\",[\"shut\"],21]"));
+  DONE(paldwosk_barrier_leave(&late));
+  MUST(tells(&barrier, "task 0 refused 21 NoFinish\ntask 1 ended\ntask 2 ended\n")); /* it passed, and is still there */
+  DONE(paldwosk_barrier_leave(&root));
+  MUST(tells(&barrier, "task 0 ended\ntask 1 ended\ntask 2 ended\n") && !has_word(&barrier, "refuse"));
+  DONE(paldwosk_barrier_free(&barrier));
+}
+
+/* What is told of calls whose time is over. Task 1 sends while its `next` goes on, so that is told as two acts. The
+ * sends 7 and 5 are of the phases 0 and 1. */
+static void told_in_time(void) {
+  paldwosk_barrier barrier;
+  paldwosk_task root = PALDWOSK_NO_TASK, child = PALDWOSK_NO_TASK;
+  int64_t value = 77;
+  make_traced(&barrier, 2, &root);
+  DONE(paldwosk_barrier_join(&root, PALDWOSK_SINGLE, &child));
+  DONE(paldwosk_barrier_send(&child, 0, 7));
+  MUST(paldwosk_barrier_next_for(&child, 5, NULL) == PALDWOSK_TIMED_OUT);
+  DONE(paldwosk_barrier_send(&child, 0, 5));
+  DONE(paldwosk_barrier_next(&root, NULL));
+  DONE(paldwosk_barrier_look(&child, 0, &value)); /* it has passed, though it doesn't know yet */
+  MUST(value == 7);
+  DONE(paldwosk_barrier_try_next(&child, NULL));
+  MUST(paldwosk_barrier_try_single(&child, 3, nothing, NULL, NULL) == PALDWOSK_TIMED_OUT);
+  MUST(tells(&barrier, "totals registered 2 signals 3 passes 3 drops 2 sends 2 up 12 down 0\n"));
+  MUST(paldwosk_barrier_try_next(&root, NULL) == PALDWOSK_TIMED_OUT); /* the single isn't done */
+  DONE(paldwosk_barrier_single(&child, 3, nothing, NULL, NULL));
+  DONE(paldwosk_barrier_try_next(&root, NULL));
+  DONE(paldwosk_barrier_leave(&root));
+  DONE(paldwosk_barrier_leave(&child));
+  MUST(tells(&barrier, "phaser 0 phases 2\nphaser 0 phase 0 acc 0 value 7\nphaser 0 phase 1 acc 0 value 5\n"));
+  MUST(tells(&barrier, "task 0 ended\ntask 1 ended\nfinish 0 tasks 1\n"
+                       "totals registered 2 signals 4 passes 4 drops 2 sends 2 up 12 down 0\n"));
+  MUST(has_word(&barrier, "\"t\",1,\"begin\",[\"signal\"]]") && has_word(&barrier, "\"t\",1,\"begin\",[\"wait\"]]"));
+  MUST(!paldwosk_barrier_trace_ended(&barrier));
+  DONE(paldwosk_barrier_free(&barrier));
+}
+
 static void told(void) {
+  told_of_a_hang();
+  told_in_time();
   told_midway();
   told_in_parts();
   told_to_a_statement();
   told_to_a_number();
   told_to_each_event();
+}
+
+/* ---- Calls with a time */
+
+static int64_t milliseconds(void) {
+  struct timespec now = paldwosk_now();
+  return (int64_t)now.tv_sec * 1000 + now.tv_nsec / 1000000;
+}
+
+/* The signal is made once: who comes back waits for what it has begun. Sent are 3 and 4 in phase 0, and 5 after task 0
+ * has signalled that, so in phase 1. */
+static void next_runs_out(int way) {
+  paldwosk_barrier barrier;
+  paldwosk_task tasks[2] = {PALDWOSK_NO_TASK};
+  uint64_t phase = 77;
+  int64_t value = 77, began = milliseconds();
+  make_in_turn(&barrier, way, 2, tasks, 2);
+  DONE(paldwosk_barrier_send(&tasks[0], 0, 3));
+  errno = 77;
+  MUST(paldwosk_barrier_next_for(&tasks[0], 100, &phase) == PALDWOSK_TIMED_OUT);
+  int64_t took = milliseconds() - began;
+  MUST(took >= 100 && took < 20000);
+  MUST(are_parked(&barrier, 1) && barrier.inside == 0 && misses(&barrier, "1"));
+  MUST(paldwosk_barrier_next_for(&tasks[0], 1, &phase) == PALDWOSK_TIMED_OUT);
+  MUST(paldwosk_barrier_try_next(&tasks[0], &phase) == PALDWOSK_TIMED_OUT);
+  MUST(phase == 77 && errno == 77 && are_parked(&barrier, 1) && barrier.inside == 0);
+  DONE(paldwosk_barrier_send(&tasks[0], 0, 5));
+  DONE(paldwosk_barrier_send(&tasks[1], 0, 4));
+  DONE(paldwosk_barrier_try_next(&tasks[1], &phase));
+  MUST(phase == 0 && are_parked(&barrier, 0));
+  phase = 77;
+  DONE(paldwosk_barrier_try_next(&tasks[0], &phase));
+  DONE(paldwosk_barrier_look(&tasks[0], 0, &value));
+  MUST(phase == 0 && value == 7);
+  MUST(paldwosk_barrier_try_next(&tasks[1], NULL) == PALDWOSK_TIMED_OUT);
+  DONE(paldwosk_barrier_next_for(&tasks[0], 60000, &phase));
+  DONE(paldwosk_barrier_next(&tasks[1], NULL));
+  DONE(paldwosk_barrier_look(&tasks[0], 0, &value));
+  MUST(phase == 1 && value == 5);
+  DONE(paldwosk_barrier_free(&barrier));
+}
+
+/* Whatever is not the same call is refused, before its answer has come and then. */
+static void refuses_other_calls(const paldwosk_task *task, int is_next) {
+  if (!is_next) MUST(paldwosk_barrier_next(task, NULL) == PALDWOSK_NOT_NOW);
+  if (!is_next) MUST(paldwosk_barrier_next_for(task, 1, NULL) == PALDWOSK_NOT_NOW);
+  if (!is_next) MUST(paldwosk_barrier_try_next(task, NULL) == PALDWOSK_NOT_NOW);
+  if (is_next) MUST(paldwosk_barrier_wait(task, NULL) == PALDWOSK_NOT_NOW);
+  if (is_next) MUST(paldwosk_barrier_wait_for(task, 1, NULL) == PALDWOSK_NOT_NOW);
+  if (is_next) MUST(paldwosk_barrier_try_wait(task, NULL) == PALDWOSK_NOT_NOW);
+  MUST(paldwosk_barrier_signal(task) == PALDWOSK_NOT_NOW);
+  MUST(paldwosk_barrier_signal_for(task, 1) == PALDWOSK_NOT_NOW);
+  MUST(paldwosk_barrier_try_signal(task) == PALDWOSK_NOT_NOW);
+  MUST(paldwosk_barrier_single(task, 1, nothing, NULL, NULL) == PALDWOSK_NOT_NOW);
+  MUST(paldwosk_barrier_single_for(task, 1, 1, nothing, NULL, NULL) == PALDWOSK_NOT_NOW);
+  MUST(paldwosk_barrier_try_single(task, 1, nothing, NULL, NULL) == PALDWOSK_NOT_NOW);
+}
+
+static void others_are_refused(int way) {
+  paldwosk_barrier barrier;
+  paldwosk_task tasks[2] = {PALDWOSK_NO_TASK};
+  for (int is_next = 0; is_next < 2; is_next++) {
+    make_in_turn(&barrier, way, 2, tasks, 2);
+    if (is_next) MUST(paldwosk_barrier_try_next(&tasks[0], NULL) == PALDWOSK_TIMED_OUT);
+    else DONE(paldwosk_barrier_signal(&tasks[0]));
+    if (!is_next) MUST(paldwosk_barrier_try_wait(&tasks[0], NULL) == PALDWOSK_TIMED_OUT);
+    refuses_other_calls(&tasks[0], is_next);
+    MUST(paldwosk_barrier_free(&barrier) == PALDWOSK_NOT_NOW);
+    DONE(paldwosk_barrier_next(&tasks[1], NULL));
+    refuses_other_calls(&tasks[0], is_next);
+    DONE(is_next ? paldwosk_barrier_next(&tasks[0], NULL) : paldwosk_barrier_wait(&tasks[0], NULL));
+    MUST(paldwosk_barrier_try_wait(&tasks[0], NULL) == PALDWOSK_NOT_SIGNALLED);
+    DONE(paldwosk_barrier_free(&barrier)); /* and with an answer that nobody has taken: */
+    make_in_turn(&barrier, way, 2, tasks, 2);
+    MUST(paldwosk_barrier_try_next(&tasks[0], NULL) == PALDWOSK_TIMED_OUT);
+    DONE(paldwosk_barrier_next(&tasks[1], NULL));
+    DONE(paldwosk_barrier_free(&barrier));
+  }
+}
+
+/* One party never waits. */
+static void tries_succeed_at_once(int way) {
+  paldwosk_barrier barrier;
+  paldwosk_task task = PALDWOSK_NO_TASK;
+  uint64_t phase = 77;
+  int64_t runs = 0, began = milliseconds();
+  make_in_turn(&barrier, way, 2, &task, 1);
+  DONE(paldwosk_barrier_try_next(&task, &phase));
+  MUST(phase == 0);
+  DONE(paldwosk_barrier_next_for(&task, 60000, &phase));
+  MUST(phase == 1);
+  DONE(paldwosk_barrier_try_signal(&task));
+  DONE(paldwosk_barrier_try_wait(&task, &phase));
+  MUST(phase == 2);
+  DONE(paldwosk_barrier_signal_for(&task, 60000));
+  DONE(paldwosk_barrier_wait_for(&task, 60000, &phase));
+  MUST(phase == 3);
+  DONE(paldwosk_barrier_try_single(&task, 4, count_run, &runs, &phase));
+  MUST(phase == 4 && runs == 1);
+  DONE(paldwosk_barrier_single_for(&task, 4, 60000, count_run, &runs, &phase));
+  MUST(phase == 5 && runs == 2 && milliseconds() - began < 20000 && !barrier.overdue);
+  DONE(paldwosk_barrier_free(&barrier));
+}
+
+/* Task 0 tries and doesn't come back yet. The others pass phase 0 all the same, and wait for it in phase 1. */
+static void others_go_on(int way) {
+  paldwosk_barrier barrier;
+  paldwosk_task tasks[3] = {PALDWOSK_NO_TASK};
+  call first, second;
+  uint64_t phase = 77;
+  make_in_turn(&barrier, way, 2, tasks, 3);
+  begin_call(&first, tasks[1], 'n');
+  MUST(are_parked(&barrier, 1));
+  MUST(paldwosk_barrier_next_for(&tasks[0], 5, NULL) == PALDWOSK_TIMED_OUT);
+  MUST(are_parked(&barrier, 2));
+  begin_call(&second, tasks[2], 'N');
+  end_call(&first, PALDWOSK_DONE, 0);
+  end_call(&second, PALDWOSK_DONE, 0);
+  begin_call(&first, tasks[1], 'N');
+  begin_call(&second, tasks[2], 'n');
+  MUST(are_parked(&barrier, 2) && misses(&barrier, "0"));
+  DONE(paldwosk_barrier_try_next(&tasks[0], &phase));
+  MUST(phase == 0 && are_parked(&barrier, 2));
+  DONE(paldwosk_barrier_try_next(&tasks[0], &phase));
+  MUST(phase == 1);
+  end_call(&first, PALDWOSK_DONE, 1);
+  end_call(&second, PALDWOSK_DONE, 1);
+  DONE(paldwosk_barrier_free(&barrier));
+}
+
+/* Who comes back without a time sleeps until it is woken, and so does who comes back with one. */
+static void who_comes_back_is_woken(int way) {
+  paldwosk_barrier barrier;
+  paldwosk_task tasks[2] = {PALDWOSK_NO_TASK};
+  call waiter;
+  for (int kind = 0; kind < 4; kind++) {
+    make_in_turn(&barrier, way, 2, tasks, 2);
+    DONE(paldwosk_barrier_spin(&barrier, kind == 2 ? 1 << 20 : 0));
+    if (kind < 2) DONE(paldwosk_barrier_signal(&tasks[0]));
+    MUST((kind < 2 ? paldwosk_barrier_try_wait(&tasks[0], NULL) : paldwosk_barrier_try_next(&tasks[0], NULL)) ==
+         PALDWOSK_TIMED_OUT);
+    begin_call(&waiter, tasks[0], "wWnN"[kind]);
+    rest(20);
+    MUST(are_parked(&barrier, 1));
+    DONE(paldwosk_barrier_signal(&tasks[1]));
+    end_call(&waiter, PALDWOSK_DONE, 0);
+    DONE(paldwosk_barrier_wait_for(&tasks[1], 0, NULL));
+    DONE(paldwosk_barrier_free(&barrier));
+  }
+}
+
+/* The bound is 1: the signal of phase 1 is held until task 2 has waited for phase 0. It is made though nobody comes
+ * back for it, so that task 2 passes phase 1. While it is held the 9 that is sent counts for phase 1. */
+static void bound_runs_out(int way) {
+  paldwosk_barrier barrier;
+  paldwosk_task root = PALDWOSK_NO_TASK, signals = PALDWOSK_NO_TASK, waits = PALDWOSK_NO_TASK;
+  uint64_t phase = 77;
+  int64_t value = 77;
+  make_in_turn(&barrier, way, 1, &root, 1);
+  DONE(paldwosk_barrier_join(&root, PALDWOSK_SIG, &signals));
+  DONE(paldwosk_barrier_join(&root, PALDWOSK_WAIT, &waits));
+  DONE(paldwosk_barrier_leave(&root));
+  DONE(paldwosk_barrier_next(&signals, NULL));
+  MUST(paldwosk_barrier_signal_for(&signals, 5) == PALDWOSK_TIMED_OUT && misses(&barrier, "2"));
+  MUST(paldwosk_barrier_try_signal(&signals) == PALDWOSK_TIMED_OUT);
+  MUST(paldwosk_barrier_try_wait(&signals, NULL) == PALDWOSK_NOT_NOW);
+  DONE(paldwosk_barrier_send(&signals, 0, 9));
+  DONE(paldwosk_barrier_try_wait(&waits, NULL));
+  DONE(paldwosk_barrier_try_wait(&waits, &phase));
+  DONE(paldwosk_barrier_look(&waits, 0, &value));
+  MUST(phase == 1 && value == 9);
+  DONE(paldwosk_barrier_try_signal(&signals));
+  DONE(paldwosk_barrier_try_wait(&signals, &phase));
+  MUST(phase == 1);
+  DONE(paldwosk_barrier_next(&signals, NULL)); /* of phase 2; now the same for a next */
+  MUST(paldwosk_barrier_next_for(&signals, 5, &phase) == PALDWOSK_TIMED_OUT && misses(&barrier, "2"));
+  MUST(paldwosk_barrier_try_wait(&waits, NULL) == PALDWOSK_DONE && misses(&barrier, ""));
+  DONE(paldwosk_barrier_try_wait(&waits, &phase));
+  MUST(phase == 3);
+  MUST(paldwosk_barrier_try_wait(&waits, NULL) == PALDWOSK_TIMED_OUT);
+  DONE(paldwosk_barrier_next(&signals, &phase));
+  MUST(phase == 3 && misses(&barrier, "1"));
+  DONE(paldwosk_barrier_leave(&signals));
+  DONE(paldwosk_barrier_try_wait(&waits, &phase));
+  MUST(phase == 4);
+  DONE(paldwosk_barrier_free(&barrier));
+}
+
+/* Whether somebody has claimed a single, in time. */
+static int is_claimed(paldwosk_barrier *barrier) {
+  for (int tried = 0; tried < 20000; tried++, rest(1)) {
+    pthread_mutex_lock(&barrier->lock);
+    uint32_t coming = barrier->coming;
+    pthread_mutex_unlock(&barrier->lock);
+    if (coming) return 1;
+  }
+  return 0;
+}
+
+/* Task 0 proposes and goes. Once task 1 has signalled it is task 0 that runs the statement, when it comes back. */
+static void single_runs_out(int way) {
+  paldwosk_barrier barrier;
+  paldwosk_task tasks[2] = {PALDWOSK_NO_TASK};
+  call next;
+  uint64_t phase = 77;
+  int64_t runs = 0;
+  make_in_turn(&barrier, way, 2, tasks, 2);
+  MUST(paldwosk_barrier_single_for(&tasks[0], 7, 5, count_run, &runs, &phase) == PALDWOSK_TIMED_OUT);
+  MUST(paldwosk_barrier_try_single(&tasks[0], 8, count_run, &runs, &phase) == PALDWOSK_NOT_NOW);
+  MUST(paldwosk_barrier_leave(&tasks[0]) == PALDWOSK_NOT_NOW && misses(&barrier, "1"));
+  begin_call(&next, tasks[1], 'N');
+  MUST(is_claimed(&barrier) && misses(&barrier, "0")); /* the call of task 0 is answered: it claims the single */
+  MUST(paldwosk_barrier_wait(&tasks[0], NULL) == PALDWOSK_NOT_NOW);
+  MUST(paldwosk_barrier_leave(&tasks[0]) == PALDWOSK_NOT_NOW && paldwosk_barrier_free(&barrier) == PALDWOSK_NOT_NOW);
+  MUST(runs == 0 && phase == 77);
+  DONE(paldwosk_barrier_try_single(&tasks[0], 7, count_run, &runs, &phase));
+  MUST(runs == 1 && phase == 0);
+  end_call(&next, PALDWOSK_DONE, 0);
+  DONE(paldwosk_barrier_leave(&tasks[0]));
+  DONE(paldwosk_barrier_free(&barrier));
+}
+
+/* Both are held by the bound, with two numbers. The second is refused while nobody waits, and learns it later. */
+static void refusal_comes_later(int way) {
+  paldwosk_barrier barrier;
+  paldwosk_task tasks[2] = {PALDWOSK_NO_TASK}, waits = PALDWOSK_NO_TASK;
+  int64_t runs = 0;
+  make_in_turn(&barrier, way, 1, tasks, 1);
+  DONE(paldwosk_barrier_join(&tasks[0], PALDWOSK_WAIT, &waits));
+  DONE(paldwosk_barrier_next(&tasks[0], NULL));
+  DONE(paldwosk_barrier_join(&tasks[0], PALDWOSK_SINGLE, &tasks[1]));
+  MUST(paldwosk_barrier_try_single(&tasks[0], 5, count_run, &runs, NULL) == PALDWOSK_TIMED_OUT);
+  MUST(paldwosk_barrier_try_single(&tasks[1], 6, count_run, &runs, NULL) == PALDWOSK_TIMED_OUT);
+  DONE(paldwosk_barrier_wait(&waits, NULL));
+  MUST(paldwosk_barrier_single(&tasks[1], 6, count_run, &runs, NULL) == PALDWOSK_SINGLE_MISMATCH && runs == 0);
+  MUST(paldwosk_barrier_try_next(&tasks[1], NULL) == PALDWOSK_TIMED_OUT);
+  DONE(paldwosk_barrier_single(&tasks[0], 5, count_run, &runs, NULL));
+  DONE(paldwosk_barrier_try_next(&tasks[1], NULL));
+  MUST(runs == 1);
+  DONE(paldwosk_barrier_free(&barrier));
+}
+
+/* It leaves while its call goes on, and after its answer has come, again and again; and all tasks' calls go on at
+ * once. */
+static void who_ran_out_leaves(int way) {
+  paldwosk_barrier barrier;
+  paldwosk_task tasks[THREADS] = {PALDWOSK_NO_TASK}, child = PALDWOSK_NO_TASK;
+  call waiter;
+  make_in_turn(&barrier, way, 2, tasks, 2);
+  for (int time = 0; time < 600; time++) {
+    DONE(paldwosk_barrier_join(&tasks[0], PALDWOSK_SIG_WAIT, &child));
+    MUST(paldwosk_barrier_try_next(&child, NULL) == PALDWOSK_TIMED_OUT);
+    if (time % 2) DONE(paldwosk_barrier_signal(&tasks[0]));
+    if (time % 2) DONE(paldwosk_barrier_next(&tasks[1], NULL));
+    if (time % 2) DONE(paldwosk_barrier_wait(&tasks[0], NULL));
+    DONE(paldwosk_barrier_leave(&child));
+    MUST(paldwosk_barrier_try_next(&child, NULL) == PALDWOSK_NOT_REGISTERED && !barrier.overdue && !barrier.first);
+  }
+  begin_call(&waiter, tasks[0], 'N');
+  MUST(are_parked(&barrier, 1));
+  DONE(paldwosk_barrier_leave(&tasks[0]));
+  end_call(&waiter, PALDWOSK_NOT_REGISTERED, 77);
+  DONE(paldwosk_barrier_leave(&tasks[1]));
+  DONE(paldwosk_barrier_free(&barrier));
+  make_in_turn(&barrier, way, 2, tasks, THREADS);
+  for (int at = 1; at < THREADS; at++) MUST(paldwosk_barrier_try_next(&tasks[at], NULL) == PALDWOSK_TIMED_OUT);
+  DONE(paldwosk_barrier_try_next(&tasks[0], NULL));
+  for (int at = THREADS; --at;) DONE(paldwosk_barrier_try_next(&tasks[at], NULL));
+  MUST(!barrier.overdue && barrier.inside == 0);
+  DONE(paldwosk_barrier_free(&barrier));
+}
+
+/* A try neither yields nor sleeps. A call with a time yields first, as one without does. */
+static void tries_do_not_yield(void) {
+  paldwosk_barrier barrier;
+  paldwosk_task tasks[2] = {PALDWOSK_NO_TASK};
+  make_yielding(&barrier, tasks, 1000, no_yield);
+  MUST(paldwosk_barrier_try_next(&tasks[0], NULL) == PALDWOSK_TIMED_OUT);
+  MUST(paldwosk_barrier_try_next(&tasks[0], NULL) == PALDWOSK_TIMED_OUT);
+  MUST(yields.count == 0 && barrier.credit == 1000);
+  MUST(paldwosk_barrier_next_for(&tasks[0], 5, NULL) == PALDWOSK_TIMED_OUT);
+  MUST(yields.count >= 1 && yields.count <= 10);
+  DONE(paldwosk_barrier_leave(&tasks[0]));
+  DONE(paldwosk_barrier_free(&barrier));
+  yields.instead = NULL;
+}
+
+static void timed(void) {
+  tries_do_not_yield();
+  for (int way = 0; way < 4; way++) {
+    next_runs_out(way);
+    others_are_refused(way);
+    tries_succeed_at_once(way);
+    others_go_on(way);
+    who_comes_back_is_woken(way);
+    bound_runs_out(way);
+    single_runs_out(way);
+    refusal_comes_later(way);
+    who_ran_out_leaves(way);
+  }
 }
 
 /* ---- A crowd. Each thread counts for itself what it did, and so knows which phase it passes next. */
@@ -1506,6 +1937,20 @@ static void send_value(visitor *me) {
   DONE(paldwosk_barrier_send(&me->task, 1, value));
 }
 
+/* A next or a wait. Each third has a time, which is often too short: then it comes back. */
+static void pass_in_crowd(visitor *me, int is_next, uint64_t *phase) {
+  paldwosk_answer answer = PALDWOSK_TIMED_OUT;
+  int has_time = drawn(me, 3) == 0;
+  while (has_time && answer == PALDWOSK_TIMED_OUT) {
+    uint32_t time = drawn(me, 3);
+    if (is_next) answer = paldwosk_barrier_next_for(&me->task, time, phase);
+    else answer = paldwosk_barrier_wait_for(&me->task, time, phase);
+  }
+  if (has_time) DONE(answer);
+  else if (is_next) DONE(paldwosk_barrier_next(&me->task, phase));
+  else DONE(paldwosk_barrier_wait(&me->task, phase));
+}
+
 static void run_in_crowd(void *given) { __atomic_fetch_add((int64_t *)given, 1, __ATOMIC_RELAXED); }
 
 /* Two numbers are about: who comes with another than the first of its phase is refused, and goes on without. */
@@ -1513,7 +1958,10 @@ static void propose(visitor *me) {
   uint64_t phase = 77;
   uint32_t number = 1 + (drawn(me, 8) == 0);
   int64_t *runs = &crowd.runs[me->passes];
-  paldwosk_answer answer = paldwosk_barrier_single(&me->task, number, run_in_crowd, runs, &phase);
+  paldwosk_answer answer = PALDWOSK_TIMED_OUT;
+  for (int has_time = drawn(me, 3) == 0; has_time && answer == PALDWOSK_TIMED_OUT;)
+    answer = paldwosk_barrier_single_for(&me->task, number, drawn(me, 2), run_in_crowd, runs, &phase);
+  if (answer == PALDWOSK_TIMED_OUT) answer = paldwosk_barrier_single(&me->task, number, run_in_crowd, runs, &phase);
   MUST(answer == PALDWOSK_DONE || answer == PALDWOSK_SINGLE_MISMATCH);
   int is_refused = answer == PALDWOSK_SINGLE_MISMATCH;
   if (is_refused) DONE(paldwosk_barrier_next(&me->task, &phase));
@@ -1531,11 +1979,23 @@ static void end_its_turn(visitor *me) {
       return;
     }
     if (how == 1) DONE(paldwosk_barrier_signal(&me->task));
-    else DONE(paldwosk_barrier_next(&me->task, &phase));
+    else pass_in_crowd(me, 1, &phase);
     me->made++;
     if (how == 1) return; /* it is ahead now, and passes in a later act */
-  } else DONE(paldwosk_barrier_wait(&me->task, &phase));
+  } else pass_in_crowd(me, 0, &phase);
   has_passed(me, phase, 0);
+}
+
+/* Some leave while a call of theirs goes on. */
+static void leave_crowd(visitor *me) {
+  int is_ahead = can_signal(me) && me->made > me->passes;
+  if (drawn(me, 3) == 0 && can_signal(me) && !is_ahead) {
+    __atomic_fetch_add(&me->signals, 1, __ATOMIC_RELAXED);
+    paldwosk_answer answer = paldwosk_barrier_try_next(&me->task, NULL);
+    MUST(answer == PALDWOSK_DONE || answer == PALDWOSK_TIMED_OUT);
+  }
+  __atomic_store_n(&me->is_there, 0, __ATOMIC_RELEASE);
+  DONE(paldwosk_barrier_leave(&me->task));
 }
 
 /* The header has noted of it what it has counted itself. If others wait, somebody keeps them waiting. */
@@ -1561,8 +2021,7 @@ static void *visit(void *given) {
     else if (act == 99 && crowd.is_traced && drawn(me, 8) == 0) replay(&crowd.barrier, report, sizeof report);
     else end_its_turn(me);
   }
-  __atomic_store_n(&me->is_there, 0, __ATOMIC_RELEASE);
-  DONE(paldwosk_barrier_leave(&me->task));
+  leave_crowd(me);
   return NULL;
 }
 
@@ -1791,7 +2250,9 @@ int main(int count, char **words) {
   else if (!strcmp(what, "interrupted")) interrupted();
   else if (!strcmp(what, "cancelled")) cancelled();
   else if (!strcmp(what, "facts")) facts();
-  else if (!strcmp(what, "stress")) stress(given[0], given[1], (uint32_t)given[2]);
+  else if (!strcmp(what, "stress")) stress(given[0], given[1], (uint32_t)given[2], 0);
+  else if (!strcmp(what, "timed")) timed();
+  else if (!strcmp(what, "hasty")) stress(given[0], given[1], PALDWOSK_MOST_PAUSES, 1);
   else if (!strcmp(what, "singles")) singles(given[0], given[1]);
   else if (!strcmp(what, "bounded")) bounded(given[0], given[1]);
   else if (!strcmp(what, "traced")) traced(given[0], given[1]);

@@ -124,6 +124,56 @@ static void outliving() {
   other.join();
 }
 
+/* The sends 3 and 4 are of phase 0. The task has signalled that when it sends 5. */
+static void timed() {
+  using namespace std::chrono;
+  paldwosk::barrier barrier(2, {PALDWOSK_SUM});
+  auto tasks = party(barrier, 2);
+  auto began = steady_clock::now();
+  tasks[0].send(0, 3);
+  MUST(tasks[0].next_for(milliseconds(50)) == std::nullopt);
+  MUST(steady_clock::now() - began >= milliseconds(50));
+  MUST(tasks[0].try_next() == std::nullopt && barrier.missing() == std::vector<uint64_t>{1});
+  MUST(thrown_by([&] { tasks[0].wait(); }) == PALDWOSK_NOT_NOW);
+  MUST(thrown_by([&] { tasks[0].try_signal(); }) == PALDWOSK_NOT_NOW);
+  tasks[0].send(0, 5);
+  tasks[1].send(0, 4);
+  MUST(tasks[1].try_next() == 0 && tasks[0].next_for(0.5s) == 0 && tasks[0].look(0) == 7);
+  MUST(tasks[0].try_signal() && tasks[0].try_wait() == std::nullopt);
+  MUST(tasks[0].wait_for(nanoseconds(1)) == std::nullopt);
+  std::thread other([&] { MUST(tasks[1].next_for(hours(24 * 365)) == 1); });
+  MUST(tasks[0].wait_for(minutes(1)) == 1 && tasks[0].look(0) == 5);
+  other.join();
+  MUST(paldwosk::milliseconds_of(nanoseconds(1)) == 1 && paldwosk::milliseconds_of(milliseconds(-7)) == 0);
+  MUST(paldwosk::milliseconds_of(seconds(2)) == 2000 && paldwosk::milliseconds_of(hours(9999)) == UINT32_MAX);
+}
+
+/* By the bound 1 the signal of phase 1 waits for the waiter. A task leaves by itself while its call goes on. */
+static void timed_at_the_bound() {
+  paldwosk::barrier barrier(1);
+  auto tasks = party(barrier, 1);
+  paldwosk::task signals = tasks[0].join(PALDWOSK_SIG), waits = tasks[0].join(PALDWOSK_WAIT);
+  tasks[0].leave();
+  MUST(signals.next() == 0 && !signals.signal_for(std::chrono::milliseconds(1)) && !signals.try_signal());
+  MUST(waits.wait() == 0 && waits.try_wait() == 1 && waits.try_wait() == std::nullopt);
+  MUST(signals.signal_for(std::chrono::minutes(1)) && signals.try_wait() == 1);
+  { paldwosk::task ends = std::move(signals); }
+  MUST(waits.try_wait() == 2); /* nobody signals any more */
+}
+
+/* Of a header's functions and variables all files have the same one. The other file is made by tests/waiting. */
+#ifdef WITH_ANOTHER_FILE
+extern const void *const there[3];
+
+static void one_definition() {
+  const void *const here[3] = {(const void *)&paldwosk_barrier_next, (const void *)&paldwosk_answer_text,
+                               (const void *)&paldwosk_forks};
+  for (int at = 0; at < 3; at++) MUST(here[at] == there[at]);
+}
+#else
+static void one_definition() {}
+#endif
+
 static void traced() {
   static char report[1000];
   paldwosk::barrier barrier(2, {}, true);
@@ -133,6 +183,7 @@ static void traced() {
   size_t written = 0;
   MUST(paldwosk_replay(text.data(), text.size(), report, sizeof report - 1, &written) == PALDWOSK_STATUS_DONE);
   MUST(std::string(report, written).find("totals registered 1 signals 1 passes 1 drops 1") != std::string::npos);
+  MUST(std::string(report, written).find("task 0 refused 21 NoFinish") != std::string::npos); /* it is still there */
 }
 
 int main() {
@@ -141,6 +192,9 @@ int main() {
   throwing_single();
   missing();
   outliving();
+  timed();
+  timed_at_the_bound();
+  one_definition();
   traced();
   return faults ? 4 : 0;
 }

@@ -185,7 +185,7 @@ refusals! {
     RegsFull = 14, "Registrations at once are at the limit, which is 256 at most. Let another task leave first.";
     HistoryFull = 15, "The history has no room for the event. Begin anew, with a greater limit `history` if there is one.";
     TasksFull = 17, "The task number is at the limit. Take a smaller number, or a greater limit `tasks`.";
-    NotNow = 22, "The wrong moment. Make a phaser once, report a claimed single once, and leave after a proposed one is done.";
+    NotNow = 22, "The wrong moment. Make a phaser once, leave after a single is done, go on with a call whose time is over.";
     Memory = 23, "Memory was refused. Take a smaller bound or smaller limits, or free some.";
     TooGreat = 36, "The fold isn't within an `i64`: it takes 2^32 values in one phase. Go on without it, or send fewer.";
     BadLimits = 69, "A limit isn't between its least and its greatest. Take each from the range on the page of `Limits`.";

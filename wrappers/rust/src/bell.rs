@@ -11,7 +11,9 @@ mod futex {
     use std::ffi::{c_int, c_long};
     use std::ptr::null;
     use std::sync::atomic::AtomicU32;
+    use std::time::Duration;
 
+    const FUTEX_WAIT: c_int = FUTEX_PRIVATE;
     const FUTEX_WAIT_BITSET: c_int = 9 | FUTEX_PRIVATE;
     const FUTEX_WAKE_BITSET: c_int = 10 | FUTEX_PRIVATE;
     const FUTEX_PRIVATE: c_int = 128;
@@ -21,6 +23,13 @@ mod futex {
         fn syscall(number: c_long, ...) -> c_long; // std links it
     }
 
+    /// A time as Linux of 64 bits takes it.
+    #[repr(C)]
+    struct Timespec {
+        seconds: i64,
+        nanoseconds: i64,
+    }
+
     pub(crate) struct Bell {
         pub(crate) word: AtomicU32,
     }
@@ -28,6 +37,15 @@ mod futex {
     impl Bell {
         pub(crate) const fn new() -> Bell {
             Bell { word: AtomicU32::new(0) }
+        }
+
+        /// Sleeps, if the word is this still, until somebody is woken, but for so long at most. That is by the clock that
+        /// nobody sets.
+        pub(crate) fn sleep_for(&self, word: u32, _bits: u32, most: Duration) {
+            let seconds = i64::try_from(most.as_secs()).unwrap_or(i64::MAX);
+            let most = Timespec { seconds, nanoseconds: most.subsec_nanos().into() };
+            // SAFETY: the word and the time are lent for the call, which reads them as a whole.
+            unsafe { syscall(SYS_FUTEX, self.word.as_ptr(), FUTEX_WAIT, word, &most) };
         }
 
         /// Sleeps, if the word is this still, until one of the bits is woken.
@@ -53,6 +71,7 @@ mod futex {
 mod condition_variable {
     use std::sync::atomic::{AtomicU32, Ordering::Acquire};
     use std::sync::{Condvar, Mutex, MutexGuard, PoisonError};
+    use std::time::Duration;
 
     pub(crate) struct Bell {
         pub(crate) word: AtomicU32,
@@ -74,6 +93,14 @@ mod condition_variable {
             let held = self.lock();
             if self.word.load(Acquire) == word {
                 drop(self.changed.wait(held));
+            }
+        }
+
+        /// The same, but for so long at most.
+        pub(crate) fn sleep_for(&self, word: u32, _bits: u32, most: Duration) {
+            let held = self.lock();
+            if self.word.load(Acquire) == word {
+                drop(self.changed.wait_timeout(held, most));
             }
         }
 

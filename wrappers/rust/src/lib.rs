@@ -17,14 +17,16 @@
 //! stays parked still has to wait. So no task is forgotten.
 //!
 //! Nothing in this crate is proved; it is tested. For a [`Phaser`] and a [`Barrier`] that is the lock round each call, the
-//! spinning, yielding and sleeping, the waking of freed threads, and the noting of a trace. The `unsafe` code only passes on
-//! what Rust's own types promise, slices and places that nothing else has, and hands a word to Linux to sleep by.
+//! spinning, yielding and sleeping, the waking of freed threads, and the noting of a trace and of who is missing. The `unsafe`
+//! code only passes on what Rust's own types promise, slices and places that nothing else has, and hands a word to Linux to
+//! sleep by.
 #![deny(unsafe_op_in_unsafe_fn)]
 
 mod answers;
 mod barrier;
 mod bell;
 mod checker;
+mod members;
 mod phaser;
 mod phaser_state;
 mod scope;

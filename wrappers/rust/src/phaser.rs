@@ -1,10 +1,11 @@
 //! A phaser for threads that wait.
 use crate::answers::{Look, Mode, Operator, Refusal};
-use crate::shared::{Call, Place, Shared};
+use crate::shared::{ended, Call, Patience, Place, Shared};
 use crate::trace::Trace;
 use crate::waiting_cell::Ended;
 use std::fmt;
 use std::sync::Arc;
+use std::time::Duration;
 
 /// A barrier for threads that wait. Tasks may join and leave, and it lives as long as its program.
 ///
@@ -75,15 +76,38 @@ impl Phaser {
     /// Makes the phaser: its first task, in this mode, in phase 0. `NotNow` if it was made before.
     pub fn make(&self, mode: Mode) -> Result<Task, Refusal> {
         let place = self.shared.make(mode)?;
-        Ok(Task { shared: self.shared.clone(), place, mode, phase: 0 })
+        Ok(Task { shared: self.shared.clone(), place, mode, phase: 0, unfinished: None })
+    }
+
+    /// Who keeps others waiting: the numbers of these tasks, the least first. Such a task hasn't signalled a phase that others
+    /// wait for, or it runs a single. Or the bound holds back a signal until this task has waited. A task that waits itself
+    /// isn't among them, and nobody is if nobody waits. The call looks at all tasks: it is for finding a fault, not for each
+    /// phase.
+    ///
+    /// ```
+    /// # use paldwosk::{Mode, Phaser, Refusal};
+    /// # fn main() -> Result<(), Refusal> {
+    /// let phaser = Phaser::new(2, &[])?;
+    /// let mut maker = phaser.make(Mode::SigWait)?;
+    /// let _late = maker.join(Mode::SigWait)?;
+    /// assert_eq!(phaser.missing(), []);
+    /// assert_eq!(maker.try_next(), Ok(None));
+    /// assert_eq!(phaser.missing(), [1]);
+    /// # Ok(())
+    /// # }
+    /// ```
+    #[must_use]
+    pub fn missing(&self) -> Vec<u64> {
+        self.shared.missing()
     }
 
     /// The text of the run so far, as a whole run: the maker is task 0, the root, which makes phaser 0, and each task that
     /// joins is a child of its parent. Of a phaser that isn't traced it is empty.
     ///
-    /// A run has an end, and so has its text: the tasks that haven't left yet are told to do so now. A turn that is signalled
-    /// and not passed is told as a `signal`; a single that isn't done, as claimed, done and passed. These last events are
-    /// told by the text alone, and all before them are those that were made, each in its order.
+    /// A run has an end, and so has its text: the tasks that haven't left yet end in it. A turn that is signalled and not
+    /// passed is told as a `signal`; a single that isn't done, as claimed, done and passed. These last events are told by the
+    /// text alone, and all before them are those that were made, each in its order. The end of a task that is still there is
+    /// a refusal that no call is answered: a report has `task 1 refused 21 NoFinish` for it, in place of `task 1 ended`.
     pub fn trace(&self) -> String {
         self.shared.trace().map_or(String::new(), Trace::text)
     }
@@ -124,6 +148,31 @@ impl fmt::Debug for Phaser {
 /// A call that is refused changes nothing. Only a `next` or `single` whose pass is refused has signalled.
 /// `HistoryFull` comes after 2^62 events.
 ///
+/// # Calls with a time
+///
+/// The calls `.._timeout` wait for some time at most, and the calls `try_..` don't wait. If the time is over and the call
+/// isn't, they return `Ok(None)` or `Ok(false)`. Nothing is taken back: a call that has to wait can't be withdrawn. It goes on
+/// without its thread. A `next` has signalled, or does so once the bound lets it, and the others go on by that. The task's next
+/// call of the same name, with a time or without, waits for the same answer, and doesn't signal once more. Until then each
+/// other `signal`, `wait`, `next` and `single` of the task is refused by `NotNow`. It may send, look, join and leave.
+///
+/// A `single` has no form with a time, because a task can't leave a single behind that it has proposed.
+///
+/// ```
+/// use paldwosk::{Mode, Phaser, Refusal};
+/// use std::time::Duration;
+///
+/// # fn main() -> Result<(), Refusal> {
+/// let mut maker = Phaser::new(2, &[])?.make(Mode::SigWait)?;
+/// let mut late = maker.join(Mode::SigWait)?;
+/// assert_eq!(maker.next_timeout(Duration::from_millis(10))?, None); // it has signalled
+/// assert_eq!(maker.signal(), Err(Refusal::NotNow));
+/// assert_eq!(late.try_next()?, Some(0)); // so the phase is over
+/// assert_eq!(maker.next()?, 0);
+/// # Ok(())
+/// # }
+/// ```
+///
 /// ```
 /// use paldwosk::{Mode, Phaser, Refusal};
 ///
@@ -144,6 +193,8 @@ pub struct Task {
     place: Place,
     mode: Mode,
     phase: u64,
+    /// The call whose time is over, and whose answer it hasn't been given.
+    unfinished: Option<Call>,
 }
 
 impl Task {
@@ -201,26 +252,95 @@ impl Task {
     /// A new task, in a mode within this one's. It begins where this one stands: in its phase, and with its signal if it has
     /// signalled. `MoreThanParent`, `RegsFull` if there are 256 tasks, `HistoryFull`.
     pub fn join(&mut self, mode: Mode) -> Result<Task, Refusal> {
-        let place = self.shared.join(self.place, mode)?;
-        Ok(Task { shared: self.shared.clone(), place, mode, phase: self.phase })
+        let (place, phase) = self.shared.join(self.place, mode)?;
+        Ok(Task { shared: self.shared.clone(), place, mode, phase, unfinished: None })
+    }
+
+    /// Makes a call, or goes on with the same one, whose time was over. None if the time is over, once more.
+    fn call_in_time(&mut self, call: Call, patience: Patience) -> Result<Option<Ended>, Refusal> {
+        let outcome = match self.unfinished {
+            None => self.shared.call(self.place, call, patience),
+            Some(unfinished) if unfinished == call => self.shared.go_on(self.place, patience),
+            Some(_) => return Err(Refusal::NotNow),
+        };
+        self.unfinished = outcome.is_none().then_some(call);
+        outcome.transpose()
+    }
+
+    fn call(&mut self, call: Call) -> Result<Ended, Refusal> {
+        ended(self.call_in_time(call, Patience::Endless).transpose())
+    }
+
+    fn passes_in_time(&mut self, call: Call, patience: Patience) -> Result<Option<u64>, Refusal> {
+        Ok(self.call_in_time(call, patience)?.map(|ended| self.passed(ended)))
     }
 
     /// Signals, and waits until every task that signals has signalled: the end of a turn, as at a barrier. Returns the phase
     /// that it passed. A task that only signals waits for the bound alone. `NoSignal`, `AlreadySignalled`, `HistoryFull`.
     #[allow(clippy::should_implement_trait)] // a phaser's own word, and no iterator's
     pub fn next(&mut self) -> Result<u64, Refusal> {
-        self.shared.turn(self.place, None).map(|ended| self.passed(ended))
+        self.call(Call::Turn(None)).map(|ended| self.passed(ended))
+    }
+
+    /// The same, but it waits for so long at most: `None` if the time is over. Then the task has signalled, or does so once the
+    /// bound lets it, and its next `next` waits for the same answer ([more](Task#calls-with-a-time)). Besides, `NotNow` if
+    /// another call goes on.
+    ///
+    /// ```
+    /// # use paldwosk::{Mode, Phaser, Refusal};
+    /// # use std::time::Duration;
+    /// # fn main() -> Result<(), Refusal> {
+    /// # let mut task = Phaser::new(2, &[])?.make(Mode::SigWait)?;
+    /// let phase = loop {
+    ///     match task.next_timeout(Duration::from_secs(1))? {
+    ///         Some(phase) => break phase,
+    ///         None => println!("others are late"),
+    ///     }
+    /// };
+    /// assert_eq!(phase, 0);
+    /// # Ok(())
+    /// # }
+    /// ```
+    pub fn next_timeout(&mut self, timeout: Duration) -> Result<Option<u64>, Refusal> {
+        self.passes_in_time(Call::Turn(None), Patience::of(timeout))
+    }
+
+    /// The same, but it doesn't wait: `None` if it would have to.
+    pub fn try_next(&mut self) -> Result<Option<u64>, Refusal> {
+        self.passes_in_time(Call::Turn(None), Patience::None)
     }
 
     /// Signals its phase, and goes on. It waits for the bound alone. `NoSignal`, `AlreadySignalled`, `HistoryFull`.
     pub fn signal(&mut self) -> Result<(), Refusal> {
-        self.shared.call(self.place, Call::Signal).map(|_| ())
+        self.call(Call::Signal).map(|_| ())
+    }
+
+    /// The same, but it waits for so long at most. Whether it has signalled; if it hasn't, it does so once the bound lets it,
+    /// and its next `signal` waits for that ([more](Task#calls-with-a-time)). Besides, `NotNow` if another call goes on.
+    pub fn signal_timeout(&mut self, timeout: Duration) -> Result<bool, Refusal> {
+        Ok(self.call_in_time(Call::Signal, Patience::of(timeout))?.is_some())
+    }
+
+    /// The same, but it doesn't wait. Whether it has signalled.
+    pub fn try_signal(&mut self) -> Result<bool, Refusal> {
+        Ok(self.call_in_time(Call::Signal, Patience::None)?.is_some())
     }
 
     /// Waits until every task that signals, itself first, has signalled the phase. Returns the phase that it passed. A task
     /// that only signals doesn't wait, and ends its turn. `NotSignalled`, `HistoryFull`.
     pub fn wait(&mut self) -> Result<u64, Refusal> {
-        self.shared.call(self.place, Call::Pass).map(|ended| self.passed(ended))
+        self.call(Call::Pass).map(|ended| self.passed(ended))
+    }
+
+    /// The same, but it waits for so long at most: `None` if the time is over. Then its next `wait` waits for the same answer
+    /// ([more](Task#calls-with-a-time)). Besides, `NotNow` if another call goes on.
+    pub fn wait_timeout(&mut self, timeout: Duration) -> Result<Option<u64>, Refusal> {
+        self.passes_in_time(Call::Pass, Patience::of(timeout))
+    }
+
+    /// The same, but it doesn't wait: the phase if it is over, else `None`.
+    pub fn try_wait(&mut self) -> Result<Option<u64>, Refusal> {
+        self.passes_in_time(Call::Pass, Patience::None)
     }
 
     /// Signals, proposes the statement of this number, and waits. One of the tasks that propose it runs its statement, alone,
@@ -230,7 +350,7 @@ impl Task {
     /// The statement runs without any lock held, and may use whatever else it likes, other phasers too. If it panics, the turn
     /// ends as if it were done: the others go on, and aren't told.
     pub fn single(&mut self, number: u32, statement: impl FnOnce()) -> Result<u64, Refusal> {
-        match self.shared.turn(self.place, Some(number))? {
+        match self.call(Call::Turn(Some(number)))? {
             Ended::Claimed => {
                 let mut reported = Err(Refusal::NotNow);
                 {
@@ -269,7 +389,7 @@ impl fmt::Debug for Task {
 
 impl Drop for Task {
     fn drop(&mut self) {
-        // It is registered, is in no other call, and none of its singles is open: so it is never refused.
+        // It is registered, and none of its singles is open: so it is never refused. A call that goes on ends by it.
         let left = self.shared.leave(self.place);
         debug_assert!(left.is_ok(), "{left:?}");
     }

@@ -47,6 +47,11 @@ impl Seat {
         self.state.compare_exchange(SPINNING, ASLEEP, AcqRel, Acquire).is_ok()
     }
 
+    /// The thread doesn't sleep any more, though its task still waits. Whether its answer isn't there yet.
+    pub(crate) fn stops_sleeping(&self) -> bool {
+        self.state.compare_exchange(ASLEEP, SPINNING, AcqRel, Acquire).is_ok()
+    }
+
     #[cfg(test)]
     pub(crate) fn is_asleep(&self) -> bool {
         self.state.load(Acquire) == ASLEEP
@@ -114,5 +119,16 @@ mod tests {
         seat.takes();
         assert!(!seat.give(&freed));
         assert!(!seat.falls_asleep());
+    }
+
+    #[test]
+    fn who_sleeps_no_longer_is_not_woken() {
+        let (seat, freed) = (Seat::new(), Freed { task: 0, number: 5, answer: 0 });
+        seat.takes();
+        assert!(seat.falls_asleep() && seat.stops_sleeping());
+        assert!(!seat.is_ready() && seat.falls_asleep() && seat.stops_sleeping());
+        assert!(!seat.give(&freed));
+        assert!(seat.is_ready() && !seat.stops_sleeping());
+        assert_eq!(seat.outcome(), Ok(Ended::Done(5)));
     }
 }

@@ -37,6 +37,8 @@ enum Event {
     Look(u64, u8, Look),
     Drop(u64),
     Ended(u64),
+    /// Of the text alone: the task is still there, where the text has to end.
+    Still(u64),
     Shut,
 }
 
@@ -111,8 +113,18 @@ impl Trace {
         }
     }
 
+    /// A task is about to do something of which no `next` consists, because the time of its `next` is over. Then that is
+    /// told as the two acts `signal` and `wait`.
+    fn part(&mut self, task: u64) {
+        if !self.has_ended {
+            self.close_turn(task);
+            self.told(task).turn = None;
+        }
+    }
+
     pub(crate) fn joined(&mut self, parent: u64, child: u64, mode: Mode) {
         self.has_ended |= child >= MOST_TASKS;
+        self.part(parent);
         let spawn = [
             Event::Begin(parent, Act::Async(child, mode)),
             Event::Register(parent, child, mode),
@@ -125,10 +137,12 @@ impl Trace {
     }
 
     pub(crate) fn sent(&mut self, task: u64, accumulator: u8, value: i32) {
+        self.part(task);
         self.note(&[Event::Send(task, accumulator, value)]);
     }
 
     pub(crate) fn looked(&mut self, task: u64, accumulator: u8, seen: Look) {
+        self.part(task);
         self.note(&[Event::Look(task, accumulator, seen)]);
     }
 
@@ -194,6 +208,7 @@ impl Trace {
     }
 
     pub(crate) fn left(&mut self, task: u64) {
+        self.part(task);
         // The root ends with the run.
         let leaving = [Event::Begin(task, Act::End), Event::Drop(task), Event::Ended(task)];
         let count = if task == 0 { 2 } else { 3 };
@@ -251,8 +266,10 @@ impl Trace {
         }
     }
 
+    /// Its end is told as a refusal that no call of a phaser for threads is answered: so a reader knows from the ends that were
+    /// made those that the text alone has.
     fn close_task(&mut self, task: u64) {
-        self.events.extend([Event::Begin(task, Act::End), Event::Drop(task)]);
+        self.events.extend([Event::Still(task), Event::Drop(task)]);
         if task != 0 {
             self.events.push(Event::Ended(task));
         }
@@ -297,6 +314,7 @@ impl Trace {
             Event::Look(task, accumulator, Look::Nothing) => write!(text, r#""p",0,"look",{task},{accumulator},null"#),
             Event::Drop(task) => write!(text, r#""p",0,"drop",{task}"#),
             Event::Ended(task) => write!(text, r#""f",0,"ended",{task}"#),
+            Event::Still(task) => write!(text, r#""t",{task},"refuse",["shut"],21"#),
             Event::Shut => write!(text, r#""f",0,"shut""#),
         }
     }
@@ -366,7 +384,8 @@ mod tests {
         passed(&mut trace, 2, 1);
         trace.called(0, Call::Turn(Some(6)), DONE);
         let lines = concat!(
-            "phaser 0 phases 4\ntask 0 ended\ntask 1 ended\ntask 2 ended\nfinish 0 tasks 2\n",
+            "phaser 0 phases 4\ntask 0 refused 21 NoFinish\ntask 1 refused 21 NoFinish\ntask 2 refused 21 NoFinish\n",
+            "finish 0 tasks 2\n",
             // 4 signals and passes in the first two phases, 2 and 2 in the third, 1 and 1 in the fourth, and 2 passes of task 2
             "totals registered 3 signals 7 passes 9 drops 3 sends 0 up 0 down 0\n",
         );

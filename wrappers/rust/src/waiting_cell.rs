@@ -32,6 +32,16 @@ pub(crate) fn outcome(answer: u32, number: u64) -> Outcome {
     }
 }
 
+/// A task whose call came out so, as the archive tells it.
+pub(crate) fn freed_with(task: u64, outcome: Outcome) -> Freed {
+    let (answer, number) = match outcome {
+        Ok(Ended::Done(number)) => (0, number),
+        Ok(Ended::Claimed) => (33, 0),
+        Err(refusal) => (refusal as u32, 0),
+    };
+    Freed { task, number, answer }
+}
+
 fn answered(answer: u32, number: u64) -> Result<Answer, Refusal> {
     match answer {
         32 => Ok(Answer::Parked),

@@ -5,7 +5,7 @@ use std::sync::atomic::{AtomicBool, AtomicU64, Ordering::*};
 use std::sync::mpsc::{channel, RecvTimeoutError};
 use std::sync::Arc;
 use std::thread::{self, JoinHandle};
-use std::time::Duration;
+use std::time::{Duration, Instant};
 
 /// Far more than any test takes: one that hangs fails by it.
 const SECONDS: u64 = 120;
@@ -611,6 +611,212 @@ fn scope_has_room_for_255() {
     });
 }
 
+// ---- Calls with a time, and who is missing
+
+const MINUTE: Duration = Duration::from_secs(60);
+
+/// The signal is made once: who comes back waits for what it has begun. Sent are 3 and 4 in phase 0, and 5 after task 0 has
+/// signalled that, so in phase 1.
+#[test]
+fn next_runs_out_and_goes_on() {
+    in_time(|| {
+        let phaser = Phaser::new(2, &[Operator::Sum]).unwrap();
+        let mut maker = phaser.make(Mode::SigWait).unwrap();
+        let mut other = maker.join(Mode::SigWait).unwrap();
+        let began = Instant::now();
+        maker.send(0, 3).unwrap();
+        assert_eq!(maker.next_timeout(Duration::from_millis(50)), Ok(None));
+        assert!(began.elapsed() >= Duration::from_millis(50) && began.elapsed() < MINUTE / 2);
+        assert_eq!((maker.try_next(), maker.next_timeout(Duration::ZERO), maker.phase()), (Ok(None), Ok(None), 0));
+        assert_eq!(phaser.missing(), [1]);
+        maker.send(0, 5).unwrap();
+        other.send(0, 4).unwrap();
+        assert_eq!((other.try_next(), phaser.missing()), (Ok(Some(0)), vec![]));
+        assert_eq!((maker.try_next(), maker.phase(), maker.look(0)), (Ok(Some(0)), 1, Ok(Look::Value(7))));
+        assert_eq!((maker.try_next(), other.next_timeout(Duration::MAX)), (Ok(None), Ok(Some(1))));
+        assert_eq!((maker.next(), maker.look(0)), (Ok(1), Ok(Look::Value(5))));
+    });
+}
+
+/// Whatever is not the same call is refused, before its answer has come and then.
+#[test]
+fn others_are_refused_while_a_call_goes_on() {
+    in_time(|| {
+        let mut maker = maker(Mode::Single, &[]);
+        let mut other = maker.join(Mode::SigWait).unwrap();
+        assert_eq!(maker.try_next(), Ok(None));
+        for is_over in [false, true] {
+            if is_over {
+                assert_eq!(other.next(), Ok(0));
+            }
+            assert_eq!((maker.signal(), maker.try_signal()), (Err(Refusal::NotNow), Err(Refusal::NotNow)));
+            assert_eq!((maker.wait(), maker.try_wait()), (Err(Refusal::NotNow), Err(Refusal::NotNow)));
+            assert_eq!(maker.signal_timeout(MINUTE), Err(Refusal::NotNow));
+            assert_eq!(maker.wait_timeout(MINUTE), Err(Refusal::NotNow));
+            assert_eq!(maker.single(1, || unreachable!()), Err(Refusal::NotNow));
+        }
+        assert_eq!((maker.next(), maker.try_wait()), (Ok(0), Err(Refusal::NotSignalled)));
+        maker.signal().unwrap();
+        assert_eq!(maker.try_wait(), Ok(None));
+        assert_eq!((maker.next(), maker.try_next()), (Err(Refusal::NotNow), Err(Refusal::NotNow)));
+        assert_eq!((other.try_next(), maker.wait()), (Ok(Some(1)), Ok(1)));
+    });
+}
+
+#[test]
+fn one_party_never_runs_out() {
+    in_time(|| {
+        let (mut task, began) = (maker(Mode::SigWait, &[]), Instant::now());
+        assert_eq!((task.try_next(), task.next_timeout(MINUTE)), (Ok(Some(0)), Ok(Some(1))));
+        assert_eq!((task.try_signal(), task.try_wait()), (Ok(true), Ok(Some(2))));
+        assert_eq!((task.signal_timeout(MINUTE), task.wait_timeout(MINUTE)), (Ok(true), Ok(Some(3))));
+        assert_eq!(task.try_wait(), Err(Refusal::NotSignalled));
+        assert!(began.elapsed() < MINUTE / 2);
+    });
+}
+
+/// Task 0 tries and doesn't come back yet. The others pass phase 0 all the same, and wait for it in phase 1.
+#[test]
+fn others_go_on_without_who_ran_out() {
+    in_time(|| {
+        let phaser = Phaser::new(2, &[]).unwrap();
+        let mut maker = phaser.make(Mode::SigWait).unwrap();
+        let mut others = children(&mut maker, Mode::SigWait, 2).into_iter();
+        let (mut first, mut second) = (others.next().unwrap(), others.next().unwrap());
+        let passed = Arc::new(AtomicU64::new(0));
+        let (of_first, of_second) = (passed.clone(), passed.clone());
+        assert_eq!(maker.next_timeout(Duration::from_millis(5)), Ok(None));
+        let first = thread::spawn(move || (first.next(), of_first.fetch_add(1, SeqCst), first.next_timeout(MINUTE)));
+        let two = move || (second.next_timeout(MINUTE), of_second.fetch_add(1, SeqCst), second.next());
+        let second = thread::spawn(two);
+        while passed.load(SeqCst) < 2 || phaser.missing() != [0] {
+            thread::yield_now();
+        }
+        let_sleep();
+        assert!(!first.is_finished() && !second.is_finished());
+        assert_eq!((maker.try_next(), maker.next_timeout(MINUTE)), (Ok(Some(0)), Ok(Some(1))));
+        let ((one, _, two), (three, _, four)) = (joined(first), joined(second));
+        assert_eq!((one, two, three, four), (Ok(0), Ok(Some(1)), Ok(Some(0)), Ok(1)));
+    });
+}
+
+/// It leaves while its call goes on, and after its answer has come, again and again; and all tasks' calls go on at once.
+#[test]
+fn who_ran_out_leaves() {
+    in_time(|| {
+        let mut maker = maker(Mode::SigWait, &[]);
+        for round in 0..600 {
+            let mut child = maker.join(Mode::SigWait).unwrap();
+            assert_eq!(child.try_next(), Ok(None));
+            if round % 2 == 1 {
+                assert_eq!(maker.next(), Ok(round / 2));
+            }
+        }
+        let mut others = children(&mut maker, Mode::SigWait, 255);
+        others.iter_mut().for_each(|task| assert_eq!(task.try_next(), Ok(None)));
+        assert_eq!(maker.try_next(), Ok(Some(300)));
+        others.iter_mut().for_each(|task| assert_eq!(task.try_next(), Ok(Some(300))));
+    });
+}
+
+/// A task whose `next` goes on leaves, and the other sleeps until then.
+#[test]
+fn who_leaves_with_a_call_frees_others() {
+    in_time(|| {
+        let mut maker = maker(Mode::SigWait, &[]);
+        let mut waits = maker.join(Mode::Wait).unwrap();
+        let mut signals = maker.join(Mode::Sig).unwrap();
+        assert_eq!((signals.next(), maker.next(), signals.next()), (Ok(0), Ok(0), Ok(1)));
+        assert_eq!(signals.try_next(), Ok(None)); // the bound is 2, and the waiter is in phase 0
+        let thread = thread::spawn(move || (maker.next(), maker.next()));
+        let_sleep();
+        drop(signals);
+        assert_eq!((waits.wait(), waits.wait()), (Ok(0), Ok(1)));
+        assert_eq!(joined(thread), (Ok(1), Ok(2)));
+    });
+}
+
+/// Turns of threads whose times are often too short.
+#[test]
+fn hasty_threads_turn() {
+    let turn = |task: &mut Task, phase: u64| match (phase + task.number()) % 4 {
+        0 => task.next().map(Some),
+        1 => task.next_timeout(Duration::from_micros(phase % 300)),
+        2 => task.try_next(),
+        _ => task.signal().and_then(|()| task.try_wait()),
+    };
+    let again = |task: &mut Task, phase: u64| match (phase + task.number()) % 4 {
+        3 => task.wait_timeout(Duration::from_micros(50)),
+        _ => task.next_timeout(Duration::from_micros(50)),
+    };
+    for is_traced in [false, true] {
+        in_time(move || {
+            let phaser = if is_traced { Phaser::traced(2, &[Operator::Sum]) } else { Phaser::new(2, &[Operator::Sum]) };
+            let phaser = phaser.unwrap();
+            let all = tasks(phaser.make(Mode::SigWait).unwrap(), Mode::SigWait, 5);
+            together(all, move |mut task| {
+                for phase in 0..1_000 {
+                    task.send(0, task.number() as i32 + 1).unwrap();
+                    let mut passed = turn(&mut task, phase).unwrap();
+                    while passed.is_none() {
+                        passed = again(&mut task, phase).unwrap();
+                    }
+                    assert_eq!((passed, task.look(0)), (Some(phase), Ok(Look::Value(15))));
+                }
+            });
+            if is_traced {
+                let totals = "totals registered 5 signals 5000 passes 5000 drops 5 sends 5000 up 15000 down 0\n";
+                assert!(report(&phaser).ends_with(totals));
+            }
+        });
+    }
+}
+
+/// Who waits isn't missing, nor is anybody if nobody waits. Who runs a single is.
+#[test]
+fn missing_tasks_are_named() {
+    in_time(|| {
+        let phaser = Phaser::new(2, &[]).unwrap();
+        assert_eq!(phaser.missing(), []);
+        let mut maker = phaser.make(Mode::Single).unwrap();
+        let mut all = children(&mut maker, Mode::Single, 3);
+        assert_eq!((phaser.missing(), maker.try_next(), phaser.missing()), (vec![], Ok(None), vec![1, 2, 3]));
+        all[1].signal().unwrap();
+        let late = maker.join(Mode::SigWait).unwrap(); // it has signalled, as its parent has
+        assert_eq!(phaser.missing(), [1, 3]);
+        assert_eq!((all[0].try_next(), phaser.missing()), (Ok(None), vec![3]));
+        drop(all.pop());
+        assert_eq!(phaser.missing(), []);
+        assert_eq!((maker.try_next(), all[0].try_next(), all[1].wait()), (Ok(Some(0)), Ok(Some(0)), Ok(0)));
+        late.leave();
+        assert_eq!((maker.try_next(), all[1].try_next()), (Ok(None), Ok(None)));
+        let seen = std::cell::RefCell::new(vec![]);
+        assert_eq!(all[0].single(5, || *seen.borrow_mut() = phaser.missing()), Ok(1));
+        assert_eq!((seen.into_inner(), phaser.missing()), (vec![1], vec![]));
+    });
+}
+
+/// A signaller, number 1, and two waiters. The bound is 1: phase 1 is signalled once both have waited for phase 0.
+#[test]
+fn missing_at_the_bound_are_named() {
+    in_time(|| {
+        let phaser = Phaser::new(1, &[]).unwrap();
+        let mut maker = phaser.make(Mode::SigWait).unwrap();
+        let mut signals = maker.join(Mode::Sig).unwrap();
+        let mut waits = children(&mut maker, Mode::Wait, 2);
+        maker.leave();
+        assert_eq!((signals.next(), signals.try_signal(), phaser.missing()), (Ok(0), Ok(false), vec![2, 3]));
+        assert_eq!(signals.signal_timeout(Duration::from_millis(2)), Ok(false));
+        assert_eq!((waits[0].wait(), phaser.missing()), (Ok(0), vec![3]));
+        assert_eq!((waits[1].wait(), phaser.missing(), signals.try_signal()), (Ok(0), vec![], Ok(true)));
+        assert_eq!((waits[0].wait(), waits[0].try_wait(), phaser.missing()), (Ok(1), Ok(None), vec![1]));
+        assert_eq!((signals.wait(), signals.try_next(), phaser.missing()), (Ok(1), Ok(None), vec![3]));
+        let mut late = signals.join(Mode::Sig).unwrap(); // it hasn't signalled phase 2, nor has its parent
+        assert_eq!((phaser.missing(), waits[1].wait(), phaser.missing()), (vec![3, 4], Ok(1), vec![4]));
+        assert_eq!((late.signal(), waits[0].wait(), signals.next()), (Ok(()), Ok(2), Ok(2)));
+    });
+}
+
 // ---- Many phases
 
 /// Whether in each phase the sum is that of this phase's values, and all had come before anybody went on.
@@ -870,6 +1076,81 @@ fn report(phaser: &Phaser) -> String {
     replay(phaser.trace().as_bytes()).unwrap()
 }
 
+/// The lines of the first tasks, where all of them are still there.
+fn still_there(count: usize) -> String {
+    (0..count).map(|task| format!("task {task} refused 21 NoFinish\n")).collect()
+}
+
+/// The root waits, task 1 has left, and task 2 hasn't signalled: a run that hangs.
+#[test]
+fn trace_marks_who_is_still_there() {
+    in_time(|| {
+        let (phaser, mut maker) = traced(2, &[], Mode::SigWait);
+        let mut others = children(&mut maker, Mode::SigWait, 2);
+        let late = others.pop().unwrap();
+        drop(others);
+        assert_eq!(maker.try_next(), Ok(None));
+        let lines = concat!(
+            "phaser 0 phases 1\ntask 0 refused 21 NoFinish\ntask 1 ended\ntask 2 refused 21 NoFinish\nfinish 0 tasks 2\n",
+            "totals registered 3 signals 1 passes 0 drops 3 sends 0 up 0 down 0\n",
+        );
+        assert_eq!(report(&phaser), lines);
+        drop((late, maker));
+        assert!(report(&phaser).starts_with("phaser 0 phases 1\ntask 0 ended\ntask 1 ended\ntask 2 ended\n"));
+        assert!(!phaser.trace().contains("refuse"));
+    });
+}
+
+/// The child sends while its `next` goes on, so that is told as two acts. The sends 7 and 5 are of the phases 0 and 1.
+#[test]
+fn trace_of_calls_with_a_time_replays() {
+    in_time(|| {
+        let (phaser, mut maker) = traced(2, &[Operator::Sum], Mode::SigWait);
+        let mut child = maker.join(Mode::SigWait).unwrap();
+        child.send(0, 7).unwrap();
+        assert_eq!(child.next_timeout(Duration::from_millis(5)), Ok(None));
+        child.send(0, 5).unwrap();
+        let late = child.join(Mode::Sig).unwrap();
+        late.leave();
+        assert_eq!((maker.next(), child.look(0), child.try_next()), (Ok(0), Ok(Look::Value(7)), Ok(Some(0))));
+        assert_eq!((child.try_next(), maker.try_next(), child.try_next()), (Ok(None), Ok(Some(1)), Ok(Some(1))));
+        assert_eq!(child.try_next(), Ok(None));
+        child.leave(); // with a call that goes on
+        maker.leave();
+        let lines = concat!(
+            "phaser 0 phases 3\nphaser 0 phase 0 acc 0 value 7\nphaser 0 phase 1 acc 0 value 5\n",
+            "phaser 0 phase 2 acc 0 value 0\ntask 0 ended\ntask 1 ended\ntask 2 ended\nfinish 0 tasks 2\n",
+            "totals registered 3 signals 5 passes 4 drops 3 sends 2 up 12 down 0\n",
+        );
+        assert_eq!(report(&phaser), lines);
+        for act in [r#"["signal"]"#, r#"["wait"]"#, r#"["next"]"#] {
+            assert!(phaser.trace().contains(&format!(r#""t",1,"begin",{act}]"#)));
+        }
+    });
+}
+
+/// With a trace or without, a turn that the bound holds back is signalled and passed though its thread has gone. By the bound 1
+/// another signal waits for that pass.
+#[test]
+fn held_turn_goes_on_without_its_thread() {
+    for phaser in [Phaser::new(1, &[]).unwrap(), Phaser::traced(1, &[]).unwrap()] {
+        in_time(move || {
+            let mut maker = phaser.make(Mode::SigWait).unwrap();
+            let (mut signals, mut waits) = (maker.join(Mode::Sig).unwrap(), maker.join(Mode::Wait).unwrap());
+            assert_eq!((maker.try_next(), signals.next(), maker.try_next()), (Ok(None), Ok(0), Ok(Some(0))));
+            // Both are held until the waiter has passed phase 0. Then the maker's passes phase 1 by itself.
+            assert_eq!((maker.try_next(), signals.try_next()), (Ok(None), Ok(None)));
+            assert_eq!(phaser.missing(), [2]);
+            assert_eq!((waits.wait(), waits.try_wait()), (Ok(0), Ok(Some(1))));
+            assert_eq!((signals.try_next(), signals.try_next()), (Ok(Some(1)), Ok(Some(2))));
+            assert_eq!((waits.try_wait(), phaser.missing()), (Ok(None), vec![0]));
+            assert_eq!((maker.phase(), maker.join(Mode::Sig).unwrap().phase()), (1, 2)); // it doesn't know yet
+            assert_eq!((maker.try_next(), maker.phase(), maker.try_next()), (Ok(Some(1)), 2, Ok(Some(2))));
+            assert_eq!(waits.try_wait(), Ok(Some(2)));
+        });
+    }
+}
+
 #[test]
 fn phaser_that_is_not_traced_has_no_trace() {
     let phaser = Phaser::new(2, &[]).unwrap();
@@ -1040,7 +1321,8 @@ fn trace_is_asked_for_on_the_way() {
         ahead.signal().unwrap();
         let mut waiting = maker.join(Mode::SigWait).unwrap();
         let thread = thread::spawn(move || waiting.next());
-        let ends = "task 0 ended\ntask 1 ended\ntask 2 ended\nfinish 0 tasks 2\n";
+        let still = "task 0 refused 21 NoFinish\ntask 1 refused 21 NoFinish\n";
+        let ends = format!("{still}task 2 refused 21 NoFinish\nfinish 0 tasks 2\n");
         // Once the second has signalled too.
         while !report(&phaser).contains("signals 2") {
             thread::yield_now();
@@ -1050,6 +1332,7 @@ fn trace_is_asked_for_on_the_way() {
         maker.next().unwrap();
         ahead.wait().unwrap();
         assert_eq!(joined(thread), Ok(0));
+        let ends = format!("{still}task 2 ended\nfinish 0 tasks 2\n");
         let totals = "totals registered 3 signals 3 passes 3 drops 3 sends 0 up 0 down 0\n";
         assert_eq!(report(&phaser), format!("phaser 0 phases 1\n{ends}{totals}"));
     });
@@ -1064,7 +1347,8 @@ fn trace_is_asked_for_in_a_single() {
         maker.leave();
         let report_of = |signals, passes| {
             format!(
-                "phaser 0 phases 1\ntask 0 ended\ntask 1 ended\ntask 2 ended\nfinish 0 tasks 2\n\
+                "phaser 0 phases 1\ntask 0 ended\ntask 1 refused 21 NoFinish\ntask 2 refused 21 NoFinish\n\
+                 finish 0 tasks 2\n\
                  totals registered 3 signals {signals} passes {passes} drops 3 sends 0 up 0 down 0\n"
             )
         };
@@ -1082,14 +1366,17 @@ fn trace_is_asked_for_in_a_single() {
             }
             assert_eq!(report(&phaser), report_of(1, 1));
             assert_eq!(last.single(1, statement), Ok(0));
-            assert_eq!(thread.join().unwrap().0, Ok(0));
+            let (phase, _first) = thread.join().unwrap();
+            assert_eq!(phase, Ok(0));
+            assert_eq!(report(&phaser), report_of(2, 2));
         });
         assert_eq!(runs.load(Relaxed), 1);
-        assert_eq!(report(&phaser), report_of(2, 2));
+        assert!(report(&phaser).contains("task 1 ended\ntask 2 refused 21 NoFinish\n"));
     });
 }
 
-/// One task: its making is an event, and each turn two. After 29,999 turns there is room for the signal of one more.
+/// One task: its making is an event, and each turn two. After 29,999 turns there is room for the signal of one more. The task is
+/// still there where the trace ends.
 #[test]
 fn trace_ends_at_60_000_events() {
     in_time(|| {
@@ -1101,7 +1388,7 @@ fn trace_ends_at_60_000_events() {
         assert!(phaser.trace_has_ended());
         (30_000..40_000).for_each(|phase| assert_eq!(task.next(), Ok(phase)));
         let lines = concat!(
-            "phaser 0 phases 30000\ntask 0 ended\nfinish 0 tasks 0\n",
+            "phaser 0 phases 30000\ntask 0 refused 21 NoFinish\nfinish 0 tasks 0\n",
             "totals registered 1 signals 30000 passes 29999 drops 1 sends 0 up 0 down 0\n",
         );
         assert_eq!(report(&phaser), lines);
@@ -1119,10 +1406,10 @@ fn trace_of_threads_ends_at_60_000_events() {
         });
         assert!(phaser.trace_has_ended());
         let lines = concat!(
-            "phaser 0 phases 7500\ntask 0 ended\ntask 1 ended\ntask 2 ended\ntask 3 ended\nfinish 0 tasks 3\n",
+            "phaser 0 phases 7500\nFOUR TASKSfinish 0 tasks 3\n",
             "totals registered 4 signals 30000 passes 29996 drops 4 sends 0 up 0 down 0\n",
         );
-        assert_eq!(report(&phaser), lines);
+        assert_eq!(report(&phaser), lines.replace("FOUR TASKS", &still_there(4)));
     });
 }
 
@@ -1137,10 +1424,10 @@ fn trace_of_singles_ends_at_60_000_events() {
         });
         assert!(phaser.trace_has_ended());
         let lines = concat!(
-            "phaser 0 phases 6000\ntask 0 ended\ntask 1 ended\ntask 2 ended\ntask 3 ended\nfinish 0 tasks 3\n",
+            "phaser 0 phases 6000\nFOUR TASKSfinish 0 tasks 3\n",
             "totals registered 4 signals 24000 passes 24000 drops 4 sends 0 up 0 down 0\n",
         );
-        assert_eq!(report(&phaser), lines);
+        assert_eq!(report(&phaser), lines.replace("FOUR TASKS", &still_there(4)));
     });
 }
 
@@ -1158,7 +1445,7 @@ fn trace_ends_at_task_4_096() {
         assert_eq!(maker.next(), Ok(0));
         let report = report(&phaser);
         // The text ends before the last was registered, so nobody had signalled, and no phase is told.
-        assert!(report.starts_with("phaser 0 phases 0\ntask 0 ended\n"));
+        assert!(report.starts_with("phaser 0 phases 0\ntask 0 refused 21 NoFinish\ntask 1 ended\n"));
         assert!(report.ends_with("totals registered 4096 signals 0 passes 0 drops 4096 sends 0 up 0 down 0\n"));
     });
 }
