@@ -264,6 +264,9 @@ typedef enum paldwosk_status {
 
 /* ---- The archive's functions. Call those below, which look for NULL before. Here no pointer may be NULL. */
 
+/* The form in which this header and the archive hand values to each other. The name has its number: with an archive of
+ * another form a program doesn't link, and the linker names this symbol. */
+uint32_t phaser_c_abi_1(void);
 uint32_t phaser_c_replay(const uint8_t *trace, size_t length, uint8_t *report, size_t room, size_t *written);
 uint32_t phaser_c_events(const uint8_t *file, size_t length, uint8_t *lines, size_t room, size_t *written);
 uint32_t phaser_c_new(paldwosk_phaser *phaser, const paldwosk_limits *limits, const uint32_t *operators, size_t count,
@@ -317,6 +320,7 @@ PALDWOSK_INLINE paldwosk_status paldwosk_replay(const char *trace, size_t length
                                                 size_t *written) {
   uint8_t none = 0, nowhere = 0;
   if ((!trace && length) || (!report && room) || !written) return PALDWOSK_STATUS_NULL;
+  (void)phaser_c_abi_1();
   return (paldwosk_status)phaser_c_replay(trace ? (const uint8_t *)trace : &none, length,
                                           report ? (uint8_t *)report : &nowhere, room, written);
 }
@@ -327,6 +331,7 @@ PALDWOSK_INLINE paldwosk_status paldwosk_events(const char *file, size_t length,
                                                 size_t *written) {
   uint8_t none = 0, nowhere = 0;
   if ((!file && length) || (!lines && room) || !written) return PALDWOSK_STATUS_NULL;
+  (void)phaser_c_abi_1();
   return (paldwosk_status)phaser_c_events(file ? (const uint8_t *)file : &none, length,
                                           lines ? (uint8_t *)lines : &nowhere, room, written);
 }
@@ -343,6 +348,7 @@ PALDWOSK_INLINE paldwosk_answer paldwosk_new(paldwosk_phaser *phaser, const pald
   if (!phaser || !limits || (!operators && count)) return PALDWOSK_NULL;
   for (size_t at = 0; at < count && at < 4; at++) numbers[at] = (uint32_t)operators[at];
   if (count > 4) numbers[0] = 99; /* no operator's: refused in its turn */
+  (void)phaser_c_abi_1();
   return (paldwosk_answer)phaser_c_new(phaser, limits, numbers, count > 4 ? 4 : count, bound);
 }
 

@@ -1312,6 +1312,7 @@ PALDWOSK_INLINE paldwosk_answer paldwosk_new_barrier(paldwosk_barrier *barrier, 
   for (size_t at = 0; at < count && at < 4; at++) numbers[at] = (uint32_t)operators[at];
   if (count > 4) numbers[0] = 99; /* no operator's: refused in its turn */
   if (pthread_once(&paldwosk_forks_once, paldwosk_watch_forks) || paldwosk_are_forks_missed) return PALDWOSK_MEMORY;
+  (void)phaser_c_abi_1();
   paldwosk_answer made = (paldwosk_answer)phaser_c_waiting_new(&barrier->phaser, numbers, count > 4 ? 4 : count, bound);
   if (made != PALDWOSK_DONE) return made;
   barrier->bound = bound;

@@ -46,7 +46,19 @@ paldwosk_answer paldwosk_so_barrier_next(const paldwosk_task *task, uint64_t *ph
   return paldwosk_barrier_next(task, phase);
 }
 
+paldwosk_answer paldwosk_so_barrier_next_for(const paldwosk_task *task, uint32_t milliseconds, uint64_t *phase) {
+  return paldwosk_barrier_next_for(task, milliseconds, phase);
+}
+
 paldwosk_answer paldwosk_so_barrier_signal(const paldwosk_task *task) { return paldwosk_barrier_signal(task); }
+
+paldwosk_answer paldwosk_so_barrier_signal_for(const paldwosk_task *task, uint32_t milliseconds) {
+  return paldwosk_barrier_signal_for(task, milliseconds);
+}
+
+paldwosk_answer paldwosk_so_barrier_wait_for(const paldwosk_task *task, uint32_t milliseconds, uint64_t *phase) {
+  return paldwosk_barrier_wait_for(task, milliseconds, phase);
+}
 
 paldwosk_answer paldwosk_so_barrier_wait(const paldwosk_task *task, uint64_t *phase) {
   return paldwosk_barrier_wait(task, phase);

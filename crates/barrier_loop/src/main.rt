@@ -1,81 +1,36 @@
-//! A caller of the library: three tasks at a barrier with one sum, played in turn by one thread. In
-//! each phase each task sends what it changed, and one of them runs a statement before the others
-//! go on.
+//! A caller of the library, on one thread: tasks at a barrier. First a phaser stores its events for two
+//! phases. Then one that lives as long as the program goes through many. If there is an argument that
+//! one alone is played, for so many phases; the memory is the same for all of them.
 #![tactic(auto)]
 
-use phase_model::{Look, Op, Ops};
-use phase_modes::{Limits, Mode, Refusal};
-use phaser_core::{Passing, PhaserState, Signalling};
-use std::alloc::Global;
+mod long;
+mod stored;
 
-const TASKS: usize = 3;
+use std::env;
 
-/// A barrier of the tasks, with one sum.
-fn barrier(alloc: Global) -> Result<PhaserState, Refusal> {
-    let mut ops = Ops::none();
-    ops.push(Op::Sum);
-    let mut phaser = PhaserState::new(alloc, Limits::default(), ops, None)?;
-    phaser.make(0, Mode::Single)?;
-    for task in 1..TASKS {
-        phaser.register(0, task as u32, Mode::Single)?;
-    }
-    Ok(phaser)
-}
+/// How many phases there are if no argument says it.
+const PHASES: u64 = 1_000_000;
 
-/// The task asks to end its turn. Whether it ended it: if not, it asks again after another's call.
-fn asks(rt: &impl Print, phaser: &mut PhaserState, task: u32) -> anyhow::Result<bool> {
-    match phaser.pass(task)? {
-        Passing::Passed(_) => Ok(true),
-        Passing::NotYet => Ok(false),
-        Passing::Claimed(statement) => {
-            println!(rt; "task {task} runs statement {statement}")?;
-            phaser.single_done(task)?;
-            Ok(false)
-        }
+/// How many phases the argument says, if there is one.
+fn phases(rt: &HostRuntime) -> anyhow::Result<Option<u64>> {
+    // The first argument is the program's own name.
+    match env::args(rt)?.nth(1) {
+        Some(argument) => Ok(Some(argument.parse::<u64>()?)),
+        None => Ok(None),
     }
 }
 
-/// One phase, with the statement of this number at its end. What they changed in all.
-fn phase(
-    rt: &impl Print,
-    phaser: &mut PhaserState,
-    changes: [i32; TASKS],
-    statement: u32,
-) -> anyhow::Result<Look> {
-    let mut ended = [false; TASKS];
-    for (task, change) in changes.iter().enumerate() {
-        phaser.send(task as u32, 0, *change)?;
-        // Each proposes the statement. Without a bound nobody waits to signal.
-        let signalling = phaser.signal(task as u32, Some(statement))?;
-        if signalling != Signalling::Signalled {
-            return Err(Refusal::NotNow.into());
-        }
-        ended[task] = asks(rt, phaser, task as u32)?;
-    }
-    for (task, ended) in ended.iter_mut().enumerate() {
-        if !*ended {
-            *ended = asks(rt, phaser, task as u32)?;
-        }
-    }
-    Ok(phaser.look(0, 0)?)
-}
-
-fn play(rt: &impl Print, alloc: Global) -> anyhow::Result<()> {
-    let mut phaser = barrier(alloc)?;
-    for (statement, changes) in [(7, [3, -1, 4]), (8, [1, 0, -2])] {
-        match phase(rt, &mut phaser, changes, statement)? {
-            Look::Value(sum) => println!(rt; "changed by {sum}")?,
-            Look::Nothing => println!(rt; "nothing was sent")?,
-        }
-    }
-    println!(rt;
-        "{} events, phase 1 closed: {}",
-        phaser.history().len(),
-        phaser.closed(1)
-    )?;
+/// So many phases of the phaser that lives long.
+fn play_long(rt: &HostRuntime, phases: u64) -> anyhow::Result<()> {
+    let sum = long::play(rt.alloc(), phases)?;
+    println!(rt; "{phases} phases, the last sum {sum}")?;
     Ok(())
 }
 
 fn main(rt: HostRuntime) -> anyhow::Result<()> {
-    play(&rt, rt.alloc())
+    if let Some(phases) = phases(&rt)? {
+        return play_long(&rt, phases);
+    }
+    stored::play(&rt, rt.alloc())?;
+    play_long(&rt, PHASES)
 }

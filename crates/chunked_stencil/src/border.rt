@@ -6,9 +6,9 @@ use crate::bell::Bell;
 use crate::cells::GREATEST;
 use crossbeam_utils::CachePadded;
 use long_locks::{LongCell, Out, PassAnswer, SignalAnswer};
-use long_phaser::Task;
 use phase_model::{Bound, LongLook, Look, Op, Ops};
 use phase_modes::{Mode, Refusal};
+use phaser_core::LongTask;
 use std::alloc::Global;
 use std::sync::{Mutex, Wait};
 
@@ -30,7 +30,7 @@ pub enum Place {
 pub struct Side {
     border: usize,
     place: Place,
-    task: Task,
+    task: LongTask,
 }
 
 /// A thread as its tasks' calls need it: the borders, its bell, and the bells of the tasks that a call

@@ -13,7 +13,7 @@ use std::thread::Threads;
 
 /// The task of a piece, with its sides of the borders to its neighbours.
 #[derive(Drop)]
-struct Task {
+struct LongTask {
     piece: Piece,
     left: Option<Side>,
     right: Option<Side>,
@@ -22,7 +22,7 @@ struct Task {
 /// A thread, with the tasks that it keeps, from left to right.
 struct Worker<'a, 'p, R: Wait> {
     me: Caller<'a, 'p, R>,
-    tasks: Vec<Task>,
+    tasks: Vec<LongTask>,
 }
 
 /// The cell that is shown on the other side; outside the row a cell is 0.
@@ -35,7 +35,7 @@ fn seen<R: Wait>(me: &mut Caller<R>, side: &Option<Side>) -> Result<u32, Refusal
     }
 }
 
-impl Task {
+impl LongTask {
     /// It shows its first and its last cell to its neighbours.
     fn show<R: Wait>(&self, me: &mut Caller<R>) -> Result<(), Refusal> {
         if let Some(left) = &self.left {
@@ -67,7 +67,7 @@ impl Task {
 }
 
 /// Whose turn it is: the tasks at both ends come first, since other threads wait for them.
-fn turn(number: usize, tasks: &[Task]) -> usize
+fn turn(number: usize, tasks: &[LongTask]) -> usize
     requires { number < length tasks.now }
     ensures { result < length tasks.now }
 {
@@ -79,7 +79,7 @@ fn turn(number: usize, tasks: &[Task]) -> usize
 }
 
 /// Each of the tasks shows its border cells.
-fn show_all<R: Wait>(me: &mut Caller<R>, tasks: &[Task]) -> Result<(), Refusal> {
+fn show_all<R: Wait>(me: &mut Caller<R>, tasks: &[LongTask]) -> Result<(), Refusal> {
     for task in tasks {
         task.show(me)?;
     }
@@ -87,7 +87,7 @@ fn show_all<R: Wait>(me: &mut Caller<R>, tasks: &[Task]) -> Result<(), Refusal> 
 }
 
 /// Each of the tasks goes a step.
-fn step_all<R: Wait>(me: &mut Caller<R>, tasks: &mut [Task]) -> Result<(), Refusal> {
+fn step_all<R: Wait>(me: &mut Caller<R>, tasks: &mut [LongTask]) -> Result<(), Refusal> {
     for number in 0..tasks.len() {
         let place = turn(number, tasks);
         tasks[place].go(me)?;
@@ -96,7 +96,7 @@ fn step_all<R: Wait>(me: &mut Caller<R>, tasks: &mut [Task]) -> Result<(), Refus
 }
 
 /// All cells of the tasks, from left to right.
-fn cells_of(alloc: Global, tasks: &[Task]) -> Result<Vec<u32>, Refusal> {
+fn cells_of(alloc: Global, tasks: &[LongTask]) -> Result<Vec<u32>, Refusal> {
     let mut cells = Vec::new(alloc);
     for task in tasks {
         cells.extend_from_slice(&task.piece.cells)?;
@@ -165,13 +165,13 @@ fn new_tasks<R: Wait>(
     alloc: Global,
     pieces: Vec<Piece>,
     borders: &[Border],
-) -> Result<Vec<Task>, Refusal> {
+) -> Result<Vec<LongTask>, Refusal> {
     let mut tasks = Vec::new(alloc);
     let mut left = None;
     let mut number = 0usize;
     for piece in pieces {
         let (right, next) = sides_behind(rt, number, borders)?;
-        tasks.push(Task { piece, left, right })?;
+        tasks.push(LongTask { piece, left, right })?;
         left = next;
         number = number.saturating_add(1);
     }
@@ -182,7 +182,7 @@ fn new_tasks<R: Wait>(
 fn new_workers<'a, 'p, R: Wait>(
     rt: &'a R,
     alloc: Global,
-    tasks: Vec<Task>,
+    tasks: Vec<LongTask>,
     borders: &'a [Border<'p>],
     bells: &'p [CachePadded<Bell>],
 ) -> Result<Vec<Worker<'a, 'p, R>>, Refusal>

@@ -1,5 +1,5 @@
-//! Tests of one phaser's crates, up to `phaser_core` and `long_phaser`, and of `phase_modes`,
-//! `phase_model` and `finish_core`, which call what these export.
+//! Tests of one phaser's crates, up to `phaser_core`, and of `phase_modes`, `phase_model` and
+//! `finish_core`, which call what these export.
 //!
 //! A library of tests alone: if they stood in the crates themselves, these would be proved once
 //! more with each change of a test.

@@ -2,15 +2,12 @@
 //! drawn calls beside a stored phaser, and through lives of thousands of phases.
 use crate::asserted::{equal, equal_at};
 use crate::drawn::{Dice, without_number};
-use long_phaser::LongPhaser;
-use phase_model::{Bound, Call, LongLook, Look, Ops, Reply};
-use phase_modes::{Limits, LongReg, Mode, Refusal, Reg};
-use phaser_answers::LongPassing;
-use phaser_core::{Passing, PhaserState, Signalling};
+use phase_model::{Bound, Call, LongLook, LongPassing, Look, Ops, Reply};
+use phase_modes::{Limits, LongReg, Mode, Refusal, Reg, TaskNumber};
+use phaser_core::{LongPhaser, Passing, PhaserState, Signalling};
 use std::alloc::Global;
 use std::process::Abort;
 use std::test::Fail;
-use task_numbers::TaskNumber;
 use worked_examples::*;
 
 mod drawing;

@@ -1,6 +1,6 @@
 //! Numbers at both ends of a word.
 use crate::asserted::equal;
-use number_set::NumberSet;
+use phase_modes::NumberSet;
 use std::test::Fail;
 
 #[test]

@@ -6,12 +6,11 @@ use phase_model::{
     Bound, Call, Event, History, Look, Ops, Reply, Terms, allowed, claimed, closed, did, explain,
     fold, live, proposed, signals, waits,
 };
-use phase_modes::{Limits, Mode, Refusal};
+use phase_modes::{Limits, Mode, Refusal, TaskNumber};
 use phaser_core::{Passing, PhaserState, Signalling};
 use std::alloc::Global;
 use std::process::Abort;
 use std::test::Fail;
-use task_numbers::TaskNumber;
 use worked_examples::{Example, PLAIN, Row, first_ops};
 
 mod blank;

@@ -16,8 +16,8 @@ use Rattle.phase_model.proofs.Legal.{last_follows, reg_follows}
 use Rattle.phase_model.proofs.LiveTasks.{mode_known}
 use Rattle.told_history.specs.declared.wide.LongEvent.{LongEvent}
 use Rattle.told_history.specs.Wide.{event_of}
-use Rattle.long_phaser.specs.Numbered.{long_limits}
-use Rattle.ghost_log.specs.Tails.{IsTail}
+use Rattle.phaser_core.specs.LongLife.{long_limits}
+use Rattle.told_history.specs.Tails.{IsTail}
 use Rattle.long_locks.specs.Events.{with_one}
 
 some_mode : (test : Mode → Bool) (o : Option Mode) → option_map_or test o false ≡ true → is_some o ≡ true

@@ -7,10 +7,10 @@ use Rattle.phase_model.specs.declared.op.Look.{Look}
 use Rattle.phase_model.specs.declared.op.Op.{Op}
 use Rattle.phase_model.specs.Phases.{IsClosed}
 use Rattle.phase_model.specs.Tasks.{has_mode}
-use Rattle.parked_tasks.specs.declared.answer.PassAnswer.{PassAnswer}
-use Rattle.parked_tasks.specs.declared.answer.PassAnswer.TheVariants.{Passed, Claimed, Parked as Waits, Refused}
+use Rattle.phaser_core.specs.declared.answer.PassAnswer.{PassAnswer}
+use Rattle.phaser_core.specs.declared.answer.PassAnswer.TheVariants.{Passed, Claimed, Parked as Waits, Refused}
 use Rattle.world_model.specs.Laws.{IsFolded}
-use Rattle.ghost_log.specs.Tails.{IsTail}
+use Rattle.told_history.specs.Tails.{IsTail}
 use Rattle.long_locks.specs.Told.{IfPassed}
 use Rattle.example_threads.specs.Turns.{IsGood, IsFoldOfAll}
 

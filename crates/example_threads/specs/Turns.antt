@@ -8,7 +8,7 @@ use Rattle.phase_model.specs.declared.op.Op.{Op}
 use Rattle.phase_model.specs.Phases.{IsClosed, waits}
 use Rattle.phase_model.specs.declared.terms.Terms.{Terms}
 use Rattle.phase_model.specs.Rules.{is_legal, look_of}
-use Rattle.long_phaser.specs.Numbered.{long_limits}
+use Rattle.phaser_core.specs.LongLife.{long_limits}
 use Rattle.long_locks.specs.Told.{HasLooked}
 
 -- the phase that was passed is closed in what was seen by then, which is something; and later some task looked, and saw

@@ -5,21 +5,20 @@ ghost use Rattle.phase_modes.specs.Lists.{is_empty};
 ghost use Rattle.phase_modes.specs.Mode.{can_wait};
 ghost use Rattle.phase_model.specs.Phases.{IsClosed};
 ghost use Rattle.phase_model.specs.Tasks.{has_mode};
-ghost use Rattle.ghost_log.specs.Tails.{IsTail};
+ghost use Rattle.told_history.specs.Tails.{IsTail};
 ghost use Rattle.example_threads.specs.Turns.{IsGood, IsFoldOfAll, AreFoldsOfAll};
 
 use crate::turn::{Player, Turn};
-use ghost_log::Whole;
 use long_locks::{Front, LongLock, Naming};
-use long_phaser::Task;
 use phase_model::{Bound, LongLook, Op, Ops};
 use phase_modes::{Mode, Refusal};
+use phaser_core::LongTask;
 use std::alloc::Global;
 use std::marker::Brand;
 use std::sync::Wait;
 use std::thread;
 use std::thread::{Parker, Threads};
-use told_history::LongEvent;
+use told_history::{LongEvent, Whole};
 
 /// What came of both turns, and the whole history of the phaser that is left.
 #[derive(Drop)]
@@ -32,29 +31,29 @@ pub struct Outcome<J: Naming> {
 /// Two tasks of a new phaser, and what was seen when both were registered.
 #[derive(Drop)]
 struct Pair<J: Naming> {
-    maker: Task,
-    child: Task,
+    maker: LongTask,
+    child: LongTask,
     start: Front<J>,
 }
 
 /// The phaser is made, with a maker that can signal and wait.
-fn make<J: Naming, R: Wait>(
+pub(crate) fn make<J: Naming, R: Wait>(
     rt: &R,
     lock: &LongLock<J, &Parker>,
     me: &mut Front<J>,
-) -> Result<Task, Refusal>
+) -> Result<LongTask, Refusal>
     ensures waits { IfOk result (λ t. has_mode can_wait t me.new ≡ true) }
 {
     lock.lock(rt).make(me, Mode::SigWait)
 }
 
 /// A child is registered that can signal and wait. Its parent still can wait.
-fn register<J: Naming, R: Wait>(
+pub(crate) fn register<J: Naming, R: Wait>(
     rt: &R,
     lock: &LongLock<J, &Parker>,
     me: &mut Front<J>,
-    parent: Task,
-) -> Result<Task, Refusal>
+    parent: LongTask,
+) -> Result<LongTask, Refusal>
     ensures child { IfOk result (λ t. has_mode can_wait t me.new ≡ true) }
     ensures parent { has_mode can_wait parent me.old ≡ true → has_mode can_wait parent me.new ≡ true }
 {

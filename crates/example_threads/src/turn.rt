@@ -1,4 +1,4 @@
-//! What one thread does: its task takes a turn.
+//! What one thread does: its task takes a turn, or one in each of many phases.
 ghost use Rattle.std.specs.Prelude.{◌≡◌, [], true, IfOk};
 ghost use Rattle.phase_modes.specs.Mode.{can_wait};
 ghost use Rattle.phase_model.specs.Phases.{IsClosed};
@@ -7,19 +7,29 @@ ghost use Rattle.long_locks.specs.Told.{IfPassed, HasLooked};
 ghost use Rattle.example_threads.specs.Turns.{IsGood};
 
 use long_locks::{Front, LongLock, Naming, Out, PassAnswer, SignalAnswer};
-use long_phaser::{Phase, Task};
-use phase_model::LongLook;
+use phase_model::{LongLook, Look};
 use phase_modes::Refusal;
+use phaser_core::{LongTask, Phase};
 use std::alloc::Global;
 use std::sync::Wait;
 use std::thread::Parker;
+
+/// What the task sends in the phase.
+fn change(task: LongTask, phase: Phase) -> i32 {
+    (phase % 1_000) as i32 + (task % 4) as i32
+}
+
+/// The sum of what the tasks 0 to 3 send.
+fn sum_of(phase: Phase) -> i128 {
+    4 * i128::from(phase % 1_000) + 6
+}
 
 /// A task that its thread keeps, and what it has seen of the phaser. While the task is parked, the
 /// thread's parker is the item that stands for it: whose call frees the task wakes the thread by it.
 pub struct Player<'a, 'p, J: Naming, R: Wait> {
     rt: &'a R,
     lock: &'a LongLock<J, &'p Parker>,
-    pub task: Task,
+    pub task: LongTask,
     parker: &'p Parker,
     pub front: Front<J>,
     out: Out<&'p Parker>,
@@ -52,7 +62,7 @@ impl<'a, 'p, J: Naming, R: Wait> Player<'a, 'p, J, R> {
         rt: &'a R,
         alloc: Global,
         lock: &'a LongLock<J, &'p Parker>,
-        task: Task,
+        task: LongTask,
         parker: &'p Parker,
         front: Front<J>,
     ) -> Result<Player<'a, 'p, J, R>, Refusal>
@@ -152,6 +162,27 @@ impl<'a, 'p, J: Naming, R: Wait> Player<'a, 'p, J, R> {
             later,
             seen,
         })
+    }
+
+    /// The task meets the others. Whether that was in this phase, and it sees the expected sum.
+    fn meet(&mut self, phase: Phase) -> Result<bool, Refusal> {
+        self.send(change(self.task, phase))?;
+        self.signal()?;
+        let passed = self.pass()?;
+        let seen = self.look()?;
+        Ok(passed == phase && seen == Look::Value(sum_of(phase)))
+    }
+
+    /// The task meets the others in so many phases, and leaves. How often it saw the expected sum.
+    pub fn play(self, phases: Phase) -> Result<u64, Refusal> {
+        let mut player = self;
+        let mut right = 0u64;
+        for phase in 0..phases {
+            if player.meet(phase)? {
+                right = right.saturating_add(1);
+            }
+        }
+        Ok(right)
     }
 }
 

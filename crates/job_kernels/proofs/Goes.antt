@@ -9,13 +9,13 @@ use Rattle.world_model.specs.declared.event.WorldEvent.{WorldEvent}
 use Rattle.world_model.specs.Drawing.{own_pairs}
 use Rattle.world_model.specs.Replies.{is_legal_world}
 use Rattle.world_model.specs.Report.{refused_by}
-use Rattle.schedule_model.specs.Follows.{drawn}
-use Rattle.schedule_model.specs.Scripts.{Made as MadeAct, Numbers, act_of}
+use Rattle.trace_walk.specs.Follows.{drawn}
+use Rattle.trace_walk.specs.Scripts.{Made as MadeAct, Numbers, act_of}
 use Rattle.trace_walk.specs.Given.{tried_of}
-use Rattle.body_follows.specs.Going.{does, goes_by, is_next}
+use Rattle.trace_walk.specs.Going.{does, goes_by, is_next}
 use Rattle.trace_walk.specs.Walking.{Does}
-use Rattle.body_follows.specs.Whole.{IsSmooth}
-use Rattle.body_follows.proofs.SameActs.{act_is}
+use Rattle.trace_walk.specs.Whole.{IsSmooth}
+use Rattle.trace_walk.proofs.SameActs.{act_is}
 
 -- the act as the world knows it, where t makes it and these numbers are drawn for it
 abbrev pub tried_as : {B : Type 0} → List WorldEvent → ℕ → Numbers → Act B → Tried

@@ -29,13 +29,13 @@ use Rattle.world_model.proofs.PassesInTurns.{unborn_none}
 use Rattle.world_model.proofs.PhasersLegal.{event_of}
 use Rattle.world_model.proofs.BornWhereNamed.{born_named}
 use Rattle.world_model.proofs.LeavingList.{ends_act}
-use Rattle.schedule_model.specs.Scripts.{act_of, is_of, parent_by}
+use Rattle.trace_walk.specs.Scripts.{act_of, is_of, parent_by}
 use Rattle.job_kernels.specs.declared.pipeline_body.PipelineBody.{PipelineBody}
 use Rattle.job_kernels.specs.Tasks.{Does}
 use Rattle.job_kernels.specs.Results.{value_seen}
 use Rattle.job_kernels.specs.PipelineLines.{items_at}
 use Rattle.job_kernels.specs.PipelineTasks.{root_task, pipeline_next}
-use Rattle.body_follows.specs.Going.{heard, child_does, does}
+use Rattle.trace_walk.specs.Going.{heard, child_does, does}
 use Rattle.job_kernels.proofs.Numbers.{apart_next_le, le_next, lt_next, lt_not_same, same_lt_next, zero_least}
 use Rattle.job_kernels.proofs.Plain.{IsPlain, is_plain, turns, spawned, child_at, flipped}
 use Rattle.job_kernels.proofs.Paces.{unborn_turns}

@@ -23,7 +23,7 @@ use Rattle.world_model.specs.TaskConditions.{last_entry}
 use Rattle.world_model.proofs.AbleComputed.{idle_in_act}
 use Rattle.world_model.proofs.PhasersFolded.{phasers_folded}
 use Rattle.world_model.proofs.LeavingList.{ends_act}
-use Rattle.schedule_model.specs.Follows.{drawn}
+use Rattle.trace_walk.specs.Follows.{drawn}
 use Rattle.job_kernels.specs.Results.{value_seen}
 use Rattle.job_kernels.specs.PipelineLines.{items_at}
 use Rattle.job_kernels.proofs.Numbers.{lt_le, next_le_lt, next_less_one, not_its_next}

@@ -27,7 +27,7 @@ use Rattle.job_kernels.specs.PipelineLines.{items_at}
 use Rattle.job_kernels.specs.PipelineTasks.{root_next, root_task, spawn, pipeline_next}
 use Rattle.job_kernels.specs.Results.{value_seen}
 use Rattle.job_kernels.specs.Tasks.{Does}
-use Rattle.body_follows.specs.Whole.{IsWhole}
+use Rattle.trace_walk.specs.Whole.{IsWhole}
 use Rattle.job_kernels.specs.Totals.{stage_turns, pipeline_totals, RunsTotalPipeline}
 use Rattle.job_kernels.proofs.Numbers.{le_self, plus_zero, right_part_le, zero_plus}
 use Rattle.job_kernels.proofs.Goes.{GoesSmoothly, smoothly}

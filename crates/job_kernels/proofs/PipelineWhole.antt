@@ -25,7 +25,7 @@ use Rattle.job_kernels.specs.Results.{value_seen, values_of, items_of}
 use Rattle.job_kernels.specs.PipelineLines.{number_at, items_at}
 use Rattle.job_kernels.specs.PipelineTasks.{root_task, pipeline_next}
 use Rattle.job_kernels.proofs.PipelineRuns.{items_in_order}
-use Rattle.body_follows.specs.Whole.{IsWhole}
+use Rattle.trace_walk.specs.Whole.{IsWhole}
 use Rattle.job_kernels.proofs.Numbers.{le_both_ways, le_self, le_without_one, lt_zero_plus, no_next_le_zero, none_below_zero, zero_least, zero_plus}
 use Rattle.job_kernels.proofs.Goes.{GoesSmoothly, smoothly}
 use Rattle.job_kernels.specs.Pipelines.{RunsComeToPipeline}

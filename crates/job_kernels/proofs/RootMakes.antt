@@ -20,11 +20,11 @@ use Rattle.world_model.specs.Numbers.{names}
 use Rattle.world_model.specs.Replies.{is_accepted}
 use Rattle.world_model.proofs.MadeMeans.{last_accepted}
 use Rattle.world_model.proofs.SpawnUnderWay.{names_fresh}
-use Rattle.schedule_model.specs.Follows.{drawn}
-use Rattle.schedule_model.specs.Scripts.{Numbers, parent_by}
+use Rattle.trace_walk.specs.Follows.{drawn}
+use Rattle.trace_walk.specs.Scripts.{Numbers, parent_by}
 use Rattle.trace_walk.specs.Given.{tried_of}
 use Rattle.job_kernels.specs.Tasks.{Does}
-use Rattle.body_follows.specs.Going.{does, heard}
+use Rattle.trace_walk.specs.Going.{does, heard}
 use Rattle.job_kernels.proofs.Goes.{tried_as, GoesSmoothly}
 use Rattle.job_kernels.proofs.Plain.{is_plain}
 use Rattle.job_kernels.proofs.Telling.{smooth_before, same}

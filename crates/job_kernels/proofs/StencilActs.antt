@@ -26,7 +26,7 @@ use Rattle.world_model.proofs.AbleComputed.{idle_in_act}
 use Rattle.world_model.proofs.PassesInTurns.{idle_is_born}
 use Rattle.world_model.proofs.BornWhereNamed.{born_named}
 use Rattle.world_model.proofs.SpawnUnderWay.{names_fresh}
-use Rattle.schedule_model.specs.Follows.{drawn}
+use Rattle.trace_walk.specs.Follows.{drawn}
 use Rattle.job_kernels.specs.declared.stencil_body.StencilBody.{StencilBody}
 use Rattle.job_kernels.specs.Stencil.{AtMost}
 use Rattle.job_kernels.specs.StencilLines.{cells_at}

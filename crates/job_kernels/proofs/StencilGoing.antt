@@ -25,13 +25,13 @@ use Rattle.world_model.specs.TaskConditions.{last_entry}
 use Rattle.world_model.proofs.PassesInTurns.{unborn_none}
 use Rattle.world_model.proofs.BornWhereNamed.{born_named}
 use Rattle.world_model.proofs.LeavingList.{ends_act}
-use Rattle.schedule_model.specs.Scripts.{act_of, is_of, parent_by}
+use Rattle.trace_walk.specs.Scripts.{act_of, is_of, parent_by}
 use Rattle.job_kernels.specs.declared.stencil_body.StencilBody.{StencilBody}
 use Rattle.job_kernels.specs.Tasks.{Does}
 use Rattle.job_kernels.specs.Stencil.{AtMost}
 use Rattle.job_kernels.specs.StencilLines.{cells_at}
 use Rattle.job_kernels.specs.StencilTasks.{greatest, cell_task, phasers_of, root_task, stencil_next}
-use Rattle.body_follows.specs.Going.{heard, child_does, does}
+use Rattle.trace_walk.specs.Going.{heard, child_does, does}
 use Rattle.job_kernels.proofs.Numbers.{part_le, zero_least}
 use Rattle.job_kernels.proofs.Plain.{IsPlain, is_plain, turns, sends, spawned, child_at, flipped}
 use Rattle.job_kernels.proofs.Paces.{unborn_turns}

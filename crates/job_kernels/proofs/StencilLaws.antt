@@ -11,7 +11,7 @@ use Rattle.world_model.specs.declared.event.WorldEvent.TheVariants.{Phaser, Fini
 use Rattle.world_model.specs.Parts.{phaser_past}
 use Rattle.world_model.specs.Replies.{is_legal_world, is_accepted}
 use Rattle.world_model.proofs.MadeMeans.{last_accepted}
-use Rattle.schedule_model.specs.Scripts.{act_of}
+use Rattle.trace_walk.specs.Scripts.{act_of}
 use Rattle.job_kernels.specs.Stencil.{AtMost}
 use Rattle.job_kernels.specs.StencilLines.{cells_at}
 use Rattle.job_kernels.specs.StencilTasks.{greatest, root_task, stencil_next}

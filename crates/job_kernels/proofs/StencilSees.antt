@@ -26,7 +26,7 @@ use Rattle.world_model.specs.TaskConditions.{last_entry}
 use Rattle.world_model.proofs.AbleComputed.{idle_in_act}
 use Rattle.world_model.proofs.PhasersFolded.{phasers_folded}
 use Rattle.world_model.proofs.LeavingList.{ends_act}
-use Rattle.schedule_model.specs.Follows.{drawn}
+use Rattle.trace_walk.specs.Follows.{drawn}
 use Rattle.job_kernels.specs.StencilLines.{cells_at}
 use Rattle.job_kernels.specs.Tasks.{pair_on}
 use Rattle.job_kernels.specs.StencilTasks.{neighbours, left_of, right_of, phasers_of}

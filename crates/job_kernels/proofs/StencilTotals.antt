@@ -27,7 +27,7 @@ use Rattle.job_kernels.specs.StencilLines.{cells_at}
 use Rattle.job_kernels.specs.StencilTasks.{greatest, right_of, neighbours, phasers_of, root_next, root_task, stencil_next}
 use Rattle.job_kernels.specs.Tasks.{Does, pair_on}
 use Rattle.job_kernels.proofs.StencilRuns.{length-stencil}
-use Rattle.body_follows.specs.Whole.{IsWhole}
+use Rattle.trace_walk.specs.Whole.{IsWhole}
 use Rattle.job_kernels.specs.Totals.{places, stencil_totals, RunsTotalStencil}
 use Rattle.job_kernels.proofs.Numbers.{plus_zero, right_part_le, zero_least, zero_plus}
 use Rattle.job_kernels.proofs.Goes.{smoothly}

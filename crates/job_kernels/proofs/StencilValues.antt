@@ -19,7 +19,7 @@ use Rattle.world_model.proofs.AbleComputed.{idle_in_act}
 use Rattle.world_model.proofs.BornWhereNamed.{born_named}
 use Rattle.world_model.proofs.SpawnUnderWay.{names_fresh}
 use Rattle.world_model.proofs.PhasersLegal.{event_of}
-use Rattle.schedule_model.specs.Follows.{drawn}
+use Rattle.trace_walk.specs.Follows.{drawn}
 use Rattle.job_kernels.specs.StencilLines.{cells_at}
 use Rattle.job_kernels.proofs.SentSums.{step_sends_nothing}
 use Rattle.job_kernels.proofs.Numbers.{apart_next_le, lt_next, same_not_lt}

@@ -44,7 +44,7 @@ use Rattle.job_kernels.specs.Tasks.{pair_on}
 use Rattle.job_kernels.specs.StencilTasks.{greatest, neighbours, phasers_of, root_task, stencil_next}
 use Rattle.job_kernels.specs.Results.{value_in, cell_of, cells_of}
 use Rattle.job_kernels.proofs.StencilRuns.{length-stencil}
-use Rattle.body_follows.specs.Whole.{IsWhole}
+use Rattle.trace_walk.specs.Whole.{IsWhole}
 use Rattle.job_kernels.proofs.Numbers.{lt_next_le, lt_zero_plus, zero_least, zero_plus}
 use Rattle.job_kernels.proofs.Goes.{smoothly}
 use Rattle.job_kernels.specs.Stencils.{RunsComeToStencil}

@@ -18,9 +18,9 @@ use Rattle.world_model.specs.TaskConditions.{last_entry}
 use Rattle.world_model.proofs.MadeMeans.{last_accepted}
 use Rattle.world_model.proofs.AbleComputed.{idle_in_act}
 use Rattle.world_model.proofs.PassesInTurns.{idle_is_born}
-use Rattle.schedule_model.specs.Scripts.{act_of, is_of, parent_by}
+use Rattle.trace_walk.specs.Scripts.{act_of, is_of, parent_by}
 use Rattle.job_kernels.specs.Tasks.{Does}
-use Rattle.body_follows.specs.Going.{does}
+use Rattle.trace_walk.specs.Going.{does}
 use Rattle.job_kernels.proofs.Goes.{GoesSmoothly}
 use Rattle.job_kernels.proofs.Plain.{turns, sends}
 use Rattle.job_kernels.proofs.Paces.{unborn_before}

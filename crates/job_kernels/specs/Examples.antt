@@ -12,7 +12,7 @@ use Rattle.world_model.specs.declared.event.WorldEvent.TheVariants.{Phaser, Fini
 use Rattle.job_kernels.specs.Tasks.{pair_on}
 use Rattle.job_kernels.specs.StencilTasks as stencils
 use Rattle.job_kernels.specs.PipelineTasks as pipelines
-use Rattle.body_follows.specs.Whole.{IsWhole}
+use Rattle.trace_walk.specs.Whole.{IsWhole}
 use Rattle.job_kernels.specs.Totals.{pipeline_totals, stencil_totals}
 
 -- a step of two cells, 4 and 8, which become 4 and 5

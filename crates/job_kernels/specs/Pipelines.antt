@@ -6,7 +6,7 @@ use Rattle.world_model.specs.Report.{report_of}
 use Rattle.job_kernels.specs.Results.{items_of}
 use Rattle.job_kernels.specs.Pipeline.{pipeline}
 use Rattle.job_kernels.specs.PipelineTasks.{root_task, pipeline_next}
-use Rattle.body_follows.specs.Whole.{IsWhole}
+use Rattle.trace_walk.specs.Whole.{IsWhole}
 
 -- a whole run gives the items of the pipeline, in order
 abbrev pub RunsComeToPipeline : Type 0

@@ -13,8 +13,8 @@ use Rattle.job_kernels.specs.Results.{cells_of}
 use Rattle.job_kernels.specs.Stencil.{AtMost, stencil}
 use Rattle.job_kernels.specs.StencilLines.{cells_at}
 use Rattle.job_kernels.specs.StencilTasks.{greatest, root_task, stencil_next}
-use Rattle.body_follows.specs.Going.{heard}
-use Rattle.body_follows.specs.Whole.{IsSmooth, IsWhole}
+use Rattle.trace_walk.specs.Going.{heard}
+use Rattle.trace_walk.specs.Whole.{IsSmooth, IsWhole}
 
 -- a law of each history, whole or not, in which the tasks of this stencil go on and none is refused
 abbrev pub OfEachStencil : ((first : List ℕ) → (steps : ℕ) → List WorldEvent → Type 0) → Type 0

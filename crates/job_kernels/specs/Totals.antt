@@ -9,7 +9,7 @@ use Rattle.job_kernels.specs.Pipeline.{pipeline}
 use Rattle.job_kernels.specs.PipelineTasks as piping
 use Rattle.job_kernels.specs.Stencil.{AtMost, stencil}
 use Rattle.job_kernels.specs.StencilTasks as cells
-use Rattle.body_follows.specs.Whole.{IsWhole}
+use Rattle.trace_walk.specs.Whole.{IsWhole}
 
 -- ---- the stencil
 

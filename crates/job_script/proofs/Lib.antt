@@ -1,8 +1,11 @@
 pub mod Ends
 pub mod FormExamples
+pub mod Keys
+pub mod Loops
 pub mod Nesting
 pub mod NumberOf
 pub mod Numbering
 pub mod OnTexts
 pub mod Places
 pub mod Stepping
+pub mod Utf8

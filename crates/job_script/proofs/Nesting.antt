@@ -3,7 +3,7 @@ use Rattle.std.proofs.Common.{◌≡◌, ℕ, suc, ◌+◌, ◌-◌, ◌<◌, So
 use Rattle.serde_json.specs.Data.{Data}
 use Rattle.phase_modes.specs.declared.refusal.Refusal.{Refusal}
 use Rattle.phase_modes.specs.declared.refusal.Refusal.TheVariants.{Memory, BadText}
-use Rattle.text_words.specs.Reading.{Fails}
+use Rattle.job_script.specs.Reading.{Fails}
 use Rattle.job_script.specs.declared.head.Head.{Head}
 use Rattle.job_script.specs.Names.{Seen}
 use Rattle.job_script.specs.ActForms.{Said, said_in, head_of, inner_of}

@@ -5,7 +5,7 @@ use Rattle.serde_json.specs.Data.{Data, Items, no_items}
 use Rattle.serde_json.specs.Find.{at, as_array}
 use Rattle.phase_modes.specs.declared.reg.Mode.{Mode}
 use Rattle.phase_model.specs.declared.terms.Terms.{Terms}
-use Rattle.text_words.specs.Words.{◌>>=◌, number_in, ends_at, word_at, number_at, accumulator_at, bound_at, value_at, mode_at, ops_at, all_in, at_most}
+use Rattle.job_script.specs.Words.{◌>>=◌, number_in, ends_at, word_at, number_at, accumulator_at, bound_at, value_at, mode_at, ops_at, all_in, at_most}
 use Rattle.job_script.specs.declared.head.Head.{Head}
 use Rattle.job_script.specs.declared.head.Head.TheVariants as heads
 use Rattle.job_script.specs.Names.{Seen, NameMode, name_at, number_of, numbered}

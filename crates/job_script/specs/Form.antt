@@ -7,7 +7,7 @@ use Rattle.std.specs.Prelude.{ℕ, zero, suc, ◌+◌, ◌*◌, not, [], ◌∷�
 use Rattle.serde_json.specs.Data.{Data, Items, no_items, item}
 use Rattle.serde_json.specs.Find.{get, as_array}
 use Rattle.phase_modes.specs.declared.limits.Limits.{Limits}
-use Rattle.text_words.specs.Words.{◌>>=◌, has_only, limits_of}
+use Rattle.job_script.specs.Words.{◌>>=◌, has_only, limits_of}
 use Rattle.job_script.specs.declared.head.Head.{Head}
 use Rattle.job_script.specs.declared.head.Head.TheVariants as heads
 use Rattle.job_script.specs.Acts.{Acts, no_acts, with_act, flat_length}

@@ -3,6 +3,8 @@ pub mod Acts
 pub mod Form
 pub mod Names
 pub mod Program
+pub mod Reading
 pub mod Steps
 pub mod TextExamples
+pub mod Words
 pub mod inner

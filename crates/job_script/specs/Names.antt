@@ -6,7 +6,7 @@ use Rattle.std.specs.Str.{bytes_eq}
 use Rattle.serde_json.specs.Data.{Data}
 use Rattle.serde_json.specs.Find.{at, as_str}
 use Rattle.phase_modes.specs.declared.reg.Mode.{Mode}
-use Rattle.text_words.specs.Words.{◌>>=◌}
+use Rattle.job_script.specs.Words.{◌>>=◌}
 use Rattle.job_script.specs.declared.head.Named.{Named}
 
 -- ---- how a name is written

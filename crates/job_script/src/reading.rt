@@ -2,7 +2,7 @@
 ghost use Rattle.std.specs.Prelude.{◌≡◌, ◌≤◌, ◌+◌, ◌<◌, true, map, option_map, length, Some, None, IfOk, IfErr, IfSome};
 ghost use Rattle.std.specs.Option.{option_map_or};
 ghost use Rattle.serde_json.specs.View.{view, items_view};
-ghost use Rattle.text_words.specs.Reading.{Gives, reading};
+ghost use Rattle.job_script.specs.Reading.{Gives, reading};
 ghost use Rattle.phase_modes.specs.declared.refusal.Refusal.TheVariants.{Memory as NoMemory};
 ghost use Rattle.phase_modes.specs.Limits.{limits_fit};
 ghost use Rattle.serde_json.specs.Data.{no_items};
@@ -18,10 +18,10 @@ use crate::program::Program;
 use crate::said::{NameMode, Said, said_of};
 use crate::seen::Seen;
 use crate::stored::{Body, Item, TOO_MANY};
+use crate::{has_only_keys, json_of, limits_of};
 use phase_modes::{Limits, Refusal};
 use serde_json::Value;
 use std::alloc::Global;
-use text_words::{has_only_keys, json_of, limits_of};
 
 /// A list of acts as it was read, the place after it, and the place of the act with which its
 /// length first passed ten thousand.

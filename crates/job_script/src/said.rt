@@ -3,20 +3,18 @@
 ghost use Rattle.std.specs.Prelude.{◌≡◌, ◌≤◌, option_map, map, length, IfOk, IfErr, IfSome};
 ghost use Rattle.std.specs.List.{list_all};
 ghost use Rattle.serde_json.specs.View.{view, items_view};
-ghost use Rattle.text_words.specs.Words.{all_in, at_most};
+ghost use Rattle.job_script.specs.Words.{all_in, at_most};
 ghost use Rattle.phase_modes.specs.declared.refusal.Refusal.TheVariants.{Memory as NoMemory};
 ghost use Rattle.job_script.specs.Names.{is_name_byte, is_name, name_in, name_at};
 ghost use Rattle.job_script.specs.ActForms.{items_at, bound_after, plain_in, new_in, single_in, send_in, look_in, pair_in, async_in, async_all_in, repeat_in, said_in};
 ghost use Rattle.job_script.specs.inner.SaidViews.{said_view, pair_view, HasFew};
 
 use crate::head::Head;
+use crate::{accumulator_at, bound_at, mode_at, number_at, number_of, ops_at, value_at, word_at};
 use phase_model::{Bound, Terms};
 use phase_modes::{Mode, Refusal};
 use serde_json::Value;
 use std::alloc::Global;
-use text_words::{
-    accumulator_at, bound_at, mode_at, number_at, number_of, ops_at, value_at, word_at,
-};
 
 /// A phaser's name as it is written, and the mode in which a child is to be registered on it.
 #[derive(Clone, Copy)]

@@ -7,7 +7,7 @@ use phase_modes::{Limits, Mode, Pair, Phased};
 use std::alloc::Global;
 use std::process::Abort;
 use std::test::Fail;
-use trace_model::{EventView, LongEvent, ShortAct, Trace, TracedEvent, TracedStep};
+use trace_model::{EventView, LargeEvent, ShortAct, Trace, TracedEvent, TracedStep};
 use trace_walk::{actor, is_given};
 use world_model::{Begun, Tried};
 
@@ -72,7 +72,7 @@ fn is_tried_so(
     act: &Act<ScriptBody<'_>>,
 ) -> Result<bool, Fail> {
     let (event, tried) = row;
-    let refused = LongEvent::Refuse(0, *tried, 1);
+    let refused = LargeEvent::Refuse(0, *tried, 1);
     let held = one_event(alloc, *event)?;
     if held.len() == 0 {
         return Ok(false);

@@ -3,10 +3,10 @@ use crate::asserted::{equal, equal_at};
 use crate::entries::entry_of;
 use job_ends::{Failure, Status};
 use phase_modes::{Limits, Refusal};
-use replay_job::{ending_on, replay_bytes, replay_on};
 use std::alloc::Global;
 use std::process::Abort;
 use std::test::Fail;
+use text_jobs::{replay_bytes, replay_on};
 use trace_model::{Trace, TracedEvent};
 use trace_text::from_json;
 
@@ -144,15 +144,14 @@ fn has_no_room(rt: &impl Abort, alloc: Global, text: &str) {
     let mut out = &mut full[..];
     let mut faults = Vec::new(alloc);
     let mut trace_out = Some(Vec::new(alloc));
-    let ended = ending_on(
+    let status = replay_on(
         alloc,
         text.as_bytes(),
         &mut out,
         &mut faults,
         &mut trace_out,
     );
-    equal(rt, ended.status, Status::Fault);
-    assert!(rt; ended.reported);
+    equal(rt, status, Status::Fault);
     is_trace(rt, trace_out.as_ref(), SMALLEST, text);
     are_bytes(rt, &faults, "fault write\n", text);
 }
@@ -171,14 +170,14 @@ fn has_no_room_in_out(rt: &impl Abort, alloc: Global, text: &str) {
     let mut trace_out = Some(&mut full[..]);
     let mut out = Vec::new(alloc);
     let mut faults = Vec::new(alloc);
-    let ended = ending_on(
+    let status = replay_on(
         alloc,
         text.as_bytes(),
         &mut out,
         &mut faults,
         &mut trace_out,
     );
-    equal(rt, ended.status, Status::Fault);
+    equal(rt, status, Status::Fault);
     are_bytes(rt, &out, "", text);
     are_bytes(rt, &faults, "fault write\n", text);
 }

@@ -3,8 +3,8 @@
 use crate::asserted::equal;
 use job_ends::{Failure, Status};
 use phase_modes::Refusal;
-use schedule_job::{ending_on, schedule_bytes, schedule_on};
 use std::process::Abort;
+use text_jobs::{schedule_bytes, schedule_on};
 
 mod programs;
 
@@ -48,7 +48,7 @@ fn trace_fails(rt: HostRuntime) {
     let mut faults = Vec::new(rt.alloc());
     let mut full = [0u8; 20];
     let mut trace_out = Some(&mut full[..]);
-    let ended = ending_on(
+    let status = schedule_on(
         rt.alloc(),
         SMALLEST.as_bytes(),
         &[],
@@ -56,7 +56,7 @@ fn trace_fails(rt: HostRuntime) {
         &mut faults,
         &mut trace_out,
     );
-    equal(&rt, ended.status, Status::Fault);
+    equal(&rt, status, Status::Fault);
     equal(&rt, out.len(), 0);
     equal(&rt, faults.as_slice(), b"fault write\n".as_slice());
 }

@@ -1,9 +1,8 @@
 //! Tasks that go through their acts event by event, and acts that are refused.
 use crate::asserted::equal;
 use phase_model::Terms;
-use phase_modes::{Limits, Mode, Pair, Phased, Refusal};
+use phase_modes::{FinishNumber, Limits, Mode, Pair, Phased, Refusal, TaskNumber};
 use std::test::Fail;
-use task_numbers::{FinishNumber, TaskNumber};
 use task_standing::{Due, Plan, Standing};
 use world_model::{Begun, Tried};
 

@@ -3,13 +3,12 @@ ghost use Rattle.std.specs.Prelude.{◌≡◌, ◌<◌, IfOk};
 
 use crate::asserted::{equal, equal_at};
 use finish_core::FinishEvent;
-use phase_modes::{Limits, Refusal};
+use phase_modes::{Limits, Refusal, TaskNumber};
 use scope_locks::{FinishParts, FinishTable, Out, ShutAnswer, Tickets};
 use std::alloc::Global;
 use std::process::Abort;
 use std::sync::Wait;
 use std::test::Fail;
-use task_numbers::TaskNumber;
 use trace_model::{Part, TracedEvent};
 
 /// What a shut answered, with the item that came back.

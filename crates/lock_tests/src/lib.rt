@@ -1,5 +1,5 @@
-//! Tests of `share_book`, `scope_locks`, `long_locks` and `waiting_cell`, which call what these
-//! export.
+//! Tests of `share_book`, `scope_locks`, `long_locks`, `table_receipts` and the numbers with types of
+//! `phase_modes`, which call what these export.
 //!
 //! A library of tests alone: if they stood in the crates themselves, these would be proved once
 //! more with each change of a test.
@@ -13,6 +13,14 @@ mod books;
 mod finishes;
 #[cfg(test)]
 mod long_waiters;
+#[cfg(test)]
+mod numbers;
+#[cfg(test)]
+mod receipts;
+#[cfg(test)]
+mod replies;
+#[cfg(test)]
+mod run_tables;
 #[cfg(test)]
 mod tables;
 #[cfg(test)]

@@ -3,17 +3,16 @@
 ghost use Rattle.std.specs.Prelude.{◌≡◌, [], Some};
 
 use crate::asserted::{equal, equal_at};
-use ghost_log::Whole;
 use long_locks::{Front, LongCell, LongLock, Naming, Out, PassAnswer, SignalAnswer};
-use long_phaser::{Phase, Task};
 use phase_model::{Bound, Look, Op, Ops};
 use phase_modes::{Mode, Refusal};
+use phaser_core::{LongTask, Phase};
 use std::alloc::Global;
 use std::marker::Brand;
 use std::process::Abort;
 use std::sync::Wait;
 use std::test::Fail;
-use told_history::LongEvent;
+use told_history::{LongEvent, Whole};
 
 /// What a call is answered. The items are told apart by their numbers.
 #[derive(Clone, Copy, Debug, PartialEq, Eq)]
@@ -29,9 +28,9 @@ enum Answer {
 /// A call of a task. To a signal and to a pass it brings an item.
 #[derive(Clone, Copy, Debug, PartialEq, Eq)]
 enum Call {
-    Signal(Task, u32),
-    Pass(Task, u32),
-    Leave(Task),
+    Signal(LongTask, u32),
+    Pass(LongTask, u32),
+    Leave(LongTask),
 }
 
 /// A call, what it is answered, and the item of whom it wakes.

@@ -6,9 +6,8 @@ ghost use Rattle.share_book.specs.Opening.{IsNamed, IsParted};
 
 use crate::asserted::equal;
 use merging::merged;
-use phase_model::Reply;
 use phase_modes::{Limits, Refusal};
-use scope_locks::{Out, PassAnswer, PhaserTable, SignalAnswer, Tickets};
+use scope_locks::{Out, PhaserTable, Tickets};
 use share_book::{Blanks, Ledgers, Shares, Totals, gather, open};
 use std::alloc::Global;
 use std::process::Abort;
@@ -55,23 +54,6 @@ fn is_drained(out: &mut Out<u32>) -> bool
         }
     }
     false
-}
-
-fn signalled(answer: SignalAnswer<u32>) -> Reply {
-    match answer {
-        SignalAnswer::Signalled(_) => Reply::Done,
-        SignalAnswer::Parked => Reply::NotYet,
-        SignalAnswer::Refused(_, refusal) => Reply::Refused(refusal),
-    }
-}
-
-fn turned(answer: PassAnswer<u32>) -> Reply {
-    match answer {
-        PassAnswer::Passed(_, phase) => Reply::Phase(phase),
-        PassAnswer::Claimed(_, number) => Reply::Claim(number),
-        PassAnswer::Parked => Reply::NotYet,
-        PassAnswer::Refused(_, refusal) => Reply::Refused(refusal),
-    }
 }
 
 /// The totals, which are of so many events.

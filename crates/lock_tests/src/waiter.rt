@@ -6,7 +6,7 @@ ghost use Rattle.share_book.specs.Opening.{IsNamed, IsParted};
 
 use crate::asserted::equal;
 use phase_model::{Bound, Ops};
-use phase_modes::{Limits, Mode, Refusal};
+use phase_modes::{Limits, Mode, Refusal, TaskNumber};
 use scope_locks::{Out, PassAnswer, PhaserCell, SignalAnswer, Tickets};
 use share_book::{Blanks, Books, Ledgers, PhaserBook, Seven, Shares, Totals, gather, open};
 use std::alloc::Global;
@@ -14,7 +14,6 @@ use std::marker::Brand;
 use std::process::Abort;
 use std::sync::ledger::Ledger;
 use std::test::Fail;
-use task_numbers::TaskNumber;
 
 /// What a pass is answered. The items are told apart by their numbers.
 #[derive(Clone, Copy, Debug, PartialEq, Eq)]

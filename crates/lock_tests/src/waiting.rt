@@ -3,50 +3,63 @@
 ghost use Rattle.std.specs.Prelude.{◌≡◌, []};
 
 use crate::asserted::equal;
-use long_phaser::Task;
+use long_locks::{AskAnswer, Ended, Freed, FreedList, LongCell, Out, Parked, ParkedCall, Then};
 use phase_model::{Bound, Look, Op, Ops};
 use phase_modes::{Mode, Refusal};
+use phaser_core::LongTask;
 use std::alloc::Global;
 use std::process::Abort;
 use std::test::Fail;
-use waiting_cell::{Answer, Ended, Freed, FreedList, Out, WaitingCell};
 
 #[derive(Clone, Copy)]
 enum Act {
     /// Task 0 registers one more.
     Register(Mode),
-    Signal(Task),
-    Pass(Task),
-    Next(Task, Option<u32>),
-    Done(Task),
-    Leave(Task),
+    Signal(LongTask),
+    Pass(LongTask),
+    Next(LongTask, Option<u32>),
+    Done(LongTask),
+    Leave(LongTask),
 }
 
 /// What a call answers, if it has an answer, and the first two whom it frees.
-type Heard = (Option<Answer>, Option<Freed>, Option<Freed>);
+type Heard = (Option<AskAnswer>, Option<Freed>, Option<Freed>);
 
 const QUIET: Heard = (None, None, None);
 
-const PARKED: Heard = (Some(Answer::Parked), None, None);
+const PARKED: Heard = (Some(AskAnswer::Parked), None, None);
 
 const NOT_NOW: Heard = (
-    Some(Answer::Ended(Ended::Refused(Refusal::NotNow))),
+    Some(AskAnswer::Ended(Ended::Refused(Refusal::NotNow))),
     None,
     None,
 );
 
-const SIGNALLED: Heard = (Some(Answer::Ended(Ended::Signalled)), None, None);
+const SIGNALLED: Heard = (Some(AskAnswer::Ended(Ended::Signalled)), None, None);
 
-const PASSED_0: Heard = (Some(Answer::Ended(Ended::Passed(0))), None, None);
+const PASSED_0: Heard = (Some(AskAnswer::Ended(Ended::Passed(0))), None, None);
 
-const PASSED_1: Heard = (Some(Answer::Ended(Ended::Passed(1))), None, None);
+const PASSED_1: Heard = (Some(AskAnswer::Ended(Ended::Passed(1))), None, None);
+
+/// The task makes its call.
+fn ask(
+    cell: &mut LongCell<Then>,
+    freed: &mut FreedList,
+    task: LongTask,
+    call: ParkedCall,
+    item: Then,
+) -> AskAnswer
+    requires { freed.old ≡ [] }
+{
+    cell.ask(freed, Parked { task, call, item })
+}
 
 /// The call of this row, whose list of freed tasks is empty.
 fn answered(
-    cell: &mut WaitingCell,
+    cell: &mut LongCell<Then>,
     freed: &mut FreedList,
     act: Act,
-) -> Result<Option<Answer>, Refusal>
+) -> Result<Option<AskAnswer>, Refusal>
     requires { freed.old ≡ [] }
 {
     match act {
@@ -54,21 +67,27 @@ fn answered(
             let _child = cell.register(0, mode)?;
             Ok(None)
         }
-        Act::Signal(task) => Ok(Some(cell.signal(freed, task, None))),
-        Act::Pass(task) => Ok(Some(cell.pass(freed, task))),
-        Act::Next(task, number) => Ok(Some(cell.next(freed, task, number))),
+        Act::Signal(task) => {
+            let call = ParkedCall::Signal(None);
+            Ok(Some(ask(cell, freed, task, call, Then::Return)))
+        }
+        Act::Pass(task) => Ok(Some(ask(cell, freed, task, ParkedCall::Pass, Then::Return))),
+        Act::Next(task, number) => {
+            let call = ParkedCall::Signal(number);
+            Ok(Some(ask(cell, freed, task, call, Then::Pass)))
+        }
         Act::Done(task) => {
-            cell.single_done(freed, task)?;
+            cell.single_done_telling(freed, task)?;
             Ok(None)
         }
         Act::Leave(task) => {
-            cell.leave(freed, task)?;
+            cell.leave_telling(freed, task)?;
             Ok(None)
         }
     }
 }
 
-fn heard(alloc: Global, cell: &mut WaitingCell, act: Act) -> Result<Heard, Refusal> {
+fn heard(alloc: Global, cell: &mut LongCell<Then>, act: Act) -> Result<Heard, Refusal> {
     let mut freed = Out::new(alloc)?;
     let answer = answered(cell, &mut freed, act)?;
     Ok((answer, freed.take(), freed.take()))
@@ -83,7 +102,7 @@ fn run(
     rows: &[(Act, Heard)],
 ) -> Result<(), Refusal> {
     let bound = Bound::of(bound).ok_or(Refusal::NotNow)?;
-    let mut cell = WaitingCell::new(alloc, Ops::none(), bound)?;
+    let mut cell = LongCell::new(alloc, Ops::none(), bound)?;
     equal(rt, cell.make(mode), Ok(0));
     for (act, want) in rows {
         equal(rt, heard(alloc, &mut cell, *act)?, *want);
@@ -101,7 +120,7 @@ const BARRIER: [(Act, Heard); 7] = [
     (
         Act::Next(2, None),
         (
-            Some(Answer::Ended(Ended::Passed(0))),
+            Some(AskAnswer::Ended(Ended::Passed(0))),
             Some(Freed {
                 task: 0,
                 ended: Ended::Passed(0),
@@ -126,7 +145,7 @@ const PRODUCER: [(Act, Heard); 9] = [
     (
         Act::Pass(2),
         (
-            Some(Answer::Ended(Ended::Passed(0))),
+            Some(AskAnswer::Ended(Ended::Passed(0))),
             Some(Freed {
                 task: 1,
                 ended: Ended::Signalled,
@@ -139,7 +158,7 @@ const PRODUCER: [(Act, Heard); 9] = [
     (
         Act::Pass(2),
         (
-            Some(Answer::Ended(Ended::Passed(1))),
+            Some(AskAnswer::Ended(Ended::Passed(1))),
             Some(Freed {
                 task: 1,
                 ended: Ended::Passed(2),
@@ -157,7 +176,7 @@ const SINGLE: [(Act, Heard); 5] = [
     (
         Act::Next(1, None),
         (
-            Some(Answer::Parked),
+            Some(AskAnswer::Parked),
             Some(Freed {
                 task: 0,
                 ended: Ended::Claimed(3),
@@ -241,7 +260,7 @@ fn sum_seen(rt: HostRuntime) -> Result<(), Fail> {
     let mut ops = Ops::none();
     ops.push(Op::Sum);
     let bound = Bound::of(2).ok_or(Refusal::NotNow)?;
-    let mut cell = WaitingCell::new(alloc, ops, bound)?;
+    let mut cell = LongCell::new(alloc, ops, bound)?;
     equal(&rt, cell.make(Mode::SigWait), Ok(0));
     equal(&rt, cell.send(0, 0, 7), Ok(()));
     equal(&rt, heard(alloc, &mut cell, Act::Signal(0))?, SIGNALLED);

@@ -11,10 +11,10 @@ use Rattle.phase_model.specs.Conditions.{conditions}
 use Rattle.phase_model.specs.Phases.{waits}
 use Rattle.phase_model.specs.Replies.{reply, after, decided, done_result, event_for, must_wait}
 use Rattle.phase_model.specs.Rules.{Story, has_room, is_permitted, look_of}
-use Rattle.phaser_answers.specs.Answers.{signal_result, pass_result, look_result}
-use Rattle.parked_tasks.specs.declared.answer.SignalAnswer.{SignalAnswer}
-use Rattle.parked_tasks.specs.declared.answer.PassAnswer.{PassAnswer}
-use Rattle.parked_tasks.specs.Parking.{locked_pass, locked_signal}
+use Rattle.phase_model.specs.Answers.{signal_result, pass_result, look_result}
+use Rattle.phaser_core.specs.declared.answer.SignalAnswer.{SignalAnswer}
+use Rattle.phaser_core.specs.declared.answer.PassAnswer.{PassAnswer}
+use Rattle.phaser_core.specs.Parking.{locked_pass, locked_signal}
 use Rattle.told_history.specs.declared.wide.LongEvent.{LongEvent}
 use Rattle.told_history.specs.declared.wide.LongEvent.TheVariants as long
 use Rattle.told_history.specs.Wide.{event_of}

@@ -13,11 +13,11 @@ use Rattle.phase_model.specs.Replies.{after, decided, event_for, must_wait}
 use Rattle.phase_model.specs.Rules.{Story, has_room, is_legal, is_permitted}
 use Rattle.phase_model.specs.Tasks.{has_mode}
 use Rattle.phase_model.proofs.OrderingLaw.{legal_is_ordered}
-use Rattle.phaser_answers.specs.Answers.{pass_result}
-use Rattle.parked_tasks.specs.declared.answer.PassAnswer.{PassAnswer}
-use Rattle.parked_tasks.specs.declared.answer.PassAnswer.TheVariants.{Passed, Claimed, Parked as Waits, Refused}
-use Rattle.parked_tasks.specs.Parking.{locked_pass}
-use Rattle.long_phaser.specs.Numbered.{long_limits}
+use Rattle.phase_model.specs.Answers.{pass_result}
+use Rattle.phaser_core.specs.declared.answer.PassAnswer.{PassAnswer}
+use Rattle.phaser_core.specs.declared.answer.PassAnswer.TheVariants.{Passed, Claimed, Parked as Waits, Refused}
+use Rattle.phaser_core.specs.Parking.{locked_pass}
+use Rattle.phaser_core.specs.LongLife.{long_limits}
 use Rattle.long_locks.specs.Told.{story_of, IsAnswered, IsPassAnswer, IfPassed}
 
 -- the answer names the phase that the event ended

@@ -6,7 +6,7 @@ use Rattle.phase_model.specs.declared.terms.Terms.{Terms}
 use Rattle.phase_model.specs.Replies.{Reply, refused, not_yet, done, reply, after}
 use Rattle.phase_model.specs.Rules.{Story}
 use Rattle.told_history.specs.declared.wide.LongEvent.{LongEvent}
-use Rattle.ghost_log.specs.Tails.{IsTail}
+use Rattle.told_history.specs.Tails.{IsTail}
 use Rattle.long_locks.specs.Events.{with_one}
 use Rattle.long_locks.specs.Told.{story_of, IsAnswered}
 

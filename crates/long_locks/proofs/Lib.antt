@@ -1,6 +1,11 @@
 pub mod Adds
 pub mod Closes
+pub mod Gifts
 pub mod Kept
 pub mod Looks
 pub mod Numbers
 pub mod Tails
+pub mod Steps
+pub mod Calling
+pub mod Going
+pub mod Leaving

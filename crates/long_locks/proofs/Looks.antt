@@ -11,9 +11,9 @@ use Rattle.phase_model.specs.Conditions.{conditions}
 use Rattle.phase_model.specs.Phases.{waits}
 use Rattle.phase_model.specs.Replies.{after, decided, event_for}
 use Rattle.phase_model.specs.Rules.{Story, has_room, look_of}
-use Rattle.phaser_answers.specs.Answers.{look_result}
+use Rattle.phase_model.specs.Answers.{look_result}
 use Rattle.world_model.specs.Laws.{IsFolded}
-use Rattle.long_phaser.specs.Numbered.{long_limits}
+use Rattle.phaser_core.specs.LongLife.{long_limits}
 use Rattle.long_locks.specs.Told.{story_of, IsAnswered, HasLooked}
 
 pub looked_is : (s : Story) (t a : ℕ) (x y : Look ℤ) (o : Option Refusal) (r : Bool)

@@ -1,7 +1,7 @@
 -- A beginning of a log is one of its events too.
 use Rattle.std.proofs.Common.{◌⊎◌, inl, inr, List, map, ap, ◌∙◌}
 use Rattle.std.proofs.lemmas.List.{map-append}
-use Rattle.ghost_log.specs.Tails.{IsTail}
+use Rattle.told_history.specs.Tails.{IsTail}
 
 pub mapped : {A B : Type 0} (f : A → B) (xs ys : List A) → IsTail xs ys → IsTail (map f xs) (map f ys)
 mapped f xs ys t = (map f t.0, ap (map f) t.1 ∙ map-append f t.0 xs)

@@ -4,10 +4,10 @@ use Rattle.phase_modes.specs.declared.refusal.Refusal.{Refusal}
 use Rattle.phase_modes.specs.declared.reg.Mode.{Mode}
 use Rattle.phase_model.specs.declared.history.Event.{Event}
 use Rattle.phase_model.specs.declared.op.Look.{Look}
-use Rattle.parked_tasks.specs.declared.answer.SignalAnswer.{SignalAnswer}
-use Rattle.parked_tasks.specs.declared.answer.SignalAnswer.TheVariants.{Signalled, Parked as IsHeld, Refused as NoSignal}
-use Rattle.parked_tasks.specs.declared.answer.PassAnswer.{PassAnswer}
-use Rattle.parked_tasks.specs.declared.answer.PassAnswer.TheVariants.{Passed, Claimed, Parked as Waits, Refused}
+use Rattle.phaser_core.specs.declared.answer.SignalAnswer.{SignalAnswer}
+use Rattle.phaser_core.specs.declared.answer.SignalAnswer.TheVariants.{Signalled, Parked as IsHeld, Refused as NoSignal}
+use Rattle.phaser_core.specs.declared.answer.PassAnswer.{PassAnswer}
+use Rattle.phaser_core.specs.declared.answer.PassAnswer.TheVariants.{Passed, Claimed, Parked as Waits, Refused}
 use Rattle.told_history.specs.declared.wide.LongEvent.{LongEvent}
 use Rattle.told_history.specs.declared.wide.LongEvent.TheVariants as long
 use Rattle.told_history.specs.Wide.{event_of}

@@ -10,14 +10,14 @@ use Rattle.phase_model.specs.declared.terms.Terms.{Terms}
 use Rattle.phase_model.specs.Phases.{waits, IsClosed}
 use Rattle.phase_model.specs.Replies.{Reply, reply, after, done_result}
 use Rattle.phase_model.specs.Rules.{Story, look_of}
-use Rattle.phaser_answers.specs.declared.answer.Signalling.{Signalling}
-use Rattle.phaser_answers.specs.declared.answer.Passing.{Passing}
-use Rattle.parked_tasks.specs.declared.answer.SignalAnswer.{SignalAnswer}
-use Rattle.parked_tasks.specs.declared.answer.PassAnswer.{PassAnswer}
-use Rattle.parked_tasks.specs.declared.answer.PassAnswer.TheVariants.{Passed, Claimed, Parked as Waits, Refused}
-use Rattle.parked_tasks.specs.Parking.{locked_pass, locked_signal}
-use Rattle.long_phaser.specs.Numbered.{long_limits}
-use Rattle.ghost_log.specs.Tails.{IsTail}
+use Rattle.phase_model.specs.declared.answer.Signalling.{Signalling}
+use Rattle.phase_model.specs.declared.answer.Passing.{Passing}
+use Rattle.phaser_core.specs.declared.answer.SignalAnswer.{SignalAnswer}
+use Rattle.phaser_core.specs.declared.answer.PassAnswer.{PassAnswer}
+use Rattle.phaser_core.specs.declared.answer.PassAnswer.TheVariants.{Passed, Claimed, Parked as Waits, Refused}
+use Rattle.phaser_core.specs.Parking.{locked_pass, locked_signal}
+use Rattle.phaser_core.specs.LongLife.{long_limits}
+use Rattle.told_history.specs.Tails.{IsTail}
 
 -- the phaser that lives long, after these events
 abbrev pub story_of : Terms → List Event → Story

@@ -1,21 +1,20 @@
 //! A phaser that lives long, and the items of those who wait at it.
 ghost use Rattle.std.specs.Prelude.{◌≡◌, ◌+◌, [], ◌≤◌, false, IfOk, IfErr, OnErr, Ok, Err, Some, ◌≢◌};
 ghost use Rattle.std.specs.VecDeque.{deque_len, deque_capacity};
-ghost use Rattle.long_phaser.specs.Numbered.{long_limits};
+ghost use Rattle.phaser_core.specs.LongLife.{long_limits};
 ghost use Rattle.phase_model.specs.declared.call.Call.TheVariants.{Make as make, Register as register, Signal as signal, Pass as pass, SingleDone as single_done, Send as send, Look as look, Drop as drop_task};
 ghost use Rattle.phase_model.specs.Replies.{reply, after, done_result};
-ghost use Rattle.phaser_answers.specs.Answers.{look_result};
-ghost use Rattle.parked_tasks.specs.Parking.{is_parked, waiting, freed, locked_pass, parking, has_to_wait, goes_on, answered, IsBack, locked_signal, has_signalled, is_held, signal_answered, IsBackFromSignal};
-ghost use Rattle.parked_tasks.specs.Settled.{IsSettled};
+ghost use Rattle.phase_model.specs.Answers.{look_result};
+ghost use Rattle.phaser_core.specs.Parking.{is_parked, waiting, freed, locked_pass, parking, has_to_wait, goes_on, answered, IsBack, locked_signal, has_signalled, is_held, signal_answered, IsBackFromSignal};
+ghost use Rattle.phaser_core.specs.Settled.{IsSettled};
 
-use long_phaser::{LongPhaser, Phase, Task};
-use parked_tasks::{
-    Asked, Out, Parked, ParkedCall, PassAnswer, SignalAnswer, has_gone_on, is_phase_open,
-    may_be_parked, may_come_near, may_leave, may_part_proposers, release_if, settle_pass,
-    settle_signal,
-};
 use phase_model::{Bound, LongLook, Ops};
 use phase_modes::{Mode, Refusal};
+use phaser_core::{
+    Asked, LongPhaser, LongTask, Out, Parked, ParkedCall, PassAnswer, Phase, SignalAnswer,
+    has_gone_on, is_phase_open, may_be_parked, may_come_near, may_leave, may_part_proposers,
+    release_if, settle_pass, settle_signal,
+};
 use std::alloc::Global;
 use std::collections::VecDeque;
 
@@ -33,7 +32,7 @@ pub struct LongCell<T> {
 
 impl<T> LongCell<T> {
     /// The phaser's `make`, with its refusals. It wakes nobody.
-    pub fn make(&mut self, mode: Mode) -> Result<Task, Refusal>
+    pub fn make(&mut self, mode: Mode) -> Result<LongTask, Refusal>
         ensures number { IfOk result (λ t. t ≡ self.old.state.next) }
         ensures done { IfOk result (λ _. done_result (reply self.old.state.story (make self.old.state.next mode)) ≡ Ok tt) }
         ensures refused { IfErr result (λ r. done_result (reply self.old.state.story (make self.old.state.next mode)) ≡ Err r) }
@@ -47,7 +46,7 @@ impl<T> LongCell<T> {
     }
 
     /// The phaser's `register`, with its refusals. It wakes nobody.
-    pub fn register(&mut self, parent: Task, mode: Mode) -> Result<Task, Refusal>
+    pub fn register(&mut self, parent: LongTask, mode: Mode) -> Result<LongTask, Refusal>
         ensures number { IfOk result (λ t. t ≡ self.old.state.next) }
         ensures done { IfOk result (λ _.
             done_result (reply self.old.state.story (register parent self.old.state.next mode)) ≡ Ok tt) }
@@ -64,7 +63,7 @@ impl<T> LongCell<T> {
     }
 
     /// The phaser's `send`, with its refusals. It wakes nobody.
-    pub fn send(&mut self, task: Task, accumulator: u8, value: i32) -> Result<(), Refusal>
+    pub fn send(&mut self, task: LongTask, accumulator: u8, value: i32) -> Result<(), Refusal>
         ensures reply { result ≡ done_result (reply self.old.state.story (send task accumulator value)) }
         ensures history { self.new.state.story
             ≡ after self.old.state.story (reply self.old.state.story (send task accumulator value)) }
@@ -75,7 +74,7 @@ impl<T> LongCell<T> {
     }
 
     /// The phaser's `look`, with its refusals. It wakes nobody.
-    pub fn look(&mut self, task: Task, accumulator: u8) -> Result<LongLook, Refusal>
+    pub fn look(&mut self, task: LongTask, accumulator: u8) -> Result<LongLook, Refusal>
         ensures reply { result ≡ look_result (reply self.old.state.story (look task accumulator)) }
         ensures history { self.new.state.story
             ≡ after self.old.state.story (reply self.old.state.story (look task accumulator)) }
@@ -91,7 +90,7 @@ impl<T> LongCell<T> {
     pub fn signal(
         &mut self,
         out: &mut Out<T>,
-        task: Task,
+        task: LongTask,
         number: Option<u32>,
         item: T,
     ) -> SignalAnswer<T>
@@ -121,7 +120,7 @@ impl<T> LongCell<T> {
 
     /// The phaser's `leave`, with its refusals. The items of all whom it wakes are put into `out`,
     /// the leaving task's own too if it was parked.
-    pub fn leave(&mut self, out: &mut Out<T>, task: Task) -> Result<(), Refusal>
+    pub fn leave(&mut self, out: &mut Out<T>, task: LongTask) -> Result<(), Refusal>
         requires { out.old ≡ [] }
         ensures reply { result ≡ done_result (reply self.old.state.story (drop_task task)) }
         ensures history { self.new.state.story
@@ -142,7 +141,7 @@ impl<T> LongCell<T> {
 
     /// The phaser's `single_done`, with its refusals. The items of all whom it wakes are put
     /// into `out`.
-    pub fn single_done(&mut self, out: &mut Out<T>, task: Task) -> Result<(), Refusal>
+    pub fn single_done(&mut self, out: &mut Out<T>, task: LongTask) -> Result<(), Refusal>
         requires { out.old ≡ [] }
         ensures reply { result ≡ done_result (reply self.old.state.story (single_done task)) }
         ensures history { self.new.state.story
@@ -161,7 +160,7 @@ impl<T> LongCell<T> {
     /// The phaser's `pass`, with its refusals; a task that has to wait leaves its item here
     /// instead, or has it back with `NotNow` if it is parked already. The items of all whom it
     /// wakes are put into `out`: those who waited to signal, for the bound.
-    pub fn pass(&mut self, out: &mut Out<T>, task: Task, item: T) -> PassAnswer<T, Phase>
+    pub fn pass(&mut self, out: &mut Out<T>, task: LongTask, item: T) -> PassAnswer<T, Phase>
         requires { out.old ≡ [] }
         ensures answer { result
             ≡ locked_pass (answered self.old.state.story task) (is_parked task self.old.parked.items) item }

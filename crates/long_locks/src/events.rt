@@ -3,12 +3,10 @@ ghost use Rattle.std.specs.Prelude.{◌≡◌, map};
 ghost use Rattle.told_history.specs.Wide.{event_of};
 ghost use Rattle.long_locks.specs.Events.{with_one, make_event, register_event, signal_event, pass_event, look_event, done_event};
 
-use ghost_log::Whole;
-use long_phaser::{Phase, Task};
-use parked_tasks::{PassAnswer, SignalAnswer};
 use phase_model::LongLook;
 use phase_modes::{Mode, Refusal};
-use told_history::LongEvent;
+use phaser_core::{LongTask, PassAnswer, Phase, SignalAnswer};
+use told_history::{LongEvent, Whole};
 
 /// Adds the event, if there is one.
 #[inline(always)]
@@ -24,7 +22,7 @@ pub(crate) fn note(log: &mut Whole<LongEvent>, event: Option<LongEvent>)
 
 /// That of a `make`.
 #[inline(always)]
-pub(crate) fn make_event(mode: Mode, answer: Result<Task, Refusal>) -> Option<LongEvent>
+pub(crate) fn make_event(mode: Mode, answer: Result<LongTask, Refusal>) -> Option<LongEvent>
     ensures { result ≡ make_event mode answer }
 {
     match answer {
@@ -36,9 +34,9 @@ pub(crate) fn make_event(mode: Mode, answer: Result<Task, Refusal>) -> Option<Lo
 /// That of a `register`.
 #[inline(always)]
 pub(crate) fn register_event(
-    parent: Task,
+    parent: LongTask,
     mode: Mode,
-    answer: Result<Task, Refusal>,
+    answer: Result<LongTask, Refusal>,
 ) -> Option<LongEvent>
     ensures { result ≡ register_event parent mode answer }
 {
@@ -51,7 +49,7 @@ pub(crate) fn register_event(
 /// That of a `signal`.
 #[inline(always)]
 pub(crate) fn signal_event<T>(
-    task: Task,
+    task: LongTask,
     number: Option<u32>,
     answer: &SignalAnswer<T>,
 ) -> Option<LongEvent>
@@ -65,7 +63,7 @@ pub(crate) fn signal_event<T>(
 
 /// That of a `pass`.
 #[inline(always)]
-pub(crate) fn pass_event<T>(task: Task, answer: &PassAnswer<T, Phase>) -> Option<LongEvent>
+pub(crate) fn pass_event<T>(task: LongTask, answer: &PassAnswer<T, Phase>) -> Option<LongEvent>
     ensures { result ≡ pass_event task answer.now }
 {
     match answer {
@@ -78,7 +76,7 @@ pub(crate) fn pass_event<T>(task: Task, answer: &PassAnswer<T, Phase>) -> Option
 /// That of a `look`.
 #[inline(always)]
 pub(crate) fn look_event(
-    task: Task,
+    task: LongTask,
     accumulator: u8,
     answer: Result<LongLook, Refusal>,
 ) -> Option<LongEvent>

@@ -4,13 +4,12 @@ ghost use Rattle.phase_model.specs.Ordering.{IsOrdered};
 ghost use Rattle.phase_model.specs.Rules.{is_legal};
 ghost use Rattle.world_model.specs.Laws.{IsFolded};
 ghost use Rattle.told_history.specs.Wide.{event_of};
-ghost use Rattle.long_phaser.specs.Numbered.{long_limits};
-ghost use Rattle.ghost_log.specs.Tails.{IsTail};
+ghost use Rattle.phaser_core.specs.LongLife.{long_limits};
+ghost use Rattle.told_history.specs.Tails.{IsTail};
 
-use ghost_log::{Whole, front_of, includes};
 use phase_model::legal_is_ordered;
 use std::marker::{Brand, Model, PhantomData};
-use told_history::LongEvent;
+use told_history::{LongEvent, Whole, front_of, includes};
 
 /// Which phaser it is: the name of its history, and what it is made with. Each program picks it.
 pub trait Naming {
@@ -34,7 +33,7 @@ impl Naming for Brand {
 /// newest first. It has no bytes.
 #[derive(Drop)]
 pub struct Front<J: Naming> {
-    seen: ghost_log::Front<LongEvent>,
+    seen: told_history::Front<LongEvent>,
     of: PhantomData<J>,
 }
 
@@ -43,7 +42,7 @@ impl<J: Naming> Model for Front<J> {
     ghost use Rattle.phase_model.specs.declared.history.Event.{Event};
     ghost use Rattle.phase_model.specs.Rules.{is_legal};
     ghost use Rattle.told_history.specs.Wide.{event_of};
-    ghost use Rattle.long_phaser.specs.Numbered.{long_limits};
+    ghost use Rattle.phaser_core.specs.LongLife.{long_limits};
 
     ghost Value = { List Event };
 

@@ -5,12 +5,11 @@ use crate::cell::LongCell;
 use crate::front::{Front, Naming};
 use crate::receipt_cell::ReceiptCell;
 use crossbeam_utils::CachePadded;
-use ghost_log::Whole;
 use phase_model::{Bound, Ops};
 use phase_modes::Refusal;
 use std::alloc::Global;
 use std::sync::{Mutex, MutexGuard, Wait};
-use told_history::LongEvent;
+use told_history::{LongEvent, Whole};
 
 /// A phaser that lives long, behind a lock of its own, with the whole of its history. Threads that
 /// take other locks write no line of a processor's cache that this one has.

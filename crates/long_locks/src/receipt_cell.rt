@@ -5,10 +5,10 @@ ghost use Rattle.phase_model.specs.declared.call.Call.TheVariants.{Make as make,
 ghost use Rattle.phase_model.specs.Phases.{IsClosed};
 ghost use Rattle.phase_model.specs.Replies.{done_result};
 ghost use Rattle.phase_model.specs.Tasks.{has_mode};
-ghost use Rattle.phaser_answers.specs.Answers.{signal_result, pass_result, look_result};
-ghost use Rattle.parked_tasks.specs.Parking.{is_parked, waiting, freed, parking, has_to_wait, goes_on, answered, IsBack, has_signalled, is_held, signal_answered, IsBackFromSignal};
+ghost use Rattle.phase_model.specs.Answers.{signal_result, pass_result, look_result};
+ghost use Rattle.phaser_core.specs.Parking.{is_parked, waiting, freed, parking, has_to_wait, goes_on, answered, IsBack, has_signalled, is_held, signal_answered, IsBackFromSignal};
 ghost use Rattle.told_history.specs.Wide.{event_of};
-ghost use Rattle.ghost_log.specs.Tails.{IsTail};
+ghost use Rattle.told_history.specs.Tails.{IsTail};
 ghost use Rattle.long_locks.specs.Events.{with_one, make_event, register_event, signal_event, pass_event, look_event, done_event};
 ghost use Rattle.long_locks.specs.Told.{story_of, IsAnswered, IsNumbered, IsSignalAnswer, IsPassAnswer, IfPassed, HasLooked};
 
@@ -17,13 +17,11 @@ use crate::events::{
     done_event, look_event, make_event, note, pass_event, register_event, signal_event,
 };
 use crate::front::{Front, Naming};
-use ghost_log::Whole;
-use long_phaser::{Phase, Task};
-use parked_tasks::{Out, ParkedCall, PassAnswer, SignalAnswer};
 use phase_model::LongLook;
 use phase_modes::{Mode, Refusal};
+use phaser_core::{LongTask, Out, ParkedCall, PassAnswer, Phase, SignalAnswer};
 use std::marker::PhantomData;
-use told_history::LongEvent;
+use told_history::{LongEvent, Whole};
 
 /// A phaser that lives long with those who wait at it, and the whole of its history, which has no
 /// bytes.
@@ -75,7 +73,7 @@ impl<J: Naming, T> ReceiptCell<J, T> {
 
     /// The phaser's `make`, under the number that is returned.
     #[inline(always)]
-    pub fn make(&mut self, me: &mut Front<J>, mode: Mode) -> Result<Task, Refusal>
+    pub fn make(&mut self, me: &mut Front<J>, mode: Mode) -> Result<LongTask, Refusal>
         ensures told { IsNumbered result J.terms (λ n. make n mode) me.old me.new }
         ensures begins { IsTail me.old self.old.cell.state.story.past }
         ensures added { self.new.cell.state.story.past ≡ with_one (make_event mode result) self.old.cell.state.story.past }
@@ -91,7 +89,12 @@ impl<J: Naming, T> ReceiptCell<J, T> {
 
     /// The phaser's `register`, under the number that is returned.
     #[inline(always)]
-    pub fn register(&mut self, me: &mut Front<J>, parent: Task, mode: Mode) -> Result<Task, Refusal>
+    pub fn register(
+        &mut self,
+        me: &mut Front<J>,
+        parent: LongTask,
+        mode: Mode,
+    ) -> Result<LongTask, Refusal>
         ensures told { IsNumbered result J.terms (λ n. register parent n mode) me.old me.new }
         ensures numbered { (result ≢ Err Refusal.RegisteredTwice) × (result ≢ Err Refusal.TasksFull) }
         ensures begins { IsTail me.old self.old.cell.state.story.past }
@@ -111,7 +114,7 @@ impl<J: Naming, T> ReceiptCell<J, T> {
     pub fn send(
         &mut self,
         me: &mut Front<J>,
-        task: Task,
+        task: LongTask,
         accumulator: u8,
         value: i32,
     ) -> Result<(), Refusal>
@@ -134,7 +137,7 @@ impl<J: Naming, T> ReceiptCell<J, T> {
     pub fn look(
         &mut self,
         me: &mut Front<J>,
-        task: Task,
+        task: LongTask,
         accumulator: u8,
     ) -> Result<LongLook, Refusal>
         ensures told { IsAnswered (λ _ r. result ≡ look_result r) J.terms (look task accumulator) me.old me.new }
@@ -159,7 +162,7 @@ impl<J: Naming, T> ReceiptCell<J, T> {
         &mut self,
         me: &mut Front<J>,
         out: &mut Out<T>,
-        task: Task,
+        task: LongTask,
         number: Option<u32>,
         item: T,
     ) -> SignalAnswer<T>
@@ -192,7 +195,7 @@ impl<J: Naming, T> ReceiptCell<J, T> {
         &mut self,
         me: &mut Front<J>,
         out: &mut Out<T>,
-        task: Task,
+        task: LongTask,
         item: T,
     ) -> PassAnswer<T, Phase>
         requires { out.old ≡ [] }
@@ -223,7 +226,7 @@ impl<J: Naming, T> ReceiptCell<J, T> {
         &mut self,
         me: &mut Front<J>,
         out: &mut Out<T>,
-        task: Task,
+        task: LongTask,
     ) -> Result<(), Refusal>
         requires { out.old ≡ [] }
         ensures told { IsAnswered (λ _ r. result ≡ done_result r) J.terms (single_done task) me.old me.new }
@@ -243,7 +246,12 @@ impl<J: Naming, T> ReceiptCell<J, T> {
 
     /// The phaser's `leave`. Those whom it wakes are put into `out`.
     #[inline(always)]
-    pub fn leave(&mut self, me: &mut Front<J>, out: &mut Out<T>, task: Task) -> Result<(), Refusal>
+    pub fn leave(
+        &mut self,
+        me: &mut Front<J>,
+        out: &mut Out<T>,
+        task: LongTask,
+    ) -> Result<(), Refusal>
         requires { out.old ≡ [] }
         ensures told { IsAnswered (λ _ r. result ≡ done_result r) J.terms (drop_task task) me.old me.new }
         ensures begins { IsTail me.old self.old.cell.state.story.past }

@@ -14,4 +14,10 @@ pub mod Singles
 pub mod Tasks
 pub mod Values
 pub mod Waiting
+-- What the calls return, and how a task is registered, by the history.
+pub mod Answers
+pub mod Outcomes
+pub mod Registration
+pub mod Short
+pub mod Span
 pub mod inner

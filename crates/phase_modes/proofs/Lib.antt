@@ -1,2 +1,3 @@
 pub mod FirstRefusal
 pub mod Places
+pub mod Setting

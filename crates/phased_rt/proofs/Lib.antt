@@ -8,3 +8,4 @@ pub mod Sums
 pub mod Totalled
 pub mod Traced
 pub mod Says
+pub mod Seats

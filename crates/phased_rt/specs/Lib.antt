@@ -3,3 +3,4 @@ pub mod Says
 pub mod Told
 pub mod Totals
 pub mod Traced
+pub mod inner

@@ -15,11 +15,11 @@ use crate::question::Question;
 use crate::report::Report;
 use crate::told::told_of;
 use crate::workers::Workers;
+use crate::{Body, Gate, run_tasks};
 use phase_modes::{Limits, Refusal};
 use std::alloc::Global;
 use std::sync::Wait;
 use std::thread::Threads;
-use task_crew::{Body, Gate, run_tasks};
 
 /// The same as `run`, and the answer of a question on the run's trace. It is asked by a thread of its
 /// own, while this one replays the trace, if there are two workers or more and 4,096 events or

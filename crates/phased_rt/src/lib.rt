@@ -12,9 +12,9 @@
 //!
 //! # How it goes
 //!
-//! The workers stand in `task_crew`: they run the tasks, and leave a part for each phaser and finish,
-//! the tasks' logs and the sums. Here the parts are merged to a trace, and that is replayed on a world.
-//! The two are apart so that the workers are proved beside the core of a world, and not after it.
+//! The workers run the tasks (`run_tasks`), and leave a part for each phaser and finish, the tasks' logs
+//! and the sums. How one worker goes on stands in `task_worker`, and what they leave together in
+//! `task_remains`. Then the parts are merged to a trace, and that is replayed on a world.
 //!
 //! # What is promised
 //!
@@ -29,19 +29,25 @@
 
 mod asked;
 mod asking;
+mod crew;
+mod entry;
 mod laws;
 mod question;
 mod report;
 mod running;
+mod staff;
+mod team;
 mod told;
 mod workers;
 
 pub use asking::run_and_ask;
+pub use entry::run_tasks;
 pub use job_script::{Act, Answer};
 pub use laws::runs_are_traced;
 pub use phase_modes::Phased;
 pub use question::Question;
 pub use report::Report;
 pub use running::run;
-pub use task_crew::{Body, Gate, OpenGate};
+pub use task_remains::Remains;
+pub use tasks_in_flight::{Body, Gate, OpenGate};
 pub use workers::Workers;

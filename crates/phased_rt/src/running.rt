@@ -14,11 +14,11 @@ ghost use Rattle.phased_rt.specs.Totals.{AreTotals};
 use crate::question::NoQuestion;
 use crate::report::Report;
 use crate::told::told_of;
+use crate::{Body, Gate, run_tasks};
 use phase_modes::{Limits, Refusal};
 use std::alloc::Global;
 use std::sync::Wait;
 use std::thread::Threads;
-use task_crew::{Body, Gate, run_tasks};
 
 /// Runs the root, and every task that comes of it, by 1 to 16 workers, each in a thread of its own
 /// if one can be made, until the root has ended. `gate` is called round each step of a body; `OpenGate` does nothing.

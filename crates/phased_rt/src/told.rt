@@ -13,10 +13,10 @@ ghost use Rattle.phased_rt.specs.Totals.{AreTotals};
 
 use crate::question::Question;
 use crate::report::{Report, reported};
+use crate::{Body, Remains};
 use phase_modes::{Limits, Refusal};
 use std::alloc::Global;
 use std::thread::Threads;
-use task_crew::{Body, Remains};
 use trace_model::Part;
 
 /// All parts in a row.

@@ -2,28 +2,29 @@
 use Rattle.std.proofs.Common.{◌≡◌, ℕ, ◌+◌, Bool, true, false, List, Option, None, Some, Result, Ok, Err, IfOk, IfErr, refl, ap, sym, ◌∙◌, subst, inl}
 use Rattle.phase_modes.specs.declared.refusal.Refusal.{Refusal}
 use Rattle.phase_model.specs.Rules.{Story}
-use Rattle.waiting_cell.specs.declared.cell.WaitingCell.{WaitingCell}
-use Rattle.waiting_cell.specs.Turns.{Standing}
-use Rattle.phaser_c.specs.declared.answer.Answer.{Answer}
-use Rattle.phaser_c.specs.declared.answer.Answer.TheVariants.{Done}
+use Rattle.long_locks.specs.declared.cell.LongCell.{LongCell}
+use Rattle.long_locks.specs.declared.course.Then.{Then}
+use Rattle.long_locks.specs.Turns.{Standing}
+use Rattle.phaser_c.specs.declared.answer.ExportAnswer.{ExportAnswer}
+use Rattle.phaser_c.specs.declared.answer.ExportAnswer.TheVariants.{Done}
 use Rattle.phaser_c.specs.declared.freed.GivenFreed.{GivenFreed}
 use Rattle.phaser_c.specs.declared.waiting.Waiting.{Waiting}
 use Rattle.phaser_c.specs.Waiting.{IsGoneOn, IsGoneOnAt, IsHeldAfter, answer_done, answer_given, task_given, number_if, next_after}
 use Rattle.phaser_c.specs.WaitingGiven.{IsNew, IsMadeFrom}
 
-made_new : (new : Option Waiting) (given : Result Story Answer) (w : Waiting) → new ≡ Some w → IsNew given w
+made_new : (new : Option Waiting) (given : Result Story ExportAnswer) (w : Waiting) → new ≡ Some w → IsNew given w
     → IsMadeFrom None new given Done
 made_new new (Ok s) w is fresh = inl (w, refl, is, fresh)
 made_new new (Err why) w is fresh = absurd fresh
 
 -- a phaser that was made as given is put into a handle that held none
-pub made_of : (old new : Option Waiting) (given : Result Story Answer) (w : Waiting) → old ≡ None → new ≡ Some w
+pub made_of : (old new : Option Waiting) (given : Result Story ExportAnswer) (w : Waiting) → old ≡ None → new ≡ Some w
     → IsNew given w → IsMadeFrom old new given Done
 made_of old new given w none is fresh =
     subst (λ (o : Option Waiting). IsMadeFrom o new given Done) (sym none) (made_new new given w is fresh)
 
 -- a call by which others may go on was made on the phaser that the handle held
-pub gone_on_at : (How : WaitingCell → Standing → Type 0) (old new : Option Waiting) (room room' : List GivenFreed)
+pub gone_on_at : (How : LongCell Then → Standing → Type 0) (old new : Option Waiting) (room room' : List GivenFreed)
     (count count' : ℕ) (wide : Bool) (w v : Waiting) → wide ≡ true → old ≡ Some w → new ≡ Some v
     → IsGoneOn How w.cell v.cell room room' count' → IsGoneOnAt How old new room room' count count' wide
 gone_on_at How old new room room' count count' false w v wide was is gone = absurd cc
@@ -31,7 +32,7 @@ gone_on_at How old new room room' count count' true w v wide was is gone =
     subst (λ (o : Option Waiting). IsGoneOnAt How o new room room' count count' true) (sym was) (v, is, gone)
 
 -- another call was made on it
-pub held_after : (How : WaitingCell → WaitingCell → Type 0) (old new : Option Waiting) (w v : Waiting) → old ≡ Some w
+pub held_after : (How : LongCell Then → LongCell Then → Type 0) (old new : Option Waiting) (w v : Waiting) → old ≡ Some w
     → new ≡ Some v → How w.cell v.cell → IsHeldAfter How old new
 held_after How old new w v was is made =
     subst (λ (o : Option Waiting). IsHeldAfter How o new) (sym was) (v, is, made)

@@ -5,8 +5,8 @@ use Rattle.job_ends.specs.declared.failure.Failure.TheVariants.{Refused, Read, W
 use Rattle.job_ends.specs.declared.failure.Status.TheVariants as statuses
 use Rattle.job_ends.specs.Ends.{failure_line, status_of}
 use Rattle.phase_modes.specs.declared.refusal.Refusal.TheVariants.{Memory}
-use Rattle.replay_job.specs.Replayed.{IsOfReplay}
-use Rattle.events_job.specs.Ends.{IsOfAnswer}
+use Rattle.text_jobs.specs.Replayed.{IsOfReplay}
+use Rattle.text_jobs.specs.EventsEnds.{IsOfAnswer}
 use Rattle.phaser_c.specs.Checked.{without_write, IsReported, IsRefusal}
 
 -- the failure itself, where it isn't of reading

@@ -1,6 +1,6 @@
 -- One more who was freed is told of.
 use Rattle.std.proofs.Common.{◌≡◌, ◌<◌, List, [], ◌∷◌, ◌++◌, slice_set, length, map, drop, refl, ap, arith}
-use Rattle.waiting_cell.specs.declared.answer.Freed.{Freed}
+use Rattle.long_locks.specs.declared.answer.Freed.{Freed}
 use Rattle.phaser_c.specs.Freed.{given_freed}
 use Rattle.phaser_c.specs.declared.freed.GivenFreed.{GivenFreed}
 

@@ -5,11 +5,11 @@ use Rattle.phase_model.specs.declared.op.Look.{Look}
 use Rattle.phase_model.specs.declared.op.Look.TheVariants.{Value, Nothing as Unseen}
 use Rattle.phase_model.specs.declared.call.Reply.{Reply}
 use Rattle.phase_model.specs.declared.call.Reply.TheVariants as replies
-use Rattle.phaser_c.specs.declared.answer.Answer.{Answer}
-use Rattle.phaser_c.specs.declared.answer.Answer.TheVariants.{Done, Refused, NotYet, Claimed, Nothing, NotKept, TooGreat, Closed, Open, Short, BadMode, BadLimits, BadOperators, BadBound, BadTickets}
+use Rattle.phaser_c.specs.declared.answer.ExportAnswer.{ExportAnswer}
+use Rattle.phaser_c.specs.declared.answer.ExportAnswer.TheVariants.{Done, Refused, NotYet, Claimed, Nothing, NotKept, TooGreat, Closed, Open, Short, BadMode, BadLimits, BadOperators, BadBound, BadTickets}
 
 -- the number of each answer; a refusal has its own, 1 to 26
-abbrev pub number_of_answer : Answer → ℕ
+abbrev pub number_of_answer : ExportAnswer → ℕ
 number_of_answer Done = 0
 number_of_answer (Refused r) = number_of r
 number_of_answer NotYet = 32
@@ -27,7 +27,7 @@ number_of_answer BadBound = 71
 number_of_answer BadTickets = 72
 
 -- what is answered if a call on a phaser returns this
-abbrev pub answer_for : Reply → Answer
+abbrev pub answer_for : Reply → ExportAnswer
 answer_for replies.Done = Done
 answer_for (replies.Phase p) = Done
 answer_for (replies.Claim n) = Claimed

@@ -7,7 +7,7 @@ use Rattle.phase_model.specs.Values.{fold, sent}
 use Rattle.phaser_engine.specs.Phaser.{Phaser}
 use Rattle.phaser_engine.specs.Window.{is_needed}
 use Rattle.phaser_c.specs.Answers.{number_of_answer, number_of_fold, value_of_fold}
-use Rattle.phaser_c.specs.declared.answer.Answer.TheVariants.{Closed}
+use Rattle.phaser_c.specs.declared.answer.ExportAnswer.TheVariants.{Closed}
 
 -- what a phaser is asked for; if there is no phaser, what was there before
 abbrev pub asked : {X : Type 0} → Option Phaser → X → (Phaser → X) → X

@@ -5,14 +5,14 @@ use Rattle.job_ends.specs.declared.failure.Failure.{Failure}
 use Rattle.job_ends.specs.declared.failure.Failure.TheVariants.{Refused, Read, Write}
 use Rattle.job_ends.specs.declared.failure.Status.TheVariants as statuses
 use Rattle.job_ends.specs.Ends.{failure_line, status_of}
-use Rattle.replay_job.specs.Replayed.{report_for, Explains, IsOfReplay}
-use Rattle.events_text.specs.Form.{Form}
-use Rattle.events_text.specs.Lines.{text_for}
-use Rattle.events_job.specs.File.{file_spelled}
-use Rattle.events_job.specs.Ends.{IsOfAnswer}
+use Rattle.text_jobs.specs.Replayed.{report_for, Explains, IsOfReplay}
+use Rattle.text_jobs.specs.EventsForm.{Form}
+use Rattle.text_jobs.specs.EventsLines.{text_for}
+use Rattle.text_jobs.specs.EventsFiles.{file_spelled}
+use Rattle.text_jobs.specs.EventsEnds.{IsOfAnswer}
 use Rattle.phaser_c.specs.Answers.{number_of_answer}
 use Rattle.phaser_c.specs.Told.{IsTold}
-use Rattle.phaser_c.specs.declared.answer.Answer.TheVariants.{Short}
+use Rattle.phaser_c.specs.declared.answer.ExportAnswer.TheVariants.{Short}
 use Rattle.phaser_c.specs.declared.checker.Checked.{Checked}
 use Rattle.phaser_c.specs.declared.checker.Checked.TheVariants as checked
 

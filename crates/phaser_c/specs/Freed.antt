@@ -1,15 +1,15 @@
 -- Those whom a call frees, as C is told of them.
 use Rattle.std.specs.Prelude.{◌≡◌, ◌≤◌, ◌++◌, ℕ, List, length, map, drop}
-use Rattle.waiting_cell.specs.declared.answer.Ended.{Ended}
-use Rattle.waiting_cell.specs.declared.answer.Ended.TheVariants as ends
-use Rattle.waiting_cell.specs.declared.answer.Freed.{Freed}
+use Rattle.long_locks.specs.declared.answer.Ended.{Ended}
+use Rattle.long_locks.specs.declared.answer.Ended.TheVariants as ends
+use Rattle.long_locks.specs.declared.answer.Freed.{Freed}
 use Rattle.phaser_c.specs.Answers.{number_of_answer}
-use Rattle.phaser_c.specs.declared.answer.Answer.{Answer}
-use Rattle.phaser_c.specs.declared.answer.Answer.TheVariants.{Done, Claimed, Refused}
+use Rattle.phaser_c.specs.declared.answer.ExportAnswer.{ExportAnswer}
+use Rattle.phaser_c.specs.declared.answer.ExportAnswer.TheVariants.{Done, Claimed, Refused}
 use Rattle.phaser_c.specs.declared.freed.GivenFreed.{GivenFreed}
 
 -- what is answered if a call ended so
-abbrev pub ended_answer : Ended → Answer
+abbrev pub ended_answer : Ended → ExportAnswer
 ended_answer ends.Signalled = Done
 ended_answer (ends.Passed p) = Done
 ended_answer (ends.Claimed n) = Claimed

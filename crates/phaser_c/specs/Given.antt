@@ -8,8 +8,8 @@ use Rattle.phase_modes.specs.declared.reg.Mode.TheVariants.{Sig, Wait, SigWait, 
 use Rattle.phase_model.specs.declared.op.Op.{Op}
 use Rattle.phase_model.specs.declared.op.Op.TheVariants.{Sum, Least, Greatest}
 use Rattle.phase_model.specs.Rules.{Story}
-use Rattle.phaser_c.specs.declared.answer.Answer.{Answer}
-use Rattle.phaser_c.specs.declared.answer.Answer.TheVariants.{BadLimits, BadOperators, BadBound}
+use Rattle.phaser_c.specs.declared.answer.ExportAnswer.{ExportAnswer}
+use Rattle.phaser_c.specs.declared.answer.ExportAnswer.TheVariants.{BadLimits, BadOperators, BadBound}
 use Rattle.phaser_c.specs.declared.given.GivenLimits.{GivenLimits}
 
 -- the mode of this number
@@ -38,11 +38,11 @@ abbrev pub bound_of : ℕ → Option (Option ℕ)
 bound_of n = if nat_le n 65536 then Some (if nat_eq n 0 then None else Some n) else None
 
 -- a phaser that nobody has made yet, of operators and a bound, if those are given
-abbrev pub unmade : Limits → Option (List Op) → Option (Option ℕ) → Result Story Answer
+abbrev pub unmade : Limits → Option (List Op) → Option (Option ℕ) → Result Story ExportAnswer
 unmade l None bound = Err BadOperators
 unmade l (Some ops) None = Err BadBound
 unmade l (Some ops) (Some b) = Ok (record { limits = l; terms = record { ops = ops; bound = b }; past = [] })
 
 -- the same of the operators and the bound of these numbers, if the limits fit
-abbrev pub story_given : Limits → List ℕ → ℕ → Result Story Answer
+abbrev pub story_given : Limits → List ℕ → ℕ → Result Story ExportAnswer
 story_given l ns b = if limits_fit l then unmade l (ops_of ns) (bound_of b) else Err BadLimits

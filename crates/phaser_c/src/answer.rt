@@ -1,6 +1,6 @@
 //! The numbers by which C is answered. The enum `paldwosk_answer` of the header has each by name.
 ghost use Rattle.std.specs.Prelude.{◌≡◌};
-ghost use Rattle.phaser_answers.specs.Outcomes.{signal_reply, pass_reply};
+ghost use Rattle.phase_model.specs.Outcomes.{signal_reply, pass_reply};
 ghost use Rattle.phaser_c.specs.Answers.{number_of_answer, answer_for};
 
 use phase_model::{Look, Reply};
@@ -9,7 +9,7 @@ use phaser_core::{Passing, Signalling};
 
 /// What an export answers.
 #[derive(Clone, Copy, Debug, PartialEq, Eq)]
-pub enum Answer {
+pub enum ExportAnswer {
     /// It was done.
     Done,
     /// The library refused the call.
@@ -42,63 +42,63 @@ pub enum Answer {
     BadTickets,
 }
 
-impl Answer {
+impl ExportAnswer {
     /// The number, which is a refusal's own if the library refused.
     pub(crate) fn number(self) -> u32
         ensures { result ≡ number_of_answer self }
     {
         match self {
-            Answer::Done => 0,
-            Answer::Refused(refusal) => u32::from(refusal.number()),
-            Answer::NotYet => 32,
-            Answer::Claimed => 33,
-            Answer::Nothing => 34,
-            Answer::NotKept => 35,
-            Answer::TooGreat => 36,
-            Answer::Closed => 65,
-            Answer::Open => 66,
-            Answer::Short => 67,
-            Answer::BadMode => 68,
-            Answer::BadLimits => 69,
-            Answer::BadOperators => 70,
-            Answer::BadBound => 71,
-            Answer::BadTickets => 72,
+            ExportAnswer::Done => 0,
+            ExportAnswer::Refused(refusal) => u32::from(refusal.number()),
+            ExportAnswer::NotYet => 32,
+            ExportAnswer::Claimed => 33,
+            ExportAnswer::Nothing => 34,
+            ExportAnswer::NotKept => 35,
+            ExportAnswer::TooGreat => 36,
+            ExportAnswer::Closed => 65,
+            ExportAnswer::Open => 66,
+            ExportAnswer::Short => 67,
+            ExportAnswer::BadMode => 68,
+            ExportAnswer::BadLimits => 69,
+            ExportAnswer::BadOperators => 70,
+            ExportAnswer::BadBound => 71,
+            ExportAnswer::BadTickets => 72,
         }
     }
 
     /// What is answered if a signal ended so.
-    pub(crate) fn of_signal(outcome: Result<Signalling, Refusal>) -> Answer
+    pub(crate) fn of_signal(outcome: Result<Signalling, Refusal>) -> ExportAnswer
         ensures { result ≡ answer_for (signal_reply outcome) }
     {
         match outcome {
-            Ok(Signalling::Signalled) => Answer::Done,
-            Ok(Signalling::NotYet) => Answer::NotYet,
-            Err(refusal) => Answer::Refused(refusal),
+            Ok(Signalling::Signalled) => ExportAnswer::Done,
+            Ok(Signalling::NotYet) => ExportAnswer::NotYet,
+            Err(refusal) => ExportAnswer::Refused(refusal),
         }
     }
 
     /// What is answered if a pass ended so.
-    pub(crate) fn of_pass(outcome: Result<Passing, Refusal>) -> Answer
+    pub(crate) fn of_pass(outcome: Result<Passing, Refusal>) -> ExportAnswer
         ensures { result ≡ answer_for (pass_reply outcome) }
     {
         match outcome {
-            Ok(Passing::Passed(_)) => Answer::Done,
-            Ok(Passing::Claimed(_)) => Answer::Claimed,
-            Ok(Passing::NotYet) => Answer::NotYet,
-            Err(refusal) => Answer::Refused(refusal),
+            Ok(Passing::Passed(_)) => ExportAnswer::Done,
+            Ok(Passing::Claimed(_)) => ExportAnswer::Claimed,
+            Ok(Passing::NotYet) => ExportAnswer::NotYet,
+            Err(refusal) => ExportAnswer::Refused(refusal),
         }
     }
 
     /// What is answered if a call on a phaser returned this.
-    pub(crate) fn of(reply: Reply) -> Answer
+    pub(crate) fn of(reply: Reply) -> ExportAnswer
         ensures { result ≡ answer_for reply }
     {
         match reply {
-            Reply::Done | Reply::Phase(_) | Reply::Saw(Look::Value(_)) => Answer::Done,
-            Reply::Claim(_) => Answer::Claimed,
-            Reply::Saw(Look::Nothing) => Answer::Nothing,
-            Reply::NotYet => Answer::NotYet,
-            Reply::Refused(refusal) => Answer::Refused(refusal),
+            Reply::Done | Reply::Phase(_) | Reply::Saw(Look::Value(_)) => ExportAnswer::Done,
+            Reply::Claim(_) => ExportAnswer::Claimed,
+            Reply::Saw(Look::Nothing) => ExportAnswer::Nothing,
+            Reply::NotYet => ExportAnswer::NotYet,
+            Reply::Refused(refusal) => ExportAnswer::Refused(refusal),
         }
     }
 }

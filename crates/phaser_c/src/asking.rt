@@ -6,9 +6,9 @@ ghost use Rattle.phaser_c.specs.Waiting.{waiter, asked, stands, IsAsked, IsMade,
 
 use crate::freed::{GivenFreed, tell_freed};
 use crate::waiting::Waiting;
-use long_phaser::Task;
+use long_locks::{AskAnswer, Parked, ParkedCall, Then};
 use phase_modes::Refusal;
-use waiting_cell::{Answer, FreedList, WaitingCell};
+use phaser_core::LongTask;
 
 /// A task's call that may have to wait.
 #[derive(Clone, Copy, Debug, PartialEq, Eq)]
@@ -21,18 +21,17 @@ pub(crate) enum Asking {
     Next(Option<u32>),
 }
 
-/// The task makes its call.
-fn ask(cell: &mut WaitingCell, freed: &mut FreedList, task: Task, asking: Asking) -> Answer
-    requires { freed.old ≡ [] }
-    ensures answer { result ≡ asked cell.old (waiter task asking) }
-    ensures made { IsAsked (waiter task asking) cell.old (stands cell.new freed.new) }
-    ensures few { length freed.new ≤ 256 }
-    ensures next { cell.new.state.next ≡ cell.old.state.next }
-{
-    match asking {
-        Asking::Signal(number) => cell.signal(freed, task, number),
-        Asking::Pass => cell.pass(freed, task),
-        Asking::Next(number) => cell.next(freed, task, number),
+impl Asking {
+    /// The task, as it waits for this call.
+    fn waiter(self, task: LongTask) -> Parked<Then>
+        ensures { result ≡ waiter task self }
+    {
+        let (call, item) = match self {
+            Asking::Signal(number) => (ParkedCall::Signal(number), Then::Return),
+            Asking::Pass => (ParkedCall::Pass, Then::Return),
+            Asking::Next(number) => (ParkedCall::Signal(number), Then::Pass),
+        };
+        Parked { task, call, item }
     }
 }
 
@@ -40,17 +39,17 @@ impl Waiting {
     /// The task makes its call. Those whom it frees are told in the room.
     pub(crate) fn ask(
         &mut self,
-        task: Task,
+        task: LongTask,
         asking: Asking,
         room: &mut [GivenFreed],
         count: &mut usize,
-    ) -> Answer
+    ) -> AskAnswer
         requires { 256 ≤ length room.old }
         ensures answer { result ≡ asked self.old.cell (waiter task asking) }
         ensures made { IsGoneOn (IsAsked (waiter task asking)) self.old.cell self.new.cell room.old room.new count.new }
     {
         let Waiting { cell, freed } = self;
-        let answer = ask(cell, freed, task, asking);
+        let answer = cell.ask(freed, asking.waiter(task));
         tell_freed(freed, room, count);
         answer
     }
@@ -58,7 +57,7 @@ impl Waiting {
     /// The task reports the single done that it claimed. Those whom it frees are told in the room.
     pub(crate) fn single_done(
         &mut self,
-        task: Task,
+        task: LongTask,
         room: &mut [GivenFreed],
         count: &mut usize,
     ) -> Result<(), Refusal>
@@ -67,7 +66,7 @@ impl Waiting {
         ensures made { IsGoneOn (IsMade (single_done task)) self.old.cell self.new.cell room.old room.new count.new }
     {
         let Waiting { cell, freed } = self;
-        let outcome = cell.single_done(freed, task);
+        let outcome = cell.single_done_telling(freed, task);
         tell_freed(freed, room, count);
         outcome
     }
@@ -75,7 +74,7 @@ impl Waiting {
     /// The task leaves. Those whom it frees are told in the room.
     pub(crate) fn leave(
         &mut self,
-        task: Task,
+        task: LongTask,
         room: &mut [GivenFreed],
         count: &mut usize,
     ) -> Result<(), Refusal>
@@ -84,7 +83,7 @@ impl Waiting {
         ensures made { IsGoneOn (IsLeft task) self.old.cell self.new.cell room.old room.new count.new }
     {
         let Waiting { cell, freed } = self;
-        let outcome = cell.leave(freed, task);
+        let outcome = cell.leave_telling(freed, task);
         tell_freed(freed, room, count);
         outcome
     }

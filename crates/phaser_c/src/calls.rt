@@ -1,13 +1,13 @@
 //! The calls on a phaser.
 ghost use Rattle.std.specs.Prelude.{◌≡◌, ◌≤◌, None, Some, IfSome, MatchOption};
 ghost use Rattle.phase_model.specs.declared.call.Call.TheVariants.{Make as make, Register as register, Signal as signal, Pass as pass, SingleDone as single_done, Send as send, Look as look, Drop as drop_task};
-ghost use Rattle.phaser_answers.specs.Outcomes.{pass_reply};
+ghost use Rattle.phase_model.specs.Outcomes.{pass_reply};
 ghost use Rattle.phaser_c.specs.Answers.{number_of_answer, number_given, value_given, number_for};
 ghost use Rattle.phaser_c.specs.Calls.{story, answered, gone_on};
 ghost use Rattle.phaser_c.specs.Given.{mode_of};
-ghost use Rattle.phaser_c.specs.declared.answer.Answer.TheVariants.{BadMode};
+ghost use Rattle.phaser_c.specs.declared.answer.ExportAnswer.TheVariants.{BadMode};
 
-use crate::answer::Answer;
+use crate::answer::ExportAnswer;
 use crate::given::mode_of;
 use crate::handle::Handle;
 use phase_model::{Call, Look, Reply};
@@ -32,8 +32,8 @@ fn number_for(reply: Option<Reply>) -> u32
     ensures { result ≡ number_for reply }
 {
     match reply {
-        None => Answer::Closed.number(),
-        Some(reply) => Answer::of(reply).number(),
+        None => ExportAnswer::Closed.number(),
+        Some(reply) => ExportAnswer::of(reply).number(),
     }
 }
 
@@ -48,7 +48,7 @@ pub extern "C" fn phaser_c_make(alloc: Global, phaser: &mut Handle, task: u32, m
         (λ m. IfSome phaser.new.state (λ p. p.compared ≤ 18)) }
 {
     match mode_of(mode) {
-        None => Answer::BadMode.number(),
+        None => ExportAnswer::BadMode.number(),
         Some(mode) => number_for(call(alloc, phaser, Call::Make(task, mode))),
     }
 }
@@ -70,7 +70,7 @@ pub extern "C" fn phaser_c_register(
         (λ m. IfSome phaser.new.state (λ p. p.compared ≤ 18)) }
 {
     match mode_of(mode) {
-        None => Answer::BadMode.number(),
+        None => ExportAnswer::BadMode.number(),
         Some(mode) => number_for(call(alloc, phaser, Call::Register(parent, child, mode))),
     }
 }
@@ -84,11 +84,11 @@ fn signal(alloc: Global, phaser: &mut Handle, task: u32, proposed: Option<u32>) 
     ensures compared { IfSome phaser.new.state (λ p. p.compared ≤ 9) }
 {
     let Some(mut state) = phaser.take(alloc) else {
-        return Answer::Closed.number();
+        return ExportAnswer::Closed.number();
     };
     let outcome = state.signal(task, proposed);
     phaser.put(alloc, state);
-    Answer::of_signal(outcome).number()
+    ExportAnswer::of_signal(outcome).number()
 }
 
 /// `PhaserState::signal`, without a single.
@@ -140,12 +140,12 @@ pub extern "C" fn phaser_c_pass(
     ensures compared { IfSome phaser.new.state (λ p. p.compared ≤ 9) }
 {
     let Some(mut state) = phaser.take(alloc) else {
-        return Answer::Closed.number();
+        return ExportAnswer::Closed.number();
     };
     let outcome = state.pass(task);
     phaser.put(alloc, state);
     give_number(outcome, number);
-    Answer::of_pass(outcome).number()
+    ExportAnswer::of_pass(outcome).number()
 }
 
 /// `PhaserState::single_done`.

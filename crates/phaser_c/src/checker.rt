@@ -4,13 +4,12 @@ ghost use Rattle.phaser_c.specs.Checked.{without_write, IsEnd, IsReplayed, IsAns
 ghost use Rattle.phaser_c.specs.Told.{IsTold};
 ghost use Rattle.phaser_c.specs.declared.checker.Checked.{Checked as Outcome};
 
-use crate::answer::Answer;
+use crate::answer::ExportAnswer;
 use crate::room::tell;
-use events_job::answer;
 use job_ends::Failure;
 use phase_modes::Refusal;
-use replay_job::replay_bytes;
 use std::alloc::Global;
+use text_jobs::{answer, replay_bytes};
 
 /// What checking a text gave.
 #[derive(Drop)]
@@ -79,7 +78,7 @@ fn give(text: &[u8], number: u32, room: &mut [u8], written: &mut usize) -> u32
     if tell(text, room, written) {
         number
     } else {
-        Answer::Short.number()
+        ExportAnswer::Short.number()
     }
 }
 
@@ -94,7 +93,7 @@ fn hand(ended: &Checked, room: &mut [u8], written: &mut usize) -> u32
     }
 }
 
-/// `replay_job::replay_bytes`, whose report, or the line of whose failure, is written to the room.
+/// `text_jobs::replay_bytes`, whose report, or the line of whose failure, is written to the room.
 #[unsafe(no_mangle)]
 pub extern "C" fn phaser_c_replay(
     alloc: Global,
@@ -107,7 +106,7 @@ pub extern "C" fn phaser_c_replay(
     hand(&replayed(alloc, trace), report, written)
 }
 
-/// `events_job::answer`, whose lines, or the line of whose failure, are written to the room.
+/// `text_jobs::answer`, whose lines, or the line of whose failure, are written to the room.
 #[unsafe(no_mangle)]
 pub extern "C" fn phaser_c_events(
     alloc: Global,

@@ -2,8 +2,8 @@
 ghost use Rattle.std.specs.Prelude.{◌≡◌, ◌≤◌, [], length};
 ghost use Rattle.phaser_c.specs.Freed.{ended_answer, ended_number, given_freed, freed_told};
 
-use crate::answer::Answer;
-use waiting_cell::{Ended, Freed, FreedList};
+use crate::answer::ExportAnswer;
+use long_locks::{Ended, Freed, FreedList};
 
 /// A task that was freed: `paldwosk_freed`.
 #[repr(C)]
@@ -14,15 +14,15 @@ pub struct GivenFreed {
     pub answer: u32,
 }
 
-impl Answer {
+impl ExportAnswer {
     /// What is answered if a call ended so.
-    pub(crate) fn of_ended(ended: Ended) -> Answer
+    pub(crate) fn of_ended(ended: Ended) -> ExportAnswer
         ensures { result ≡ ended_answer ended }
     {
         match ended {
-            Ended::Signalled | Ended::Passed(_) => Answer::Done,
-            Ended::Claimed(_) => Answer::Claimed,
-            Ended::Refused(refusal) => Answer::Refused(refusal),
+            Ended::Signalled | Ended::Passed(_) => ExportAnswer::Done,
+            Ended::Claimed(_) => ExportAnswer::Claimed,
+            Ended::Refused(refusal) => ExportAnswer::Refused(refusal),
         }
     }
 }
@@ -46,7 +46,7 @@ impl GivenFreed {
         GivenFreed {
             task: freed.task,
             number: number_of(freed.ended),
-            answer: Answer::of_ended(freed.ended).number(),
+            answer: ExportAnswer::of_ended(freed.ended).number(),
         }
     }
 }

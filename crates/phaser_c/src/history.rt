@@ -4,7 +4,7 @@ ghost use Rattle.phase_modes.specs.Limits.{limits_fit};
 ghost use Rattle.trace_model.specs.Told.{phaser_told};
 ghost use Rattle.phaser_c.specs.History.{history_text, IsHistory, IsHistoryTold};
 
-use crate::answer::Answer;
+use crate::answer::ExportAnswer;
 use crate::handle::Handle;
 use crate::room::tell;
 use phase_model::History;
@@ -75,16 +75,16 @@ fn tell_history(
     tickets: &[u64],
     room: &mut [u8],
     written: &mut usize,
-) -> Answer
+) -> ExportAnswer
     ensures { IsHistory number history.now tickets.now room.old room.new written.old written.new result }
 {
     if tickets.len() != history.len() as usize {
-        return Answer::BadTickets;
+        return ExportAnswer::BadTickets;
     }
     match text_of(alloc, number, history, tickets) {
-        Ok(text) if tell(text.as_bytes(), room, written) => Answer::Done,
-        Ok(_) => Answer::Short,
-        Err(refusal) => Answer::Refused(refusal),
+        Ok(text) if tell(text.as_bytes(), room, written) => ExportAnswer::Done,
+        Ok(_) => ExportAnswer::Short,
+        Err(refusal) => ExportAnswer::Refused(refusal),
     }
 }
 
@@ -102,7 +102,7 @@ pub extern "C" fn phaser_c_history_text(
     ensures told { IsHistoryTold phaser.old.state number tickets.now text.old text.new written.old written.new result }
 {
     let Some(state) = phaser.take(alloc) else {
-        return Answer::Closed.number();
+        return ExportAnswer::Closed.number();
     };
     let answer = tell_history(alloc, number, state.history(), tickets, text, written);
     phaser.put(alloc, state);

@@ -1,9 +1,10 @@
 //! What C calls of the library: the exports of the static library, beside the header
 //! `include/paldwosk.h`. It is thin: what an export answers is what the library's call answers, as a
 //! number. C holds a phaser by a pointer, which is taken out for a call and put back after it. The
-//! files `waiting*` have the exports for threads that wait, over a `waiting_cell::WaitingCell`.
+//! files `waiting*` have the exports for threads that wait, over a `long_locks::LongCell<Then>`.
 #![tactic(auto)]
 
+mod abi;
 mod answer;
 mod asking;
 mod calls;

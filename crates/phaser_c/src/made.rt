@@ -4,11 +4,11 @@ ghost use Rattle.phase_modes.specs.Limits.{limits_fit};
 ghost use Rattle.phaser_c.specs.Answers.{number_of_answer};
 ghost use Rattle.phaser_c.specs.Calls.{story, MadeFrom};
 ghost use Rattle.phaser_c.specs.Given.{bound_of, limits_of, story_given};
-ghost use Rattle.phaser_c.specs.declared.answer.Answer.{Answer as Answered};
-ghost use Rattle.phaser_c.specs.declared.answer.Answer.TheVariants.{Refused as refused};
+ghost use Rattle.phaser_c.specs.declared.answer.ExportAnswer.{ExportAnswer as Answered};
+ghost use Rattle.phaser_c.specs.declared.answer.ExportAnswer.TheVariants.{Refused as refused};
 ghost use Rattle.phase_modes.specs.declared.refusal.Refusal.TheVariants.{Memory};
 
-use crate::answer::Answer;
+use crate::answer::ExportAnswer;
 use crate::given::{GivenLimits, bound_of, ops_of};
 use crate::handle::Handle;
 use phase_modes::{Limits, Refusal};
@@ -22,23 +22,23 @@ fn state_of(
     limits: Limits,
     operators: &[u32],
     bound: u32,
-) -> Result<PhaserState, Answer>
+) -> Result<PhaserState, ExportAnswer>
     ensures made { IfOk result (λ p. story_given limits operators.now bound ≡ Ok p.story) }
     ensures refused { IfErr result (λ a. MatchResult (story_given limits operators.now bound)
         (λ _. a ≡ refused Memory) (λ why. a ≡ why)) }
 {
     if !limits.fits() {
-        return Err(Answer::BadLimits);
+        return Err(ExportAnswer::BadLimits);
     }
     let Some(ops) = ops_of(operators) else {
-        return Err(Answer::BadOperators);
+        return Err(ExportAnswer::BadOperators);
     };
     let Some(bound) = bound_of(bound) else {
-        return Err(Answer::BadBound);
+        return Err(ExportAnswer::BadBound);
     };
     match PhaserState::new(alloc, limits, ops, bound) {
         Ok(state) => Ok(state),
-        Err(refusal) => Err(Answer::Refused(refusal)),
+        Err(refusal) => Err(ExportAnswer::Refused(refusal)),
     }
 }
 
@@ -48,7 +48,7 @@ fn boxed(
     limits: Limits,
     operators: &[u32],
     bound: u32,
-) -> Result<Box<PhaserState>, Answer>
+) -> Result<Box<PhaserState>, ExportAnswer>
     ensures made { IfOk result (λ b. story_given limits operators.now bound ≡ Ok b.value.story) }
     ensures refused { IfErr result (λ a. MatchResult (story_given limits operators.now bound)
         (λ _. a ≡ refused Memory) (λ why. a ≡ why)) }
@@ -56,7 +56,7 @@ fn boxed(
     let state = state_of(alloc, limits, operators, bound)?;
     match Box::new(alloc, state) {
         Ok(boxed) => Ok(boxed),
-        Err(_) => Err(Answer::Refused(Refusal::Memory)),
+        Err(_) => Err(ExportAnswer::Refused(Refusal::Memory)),
     }
 }
 
@@ -67,18 +67,18 @@ fn make_new(
     limits: Limits,
     operators: &[u32],
     bound: u32,
-) -> Answer
+) -> ExportAnswer
     ensures { MadeFrom (story phaser.old.state) (story phaser.new.state)
         (story_given limits operators.now bound) result }
 {
     if let Some(state) = phaser.take(alloc) {
         phaser.put(alloc, state);
-        return Answer::Open;
+        return ExportAnswer::Open;
     }
     match boxed(alloc, limits, operators, bound) {
         Ok(state) => {
             phaser.put(alloc, state);
-            Answer::Done
+            ExportAnswer::Done
         }
         Err(answer) => answer,
     }

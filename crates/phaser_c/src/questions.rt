@@ -7,7 +7,7 @@ ghost use Rattle.phaser_c.specs.Answers.{number_of_read, bit_for, number_of_fold
 ghost use Rattle.phaser_c.specs.Asked.{asked, IsFold};
 ghost use Rattle.std.specs.declared.option.Option.{Option as Maybe};
 
-use crate::answer::Answer;
+use crate::answer::ExportAnswer;
 use crate::handle::Handle;
 use phase_model::Look;
 use std::alloc::Global;
@@ -25,11 +25,11 @@ pub extern "C" fn phaser_c_is_closed(
     ensures closed { closed.new ≡ asked phaser.old.state closed.old (λ p. bit_for (is_closed phase p.story.past)) }
 {
     let Some(state) = phaser.take(alloc) else {
-        return Answer::Closed.number();
+        return ExportAnswer::Closed.number();
     };
     *closed = u32::from(state.closed(phase));
     phaser.put(alloc, state);
-    Answer::Done.number()
+    ExportAnswer::Done.number()
 }
 
 /// `PhaserState::is_full`, as 0 or 1.
@@ -40,11 +40,11 @@ pub extern "C" fn phaser_c_is_full(alloc: Global, phaser: &mut Handle, full: &mu
     ensures full { full.new ≡ asked phaser.old.state full.old (λ p. bit_for (is_full p.story.limits p.story.past)) }
 {
     let Some(state) = phaser.take(alloc) else {
-        return Answer::Closed.number();
+        return ExportAnswer::Closed.number();
     };
     *full = u32::from(state.is_full());
     phaser.put(alloc, state);
-    Answer::Done.number()
+    ExportAnswer::Done.number()
 }
 
 /// `PhaserState::compared`.
@@ -55,11 +55,11 @@ pub extern "C" fn phaser_c_compared(alloc: Global, phaser: &mut Handle, count: &
     ensures count { count.new ≡ asked phaser.old.state count.old (λ p. p.compared) }
 {
     let Some(state) = phaser.take(alloc) else {
-        return Answer::Closed.number();
+        return ExportAnswer::Closed.number();
     };
     *count = state.compared();
     phaser.put(alloc, state);
-    Answer::Done.number()
+    ExportAnswer::Done.number()
 }
 
 /// How many events the history has.
@@ -70,11 +70,11 @@ pub extern "C" fn phaser_c_event_count(alloc: Global, phaser: &mut Handle, count
     ensures count { count.new ≡ asked phaser.old.state count.old (λ p. length p.story.past) }
 {
     let Some(state) = phaser.take(alloc) else {
-        return Answer::Closed.number();
+        return ExportAnswer::Closed.number();
     };
     *count = state.history().len();
     phaser.put(alloc, state);
-    Answer::Done.number()
+    ExportAnswer::Done.number()
 }
 
 /// The number that answers what is kept of a fold, and its value, if it has one.
@@ -85,10 +85,10 @@ fn give_fold(fold: Option<Look>, value: &mut i64) -> u32
     match fold {
         Some(Look::Value(given)) => {
             *value = given;
-            Answer::Done.number()
+            ExportAnswer::Done.number()
         }
-        Some(Look::Nothing) => Answer::Nothing.number(),
-        None => Answer::NotKept.number(),
+        Some(Look::Nothing) => ExportAnswer::Nothing.number(),
+        None => ExportAnswer::NotKept.number(),
     }
 }
 
@@ -105,7 +105,7 @@ pub extern "C" fn phaser_c_fold_at(
     ensures fold { IsFold phaser.old.state accumulator phase value.old value.new result }
 {
     let Some(state) = phaser.take(alloc) else {
-        return Answer::Closed.number();
+        return ExportAnswer::Closed.number();
     };
     let fold = state.fold_at(accumulator, phase);
     phaser.put(alloc, state);

@@ -1,16 +1,16 @@
 //! A phaser for threads that wait, and the list in which it leaves those whom a call frees.
 ghost use Rattle.std.specs.Prelude.{◌≡◌, [], Some, IfOk, IfErr};
-ghost use Rattle.long_phaser.specs.Numbered.{long_limits};
+ghost use Rattle.phaser_core.specs.LongLife.{long_limits};
 
+use long_locks::{FreedList, LongCell, Then};
 use phase_model::{Bound, Ops};
 use phase_modes::Refusal;
 use std::alloc::Global;
-use waiting_cell::{FreedList, WaitingCell};
 
 /// A cell, and the list, which is empty between two calls.
 #[derive(Drop)]
 pub(crate) struct Waiting {
-    pub(crate) cell: WaitingCell,
+    pub(crate) cell: LongCell<Then>,
     pub(crate) freed: FreedList,
     pub(crate) ghost empty: { freed ≡ [] },
 }
@@ -25,7 +25,7 @@ impl Waiting {
         ensures queue { IfOk result (λ w. w.cell.parked.items ≡ []) }
         ensures memory { IfErr result (λ r. r ≡ Refusal.Memory) }
     {
-        let cell = WaitingCell::new(alloc, ops, bound)?;
+        let cell = LongCell::new(alloc, ops, bound)?;
         let freed = FreedList::new(alloc)?;
         Ok(Waiting { cell, freed })
     }

@@ -1,30 +1,30 @@
 //! The calls of threads that may have to wait. A task that is answered `NotYet` is parked: its answer
 //! comes with the call of another task, among those whom that call frees.
 ghost use Rattle.std.specs.Prelude.{◌≡◌, None, Some};
-ghost use Rattle.waiting_cell.specs.Calls.{to_signal, to_go_on};
-ghost use Rattle.waiting_cell.specs.Turns.{to_pass};
+ghost use Rattle.long_locks.specs.Calls.{to_signal, to_go_on};
+ghost use Rattle.long_locks.specs.Turns.{to_pass};
 ghost use Rattle.phaser_c.specs.Answers.{number_of_answer};
 ghost use Rattle.phaser_c.specs.Waiting.{waiter, asked, is_wide, told_at, answer_of_cell, answer_of_told, number_told, IsAsked, IsGoneOnAt};
 
-use crate::answer::Answer;
+use crate::answer::ExportAnswer;
 use crate::asking::Asking;
 use crate::freed::GivenFreed;
 use crate::waiting_handle::WaitingHandle;
-use long_phaser::Task;
+use long_locks::Ended;
+use phaser_core::LongTask;
 use std::alloc::Global;
-use waiting_cell::Ended;
 
 /// What is answered if a task was answered so by the cell.
-fn answer_of_cell(answer: waiting_cell::Answer) -> Answer
+fn answer_of_cell(answer: long_locks::AskAnswer) -> ExportAnswer
     ensures { result ≡ answer_of_cell answer }
 {
     match answer {
-        waiting_cell::Answer::Ended(ended) => Answer::of_ended(ended),
-        waiting_cell::Answer::Parked => Answer::NotYet,
+        long_locks::AskAnswer::Ended(ended) => ExportAnswer::of_ended(ended),
+        long_locks::AskAnswer::Parked => ExportAnswer::NotYet,
     }
 }
 
-fn answer_of_told(told: Result<waiting_cell::Answer, Answer>) -> Answer
+fn answer_of_told(told: Result<long_locks::AskAnswer, ExportAnswer>) -> ExportAnswer
     ensures { result ≡ answer_of_told told }
 {
     match told {
@@ -34,12 +34,12 @@ fn answer_of_told(told: Result<waiting_cell::Answer, Answer>) -> Answer
 }
 
 /// The phase or the single's number that the answer gives.
-fn give_number(told: Result<waiting_cell::Answer, Answer>, number: &mut u64)
+fn give_number(told: Result<long_locks::AskAnswer, ExportAnswer>, number: &mut u64)
     ensures { number.new ≡ number_told number.old told }
 {
     match told {
-        Ok(waiting_cell::Answer::Ended(Ended::Passed(phase))) => *number = phase,
-        Ok(waiting_cell::Answer::Ended(Ended::Claimed(claimed))) => *number = u64::from(claimed),
+        Ok(long_locks::AskAnswer::Ended(Ended::Passed(phase))) => *number = phase,
+        Ok(long_locks::AskAnswer::Ended(Ended::Claimed(claimed))) => *number = u64::from(claimed),
         Ok(_) | Err(_) => {}
     }
 }
@@ -49,27 +49,27 @@ fn give_number(told: Result<waiting_cell::Answer, Answer>, number: &mut u64)
 fn ask(
     alloc: Global,
     phaser: &mut WaitingHandle,
-    task: Task,
+    task: LongTask,
     asking: Asking,
     freed: &mut [GivenFreed],
     count: &mut usize,
-) -> Result<waiting_cell::Answer, Answer>
+) -> Result<long_locks::AskAnswer, ExportAnswer>
     ensures answer { result ≡ told_at (is_wide freed.old) phaser.old.state (λ c. asked c (waiter task asking)) }
     ensures made { IsGoneOnAt (IsAsked (waiter task asking)) phaser.old.state phaser.new.state
         freed.old freed.new count.old count.new (is_wide freed.old) }
 {
     if freed.len() < 256 {
-        return Err(Answer::Short);
+        return Err(ExportAnswer::Short);
     }
     let Some(mut waiting) = phaser.take(alloc) else {
-        return Err(Answer::Closed);
+        return Err(ExportAnswer::Closed);
     };
     let answer = waiting.ask(task, asking, freed, count);
     phaser.put(alloc, waiting);
     Ok(answer)
 }
 
-/// `WaitingCell::signal`, without a single.
+/// A signal, without a single.
 #[unsafe(no_mangle)]
 pub extern "C" fn phaser_c_waiting_signal(
     alloc: Global,
@@ -87,7 +87,7 @@ pub extern "C" fn phaser_c_waiting_signal(
     answer_of_told(told).number()
 }
 
-/// `WaitingCell::signal`, which proposes the single of this number.
+/// A signal, which proposes the single of this number.
 #[unsafe(no_mangle)]
 pub extern "C" fn phaser_c_waiting_signal_single(
     alloc: Global,
@@ -113,7 +113,7 @@ pub extern "C" fn phaser_c_waiting_signal_single(
     answer_of_told(told).number()
 }
 
-/// `WaitingCell::pass`. The number is the phase whose turn was ended, or that of the single that
+/// A pass. The number is the phase whose turn was ended, or that of the single that
 /// was claimed.
 #[unsafe(no_mangle)]
 pub extern "C" fn phaser_c_waiting_pass(
@@ -136,7 +136,7 @@ pub extern "C" fn phaser_c_waiting_pass(
     answer_of_told(told).number()
 }
 
-/// `WaitingCell::next`, without a single. The number is that of `phaser_c_waiting_pass`.
+/// A signal and then a pass, without a single. The number is that of `phaser_c_waiting_pass`.
 #[unsafe(no_mangle)]
 pub extern "C" fn phaser_c_waiting_next(
     alloc: Global,
@@ -158,7 +158,7 @@ pub extern "C" fn phaser_c_waiting_next(
     answer_of_told(told).number()
 }
 
-/// `WaitingCell::next`, which proposes the single of this number.
+/// A signal and then a pass, which proposes the single of this number.
 #[unsafe(no_mangle)]
 pub extern "C" fn phaser_c_waiting_next_single(
     alloc: Global,

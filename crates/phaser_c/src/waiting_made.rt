@@ -2,11 +2,11 @@
 ghost use Rattle.std.specs.Prelude.{◌≡◌, None, MatchResult, IfOk, IfErr};
 ghost use Rattle.phaser_c.specs.Answers.{number_of_answer};
 ghost use Rattle.phaser_c.specs.WaitingGiven.{long_story_given, IsNew, IsMadeFrom};
-ghost use Rattle.phaser_c.specs.declared.answer.Answer.{Answer as Answered};
-ghost use Rattle.phaser_c.specs.declared.answer.Answer.TheVariants.{Refused as refused};
+ghost use Rattle.phaser_c.specs.declared.answer.ExportAnswer.{ExportAnswer as Answered};
+ghost use Rattle.phaser_c.specs.declared.answer.ExportAnswer.TheVariants.{Refused as refused};
 ghost use Rattle.phase_modes.specs.declared.refusal.Refusal.TheVariants.{Memory};
 
-use crate::answer::Answer;
+use crate::answer::ExportAnswer;
 use crate::given::{bound_of, ops_of};
 use crate::waiting::Waiting;
 use crate::waiting_handle::WaitingHandle;
@@ -14,25 +14,25 @@ use phase_modes::Refusal;
 use std::alloc::Global;
 
 /// The phaser of the operators of these numbers, and with this bound.
-fn waiting_of(alloc: Global, operators: &[u32], bound: u32) -> Result<Waiting, Answer>
+fn waiting_of(alloc: Global, operators: &[u32], bound: u32) -> Result<Waiting, ExportAnswer>
     ensures made { IfOk result (λ w. IsNew (long_story_given operators.now bound) w) }
     ensures refused { IfErr result (λ a. MatchResult (long_story_given operators.now bound)
         (λ _. a ≡ refused Memory) (λ why. a ≡ why)) }
 {
     let Some(ops) = ops_of(operators) else {
-        return Err(Answer::BadOperators);
+        return Err(ExportAnswer::BadOperators);
     };
     let Some(Some(bound)) = bound_of(bound) else {
-        return Err(Answer::BadBound);
+        return Err(ExportAnswer::BadBound);
     };
     match Waiting::new(alloc, ops, bound) {
         Ok(waiting) => Ok(waiting),
-        Err(refusal) => Err(Answer::Refused(refusal)),
+        Err(refusal) => Err(ExportAnswer::Refused(refusal)),
     }
 }
 
 /// The same in a block of its own.
-fn boxed(alloc: Global, operators: &[u32], bound: u32) -> Result<Box<Waiting>, Answer>
+fn boxed(alloc: Global, operators: &[u32], bound: u32) -> Result<Box<Waiting>, ExportAnswer>
     ensures made { IfOk result (λ b. IsNew (long_story_given operators.now bound) b.value) }
     ensures refused { IfErr result (λ a. MatchResult (long_story_given operators.now bound)
         (λ _. a ≡ refused Memory) (λ why. a ≡ why)) }
@@ -40,28 +40,33 @@ fn boxed(alloc: Global, operators: &[u32], bound: u32) -> Result<Box<Waiting>, A
     let waiting = waiting_of(alloc, operators, bound)?;
     match Box::new(alloc, waiting) {
         Ok(boxed) => Ok(boxed),
-        Err(_) => Err(Answer::Refused(Refusal::Memory)),
+        Err(_) => Err(ExportAnswer::Refused(Refusal::Memory)),
     }
 }
 
 /// Makes a phaser for a handle that holds none.
-fn make_new(alloc: Global, phaser: &mut WaitingHandle, operators: &[u32], bound: u32) -> Answer
+fn make_new(
+    alloc: Global,
+    phaser: &mut WaitingHandle,
+    operators: &[u32],
+    bound: u32,
+) -> ExportAnswer
     ensures { IsMadeFrom phaser.old.state phaser.new.state (long_story_given operators.now bound) result }
 {
     if let Some(state) = phaser.take(alloc) {
         phaser.put(alloc, state);
-        return Answer::Open;
+        return ExportAnswer::Open;
     }
     match boxed(alloc, operators, bound) {
         Ok(state) => {
             phaser.put(alloc, state);
-            Answer::Done
+            ExportAnswer::Done
         }
         Err(answer) => answer,
     }
 }
 
-/// `WaitingCell::new`, for a handle that holds no phaser.
+/// `LongCell::new`, for a handle that holds no phaser.
 #[unsafe(no_mangle)]
 pub extern "C" fn phaser_c_waiting_new(
     alloc: Global,

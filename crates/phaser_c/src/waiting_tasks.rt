@@ -5,27 +5,27 @@ ghost use Rattle.phase_model.specs.Replies.{reply, done_result};
 ghost use Rattle.phaser_c.specs.Answers.{number_of_answer};
 ghost use Rattle.phaser_c.specs.Given.{mode_of};
 ghost use Rattle.phaser_c.specs.Waiting.{is_wide, told_at, answer_done, answer_of_done, answer_given, task_given, numbering, number_given_at, IsMade, IsLeft, IsGoneOnAt, IsNumbering, IsHeldAfter};
-ghost use Rattle.phaser_c.specs.declared.answer.Answer.TheVariants.{BadMode};
+ghost use Rattle.phaser_c.specs.declared.answer.ExportAnswer.TheVariants.{BadMode};
 
-use crate::answer::Answer;
+use crate::answer::ExportAnswer;
 use crate::freed::GivenFreed;
 use crate::given::mode_of;
 use crate::waiting_handle::WaitingHandle;
-use long_phaser::Task;
 use phase_modes::{Mode, Refusal};
+use phaser_core::LongTask;
 use std::alloc::Global;
 
 /// What is answered if a call was done or refused.
-pub(crate) fn answer_done(outcome: Result<(), Refusal>) -> Answer
+pub(crate) fn answer_done(outcome: Result<(), Refusal>) -> ExportAnswer
     ensures { result ≡ answer_done outcome }
 {
     match outcome {
-        Ok(()) => Answer::Done,
-        Err(refusal) => Answer::Refused(refusal),
+        Ok(()) => ExportAnswer::Done,
+        Err(refusal) => ExportAnswer::Refused(refusal),
     }
 }
 
-fn answer_of_done(told: Result<Result<(), Refusal>, Answer>) -> Answer
+fn answer_of_done(told: Result<Result<(), Refusal>, ExportAnswer>) -> ExportAnswer
     ensures { result ≡ answer_of_done told }
 {
     match told {
@@ -39,20 +39,20 @@ fn answer_of_done(told: Result<Result<(), Refusal>, Answer>) -> Answer
 fn single_done(
     alloc: Global,
     phaser: &mut WaitingHandle,
-    task: Task,
+    task: LongTask,
     freed: &mut [GivenFreed],
     count: &mut usize,
-) -> Result<Result<(), Refusal>, Answer>
+) -> Result<Result<(), Refusal>, ExportAnswer>
     ensures answer { result ≡ told_at (is_wide freed.old) phaser.old.state
         (λ c. done_result (reply c.state.story (single_done task))) }
     ensures made { IsGoneOnAt (IsMade (single_done task)) phaser.old.state phaser.new.state
         freed.old freed.new count.old count.new (is_wide freed.old) }
 {
     if freed.len() < 256 {
-        return Err(Answer::Short);
+        return Err(ExportAnswer::Short);
     }
     let Some(mut waiting) = phaser.take(alloc) else {
-        return Err(Answer::Closed);
+        return Err(ExportAnswer::Closed);
     };
     let outcome = waiting.single_done(task, freed, count);
     phaser.put(alloc, waiting);
@@ -63,20 +63,20 @@ fn single_done(
 fn leave(
     alloc: Global,
     phaser: &mut WaitingHandle,
-    task: Task,
+    task: LongTask,
     freed: &mut [GivenFreed],
     count: &mut usize,
-) -> Result<Result<(), Refusal>, Answer>
+) -> Result<Result<(), Refusal>, ExportAnswer>
     ensures answer { result ≡ told_at (is_wide freed.old) phaser.old.state
         (λ c. done_result (reply c.state.story (drop_task task))) }
     ensures made { IsGoneOnAt (IsLeft task) phaser.old.state phaser.new.state
         freed.old freed.new count.old count.new (is_wide freed.old) }
 {
     if freed.len() < 256 {
-        return Err(Answer::Short);
+        return Err(ExportAnswer::Short);
     }
     let Some(mut waiting) = phaser.take(alloc) else {
-        return Err(Answer::Closed);
+        return Err(ExportAnswer::Closed);
     };
     let outcome = waiting.leave(task, freed, count);
     phaser.put(alloc, waiting);
@@ -84,27 +84,27 @@ fn leave(
 }
 
 /// The number that a task was given.
-fn give_task(outcome: Result<Task, Refusal>, task: &mut u64) -> Answer
+fn give_task(outcome: Result<LongTask, Refusal>, task: &mut u64) -> ExportAnswer
     ensures answer { result ≡ answer_given outcome }
     ensures task { task.new ≡ task_given task.old outcome }
 {
     match outcome {
         Ok(given) => {
             *task = given;
-            Answer::Done
+            ExportAnswer::Done
         }
-        Err(refusal) => Answer::Refused(refusal),
+        Err(refusal) => ExportAnswer::Refused(refusal),
     }
 }
 
 /// A task makes the phaser, and is given its number.
-fn make(alloc: Global, phaser: &mut WaitingHandle, mode: Mode, task: &mut u64) -> Answer
+fn make(alloc: Global, phaser: &mut WaitingHandle, mode: Mode, task: &mut u64) -> ExportAnswer
     ensures answer { result ≡ answer_of_done (told_at true phaser.old.state (numbering (λ t. make t mode))) }
     ensures task { task.new ≡ number_given_at task.old (λ t. make t mode) phaser.old.state }
     ensures made { IsHeldAfter (IsNumbering (λ t. make t mode)) phaser.old.state phaser.new.state }
 {
     let Some(mut waiting) = phaser.take(alloc) else {
-        return Answer::Closed;
+        return ExportAnswer::Closed;
     };
     let outcome = waiting.cell.make(mode);
     phaser.put(alloc, waiting);
@@ -115,24 +115,24 @@ fn make(alloc: Global, phaser: &mut WaitingHandle, mode: Mode, task: &mut u64) -
 fn register(
     alloc: Global,
     phaser: &mut WaitingHandle,
-    parent: Task,
+    parent: LongTask,
     mode: Mode,
     task: &mut u64,
-) -> Answer
+) -> ExportAnswer
     ensures answer { result ≡ answer_of_done
         (told_at true phaser.old.state (numbering (λ t. register parent t mode))) }
     ensures task { task.new ≡ number_given_at task.old (λ t. register parent t mode) phaser.old.state }
     ensures made { IsHeldAfter (IsNumbering (λ t. register parent t mode)) phaser.old.state phaser.new.state }
 {
     let Some(mut waiting) = phaser.take(alloc) else {
-        return Answer::Closed;
+        return ExportAnswer::Closed;
     };
     let outcome = waiting.cell.register(parent, mode);
     phaser.put(alloc, waiting);
     give_task(outcome, task)
 }
 
-/// `WaitingCell::make`. The number is that of the task that makes the phaser.
+/// `LongCell::make`. The number is that of the task that makes the phaser.
 #[unsafe(no_mangle)]
 pub extern "C" fn phaser_c_waiting_make(
     alloc: Global,
@@ -148,12 +148,12 @@ pub extern "C" fn phaser_c_waiting_make(
         (λ m. IsHeldAfter (IsNumbering (λ t. make t m)) phaser.old.state phaser.new.state) }
 {
     match mode_of(mode) {
-        None => Answer::BadMode.number(),
+        None => ExportAnswer::BadMode.number(),
         Some(mode) => make(alloc, phaser, mode, task).number(),
     }
 }
 
-/// `WaitingCell::register`. The number is that of the child.
+/// `LongCell::register`. The number is that of the child.
 #[unsafe(no_mangle)]
 pub extern "C" fn phaser_c_waiting_register(
     alloc: Global,
@@ -171,12 +171,12 @@ pub extern "C" fn phaser_c_waiting_register(
         (λ m. IsHeldAfter (IsNumbering (λ t. register parent t m)) phaser.old.state phaser.new.state) }
 {
     match mode_of(mode) {
-        None => Answer::BadMode.number(),
+        None => ExportAnswer::BadMode.number(),
         Some(mode) => register(alloc, phaser, parent, mode, task).number(),
     }
 }
 
-/// `WaitingCell::single_done`.
+/// `LongCell::single_done_telling`.
 #[unsafe(no_mangle)]
 pub extern "C" fn phaser_c_waiting_single_done(
     alloc: Global,
@@ -193,7 +193,7 @@ pub extern "C" fn phaser_c_waiting_single_done(
     answer_of_done(single_done(alloc, phaser, task, freed, count)).number()
 }
 
-/// `WaitingCell::leave`. A task that is parked and leaves is freed with `NotRegistered`.
+/// `LongCell::leave_telling`. A task that is parked and leaves is freed with `NotRegistered`.
 #[unsafe(no_mangle)]
 pub extern "C" fn phaser_c_waiting_leave(
     alloc: Global,

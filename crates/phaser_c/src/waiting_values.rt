@@ -2,11 +2,11 @@
 ghost use Rattle.std.specs.Prelude.{◌≡◌, true};
 ghost use Rattle.phase_model.specs.declared.call.Call.TheVariants.{Send as send, Look as look};
 ghost use Rattle.phase_model.specs.Replies.{reply, done_result};
-ghost use Rattle.phaser_answers.specs.Answers.{look_result};
+ghost use Rattle.phase_model.specs.Answers.{look_result};
 ghost use Rattle.phaser_c.specs.Answers.{number_of_answer};
 ghost use Rattle.phaser_c.specs.Waiting.{told_at, answer_of_done, answer_seen, answer_of_seen, value_seen, value_seen_at, IsCalled, IsHeldAfter};
 
-use crate::answer::Answer;
+use crate::answer::ExportAnswer;
 use crate::waiting_handle::WaitingHandle;
 use crate::waiting_tasks::answer_done;
 use phase_model::{LongLook, Look};
@@ -19,22 +19,22 @@ const LEAST: i128 = -9_223_372_036_854_775_808;
 const GREATEST: i128 = 9_223_372_036_854_775_807;
 
 /// What is answered if a look returned this, and the value that it gives.
-fn give_seen(outcome: Result<LongLook, Refusal>, value: &mut i64) -> Answer
+fn give_seen(outcome: Result<LongLook, Refusal>, value: &mut i64) -> ExportAnswer
     ensures answer { result ≡ answer_seen outcome }
     ensures value { value.new ≡ value_seen value.old outcome }
 {
     match outcome {
         Ok(Look::Value(seen)) if LEAST <= seen && seen <= GREATEST => {
             *value = seen as i64;
-            Answer::Done
+            ExportAnswer::Done
         }
-        Ok(Look::Value(_)) => Answer::TooGreat,
-        Ok(Look::Nothing) => Answer::Nothing,
-        Err(refusal) => Answer::Refused(refusal),
+        Ok(Look::Value(_)) => ExportAnswer::TooGreat,
+        Ok(Look::Nothing) => ExportAnswer::Nothing,
+        Err(refusal) => ExportAnswer::Refused(refusal),
     }
 }
 
-/// `WaitingCell::send`.
+/// `LongCell::send`.
 #[unsafe(no_mangle)]
 pub extern "C" fn phaser_c_waiting_send(
     alloc: Global,
@@ -48,14 +48,14 @@ pub extern "C" fn phaser_c_waiting_send(
     ensures made { IsHeldAfter (IsCalled (send task accumulator value)) phaser.old.state phaser.new.state }
 {
     let Some(mut waiting) = phaser.take(alloc) else {
-        return Answer::Closed.number();
+        return ExportAnswer::Closed.number();
     };
     let outcome = waiting.cell.send(task, accumulator, value);
     phaser.put(alloc, waiting);
     answer_done(outcome).number()
 }
 
-/// `WaitingCell::look`.
+/// `LongCell::look`.
 #[unsafe(no_mangle)]
 pub extern "C" fn phaser_c_waiting_look(
     alloc: Global,
@@ -71,7 +71,7 @@ pub extern "C" fn phaser_c_waiting_look(
     ensures made { IsHeldAfter (IsCalled (look task accumulator)) phaser.old.state phaser.new.state }
 {
     let Some(mut waiting) = phaser.take(alloc) else {
-        return Answer::Closed.number();
+        return ExportAnswer::Closed.number();
     };
     let outcome = waiting.cell.look(task, accumulator);
     phaser.put(alloc, waiting);

@@ -11,16 +11,16 @@ use Rattle.phase_model.specs.Tasks.{is_live}
 use Rattle.phase_model.specs.Rules.{Story, is_legal}
 use Rattle.phase_model.specs.declared.call.Call.TheVariants.{Make as make}
 use Rattle.phase_model.specs.Replies.{Reply, refused, not_yet, done, reply, after}
-use Rattle.phaser_answers.specs.Answers.{made_with}
+use Rattle.phase_model.specs.Answers.{made_with}
 use Rattle.share_book.specs.Accounts.{Entry}
-use Rattle.parked_tasks.specs.declared.parked.Parked.{Parked}
-use Rattle.parked_tasks.specs.declared.parked.ParkedCall.{ParkedCall}
-use Rattle.parked_tasks.specs.declared.parked.ParkedCall.TheVariants.{Pass as ToPass, Signal as ToSignal}
+use Rattle.phaser_core.specs.declared.parked.Parked.{Parked}
+use Rattle.phaser_core.specs.declared.parked.ParkedCall.{ParkedCall}
+use Rattle.phaser_core.specs.declared.parked.ParkedCall.TheVariants.{Pass as ToPass, Signal as ToSignal}
 use Rattle.phaser_cell.specs.Amounts.{amount_if}
 use Rattle.phaser_cell.specs.Cells.{IsKept}
-use Rattle.parked_tasks.specs.Parking.{would_park}
-use Rattle.parked_tasks.proofs.Parks.{all_stay, parked_live}
-use Rattle.parked_tasks.proofs.Steps.{stays_waiting}
+use Rattle.phaser_core.specs.Parking.{would_park}
+use Rattle.phaser_core.proofs.Parks.{all_stay, parked_live}
+use Rattle.phaser_core.proofs.Steps.{stays_waiting}
 use Rattle.phaser_cell.proofs.Written.{Matches, Ticketed, ticketed, kept, settled_of}
 
 -- the same phaser made with something else

@@ -19,16 +19,16 @@ use Rattle.phase_model.specs.declared.call.Call.TheVariants.{Signal as signal, P
 use Rattle.phase_model.specs.Replies.{Reply, refused, not_yet, done, reply, after, done_result, event_for}
 use Rattle.phase_model.proofs.OrderingLaw.{legal_is_ordered}
 use Rattle.phase_model.proofs.Replied.{done_is_allowed, legal_after}
-use Rattle.phaser_answers.specs.Answers.{signal_result, pass_result, look_result}
+use Rattle.phase_model.specs.Answers.{signal_result, pass_result, look_result}
 use Rattle.phaser_core.proofs.Limits.{history_fits}
 use Rattle.share_book.specs.Accounts.{Entry, nothing}
-use Rattle.parked_tasks.specs.declared.parked.Parked.{Parked}
+use Rattle.phaser_core.specs.declared.parked.Parked.{Parked}
 use Rattle.phaser_cell.specs.Amounts.{weight, amount_if, plus_nothing}
 use Rattle.phaser_cell.specs.Cells.{IsKept}
-use Rattle.parked_tasks.specs.Parking.{all_wait, are_parked_once}
-use Rattle.parked_tasks.specs.Firsts.{is_made, has_gone_on}
-use Rattle.parked_tasks.specs.Settled.{IsSettled}
-use Rattle.parked_tasks.proofs.Steps.{event_is}
+use Rattle.phaser_core.specs.Parking.{all_wait, are_parked_once}
+use Rattle.phaser_core.specs.Firsts.{is_made, has_gone_on}
+use Rattle.phaser_core.specs.Settled.{IsSettled}
+use Rattle.phaser_core.proofs.Steps.{event_is}
 
 -- each event counts as one
 pub one_event : (e : Event) → (amount e).events ≡ 1

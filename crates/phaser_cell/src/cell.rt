@@ -6,23 +6,22 @@ ghost use Rattle.phase_model.specs.Amounts.{plus};
 ghost use Rattle.phase_model.specs.declared.call.Call.TheVariants.{Make as make, Register as register, Signal as signal, Pass as pass, SingleDone as single_done, Send as send, Look as look, Drop as drop_task};
 ghost use Rattle.phase_model.specs.Replies.{reply, after, done_result};
 ghost use Rattle.phase_model.specs.Rules.{no_terms};
-ghost use Rattle.phaser_answers.specs.Answers.{look_result, made_with};
+ghost use Rattle.phase_model.specs.Answers.{look_result, made_with};
 ghost use Rattle.share_book.specs.Accounts.{nothing};
 ghost use Rattle.phaser_cell.specs.Amounts.{amount_if};
 ghost use Rattle.phaser_cell.specs.Cells.{IsKept};
 ghost use Rattle.phaser_cell.specs.Drawn.{IsDrawn};
-ghost use Rattle.parked_tasks.specs.Parking.{is_parked, waiting, freed, locked_pass, parking, has_to_wait, goes_on, answered, IsBack, locked_signal, has_signalled, is_held, signal_answered, IsBackFromSignal};
+ghost use Rattle.phaser_core.specs.Parking.{is_parked, waiting, freed, locked_pass, parking, has_to_wait, goes_on, answered, IsBack, locked_signal, has_signalled, is_held, signal_answered, IsBackFromSignal};
 
 use crate::posts::{Post, post_if};
 use crate::tickets::Tickets;
-use parked_tasks::{
-    Asked, Out, Parked, ParkedCall, PassAnswer, SignalAnswer, has_gone_on, is_made, is_phase_open,
-    may_be_parked, may_come_near, may_leave, may_part_proposers, release_if, settle_pass,
-    settle_signal,
-};
 use phase_model::{Bound, Event, Look, Ops};
 use phase_modes::{Limits, Mode, Refusal};
-use phaser_core::PhaserState;
+use phaser_core::{
+    Asked, Out, Parked, ParkedCall, PassAnswer, PhaserState, SignalAnswer, has_gone_on, is_made,
+    is_phase_open, may_be_parked, may_come_near, may_leave, may_part_proposers, release_if,
+    settle_pass, settle_signal,
+};
 use share_book::{Ledgers, PhaserBook, Shares};
 use std::alloc::Global;
 use std::collections::VecDeque;

@@ -7,6 +7,6 @@ mod posts;
 mod tickets;
 
 pub use cell::PhaserCell;
-pub use parked_tasks::{Out, Parked, ParkedCall, PassAnswer, SignalAnswer};
+pub use phaser_core::{Out, Parked, ParkedCall, PassAnswer, SignalAnswer};
 pub use posts::{Locked, Post};
 pub use tickets::Tickets;

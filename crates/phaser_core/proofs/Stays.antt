@@ -10,9 +10,9 @@ use Rattle.phase_model.specs.Rules.{Story, has_room, look_of, is_permitted}
 use Rattle.phase_model.specs.Conditions.{conditions}
 use Rattle.phase_model.specs.declared.call.Call.TheVariants.{Look as look, Pass as pass}
 use Rattle.phase_model.specs.Replies.{Reply, reply, refused, not_yet, done, after, done_result, decided, must_wait}
-use Rattle.phaser_answers.specs.Answers.{signal_result, pass_result, look_result}
-use Rattle.phaser_answers.specs.declared.answer.Signalling.TheVariants.{NotYet}
-use Rattle.phaser_answers.specs.declared.answer.Passing.TheVariants as passings
+use Rattle.phase_model.specs.Answers.{signal_result, pass_result, look_result}
+use Rattle.phase_model.specs.declared.answer.Signalling.TheVariants.{NotYet}
+use Rattle.phase_model.specs.declared.answer.Passing.TheVariants as passings
 
 pub done_stays : (s : Story) (r : Reply) (x : Refusal) → done_result r ≡ Err x → after s r ≡ s
 done_stays s (refused y) x k = refl

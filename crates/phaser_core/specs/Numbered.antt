@@ -2,7 +2,7 @@
 use Rattle.std.specs.Prelude.{ℕ, ◌≡◌, ◌&&◌, nat_lt}
 use Rattle.phase_model.specs.Rules.{Story}
 use Rattle.phase_model.specs.Tasks.{is_registered}
-use Rattle.number_set.specs.Numbers.{Numbers, has_number}
+use Rattle.phase_modes.specs.Numbers.{Numbers, has_number}
 
 -- the set is of the numbers below the limit, and has each that was ever registered and no other
 pub record Remembers (s : Story) (known : Numbers) : Type 0 where

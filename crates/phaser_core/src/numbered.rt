@@ -4,9 +4,8 @@ ghost use Rattle.phase_modes.specs.Limits.{limits_fit};
 ghost use Rattle.phase_model.specs.Rules.{with_event};
 ghost use Rattle.phase_model.specs.Tasks.{registers, is_registered};
 
-use number_set::NumberSet;
 use phase_model::{Bound, Event, History, Ops, Terms};
-use phase_modes::{Limits, Refusal};
+use phase_modes::{Limits, NumberSet, Refusal};
 use std::alloc::Global;
 use std::marker::Model;
 

@@ -6,13 +6,12 @@ ghost use Rattle.phase_model.specs.Replies.{reply, returned};
 ghost use Rattle.phase_model.specs.Rules.{is_full, is_permitted};
 ghost use Rattle.phase_model.specs.Values.{fold, sent};
 ghost use Rattle.phase_model.specs.Waiting.{would_wait, signal_would_wait, is_in_open_phase};
-ghost use Rattle.phaser_answers.specs.Registration.{registration};
+ghost use Rattle.phase_model.specs.Registration.{registration};
 ghost use Rattle.phaser_engine.specs.Window.{is_needed};
 
 use crate::state::PhaserState;
-use phase_model::{Call, Event, Look, Reply};
+use phase_model::{Call, Event, Look, Reply, short_look};
 use phase_modes::Reg;
-use phaser_answers::short_look;
 
 impl PhaserState {
     /// What `apply` would reply to the call now.

@@ -1,11 +1,10 @@
 //! What the engine answers, as the stored phaser says it: a stored history has at most 65,536
 //! events, so phases have 32 bits, and sums 64.
 ghost use Rattle.std.specs.Prelude.{◌≡◌, IfOk};
-ghost use Rattle.phaser_answers.specs.Short.{IsShortLook, IsShortPassing};
+ghost use Rattle.phase_model.specs.Short.{IsShortLook, IsShortPassing};
 
-use phase_model::{LongLook, Look};
+use phase_model::{LongLook, LongPassing, Look, Passing, short_look, short_passing};
 use phase_modes::Refusal;
-use phaser_answers::{LongPassing, Passing, short_look, short_passing};
 
 /// The answer of a pass.
 #[inline(always)]

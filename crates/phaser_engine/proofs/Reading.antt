@@ -16,8 +16,8 @@ use Rattle.single_state.specs.declared.statement.Statement.{Statement}
 use Rattle.single_state.specs.Single.{may_pass, reserve_of}
 use Rattle.phaser_engine.proofs.SinglesKept.{reserve_is, settled_is}
 use Rattle.phase_model.specs.Rules.{Story, has_room}
-use Rattle.phaser_answers.specs.Registration.{reg_of}
-use Rattle.phaser_answers.proofs.Registration.{mode_of_live}
+use Rattle.phase_model.specs.Registration.{reg_of}
+use Rattle.phase_model.proofs.Registration.{mode_of_live}
 use Rattle.phaser_engine.specs.Table.{entry_of, tasks_of, Stands, can_count}
 use Rattle.phaser_engine.specs.Line.{has_signalled, is_within, is_near as is_near_line}
 use Rattle.phase_modes.specs.declared.limits.Limits.{Limits}

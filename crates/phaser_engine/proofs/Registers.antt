@@ -23,7 +23,7 @@ use Rattle.phase_modes.specs.declared.limits.Limits.{Limits}
 use Rattle.phase_model.specs.declared.terms.Terms.{Terms}
 use Rattle.phase_model.proofs.Proposals.{unknown_proposed_nothing}
 use Rattle.reg_table.specs.declared.table.Entry.{Entry}
-use Rattle.phaser_answers.specs.Registration.{reg_of}
+use Rattle.phase_model.specs.Registration.{reg_of}
 use Rattle.phaser_engine.specs.Table.{entry_of}
 use Rattle.phaser_engine.proofs.Reading.{Found, found_phase}
 

@@ -6,9 +6,9 @@ use Rattle.phase_model.specs.declared.op.Look.{Look}
 use Rattle.phase_model.specs.declared.op.Look.TheVariants.{Value, Nothing}
 use Rattle.phase_model.specs.Rules.{Story}
 use Rattle.phase_model.proofs.LiveTasks.{waits_within}
-use Rattle.phaser_answers.specs.declared.answer.Passing.{Passing}
-use Rattle.phaser_answers.specs.declared.answer.Passing.TheVariants.{Passed, Claimed, NotYet}
-use Rattle.phaser_answers.specs.Short.{IsShortLook, IsShortPassing}
+use Rattle.phase_model.specs.declared.answer.Passing.{Passing}
+use Rattle.phase_model.specs.declared.answer.Passing.TheVariants.{Passed, Claimed, NotYet}
+use Rattle.phase_model.specs.Short.{IsShortLook, IsShortPassing}
 use Rattle.acc_cells.specs.Cells.{IsInReach}
 use Rattle.reg_table.specs.declared.table.Entry.{Entry}
 use Rattle.phaser_engine.specs.declared.turn.Turn.{Turn}

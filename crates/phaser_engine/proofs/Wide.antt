@@ -11,8 +11,8 @@ use Rattle.phase_model.specs.Rules.{is_legal}
 use Rattle.phase_model.proofs.Closing.{some_live}
 use Rattle.acc_cells.specs.declared.cell.Cell.{Cell}
 use Rattle.acc_cells.specs.Cells.{Kept, held, from_after}
-use Rattle.span_laws.specs.Span.{IsNear}
-use Rattle.span_laws.proofs.Span.{legal_is_spanned}
+use Rattle.phase_model.specs.Span.{IsNear}
+use Rattle.phase_model.proofs.Span.{legal_is_spanned}
 use Rattle.phaser_engine.specs.Lazy.{partial_of}
 use Rattle.phaser_engine.specs.Table.{IsWideEnough}
 use Rattle.phaser_engine.specs.Window.{IsWindow}

@@ -18,8 +18,8 @@ use Rattle.phase_model.proofs.LiveTasks.{has-live_tasks}
 use Rattle.single_state.specs.declared.statement.Statement.{Statement}
 use Rattle.reg_table.specs.declared.table.Entry.{Entry}
 use Rattle.phaser_engine.specs.Line.{has_passed, is_waiter_past}
-use Rattle.phaser_answers.specs.Registration.{reg_of}
-use Rattle.phaser_answers.proofs.Registration.{mode_of_live}
+use Rattle.phase_model.specs.Registration.{reg_of}
+use Rattle.phase_model.proofs.Registration.{mode_of_live}
 use Rattle.phaser_engine.specs.Table.{has, entry_of, tasks_of, Stands}
 use Rattle.phaser_engine.specs.Window.{may_read, is_needed, IsWindow}
 use Rattle.phaser_engine.proofs.Reading.{list_any-map, all_at}

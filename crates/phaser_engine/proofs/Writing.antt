@@ -27,7 +27,7 @@ use Rattle.phase_model.proofs.Replied.{done_is_allowed}
 use Rattle.single_state.specs.declared.statement.Statement.{Statement}
 use Rattle.reg_table.specs.declared.table.Entry.{Entry}
 use Rattle.reg_table.specs.Lines.{line_signalled, line_passed}
-use Rattle.phaser_answers.specs.Registration.{reg_of}
+use Rattle.phase_model.specs.Registration.{reg_of}
 use Rattle.phaser_engine.specs.Table.{has, Apart, entry_of, tasks_of, IsLastSingle, Stands, can_count}
 use Rattle.phaser_engine.proofs.Reading.{has_at}
 use Rattle.phaser_engine.proofs.SinglesMoved.{last_stays}

@@ -7,7 +7,7 @@ use Rattle.phase_model.specs.declared.terms.Terms.{Terms}
 use Rattle.phase_model.specs.declared.call.Call.TheVariants.{Make as make}
 use Rattle.phase_model.specs.Rules.{Story, no_terms}
 use Rattle.phase_model.specs.Replies.{reply, after, done}
-use Rattle.phaser_answers.specs.Answers.{made_with}
+use Rattle.phase_model.specs.Answers.{made_with}
 
 -- nobody has made it yet
 abbrev pub unmade : Limits → Terms → Story

@@ -14,7 +14,7 @@ use Rattle.single_state.specs.declared.statement.Stage.TheVariants.{Proposed, Cl
 use Rattle.single_state.specs.declared.statement.Statement.{Statement}
 use Rattle.acc_cells.specs.declared.cell.Cell.{Cell}
 use Rattle.acc_cells.specs.Cells.{Kept, StandsFor, held, most_values}
-use Rattle.phaser_answers.specs.Registration.{reg_of}
+use Rattle.phase_model.specs.Registration.{reg_of}
 use Rattle.phaser_engine.specs.Lazy.{folded, partial_of}
 use Rattle.reg_table.specs.declared.table.Entry.{Entry}
 use Rattle.phaser_engine.specs.Line.{Lines}

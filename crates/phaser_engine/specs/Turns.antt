@@ -12,8 +12,8 @@ use Rattle.phase_model.specs.Replies.{Reply, reply, refused, not_yet, done}
 use Rattle.single_state.specs.declared.statement.Statement.{Statement}
 use Rattle.single_state.specs.Single.{is_mismatch, proposed, is_claimable, claimed}
 use Rattle.reg_table.specs.declared.table.Entry.{Entry}
-use Rattle.phaser_answers.specs.declared.answer.Passing.{Passing}
-use Rattle.phaser_answers.specs.declared.answer.Passing.TheVariants.{Passed, Claimed, NotYet}
+use Rattle.phase_model.specs.declared.answer.Passing.{Passing}
+use Rattle.phase_model.specs.declared.answer.Passing.TheVariants.{Passed, Claimed, NotYet}
 use Rattle.phaser_engine.specs.declared.turn.Unmade.{Unmade}
 use Rattle.phaser_engine.specs.declared.turn.Unmade.TheVariants.{Refused, Held}
 use Rattle.phaser_engine.specs.declared.turn.Turn.{Turn}

@@ -15,5 +15,5 @@ mod turn;
 mod view;
 
 pub use laws::{both_make_alike, late_folds_are_folds};
-pub use phaser_answers::{Passing, Signalling};
+pub use phase_model::{Passing, Signalling};
 pub use state::Engine;

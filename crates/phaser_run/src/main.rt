@@ -5,28 +5,22 @@ mod trace_file;
 mod upgrade_file;
 
 ghost use Rattle.std.specs.Prelude.{◌≡◌, ◌≢◌, ◌⊎◌, ◌<◌, ◌≤◌, length, true, IfSome, Ok, ⊤};
-ghost use Rattle.events_text.specs.Form.{Form};
+ghost use Rattle.text_jobs.specs.EventsForm.{Form};
 ghost use Rattle.job_script.specs.Program.{Program};
 ghost use Rattle.job_ends.specs.Ends.{status_of};
 ghost use Rattle.command_words.specs.CommandLine.{IsInRange, no_job_status, work_of};
-ghost use Rattle.events_job.specs.File.{file_spelled};
-ghost use Rattle.program_texts.specs.Texts.{program_spelled};
-ghost use Rattle.certify_job.specs.Certificate.{Certifies};
-ghost use Rattle.replay_job.specs.Replayed.{Explains};
+ghost use Rattle.text_jobs.specs.EventsFiles.{file_spelled};
+ghost use Rattle.text_jobs.specs.Texts.{program_spelled};
+ghost use Rattle.run_jobs.specs.Certificate.{Certifies};
+ghost use Rattle.text_jobs.specs.Replayed.{Explains};
 
 use crate::trace_file::make_out;
 use crate::upgrade_file::Upgraded;
-use certain_job::certain_on;
-use certify_job::certify_on;
 use command_words::{Job, NoJob, job_of};
-use events_job::events_from;
 use job_ends::{Failure, Reads, Status, bytes_of, write_text};
 use job_kernels::PipelineSize;
-use kernels_job::{pipeline_on, stencil_on};
 use phase_modes::Refusal;
-use replay_job::replay_on;
-use run_job::{Workers, run_on};
-use schedule_job::schedule_on;
+use run_jobs::{Workers, certain_on, certify_on, pipeline_on, run_on, stencil_on};
 use std::alloc::{AllocError, Global};
 use std::env;
 use std::fs::File;
@@ -34,6 +28,7 @@ use std::io::{BufWriter, ErrorKind, Read};
 use std::process::ExitCode;
 use std::sync::Wait;
 use std::thread::Threads;
+use text_jobs::{events_from, replay_on, schedule_on};
 
 /// The size in bytes of the largest block, rounded down, whose freeing makes glibc raise its `mmap`
 /// threshold: that is never above 2^25 = 33,554,432 (`DEFAULT_MMAP_THRESHOLD_MAX`, 32 MiB).
@@ -231,7 +226,7 @@ fn schedule_into<R: Read>(
     ensures usage { result ≢ Status.Usage }
 {
     let (alloc, mut reads) = (rt.alloc(), Reads::none());
-    match bytes_of(alloc, reader, &mut reads, program_texts::MOST_BYTES) {
+    match bytes_of(alloc, reader, &mut reads, text_jobs::MOST_PROGRAM_BYTES) {
         Ok(bytes) => {
             let (mut out, mut faults) = (rt.stdout(), rt.stderr());
             schedule_on(alloc, &bytes, picks, &mut out, &mut faults, trace_out)
@@ -283,7 +278,7 @@ fn run_into<H: Threads + Wait + Sync, R: Read>(
     ensures usage { result ≢ Status.Usage }
 {
     let (alloc, mut reads) = (rt.alloc(), Reads::none());
-    match bytes_of(alloc, reader, &mut reads, program_texts::MOST_BYTES) {
+    match bytes_of(alloc, reader, &mut reads, text_jobs::MOST_PROGRAM_BYTES) {
         Ok(bytes) => run_bytes(rt, workers, certain, trace_out, &bytes),
         Err(failure) => failed(rt, failure),
     }
@@ -318,7 +313,7 @@ fn certify<R: Read>(rt: &HostRuntime, reader: &mut R) -> Status
     ensures usage { result ≢ Status.Usage }
 {
     let (alloc, mut reads) = (rt.alloc(), Reads::none());
-    match bytes_of(alloc, reader, &mut reads, program_texts::MOST_BYTES) {
+    match bytes_of(alloc, reader, &mut reads, text_jobs::MOST_PROGRAM_BYTES) {
         Ok(bytes) => {
             let (mut out, mut faults) = (rt.stdout(), rt.stderr());
             certify_on(alloc, &bytes, &mut out, &mut faults)
@@ -381,7 +376,7 @@ fn replay_into<R: Read>(
     ensures usage { result ≢ Status.Usage }
 {
     let (alloc, mut reads) = (rt.alloc(), Reads::none());
-    match bytes_of(alloc, reader, &mut reads, replay_job::MOST_BYTES) {
+    match bytes_of(alloc, reader, &mut reads, text_jobs::MOST_TRACE_BYTES) {
         Ok(bytes) => {
             let (mut out, mut faults) = (rt.stdout(), rt.stderr());
             replay_on(alloc, &bytes, &mut out, &mut faults, trace_out)

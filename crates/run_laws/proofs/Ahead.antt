@@ -13,7 +13,7 @@ use Rattle.world_model.specs.Parts.{phaser_past, terms_of}
 use Rattle.world_model.specs.Tasks.{is_ended}
 use Rattle.world_model.proofs.PhasersLegal.{phasers_legal}
 use Rattle.trace_walk.specs.Walking.{Does}
-use Rattle.schedule_model.specs.Scripts.{Numbers}
+use Rattle.trace_walk.specs.Scripts.{Numbers}
 use Rattle.run_laws.specs.Telling.{Told, told, told_of}
 use Rattle.run_laws.specs.Determinacy.{IsBeginning}
 use Rattle.run_laws.proofs.Failures.{other, other_told, to_told, from_told, any_front}

@@ -27,8 +27,8 @@ use Rattle.world_model.specs.Parts.{phaser_past, terms_of, event_for}
 use Rattle.world_model.specs.Tasks.{is_ended}
 use Rattle.world_model.proofs.PhasersLegal.{phasers_legal}
 use Rattle.trace_walk.specs.Walking.{Does}
-use Rattle.schedule_model.specs.Scripts.{Numbers}
-use Rattle.schedule_model.proofs.Used.{phaser_below}
+use Rattle.trace_walk.specs.Scripts.{Numbers}
+use Rattle.trace_walk.proofs.Used.{phaser_below}
 use Rattle.run_laws.specs.Telling.{Told}
 use Rattle.run_laws.specs.Memory.{registrations, is_roomy}
 use Rattle.run_laws.proofs.Ahead.{proposed_there, weighs_less}

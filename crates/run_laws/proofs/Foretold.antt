@@ -20,16 +20,16 @@ use Rattle.world_model.specs.Numbers.{is_named, names}
 use Rattle.world_model.specs.Replies.{is_legal_world, is_accepted}
 use Rattle.world_model.proofs.MadeMeans.{last_accepted}
 use Rattle.world_model.proofs.SpawnUnderWay.{names_fresh}
-use Rattle.schedule_model.specs.Scripts.{Numbers, act_of, is_of, parent_by}
-use Rattle.schedule_model.specs.Follows.{drawn, same_act}
-use Rattle.schedule_model.specs.Scripts.{body_of, acts_left, meanings, tried_as, tried_next, tried}
-use Rattle.schedule_model.specs.Follows.{is_next as is_its_next, follows}
+use Rattle.trace_walk.specs.Scripts.{Numbers, act_of, is_of, parent_by}
+use Rattle.trace_walk.specs.Follows.{drawn, same_act}
+use Rattle.trace_walk.specs.Scripts.{body_of, acts_left, meanings, tried_as, tried_next, tried}
+use Rattle.trace_walk.specs.Follows.{is_next as is_its_next, follows}
 use Rattle.run_laws.specs.Texts.{is_spawn, is_draw, draw_none, children_draw_none, root_draws_alone}
 use Rattle.run_laws.specs.Telling.{in_order, is_root_draw, root_draws}
 use Rattle.run_laws.specs.Programs.{IsProgramRun, IsLeastRun, TextsTellWhoDraws, TextsForetell}
 use Rattle.run_laws.proofs.Scripts.{maker_named, programs_come_to_the_same}
 use Rattle.world_model.specs.declared.event.Begun.TheVariants as begun
-use Rattle.body_follows.proofs.SameActs.{act_is}
+use Rattle.trace_walk.proofs.SameActs.{act_is}
 use Rattle.run_laws.proofs.Drawings.{roots_draw_in_order}
 
 -- ---- lists of acts

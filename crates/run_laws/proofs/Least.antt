@@ -28,11 +28,11 @@ use Rattle.world_model.proofs.AbruptEnds.{nothing_due}
 use Rattle.world_model.proofs.DueStays.{IsFirstDue}
 use Rattle.world_model.proofs.MadeMeans.{last_accepted}
 use Rattle.world_model.proofs.PassesInTurns.{idle_is_born}
-use Rattle.body_follows.specs.Going.{does, is_next, goes_by}
+use Rattle.trace_walk.specs.Going.{does, is_next, goes_by}
 use Rattle.trace_walk.specs.Walking.{Does}
-use Rattle.body_follows.proofs.SameActs.{act_is}
-use Rattle.schedule_model.specs.Follows.{drawn}
-use Rattle.schedule_model.specs.Scripts.{Numbers, act_of}
+use Rattle.trace_walk.proofs.SameActs.{act_is}
+use Rattle.trace_walk.specs.Follows.{drawn}
+use Rattle.trace_walk.specs.Scripts.{Numbers, act_of}
 use Rattle.trace_walk.specs.Given.{tried_of}
 use Rattle.run_laws.specs.Telling.{Told, told, makes, begins_child, opens, in_order, draws_by, draws_next, draws_least, draws_least_next}
 use Rattle.run_laws.specs.Least.{LeastIsInOrder, LeastHangsOnMemoryAlone}

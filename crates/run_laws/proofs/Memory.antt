@@ -32,9 +32,9 @@ use Rattle.world_model.proofs.AbleComputed.{made_done_where, found, refuse_idle}
 use Rattle.world_model.proofs.LeaversNeverFail.{finish_never_fails}
 use Rattle.world_model.proofs.MadeMeans.{last_accepted}
 use Rattle.world_model.proofs.PhasersLegal.{phasers_legal}
-use Rattle.body_follows.specs.Going.{is_next, goes_by}
+use Rattle.trace_walk.specs.Going.{is_next, goes_by}
 use Rattle.trace_walk.specs.Walking.{Does}
-use Rattle.schedule_model.specs.Scripts.{Numbers, act_of}
+use Rattle.trace_walk.specs.Scripts.{Numbers, act_of}
 use Rattle.run_laws.specs.Telling.{Told, draws_next, draws_by}
 use Rattle.run_laws.specs.Memory.{HistoriesAlwaysFit, MemoryIsAllLuck, leaves_history_room, is_roomy, is_next_refused, is_forced, has_memory}
 use Rattle.run_laws.proofs.Failures.{due_of, next_due, failures_are_of_room}

@@ -29,18 +29,18 @@ use Rattle.world_model.proofs.AbleComputed.{idle_in_act}
 use Rattle.world_model.proofs.AbruptEnds.{nothing_due}
 use Rattle.world_model.proofs.DueStays.{IsFirstDue, first_is}
 use Rattle.world_model.proofs.SmallWords.{head_same}
-use Rattle.body_follows.specs.Going.{does, is_next, goes_by}
+use Rattle.trace_walk.specs.Going.{does, is_next, goes_by}
 use Rattle.trace_walk.specs.Walking.{Does}
-use Rattle.schedule_model.specs.Scripts.{Numbers, act_of}
+use Rattle.trace_walk.specs.Scripts.{Numbers, act_of}
 use Rattle.trace_walk.specs.Given.{tried_of}
-use Rattle.schedule_model.specs.Follows.{drawn}
-use Rattle.body_follows.specs.Whole.{IsSmooth}
+use Rattle.trace_walk.specs.Follows.{drawn}
+use Rattle.trace_walk.specs.Whole.{IsSmooth}
 use Rattle.run_laws.specs.Telling.{Told, told, draws_as, draws_next, draws_by}
 use Rattle.run_laws.proofs.Plain.{some_none}
 use Rattle.run_laws.proofs.State.{IsSame}
 use Rattle.run_laws.proofs.Others.{is_refusal}
 use Rattle.run_laws.proofs.Own.{held_same}
-use Rattle.body_follows.proofs.SameActs.{act_is}
+use Rattle.trace_walk.proofs.SameActs.{act_is}
 use Rattle.run_laws.proofs.Twins.{is_calm}
 
 -- ---- histories that go on by bodies

@@ -23,8 +23,8 @@ use Rattle.world_model.proofs.MadeMeans.{last_accepted}
 use Rattle.world_model.proofs.PhasersLegal.{phasers_legal}
 use Rattle.world_model.proofs.RootEndsLast.{ended_roots_leave_nobody}
 use Rattle.trace_walk.specs.Walking.{Does}
-use Rattle.schedule_model.specs.Scripts.{Numbers}
-use Rattle.schedule_model.proofs.Used.{phaser_below}
+use Rattle.trace_walk.specs.Scripts.{Numbers}
+use Rattle.trace_walk.proofs.Used.{phaser_below}
 use Rattle.run_laws.specs.Memory.{HistoriesAreNoLonger}
 use Rattle.run_laws.specs.Telling.{Told, told}
 use Rattle.run_laws.proofs.Ahead.{proposed_there, with_both}

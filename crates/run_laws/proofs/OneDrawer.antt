@@ -21,7 +21,7 @@ use Rattle.world_model.specs.Replies.{is_legal_world, is_accepted}
 use Rattle.world_model.proofs.AbleComputed.{act_now}
 use Rattle.world_model.proofs.MadeMeans.{last_accepted}
 use Rattle.std.specs.List.{list_any}
-use Rattle.schedule_model.specs.Scripts.{Numbers, act_of}
+use Rattle.trace_walk.specs.Scripts.{Numbers, act_of}
 use Rattle.trace_walk.specs.Given.{tried_of}
 use Rattle.run_laws.specs.Telling.{Told, told, told_of, tells, makes, begins_child, opens, in_order, draws_next, draws_by}
 use Rattle.run_laws.proofs.Plain.{plus_none, count_more}

@@ -12,13 +12,13 @@ use Rattle.world_model.specs.declared.event.WorldEvent.TheVariants.{Phaser, Fini
 use Rattle.world_model.specs.GivingUp.{is_refused_by}
 use Rattle.world_model.specs.Replies.{is_legal_world, reply}
 use Rattle.world_model.specs.Tasks.{is_ended}
-use Rattle.schedule_model.specs.Follows.{follows}
-use Rattle.schedule_model.specs.Laws.{AllGiveUp, GivesUp}
-use Rattle.schedule_model.specs.Picks.{run_within, picked, rounds, round_from}
-use Rattle.schedule_model.proofs.Failures.{runs_give_up}
-use Rattle.schedule_model.proofs.Follow.{runs-follow}
-use Rattle.schedule_model.proofs.Legal.{runs-legal}
-use Rattle.schedule_model.proofs.Rounds.{run_rounds_move}
+use Rattle.trace_walk.specs.Follows.{follows}
+use Rattle.trace_walk.specs.Laws.{AllGiveUp, GivesUp}
+use Rattle.trace_walk.specs.Picks.{run_within, picked, rounds, round_from}
+use Rattle.trace_walk.proofs.Failures.{runs_give_up}
+use Rattle.trace_walk.proofs.Follow.{runs-follow}
+use Rattle.trace_walk.proofs.Legal.{runs-legal}
+use Rattle.trace_walk.proofs.Rounds.{run_rounds_move}
 use Rattle.run_laws.specs.Determinacy.{IsRun}
 use Rattle.run_laws.specs.Memory.{has_memory, is_forced, is_next_refused}
 use Rattle.trace_walk.specs.Walking.{script_next}

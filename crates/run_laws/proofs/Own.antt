@@ -33,9 +33,9 @@ use Rattle.world_model.proofs.UntouchedStays.{IsAlike}
 use Rattle.world_model.proofs.OthersLeave.{due_own}
 use Rattle.world_model.proofs.OpenFinishes.{opened, opens_same, open_later, opened_by_owner, opening_fresh, home_later, filter_same}
 use Rattle.world_model.proofs.SmallWords.{eq_self}
-use Rattle.body_follows.specs.Going.{does, heard}
+use Rattle.trace_walk.specs.Going.{does, heard}
 use Rattle.trace_walk.specs.Walking.{Does}
-use Rattle.schedule_model.specs.Scripts.{act_of, is_of}
+use Rattle.trace_walk.specs.Scripts.{act_of, is_of}
 use Rattle.run_laws.specs.Telling.{told, told_of, phase_of, tells}
 use Rattle.run_laws.proofs.State.{IsKept, IsSame}
 use Rattle.run_laws.proofs.Others.{is_refusal, no_child}

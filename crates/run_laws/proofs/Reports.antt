@@ -32,7 +32,7 @@ use Rattle.world_model.specs.Tasks.{is_born}
 use Rattle.world_model.proofs.OpenFinishes.{filter_same}
 use Rattle.world_model.proofs.PhasersLegal.{phasers_legal}
 use Rattle.trace_walk.specs.Walking.{Does}
-use Rattle.schedule_model.specs.Scripts.{Numbers}
+use Rattle.trace_walk.specs.Scripts.{Numbers}
 use Rattle.run_laws.specs.Telling.{Told, told}
 use Rattle.run_laws.specs.Determinacy.{IsRun, RunsComeToTheSame}
 use Rattle.run_laws.proofs.Plain.{plus_none, swapped}

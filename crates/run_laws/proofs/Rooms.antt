@@ -10,9 +10,9 @@ use Rattle.world_model.specs.Replies.{is_legal_world, is_accepted}
 use Rattle.world_model.specs.Report.{refused_by}
 use Rattle.world_model.specs.Tasks.{is_ended}
 use Rattle.world_model.proofs.MadeMeans.{last_accepted}
-use Rattle.body_follows.specs.Going.{is_next, goes_by}
+use Rattle.trace_walk.specs.Going.{is_next, goes_by}
 use Rattle.trace_walk.specs.Walking.{Does}
-use Rattle.schedule_model.specs.Scripts.{Numbers, act_of}
+use Rattle.trace_walk.specs.Scripts.{Numbers, act_of}
 use Rattle.run_laws.specs.Telling.{Told, draws_next, draws_by}
 use Rattle.run_laws.specs.Determinacy.{RoomIsAllLuck, wants_no_room, is_of_room}
 use Rattle.run_laws.proofs.Others.{is_refusal}

@@ -27,13 +27,13 @@ use Rattle.world_model.proofs.MadeMeans.{last_accepted}
 use Rattle.world_model.proofs.AbleComputed.{idle_in_act, refuse_idle, made_done_where}
 use Rattle.world_model.proofs.PassesInTurns.{idle_is_born}
 use Rattle.world_model.proofs.BornWhereNamed.{born_named}
-use Rattle.body_follows.specs.Going.{does, heard, child_does, is_next, goes_by}
+use Rattle.trace_walk.specs.Going.{does, heard, child_does, is_next, goes_by}
 use Rattle.trace_walk.specs.Walking.{Does, script_next}
-use Rattle.schedule_model.specs.Scripts.{Made, Numbers, act_of, is_of, parent_by}
+use Rattle.trace_walk.specs.Scripts.{Made, Numbers, act_of, is_of, parent_by}
 use Rattle.trace_walk.specs.Given.{tried_of}
-use Rattle.schedule_model.specs.Follows.{drawn, same_act}
-use Rattle.schedule_model.specs.Scripts.{body_of, acts_left, next_act, meanings, meant_after, tried_as, tried_next}
-use Rattle.schedule_model.specs.Follows.{is_next as is_its_next, follows}
+use Rattle.trace_walk.specs.Follows.{drawn, same_act}
+use Rattle.trace_walk.specs.Scripts.{body_of, acts_left, next_act, meanings, meant_after, tried_as, tried_next}
+use Rattle.trace_walk.specs.Follows.{is_next as is_its_next, follows}
 use Rattle.run_laws.specs.Programs.{script_root, FollowersGoByScripts, IsProgramRun, ProgramsComeToTheSame}
 use Rattle.run_laws.specs.Determinacy.{IsRun}
 use Rattle.run_laws.specs.Telling.{Told}

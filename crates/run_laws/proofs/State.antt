@@ -27,9 +27,9 @@ use Rattle.world_model.proofs.OpenFinishes.{opens_by_others, home_later}
 use Rattle.world_model.proofs.LeavesAtEnds.{root_owner}
 use Rattle.world_model.proofs.PhasersLegal.{new_past}
 use Rattle.world_model.proofs.RegistrationsStand.{enclosing_later}
-use Rattle.body_follows.specs.Going.{does}
+use Rattle.trace_walk.specs.Going.{does}
 use Rattle.trace_walk.specs.Walking.{Does}
-use Rattle.schedule_model.specs.Scripts.{act_of, is_of, parent_by}
+use Rattle.trace_walk.specs.Scripts.{act_of, is_of, parent_by}
 use Rattle.run_laws.specs.Telling.{told}
 
 -- what a task has on a phaser, and what the phaser is where the task is on it

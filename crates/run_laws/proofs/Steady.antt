@@ -8,7 +8,7 @@ use Rattle.world_model.specs.declared.event.WorldEvent.{WorldEvent}
 use Rattle.world_model.specs.declared.event.WorldEvent.TheVariants.{Refuse, Fail}
 use Rattle.world_model.specs.Report.{refused_by}
 use Rattle.world_model.specs.Tasks.{ends, is_ended}
-use Rattle.schedule_model.specs.Scripts.{act_of}
+use Rattle.trace_walk.specs.Scripts.{act_of}
 use Rattle.trace_model.specs.Run.{Entry}
 use Rattle.trace_model.specs.Explained.{past, event_of, ends_run, is_over}
 use Rattle.trace_model.specs.declared.event.TracedEvent.{TracedEvent}

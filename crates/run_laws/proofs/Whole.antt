@@ -8,7 +8,7 @@ use Rattle.world_model.specs.Report.{Report, report_of}
 use Rattle.trace_model.specs.Explained.{past, all_follow, is_explained, is_over}
 use Rattle.trace_model.specs.Run.{Entry, Run}
 use Rattle.trace_model.proofs.Legal.{explained_legal}
-use Rattle.schedule_model.specs.Follows.{follows}
+use Rattle.trace_walk.specs.Follows.{follows}
 use Rattle.trace_walk.specs.History.{history}
 use Rattle.trace_walk.proofs.Places.{past_reversed}
 use Rattle.run_laws.specs.Memory.{is_roomy}

@@ -2,7 +2,7 @@
 use Rattle.std.specs.Prelude.{ℕ, ◌≡◌, true, [], ⊤}
 use Rattle.job_script.specs.Program.{Program}
 use Rattle.world_model.specs.Report.{Report, report_of}
-use Rattle.schedule_model.specs.Picks.{run_within}
+use Rattle.trace_walk.specs.Picks.{run_within}
 use Rattle.trace_walk.specs.History.{history}
 use Rattle.trace_model.specs.Run.{Run}
 use Rattle.trace_model.specs.Explained.{is_explained}

@@ -8,10 +8,10 @@ use Rattle.std.specs.List.{list_all}
 use Rattle.world_model.specs.Replies.{is_legal_world}
 use Rattle.world_model.specs.Tasks.{is_ended}
 use Rattle.world_model.specs.Report.{report_of, refused_by}
-use Rattle.body_follows.specs.Going.{goes_by}
+use Rattle.trace_walk.specs.Going.{goes_by}
 use Rattle.trace_walk.specs.Walking.{Does}
-use Rattle.schedule_model.specs.Scripts.{Numbers}
-use Rattle.body_follows.specs.Whole.{IsSmooth, IsWhole}
+use Rattle.trace_walk.specs.Scripts.{Numbers}
+use Rattle.trace_walk.specs.Whole.{IsSmooth, IsWhole}
 use Rattle.run_laws.specs.Telling.{Told, told, draws_by}
 
 -- a whole run of these bodies: nobody is refused or gives up, the root has ended, and numbers are drawn by this rule

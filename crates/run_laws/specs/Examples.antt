@@ -19,11 +19,11 @@ use Rattle.world_model.specs.Report.{report_of, refused_by}
 use Rattle.world_model.specs.Tasks.{is_ended}
 use Rattle.job_script.specs.Program.{Program}
 use Rattle.job_script.specs.declared.head.Head.TheVariants.{Async as AsyncHead, New as NewHead, Next as NextHead}
-use Rattle.schedule_model.specs.ExampleWords.{plain as plain_act, program, within}
-use Rattle.schedule_model.specs.RunExamples.{two_senders}
-use Rattle.body_follows.specs.Going.{goes_by}
+use Rattle.trace_walk.specs.ExampleWords.{plain as plain_act, program, within}
+use Rattle.trace_walk.specs.RunExamples.{two_senders}
+use Rattle.trace_walk.specs.Going.{goes_by}
 use Rattle.trace_walk.specs.Walking.{Does}
-use Rattle.body_follows.specs.Whole.{IsWhole}
+use Rattle.trace_walk.specs.Whole.{IsWhole}
 use Rattle.run_laws.specs.Telling.{in_order}
 use Rattle.run_laws.specs.Texts.{root_draws_alone}
 use Rattle.run_laws.specs.Schedules.{IsOrderly}

@@ -7,9 +7,9 @@ use Rattle.world_model.specs.declared.event.WorldEvent.{WorldEvent}
 use Rattle.world_model.specs.Replies.{is_legal_world}
 use Rattle.world_model.specs.Report.{report_of, refused_by}
 use Rattle.world_model.specs.Tasks.{is_ended}
-use Rattle.body_follows.specs.Going.{goes_by}
+use Rattle.trace_walk.specs.Going.{goes_by}
 use Rattle.trace_walk.specs.Walking.{Does}
-use Rattle.body_follows.specs.Whole.{IsSmooth}
+use Rattle.trace_walk.specs.Whole.{IsSmooth}
 use Rattle.run_laws.specs.Telling.{draws_by, draws_least, in_order}
 use Rattle.run_laws.specs.Determinacy.{IsRun}
 use Rattle.run_laws.specs.Memory.{has_memory, is_roomy}

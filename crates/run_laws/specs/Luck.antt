@@ -8,7 +8,7 @@ use Rattle.world_model.specs.declared.event.Begun.TheVariants.{Async}
 use Rattle.world_model.specs.declared.event.WorldEvent.{WorldEvent}
 use Rattle.world_model.specs.declared.event.WorldEvent.TheVariants as events
 use Rattle.world_model.specs.ReportLines.{task_text}
-use Rattle.schedule_model.specs.Scripts.{act_of}
+use Rattle.trace_walk.specs.Scripts.{act_of}
 use Rattle.trace_walk.specs.History.{history}
 use Rattle.trace_model.specs.Run.{Entry, Run}
 use Rattle.trace_model.specs.Explained.{event_of}

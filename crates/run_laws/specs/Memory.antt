@@ -14,10 +14,10 @@ use Rattle.world_model.specs.Parts.{phaser_past}
 use Rattle.world_model.specs.Replies.{is_legal_world, reply}
 use Rattle.world_model.specs.Report.{below, report_of, refused_by}
 use Rattle.world_model.specs.Tasks.{is_ended}
-use Rattle.body_follows.specs.Going.{goes_by}
+use Rattle.trace_walk.specs.Going.{goes_by}
 use Rattle.trace_walk.specs.Walking.{Does}
-use Rattle.body_follows.specs.Whole.{IsSmooth}
-use Rattle.schedule_model.specs.Scripts.{Numbers}
+use Rattle.trace_walk.specs.Whole.{IsSmooth}
+use Rattle.trace_walk.specs.Scripts.{Numbers}
 use Rattle.run_laws.specs.Telling.{Told, draws_by}
 use Rattle.run_laws.specs.Determinacy.{IsRun}
 

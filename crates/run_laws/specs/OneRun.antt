@@ -5,7 +5,7 @@ use Rattle.world_model.specs.declared.event.WorldEvent.{WorldEvent}
 use Rattle.world_model.specs.Replies.{is_legal_world}
 use Rattle.world_model.specs.Report.{Report, report_of, refused_by}
 use Rattle.world_model.specs.Tasks.{is_ended}
-use Rattle.schedule_model.specs.Follows.{follows}
+use Rattle.trace_walk.specs.Follows.{follows}
 use Rattle.run_laws.specs.Memory.{has_memory, is_roomy}
 use Rattle.run_laws.specs.Programs.{IsProgramRun}
 use Rattle.run_laws.specs.Telling.{draws_least, in_order}

@@ -6,10 +6,10 @@ use Rattle.world_model.specs.declared.event.WorldEvent.{WorldEvent}
 use Rattle.world_model.specs.Report.{report_of, refused_by}
 use Rattle.world_model.specs.Replies.{is_legal_world}
 use Rattle.world_model.specs.Tasks.{is_ended}
-use Rattle.body_follows.specs.Going.{goes_by}
+use Rattle.trace_walk.specs.Going.{goes_by}
 use Rattle.trace_walk.specs.Walking.{script_next}
-use Rattle.schedule_model.specs.Scripts.{Numbers}
-use Rattle.schedule_model.specs.Follows.{follows}
+use Rattle.trace_walk.specs.Scripts.{Numbers}
+use Rattle.trace_walk.specs.Follows.{follows}
 use Rattle.phase_modes.specs.declared.limits.Limits.{Limits}
 use Rattle.run_laws.specs.Texts.{root_draws_alone}
 use Rattle.run_laws.specs.Telling.{Told, told, draws_by, draws_least, root_draws, in_order}

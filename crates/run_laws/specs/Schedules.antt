@@ -5,7 +5,7 @@ use Rattle.phase_modes.specs.Limits.{limits_fit}
 use Rattle.job_script.specs.Program.{Program}
 use Rattle.world_model.specs.Report.{report_of, refused_by}
 use Rattle.world_model.specs.Tasks.{is_ended}
-use Rattle.schedule_model.specs.Picks.{run_within}
+use Rattle.trace_walk.specs.Picks.{run_within}
 use Rattle.run_laws.specs.Determinacy.{wants_no_room}
 use Rattle.run_laws.specs.Memory.{is_roomy}
 use Rattle.run_laws.specs.Telling.{draws_by, in_order}

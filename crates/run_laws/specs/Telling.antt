@@ -12,11 +12,11 @@ use Rattle.world_model.specs.declared.event.WorldEvent.{WorldEvent}
 use Rattle.world_model.specs.declared.event.WorldEvent.TheVariants.{Phaser, Finish, Begin}
 use Rattle.phase_modes.specs.declared.limits.Limits.{Limits}
 use Rattle.world_model.specs.Actors.{actor}
-use Rattle.schedule_model.specs.Picks.{unused}
+use Rattle.trace_walk.specs.Picks.{unused}
 use Rattle.world_model.specs.Due.{is_of_single}
 use Rattle.world_model.specs.Parts.{phaser_past}
-use Rattle.schedule_model.specs.Scripts.{Made, Numbers, act_of}
-use Rattle.body_follows.specs.Going.{heard}
+use Rattle.trace_walk.specs.Scripts.{Made, Numbers, act_of}
+use Rattle.trace_walk.specs.Going.{heard}
 
 -- an event of a task, what it heard of it, and the phase of a signal, of a pass and of a value
 pub record Told : Type 0 where

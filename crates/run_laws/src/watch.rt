@@ -10,7 +10,7 @@ use finish_core::FinishEvent;
 use phase_modes::Refusal;
 use std::alloc::Global;
 use std::collections::BTreeMap;
-use trace_model::{EventView, LongEvent, ShortStep};
+use trace_model::{EventView, LargeEvent, ShortStep};
 
 /// The draws of one kind of number.
 #[derive(Clone, Copy)]
@@ -91,20 +91,20 @@ impl Watch {
     }
 
     /// Whether luck has no part in a long event; it is gone past then.
-    fn takes_long(&mut self, event: &LongEvent) -> Result<bool, Refusal>
+    fn takes_long(&mut self, event: &LargeEvent) -> Result<bool, Refusal>
         ensures is { IfOk result (λ b. b ≡ is_taken self.old (event_of (long_event event.now))) }
         ensures after { IfOk result (λ b. IsAfter (event_of (long_event event.now)) b self.old self.new) }
         ensures memory { IfErr result (λ e. e ≡ Refusal.Memory) }
     {
         match event {
-            LongEvent::Refuse(_, _, _) => Ok(false),
-            LongEvent::Make(phaser, task, _, _) => {
+            LargeEvent::Refuse(_, _, _) => Ok(false),
+            LargeEvent::Make(phaser, task, _, _) => {
                 if !self.phasers.draw(*task, *phaser) {
                     return Ok(false);
                 }
                 self.register(*phaser)
             }
-            LongEvent::Async(task, child, _) => Ok(self.tasks.draw(*task, *child)),
+            LargeEvent::Async(task, child, _) => Ok(self.tasks.draw(*task, *child)),
         }
     }
 

@@ -4,10 +4,8 @@ ghost use Rattle.std.specs.Prelude.{◌<◌, ◌≤◌};
 use crate::asserted::{equal, equal_at};
 use crate::certificates::{CROWD, TWO_SENDERS, TWO_SENDERS_CERTIFICATE};
 use crate::ended::Ended;
-use certain_job::{certain_bytes, certain_on, ending_on};
-use certify_job::NoCertificate;
 use job_ends::Status;
-use run_job::Workers;
+use run_jobs::{NoCertificate, Workers, certain_bytes, certain_on};
 use run_laws::{Luck, LuckAt};
 use std::alloc::Global;
 use std::process::Abort;
@@ -101,7 +99,7 @@ fn a_certain_run_that_cannot_be_written(rt: HostRuntime) {
     let mut full = [0u8; 20];
     let mut faults = Vec::new(rt.alloc());
     let mut nowhere: Option<Vec<u8>> = None;
-    let ended = ending_on(
+    let status = certain_on(
         Workers { rt: &rt, number: 2 },
         rt.alloc(),
         TWO_SENDERS.as_bytes(),
@@ -109,6 +107,6 @@ fn a_certain_run_that_cannot_be_written(rt: HostRuntime) {
         &mut faults,
         &mut nowhere,
     );
-    equal(&rt, ended.status, Status::Fault);
+    equal(&rt, status, Status::Fault);
     equal(&rt, faults.as_slice(), b"fault write\n".as_slice());
 }

@@ -1,8 +1,8 @@
 //! What programs are certified to give, and the first event in which luck has a part.
 use crate::asserted::{equal, equal_at};
-use certify_job::{NoCertificate, certify_bytes, certify_on, ending_on};
 use job_ends::Status;
 use job_script::read_program;
+use run_jobs::{NoCertificate, certify_bytes, certify_on};
 use run_laws::{Luck, LuckAt, NoAnswer, certify, first_luck};
 use schedule_run::run_picks;
 use std::alloc::Global;
@@ -140,13 +140,13 @@ fn certificates(rt: HostRuntime) {
 fn a_certificate_that_cannot_be_written(rt: HostRuntime) {
     let mut full = [0u8; 20];
     let mut faults = Vec::new(rt.alloc());
-    let ended = ending_on(
+    let status = certify_on(
         rt.alloc(),
         TWO_SENDERS.as_bytes(),
         &mut &mut full[..],
         &mut faults,
     );
-    equal(&rt, ended.status, Status::Fault);
+    equal(&rt, status, Status::Fault);
     equal(&rt, faults.as_slice(), b"fault write\n".as_slice());
 }
 

@@ -5,9 +5,9 @@ mod on_world;
 
 use crate::ended::Ended;
 use job_ends::Status;
-use kernels_job::{Kernel, ending_on};
 use phase_model::Look;
 use phase_modes::Refusal;
+use run_jobs::{Kernel, end_kernel};
 use std::alloc::Global;
 use std::process::Abort;
 use std::test::Fail;
@@ -70,8 +70,8 @@ fn ends(
 ) {
     let mut out = Vec::new(alloc);
     let mut faults = Vec::new(alloc);
-    let ending = ending_on(alloc, kernel, ran, &mut out, &mut faults);
-    assert!(rt; ending.status == wanted.status);
+    let status = end_kernel(alloc, kernel, ran, &mut out, &mut faults);
+    assert!(rt; status == wanted.status);
     assert!(rt; out.as_slice() == wanted.lines.as_bytes());
     assert!(rt; faults.as_slice() == wanted.faults.as_bytes());
 }
@@ -114,8 +114,8 @@ fn results_that_cannot_be_written(rt: HostRuntime) -> Result<(), Fail> {
     let mut out = &mut full[..];
     let mut faults = Vec::new(rt.alloc());
     let ran = report_of(rt.alloc(), &[4, 2], &[None, None], ONE_CELL);
-    let ending = ending_on(rt.alloc(), Kernel::Stencil(1), ran, &mut out, &mut faults);
-    assert!(rt; ending.status == Status::Fault);
+    let status = end_kernel(rt.alloc(), Kernel::Stencil(1), ran, &mut out, &mut faults);
+    assert!(rt; status == Status::Fault);
     assert!(rt; faults.as_slice() == b"fault write\n".as_slice());
     Ok(())
 }

@@ -6,7 +6,7 @@ use crate::asserted::{equal, equal_at};
 use crate::ended::Ended;
 use job_ends::{Failure, Status};
 use phase_modes::Refusal;
-use run_job::{Workers, ending_on, run_bytes, run_on};
+use run_jobs::{Workers, run_bytes, run_on};
 use std::alloc::Global;
 use std::process::Abort;
 use std::sync::Wait;
@@ -138,7 +138,7 @@ fn trace_fails(rt: HostRuntime) {
     let mut faults = Vec::new(rt.alloc());
     let mut full = [0u8; 20];
     let mut trace_out = Some(&mut full[..]);
-    let ended = ending_on(
+    let status = run_on(
         Workers { rt: &rt, number: 2 },
         rt.alloc(),
         SMALLEST.as_bytes(),
@@ -146,7 +146,7 @@ fn trace_fails(rt: HostRuntime) {
         &mut faults,
         &mut trace_out,
     );
-    equal(&rt, ended.status, Status::Fault);
+    equal(&rt, status, Status::Fault);
     equal(&rt, out.len(), 0);
     equal(&rt, faults.as_slice(), b"fault write\n".as_slice());
 }

@@ -7,8 +7,8 @@ use Rattle.world_model.specs.Numbers.{is_named}
 use Rattle.world_model.specs.Replies.{is_legal_world}
 use Rattle.world_model.specs.Tasks.{is_born, is_ended}
 use Rattle.world_model.proofs.BornWhereNamed.{born_named}
-use Rattle.schedule_model.specs.Picks.{pick, round_from, rounds}
-use Rattle.schedule_model.proofs.Rounds.{rounds_move}
+use Rattle.trace_walk.specs.Picks.{pick, round_from, rounds}
+use Rattle.trace_walk.proofs.Rounds.{rounds_move}
 use Rattle.schedule_run.specs.declared.runner.Runner.{Runner}
 use Rattle.schedule_run.specs.inner.Running.{RunStands}
 use Rattle.schedule_run.proofs.Noted.{long_as}

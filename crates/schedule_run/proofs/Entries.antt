@@ -24,8 +24,8 @@ use Rattle.world_model.specs.Acts.{act_conditions, unless}
 use Rattle.world_model.specs.PartReplies.{returned}
 use Rattle.world_model.specs.Parts.{terms_of, phaser_past}
 use Rattle.world_model.specs.Replies.{after, is_made, reply}
-use Rattle.world_steps.specs.StandsFor.{StandsFor, IsStep}
-use Rattle.world_steps.specs.WorldState.{WorldState}
+use Rattle.world_records.specs.StandsFor.{StandsFor, IsStep}
+use Rattle.world_records.specs.WorldState.{WorldState}
 use Rattle.trace_model.specs.Run.{Entry, Run, with_event}
 use Rattle.trace_model.specs.Explained as explained
 use Rattle.trace_model.specs.Explained.{past, is_answered, is_later, may_follow, all_follow}

@@ -4,9 +4,9 @@ use Rattle.std.proofs.lemmas.Bool.{and_parts, false_from_ne_true}
 use Rattle.std.proofs.lemmas.List.{reverse-append, take-append-drop}
 use Rattle.job_script.specs.Program.{Program}
 use Rattle.world_model.specs.declared.event.WorldEvent.{WorldEvent}
-use Rattle.schedule_model.specs.Follows.{follows}
-use Rattle.schedule_model.specs.Laws.{first_wrong, IsFirstWrong}
-use Rattle.schedule_model.proofs.Places.{places-first}
+use Rattle.trace_walk.specs.Follows.{follows}
+use Rattle.trace_walk.specs.Laws.{first_wrong, IsFirstWrong}
+use Rattle.trace_walk.proofs.FirstPlaces.{places-first}
 
 follows_older : (p : Program) (v w : List WorldEvent) → follows p (v ++ w) ≡ true → follows p w ≡ true
 follows_older p [] w h = h

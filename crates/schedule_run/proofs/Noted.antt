@@ -33,8 +33,8 @@ use Rattle.world_model.specs.Parts.{finish_past, phaser_past, terms_of}
 use Rattle.world_model.specs.Replies.{after, is_legal_world, is_made, reply}
 use Rattle.world_model.specs.Tasks.{is_born, is_ended}
 use Rattle.world_model.proofs.OthersLeave.{due_other}
-use Rattle.schedule_model.specs.Picks.{pick}
-use Rattle.schedule_model.proofs.GoesOn.{asked_busy, next_replied}
+use Rattle.trace_walk.specs.Picks.{pick}
+use Rattle.trace_walk.proofs.GoesOn.{asked_busy, next_replied}
 use Rattle.trace_model.specs.Run.{Entry}
 use Rattle.trace_model.specs.Explained.{event_of}
 use Rattle.schedule_run.specs.declared.notes.Note.{Note}

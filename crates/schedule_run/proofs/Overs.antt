@@ -15,7 +15,7 @@ use Rattle.world_model.specs.PartReplies.{finish_returned}
 use Rattle.world_model.specs.Parts.{finish_past}
 use Rattle.world_model.specs.Replies.{is_made, is_accepted, is_legal_world}
 use Rattle.world_model.specs.Report.{Report, report_of}
-use Rattle.world_steps.specs.StandsFor.{StandsFor}
+use Rattle.world_records.specs.StandsFor.{StandsFor}
 use Rattle.world_model.specs.Tasks.{ends, is_ended}
 use Rattle.world_model.proofs.EndedInside.{root_unspawned}
 use Rattle.world_model.proofs.MadeMeans.{last_accepted, part_made}
@@ -23,11 +23,11 @@ use Rattle.trace_model.specs.declared.event.TracedEvent.{TracedEvent}
 use Rattle.trace_model.specs.declared.event.TracedEvent.TheVariants.{Phaser, Finish, Begin, Refuse, Fail}
 use Rattle.trace_model.specs.Run.{Entry}
 use Rattle.trace_model.specs.Explained.{event_of, past, all_follow, ends_run, is_over, is_explained}
-use Rattle.schedule_model.specs.Follows.{follows}
-use Rattle.schedule_model.specs.Laws.{AllGiveUp}
-use Rattle.schedule_model.specs.Picks.{run_within}
-use Rattle.schedule_model.proofs.Failures.{runs_give_up}
-use Rattle.schedule_model.proofs.Follow.{runs-follow}
+use Rattle.trace_walk.specs.Follows.{follows}
+use Rattle.trace_walk.specs.Laws.{AllGiveUp}
+use Rattle.trace_walk.specs.Picks.{run_within}
+use Rattle.trace_walk.proofs.Failures.{runs_give_up}
+use Rattle.trace_walk.proofs.Follow.{runs-follow}
 use Rattle.schedule_run.specs.declared.runner.Runner.{Runner}
 use Rattle.schedule_run.specs.inner.Records.{IsTraced}
 use Rattle.schedule_run.specs.inner.Running.{RunStands}

@@ -8,8 +8,8 @@ use Rattle.world_model.specs.declared.event.WorldEvent.{WorldEvent}
 use Rattle.world_model.specs.Due.{due}
 use Rattle.world_model.specs.Tasks.{is_born, is_ended}
 use Rattle.world_model.proofs.AbruptEnds.{later_ended}
-use Rattle.schedule_model.specs.Picks.{pick, round_from}
-use Rattle.schedule_model.proofs.GoesOn.{pick_adds}
+use Rattle.trace_walk.specs.Picks.{pick, round_from}
+use Rattle.trace_walk.proofs.GoesOn.{pick_adds}
 use Rattle.schedule_run.specs.declared.runner.Runner.{Runner}
 use Rattle.schedule_run.specs.inner.Ended.{HaveEnded, known}
 use Rattle.schedule_run.specs.inner.Running.{RunStands}

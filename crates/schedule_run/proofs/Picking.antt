@@ -28,11 +28,11 @@ use Rattle.world_model.specs.Replies.{after, is_made, is_accepted, is_legal_worl
 use Rattle.world_model.specs.TaskConditions.{last_entry, condition_in_turn, condition_in, condition_by, condition_of}
 use Rattle.world_model.specs.Tasks.{is_born, is_ended}
 use Rattle.world_model.proofs.NextsExpected.{nexts_are_expected}
-use Rattle.schedule_model.specs.Picks.{Asked, unused, event_of, asked, reported_or, made, pick}
-use Rattle.schedule_model.specs.Scripts.{Numbers, meanings, next_act, tried}
-use Rattle.schedule_model.proofs.Begins.{Goes, is_reported, may_report, event_reply, next_goes}
-use Rattle.schedule_model.proofs.GoesOn.{asked_idle, asked_busy, next_replied}
-use Rattle.schedule_model.proofs.Rounds.{gapless_pick}
+use Rattle.trace_walk.specs.Picks.{Asked, unused, event_of, asked, reported_or, made, pick}
+use Rattle.trace_walk.specs.Scripts.{Numbers, meanings, next_act, tried}
+use Rattle.trace_walk.proofs.Begins.{Goes, is_reported, may_report, event_reply, next_goes}
+use Rattle.trace_walk.proofs.GoesOn.{asked_idle, asked_busy, next_replied}
+use Rattle.trace_walk.proofs.Rounds.{gapless_pick}
 use Rattle.trace_walk.specs.Given.{tried_of}
 use Rattle.schedule_run.specs.declared.bodies.Bodies.{Bodies}
 use Rattle.schedule_run.specs.declared.record.Outcome.TheVariants.{Made, Waits, Refused}

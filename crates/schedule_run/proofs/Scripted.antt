@@ -18,9 +18,9 @@ use Rattle.world_model.specs.declared.event.Begun.TheVariants.{Async}
 use Rattle.world_model.specs.declared.event.Tried.{Tried}
 use Rattle.world_model.specs.declared.event.Tried.TheVariants.{Begun as Beginning}
 use Rattle.world_model.specs.declared.event.WorldEvent.{WorldEvent}
-use Rattle.schedule_model.specs.Follows.{drawn, same_act, is_next, follows}
-use Rattle.schedule_model.specs.Laws.{first_wrong}
-use Rattle.schedule_model.specs.Scripts.{Made, Numbers, act_of, is_of, parent_by, body_of, meant_after, acts_left, meanings, next_act, tried_as, tried_next}
+use Rattle.trace_walk.specs.Follows.{drawn, same_act, is_next, follows}
+use Rattle.trace_walk.specs.Laws.{first_wrong}
+use Rattle.trace_walk.specs.Scripts.{Made, Numbers, act_of, is_of, parent_by, body_of, meant_after, acts_left, meanings, next_act, tried_as, tried_next}
 use Rattle.trace_model.specs.Explained.{event_of, past}
 use Rattle.trace_model.specs.Run.{Entry, Run}
 use Rattle.trace_model.specs.declared.event.TracedEvent.{TracedEvent}

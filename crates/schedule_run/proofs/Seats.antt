@@ -17,11 +17,11 @@ use Rattle.world_model.specs.declared.event.Step.TheVariants.{Make, Send, Look}
 use Rattle.world_model.specs.declared.event.Tried.{Tried}
 use Rattle.world_model.specs.declared.event.Tried.TheVariants.{Begun as Beginning, New, Open, Send as Sending, Look as Looking}
 use Rattle.world_model.specs.Due.{next_event}
-use Rattle.schedule_model.specs.Picks.{event_of}
-use Rattle.schedule_model.proofs.NoActs.{next-continues}
+use Rattle.trace_walk.specs.Picks.{event_of}
+use Rattle.trace_walk.proofs.NoActs.{next-continues}
 use Rattle.world_model.specs.declared.event.WorldEvent.{WorldEvent}
 use Rattle.world_model.specs.declared.event.WorldEvent.TheVariants.{Phaser, Finish, Begin, Refuse}
-use Rattle.schedule_model.specs.Scripts.{act_of, is_of, parent_by, body_of, acts_left, meanings, next_act}
+use Rattle.trace_walk.specs.Scripts.{act_of, is_of, parent_by, body_of, acts_left, meanings, next_act}
 use Rattle.trace_walk.specs.declared.seats.Seat.{Seat}
 use Rattle.schedule_run.specs.inner.Bodies.{Standing, standing, seat_in, seat_at, standing_of, SeatsStand, BodiesStand, IsAskedSeat, IsAskedOf, IsAsked}
 use Rattle.trace_walk.proofs.Events.{eq_self}

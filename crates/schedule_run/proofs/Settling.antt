@@ -12,8 +12,8 @@ use Rattle.world_model.specs.declared.event.Tried.{Tried}
 use Rattle.world_model.specs.declared.event.WorldEvent.{WorldEvent}
 use Rattle.world_model.specs.declared.event.WorldEvent.TheVariants.{Phaser}
 use Rattle.world_model.specs.Drawing.{own_pairs}
-use Rattle.schedule_model.specs.Picks.{event_of}
-use Rattle.schedule_model.specs.Scripts.{Numbers, meanings, next_act, tried}
+use Rattle.trace_walk.specs.Picks.{event_of}
+use Rattle.trace_walk.specs.Scripts.{Numbers, meanings, next_act, tried}
 use Rattle.trace_walk.specs.Given.{tried_of}
 use Rattle.trace_walk.specs.declared.seats.Seat.{Seat}
 use Rattle.schedule_run.specs.inner.Bodies.{BodiesStand, IsAsked, seat_at}

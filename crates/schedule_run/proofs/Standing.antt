@@ -12,7 +12,7 @@ use Rattle.world_model.specs.declared.event.Step.TheVariants.{Make, Reg, Sig, Cl
 use Rattle.world_model.specs.declared.event.Begun.TheVariants.{Async, Signal, Wait, Next, NextSingle, Shut, End}
 use Rattle.world_model.specs.declared.event.WorldEvent.{WorldEvent}
 use Rattle.world_model.specs.declared.event.WorldEvent.TheVariants.{Phaser, Finish, Begin, Refuse, Fail}
-use Rattle.schedule_model.specs.Scripts.{Made, act_of, is_of, parent_by, body_of, acts_left, meanings, next_act}
+use Rattle.trace_walk.specs.Scripts.{Made, act_of, is_of, parent_by, body_of, acts_left, meanings, next_act}
 use Rattle.trace_walk.proofs.Events.{eq_self}
 use Rattle.schedule_run.specs.inner.Bodies.{Standing, standing}
 

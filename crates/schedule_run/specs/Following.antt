@@ -1,7 +1,7 @@
 -- What it means that a trace follows a program.
 use Rattle.std.specs.Prelude.{ℕ, [], Option}
 use Rattle.job_script.specs.Program.{Program}
-use Rattle.schedule_model.specs.Laws.{first_wrong}
+use Rattle.trace_walk.specs.Laws.{first_wrong}
 use Rattle.trace_model.specs.Explained.{past}
 use Rattle.trace_model.specs.Run.{Run}
 

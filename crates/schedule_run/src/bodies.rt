@@ -10,13 +10,12 @@ ghost use Rattle.world_model.specs.declared.event.Begun.TheVariants.{Async};
 ghost use Rattle.world_model.specs.declared.event.Step.TheVariants.{Make};
 ghost use Rattle.world_model.specs.declared.event.WorldEvent as events;
 ghost use Rattle.world_model.specs.declared.event.WorldEvent.TheVariants.{Phaser, Begin};
-ghost use Rattle.schedule_model.specs.Scripts.{body_of, meanings, next_act};
+ghost use Rattle.trace_walk.specs.Scripts.{body_of, meanings, next_act};
 ghost use Rattle.schedule_run.specs.inner.Bodies.{BodiesStand, IsAsked};
 
 use job_script::{Act, Answer, Program, ScriptBody};
-use phase_modes::Refusal;
+use phase_modes::{PhaserNumber, Refusal, TaskNumber};
 use std::alloc::Global;
-use task_numbers::{PhaserNumber, TaskNumber};
 use trace_walk::Seat;
 
 /// The tasks of a program by number. A task has a seat from its spawn on.

@@ -1,6 +1,6 @@
 //! Whether a trace follows a program.
 ghost use Rattle.std.specs.Prelude.{◌≡◌, ℕ, true, false, Err, IfOk};
-ghost use Rattle.schedule_model.specs.Follows.{follows};
+ghost use Rattle.trace_walk.specs.Follows.{follows};
 ghost use Rattle.schedule_run.specs.Following.{first_not_next};
 ghost use Rattle.trace_walk.specs.History.{history};
 ghost use Rattle.trace_walk.specs.Walking.{AnswersPlace};

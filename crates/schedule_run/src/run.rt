@@ -3,9 +3,9 @@ ghost use Rattle.std.specs.Prelude.{ℕ, ◌≡◌, map, length, reverse, IfOk, 
 ghost use Rattle.std.specs.List.{range_with_len};
 ghost use Rattle.phase_modes.specs.declared.refusal.Refusal.TheVariants.{Memory as NoMemory};
 ghost use Rattle.world_model.specs.Report.{report_of};
-ghost use Rattle.schedule_model.specs.Follows.{follows};
-ghost use Rattle.schedule_model.specs.Laws.{AllGiveUp};
-ghost use Rattle.schedule_model.specs.Picks.{run_within};
+ghost use Rattle.trace_walk.specs.Follows.{follows};
+ghost use Rattle.trace_walk.specs.Laws.{AllGiveUp};
+ghost use Rattle.trace_walk.specs.Picks.{run_within};
 ghost use Rattle.trace_model.specs.Explained.{is_explained, past};
 
 use crate::runner::played;

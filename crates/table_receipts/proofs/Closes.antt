@@ -12,9 +12,9 @@ use Rattle.phase_model.specs.Replies.{event_for, must_wait}
 use Rattle.phase_model.specs.Rules.{Story, has_room, is_permitted}
 use Rattle.phase_model.specs.Tasks.{has_mode}
 use Rattle.phase_model.proofs.OrderingLaw.{legal_is_ordered}
-use Rattle.phaser_answers.specs.Answers.{pass_result}
-use Rattle.parked_tasks.specs.declared.answer.PassAnswer.{PassAnswer}
-use Rattle.parked_tasks.specs.declared.answer.PassAnswer.TheVariants.{Passed, Claimed, Parked as Waits, Refused}
+use Rattle.phase_model.specs.Answers.{pass_result}
+use Rattle.phaser_core.specs.declared.answer.PassAnswer.{PassAnswer}
+use Rattle.phaser_core.specs.declared.answer.PassAnswer.TheVariants.{Passed, Claimed, Parked as Waits, Refused}
 use Rattle.long_locks.specs.Told.{IsPassAnswer, IfPassed}
 use Rattle.long_locks.proofs.Closes.{passed_is}
 use Rattle.table_receipts.specs.Told.{IsAnswered}

@@ -10,7 +10,7 @@ use Rattle.phase_model.specs.declared.history.Event.{Event}
 use Rattle.phase_model.specs.declared.terms.Terms.{Terms}
 use Rattle.phase_model.specs.Replies.{Reply, reply, after}
 use Rattle.phase_model.specs.Rules.{Story}
-use Rattle.phaser_answers.specs.Answers.{made_with}
+use Rattle.phase_model.specs.Answers.{made_with}
 use Rattle.table_receipts.specs.Logs.{GoesOn, Follows}
 use Rattle.table_receipts.specs.Told.{IsAnswered, IsMade}
 use Rattle.table_receipts.proofs.Kept.{follows_after, follows_made}

@@ -10,7 +10,7 @@ use Rattle.phase_model.specs.declared.history.Event.{Event}
 use Rattle.phase_model.specs.declared.terms.Terms.{Terms}
 use Rattle.phase_model.specs.Replies.{Reply, refused, not_yet, done, reply, after, done_result}
 use Rattle.phase_model.specs.Rules.{Story}
-use Rattle.phaser_answers.specs.Answers.{made_with}
+use Rattle.phase_model.specs.Answers.{made_with}
 use Rattle.table_receipts.specs.Logs.{Sight, GoesOn, Follows}
 use Rattle.table_receipts.specs.Told.{IsAnswered, IsMade}
 

@@ -9,7 +9,7 @@ use Rattle.phase_model.specs.Conditions.{conditions}
 use Rattle.phase_model.specs.Phases.{waits}
 use Rattle.phase_model.specs.Replies.{event_for}
 use Rattle.phase_model.specs.Rules.{Story, has_room, look_of}
-use Rattle.phaser_answers.specs.Answers.{look_result}
+use Rattle.phase_model.specs.Answers.{look_result}
 use Rattle.world_model.specs.Laws.{IsFolded}
 use Rattle.long_locks.specs.Told.{HasLooked}
 use Rattle.long_locks.proofs.Looks.{looked_is}

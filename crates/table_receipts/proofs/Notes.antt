@@ -5,7 +5,7 @@ use Rattle.phase_modes.specs.Lists.{is_empty}
 use Rattle.phase_model.specs.declared.history.Event.{Event}
 use Rattle.phase_model.specs.declared.terms.Terms.{Terms}
 use Rattle.phase_model.specs.Rules.{Story}
-use Rattle.ghost_log.specs.Tails.{IsTail}
+use Rattle.told_history.specs.Tails.{IsTail}
 use Rattle.long_locks.proofs.Tails.{mapped}
 use Rattle.table_receipts.specs.declared.noted.Noted.{Noted}
 use Rattle.table_receipts.specs.Logs.{terms_in, story_of, notes_of, with_newest, GoesOn, Follows}

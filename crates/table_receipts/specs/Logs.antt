@@ -5,7 +5,7 @@ use Rattle.phase_modes.specs.Lists.{is_empty}
 use Rattle.phase_model.specs.declared.history.Event.{Event}
 use Rattle.phase_model.specs.declared.terms.Terms.{Terms}
 use Rattle.phase_model.specs.Rules.{Story, no_terms}
-use Rattle.ghost_log.specs.Tails.{IsTail}
+use Rattle.told_history.specs.Tails.{IsTail}
 use Rattle.table_receipts.specs.declared.noted.Noted.{Noted}
 
 -- what was seen of a phaser: the name of its log, and its story up to then

@@ -6,7 +6,7 @@ use Rattle.phase_model.specs.declared.history.Event.{Event}
 use Rattle.phase_model.specs.declared.terms.Terms.{Terms}
 use Rattle.phase_model.specs.Replies.{Reply, reply, after, done_result}
 use Rattle.phase_model.specs.Rules.{Story}
-use Rattle.phaser_answers.specs.Answers.{made_with}
+use Rattle.phase_model.specs.Answers.{made_with}
 use Rattle.table_receipts.specs.Logs.{GoesOn}
 
 -- The call came at a place of the one history, no earlier than what its caller had seen. What the phaser replied there

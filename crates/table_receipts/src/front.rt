@@ -7,9 +7,9 @@ ghost use Rattle.table_receipts.specs.Logs.{Sight, blank, notes_of, story_of, Go
 
 use crate::naming::Naming;
 use crate::noted::Noted;
-use ghost_log::{Whole, front_of, includes};
 use phase_model::{History, legal_is_ordered};
 use std::marker::{Model, PhantomData};
+use told_history::{Whole, front_of, includes};
 
 /// The whole of a phaser's log, and the right to add to it. Contracts see the log's name and the
 /// phaser's story. It has no bytes.
@@ -35,7 +35,7 @@ impl<K: Naming> Model for PhaserLog<K> {
 /// name and the phaser's story up to then. It has no bytes.
 #[derive(Drop)]
 pub struct Front<K: Naming> {
-    seen: ghost_log::Front<Noted>,
+    seen: told_history::Front<Noted>,
     of: PhantomData<K>,
 }
 

@@ -6,8 +6,8 @@ ghost use Rattle.phase_model.specs.declared.call.Call.TheVariants.{Make as make,
 ghost use Rattle.phase_model.specs.Phases.{IsClosed};
 ghost use Rattle.phase_model.specs.Replies.{reply, after, done_result};
 ghost use Rattle.phase_model.specs.Tasks.{has_mode};
-ghost use Rattle.phaser_answers.specs.Answers.{signal_result, pass_result, look_result, made_with};
-ghost use Rattle.parked_tasks.specs.Parking.{is_parked, waiting, freed, parking, has_to_wait, goes_on, answered, IsBack, has_signalled, is_held, signal_answered, IsBackFromSignal};
+ghost use Rattle.phase_model.specs.Answers.{signal_result, pass_result, look_result, made_with};
+ghost use Rattle.phaser_core.specs.Parking.{is_parked, waiting, freed, parking, has_to_wait, goes_on, answered, IsBack, has_signalled, is_held, signal_answered, IsBackFromSignal};
 ghost use Rattle.phaser_cell.specs.Amounts.{amount_if};
 ghost use Rattle.long_locks.specs.Told.{IsSignalAnswer, IsPassAnswer, IfPassed, HasLooked};
 ghost use Rattle.table_receipts.specs.Logs.{GoesOn};

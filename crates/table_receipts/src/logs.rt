@@ -6,10 +6,10 @@ ghost use Rattle.table_receipts.specs.Logs.{blank};
 use crate::front::PhaserLog;
 use crate::naming::Naming;
 use crate::noted::Noted;
-use ghost_log::Whole;
 use phase_modes::Refusal;
 use std::alloc::Global;
 use std::collections::VecDeque;
+use told_history::Whole;
 
 /// The log of the phaser of this number, which nobody has made yet.
 #[derive(Drop)]

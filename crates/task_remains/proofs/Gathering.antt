@@ -4,7 +4,7 @@ use Rattle.std.specs.Prelude.{slice_get}
 use Rattle.std.specs.List.{All}
 use Rattle.std.proofs.lemmas.Bool.{eq-eqb, or_left, or_right, true≢false}
 use Rattle.std.proofs.lemmas.List.Elements.{All-nil, All-head, All-tail, All-weaker, All-push}
-use Rattle.number_set.specs.Numbers.{Numbers, has_number}
+use Rattle.phase_modes.specs.Numbers.{Numbers, has_number}
 use Rattle.trace_model.specs.Projections.{log, whose, AreOf}
 use Rattle.trace_model.specs.Run.{Entry}
 use Rattle.table_receipts.specs.Logs.{Sight}

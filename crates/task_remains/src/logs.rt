@@ -6,8 +6,7 @@ ghost use Rattle.tasks_in_flight.specs.Refused.{IsRunRefused};
 ghost use Rattle.task_remains.specs.Remaining.{AreLogsOf, AreDifferent};
 ghost use Rattle.task_remains.specs.inner.Logs.{AreGathered, AreAllLogs, IsToldIn};
 
-use number_set::NumberSet;
-use phase_modes::Refusal;
+use phase_modes::{NumberSet, Refusal};
 use std::alloc::Global;
 use std::sync::Mutex;
 use table_receipts::PhaserLog;

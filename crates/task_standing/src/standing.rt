@@ -5,10 +5,9 @@ ghost use Rattle.task_standing.specs.StillToMake.{still_to_make};
 
 use crate::held::Held;
 use crate::plan::Plan;
-use phase_modes::{Mode, Pair, Phased, Refusal};
+use phase_modes::{FinishNumber, Mode, Pair, Phased, Refusal, TaskNumber};
 use std::alloc::{AllocError, Global};
 use std::marker::Model;
-use task_numbers::{FinishNumber, TaskNumber};
 
 /// How many phasers a task holds at once, at most.
 const MOST_HELD: usize = 16;

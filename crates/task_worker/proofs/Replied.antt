@@ -12,12 +12,12 @@ use Rattle.phase_model.specs.declared.op.Look.{Look}
 use Rattle.phase_model.specs.declared.terms.Terms.{Terms}
 use Rattle.phase_model.specs.Replies.{decided, done, done_result, event_for, must_wait}
 use Rattle.phase_model.specs.Rules.{Story, has_room, is_permitted}
-use Rattle.phaser_answers.specs.Answers.{signal_result, pass_result, look_result}
-use Rattle.parked_tasks.specs.declared.answer.SignalAnswer.{SignalAnswer}
-use Rattle.parked_tasks.specs.declared.answer.SignalAnswer.TheVariants.{Signalled}
-use Rattle.parked_tasks.specs.declared.answer.PassAnswer.{PassAnswer}
-use Rattle.parked_tasks.specs.declared.answer.PassAnswer.TheVariants.{Passed, Claimed, Parked, Refused}
-use Rattle.parked_tasks.specs.Parking.{locked_signal, locked_pass, IsBack}
+use Rattle.phase_model.specs.Answers.{signal_result, pass_result, look_result}
+use Rattle.phaser_core.specs.declared.answer.SignalAnswer.{SignalAnswer}
+use Rattle.phaser_core.specs.declared.answer.SignalAnswer.TheVariants.{Signalled}
+use Rattle.phaser_core.specs.declared.answer.PassAnswer.{PassAnswer}
+use Rattle.phaser_core.specs.declared.answer.PassAnswer.TheVariants.{Passed, Claimed, Parked, Refused}
+use Rattle.phaser_core.specs.Parking.{locked_signal, locked_pass, IsBack}
 use Rattle.long_locks.specs.Told.{IsSignalAnswer, IsPassAnswer}
 use Rattle.world_model.specs.declared.event.Step.TheVariants as steps
 use Rattle.table_receipts.specs.Logs.{GoesOn}

@@ -13,10 +13,9 @@ ghost use Rattle.task_worker.specs.inner.Posted.{PostsAtMost};
 use crate::worker::{Busy, Shared};
 use job_script::Act;
 use phase_model::Terms;
-use phase_modes::{Mode, Phased, Refusal};
+use phase_modes::{FinishNumber, Mode, Phased, Refusal, TaskNumber};
 use std::sync::Wait;
 use table_receipts::Caller;
-use task_numbers::{FinishNumber, TaskNumber};
 use tasks_in_flight::{Body, Gate, Item, RunNaming, Task};
 use world_model::{Begun, Tried};
 

@@ -13,12 +13,11 @@ ghost use Rattle.task_worker.specs.inner.Posted.{PostsAtMost};
 
 use crate::worker::{Busy, Shared};
 use phase_model::Terms;
-use phase_modes::{Mode, Pair, Refusal};
+use phase_modes::{FinishNumber, Mode, Pair, PhaserNumber, Refusal, TaskNumber};
 use phaser_cell::{PassAnswer, SignalAnswer};
 use scope_locks::ShutAnswer;
 use std::sync::{Mutex, Wait};
 use table_receipts::Caller;
-use task_numbers::{FinishNumber, PhaserNumber, TaskNumber};
 use tasks_in_flight::{Body, Item, RunNaming, Task, TaskLeft};
 
 impl<B: Body, K: RunNaming> Shared<B, K> {

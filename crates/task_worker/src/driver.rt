@@ -10,11 +10,10 @@ ghost use Rattle.tasks_in_flight.specs.inner.Due.{still_of};
 ghost use Rattle.tasks_in_flight.specs.inner.Ready.{IsDue};
 
 use crate::worker::{Busy, Shared, Worker};
-use phase_modes::{Pair, Refusal};
+use phase_modes::{FinishNumber, Pair, PhaserNumber, Refusal, TaskNumber};
 use phaser_cell::{PassAnswer, SignalAnswer};
 use scope_locks::ShutAnswer;
 use std::sync::Wait;
-use task_numbers::{FinishNumber, PhaserNumber, TaskNumber};
 use task_standing::Due;
 use tasks_in_flight::{Body, Gate, Item, RootLeft, RunNaming, Task, TaskLeft};
 

@@ -15,10 +15,10 @@ use Rattle.phase_model.specs.Phases.{waits, IsClosed}
 use Rattle.phase_model.specs.Replies.{reply, after, decided, done_result, event_for, must_wait}
 use Rattle.phase_model.specs.Rules.{Story, has_room, is_permitted}
 use Rattle.phase_model.specs.Tasks.{has_mode}
-use Rattle.phaser_answers.specs.Answers.{made_with, signal_result, pass_result}
-use Rattle.parked_tasks.specs.declared.answer.SignalAnswer.TheVariants.{Signalled}
-use Rattle.parked_tasks.specs.declared.answer.PassAnswer.TheVariants.{Passed}
-use Rattle.parked_tasks.specs.Parking.{locked_signal, locked_pass}
+use Rattle.phase_model.specs.Answers.{made_with, signal_result, pass_result}
+use Rattle.phaser_core.specs.declared.answer.SignalAnswer.TheVariants.{Signalled}
+use Rattle.phaser_core.specs.declared.answer.PassAnswer.TheVariants.{Passed}
+use Rattle.phaser_core.specs.Parking.{locked_signal, locked_pass}
 use Rattle.long_locks.specs.Told.{IsSignalAnswer, IsPassAnswer}
 use Rattle.table_receipts.specs.Told.{IsAnswered, IsMade}
 use Rattle.tasks_in_flight.specs.Heard.{HasMade, HasSent, IsOwn}

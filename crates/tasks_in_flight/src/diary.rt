@@ -5,9 +5,8 @@ ghost use Rattle.tasks_in_flight.specs.Said.{is_end, has_end};
 ghost use Rattle.tasks_in_flight.specs.Noted.{IsNoted};
 ghost use Rattle.phase_modes.specs.Refusal.{number_of};
 
-use phase_modes::Refusal;
+use phase_modes::{Refusal, TaskNumber};
 use std::alloc::Global;
-use task_numbers::TaskNumber;
 use trace_model::{Log, Part, TracedEvent};
 use world_model::{Begun, Tried};
 

@@ -13,10 +13,9 @@ use crate::body::Body;
 use crate::diary::Diary;
 use crate::naming::RunNaming;
 use job_script::{Act, Answer};
-use phase_modes::{Pair, Refusal};
+use phase_modes::{FinishNumber, Pair, Refusal, TaskNumber};
 use std::alloc::Global;
 use table_receipts::{Front, Fronts};
-use task_numbers::{FinishNumber, TaskNumber};
 use task_standing::{Due, Standing};
 
 /// A task in flight.

@@ -4,10 +4,10 @@ mod edges;
 mod texts;
 
 use crate::asserted::equal_at;
-use events_job::events_on;
 use job_ends::Status;
 use std::alloc::Global;
 use std::process::Abort;
+use text_jobs::events_on;
 
 /// Answers the text, and compares how that ends, the lines, and what is reported of failures.
 fn check(rt: &impl Abort, alloc: Global, text: &str, status: Status, lines: &str, faults: &str) {

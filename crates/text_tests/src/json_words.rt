@@ -1,13 +1,13 @@
 //! Each word once where it is of the form, and at the edges of what it takes.
 use crate::asserted::equal;
+use job_script::{
+    accumulator_at, has_only_keys, json_of, limits_of, mode_at, number_at, number_of, ops_at,
+    ops_of, value_at, word_at,
+};
 use phase_model::Op;
 use phase_modes::{Limits, Mode, Refusal};
 use serde_json::Value;
 use std::test::Fail;
-use text_words::{
-    accumulator_at, has_only_keys, json_of, limits_of, mode_at, number_at, number_of, ops_at,
-    ops_of, value_at, word_at,
-};
 
 /// The JSON value of a text.
 fn json(rt: &HostRuntime, text: &str) -> Result<Value, Fail> {

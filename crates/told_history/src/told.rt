@@ -3,8 +3,8 @@ ghost use Rattle.std.specs.Prelude.{◌≡◌, ◌≤◌, ◌<◌, [], length};
 ghost use Rattle.phase_model.specs.Rules.{with_event};
 ghost use Rattle.told_history.specs.Wide.{event_of, limits_of};
 
+use crate::Whole;
 use crate::wide::{LongEvent, LongLimits};
-use ghost_log::Whole;
 use phase_model::{Bound, Ops, Terms};
 use std::marker::Model;
 

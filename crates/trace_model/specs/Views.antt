@@ -6,8 +6,8 @@ use Rattle.trace_model.specs.declared.event.TracedStep.{TracedStep}
 use Rattle.trace_model.specs.declared.event.TracedStep.TheVariants as step
 use Rattle.trace_model.specs.declared.event.TracedEvent.{TracedEvent}
 use Rattle.trace_model.specs.declared.event.TracedEvent.TheVariants as event
-use Rattle.trace_model.specs.declared.long.LongEvent.{LongEvent}
-use Rattle.trace_model.specs.declared.long.LongEvent.TheVariants as long
+use Rattle.trace_model.specs.declared.long.LargeEvent.{LargeEvent}
+use Rattle.trace_model.specs.declared.long.LargeEvent.TheVariants as long
 use Rattle.trace_model.specs.declared.view.ShortStep.{ShortStep}
 use Rattle.trace_model.specs.declared.view.ShortStep.TheVariants as short
 use Rattle.trace_model.specs.declared.view.ShortAct.{ShortAct}
@@ -37,7 +37,7 @@ short_act act.Shut = begun.Shut
 short_act act.End = begun.End
 
 -- the event that a long one stands for
-abbrev pub long_event : LongEvent → TracedEvent
+abbrev pub long_event : LargeEvent → TracedEvent
 long_event (long.Make n t m terms) = event.Phaser n (step.Make t m terms)
 long_event (long.Async t c pairs) = event.Begin t (begun.Async c pairs)
 long_event (long.Refuse t a n) = event.Refuse t a n

@@ -4,7 +4,7 @@ ghost use Rattle.trace_model.specs.Views.{long_event, viewed};
 
 use crate::event::TracedEvent;
 use crate::kept::Kept;
-use crate::long::LongEvent;
+use crate::long::LargeEvent;
 use crate::view::EventView;
 use phase_model::{Bound, Terms};
 use phase_modes::Refusal;
@@ -21,7 +21,7 @@ pub(crate) struct Entries {
     /// All events.
     kept: Vec<(u64, Kept)>,
     /// Those that are long, to which `kept` has their places.
-    long: Vec<LongEvent>,
+    long: Vec<LargeEvent>,
 }
 
 impl Model for Entries {
@@ -60,7 +60,7 @@ impl Entries {
 
     /// Adds a long event at the end. On `Memory` both lists are as they were.
     #[tactic(auto, using(crate::proofs::Adding::long_more))]
-    fn push_long(&mut self, ticket: u64, event: LongEvent) -> Result<(), Refusal>
+    fn push_long(&mut self, ticket: u64, event: LargeEvent) -> Result<(), Refusal>
         ensures added { IfOk result (λ _. self.new ≡ self.old ++ (ticket, long_event event) ∷ []) }
         ensures memory { IfErr result (λ r. (r ≡ Refusal.Memory) × (self.new ≡ self.old)) }
     {

@@ -19,7 +19,7 @@ pub use laws::{
     projections_are_parts, worked_traces,
 };
 pub use log::Log;
-pub use long::LongEvent;
+pub use long::LargeEvent;
 pub use part::Part;
 pub use trace::Trace;
 pub use view::{EventView, ShortAct, ShortStep};

@@ -10,7 +10,7 @@ use world_model::{Begun, Tried};
 /// An event that takes much room, and is kept apart. Beside a phaser's number the first number is
 /// the acting task's.
 #[derive(Clone, Copy, Debug, PartialEq, Eq)]
-pub enum LongEvent {
+pub enum LargeEvent {
     /// The phaser of the first number was made: by this task, which was registered in this mode,
     /// with these terms.
     Make(u32, u32, Mode, Terms),
@@ -20,19 +20,19 @@ pub enum LongEvent {
     Refuse(u32, Tried, u8),
 }
 
-impl LongEvent {
+impl LargeEvent {
     /// The event.
     pub fn event(&self) -> TracedEvent
         ensures { result ≡ long_event self.now }
     {
         match *self {
-            LongEvent::Make(phaser, task, mode, terms) => {
+            LargeEvent::Make(phaser, task, mode, terms) => {
                 TracedEvent::Phaser(phaser, TracedStep::Make(task, mode, terms))
             }
-            LongEvent::Async(task, child, pairs) => {
+            LargeEvent::Async(task, child, pairs) => {
                 TracedEvent::Begin(task, Begun::Async(child, pairs))
             }
-            LongEvent::Refuse(task, act, number) => TracedEvent::Refuse(task, act, number),
+            LargeEvent::Refuse(task, act, number) => TracedEvent::Refuse(task, act, number),
         }
     }
 }

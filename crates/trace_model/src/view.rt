@@ -6,7 +6,7 @@ ghost use Rattle.trace_model.specs.Views.{short_step, short_act, viewed};
 
 use crate::event::{TracedEvent, TracedStep};
 use crate::in_world::{is_made, is_seen};
-use crate::long::LongEvent;
+use crate::long::LargeEvent;
 use finish_core::FinishEvent;
 use phase_model::Look;
 use phase_modes::{Mode, Refusal};
@@ -105,7 +105,7 @@ pub enum EventView<'a> {
     /// An entry: the task gave up what it was about, by the refusal of this number, and ended.
     Fail(u32, u8),
     /// A long event: the making of a phaser, a spawn, or a refusal.
-    Long(&'a LongEvent),
+    Long(&'a LargeEvent),
 }
 
 impl<'a> EventView<'a> {

@@ -4,8 +4,8 @@ use Rattle.phase_modes.specs.declared.refusal.Refusal.{Refusal}
 use Rattle.phase_modes.specs.declared.refusal.Refusal.TheVariants.{Memory}
 use Rattle.world_model.specs.declared.event.WorldEvent.{WorldEvent}
 use Rattle.world_model.specs.Report.{Report, report_of}
-use Rattle.world_steps.specs.WorldState.{WorldState}
-use Rattle.world_steps.specs.StandsFor.{StandsFor}
+use Rattle.world_records.specs.WorldState.{WorldState}
+use Rattle.world_records.specs.StandsFor.{StandsFor}
 use Rattle.trace_model.specs.Run.{Run}
 use Rattle.trace_model.specs.Explained.{past}
 use Rattle.trace_replay.specs.Replaying.{IsRefused, Replays}

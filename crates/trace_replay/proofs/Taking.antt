@@ -5,7 +5,7 @@ use Rattle.phase_modes.specs.declared.limits.Limits.{Limits}
 use Rattle.phase_modes.specs.declared.refusal.Refusal.{Refusal}
 use Rattle.world_model.specs.declared.reply.Reply.{Reply}
 use Rattle.world_model.specs.Replies.{reply}
-use Rattle.world_steps.specs.StandsFor.{IsStep}
+use Rattle.world_records.specs.StandsFor.{IsStep}
 use Rattle.trace_model.specs.Run.{Entry}
 use Rattle.trace_model.specs.declared.event.TracedEvent.{TracedEvent}
 use Rattle.trace_model.specs.Explained.{event_of, past, is_answered, is_later, may_follow, ends_run}

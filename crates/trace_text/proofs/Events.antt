@@ -24,7 +24,7 @@ use Rattle.trace_model.specs.declared.event.TracedStep.{TracedStep}
 use Rattle.trace_model.specs.declared.event.TracedStep.TheVariants as step
 use Rattle.trace_model.specs.declared.event.TracedEvent.{TracedEvent}
 use Rattle.trace_model.specs.declared.event.TracedEvent.TheVariants.{Phaser, Finish, Begin, Refuse, Fail}
-use Rattle.text_words.specs.Words.{◌>>=◌, signed_in, value_in, mode_in, op_in, all_in, ops_in, at_most}
+use Rattle.job_script.specs.Words.{◌>>=◌, signed_in, value_in, mode_in, op_in, all_in, ops_in, at_most}
 use Rattle.trace_text.specs.Form.{bound_or_null, bound_after, is_refusal, make_in, reg_in, sig_in, task_step_in, send_in, seen_in, look_in, step_in, finish_event_in, pair_in, pairs_in, async_in, single_in, bare_act_in, begun_in, new_in, open_in, send_act_in, look_act_in, tried_in, begin_in, refuse_in, fail_in, log_entry_in, event_in, entry_in}
 use Rattle.trace_text.specs.Text.{list, whole, signed, mode_data, op_data, ops_data, bound_data, bound_items, seen_data, step_items, finish_items, pair_data, pairs_data, begun_items, tried_items, event_items, entry_data, is_wide, is_value, is_number, is_index, has_bound, seen_has_form, bound_has_form, terms_have_form, step_has_form, finish_has_form, begun_has_form, tried_has_form, event_has_form, entry_has_form}
 

@@ -9,3 +9,4 @@ pub mod Plain
 pub mod ReadBack
 pub mod Streamed
 pub mod Whole
+pub mod StreamReading

@@ -3,8 +3,8 @@ use Rattle.std.proofs.Common.{◌≡◌, ℕ, ◌<◌, ◌^◌, ◌++◌, Err, c
 use Rattle.std.specs.Fmt.{digits}
 use Rattle.json.specs.Print.{escape_byte}
 use Rattle.serde_json.specs.Written.{compact_text}
-use Rattle.text_words.specs.Reading.{reading}
-use Rattle.text_words.specs.Words.{numbered_in, only_keys, limits_in, named_limits_in}
+use Rattle.job_script.specs.Reading.{reading}
+use Rattle.job_script.specs.Words.{numbered_in, only_keys, limits_in, named_limits_in}
 use Rattle.trace_text.specs.declared.version.Version.{Version}
 use Rattle.trace_text.specs.declared.version.Version.TheVariants.{First, Second}
 use Rattle.trace_text.specs.Form.{bound_after, make_in, step_in, event_in, outer_in, form, form_of}

@@ -15,7 +15,7 @@ use Rattle.serde_json.specs.Read.{number_of, of_json, of_items, of_members, max_
 use Rattle.serde_json.specs.Written.{number_text, outline, items_outline, members_outline, comma_if, compact_text, items_text, members_text}
 use Rattle.serde_json.proofs.Numbers.{number_of-decimal, number_of-negative}
 use Rattle.serde_json.proofs.Texts.{print-outline}
-use Rattle.text_words.specs.Reading.{reading}
+use Rattle.job_script.specs.Reading.{reading}
 use Rattle.trace_text.specs.Json.{IsWhole, put_all, IsPlain, ArePlain, MembersArePlain}
 
 -- ---- the outline reads as the value

@@ -8,11 +8,11 @@ use Rattle.json.specs.Json.{read_key, after_end_array, value, members, items, sk
 use Rattle.json.proofs.Grammar.{read_key-shorter, value-begin_array, value-begin_object}
 use Rattle.serde_json.specs.Data.{Data, Items, Members, array, object, item, no_items, no_members, put}
 use Rattle.serde_json.specs.Read.{of_json, of_items, of_members, converted, read}
-use Rattle.text_stream.proofs.Reading.{converted_some, converted-array, converted-object, item_read, items_over, member_read, members_over, whole_read}
+use Rattle.trace_text.proofs.StreamReading.{converted_some, converted-array, converted-object, item_read, items_over, member_read, members_over, whole_read}
 use Rattle.phase_modes.specs.Limits.{default_limits}
 use Rattle.phase_modes.specs.declared.limits.Limits.{Limits}
-use Rattle.text_words.specs.Words.{◌>>=◌, numbered_then, numbered_in, only_keys, limits_in}
-use Rattle.text_words.proofs.Loops.{front_then}
+use Rattle.job_script.specs.Words.{◌>>=◌, numbered_then, numbered_in, only_keys, limits_in}
+use Rattle.job_script.proofs.Loops.{front_then}
 use Rattle.trace_model.specs.Run.{Entry, Run}
 use Rattle.trace_text.specs.declared.version.Version.{Version}
 use Rattle.trace_text.specs.Form.{entry_in, with_limits, outer_in, form_of, form_of_outer, version_in}

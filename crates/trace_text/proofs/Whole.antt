@@ -7,8 +7,8 @@ use Rattle.serde_json.specs.View.{items_of}
 use Rattle.phase_modes.specs.declared.limits.Limits.{Limits}
 use Rattle.phase_modes.specs.Limits.{limits_fit, is_between}
 use Rattle.trace_model.specs.declared.event.TracedEvent.{TracedEvent}
-use Rattle.text_words.specs.Reading.{reading}
-use Rattle.text_words.specs.Words.{numbered_in, only_keys, limits_in, named_limits_in}
+use Rattle.job_script.specs.Reading.{reading}
+use Rattle.job_script.specs.Words.{numbered_in, only_keys, limits_in, named_limits_in}
 use Rattle.trace_text.specs.Form.{entry_in, outer_in, with_limits, form_of_outer, form, form_of}
 use Rattle.trace_text.specs.Text.{entry_data, limits_data, trace_data, trace_text, older_text, has_bound, has_bounds, is_number, entry_has_form, has_form}
 use Rattle.trace_model.specs.Run.{Run}

@@ -17,7 +17,7 @@ use Rattle.trace_model.specs.declared.event.TracedStep.{TracedStep}
 use Rattle.trace_model.specs.declared.event.TracedStep.TheVariants as step
 use Rattle.trace_model.specs.declared.event.TracedEvent.{TracedEvent}
 use Rattle.trace_model.specs.declared.event.TracedEvent.TheVariants.{Phaser, Finish, Begin, Refuse, Fail}
-use Rattle.text_words.specs.Words.{◌>>=◌, whole_in, signed_in, bound_in, ends_at, word_at, number_at, accumulator_at, value_at, mode_at, all_in, at_most, numbered_in, ops_at, has_only, limits_of}
+use Rattle.job_script.specs.Words.{◌>>=◌, whole_in, signed_in, bound_in, ends_at, word_at, number_at, accumulator_at, value_at, mode_at, all_in, at_most, numbered_in, ops_at, has_only, limits_of}
 use Rattle.trace_model.specs.Run.{Run}
 use Rattle.trace_text.specs.declared.reading.log.TheConstants.{REFUSALS}
 use Rattle.trace_text.specs.declared.version.Version.{Version}

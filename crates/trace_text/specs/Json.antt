@@ -3,7 +3,7 @@ use Rattle.std.specs.Prelude.{◌≡◌, pos, negsuc, ◌^◌, ◌<◌, ◌≤�
 use Rattle.serde_json.specs.Data.{Num, unsigned, negative, float, Data, null, boolean, number, string, array, object, Items, no_items, item, Members, no_members, member, put, depth}
 use Rattle.serde_json.specs.Read.{max_depth}
 use Rattle.serde_json.specs.Written.{compact_text}
-use Rattle.text_words.specs.Reading.{reading}
+use Rattle.job_script.specs.Reading.{reading}
 
 -- a whole number of 64 bits
 abbrev pub IsWhole : Num → Type 0

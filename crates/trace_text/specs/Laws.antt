@@ -7,7 +7,7 @@ use Rattle.world_model.specs.declared.event.Begun.TheVariants as begun
 use Rattle.world_model.specs.ExampleWords.{unbounded}
 use Rattle.trace_model.specs.declared.event.TracedStep.TheVariants as step
 use Rattle.trace_model.specs.declared.event.TracedEvent.TheVariants.{Phaser, Finish, Begin}
-use Rattle.text_words.specs.Reading.{reading}
+use Rattle.job_script.specs.Reading.{reading}
 use Rattle.trace_text.specs.Form.{form_of}
 use Rattle.trace_text.specs.Text.{trace_text, older_text, has_bounds, has_form}
 use Rattle.trace_model.specs.Run.{Run}

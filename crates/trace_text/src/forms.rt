@@ -4,7 +4,7 @@
 ghost use Rattle.std.specs.Prelude.{◌≡◌, true, Ok, nat_le, length};
 ghost use Rattle.std.specs.List.{list_all};
 ghost use Rattle.trace_model.specs.Explained.{is_explained};
-ghost use Rattle.text_words.specs.Reading.{reading};
+ghost use Rattle.job_script.specs.Reading.{reading};
 ghost use Rattle.trace_text.specs.Form.{form_of};
 ghost use Rattle.trace_text.specs.Noted.{notes_refusal, notes_refusals};
 ghost use Rattle.trace_text.specs.Text.{is_number, is_index, is_value, is_wide, seen_has_form, bound_has_form, terms_have_form, step_has_form, finish_has_form, begun_has_form, tried_has_form, event_has_form, entry_has_form, has_form, trace_text};

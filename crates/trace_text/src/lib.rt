@@ -1,11 +1,13 @@
 //! The text of a trace: a trace to bytes, and bytes to a trace. What the text of a trace is, and
 //! which trace a text spells, is defined in `specs/`. Version 2 is written, and versions 1 and 2 are
-//! read: version 1 is of traces in which no phaser is bounded.
+//! read: version 1 is of traces in which no phaser is bounded. A text is read as a stream of JSON
+//! values, since `serde_json` reads a whole text alone.
 #![tactic(auto)]
 
 mod forms;
 mod laws;
 mod reading;
+mod stream_values;
 mod version;
 mod writing;
 
@@ -15,5 +17,6 @@ pub use laws::{
     worked_examples,
 };
 pub use reading::from_json;
+pub use stream_values::next_value;
 pub use trace_model::Trace;
 pub use writing::to_json;

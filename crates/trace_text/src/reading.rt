@@ -2,9 +2,9 @@
 ghost use Rattle.std.specs.Prelude.{◌≡◌, option_map, IfSome, true};
 ghost use Rattle.serde_json.specs.View.{view, items_view};
 ghost use Rattle.phase_modes.specs.Limits.{limits_fit};
-ghost use Rattle.text_words.specs.Words.{numbered_in};
+ghost use Rattle.job_script.specs.Words.{numbered_in};
 ghost use Rattle.trace_text.specs.Form.{event_in, entry_in, version_in, outer_in, with_limits, form, form_of};
-ghost use Rattle.text_words.specs.Reading.{reading, Gives};
+ghost use Rattle.job_script.specs.Reading.{reading, Gives};
 
 mod act;
 mod bound;
@@ -15,13 +15,13 @@ mod stream;
 
 use crate::version::Version;
 use finish::finish_event_of;
+use job_script::{has_only_keys, json_of, limits_of, number_at, word_at};
 use log::log_entry_of;
 use phase_modes::{Limits, Refusal};
 use serde_json::Value;
 use std::alloc::Global;
 use step::step_of;
 use stream::streamed;
-use text_words::{has_only_keys, json_of, limits_of, number_at, word_at};
 use trace_model::{Trace, TracedEvent};
 
 /// An event, by what its number is of.

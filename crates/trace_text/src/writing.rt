@@ -9,10 +9,9 @@ ghost use Rattle.trace_text.specs.declared.version.Version.TheVariants.{Second};
 
 use finish_core::FinishEvent;
 use phase_model::{Bound, Op, Terms};
-use phase_modes::{Limits, Mode, Pair, Refusal};
+use phase_modes::{Limits, Mode, Pair, PhaserNumber, Refusal, TaskNumber};
 use std::alloc::{AllocError, Global};
-use task_numbers::{PhaserNumber, TaskNumber};
-use trace_model::{EventView, LongEvent, ShortStep, Trace, TracedStep};
+use trace_model::{EventView, LargeEvent, ShortStep, Trace, TracedStep};
 use world_model::{Begun, Tried};
 
 /// A comma, but before the first item.
@@ -252,18 +251,18 @@ fn write_fail(out: &mut String, task: u32, number: u8) -> Result<(), AllocError>
 }
 
 /// The items of a long event, each after a comma, and the closing bracket.
-fn write_long(out: &mut String, event: &LongEvent) -> Result<(), AllocError>
+fn write_long(out: &mut String, event: &LargeEvent) -> Result<(), AllocError>
     ensures { Appends result out.old out.new (rest_text (event_items Second (long_event event.now))) }
 {
     match event {
-        LongEvent::Make(phaser, task, mode, terms) => {
+        LargeEvent::Make(phaser, task, mode, terms) => {
             let (phaser, task) = (PhaserNumber::of(*phaser), TaskNumber::of(*task));
             write_make(out, phaser, task, *mode, terms)
         }
-        LongEvent::Async(task, child, pairs) => {
+        LargeEvent::Async(task, child, pairs) => {
             write_begin(out, *task, &Begun::Async(*child, *pairs))
         }
-        LongEvent::Refuse(task, act, number) => write_refuse(out, *task, act, *number),
+        LargeEvent::Refuse(task, act, number) => write_refuse(out, *task, act, *number),
     }
 }
 

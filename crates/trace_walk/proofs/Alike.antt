@@ -3,7 +3,7 @@ use Rattle.std.proofs.Common.{suc, ◌≡◌, false, List, [], ◌∷◌, length
 use Rattle.std.proofs.lemmas.Bool.{and_right}
 use Rattle.phase_modes.specs.declared.phased.Pair.{Pair}
 use Rattle.phase_model.specs.declared.op.Op.{Op}
-use Rattle.schedule_model.specs.Follows.{same_ops, same_pairs}
+use Rattle.trace_walk.specs.Follows.{same_ops, same_pairs}
 
 ops_apart : (xs ys : List Op) → (length xs ≡ length ys → ⊥) → same_ops xs ys ≡ false
 ops_apart [] [] h = absurd (h refl)

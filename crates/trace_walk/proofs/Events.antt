@@ -8,7 +8,7 @@ use Rattle.world_model.specs.declared.event.Begun.TheVariants.{Async, Signal, Wa
 use Rattle.world_model.specs.declared.event.Tried.{Tried}
 use Rattle.world_model.specs.declared.event.WorldEvent.{WorldEvent}
 use Rattle.world_model.specs.Numbers.{names}
-use Rattle.schedule_model.specs.Scripts.{Made, act_of, is_of, parent_by}
+use Rattle.trace_walk.specs.Scripts.{Made, act_of, is_of, parent_by}
 use Rattle.trace_model.specs.Explained.{event_of}
 use Rattle.trace_model.specs.declared.event.TracedEvent.{TracedEvent}
 use Rattle.trace_model.specs.declared.event.TracedEvent.TheVariants.{Phaser, Finish, Begin, Refuse, Fail}

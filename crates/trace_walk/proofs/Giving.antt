@@ -7,7 +7,7 @@ use Rattle.job_script.specs.Program.{Program}
 use Rattle.job_script.specs.Steps.{act_for, next_for}
 use Rattle.world_model.specs.declared.event.WorldEvent.{WorldEvent}
 use Rattle.world_model.specs.Drawing.{own_pairs}
-use Rattle.schedule_model.specs.Scripts.{Numbers, meanings, next_act, tried_as, tried_next, tried}
+use Rattle.trace_walk.specs.Scripts.{Numbers, meanings, next_act, tried_as, tried_next, tried}
 use Rattle.trace_walk.specs.Given.{tried_of}
 
 head_given : (w : List WorldEvent) (t : ℕ) (ms : List ℕ) (new : Numbers) (h : Head) (body : Acts)

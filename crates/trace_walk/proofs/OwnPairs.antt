@@ -15,7 +15,7 @@ use Rattle.world_model.specs.Drawing.{own_pairs}
 use Rattle.world_model.specs.Parts.{phaser_past}
 use Rattle.world_model.specs.Tasks.{joined_by}
 use Rattle.world_model.specs.Continuing.{same_mode}
-use Rattle.schedule_model.specs.Follows.{same_pairs}
+use Rattle.trace_walk.specs.Follows.{same_pairs}
 use Rattle.trace_model.specs.Explained.{event_of, past}
 use Rattle.trace_model.specs.Run.{Entry}
 use Rattle.trace_walk.specs.inner.Holding.{mode_on, pair_on, pair_by}

@@ -3,7 +3,7 @@ use Rattle.std.proofs.Common.{ℕ, ◌+◌, ◌<◌, ◌≤◌, ◌≡◌, Bool,
 use Rattle.std.proofs.lemmas.List.{map-append, reverse-append, take_more, at_drop_more, at_drop_all}
 use Rattle.job_script.specs.declared.act.Answer.{Answer}
 use Rattle.world_model.specs.declared.event.WorldEvent.{WorldEvent}
-use Rattle.schedule_model.specs.Scripts.{act_of}
+use Rattle.trace_walk.specs.Scripts.{act_of}
 use Rattle.trace_model.specs.Explained.{event_of, past}
 use Rattle.trace_model.specs.Run.{Entry}
 use Rattle.trace_model.specs.declared.event.TracedEvent.{TracedEvent}

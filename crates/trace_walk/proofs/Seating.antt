@@ -10,8 +10,8 @@ use Rattle.world_model.specs.declared.event.Begun.TheVariants.{Async}
 use Rattle.world_model.specs.declared.event.Tried.TheVariants.{Begun as Beginning}
 use Rattle.world_model.specs.declared.event.WorldEvent.{WorldEvent}
 use Rattle.world_model.specs.Drawing.{own_pairs}
-use Rattle.schedule_model.specs.Follows.{drawn, same_act}
-use Rattle.schedule_model.specs.Scripts.{Made, Numbers, act_of, is_of, parent_by}
+use Rattle.trace_walk.specs.Follows.{drawn, same_act}
+use Rattle.trace_walk.specs.Scripts.{Made, Numbers, act_of, is_of, parent_by}
 use Rattle.trace_model.specs.Explained.{event_of, past}
 use Rattle.trace_model.specs.Run.{Entry}
 use Rattle.trace_model.specs.declared.event.TracedEvent.{TracedEvent}

@@ -8,8 +8,8 @@ use Rattle.world_model.specs.declared.event.Tried.{Tried}
 use Rattle.world_model.specs.declared.event.Tried.TheVariants.{Begun as Beginning, New, Open, Send as Sending, Look as Looking}
 use Rattle.world_model.specs.declared.event.WorldEvent.{WorldEvent}
 use Rattle.world_model.specs.Drawing.{own_pairs}
-use Rattle.schedule_model.specs.Follows.{drawn, same_act}
-use Rattle.schedule_model.specs.Scripts.{Made, Numbers}
+use Rattle.trace_walk.specs.Follows.{drawn, same_act}
+use Rattle.trace_walk.specs.Scripts.{Made, Numbers}
 use Rattle.trace_walk.specs.declared.acts.Numbers as stored
 use Rattle.trace_walk.specs.declared.acts.MadeAct.{MadeAct}
 

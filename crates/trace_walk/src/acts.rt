@@ -1,18 +1,18 @@
 //! Acts as the world knows them: the one that a body gives, and the one that an event makes or
 //! refuses, with the numbers that it draws.
 ghost use Rattle.std.specs.Prelude.{◌≡◌, Some, option_map};
-ghost use Rattle.schedule_model.specs.Follows.{drawn};
-ghost use Rattle.schedule_model.specs.Picks.{event_of as event_made};
+ghost use Rattle.trace_walk.specs.Follows.{drawn};
+ghost use Rattle.trace_walk.specs.Picks.{event_of as event_made};
 ghost use Rattle.trace_model.specs.Explained.{event_of};
 ghost use Rattle.trace_model.specs.Views.{long_event, viewed};
-ghost use Rattle.schedule_model.specs.Scripts.{act_of};
+ghost use Rattle.trace_walk.specs.Scripts.{act_of};
 ghost use Rattle.trace_walk.specs.Given.{made_view, numbers_view, tried_of};
 
 use finish_core::FinishEvent;
 use job_script::Act;
 use phase_model::Terms;
 use phase_modes::Phased;
-use trace_model::{EventView, LongEvent, ShortStep};
+use trace_model::{EventView, LargeEvent, ShortStep};
 use world_model::{Begun, Step, Tried, WorldEvent};
 
 /// An act that a task made or was refused.
@@ -76,30 +76,30 @@ pub fn event_of(task: u32, act: Tried) -> WorldEvent
 }
 
 /// The act that a long event makes or refuses.
-pub(crate) fn act_of(event: &LongEvent) -> MadeAct
+pub(crate) fn act_of(event: &LargeEvent) -> MadeAct
     ensures { Some (made_view result) ≡ act_of (event_of (long_event event.now)) }
 {
     match *event {
-        LongEvent::Make(phaser, task, mode, terms) => MadeAct {
+        LargeEvent::Make(phaser, task, mode, terms) => MadeAct {
             task,
             act: Tried::New(phaser, mode, terms),
         },
-        LongEvent::Async(task, child, pairs) => MadeAct {
+        LargeEvent::Async(task, child, pairs) => MadeAct {
             task,
             act: Tried::Begun(Begun::Async(child, pairs)),
         },
-        LongEvent::Refuse(task, act, _) => MadeAct { task, act },
+        LargeEvent::Refuse(task, act, _) => MadeAct { task, act },
     }
 }
 
 /// The task whose act a long event makes or refuses.
-fn actor_in(event: &LongEvent) -> u32
+fn actor_in(event: &LargeEvent) -> u32
     ensures { Some result ≡ option_map (λ m. m.task) (act_of (event_of (long_event event.now))) }
 {
     match event {
-        LongEvent::Make(_, task, _, _)
-        | LongEvent::Async(task, _, _)
-        | LongEvent::Refuse(task, _, _) => *task,
+        LargeEvent::Make(_, task, _, _)
+        | LargeEvent::Async(task, _, _)
+        | LargeEvent::Refuse(task, _, _) => *task,
     }
 }
 

@@ -5,9 +5,9 @@ ghost use Rattle.phase_modes.specs.declared.phased.Pair as phased;
 ghost use Rattle.world_model.specs.declared.event.Tried.TheVariants.{Begun as Beginning};
 ghost use Rattle.world_model.specs.declared.event.WorldEvent.TheVariants.{Phaser};
 ghost use Rattle.world_model.specs.declared.event.WorldEvent as events;
-ghost use Rattle.schedule_model.specs.Follows.{same_act};
-ghost use Rattle.schedule_model.specs.Scripts as acts;
-ghost use Rattle.schedule_model.specs.Scripts.{act_of};
+ghost use Rattle.trace_walk.specs.Follows.{same_act};
+ghost use Rattle.trace_walk.specs.Scripts as acts;
+ghost use Rattle.trace_walk.specs.Scripts.{act_of};
 ghost use Rattle.trace_model.specs.Explained.{event_of, step_of};
 ghost use Rattle.trace_model.specs.Views.{long_event, short_act, short_step, viewed};
 ghost use Rattle.trace_walk.specs.History.{history};
@@ -19,7 +19,7 @@ use crate::same_act::is_same_act;
 use finish_core::FinishEvent;
 use job_script::Act;
 use phase_modes::Phased;
-use trace_model::{EventView, LongEvent, ShortAct, ShortStep, Trace};
+use trace_model::{EventView, LargeEvent, ShortAct, ShortStep, Trace};
 use world_model::{Begun, Tried};
 
 /// Whether a body gives this step: a send or a look.
@@ -71,7 +71,7 @@ fn gives_made<B: Drop>(trace: &Trace, count: usize, made: &MadeAct, act: &Act<B>
 /// The same of a long event. It is not in line, so that a walk's other events don't pay for the room
 /// that it needs.
 #[inline(never)]
-fn gives_long<B: Drop>(trace: &Trace, count: usize, event: &LongEvent, act: &Act<B>) -> bool
+fn gives_long<B: Drop>(trace: &Trace, count: usize, event: &LargeEvent, act: &Act<B>) -> bool
     requires { count ≤ length trace.now.events }
     ensures { result ≡ gives (history (take count trace.now.events))
         (act_of (event_of (long_event event.now))) act.now }

@@ -6,16 +6,15 @@ ghost use Rattle.world_model.specs.declared.event.WorldEvent as events;
 ghost use Rattle.world_model.specs.Drawing.{own_pairs};
 ghost use Rattle.world_model.specs.Parts.{event_for};
 ghost use Rattle.world_model.specs.Tasks.{joined_by};
-ghost use Rattle.schedule_model.specs.Follows.{same_pairs};
+ghost use Rattle.trace_walk.specs.Follows.{same_pairs};
 ghost use Rattle.trace_model.specs.Explained.{step_of, event_of};
 ghost use Rattle.trace_model.specs.Views.{short_step, viewed};
 ghost use Rattle.trace_walk.specs.History.{history};
 ghost use Rattle.trace_walk.specs.inner.Holding.{stay_in, stay_of, mode_on, pair_by};
 
 use crate::same_act::is_same_pair;
-use phase_modes::{Mode, Pair};
-use task_numbers::TaskNumber;
-use trace_model::{EventView, LongEvent, ShortStep, Trace};
+use phase_modes::{Mode, Pair, TaskNumber};
+use trace_model::{EventView, LargeEvent, ShortStep, Trace};
 
 /// What events say of a task and a phaser: the mode in which it was last registered there, and
 /// whether it was dropped.
@@ -55,9 +54,8 @@ impl Stay {
     {
         match event {
             EventView::Phaser(n, step) if n == phaser => self.after_step(task, step),
-            EventView::Long(LongEvent::Make(n, t, mode, _)) if *n == phaser && *t == task.get() => {
-                self.in_mode(*mode)
-            }
+            EventView::Long(LargeEvent::Make(n, t, mode, _)) if *n == phaser && *t == task.get() =>
+                { self.in_mode(*mode) }
             _ => self,
         }
     }
@@ -86,7 +84,7 @@ fn joined_by(task: u32, event: EventView<'_>) -> Option<u32>
 {
     match event {
         EventView::Phaser(n, ShortStep::Reg(_, t, _)) if t == task => Some(n),
-        EventView::Long(LongEvent::Make(n, t, _, _)) if *t == task => Some(*n),
+        EventView::Long(LargeEvent::Make(n, t, _, _)) if *t == task => Some(*n),
         _ => None,
     }
 }

@@ -1,7 +1,7 @@
 //! Whether two acts are the same, the numbers that they draw among it.
 ghost use Rattle.std.specs.Prelude.{◌≡◌, ◌&&◌, ◌==◌};
 ghost use Rattle.world_model.specs.Continuing.{same_mode, same_number};
-ghost use Rattle.schedule_model.specs.Follows.{same_op, same_ops, same_terms, same_pairs, same_begun, same_act};
+ghost use Rattle.trace_walk.specs.Follows.{same_op, same_ops, same_terms, same_pairs, same_begun, same_act};
 
 use phase_model::{Bound, Op, Terms};
 use phase_modes::{Mode, Pair};

@@ -2,7 +2,7 @@
 //! seat for each task.
 ghost use Rattle.std.specs.Prelude.{◌≡◌, ℕ, ◌≤◌, [], List, length, option_map, reverse, take, Some, IfOk, IfErr};
 ghost use Rattle.phase_modes.specs.declared.refusal.Refusal.TheVariants.{Memory as NoMemory};
-ghost use Rattle.schedule_model.specs.Scripts.{act_of, parent_by};
+ghost use Rattle.trace_walk.specs.Scripts.{act_of, parent_by};
 ghost use Rattle.trace_model.specs.Explained.{event_of};
 ghost use Rattle.trace_model.specs.Views.{long_event, viewed};
 ghost use Rattle.trace_walk.specs.Walking.{first_astray, told_by, AnswersPlace};
@@ -16,16 +16,16 @@ use job_script::{Act, Answer};
 use phase_model::Look;
 use phase_modes::Refusal;
 use std::alloc::Global;
-use trace_model::{EventView, LongEvent, ShortStep, Trace};
+use trace_model::{EventView, LargeEvent, ShortStep, Trace};
 
 /// What the task of an act hears of a long event.
-fn long_answer(event: &LongEvent) -> Answer
+fn long_answer(event: &LargeEvent) -> Answer
     ensures { result ≡ told_by (long_event event.now) }
 {
     match event {
-        LongEvent::Make(phaser, _, _, _) => Answer::Made(*phaser),
-        LongEvent::Async(_, child, _) => Answer::Spawned(*child),
-        LongEvent::Refuse(_, _, _) => Answer::Done,
+        LargeEvent::Make(phaser, _, _, _) => Answer::Made(*phaser),
+        LargeEvent::Async(_, child, _) => Answer::Spawned(*child),
+        LargeEvent::Refuse(_, _, _) => Answer::Done,
     }
 }
 
@@ -46,7 +46,7 @@ fn child_of(event: EventView<'_>) -> Option<u32>
     ensures { result ≡ child_named (viewed event.entry) }
 {
     match event {
-        EventView::Long(LongEvent::Async(_, child, _)) => Some(*child),
+        EventView::Long(LargeEvent::Async(_, child, _)) => Some(*child),
         _ => None,
     }
 }

@@ -3,15 +3,16 @@ ghost use Rattle.std.specs.Prelude.{◌≡◌, ◌≤◌, ◌<◌, ◌+◌, ◌+
 ghost use Rattle.phase_modes.specs.Lists.{is_empty};
 ghost use Rattle.finish_core.specs.Finish.{spawned_tasks};
 ghost use Rattle.world_model.specs.Report.{totals_line};
-ghost use Rattle.report_lines.specs.Lines.{lines_of, IsWithin};
-ghost use Rattle.world_steps.specs.inner.Reports.{story_in, made, born, opened, task_row, finish_row, row_if_made, with_if_made, row_if_born, row_if_opened};
+ghost use Rattle.world_model.specs.SumLines.{lines_of, IsWithin};
+ghost use Rattle.world_records.specs.inner.Reports.{story_in, made, born, opened, task_row, finish_row, row_if_made, with_if_made, row_if_born, row_if_opened};
 
 use finish_core::FinishState;
 use phase_modes::Refusal;
-use report_lines::{finish_line, no_totals, phaser_sums, plus};
 use std::alloc::Global;
-use world_model::{FinishLine, PhaserLines, TaskLine, TotalsLine};
-use world_records::{KeptPhaser, Task};
+use world_model::{
+    FinishLine, PhaserLines, TaskLine, TotalsLine, finish_line, no_totals, phaser_sums, plus,
+};
+use world_records::{KeptPhaser, KeptTask};
 
 /// The lines of phasers, and their totals.
 #[derive(Drop)]
@@ -82,7 +83,11 @@ pub(crate) fn phaser_rows(
 }
 
 /// The lines of the root and the tasks that were spawned.
-pub(crate) fn task_rows(alloc: Global, tasks: &[Task], count: u32) -> Result<Vec<TaskLine>, Refusal>
+pub(crate) fn task_rows(
+    alloc: Global,
+    tasks: &[KeptTask],
+    count: u32,
+) -> Result<Vec<TaskLine>, Refusal>
     requires { length tasks.now ≡ count }
     ensures rows { IfOk result (λ v. v.items ≡ map (task_row tasks.now) (born tasks.now count)) }
     ensures memory { IfErr result (λ r. r ≡ Refusal.Memory) }
@@ -116,7 +121,7 @@ pub(crate) fn finish_rows(
 }
 
 /// One task more, if it was born.
-fn add_task(rows: &mut Vec<TaskLine>, number: u32, task: &Task)
+fn add_task(rows: &mut Vec<TaskLine>, number: u32, task: &KeptTask)
     requires { vec_len rows.old < vec_capacity rows.old }
     ensures rows { rows.new.items ≡ rows.old.items ++ row_if_born number task.now }
     ensures size { vec_len rows.new ≤ vec_len rows.old + 1 }
@@ -139,7 +144,7 @@ fn add_finish(rows: &mut Vec<FinishLine>, number: u32, finish: &FinishState)
     }
 }
 
-#[tactic(auto, using(world_steps::proofs::Calls::none_at_all))]
+#[tactic(auto, using(world_records::proofs::Calls::none_at_all))]
 /// Whether the finish was opened.
 fn is_opened(finish: &FinishState) -> bool
     ensures { result ≡ not (is_empty finish.now.past) }

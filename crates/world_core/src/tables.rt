@@ -5,17 +5,16 @@ ghost use Rattle.phase_modes.specs.Limits.{limits_fit};
 ghost use Rattle.phase_modes.specs.Refusal.{first_refusal};
 ghost use Rattle.finish_core.specs.Finish.{fresh};
 ghost use Rattle.finish_core.specs.declared.event.FinishEvent.TheVariants.{Opened as opened};
-ghost use Rattle.world_steps.specs.Kept.{blank_task, root_task, blank_story, first_state, task_at, is_ready};
+ghost use Rattle.world_records.specs.Kept.{blank_task, root_task, blank_story, first_state, task_at, is_ready};
 ghost use Rattle.world_model.specs.ActConditions.{free_unless};
-ghost use Rattle.world_steps.specs.inner.Steps.{first_conditions};
-ghost use Rattle.world_steps.specs.StandsFor.{StandsFor};
+ghost use Rattle.world_records.specs.inner.Steps.{first_conditions};
+ghost use Rattle.world_records.specs.StandsFor.{StandsFor};
 
 use finish_core::FinishState;
-use phase_modes::{Limits, Refusal};
+use phase_modes::{Limits, Refusal, TaskNumber};
 use std::alloc::Global;
 use std::marker::Model;
-use task_numbers::TaskNumber;
-use world_records::{KeptPhaser, Task};
+use world_records::{KeptPhaser, KeptTask};
 
 mod begins;
 mod drops;
@@ -45,16 +44,16 @@ pub(crate) struct Tables {
     finishes: Vec<FinishState>,
     owners: Vec<u32>,
     outers: Vec<Option<u32>>,
-    tasks: Vec<Task>,
+    tasks: Vec<KeptTask>,
 }
 
 impl Model for Tables {
     ghost use Rattle.std.specs.Prelude.{◌≡◌, length};
-    ghost use Rattle.world_steps.specs.WorldState.{WorldState};
+    ghost use Rattle.world_records.specs.WorldState.{WorldState};
 
     ghost Value = { WorldState };
 
-    ghost use Rattle.world_steps.specs.inner.Sizes.{IsSized};
+    ghost use Rattle.world_records.specs.inner.Sizes.{IsSized};
 
     ghost view = { λ a. record {
       limits = a.limits;
@@ -101,7 +100,7 @@ fn fresh_finishes(alloc: Global, limits: Limits) -> Result<Vec<FinishState>, Ref
 }
 
 /// A blank record for each task number.
-fn blank_tasks(alloc: Global, limits: Limits) -> Result<Vec<Task>, Refusal>
+fn blank_tasks(alloc: Global, limits: Limits) -> Result<Vec<KeptTask>, Refusal>
     ensures blank { IfOk result (λ v. v.items ≡ replicate limits.tasks blank_task) }
     ensures memory { IfErr result (λ r. r ≡ Refusal.Memory) }
 {
@@ -109,7 +108,7 @@ fn blank_tasks(alloc: Global, limits: Limits) -> Result<Vec<Task>, Refusal>
         return Err(Refusal::Memory);
     };
     for _ in 0..limits.tasks {
-        tasks.push_reserved(Task::blank(alloc)?);
+        tasks.push_reserved(KeptTask::blank(alloc)?);
     }
     Ok(tasks)
 }
@@ -128,7 +127,7 @@ fn first_finishes(alloc: Global, limits: Limits) -> Result<Vec<FinishState>, Ref
 }
 
 /// The tasks of a world in which nothing has happened yet: task 0 runs.
-fn first_tasks(alloc: Global, limits: Limits) -> Result<Vec<Task>, Refusal>
+fn first_tasks(alloc: Global, limits: Limits) -> Result<Vec<KeptTask>, Refusal>
     requires { limits_fit limits ≡ true }
     ensures first { IfOk result (λ v. v.items ≡ set (replicate limits.tasks blank_task) 0 root_task) }
     ensures memory { IfErr result (λ r. r ≡ Refusal.Memory) }

@@ -9,15 +9,14 @@ ghost use Rattle.world_model.specs.Able.{is_able, is_stuck};
 ghost use Rattle.world_model.specs.Drawing.{least_unused, own_pairs};
 ghost use Rattle.world_model.specs.Report.{report_of};
 ghost use Rattle.world_model.specs.Numbers.{is_phaser, is_finish, is_named};
-ghost use Rattle.world_steps.specs.StandsFor.{StandsFor, IsStep};
+ghost use Rattle.world_records.specs.StandsFor.{StandsFor, IsStep};
 ghost use Rattle.trace_model.specs.Explained.{event_of};
 ghost use Rattle.trace_model.specs.Views.{viewed};
 
 use crate::tables::{Tables, Unused};
-use phase_modes::{Limits, Phased, Refusal};
+use phase_modes::{Limits, Phased, Refusal, TaskNumber};
 use std::alloc::Global;
 use std::marker::Model;
-use task_numbers::TaskNumber;
 use trace_model::EventView;
 use world_model::{Condition, Reply, WorldEvent, WorldReport};
 
@@ -32,8 +31,8 @@ pub struct World {
 }
 
 impl Model for World {
-    ghost use Rattle.world_steps.specs.WorldState.{WorldState};
-    ghost use Rattle.world_steps.specs.StandsFor.{IsWorld};
+    ghost use Rattle.world_records.specs.WorldState.{WorldState};
+    ghost use Rattle.world_records.specs.StandsFor.{IsWorld};
 
     ghost Value = { WorldState };
 

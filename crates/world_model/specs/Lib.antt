@@ -31,3 +31,6 @@ pub mod FinishExamples
 pub mod TurnExamples
 pub mod LimitExamples
 pub mod MomentExamples
+-- The definitions that the contracts cite.
+pub mod SumLines
+pub mod inner

@@ -6,16 +6,15 @@ ghost use Rattle.phase_model.specs.Rules.{is_legal, is_permitted};
 ghost use Rattle.phase_model.specs.declared.call.Call.TheVariants.{Make as make, Register as register, Signal as signal, Pass as pass, SingleDone as single_done, Send as send, Look as look, Drop as drop_task};
 ghost use Rattle.phase_model.specs.Replies.{reply, returned, after, done_result};
 ghost use Rattle.phase_model.specs.Waiting.{signal_would_wait, would_wait};
-ghost use Rattle.phaser_answers.specs.Answers.{signal_result, pass_result, look_result, made_with};
-ghost use Rattle.phaser_answers.specs.Registration.{registration};
-ghost use Rattle.world_steps.specs.Kept.{blank_story};
+ghost use Rattle.phase_model.specs.Answers.{signal_result, pass_result, look_result, made_with};
+ghost use Rattle.phase_model.specs.Registration.{registration};
+ghost use Rattle.world_records.specs.Kept.{blank_story};
 
 use phase_model::{Call, Event, History, Look, Reply, Terms};
-use phase_modes::{Limits, Mode, Refusal, Reg};
+use phase_modes::{Limits, Mode, Refusal, Reg, TaskNumber};
 use phaser_core::{Passing, PhaserState, Signalling};
 use std::alloc::Global;
 use std::marker::Model;
-use task_numbers::TaskNumber;
 
 /// A phaser of a world.
 #[derive(Drop)]

@@ -1,15 +1,14 @@
 //! What a world keeps of one task.
 ghost use Rattle.std.specs.Prelude.{◌≡◌, ◌≤◌, ◌&&◌, not, length, filter, slice_get, vec_capacity, IfOk, IfErr, true};
-ghost use Rattle.world_steps.specs.Kept.{blank_task, inner_at, is_idle_plan, past_in};
-ghost use Rattle.world_steps.specs.inner.Facts.{owes};
-ghost use Rattle.world_steps.specs.inner.Steps.{turn_begun, passing, is_to_signal, signal_noted, is_to_pass, pass_noted, opening};
+ghost use Rattle.world_records.specs.Kept.{blank_task, inner_at, is_idle_plan, past_in};
+ghost use Rattle.world_records.specs.inner.Facts.{owes};
+ghost use Rattle.world_records.specs.inner.Steps.{turn_begun, passing, is_to_signal, signal_noted, is_to_pass, pass_noted, opening};
 
+use crate::Plan;
 use crate::phaser::KeptPhaser;
-use phase_modes::Refusal;
+use phase_modes::{FinishNumber, PhaserNumber, Refusal, TaskNumber};
 use std::alloc::Global;
 use std::marker::Model;
-use task_numbers::{FinishNumber, PhaserNumber, TaskNumber};
-use world_steps::Plan;
 
 pub(crate) mod begins;
 mod drops;
@@ -27,7 +26,7 @@ pub const MOST_PHASERS: usize = 16;
 
 /// What a world keeps of one task.
 #[derive(Drop)]
-pub struct Task {
+pub struct KeptTask {
     pub(crate) plan: Plan,
     pub(crate) left: Vec<u32>,
     pub(crate) phasers: Vec<u32>,
@@ -42,9 +41,9 @@ pub struct Task {
     pub(crate) refused: Option<u8>,
 }
 
-impl Model for Task {
+impl Model for KeptTask {
     ghost use Rattle.std.specs.Prelude.{◌≤◌, length, vec_capacity};
-    ghost use Rattle.world_steps.specs.TaskState.{TaskState};
+    ghost use Rattle.world_records.specs.TaskState.{TaskState};
 
     ghost Value = { TaskState };
 
@@ -67,9 +66,9 @@ impl Model for Task {
         × (length t.phasers.items ≤ 16) };
 }
 
-impl Task {
+impl KeptTask {
     /// A number that no task has yet. `Memory` if there is none for its lists.
-    pub fn blank(alloc: Global) -> Result<Task, Refusal>
+    pub fn blank(alloc: Global) -> Result<KeptTask, Refusal>
         ensures blank { IfOk result (λ t. t ≡ blank_task) }
         ensures memory { IfErr result (λ r. r ≡ Refusal.Memory) }
     {
@@ -79,7 +78,7 @@ impl Task {
         let Ok(phasers) = Vec::with_capacity(alloc, MOST_PHASERS) else {
             return Err(Refusal::Memory);
         };
-        Ok(Task {
+        Ok(KeptTask {
             plan: Plan::Idle,
             left,
             phasers,

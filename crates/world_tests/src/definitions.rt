@@ -2,11 +2,10 @@
 use crate::asserted::equal;
 use finish_core::FinishEvent;
 use phase_model::{Look, Terms};
-use phase_modes::{Mode, Phased};
+use phase_modes::{Mode, Phased, PhaserNumber};
 use std::alloc::Global;
 use std::process::Abort;
 use std::test::Fail;
-use task_numbers::PhaserNumber;
 use world_model::{
     Begun, FinishLine, FoldLine, PhaserLines, Reply, Step, TaskLine, TotalsLine, Tried, WorldEvent,
     WorldReport,

@@ -1,4 +1,4 @@
-//! Tests of `world_model`, `report_lines` and `world_core`, which call what these export.
+//! Tests of `world_model` and `world_core`, which call what these export.
 //!
 //! A library of tests alone: if they stood in the crates themselves, these would be proved once
 //! more with each change of a test.

@@ -6,10 +6,9 @@ use finish_core::FinishEvent;
 use generator::Dice;
 use peer::{Answer, Plain};
 use phase_model::{Bound, Op, Ops, Terms};
-use phase_modes::{Limits, Mode, Pair, Phased, Refusal};
+use phase_modes::{Limits, Mode, Pair, Phased, PhaserNumber, Refusal};
 use std::alloc::Global;
 use std::process::Abort;
-use task_numbers::PhaserNumber;
 use world_core::World;
 use world_model::{Begun, Reply, Step, Tried, WorldEvent};
 

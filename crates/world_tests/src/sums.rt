@@ -3,11 +3,13 @@ use crate::asserted::equal;
 use finish_core::FinishEvent;
 use phase_model::{Event, History, Look, Op, Ops, explain};
 use phase_modes::{Limits, Mode, Refusal};
-use report_lines::{PhaserSums, finish_line, no_totals, phaser_sums, plus};
 use std::alloc::Global;
 use std::process::Abort;
 use std::test::Fail;
-use world_model::{FinishLine, FoldLine, PhaserLines, TotalsLine};
+use world_model::{
+    FinishLine, FoldLine, PhaserLines, PhaserSums, TotalsLine, finish_line, no_totals, phaser_sums,
+    plus,
+};
 
 /// Two tasks send for phase 0, then task 1 for phase 1, while task 0 ends its turn.
 const EVENTS: [Event; 10] = [

@@ -3,10 +3,9 @@
 use crate::asserted::equal_at;
 use finish_core::FinishEvent;
 use phase_model::{Look, Op, Ops, Terms};
-use phase_modes::{Limits, Mode, Pair, Phased, Refusal};
+use phase_modes::{Limits, Mode, Pair, Phased, Refusal, TaskNumber};
 use std::alloc::Global;
 use std::process::Abort;
-use task_numbers::TaskNumber;
 use world_core::World;
 use world_model::{
     Begun, Condition, FoldLine, PhaserLines, Reply, Step, TotalsLine, Tried, WorldEvent,

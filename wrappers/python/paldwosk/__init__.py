@@ -201,8 +201,8 @@ class Phaser:
         return tasks[:count.value]
 
     def trace(self):
-        """The trace of the run so far, as bytes for `replay` or a file. It is a whole run: tasks that are still there are
-        told as ending now. `Refusal` 35 (NotKept) if the phaser isn't traced.
+        """The trace of the run so far, as bytes for `replay` or a file. It is a whole run: a task that is still there ends
+        by an act that is refused, and its line of the report says so. `Refusal` 35 (NotKept) if the phaser isn't traced.
 
         >>> phaser = Phaser(traced=True)
         >>> with phaser.make(Mode.SIG_WAIT) as task:

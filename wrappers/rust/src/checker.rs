@@ -1,5 +1,5 @@
 //! The checker: a trace's text is replayed, and an events file is answered.
-use crate::archive::{phaser_c_events, phaser_c_replay};
+use crate::archive::{phaser_c_abi_1, phaser_c_events, phaser_c_replay};
 use std::error::Error;
 use std::fmt;
 
@@ -37,6 +37,8 @@ type Check = unsafe extern "C" fn(*const u8, usize, *mut u8, usize, &mut usize) 
 /// Checks the text, at first with so much room, and with as much as the lines need if that was too little.
 fn check(function: Check, text: &[u8], room: usize) -> Result<String, Refused> {
     let (mut room, mut written) = (vec![0; room], 0);
+    // SAFETY: it takes nothing.
+    unsafe { phaser_c_abi_1() };
     loop {
         // SAFETY: the pointers and lengths are those of a slice and of a list that nobody else has.
         let number = unsafe {

@@ -87,6 +87,7 @@ impl PhaserState {
             Some(phases) => phases,
         };
         let mut phaser = PhaserState { handle: Handle { held: null_mut() } };
+        unsafe { phaser_c_abi_1() };
         done(unsafe { phaser_c_new(&mut phaser.handle, &limits, numbers.as_ptr(), numbers.len(), bound) })?;
         Ok(phaser)
     }

@@ -71,6 +71,7 @@ impl WaitingCell {
         let none = Freed { task: 0, number: 0, answer: 0 };
         let handle = Handle { held: null_mut() };
         let mut cell = WaitingCell { handle, freed: Box::new([none; MOST_FREED]), count: 0 };
+        unsafe { phaser_c_abi_1() };
         done(unsafe { phaser_c_waiting_new(&mut cell.handle, numbers.as_ptr(), numbers.len(), bound) })?;
         Ok(cell)
     }

@@ -4,7 +4,7 @@ use Rattle.serde_json.specs.Data.{Items}
 use Rattle.serde_json.specs.View.{items_view}
 use Rattle.phase_modes.specs.declared.limits.Limits.{Limits}
 use Rattle.phase_modes.specs.declared.refusal.Refusal.{Refusal}
-use Rattle.text_words.specs.Reading.{Fails}
+use Rattle.job_script.specs.Reading.{Fails}
 use Rattle.job_script.specs.declared.reading.List as stored
 use Rattle.job_script.specs.declared.reading.Outer as outers
 use Rattle.job_script.specs.declared.stored.Item.{Item}

@@ -2,12 +2,11 @@
 use super::{program_of, unbounded};
 use crate::asserted::equal;
 use finish_core::FinishEvent;
-use phase_modes::{Limits, Mode, Pair, Phased, Refusal};
+use phase_modes::{Limits, Mode, Pair, Phased, Refusal, TaskNumber};
 use schedule_run::follows;
 use std::alloc::Global;
 use std::process::Abort;
 use std::test::Fail;
-use task_numbers::TaskNumber;
 use trace_model::{Trace, TracedEvent, TracedStep};
 use world_model::{Begun, Tried};
 

@@ -5,8 +5,8 @@ use json::{Reader, Scratch};
 use std::alloc::Global;
 use std::process::Abort;
 use std::test::Fail;
-use text_stream::next_value;
 use trace_model::Trace;
+use trace_text::next_value;
 
 /// The next value of the reader, in which so many lists may stand in one another, is spelled so; there
 /// is none if that is nothing.

@@ -6,27 +6,14 @@ ghost use Rattle.share_book.specs.Opening.{IsNamed, IsParted};
 
 use super::*;
 use crate::asserted::{equal, equal_at};
-use phase_model::{Call, Look, Terms};
+use crate::replies::{events_of_rows, looked, plainly, signalled, turned};
+use phase_model::{Call, Reply, Terms};
 use share_book::Seven;
 use std::marker::Brand;
 use std::sync::Wait;
 use std::sync::ledger::Ledger;
 use std::test::Fail;
 use worked_examples::*;
-
-fn plainly(answer: Result<(), Refusal>) -> Reply {
-    match answer {
-        Ok(()) => Reply::Done,
-        Err(refusal) => Reply::Refused(refusal),
-    }
-}
-
-fn looked(answer: Result<Look, Refusal>) -> Reply {
-    match answer {
-        Ok(seen) => Reply::Saw(seen),
-        Err(refusal) => Reply::Refused(refusal),
-    }
-}
 
 impl<'a, K: Ledgers, R: Wait> Caller<'a, K, R> {
     /// Makes the call on a phaser of the table, a making with these terms. The item of a task is
@@ -131,18 +118,6 @@ fn answers_the_one<K: Ledgers, R: Abort + Wait>(
     by.answers(alloc, table, &terms, rows);
     shares.push(by.mine)?;
     Ok(shares)
-}
-
-/// How many of the rows are events: those that are neither refused nor have to come again.
-fn events_of_rows(rows: &[Row]) -> u64 {
-    let mut events = 0u64;
-    for (_call, reply) in rows {
-        match reply {
-            Reply::NotYet | Reply::Refused(_) => {}
-            _ => events = events.saturating_add(1),
-        }
-    }
-    events
 }
 
 /// Each call on a new phaser is answered as its row says; the history that they leave is merged,

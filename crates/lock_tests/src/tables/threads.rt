@@ -5,6 +5,7 @@ ghost use Rattle.share_book.specs.Opening.{IsNamed, IsParted};
 
 use super::*;
 use crate::asserted::{equal, equal_at};
+use crate::replies::{signalled, turned};
 use phase_modes::Mode;
 use share_book::{Seven, SharedLedgers};
 use std::marker::Brand;

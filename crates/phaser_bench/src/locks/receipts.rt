@@ -6,7 +6,6 @@ ghost use Rattle.share_book.specs.Opening.{IsNamed, IsParted};
 use super::calls::{Calls, call_all, is_drained};
 use super::job::LocksJob;
 use super::threads::{LIMITS, given_back, numbered, phasers_of};
-use ghost_log::Whole;
 use phase_model::{Ops, Terms};
 use phase_modes::{Limits, Mode, Refusal};
 use scope_locks::{Out, Tickets};
@@ -20,6 +19,7 @@ use std::thread::Threads;
 use table_receipts::{
     Caller, Front, Logs, Named, Naming, Noted, PhaserLogs, ReceiptTable, new_logs,
 };
+use told_history::Whole;
 
 /// A thread's calls of a table whose calls give receipts.
 #[derive(Drop)]

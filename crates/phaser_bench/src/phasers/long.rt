@@ -1,9 +1,9 @@
 //! Rounds of a phaser that lives long.
 
 use super::job::CoreJob;
-use long_phaser::LongPhaser;
 use phase_model::{Bound, Ops};
 use phase_modes::{Mode, Refusal};
+use phaser_core::LongPhaser;
 use std::alloc::Global;
 
 /// How many calls are made on a phaser: as many as the greatest history has room for.

@@ -4,9 +4,8 @@ ghost use Rattle.phase_modes.specs.Limits.{limits_fit};
 
 use finish_core::FinishEvent;
 use phase_model::Terms;
-use phase_modes::{Limits, Mode, Pair, Phased, Refusal};
+use phase_modes::{Limits, Mode, Pair, Phased, Refusal, TaskNumber};
 use std::alloc::Global;
-use task_numbers::TaskNumber;
 use world_core::World;
 use world_model::{Begun, Reply, Step, WorldEvent};
 

@@ -4,16 +4,15 @@ ghost use Rattle.std.specs.Prelude.{◌≡◌, ◌≤◌, IfOk, IfErr};
 ghost use Rattle.phase_model.specs.Replies.{reply, returned};
 ghost use Rattle.phase_model.specs.Tasks.{is_registered};
 ghost use Rattle.phase_model.specs.declared.call.Call.TheVariants.{Register as register};
-ghost use Rattle.phaser_answers.specs.Outcomes.{look_reply};
-ghost use Rattle.phaser_answers.specs.Short.{IsShortLook};
+ghost use Rattle.phase_model.specs.Outcomes.{look_reply};
+ghost use Rattle.phase_model.specs.Short.{IsShortLook};
 ghost use Rattle.phaser_engine.specs.Outcomes.{unmade_reply, turn_reply, IsShortTurn};
 
 use crate::state::Engine;
 use crate::turn::{Signal, Turn, Unmade};
 use crate::view::{View, view_of};
-use phase_model::{Call, LongLook, Reply};
+use phase_model::{Call, LongLook, Reply, short_look};
 use phase_modes::Refusal;
-use phaser_answers::short_look;
 use reg_table::Comparisons;
 
 impl Engine {

@@ -1,7 +1,7 @@
 //! Questions on one task of a phaser. They change nothing.
 ghost use Rattle.std.specs.Prelude.{◌≡◌, ◌≤◌, IfSome};
 ghost use Rattle.phase_model.specs.Rules.{is_permitted};
-ghost use Rattle.phaser_answers.specs.Registration.{registration};
+ghost use Rattle.phase_model.specs.Registration.{registration};
 
 use crate::state::Engine;
 use crate::view::{View, view_of};

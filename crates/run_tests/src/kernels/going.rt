@@ -2,7 +2,6 @@
 ghost use Rattle.std.specs.Prelude.{◌≤◌, ◌<◌};
 
 use crate::asserted::{equal, equal_at};
-use body_follows::goes_by;
 use job_kernels::{PipelineBody, PipelineSize, StencilBody};
 use phase_modes::{Limits, Refusal};
 use phased_rt::{OpenGate, run};
@@ -13,6 +12,7 @@ use std::test::Fail;
 use std::thread::Threads;
 use trace_model::{EventView, ShortStep, Trace};
 use trace_replay::replay;
+use trace_walk::goes_by;
 use world_model::WorldReport;
 
 /// The place of the first value that is sent, counted from 1; 0 if none is.

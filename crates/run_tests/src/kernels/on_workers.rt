@@ -9,9 +9,9 @@ use job_ends::Status;
 use job_kernels::{
     PipelineBody, PipelineSize, StencilBody, cells_of, items_of, pipeline_plain, stencil_plain,
 };
-use kernels_job::{Kernel, pipeline_on, stencil_on};
 use phase_modes::{Limits, Refusal};
 use phased_rt::{Body, OpenGate, Workers, run};
+use run_jobs::{Kernel, pipeline_on, stencil_on};
 use std::alloc::Global;
 use std::process::Abort;
 use std::sync::Wait;

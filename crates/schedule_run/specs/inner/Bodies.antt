@@ -5,7 +5,7 @@ use Rattle.job_script.specs.Program.{Program}
 use Rattle.job_script.specs.Steps.{Script, no_meanings, named, given_name}
 use Rattle.job_script.specs.declared.act.Answer.TheVariants.{Done}
 use Rattle.world_model.specs.declared.event.WorldEvent.{WorldEvent}
-use Rattle.schedule_model.specs.Scripts.{acts_left, meanings, next_act}
+use Rattle.trace_walk.specs.Scripts.{acts_left, meanings, next_act}
 use Rattle.trace_walk.specs.declared.seats.Seat.{Seat}
 
 -- where a task stands: the acts that it has left, and what its names mean once its last act is answered

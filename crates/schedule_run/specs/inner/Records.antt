@@ -5,8 +5,8 @@ use Rattle.phase_modes.specs.declared.refusal.Refusal.{Refusal}
 use Rattle.world_model.specs.declared.event.WorldEvent.{WorldEvent}
 use Rattle.world_model.specs.declared.reply.Reply.{Reply}
 use Rattle.world_model.specs.declared.reply.Reply.TheVariants.{NotYet}
-use Rattle.world_steps.specs.StandsFor.{StandsFor}
-use Rattle.world_steps.specs.WorldState.{WorldState}
+use Rattle.world_records.specs.StandsFor.{StandsFor}
+use Rattle.world_records.specs.WorldState.{WorldState}
 use Rattle.trace_model.specs.Run.{Entry, Run}
 use Rattle.trace_model.specs.Explained.{past, all_follow}
 use Rattle.schedule_run.specs.declared.record.Outcome.{Outcome}

@@ -1,6 +1,6 @@
 -- The tasks whose logs are gathered.
 use Rattle.std.specs.Prelude.{◌≡◌, ℕ, ◌<◌, true, List, All, length}
-use Rattle.number_set.specs.Numbers.{Numbers, has_number}
+use Rattle.phase_modes.specs.Numbers.{Numbers, has_number}
 use Rattle.phase_model.specs.Rules.{Story}
 use Rattle.trace_model.specs.Projections.{log, AreOf}
 use Rattle.trace_model.specs.Run.{Entry}

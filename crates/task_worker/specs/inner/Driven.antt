@@ -3,10 +3,10 @@ use Rattle.std.specs.Prelude.{ℕ, ◌≡◌, ◌==◌, ◌⊎◌, Bool, true, f
 use Rattle.phase_modes.specs.declared.refusal.Refusal.{Refusal}
 use Rattle.phase_model.specs.Replies.{reply, done}
 use Rattle.phase_model.specs.Rules.{Story}
-use Rattle.parked_tasks.specs.declared.answer.SignalAnswer.{SignalAnswer}
-use Rattle.parked_tasks.specs.declared.answer.SignalAnswer.TheVariants.{Signalled, Parked as Held, Refused as NoSignal}
-use Rattle.parked_tasks.specs.declared.answer.PassAnswer.{PassAnswer}
-use Rattle.parked_tasks.specs.declared.answer.PassAnswer.TheVariants.{Passed, Claimed, Parked, Refused}
+use Rattle.phaser_core.specs.declared.answer.SignalAnswer.{SignalAnswer}
+use Rattle.phaser_core.specs.declared.answer.SignalAnswer.TheVariants.{Signalled, Parked as Held, Refused as NoSignal}
+use Rattle.phaser_core.specs.declared.answer.PassAnswer.{PassAnswer}
+use Rattle.phaser_core.specs.declared.answer.PassAnswer.TheVariants.{Passed, Claimed, Parked, Refused}
 use Rattle.finish_core.specs.declared.event.FinishEvent.TheVariants.{Opened, Spawned, Shut}
 use Rattle.world_model.specs.declared.event.Step.{Step}
 use Rattle.world_model.specs.declared.event.Step.TheVariants.{Make, Reg, Sig, Claim, Pass, Send, Look, Drop}

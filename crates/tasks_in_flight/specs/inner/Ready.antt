@@ -13,7 +13,7 @@ use Rattle.world_model.specs.declared.event.WorldEvent.{WorldEvent}
 use Rattle.trace_model.specs.TaskLog.{TaskLog}
 use Rattle.job_script.specs.declared.act.Answer.{Answer}
 use Rattle.job_script.specs.declared.act.Answer.TheVariants.{Done, Spawned}
-use Rattle.ghost_log.specs.Tails.{IsTail}
+use Rattle.told_history.specs.Tails.{IsTail}
 use Rattle.table_receipts.specs.Logs.{Sight}
 use Rattle.table_receipts.specs.Seen.{story_at}
 use Rattle.task_standing.specs.declared.held.Held.{Held}

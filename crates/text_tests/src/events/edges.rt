@@ -1,6 +1,5 @@
 //! Readers and writers that fail, and input that is too long.
 use crate::asserted::{equal, equal_at};
-use events_job::{MOST_BYTES, answer, ending_from, ending_on, events_from, events_on};
 use job_ends::{Ending, Failure, Reads, Status};
 use phase_modes::Refusal;
 use std::alloc::Global;
@@ -8,6 +7,7 @@ use std::io;
 use std::io::{BufWriter, Error, ErrorKind, Read, Write};
 use std::process::Abort;
 use std::test::Fail;
+use text_jobs::{MOST_EVENTS_BYTES, answer, counted_events_from, events_from, events_on};
 
 const INPUT: &[u8] =
     b"{\"calls\":[[\"make\",0,\"SIG_WAIT\"],[\"sig\",0],[\"pass\",0],[\"pass\",7]]}";
@@ -177,9 +177,7 @@ fn is_read_fault<R: Read>(rt: &impl Abort, alloc: Global, reader: &mut R) {
     let mut reads = Reads::none();
     let mut out = Vec::new(alloc);
     let mut faults = Vec::new(alloc);
-    let ended = ending_from(alloc, reader, &mut reads, &mut out, &mut faults);
-    let Ending { status, reported } = ended;
-    assert!(rt; reported);
+    let status = counted_events_from(alloc, reader, &mut reads, &mut out, &mut faults);
     is_outcome(rt, (status, &out, &faults), READ_FAULT, 0);
 }
 
@@ -195,11 +193,13 @@ fn no_read_after_a_fault(rt: HostRuntime) {
     equal(&rt, reader.calls, 9);
 }
 
-/// How the text is refused, if its line is written to a writer that fails after these calls.
-fn refused_to(alloc: Global, calls: usize) -> Ending {
+/// How the text is refused, if its line is written to a writer that fails after these calls; none if
+/// it isn't refused.
+fn refused_to(alloc: Global, calls: usize) -> Option<Ending> {
     let mut out = Vec::new(alloc);
     let mut faults = FailsAfter { calls };
-    ending_on(alloc, b"7", &mut out, &mut faults)
+    let failure = answer(alloc, b"7", &mut out).err()?;
+    Some(failure.end(alloc, &mut faults))
 }
 
 // If the line can't be written whole, the ending says so.
@@ -211,7 +211,7 @@ fn line_not_reported(rt: HostRuntime) {
             status: Status::Refused,
             reported: calls == line.len(),
         };
-        equal_at(&rt, calls, refused_to(rt.alloc(), calls), wanted);
+        equal_at(&rt, calls, refused_to(rt.alloc(), calls), Some(wanted));
     }
 }
 
@@ -227,7 +227,7 @@ fn padded(rt: &HostRuntime, bytes: usize) -> Result<Vec<u8>, Fail> {
 // Exactly the greatest number of bytes is read; one more is refused.
 #[test]
 fn too_long(rt: HostRuntime) -> Result<(), Fail> {
-    let mut text = padded(&rt, MOST_BYTES)?;
+    let mut text = padded(&rt, MOST_EVENTS_BYTES)?;
     job_from(&rt, rt.alloc(), &mut text.as_slice(), DONE, 0);
     text.push(b' ')?;
     job_from(&rt, rt.alloc(), &mut text.as_slice(), TOO_LONG, 0);

@@ -1,11 +1,11 @@
 //! The places at which texts are refused, and what is read if they are not.
 use crate::asserted::{equal, equal_at};
-use events_text::{EventsFile, read_events};
 use phase_model::{Bound, Call, Op};
 use phase_modes::{Limits, Mode, Refusal};
 use std::alloc::Global;
 use std::process::Abort;
 use std::test::Fail;
+use text_jobs::{EventsFile, read_events};
 
 /// The place of the text's first fault; none if it is of the form.
 fn place_of(alloc: Global, text: &str) -> Result<Option<u64>, Fail> {

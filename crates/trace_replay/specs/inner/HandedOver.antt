@@ -2,8 +2,8 @@
 use Rattle.std.specs.Prelude.{◌≡◌, ℕ, Bool, true, nat_lt, List, [], ◌∷◌, reverse, take, drop, Option, Some, None, Result, Ok, Err}
 use Rattle.phase_modes.specs.declared.limits.Limits.{Limits}
 use Rattle.phase_modes.specs.declared.refusal.Refusal.{Refusal}
-use Rattle.world_steps.specs.WorldState.{WorldState}
-use Rattle.world_steps.specs.StandsFor.{StandsFor}
+use Rattle.world_records.specs.WorldState.{WorldState}
+use Rattle.world_records.specs.StandsFor.{StandsFor}
 use Rattle.trace_model.specs.Run.{Entry, Run}
 use Rattle.trace_model.specs.Explained.{past, is_over, fault_after, first_fault}
 use Rattle.trace_replay.specs.declared.player.Player.{Player}

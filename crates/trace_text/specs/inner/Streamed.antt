@@ -6,7 +6,7 @@ use Rattle.json.specs.Json.{read_key, value, members, items, skip_value}
 use Rattle.serde_json.specs.Data.{Data, Items, Members, array, object, no_items, no_members, put}
 use Rattle.serde_json.specs.Read.{of_json, of_items, of_members, converted}
 use Rattle.phase_modes.specs.declared.limits.Limits.{Limits}
-use Rattle.text_words.specs.Words.{numbered_in}
+use Rattle.job_script.specs.Words.{numbered_in}
 use Rattle.trace_model.specs.Run.{Entry, Run}
 use Rattle.trace_text.specs.declared.version.Version.{Version}
 use Rattle.trace_text.specs.Form.{entry_in, with_limits, outer_in}

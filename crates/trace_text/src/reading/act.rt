@@ -1,15 +1,15 @@
 //! Reads the acts that a task begins, or is refused.
 ghost use Rattle.std.specs.Prelude.{◌≡◌};
 ghost use Rattle.serde_json.specs.View.{view, items_view};
-ghost use Rattle.text_words.specs.Words.{all_in, at_most};
+ghost use Rattle.job_script.specs.Words.{all_in, at_most};
 ghost use Rattle.trace_text.specs.Form.{pair_in, pairs_in, async_in, single_in, bare_act_in, begun_in, new_in, open_in, send_act_in, look_act_in, tried_in};
 
 use super::bound::bound_after;
 use crate::version::Version;
+use job_script::{accumulator_at, mode_at, number_at, ops_at, value_at, word_at};
 use phase_model::Terms;
 use phase_modes::{Pair, Phased};
 use serde_json::Value;
-use text_words::{accumulator_at, mode_at, number_at, ops_at, value_at, word_at};
 use world_model::{Begun, Tried};
 
 #[tactic(auto, unfolding(crate::specs::Form::pair_in))]

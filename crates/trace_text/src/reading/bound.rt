@@ -4,9 +4,9 @@ ghost use Rattle.serde_json.specs.View.{view};
 ghost use Rattle.trace_text.specs.Form.{bound_or_null, bound_after};
 
 use crate::version::Version;
+use job_script::bound_of;
 use phase_model::Bound;
 use serde_json::Value;
-use text_words::bound_of;
 
 /// A bound, or null for none.
 fn bound_or_null_of(value: &Value) -> Option<Option<Bound>>

@@ -4,8 +4,8 @@ ghost use Rattle.serde_json.specs.View.{view};
 ghost use Rattle.trace_text.specs.Form.{only_task_in, finish_event_in};
 
 use finish_core::FinishEvent;
+use job_script::{number_at, word_at};
 use serde_json::Value;
-use text_words::{number_at, word_at};
 
 /// The task of an event that has nothing else.
 fn only_task_of(list: &Value) -> Option<u32>

@@ -5,8 +5,8 @@ ghost use Rattle.trace_text.specs.Form.{refusal_at, begin_in, refuse_in, fail_in
 
 use super::act::{begun_of, tried_of};
 use crate::version::Version;
+use job_script::word_at;
 use serde_json::Value;
-use text_words::word_at;
 use trace_model::TracedEvent;
 
 /// How many refusals there are. Their numbers begin at 1.

@@ -6,9 +6,9 @@ ghost use Rattle.trace_model.specs.declared.event.TracedStep.TheVariants as step
 
 use super::bound::bound_after;
 use crate::version::Version;
+use job_script::{accumulator_at, mode_at, number_at, ops_at, value_at, word_at};
 use phase_model::{Look, Terms};
 use serde_json::Value;
-use text_words::{accumulator_at, mode_at, number_at, ops_at, value_at, word_at};
 use trace_model::TracedStep;
 
 #[tactic(auto, unfolding(crate::specs::Form::make_in))]

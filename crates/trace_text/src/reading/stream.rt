@@ -7,19 +7,19 @@ ghost use Rattle.serde_json.specs.Data.{Items, Data, array, object, no_items, no
 ghost use Rattle.serde_json.specs.Read.{of_json, of_items, converted, read};
 ghost use Rattle.serde_json.specs.View.{view, members_view};
 ghost use Rattle.phase_modes.specs.Limits.{limits_fit};
-ghost use Rattle.text_words.specs.Words.{numbered_in};
-ghost use Rattle.text_words.specs.Reading.{reading};
+ghost use Rattle.job_script.specs.Words.{numbered_in};
+ghost use Rattle.job_script.specs.Reading.{reading};
 ghost use Rattle.trace_text.specs.Form.{entry_in, with_limits, form_of};
 ghost use Rattle.trace_text.specs.inner.Streamed.{AtEvents, IsLast, IsRest, HasOuter, IsEntry, AreEntries, after};
 
 use super::{entry_of, outer_of};
+use crate::next_value;
 use crate::version::Version;
 use json::{Reader, Scratch, Token};
 use phase_model::{Bound, Terms};
 use phase_modes::Limits;
 use serde_json::{Map, Value};
 use std::alloc::Global;
-use text_stream::next_value;
 use trace_model::{Trace, TracedEvent, TracedStep};
 use world_model::{Begun, Tried};
 

@@ -7,7 +7,7 @@ use Rattle.job_script.specs.declared.act.Act.TheVariants as acts
 use Rattle.job_script.specs.declared.act.Answer.{Answer}
 use Rattle.job_script.specs.declared.act.Answer.TheVariants.{Started}
 use Rattle.world_model.specs.declared.event.Begun.TheVariants.{Async}
-use Rattle.schedule_model.specs.Scripts.{act_of, parent_by}
+use Rattle.trace_walk.specs.Scripts.{act_of, parent_by}
 use Rattle.trace_model.specs.Explained.{event_of}
 use Rattle.trace_model.specs.Run.{Entry}
 use Rattle.trace_model.specs.declared.event.TracedEvent.{TracedEvent}

@@ -2,13 +2,12 @@
 ghost use Rattle.std.specs.Prelude.{◌≡◌, ◌<◌, length, IfOk};
 ghost use Rattle.phase_modes.specs.Refusal.{first_refusal};
 ghost use Rattle.world_model.specs.ActConditions.{free_unless};
-ghost use Rattle.world_steps.specs.inner.Steps.{owing, turn_begun, with_task};
-ghost use Rattle.world_steps.specs.inner.Begins.{begin_refusal, begin_answer, begin_state, entered, line_begun, IsChildWithin};
-ghost use Rattle.world_steps.specs.StandsFor.{IsStep};
+ghost use Rattle.world_records.specs.inner.Steps.{owing, turn_begun, with_task};
+ghost use Rattle.world_records.specs.inner.Begins.{begin_refusal, begin_answer, begin_state, entered, line_begun, IsChildWithin};
+ghost use Rattle.world_records.specs.StandsFor.{IsStep};
 
 use super::Tables;
-use phase_modes::{Phased, Refusal};
-use task_numbers::TaskNumber;
+use phase_modes::{Phased, Refusal, TaskNumber};
 use world_model::{Begun, Reply, WorldEvent};
 
 impl Tables {

@@ -2,13 +2,13 @@
 ghost use Rattle.std.specs.Prelude.{◌≡◌, ◌<◌, length, IfOk, IfErr, true};
 ghost use Rattle.phase_model.specs.Replies.{reply, done_result};
 ghost use Rattle.phase_model.specs.declared.call.Call.TheVariants.{Drop as drop_task};
-ghost use Rattle.world_steps.specs.Kept.{story_at, task_at};
-ghost use Rattle.world_steps.specs.inner.Steps.{phaser_called};
-ghost use Rattle.world_steps.specs.inner.DropSteps.{dropper_at, is_to_drop, task_gone, drop_answer, drop_state};
-ghost use Rattle.world_steps.specs.StandsFor.{IsStep};
+ghost use Rattle.world_records.specs.Kept.{story_at, task_at};
+ghost use Rattle.world_records.specs.inner.Steps.{phaser_called};
+ghost use Rattle.world_records.specs.inner.DropSteps.{dropper_at, is_to_drop, task_gone, drop_answer, drop_state};
+ghost use Rattle.world_records.specs.StandsFor.{IsStep};
 
 use super::*;
-use task_numbers::{PhaserNumber, TaskNumber};
+use phase_modes::{PhaserNumber, TaskNumber};
 use world_model::{Reply, Step, WorldEvent};
 
 impl Tables {

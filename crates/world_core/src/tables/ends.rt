@@ -1,16 +1,15 @@
 //! How a task ends, and how a finish is shut.
 ghost use Rattle.std.specs.Prelude.{◌≡◌, ◌<◌, length, get_or, IfOk, IfErr, true};
 ghost use Rattle.finish_core.specs.Finish.{all_ended};
-ghost use Rattle.world_steps.specs.inner.FinishSteps.{said, finish_called, end_asked, end_answer, end_noted, end_state, owner_in, shut_asked, shut_answer, shut_noted, shut_state};
-ghost use Rattle.world_steps.specs.Kept.{finish_at};
-ghost use Rattle.world_steps.specs.StandsFor.{IsStep};
+ghost use Rattle.world_records.specs.inner.FinishSteps.{said, finish_called, end_asked, end_answer, end_noted, end_state, owner_in, shut_asked, shut_answer, shut_noted, shut_state};
+ghost use Rattle.world_records.specs.Kept.{finish_at};
+ghost use Rattle.world_records.specs.StandsFor.{IsStep};
 
 use super::Tables;
 use finish_core::FinishEvent;
-use phase_modes::Refusal;
-use task_numbers::{FinishNumber, TaskNumber};
+use phase_modes::{FinishNumber, Refusal, TaskNumber};
 use world_model::{Reply, WorldEvent};
-use world_steps::Plan;
+use world_records::Plan;
 
 impl Tables {
     /// Whether the task's next event is to end in this finish.

@@ -2,19 +2,17 @@
 ghost use Rattle.std.specs.Prelude.{◌≡◌, ◌≤◌, ◌<◌, ◌==◌, length, take, true, Some, None};
 ghost use Rattle.world_model.specs.PartReplies.{call_for};
 ghost use Rattle.world_model.specs.GivingUp.{done_where, is_reg};
-ghost use Rattle.world_steps.specs.Kept.{task_at};
-ghost use Rattle.world_steps.specs.inner.Steps.{with_task};
-ghost use Rattle.world_steps.specs.inner.Refusals.{is_make};
-ghost use Rattle.world_steps.specs.inner.Failures.{next_refusal, has_number, may_fail_by, spawn_failed, failed, fail_state};
-ghost use Rattle.world_steps.specs.StandsFor.{IsStep};
+ghost use Rattle.world_records.specs.Kept.{task_at};
+ghost use Rattle.world_records.specs.inner.Steps.{with_task};
+ghost use Rattle.world_records.specs.inner.Refusals.{is_make};
+ghost use Rattle.world_records.specs.inner.Failures.{next_refusal, has_number, may_fail_by, spawn_failed, failed, fail_state};
+ghost use Rattle.world_records.specs.StandsFor.{IsStep};
 
 use super::Tables;
 use phase_model::Call;
-use phase_modes::Refusal;
-use task_numbers::{PhaserNumber, TaskNumber};
+use phase_modes::{PhaserNumber, Refusal, TaskNumber};
 use world_model::{Reply, Step, WorldEvent};
-use world_records::MOST_PHASERS;
-use world_steps::Plan;
+use world_records::{MOST_PHASERS, Plan};
 
 /// The call that makes the step on its phaser.
 fn call_for(step: Step) -> Call
@@ -124,7 +122,7 @@ impl Tables {
         }
     }
 
-    #[tactic(auto, using(world_steps::proofs::FailMade::fail_within))]
+    #[tactic(auto, using(world_records::proofs::FailMade::fail_within))]
     /// Gives up what the task is about, if it may by the refusal of this number.
     fn fail(&mut self, task: TaskNumber, number: u8) -> Result<Reply, Refusal>
         ensures answer { result ≡ done_where (may_fail_by self.old task number) }

@@ -4,19 +4,18 @@ ghost use Rattle.phase_modes.specs.Lists.{is_empty};
 ghost use Rattle.phase_modes.specs.Refusal.{first_refusal};
 ghost use Rattle.phase_model.specs.Replies.{reply, done_result};
 ghost use Rattle.phase_model.specs.declared.call.Call.TheVariants.{Make as make};
-ghost use Rattle.world_steps.specs.Kept.{story_at, task_at};
+ghost use Rattle.world_records.specs.Kept.{story_at, task_at};
 ghost use Rattle.world_model.specs.ActConditions.{free_unless};
-ghost use Rattle.world_steps.specs.inner.Registering.{make_conditions, make_answer, make_state, phaser_made};
-ghost use Rattle.world_steps.specs.StandsFor.{IsStep};
+ghost use Rattle.world_records.specs.inner.Registering.{make_conditions, make_answer, make_state, phaser_made};
+ghost use Rattle.world_records.specs.StandsFor.{IsStep};
 
 use super::*;
 use phase_model::Terms;
-use phase_modes::Mode;
-use task_numbers::{PhaserNumber, TaskNumber};
+use phase_modes::{Mode, PhaserNumber, TaskNumber};
 use world_model::{Reply, Step, WorldEvent};
 
 impl Tables {
-    #[tactic(auto, using(world_steps::proofs::PhasersKept::some_at_all))]
+    #[tactic(auto, using(world_records::proofs::PhasersKept::some_at_all))]
     /// Whether the number is a phaser's.
     fn is_phaser(&self, phaser: PhaserNumber) -> bool
         ensures { result ≡ not (is_empty (story_at self.now phaser).past) }

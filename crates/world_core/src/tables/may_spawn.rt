@@ -2,15 +2,14 @@
 ghost use Rattle.std.specs.Prelude.{◌≡◌, ◌<◌, get_or, length, take, [], true, IfOk};
 ghost use Rattle.std.specs.List.{list_any};
 ghost use Rattle.phase_modes.specs.Refusal.{first_refusal};
-ghost use Rattle.phaser_answers.specs.Registration.{registration};
-ghost use Rattle.world_steps.specs.Kept.{task_at, past_in, inner_at};
+ghost use Rattle.phase_model.specs.Registration.{registration};
+ghost use Rattle.world_records.specs.Kept.{task_at, past_in, inner_at};
 ghost use Rattle.world_model.specs.ActConditions.{free_unless, pair_names, hand_conditions, pair_conditions};
-ghost use Rattle.world_steps.specs.inner.Facts.{facts};
-ghost use Rattle.world_steps.specs.inner.Begins.{begin_refusal};
+ghost use Rattle.world_records.specs.inner.Facts.{facts};
+ghost use Rattle.world_records.specs.inner.Begins.{begin_refusal};
 
 use super::Tables;
-use phase_modes::{Mode, Pair, Phased, Refusal, Reg};
-use task_numbers::{FinishNumber, PhaserNumber, TaskNumber};
+use phase_modes::{FinishNumber, Mode, Pair, Phased, PhaserNumber, Refusal, Reg, TaskNumber};
 use world_model::Begun;
 use world_records::{KeptPhaser, enclosing_of};
 

@@ -2,19 +2,18 @@
 ghost use Rattle.std.specs.Prelude.{◌≡◌, ◌<◌, not, length, IfOk};
 ghost use Rattle.phase_modes.specs.Lists.{is_empty};
 ghost use Rattle.phase_modes.specs.Refusal.{first_refusal};
-ghost use Rattle.world_steps.specs.Kept.{finish_at};
+ghost use Rattle.world_records.specs.Kept.{finish_at};
 ghost use Rattle.world_model.specs.ActConditions.{free_unless};
-ghost use Rattle.world_steps.specs.inner.Steps.{open_conditions, open_answer, open_state};
-ghost use Rattle.world_steps.specs.StandsFor.{IsStep};
+ghost use Rattle.world_records.specs.inner.Steps.{open_conditions, open_answer, open_state};
+ghost use Rattle.world_records.specs.StandsFor.{IsStep};
 
 use super::Tables;
 use finish_core::FinishEvent;
-use phase_modes::Refusal;
-use task_numbers::{FinishNumber, TaskNumber};
+use phase_modes::{FinishNumber, Refusal, TaskNumber};
 use world_model::{Reply, WorldEvent};
 
 impl Tables {
-    #[tactic(auto, using(world_steps::proofs::Calls::none_at_all))]
+    #[tactic(auto, using(world_records::proofs::Calls::none_at_all))]
     /// Whether the number is a finish's.
     fn is_finish(&self, finish: FinishNumber) -> bool
         ensures { result ≡ not (is_empty (finish_at self.now finish).past) }

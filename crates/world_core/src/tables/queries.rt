@@ -7,15 +7,15 @@ ghost use Rattle.world_model.specs.Due.{next_event};
 ghost use Rattle.world_model.specs.Numbers.{is_named};
 ghost use Rattle.world_model.specs.Able.{is_able};
 ghost use Rattle.phase_model.specs.Waiting.{signal_would_wait, would_wait};
-ghost use Rattle.world_steps.specs.Kept.{task_at, story_at, inner_at};
-ghost use Rattle.world_steps.specs.inner.Queries.{turn_event, drop_or, shut_or, kept_next, kept_condition, waits_at, able_at};
-ghost use Rattle.world_steps.specs.StandsFor.{StandsFor, end_of};
+ghost use Rattle.world_records.specs.Kept.{task_at, story_at, inner_at};
+ghost use Rattle.world_records.specs.inner.Queries.{turn_event, drop_or, shut_or, kept_next, kept_condition, waits_at, able_at};
+ghost use Rattle.world_records.specs.StandsFor.{StandsFor, end_of};
 
 use super::Tables;
 use finish_core::FinishEvent;
-use task_numbers::{FinishNumber, PhaserNumber, TaskNumber};
+use phase_modes::{FinishNumber, PhaserNumber, TaskNumber};
 use world_model::{Condition, Step, WorldEvent};
-use world_steps::Plan;
+use world_records::Plan;
 
 impl Tables {
     /// What the task is about; `None` if it hasn't been spawned.

@@ -1,19 +1,18 @@
 //! A task notes that an act of its own is refused, and ends.
 ghost use Rattle.std.specs.Prelude.{◌≡◌, ◌<◌, length, true};
-ghost use Rattle.world_steps.specs.Kept.{story_at};
+ghost use Rattle.world_records.specs.Kept.{story_at};
 ghost use Rattle.world_model.specs.ActConditions.{free_unless};
-ghost use Rattle.world_steps.specs.inner.Refusals.{is_make, phaser_refusal, call_refusal, make_refusal, act_refusal, is_noted, refuse_noted, refuse_state};
+ghost use Rattle.world_records.specs.inner.Refusals.{is_make, phaser_refusal, call_refusal, make_refusal, act_refusal, is_noted, refuse_noted, refuse_state};
 ghost use Rattle.world_model.specs.GivingUp.{done_where};
-ghost use Rattle.world_steps.specs.StandsFor.{IsStep};
+ghost use Rattle.world_records.specs.StandsFor.{IsStep};
 
 use super::Tables;
 use phase_model::{Call, Reply as Returned};
-use phase_modes::{Mode, Refusal};
-use task_numbers::{FinishNumber, PhaserNumber, TaskNumber};
+use phase_modes::{FinishNumber, Mode, PhaserNumber, Refusal, TaskNumber};
 use world_model::{Reply, Tried, WorldEvent};
 
 impl Tables {
-    #[tactic(auto, using(world_steps::proofs::CallsAsked::past_refused))]
+    #[tactic(auto, using(world_records::proofs::CallsAsked::past_refused))]
     /// What a phaser would refuse the call by. A number without a phaser knows no task.
     pub(super) fn may_call(&self, phaser: PhaserNumber, call: Call) -> Result<(), Refusal>
         requires { is_make call ≡ true → phaser < length self.now.phasers }
@@ -91,7 +90,7 @@ impl Tables {
         Ok(Reply::Done)
     }
 
-    #[tactic(auto, using(world_steps::proofs::RefuseMade::noted_within))]
+    #[tactic(auto, using(world_records::proofs::RefuseMade::noted_within))]
     /// Notes that the act is refused by this number.
     fn refuse(&mut self, task: TaskNumber, tried: Tried, number: u8) -> Result<Reply, Refusal>
         ensures answer { result ≡ done_where (refuse_noted self.old task tried number) }

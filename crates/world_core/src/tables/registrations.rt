@@ -2,14 +2,13 @@
 ghost use Rattle.std.specs.Prelude.{◌≡◌, ◌<◌, length, IfOk, IfErr, true};
 ghost use Rattle.phase_model.specs.Replies.{reply, done_result};
 ghost use Rattle.phase_model.specs.declared.call.Call.TheVariants.{Register as register};
-ghost use Rattle.world_steps.specs.Kept.{story_at, task_at};
-ghost use Rattle.world_steps.specs.inner.Steps.{phaser_called};
-ghost use Rattle.world_steps.specs.inner.RegisterSteps.{has_place, is_to_register, register_answer, register_state};
-ghost use Rattle.world_steps.specs.StandsFor.{IsStep};
+ghost use Rattle.world_records.specs.Kept.{story_at, task_at};
+ghost use Rattle.world_records.specs.inner.Steps.{phaser_called};
+ghost use Rattle.world_records.specs.inner.RegisterSteps.{has_place, is_to_register, register_answer, register_state};
+ghost use Rattle.world_records.specs.StandsFor.{IsStep};
 
 use super::*;
-use phase_modes::Mode;
-use task_numbers::{PhaserNumber, TaskNumber};
+use phase_modes::{Mode, PhaserNumber, TaskNumber};
 use world_model::{Reply, Step, WorldEvent};
 
 impl Tables {

@@ -2,8 +2,8 @@
 ghost use Rattle.std.specs.Prelude.{◌≡◌, List, IfOk, IfErr};
 ghost use Rattle.world_model.specs.declared.event.WorldEvent.{WorldEvent as Event};
 ghost use Rattle.world_model.specs.Report.{report_of};
-ghost use Rattle.world_steps.specs.inner.Reports.{kept_report};
-ghost use Rattle.world_steps.specs.StandsFor.{StandsFor};
+ghost use Rattle.world_records.specs.inner.Reports.{kept_report};
+ghost use Rattle.world_records.specs.StandsFor.{StandsFor};
 
 use super::Tables;
 use crate::report_rows::{finish_rows, phaser_rows, task_rows};

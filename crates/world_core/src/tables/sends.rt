@@ -2,16 +2,15 @@
 ghost use Rattle.std.specs.Prelude.{◌≡◌, IfOk, IfErr};
 ghost use Rattle.phase_model.specs.Replies.{reply, done_result};
 ghost use Rattle.phase_model.specs.declared.call.Call.TheVariants.{Send as send, Look as look};
-ghost use Rattle.phaser_answers.specs.Answers.{look_result};
-ghost use Rattle.world_steps.specs.Kept.{story_at};
-ghost use Rattle.world_steps.specs.inner.Steps.{phaser_called};
-ghost use Rattle.world_steps.specs.inner.Sends.{send_answer, send_state, look_answer, look_state};
-ghost use Rattle.world_steps.specs.StandsFor.{IsStep};
+ghost use Rattle.phase_model.specs.Answers.{look_result};
+ghost use Rattle.world_records.specs.Kept.{story_at};
+ghost use Rattle.world_records.specs.inner.Steps.{phaser_called};
+ghost use Rattle.world_records.specs.inner.Sends.{send_answer, send_state, look_answer, look_state};
+ghost use Rattle.world_records.specs.StandsFor.{IsStep};
 
 use super::Tables;
 use phase_model::Look;
-use phase_modes::Refusal;
-use task_numbers::{PhaserNumber, TaskNumber};
+use phase_modes::{PhaserNumber, Refusal, TaskNumber};
 use world_model::{Reply, Step, WorldEvent};
 
 impl Tables {

@@ -1,14 +1,13 @@
 //! The spawn of a child.
 ghost use Rattle.std.specs.Prelude.{◌≡◌, ◌<◌, length, IfOk, IfErr, true};
 ghost use Rattle.finish_core.specs.Replies.{reply as answer};
-ghost use Rattle.world_steps.specs.Kept.{finish_at, task_at};
-ghost use Rattle.world_steps.specs.inner.SpawnSteps.{spawner_at, is_to_spawn, spawn_wanted, spawn_answer, spawn_state, finish_spawned};
-ghost use Rattle.world_steps.specs.StandsFor.{IsStep};
+ghost use Rattle.world_records.specs.Kept.{finish_at, task_at};
+ghost use Rattle.world_records.specs.inner.SpawnSteps.{spawner_at, is_to_spawn, spawn_wanted, spawn_answer, spawn_state, finish_spawned};
+ghost use Rattle.world_records.specs.StandsFor.{IsStep};
 
 use super::Tables;
 use finish_core::FinishEvent;
-use phase_modes::Refusal;
-use task_numbers::{FinishNumber, TaskNumber};
+use phase_modes::{FinishNumber, Refusal, TaskNumber};
 use world_model::{Reply, WorldEvent};
 
 impl Tables {

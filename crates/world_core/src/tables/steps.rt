@@ -1,14 +1,13 @@
 //! Any step, by its kind.
 ghost use Rattle.std.specs.Prelude.{◌≡◌};
-ghost use Rattle.world_steps.specs.StandsFor.{IsStep};
+ghost use Rattle.world_records.specs.StandsFor.{IsStep};
 ghost use Rattle.trace_model.specs.Explained.{event_of, step_of};
 ghost use Rattle.trace_model.specs.Views.{long_event, short_step, viewed};
 
 use super::Tables;
 use finish_core::FinishEvent;
-use phase_modes::Refusal;
-use task_numbers::{FinishNumber, PhaserNumber, TaskNumber};
-use trace_model::{EventView, LongEvent, ShortStep};
+use phase_modes::{FinishNumber, PhaserNumber, Refusal, TaskNumber};
+use trace_model::{EventView, LargeEvent, ShortStep};
 use world_model::{Begun, Reply, Step, WorldEvent};
 
 impl Tables {
@@ -44,20 +43,20 @@ impl Tables {
     }
 
     /// A long event, where it stands.
-    fn step_long(&mut self, event: &LongEvent) -> Result<Reply, Refusal>
+    fn step_long(&mut self, event: &LargeEvent) -> Result<Reply, Refusal>
         ensures { IsStep (event_of (long_event event.now)) self.old self.new result }
     {
         match *event {
-            LongEvent::Make(phaser, task, mode, terms) => self.step_make(
+            LargeEvent::Make(phaser, task, mode, terms) => self.step_make(
                 PhaserNumber::of(phaser),
                 TaskNumber::of(task),
                 mode,
                 terms,
             ),
-            LongEvent::Async(task, child, pairs) => {
+            LargeEvent::Async(task, child, pairs) => {
                 self.step_begin(TaskNumber::of(task), Begun::Async(child, pairs))
             }
-            LongEvent::Refuse(task, tried, number) => self.step_refuse(
+            LargeEvent::Refuse(task, tried, number) => self.step_refuse(
                 TaskNumber::of(task),
                 tried,
                 number,

@@ -2,14 +2,13 @@
 ghost use Rattle.std.specs.Prelude.{◌≡◌, ◌<◌, length, IfOk, IfErr, true};
 ghost use Rattle.phase_model.specs.Replies.{reply, done_result};
 ghost use Rattle.phase_model.specs.declared.call.Call.TheVariants.{Signal as signal, Pass as pass, SingleDone as single_done};
-ghost use Rattle.world_steps.specs.Kept.{task_at, story_at};
-ghost use Rattle.world_steps.specs.inner.Steps.{phaser_called, is_to_signal, signalled_on, signal_answer, signal_state, is_to_pass, may_claim, may_report, passed_on, pass_answer, pass_state, claim_answer, claim_state, report_answer, report_state};
-ghost use Rattle.world_steps.specs.StandsFor.{IsStep};
+ghost use Rattle.world_records.specs.Kept.{task_at, story_at};
+ghost use Rattle.world_records.specs.inner.Steps.{phaser_called, is_to_signal, signalled_on, signal_answer, signal_state, is_to_pass, may_claim, may_report, passed_on, pass_answer, pass_state, claim_answer, claim_state, report_answer, report_state};
+ghost use Rattle.world_records.specs.StandsFor.{IsStep};
 
 use super::Tables;
-use phase_modes::Refusal;
+use phase_modes::{PhaserNumber, Refusal, TaskNumber};
 use phaser_core::{Passing, Signalling};
-use task_numbers::{PhaserNumber, TaskNumber};
 use world_model::{Reply, Step, WorldEvent};
 
 impl Tables {

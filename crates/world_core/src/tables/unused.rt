@@ -5,15 +5,14 @@ ghost use Rattle.finish_core.specs.Finish.{fresh};
 ghost use Rattle.world_model.specs.declared.event.WorldEvent.{WorldEvent as Event};
 ghost use Rattle.world_model.specs.Drawing.{least_unused, own_pairs};
 ghost use Rattle.world_model.specs.Numbers.{is_phaser, is_finish, is_named};
-ghost use Rattle.world_steps.specs.Kept.{blank_task, past_in};
-ghost use Rattle.world_steps.specs.inner.Drawings.{mode_at, pairs_at};
-ghost use Rattle.world_steps.specs.StandsFor.{StandsFor};
+ghost use Rattle.world_records.specs.Kept.{blank_task, past_in};
+ghost use Rattle.world_records.specs.inner.Drawings.{mode_at, pairs_at};
+ghost use Rattle.world_records.specs.StandsFor.{StandsFor};
 
 use super::Tables;
 use finish_core::FinishState;
-use phase_modes::{Mode, Pair, Phased};
-use task_numbers::{PhaserNumber, TaskNumber};
-use world_records::{KeptPhaser, Task};
+use phase_modes::{Mode, Pair, Phased, PhaserNumber, TaskNumber};
+use world_records::{KeptPhaser, KeptTask};
 
 /// The least numbers of each kind that aren't in use; if all are, the limit itself, under which
 /// an act that names it is refused.
@@ -81,7 +80,7 @@ impl Tables {
     }
 }
 
-#[tactic(auto, using(world_steps::proofs::Least::least_found, world_steps::proofs::Least::least_later, world_steps::proofs::Least::least_none))]
+#[tactic(auto, using(world_records::proofs::Least::least_found, world_records::proofs::Least::least_later, world_records::proofs::Least::least_none))]
 /// The first phaser that nobody made.
 fn first_unmade(phasers: &[KeptPhaser], limit: u32) -> u32
     ensures { result ≡ least_unused (λ n. not (is_empty (past_in phasers.now n))) limit }
@@ -94,9 +93,9 @@ fn first_unmade(phasers: &[KeptPhaser], limit: u32) -> u32
     limit
 }
 
-#[tactic(auto, using(world_steps::proofs::Least::least_found, world_steps::proofs::Least::least_later, world_steps::proofs::Least::least_none))]
+#[tactic(auto, using(world_records::proofs::Least::least_found, world_records::proofs::Least::least_later, world_records::proofs::Least::least_none))]
 /// The first task number that no spawn named.
-fn first_unnamed(tasks: &[Task], limit: u32) -> u32
+fn first_unnamed(tasks: &[KeptTask], limit: u32) -> u32
     ensures { result ≡ least_unused (λ t. (get_or tasks.now t blank_task).is_named) limit }
 {
     for number in 0..limit {
@@ -107,7 +106,7 @@ fn first_unnamed(tasks: &[Task], limit: u32) -> u32
     limit
 }
 
-#[tactic(auto, using(world_steps::proofs::Least::least_found, world_steps::proofs::Least::least_later, world_steps::proofs::Least::least_none))]
+#[tactic(auto, using(world_records::proofs::Least::least_found, world_records::proofs::Least::least_later, world_records::proofs::Least::least_none))]
 /// The first finish that nobody opened.
 fn first_unopened(finishes: &[FinishState], limit: u32) -> u32
     ensures { result ≡ least_unused (λ f. not (is_empty (get_or finishes.now f (fresh 0)).past)) limit }
@@ -132,7 +131,7 @@ fn is_made(phasers: &[KeptPhaser], number: u32) -> bool
 }
 
 /// Whether a spawn named the number, or it is the root's.
-fn is_named_in(tasks: &[Task], number: u32) -> bool
+fn is_named_in(tasks: &[KeptTask], number: u32) -> bool
     ensures { result ≡ (get_or tasks.now number blank_task).is_named }
 {
     if number as usize >= tasks.len() {
@@ -142,7 +141,7 @@ fn is_named_in(tasks: &[Task], number: u32) -> bool
     line.is_named()
 }
 
-#[tactic(auto, using(world_steps::proofs::Calls::none_at_all))]
+#[tactic(auto, using(world_records::proofs::Calls::none_at_all))]
 /// Whether the number is a finish's.
 fn is_begun(finishes: &[FinishState], number: u32) -> bool
     ensures { result ≡ not (is_empty (get_or finishes.now number (fresh 0)).past) }

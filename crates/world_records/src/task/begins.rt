@@ -1,18 +1,17 @@
 //! What a task's record says and notes of an act that the task begins.
 ghost use Rattle.std.specs.Prelude.{◌≡◌, ◌≤◌, ◌==◌, not, get_or, length, vec_capacity, is_some};
 ghost use Rattle.std.specs.List.{list_any};
-ghost use Rattle.world_steps.specs.Kept.{past_in};
-ghost use Rattle.world_steps.specs.inner.Facts.{leads, owes, has_single};
-ghost use Rattle.world_steps.specs.inner.Steps.{passing};
-ghost use Rattle.world_steps.specs.inner.Begins.{counted, signals_begun, enclosed, shut_begun, end_begun, spawn_begun, named_for};
+ghost use Rattle.world_records.specs.Kept.{past_in};
+ghost use Rattle.world_records.specs.inner.Facts.{leads, owes, has_single};
+ghost use Rattle.world_records.specs.inner.Steps.{passing};
+ghost use Rattle.world_records.specs.inner.Begins.{counted, signals_begun, enclosed, shut_begun, end_begun, spawn_begun, named_for};
 
-use super::{Task, is_owed};
+use super::{KeptTask, is_owed};
+use crate::Plan;
 use crate::phaser::KeptPhaser;
-use phase_modes::Phased;
-use task_numbers::{FinishNumber, PhaserNumber, TaskNumber};
-use world_steps::Plan;
+use phase_modes::{FinishNumber, Phased, PhaserNumber, TaskNumber};
 
-impl Task {
+impl KeptTask {
     /// Whether it has signalled on one of its phasers since its last turn there.
     pub fn leads_anywhere(&self, task: TaskNumber, phasers: &[KeptPhaser]) -> bool
         ensures { result ≡ list_any (λ n. leads task (past_in phasers.now n)) self.now.phasers }

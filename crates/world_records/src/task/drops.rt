@@ -1,11 +1,11 @@
 //! What a task's record keeps of the drops that it still has to make.
 ghost use Rattle.std.specs.Prelude.{◌≡◌, ◌≤◌, ◌==◌, not, length, filter, vec_capacity};
-ghost use Rattle.world_steps.specs.inner.DropSteps.{is_to_drop, gone_from, drop_noted};
+ghost use Rattle.world_records.specs.inner.DropSteps.{is_to_drop, gone_from, drop_noted};
 
 use super::*;
-use task_numbers::{PhaserNumber, TaskNumber};
+use phase_modes::{PhaserNumber, TaskNumber};
 
-impl Task {
+impl KeptTask {
     /// Whether its next event is that this task leaves this phaser; the first number is its own.
     pub fn is_to_drop(&self, own: TaskNumber, phaser: PhaserNumber, task: TaskNumber) -> bool
         ensures { result ≡ is_to_drop self.now own phaser task }

@@ -1,12 +1,12 @@
 //! What a task's record notes of its end, and of a finish that is shut.
 ghost use Rattle.std.specs.Prelude.{◌≡◌, ◌<◌, length};
-ghost use Rattle.world_steps.specs.inner.FinishSteps.{end_noted, shut_noted};
+ghost use Rattle.world_records.specs.inner.FinishSteps.{end_noted, shut_noted};
 
-use super::Task;
-use task_numbers::{FinishNumber, TaskNumber};
-use world_steps::Plan;
+use super::KeptTask;
+use crate::Plan;
+use phase_modes::{FinishNumber, TaskNumber};
 
-impl Task {
+impl KeptTask {
     /// Notes that it has ended.
     pub fn note_end(&mut self)
         ensures { self.new ≡ end_noted self.old }

@@ -1,13 +1,13 @@
 //! What a task's record notes if the task gives up what it is about, or what it tried.
 ghost use Rattle.std.specs.Prelude.{◌≡◌, ◌≤◌, length, take};
-ghost use Rattle.world_steps.specs.inner.Refusals.{given_up};
-ghost use Rattle.world_steps.specs.inner.Failures.{spawn_given_up};
+ghost use Rattle.world_records.specs.inner.Refusals.{given_up};
+ghost use Rattle.world_records.specs.inner.Failures.{spawn_given_up};
 
-use super::{MOST_PHASERS, Task, list_all};
-use task_numbers::TaskNumber;
-use world_steps::Plan;
+use super::{KeptTask, MOST_PHASERS, list_all};
+use crate::Plan;
+use phase_modes::TaskNumber;
 
-impl Task {
+impl KeptTask {
     /// Comes to its end by the refusal of this number; this child is dropped from no phaser.
     pub fn give_up(&mut self, child: TaskNumber, number: u8)
         ensures { self.new ≡ given_up child number self.old }

@@ -1,14 +1,13 @@
 //! A task's phasers, each with its own mode there.
 ghost use Rattle.std.specs.Prelude.{◌≡◌, ◌≤◌, length, map};
-ghost use Rattle.world_steps.specs.Kept.{past_in};
-ghost use Rattle.world_steps.specs.inner.Drawings.{mode_at};
+ghost use Rattle.world_records.specs.Kept.{past_in};
+ghost use Rattle.world_records.specs.inner.Drawings.{mode_at};
 
-use super::Task;
+use super::KeptTask;
 use crate::phaser::KeptPhaser;
-use phase_modes::{Mode, Pair, Phased};
-use task_numbers::{PhaserNumber, TaskNumber};
+use phase_modes::{Mode, Pair, Phased, PhaserNumber, TaskNumber};
 
-impl Task {
+impl KeptTask {
     /// Its phasers, each in its own mode.
     pub fn pairs(&self, own: TaskNumber, phasers: &[KeptPhaser]) -> Phased
         ensures { result ≡ map (λ n. record { phaser = n; mode = mode_at own (past_in phasers.now n) })

@@ -1,11 +1,11 @@
 //! What a task's record keeps of the phasers on which it is registered.
 ghost use Rattle.std.specs.Prelude.{◌≡◌, ◌<◌, nat_lt, length};
-ghost use Rattle.world_steps.specs.inner.Registering.{making};
+ghost use Rattle.world_records.specs.inner.Registering.{making};
 
 use super::*;
-use task_numbers::PhaserNumber;
+use phase_modes::PhaserNumber;
 
-impl Task {
+impl KeptTask {
     /// Whether it may be registered on another phaser.
     pub fn has_room(&self) -> bool
         ensures { result ≡ nat_lt (length self.now.phasers) 16 }

@@ -1,15 +1,15 @@
 //! What is reported of a task by its record.
 ghost use Rattle.std.specs.Prelude.{◌≡◌, ◌&&◌, not, slice_get};
-ghost use Rattle.world_steps.specs.inner.Queries.{drop_or, shut_or, kept_condition};
-ghost use Rattle.world_steps.specs.StandsFor.{end_of};
+ghost use Rattle.world_records.specs.inner.Queries.{drop_or, shut_or, kept_condition};
+ghost use Rattle.world_records.specs.StandsFor.{end_of};
 
-use super::Task;
+use super::KeptTask;
+use crate::Plan;
 use finish_core::FinishEvent;
-use task_numbers::TaskNumber;
+use phase_modes::TaskNumber;
 use world_model::{Condition, Step, WorldEvent};
-use world_steps::Plan;
 
-impl Task {
+impl KeptTask {
     /// What it is about; a number without a task is about nothing.
     pub fn condition(&self) -> Option<Condition>
         ensures { result ≡ kept_condition self.now }

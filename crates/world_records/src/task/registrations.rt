@@ -1,13 +1,12 @@
 //! What a task's record keeps of the registrations of a child that it is spawning.
 ghost use Rattle.std.specs.Prelude.{◌≡◌, ◌<◌, length};
 ghost use Rattle.world_model.specs.Continuing.{same_mode};
-ghost use Rattle.world_steps.specs.inner.RegisterSteps.{is_to_register, joining, register_noted, to_next_pair};
+ghost use Rattle.world_records.specs.inner.RegisterSteps.{is_to_register, joining, register_noted, to_next_pair};
 
 use super::*;
-use phase_modes::Mode;
-use task_numbers::{PhaserNumber, TaskNumber};
+use phase_modes::{Mode, PhaserNumber, TaskNumber};
 
-impl Task {
+impl KeptTask {
     /// Whether its next event is to register this child on this phaser in this mode.
     pub fn is_to_register(&self, phaser: PhaserNumber, child: TaskNumber, mode: Mode) -> bool
         ensures { result ≡ is_to_register self.now phaser child mode }

@@ -1,12 +1,12 @@
 //! What a task's record keeps of a spawn under way.
 ghost use Rattle.std.specs.Prelude.{◌≡◌};
-ghost use Rattle.world_steps.specs.inner.SpawnSteps.{is_to_spawn, born_in, spawn_noted};
+ghost use Rattle.world_records.specs.inner.SpawnSteps.{is_to_spawn, born_in, spawn_noted};
 
-use super::Task;
-use task_numbers::{FinishNumber, TaskNumber};
-use world_steps::Plan;
+use super::KeptTask;
+use crate::Plan;
+use phase_modes::{FinishNumber, TaskNumber};
 
-impl Task {
+impl KeptTask {
     /// Whether its next event is to spawn this child in this finish.
     pub fn is_to_spawn(&self, finish: FinishNumber, child: TaskNumber) -> bool
         ensures { result ≡ is_to_spawn self.now finish child }

@@ -46,6 +46,9 @@ pub struct Freed {
 pub const MOST_FREED: usize = 256;
 
 unsafe extern "C" {
+    /// The form in which the archive and these declarations hand values to each other. With an archive of another form a
+    /// program that calls this doesn't link, and the linker names it.
+    pub fn phaser_c_abi_1() -> u32;
     pub fn phaser_c_replay(
         trace: *const u8,
         length: usize,

@@ -2,7 +2,7 @@ use Rattle.std.proofs.Common.{◌≡◌, ◌-◌, ◌∙◌, sym, ap, ap₂, sub
 use Rattle.std.specs.Option.{option_map_or}
 use Rattle.serde_json.specs.Data.{no_items}
 use Rattle.serde_json.specs.View.{view, items_view}
-use Rattle.text_words.specs.Reading.{Fails}
+use Rattle.job_script.specs.Reading.{Fails}
 use Rattle.job_script.specs.ActForms.{said_in}
 use Rattle.job_script.specs.Form.{acts_in, nothing_read}
 use Rattle.job_script.specs.inner.SaidViews.{said_view}

@@ -3,8 +3,8 @@ use Rattle.std.proofs.lemmas.List.{map-append, length-map}
 use Rattle.serde_json.specs.View.{view, items_view}
 use Rattle.job_script.specs.ActForms.{pair_in}
 use Rattle.job_script.specs.inner.SaidViews.{pair_view}
-use Rattle.text_words.specs.Words.{all_in, at_most}
-use Rattle.text_words.proofs.Loops.{goes_on, stops, overflows, is_done, none_before}
+use Rattle.job_script.specs.Words.{all_in, at_most}
+use Rattle.job_script.proofs.Loops.{goes_on, stops, overflows, is_done, none_before}
 use Rattle.job_script.proofs.said.pairs_of.Goals as goal
 
 pub loop-item-init : goal.loop-item-init

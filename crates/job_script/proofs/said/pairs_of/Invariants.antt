@@ -1,8 +1,8 @@
 use Rattle.std.proofs.Common.{◌≡◌, ◌≤◌, drop, length, map}
 use Rattle.serde_json.specs.View.{items_view}
 use Rattle.job_script.specs.inner.SaidViews.{pair_view}
-use Rattle.text_words.specs.Words.{all_in}
-use Rattle.text_words.proofs.Loops.{front_with}
+use Rattle.job_script.specs.Words.{all_in}
+use Rattle.job_script.proofs.Loops.{front_with}
 use Rattle.job_script.specs.ActForms.{pair_in}
 use Rattle.job_script.proofs.said.pairs_of.Given as goal
 

@@ -4,8 +4,8 @@ use Rattle.phase_model.specs.declared.call.Call.TheVariants.{Pass as pass}
 use Rattle.phase_model.specs.declared.call.Reply.{Reply}
 use Rattle.phase_model.specs.Replies.{reply, returned}
 use Rattle.phaser_engine.specs.Phaser.{Phaser}
-use Rattle.phaser_answers.specs.Outcomes.{pass_reply}
-use Rattle.phaser_answers.proofs.Applied.{pass_returned}
+use Rattle.phase_model.specs.Outcomes.{pass_reply}
+use Rattle.phase_model.proofs.Applied.{pass_returned}
 use Rattle.phaser_c.specs.Answers.{number_of_answer, answer_for, number_for, number_given}
 use Rattle.phaser_c.specs.Calls.{story, answered}
 use Rattle.phaser_c.proofs.calls.phaser_c_pass.Goals as goal

@@ -3,8 +3,8 @@ use Rattle.std.proofs.Common.{Option, sym, ap, ◌∙◌}
 use Rattle.phase_model.specs.declared.call.Call.TheVariants.{Signal as signal}
 use Rattle.phase_model.specs.Replies.{reply, returned}
 use Rattle.phaser_engine.specs.Phaser.{Phaser}
-use Rattle.phaser_answers.specs.Outcomes.{signal_reply}
-use Rattle.phaser_answers.proofs.Applied.{signal_returned}
+use Rattle.phase_model.specs.Outcomes.{signal_reply}
+use Rattle.phase_model.proofs.Applied.{signal_returned}
 use Rattle.phaser_c.specs.Answers.{number_of_answer, answer_for, number_for}
 use Rattle.phaser_c.specs.Calls.{story, answered}
 use Rattle.phaser_c.proofs.calls.signal.Goals as goal

@@ -1,6 +1,6 @@
 use Rattle.std.proofs.Common.{◌≡◌, ℕ, ◌<◌, ◌+◌, List, [], ◌∷◌, ◌++◌, slice_set, length, map, drop, sym, ap, ◌∙◌, arith}
 use Rattle.std.proofs.lemmas.List.{length-append, length_push, append_assoc}
-use Rattle.waiting_cell.specs.declared.answer.Freed.{Freed}
+use Rattle.long_locks.specs.declared.answer.Freed.{Freed}
 use Rattle.phaser_c.specs.Freed.{given_freed}
 use Rattle.phaser_c.specs.declared.freed.GivenFreed.{GivenFreed}
 use Rattle.phaser_c.proofs.Telling.{told_more}

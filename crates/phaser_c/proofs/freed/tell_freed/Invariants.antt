@@ -1,5 +1,5 @@
 use Rattle.std.proofs.Common.{◌≡◌, ◌++◌, List, length, map, drop}
-use Rattle.waiting_cell.specs.declared.answer.Freed.{Freed}
+use Rattle.long_locks.specs.declared.answer.Freed.{Freed}
 use Rattle.phaser_c.specs.Freed.{given_freed}
 use Rattle.phaser_c.proofs.freed.tell_freed.Given as goal
 

@@ -2,7 +2,7 @@
 use Rattle.phase_model.specs.Rules.{no_terms}
 use Rattle.std.proofs.Common.{refl, ap, sym, ◌∙◌}
 use Rattle.phase_model.specs.Replies.{Reply, after}
-use Rattle.phaser_answers.specs.Answers.{made_with}
+use Rattle.phase_model.specs.Answers.{made_with}
 use Rattle.phaser_engine.specs.Making.{unmade}
 use Rattle.phaser_engine.proofs.laws.both_make_alike.Goals as goal
 

@@ -6,7 +6,7 @@ use Rattle.trace_model.specs.Run.{Entry}
 use Rattle.trace_model.specs.Views.{viewed}
 use Rattle.trace_walk.specs.History.{history}
 use Rattle.trace_walk.proofs.Histories.{entry_at, history_more}
-use Rattle.body_follows.proofs.Prefixes.{IsAfter, after_its_past}
+use Rattle.trace_walk.proofs.Prefixes.{IsAfter, after_its_past}
 use Rattle.run_laws.specs.Luck.{is_all_steady, is_steady}
 use Rattle.run_laws.specs.inner.Watched.{is_taken, Watches}
 use Rattle.run_laws.proofs.Drawn.{taken_is, watches_on}

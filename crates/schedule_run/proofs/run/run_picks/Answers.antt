@@ -1,9 +1,9 @@
 use Rattle.std.proofs.Common.{◌≡◌, true, map, length, reverse, sym, subst, ap, ◌∙◌}
 use Rattle.std.specs.List.{range_with_len}
 use Rattle.world_model.specs.Report.{report_of}
-use Rattle.schedule_model.specs.Follows.{follows}
-use Rattle.schedule_model.specs.Laws.{AllGiveUp}
-use Rattle.schedule_model.specs.Picks.{run_within}
+use Rattle.trace_walk.specs.Follows.{follows}
+use Rattle.trace_walk.specs.Laws.{AllGiveUp}
+use Rattle.trace_walk.specs.Picks.{run_within}
 use Rattle.trace_model.specs.Run as traces
 use Rattle.trace_model.specs.Explained.{is_explained, past}
 use Rattle.schedule_run.proofs.Overs.{said_limits, said_explained, said_events, said_follows, said_give_up, said_report}

@@ -1,5 +1,5 @@
 use Rattle.std.proofs.Common.{[]}
-use Rattle.schedule_model.specs.Picks.{picked}
+use Rattle.trace_walk.specs.Picks.{picked}
 use Rattle.schedule_run.proofs.runner.played.Goals as goal
 
 pub rounds-requires : goal.rounds-requires

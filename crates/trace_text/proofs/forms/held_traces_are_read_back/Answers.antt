@@ -1,7 +1,7 @@
 use Rattle.std.proofs.Common.{◌≡◌, ◌≤◌, true, Ok, Some, length, slice_get, subst, arith}
 use Rattle.phase_modes.specs.declared.limits.Limits.{Limits}
 use Rattle.phase_modes.specs.Limits.{limits_fit}
-use Rattle.text_words.specs.Reading.{reading}
+use Rattle.job_script.specs.Reading.{reading}
 use Rattle.trace_model.specs.declared.event.TracedEvent.{TracedEvent}
 use Rattle.trace_model.specs.Run.{Entry}
 use Rattle.trace_model.specs.Views.{viewed}

@@ -1,7 +1,7 @@
 use Rattle.std.proofs.Common.{refl, sym, ap, ◌∙◌}
 use Rattle.serde_json.specs.View.{view}
 use Rattle.trace_text.specs.Form.{entry_in, with_limits}
-use Rattle.text_words.proofs.Loops.{numbered_goes_on, numbered_stops, numbered_is_done}
+use Rattle.job_script.proofs.Loops.{numbered_goes_on, numbered_stops, numbered_is_done}
 use Rattle.trace_text.proofs.reading.trace_of.Goals as goal
 
 pub returns-in-None : goal.returns-in-None

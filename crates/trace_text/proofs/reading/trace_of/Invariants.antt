@@ -1,8 +1,8 @@
 use Rattle.std.proofs.Common.{◌≡◌, ◌+◌, drop}
 use Rattle.serde_json.specs.View.{items_view}
-use Rattle.text_words.specs.Words.{numbered_in}
+use Rattle.job_script.specs.Words.{numbered_in}
 use Rattle.trace_text.specs.Form.{entry_in}
-use Rattle.text_words.proofs.Loops.{front_then}
+use Rattle.job_script.proofs.Loops.{front_then}
 use Rattle.trace_text.proofs.reading.trace_of.Given as goal
 
 abbrev pub invariant-loop-index : goal.invariant-loop-index

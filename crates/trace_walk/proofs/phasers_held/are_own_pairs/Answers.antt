@@ -4,7 +4,7 @@ use Rattle.std.proofs.lemmas.Bool.{cases_eq, eq-eqb, eqb-true, false_from_ne_tru
 use Rattle.std.proofs.lemmas.List.{at_drop_more, at_drop_all, length-take-le}
 use Rattle.phase_modes.specs.declared.reg.Mode.TheVariants.{Wait}
 use Rattle.phase_modes.specs.declared.phased.Pair.{Pair}
-use Rattle.schedule_model.specs.Follows.{same_pairs}
+use Rattle.trace_walk.specs.Follows.{same_pairs}
 use Rattle.trace_model.specs.Explained.{event_of, past}
 use Rattle.trace_model.specs.Run.{Entry}
 use Rattle.trace_model.specs.Views.{viewed}

@@ -1,7 +1,7 @@
 use Rattle.std.proofs.Common.{◌≡◌, ◌≤◌, drop, length, take}
 use Rattle.std.specs.List.{filter_map}
 use Rattle.world_model.specs.Drawing.{own_pairs}
-use Rattle.schedule_model.specs.Follows.{same_pairs}
+use Rattle.trace_walk.specs.Follows.{same_pairs}
 use Rattle.trace_model.specs.Explained.{past}
 use Rattle.trace_walk.specs.History.{history}
 use Rattle.trace_walk.specs.inner.Holding.{pair_by}

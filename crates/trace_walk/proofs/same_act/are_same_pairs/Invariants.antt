@@ -1,5 +1,5 @@
 use Rattle.std.proofs.Common.{◌≡◌, drop, length}
-use Rattle.schedule_model.specs.Follows.{same_pairs}
+use Rattle.trace_walk.specs.Follows.{same_pairs}
 use Rattle.trace_walk.proofs.same_act.are_same_pairs.Given as goal
 
 abbrev pub invariant-loop-i : goal.invariant-loop-i

@@ -1,6 +1,6 @@
 use Rattle.std.proofs.Common.{◌≡◌, ℕ, Some, sym, ◌∙◌}
 use Rattle.std.proofs.lemmas.Result.{IfOk-weaker}
-use Rattle.schedule_model.specs.Scripts.{parent_by}
+use Rattle.trace_walk.specs.Scripts.{parent_by}
 use Rattle.trace_model.specs.Explained.{event_of}
 use Rattle.trace_model.specs.Views.{viewed}
 use Rattle.trace_walk.specs.inner.Seats.{seat_of, child_named, body_handed, seat_given, IsSeated}

@@ -1,5 +1,5 @@
 use Rattle.std.proofs.Common.{◌≡◌, List, Option, None, take, reverse, sym, ap, ◌∙◌}
-use Rattle.schedule_model.specs.Scripts.{Made, act_of}
+use Rattle.trace_walk.specs.Scripts.{Made, act_of}
 use Rattle.trace_model.specs.Explained.{event_of}
 use Rattle.trace_model.specs.Run.{Entry}
 use Rattle.trace_model.specs.Views.{viewed}

@@ -1,6 +1,6 @@
 use Rattle.std.proofs.Common.{◌≡◌, true, List, Option, take, reverse, sym, ap, subst, ◌∙◌}
 use Rattle.job_script.specs.declared.act.Answer.{Answer}
-use Rattle.schedule_model.specs.Scripts.{Made, act_of, is_of}
+use Rattle.trace_walk.specs.Scripts.{Made, act_of, is_of}
 use Rattle.trace_model.specs.Explained.{event_of}
 use Rattle.trace_model.specs.Run.{Entry}
 use Rattle.trace_model.specs.Views.{viewed}

@@ -1,6 +1,6 @@
 -- One finish more.
 use Rattle.std.proofs.Common.{◌∙◌, ◌<◌, length, arith}
-use Rattle.world_steps.proofs.Listed.{opened_more}
+use Rattle.world_records.proofs.Listed.{opened_more}
 use Rattle.world_core.proofs.report_rows.finish_rows.Goals as goal
 
 pub loop-number-preserved : goal.loop-number-preserved

@@ -1,9 +1,9 @@
 -- One phaser more.
 use Rattle.std.proofs.Common.{◌≡◌, ◌+◌, ◌*◌, ◌<◌, length, map, subst, ap, ◌∙◌, arith}
-use Rattle.report_lines.specs.Lines.{IsWithin}
-use Rattle.world_steps.specs.inner.Reports.{story_in, made}
+use Rattle.world_model.specs.SumLines.{IsWithin}
+use Rattle.world_records.specs.inner.Reports.{story_in, made}
 use Rattle.world_model.specs.Report.{totals_line}
-use Rattle.world_steps.proofs.Listed.{made_more, totals_more_made}
+use Rattle.world_records.proofs.Listed.{made_more, totals_more_made}
 use Rattle.world_core.proofs.report_rows.phaser_rows.Goals as goal
 
 pub loop-number-preserved : goal.loop-number-preserved

@@ -2,8 +2,8 @@
 use Rattle.std.proofs.Common.{◌≡◌, ◌*◌, ◌≤◌, map}
 use Rattle.std.specs.Prelude.{vec_len, vec_capacity}
 use Rattle.world_model.specs.Report.{totals_line}
-use Rattle.report_lines.specs.Lines.{lines_of, IsWithin}
-use Rattle.world_steps.specs.inner.Reports.{story_in, made}
+use Rattle.world_model.specs.SumLines.{lines_of, IsWithin}
+use Rattle.world_records.specs.inner.Reports.{story_in, made}
 use Rattle.world_core.proofs.report_rows.phaser_rows.Given as goal
 
 abbrev pub invariant-loop-number : goal.invariant-loop-number

@@ -1,7 +1,7 @@
 -- The numbers that were come to are listed, and there is room for the rest.
 use Rattle.std.proofs.Common.{◌≡◌, ◌≤◌, map}
 use Rattle.std.specs.Prelude.{vec_len, vec_capacity}
-use Rattle.world_steps.specs.inner.Reports.{born, task_row}
+use Rattle.world_records.specs.inner.Reports.{born, task_row}
 use Rattle.world_core.proofs.report_rows.task_rows.Given as goal
 
 abbrev pub invariant-loop-number : goal.invariant-loop-number

@@ -1,7 +1,7 @@
 -- As many as were counted stand there, and there is room for the rest.
 use Rattle.std.proofs.Common.{◌≡◌, ◌≤◌, replicate}
 use Rattle.std.specs.Prelude.{vec_capacity}
-use Rattle.world_steps.specs.Kept.{blank_task}
+use Rattle.world_records.specs.Kept.{blank_task}
 use Rattle.world_core.proofs.tables.blank_tasks.Given as goal
 
 abbrev pub invariant-loop : goal.invariant-loop

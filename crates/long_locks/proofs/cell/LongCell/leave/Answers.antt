@@ -2,10 +2,10 @@ use Rattle.std.proofs.Common.{is_some, ◌||◌, sym, ◌∙◌}
 use Rattle.std.proofs.lemmas.Bool.{false≢true}
 use Rattle.phase_model.specs.declared.call.Call.TheVariants.{Drop as drop_task}
 use Rattle.phase_model.specs.Waiting.{would_wait}
-use Rattle.parked_tasks.specs.Firsts.{is_phase_open}
-use Rattle.parked_tasks.proofs.Freeing.{neither_leaves, drop_frees_nobody}
-use Rattle.parked_tasks.proofs.Parks.{all_waiting, once_waiting}
-use Rattle.parked_tasks.proofs.Steps.{none_where_refused, settled}
+use Rattle.phaser_core.specs.Firsts.{is_phase_open}
+use Rattle.phaser_core.proofs.Freeing.{neither_leaves, drop_frees_nobody}
+use Rattle.phaser_core.proofs.Parks.{all_waiting, once_waiting}
+use Rattle.phaser_core.proofs.Steps.{none_where_refused, settled}
 use Rattle.long_locks.proofs.cell.LongCell.leave.Goals as goal
 
 pub release_if-requires-clause-nobody : goal.release_if-requires-clause-nobody

@@ -1,7 +1,7 @@
 use Rattle.std.proofs.Common.{ap}
 use Rattle.phase_modes.specs.Limits.{is_between}
 use Rattle.phase_model.specs.Rules.{Story}
-use Rattle.parked_tasks.proofs.Steps.{fresh_is_settled}
+use Rattle.phaser_core.proofs.Steps.{fresh_is_settled}
 use Rattle.long_locks.proofs.cell.LongCell.new.Goals as goal
 
 pub invariant_of-result-clause-kept : goal.invariant_of-result-clause-kept

@@ -1,15 +1,15 @@
 use Rattle.std.proofs.Common.{ℕ, ◌<◌, ◌&&◌, not, length, List, Result, ap, sym, ◌∙◌, arith}
 use Rattle.phase_modes.specs.declared.refusal.Refusal.{Refusal}
 use Rattle.phase_model.specs.declared.call.Call.TheVariants.{Pass as pass}
-use Rattle.phaser_answers.specs.declared.answer.Passing.{Passing}
-use Rattle.parked_tasks.specs.declared.parked.Parked.{Parked}
-use Rattle.parked_tasks.specs.declared.parked.ParkedCall.TheVariants.{Pass as ToPass}
-use Rattle.parked_tasks.specs.Parking.{is_parked, locked_pass, parking, has_to_wait, answered, answered_is}
-use Rattle.parked_tasks.specs.Firsts.{is_first_held, has_gone_on}
-use Rattle.parked_tasks.proofs.Freeing.{pass_frees_no_signaller}
-use Rattle.parked_tasks.proofs.Parks.{all_waiting, once_waiting}
-use Rattle.parked_tasks.proofs.Passing.{pass_waits, kept_where_same, place_where_same, parking_same, pass_same, parking_waits, parking_once}
-use Rattle.parked_tasks.proofs.Steps.{none_where_unchanged, settled, pass_leaves}
+use Rattle.phase_model.specs.declared.answer.Passing.{Passing}
+use Rattle.phaser_core.specs.declared.parked.Parked.{Parked}
+use Rattle.phaser_core.specs.declared.parked.ParkedCall.TheVariants.{Pass as ToPass}
+use Rattle.phaser_core.specs.Parking.{is_parked, locked_pass, parking, has_to_wait, answered, answered_is}
+use Rattle.phaser_core.specs.Firsts.{is_first_held, has_gone_on}
+use Rattle.phaser_core.proofs.Freeing.{pass_frees_no_signaller}
+use Rattle.phaser_core.proofs.Parks.{all_waiting, once_waiting}
+use Rattle.phaser_core.proofs.PassParks.{pass_waits, kept_where_same, place_where_same, parking_same, pass_same, parking_waits, parking_once}
+use Rattle.phaser_core.proofs.Steps.{none_where_unchanged, settled, pass_leaves}
 use Rattle.long_locks.proofs.cell.LongCell.pass.Goals as goal
 
 pub release_if-requires-clause-nobody : goal.release_if-requires-clause-nobody

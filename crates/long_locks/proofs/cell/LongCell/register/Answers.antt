@@ -1,6 +1,6 @@
 use Rattle.std.proofs.Common.{refl}
 use Rattle.phase_model.specs.declared.call.Call.TheVariants.{Register as register}
-use Rattle.parked_tasks.proofs.Steps.{settled_quiet}
+use Rattle.phaser_core.proofs.Steps.{settled_quiet}
 use Rattle.long_locks.proofs.cell.LongCell.register.Goals as goal
 
 pub invariant_of-self : goal.invariant_of-self

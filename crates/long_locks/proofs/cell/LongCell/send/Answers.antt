@@ -1,7 +1,7 @@
 use Rattle.std.proofs.Common.{w32, refl}
 use Rattle.std.proofs.lemmas.Int.{to_z-of_z}
 use Rattle.phase_model.specs.declared.call.Call.TheVariants.{Send as send}
-use Rattle.parked_tasks.proofs.Steps.{settled_quiet}
+use Rattle.phaser_core.proofs.Steps.{settled_quiet}
 use Rattle.long_locks.proofs.cell.LongCell.send.Goals as goal
 
 pub invariant_of-self : goal.invariant_of-self

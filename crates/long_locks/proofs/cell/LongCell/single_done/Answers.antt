@@ -1,9 +1,9 @@
 use Rattle.std.proofs.Common.{ap, sym, ◌∙◌}
 use Rattle.std.specs.Result.{is_ok}
 use Rattle.phase_model.specs.declared.call.Call.TheVariants.{SingleDone as single_done}
-use Rattle.parked_tasks.proofs.Freeing.{refused_frees_nobody}
-use Rattle.parked_tasks.proofs.Parks.{all_waiting, once_waiting}
-use Rattle.parked_tasks.proofs.Steps.{none_where_refused, settled}
+use Rattle.phaser_core.proofs.Freeing.{refused_frees_nobody}
+use Rattle.phaser_core.proofs.Parks.{all_waiting, once_waiting}
+use Rattle.phaser_core.proofs.Steps.{none_where_refused, settled}
 use Rattle.long_locks.proofs.cell.LongCell.single_done.Goals as goal
 
 pub release_if-requires-clause-nobody : goal.release_if-requires-clause-nobody

@@ -1,7 +1,7 @@
 use Rattle.std.proofs.Common.{map}
 use Rattle.world_model.proofs.PhasersFolded.{legal_is_folded}
 use Rattle.told_history.specs.Wide.{event_of}
-use Rattle.long_phaser.specs.Numbered.{long_limits}
+use Rattle.phaser_core.specs.LongLife.{long_limits}
 use Rattle.long_locks.proofs.front.Front.is_legal.Goals as goal
 
 pub returns-clause-folded : goal.returns-clause-folded

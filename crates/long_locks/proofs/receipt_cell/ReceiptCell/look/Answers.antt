@@ -1,7 +1,7 @@
 use Rattle.std.proofs.Common.{◌≡◌, map, refl, ap, ◌∙◌}
 use Rattle.phase_model.specs.declared.call.Call.TheVariants.{Look as look}
 use Rattle.phase_model.specs.Replies.{reply}
-use Rattle.phaser_answers.specs.Answers.{look_result}
+use Rattle.phase_model.specs.Answers.{look_result}
 use Rattle.told_history.specs.Wide.{event_of}
 use Rattle.long_locks.specs.Events.{with_one}
 use Rattle.long_locks.proofs.Adds.{look_adds}

@@ -1,8 +1,8 @@
 use Rattle.std.proofs.Common.{map, refl, ap, sym, ◌∙◌}
 use Rattle.phase_model.specs.declared.call.Call.TheVariants.{Signal as signal}
 use Rattle.phase_model.specs.Replies.{reply}
-use Rattle.phaser_answers.specs.Answers.{signal_result}
-use Rattle.parked_tasks.specs.Parking.{is_parked, locked_signal, signal_answered_is}
+use Rattle.phase_model.specs.Answers.{signal_result}
+use Rattle.phaser_core.specs.Parking.{is_parked, locked_signal, signal_answered_is}
 use Rattle.told_history.specs.Wide.{event_of}
 use Rattle.long_locks.specs.Events.{with_one}
 use Rattle.long_locks.specs.Told.{IsSignalAnswer}

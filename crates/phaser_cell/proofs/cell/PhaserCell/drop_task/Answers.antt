@@ -3,10 +3,10 @@ use Rattle.std.specs.Result.{is_ok}
 use Rattle.std.proofs.lemmas.Bool.{false≢true}
 use Rattle.phase_model.specs.declared.call.Call.TheVariants.{Drop as drop_task}
 use Rattle.phase_model.specs.Waiting.{would_wait}
-use Rattle.parked_tasks.specs.Firsts.{is_phase_open}
-use Rattle.parked_tasks.proofs.Freeing.{neither_leaves, drop_frees_nobody}
-use Rattle.parked_tasks.proofs.Parks.{all_waiting, once_waiting}
-use Rattle.parked_tasks.proofs.Steps.{none_where_refused}
+use Rattle.phaser_core.specs.Firsts.{is_phase_open}
+use Rattle.phaser_core.proofs.Freeing.{neither_leaves, drop_frees_nobody}
+use Rattle.phaser_core.proofs.Parks.{all_waiting, once_waiting}
+use Rattle.phaser_core.proofs.Steps.{none_where_refused}
 use Rattle.phaser_cell.proofs.Written.{matches_result, kept, ticketed, ticket_fits, settled_of}
 use Rattle.phaser_cell.specs.Drawn.{IsDrawn}
 use Rattle.phaser_cell.proofs.cell.PhaserCell.drop_task.Goals as goal

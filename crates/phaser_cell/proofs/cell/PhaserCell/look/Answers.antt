@@ -1,7 +1,7 @@
 use Rattle.std.proofs.Common.{ap, refl, ◌∙◌, subst}
 use Rattle.std.specs.Result.{is_ok}
 use Rattle.phase_model.specs.declared.call.Call.TheVariants.{Look as look}
-use Rattle.parked_tasks.proofs.Steps.{stays_waiting}
+use Rattle.phaser_core.proofs.Steps.{stays_waiting}
 use Rattle.phaser_cell.proofs.Written.{matches_look, kept, ticketed, ticket_fits, settled_of}
 use Rattle.phaser_cell.specs.Drawn.{IsDrawn}
 use Rattle.phaser_cell.proofs.cell.PhaserCell.look.Goals as goal

@@ -2,15 +2,15 @@ use Rattle.std.proofs.Common.{◌<◌, ◌&&◌, not, length, List, Result, ap, 
 use Rattle.phase_modes.specs.declared.refusal.Refusal.{Refusal}
 use Rattle.phase_model.specs.declared.call.Call.TheVariants.{Pass as pass}
 use Rattle.phase_model.specs.declared.history.Event.TheVariants.{Pass}
-use Rattle.phaser_answers.specs.declared.answer.Passing.{Passing}
-use Rattle.parked_tasks.specs.declared.parked.Parked.{Parked}
-use Rattle.parked_tasks.specs.declared.parked.ParkedCall.TheVariants.{Pass as ToPass}
-use Rattle.parked_tasks.specs.Parking.{is_parked, locked_pass, parking, has_to_wait, answered, answered_is}
-use Rattle.parked_tasks.specs.Firsts.{is_first_held, has_gone_on}
-use Rattle.parked_tasks.proofs.Freeing.{pass_frees_no_signaller}
-use Rattle.parked_tasks.proofs.Parks.{all_waiting, once_waiting}
-use Rattle.parked_tasks.proofs.Passing.{pass_waits, kept_where_same, place_where_same, parking_same, pass_same, parking_waits, parking_once}
-use Rattle.parked_tasks.proofs.Steps.{none_where_unchanged}
+use Rattle.phase_model.specs.declared.answer.Passing.{Passing}
+use Rattle.phaser_core.specs.declared.parked.Parked.{Parked}
+use Rattle.phaser_core.specs.declared.parked.ParkedCall.TheVariants.{Pass as ToPass}
+use Rattle.phaser_core.specs.Parking.{is_parked, locked_pass, parking, has_to_wait, answered, answered_is}
+use Rattle.phaser_core.specs.Firsts.{is_first_held, has_gone_on}
+use Rattle.phaser_core.proofs.Freeing.{pass_frees_no_signaller}
+use Rattle.phaser_core.proofs.Parks.{all_waiting, once_waiting}
+use Rattle.phaser_core.proofs.PassParks.{pass_waits, kept_where_same, place_where_same, parking_same, pass_same, parking_waits, parking_once}
+use Rattle.phaser_core.proofs.Steps.{none_where_unchanged}
 use Rattle.phaser_cell.proofs.Written.{matches_pass, unadded, kept, ticketed, ticket_fits, settled_of}
 use Rattle.phaser_cell.specs.Drawn.{IsDrawn}
 use Rattle.phaser_cell.proofs.cell.PhaserCell.pass.Goals as goal

@@ -2,7 +2,7 @@ use Rattle.std.proofs.Common.{w32, ap, refl, ◌∙◌, subst}
 use Rattle.std.proofs.lemmas.Int.{to_z-of_z}
 use Rattle.std.specs.Result.{is_ok}
 use Rattle.phase_model.specs.declared.call.Call.TheVariants.{Send as send}
-use Rattle.parked_tasks.proofs.Steps.{stays_waiting}
+use Rattle.phaser_core.proofs.Steps.{stays_waiting}
 use Rattle.phaser_cell.proofs.Written.{matches_result, kept, ticketed, ticket_fits, settled_of}
 use Rattle.phaser_cell.specs.Drawn.{IsDrawn}
 use Rattle.phaser_cell.proofs.cell.PhaserCell.send.Goals as goal

@@ -3,15 +3,15 @@ use Rattle.std.proofs.lemmas.Bool.{false≢true}
 use Rattle.phase_modes.specs.declared.refusal.Refusal.{Refusal}
 use Rattle.phase_model.specs.declared.call.Call.TheVariants.{Signal as signal}
 use Rattle.phase_model.specs.declared.history.Event.TheVariants.{Sig}
-use Rattle.phaser_answers.specs.declared.answer.Signalling.{Signalling}
-use Rattle.parked_tasks.specs.declared.parked.Parked.{Parked}
-use Rattle.parked_tasks.specs.declared.parked.ParkedCall.TheVariants.{Signal as ToSignal}
-use Rattle.parked_tasks.specs.Parking.{is_parked, locked_signal, parking, is_held, signal_answered, signal_answered_is}
-use Rattle.parked_tasks.specs.Firsts.{is_phase_open, is_made}
-use Rattle.parked_tasks.proofs.Freeing.{neither_leaves, signal_frees_nobody}
-use Rattle.parked_tasks.proofs.Parks.{all_waiting, once_waiting}
-use Rattle.parked_tasks.proofs.Passing.{signal_waits, kept_where_same, place_where_same, parking_same, signal_same, parking_waits, parking_once}
-use Rattle.parked_tasks.proofs.Steps.{none_where_unchanged}
+use Rattle.phase_model.specs.declared.answer.Signalling.{Signalling}
+use Rattle.phaser_core.specs.declared.parked.Parked.{Parked}
+use Rattle.phaser_core.specs.declared.parked.ParkedCall.TheVariants.{Signal as ToSignal}
+use Rattle.phaser_core.specs.Parking.{is_parked, locked_signal, parking, is_held, signal_answered, signal_answered_is}
+use Rattle.phaser_core.specs.Firsts.{is_phase_open, is_made}
+use Rattle.phaser_core.proofs.Freeing.{neither_leaves, signal_frees_nobody}
+use Rattle.phaser_core.proofs.Parks.{all_waiting, once_waiting}
+use Rattle.phaser_core.proofs.PassParks.{signal_waits, kept_where_same, place_where_same, parking_same, signal_same, parking_waits, parking_once}
+use Rattle.phaser_core.proofs.Steps.{none_where_unchanged}
 use Rattle.phaser_cell.proofs.Written.{matches_signal, unadded, kept, ticketed, ticket_fits, settled_of}
 use Rattle.phaser_cell.specs.Drawn.{IsDrawn}
 use Rattle.phaser_cell.proofs.cell.PhaserCell.signal.Goals as goal

@@ -1,9 +1,9 @@
 use Rattle.std.proofs.Common.{◌≡◌, false, ap, sym, ◌∙◌, subst}
 use Rattle.std.specs.Result.{is_ok}
 use Rattle.phase_model.specs.declared.call.Call.TheVariants.{SingleDone as single_done}
-use Rattle.parked_tasks.proofs.Freeing.{refused_frees_nobody}
-use Rattle.parked_tasks.proofs.Parks.{all_waiting, once_waiting}
-use Rattle.parked_tasks.proofs.Steps.{none_where_refused}
+use Rattle.phaser_core.proofs.Freeing.{refused_frees_nobody}
+use Rattle.phaser_core.proofs.Parks.{all_waiting, once_waiting}
+use Rattle.phaser_core.proofs.Steps.{none_where_refused}
 use Rattle.phaser_cell.proofs.Written.{matches_result, kept, ticketed, ticket_fits, settled_of}
 use Rattle.phaser_cell.specs.Drawn.{IsDrawn}
 use Rattle.phaser_cell.proofs.cell.PhaserCell.single_done.Goals as goal

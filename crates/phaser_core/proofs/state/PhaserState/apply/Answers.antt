@@ -1,7 +1,7 @@
 -- Each call's reply, by the clause of the method that makes it.
 use Rattle.std.proofs.Common.{refl, ap, ◌∙◌}
-use Rattle.phaser_answers.specs.Outcomes.{done_reply, signal_reply, pass_reply, look_reply}
-use Rattle.phaser_answers.proofs.Applied.{done_returned, signal_returned, pass_returned, look_returned}
+use Rattle.phase_model.specs.Outcomes.{done_reply, signal_reply, pass_reply, look_reply}
+use Rattle.phase_model.proofs.Applied.{done_returned, signal_returned, pass_returned, look_returned}
 use Rattle.phaser_core.proofs.state.PhaserState.apply.Goals as goal
 
 pub returns-in-Register-clause-reply : goal.returns-in-Register-clause-reply

@@ -2,7 +2,7 @@
 use Rattle.std.proofs.Common.{◌≡◌, ◌≤◌, Option, Some, None, refl, ap, subst, ℕ, arith}
 use Rattle.phase_modes.specs.declared.reg.Reg.{Reg}
 use Rattle.phaser_engine.specs.Phaser.{Working}
-use Rattle.phaser_answers.specs.Registration.{registration}
+use Rattle.phase_model.specs.Registration.{registration}
 use Rattle.phaser_engine.proofs.Reading.{not_live, found_in, found_reg, found_phase}
 use Rattle.phase_model.proofs.LiveTasks.{waits_within}
 use Rattle.phaser_engine.proofs.Rooms.{past_within}

@@ -4,7 +4,7 @@ use Rattle.phase_modes.specs.declared.refusal.Refusal.{Refusal}
 use Rattle.std.specs.Prelude.{Result}
 use Rattle.world_model.specs.declared.reply.Reply.{Reply}
 use Rattle.world_model.specs.Replies.{is_made}
-use Rattle.world_steps.specs.StandsFor.{IsStep}
+use Rattle.world_records.specs.StandsFor.{IsStep}
 use Rattle.schedule_run.proofs.Entries.{made_unless, record_more}
 use Rattle.schedule_run.proofs.record.Record.make.Goals as goal
 use Rattle.schedule_run.proofs.record.Record.make.Goals.{in-NotYet, in_default}

@@ -3,7 +3,7 @@ use Rattle.std.proofs.lemmas.Result.{IfOk-weaker}
 use Rattle.job_script.specs.Program.{Program}
 use Rattle.world_model.specs.declared.event.WorldEvent.{WorldEvent}
 use Rattle.world_model.specs.Tasks.{is_ended}
-use Rattle.schedule_model.specs.Picks.{pick}
+use Rattle.trace_walk.specs.Picks.{pick}
 use Rattle.schedule_run.specs.inner.Ended.{HaveEnded}
 use Rattle.schedule_run.specs.inner.Running.{RoundStands, RunStands}
 use Rattle.schedule_run.proofs.PassedOver.{ended_unmoved, ended_later}

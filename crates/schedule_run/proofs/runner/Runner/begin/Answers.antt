@@ -3,8 +3,8 @@ use Rattle.world_model.specs.declared.event.WorldEvent.{WorldEvent}
 use Rattle.world_model.specs.declared.event.Tried.{Tried}
 use Rattle.world_model.specs.Actors.{actor}
 use Rattle.world_model.specs.Replies.{after, reply, is_accepted}
-use Rattle.schedule_model.specs.Picks.{unused, event_of}
-use Rattle.schedule_model.specs.Scripts.{tried}
+use Rattle.trace_walk.specs.Picks.{unused, event_of}
+use Rattle.trace_walk.specs.Scripts.{tried}
 use Rattle.trace_walk.specs.Given.{numbers_view}
 use Rattle.schedule_run.specs.declared.record.Outcome.TheVariants.{Made, Waits, Refused}
 use Rattle.schedule_run.specs.inner.Bodies.{BodiesStand}

@@ -1,7 +1,7 @@
 use Rattle.std.proofs.Common.{◌≡◌, true, [], subst}
 use Rattle.phase_modes.specs.declared.limits.Limits.{Limits}
 use Rattle.phase_modes.specs.Limits.{limits_fit}
-use Rattle.schedule_model.proofs.Rounds.{gapless_first}
+use Rattle.trace_walk.proofs.Rounds.{gapless_first}
 use Rattle.schedule_run.specs.inner.Records.{Records}
 use Rattle.schedule_run.proofs.runner.Runner.new.Goals as goal
 

@@ -1,7 +1,7 @@
 use Rattle.std.proofs.Common.{◌≡◌, List, drop}
 use Rattle.job_script.specs.Program.{Program}
 use Rattle.world_model.specs.declared.event.WorldEvent.{WorldEvent}
-use Rattle.schedule_model.specs.Picks.{picked}
+use Rattle.trace_walk.specs.Picks.{picked}
 use Rattle.schedule_run.specs.inner.Running.{RunStands}
 use Rattle.schedule_run.proofs.runner.Runner.picks.Given as goal
 

@@ -2,7 +2,7 @@ use Rattle.std.proofs.Common.{ℕ, suc, ◌+◌, ◌-◌, ◌≡◌, false, List
 use Rattle.phase_modes.specs.declared.limits.Limits.{Limits}
 use Rattle.world_model.specs.declared.event.WorldEvent.{WorldEvent}
 use Rattle.world_model.specs.Numbers.{is_named}
-use Rattle.schedule_model.specs.Picks.{pick, round_from}
+use Rattle.trace_walk.specs.Picks.{pick, round_from}
 use Rattle.schedule_run.specs.inner.Running.{RoundStands, RunStands}
 use Rattle.schedule_run.proofs.Counting.{round_ends, round_step}
 use Rattle.schedule_run.proofs.Noted.{waits_unmoved}

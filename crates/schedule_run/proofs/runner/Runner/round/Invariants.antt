@@ -1,7 +1,7 @@
 use Rattle.std.proofs.Common.{ℕ, ◌+◌, ◌≤◌, ◌≡◌, List}
 use Rattle.job_script.specs.Program.{Program}
 use Rattle.world_model.specs.declared.event.WorldEvent.{WorldEvent}
-use Rattle.schedule_model.specs.Picks.{round_from}
+use Rattle.trace_walk.specs.Picks.{round_from}
 use Rattle.schedule_run.specs.inner.Ended.{HaveEnded}
 use Rattle.schedule_run.specs.inner.Running.{RoundStands, RunStands}
 use Rattle.schedule_run.proofs.runner.Runner.round.Given as goal

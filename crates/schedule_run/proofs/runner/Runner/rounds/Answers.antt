@@ -2,7 +2,7 @@ use Rattle.std.proofs.Common.{ℕ, suc, ◌+◌, ◌≡◌, true, false, List, s
 use Rattle.job_script.specs.Program.{Program}
 use Rattle.world_model.specs.declared.event.WorldEvent.{WorldEvent}
 use Rattle.world_model.specs.Tasks.{is_ended}
-use Rattle.schedule_model.specs.Picks.{round_from, rounds}
+use Rattle.trace_walk.specs.Picks.{round_from, rounds}
 use Rattle.schedule_run.specs.inner.Running.{RunStands}
 use Rattle.schedule_run.proofs.Counting.{one_round, round_grows, as_long}
 use Rattle.schedule_run.proofs.runner.Runner.rounds.Goals as goal

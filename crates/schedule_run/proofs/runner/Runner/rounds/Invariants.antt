@@ -1,7 +1,7 @@
 use Rattle.std.proofs.Common.{ℕ, ◌+◌, ◌≤◌, ◌≡◌, List, length}
 use Rattle.job_script.specs.Program.{Program}
 use Rattle.world_model.specs.declared.event.WorldEvent.{WorldEvent}
-use Rattle.schedule_model.specs.Picks.{rounds}
+use Rattle.trace_walk.specs.Picks.{rounds}
 use Rattle.schedule_run.specs.inner.Running.{RoundStands, RunStands}
 use Rattle.schedule_run.proofs.runner.Runner.rounds.Given as goal
 

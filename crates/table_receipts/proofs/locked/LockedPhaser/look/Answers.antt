@@ -1,7 +1,7 @@
 use Rattle.std.proofs.Common.{◌≡◌, ap, ◌∙◌}
 use Rattle.phase_model.specs.declared.call.Call.TheVariants.{Look as look}
 use Rattle.phase_model.specs.Replies.{reply}
-use Rattle.phaser_answers.specs.Answers.{look_result}
+use Rattle.phase_model.specs.Answers.{look_result}
 use Rattle.table_receipts.proofs.Kept.{follows, receipt}
 use Rattle.table_receipts.proofs.Looks.{look_shows}
 use Rattle.table_receipts.specs.Logs.{Sight}

@@ -2,7 +2,7 @@ use Rattle.std.proofs.Common.{ap, ◌∙◌}
 use Rattle.phase_model.specs.declared.call.Call.TheVariants.{Make as make}
 use Rattle.phase_model.specs.Replies.{reply}
 use Rattle.phase_model.specs.Rules.{Story}
-use Rattle.phaser_answers.specs.Answers.{made_with}
+use Rattle.phase_model.specs.Answers.{made_with}
 use Rattle.table_receipts.proofs.Kept.{made_follows, made_receipt}
 use Rattle.table_receipts.specs.Logs.{Sight}
 use Rattle.table_receipts.proofs.locked.LockedPhaser.make.Goals as goal

@@ -1,8 +1,8 @@
 use Rattle.std.proofs.Common.{ap, sym, ◌∙◌}
 use Rattle.phase_model.specs.declared.call.Call.TheVariants.{Pass as pass}
 use Rattle.phase_model.specs.Replies.{reply}
-use Rattle.phaser_answers.specs.Answers.{pass_result}
-use Rattle.parked_tasks.specs.Parking.{is_parked, locked_pass, answered_is}
+use Rattle.phase_model.specs.Answers.{pass_result}
+use Rattle.phaser_core.specs.Parking.{is_parked, locked_pass, answered_is}
 use Rattle.long_locks.specs.Told.{IsPassAnswer}
 use Rattle.table_receipts.proofs.Closes.{pass_closes}
 use Rattle.table_receipts.proofs.Kept.{follows, receipt}

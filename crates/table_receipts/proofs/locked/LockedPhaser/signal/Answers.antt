@@ -1,8 +1,8 @@
 use Rattle.std.proofs.Common.{ap, sym, ◌∙◌}
 use Rattle.phase_model.specs.declared.call.Call.TheVariants.{Signal as signal}
 use Rattle.phase_model.specs.Replies.{reply}
-use Rattle.phaser_answers.specs.Answers.{signal_result}
-use Rattle.parked_tasks.specs.Parking.{is_parked, locked_signal, signal_answered_is}
+use Rattle.phase_model.specs.Answers.{signal_result}
+use Rattle.phaser_core.specs.Parking.{is_parked, locked_signal, signal_answered_is}
 use Rattle.long_locks.specs.Told.{IsSignalAnswer}
 use Rattle.table_receipts.proofs.Kept.{follows, receipt}
 use Rattle.table_receipts.specs.Logs.{Sight}

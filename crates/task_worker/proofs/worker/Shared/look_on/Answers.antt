@@ -3,7 +3,7 @@ use Rattle.phase_model.specs.declared.call.Call.TheVariants as calls
 use Rattle.phase_model.specs.declared.history.Event.TheVariants as events
 use Rattle.phase_model.specs.declared.op.Look.TheVariants.{Nothing}
 use Rattle.phase_model.specs.Rules.{Story}
-use Rattle.phaser_answers.specs.Answers.{look_result}
+use Rattle.phase_model.specs.Answers.{look_result}
 use Rattle.long_locks.specs.Told.{HasLooked}
 use Rattle.table_receipts.specs.Logs.{GoesOn}
 use Rattle.table_receipts.specs.Seen.{story_at}

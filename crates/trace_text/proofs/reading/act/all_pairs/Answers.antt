@@ -1,8 +1,8 @@
 use Rattle.std.proofs.Common.{◌∷◌, [], sym, ap, ◌∙◌, arith, length-append}
 use Rattle.serde_json.specs.View.{view}
-use Rattle.text_words.specs.Words.{at_most}
+use Rattle.job_script.specs.Words.{at_most}
 use Rattle.trace_text.specs.Form.{pair_in}
-use Rattle.text_words.proofs.Loops.{goes_on, stops, overflows, is_done}
+use Rattle.job_script.proofs.Loops.{goes_on, stops, overflows, is_done}
 use Rattle.trace_text.proofs.reading.act.all_pairs.Goals as goal
 
 pub returns-in-None : goal.returns-in-None

@@ -1,8 +1,8 @@
 use Rattle.std.proofs.Common.{◌≡◌, ◌≤◌, drop, length}
 use Rattle.serde_json.specs.View.{items_view}
-use Rattle.text_words.specs.Words.{all_in}
+use Rattle.job_script.specs.Words.{all_in}
 use Rattle.trace_text.specs.Form.{pair_in}
-use Rattle.text_words.proofs.Loops.{front_with}
+use Rattle.job_script.proofs.Loops.{front_with}
 use Rattle.trace_text.proofs.reading.act.all_pairs.Given as goal
 
 abbrev pub invariant-loop-item : goal.invariant-loop-item

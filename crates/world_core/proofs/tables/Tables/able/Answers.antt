@@ -1,4 +1,4 @@
-use Rattle.world_steps.proofs.AbleRead.{able_is}
+use Rattle.world_records.proofs.AbleRead.{able_is}
 use Rattle.world_core.proofs.tables.Tables.able.Goals as goal
 
 pub returns : goal.returns

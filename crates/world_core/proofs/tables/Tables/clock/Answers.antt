@@ -1,4 +1,4 @@
-use Rattle.world_steps.proofs.ClockRead.{clock_is}
+use Rattle.world_records.proofs.ClockRead.{clock_is}
 use Rattle.world_core.proofs.tables.Tables.clock.Goals as goal
 
 pub returns : goal.returns

@@ -1,4 +1,4 @@
-use Rattle.world_steps.proofs.NextRead.{condition_is}
+use Rattle.world_records.proofs.NextRead.{condition_is}
 use Rattle.world_core.proofs.tables.Tables.condition.Goals as goal
 
 pub returns : goal.returns

@@ -3,10 +3,10 @@ use Rattle.std.proofs.Common.{List, map, ap, ◌∙◌}
 use Rattle.phase_model.specs.Rules.{Story}
 use Rattle.finish_core.specs.Finish.{FinishStory}
 use Rattle.world_model.specs.Report.{totals_line}
-use Rattle.report_lines.specs.Lines.{lines_of}
-use Rattle.world_steps.specs.TaskState.{TaskState}
-use Rattle.world_steps.specs.inner.Reports.{story_in, made, born, opened, task_row, finish_row}
-use Rattle.world_steps.proofs.Reported.{same_report}
+use Rattle.world_model.specs.SumLines.{lines_of}
+use Rattle.world_records.specs.TaskState.{TaskState}
+use Rattle.world_records.specs.inner.Reports.{story_in, made, born, opened, task_row, finish_row}
+use Rattle.world_records.proofs.Reported.{same_report}
 use Rattle.world_core.proofs.tables.Tables.kept_report.Goals as goal
 
 pub returns-clause-report : goal.returns-clause-report

@@ -1,5 +1,5 @@
 use Rattle.world_model.proofs.Handing.{pair_met, pair_unmet}
-use Rattle.world_steps.specs.inner.Facts.{facts}
+use Rattle.world_records.specs.inner.Facts.{facts}
 use Rattle.world_core.proofs.tables.Tables.may_hand_on.Goals as goal
 
 pub loop-i-preserved : goal.loop-i-preserved

@@ -3,7 +3,7 @@ use Rattle.std.proofs.Common.{◌≡◌, take, drop, []}
 use Rattle.phase_modes.specs.Refusal.{first_refusal}
 use Rattle.world_model.specs.ActConditions.{pair_conditions}
 use Rattle.world_model.proofs.Handing.{named_after}
-use Rattle.world_steps.specs.inner.Facts.{facts}
+use Rattle.world_records.specs.inner.Facts.{facts}
 use Rattle.world_core.proofs.tables.Tables.may_hand_on.Given as goal
 
 abbrev pub invariant-loop-i : goal.invariant-loop-i

@@ -1,8 +1,8 @@
 use Rattle.std.proofs.Common.{◌≡◌, rules}
 use Rattle.phase_modes.specs.Refusal.{first_refusal}
 use Rattle.world_model.specs.ActConditions.{free_unless}
-use Rattle.world_steps.specs.inner.Registering.{make_conditions}
-use Rattle.world_steps.proofs.MakeRefused.{refused_is}
+use Rattle.world_records.specs.inner.Registering.{make_conditions}
+use Rattle.world_records.proofs.MakeRefused.{refused_is}
 use Rattle.world_core.proofs.tables.Tables.may_make.Goals as goal
 
 pub returns-in_err-may_act-clause-refused : goal.returns-in_err-may_act-clause-refused

@@ -3,7 +3,7 @@ use Rattle.std.proofs.Common.{ap, rules, sym, w32, ◌≡◌, ◌∙◌}
 use mir.Val.{of_z, to_z}
 use Rattle.phase_model.specs.declared.call.Call.TheVariants.{Send, Look}
 use Rattle.world_model.specs.ActConditions.{free_unless}
-use Rattle.world_steps.specs.inner.Refusals.{act_refusal, call_refusal}
+use Rattle.world_records.specs.inner.Refusals.{act_refusal, call_refusal}
 use Rattle.world_core.proofs.tables.Tables.may_try.Goals as goal
 
 pub returns-in-Send : goal.returns-in-Send

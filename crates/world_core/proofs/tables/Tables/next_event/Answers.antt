@@ -1,4 +1,4 @@
-use Rattle.world_steps.proofs.NextRead.{next_is}
+use Rattle.world_records.proofs.NextRead.{next_is}
 use Rattle.world_core.proofs.tables.Tables.next_event.Goals as goal
 
 pub returns : goal.returns

@@ -1,4 +1,4 @@
-use Rattle.world_steps.proofs.Drawn.{pairs_are}
+use Rattle.world_records.proofs.Drawn.{pairs_are}
 use Rattle.world_core.proofs.tables.Tables.own_pairs.Goals as goal
 
 pub returns : goal.returns

@@ -1,6 +1,6 @@
 use Rattle.std.proofs.Common.{◌≡◌, set, ◌∙◌}
 use Rattle.world_core.specs.contracts.tables.Tables.{the_view}
-use Rattle.world_steps.proofs.PhasersKept.{register_kept, if_err, same_phasers}
+use Rattle.world_records.proofs.PhasersKept.{register_kept, if_err, same_phasers}
 use Rattle.world_core.proofs.tables.Tables.register_on.Goals as goal
 
 pub returns-in_err-register-clause-kept : goal.returns-in_err-register-clause-kept

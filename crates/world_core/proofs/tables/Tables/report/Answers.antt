@@ -1,7 +1,7 @@
 -- The tables' report is the history's.
 use Rattle.std.proofs.Common.{◌≡◌, IfOk, subst}
 use Rattle.world_model.specs.Report.{Report}
-use Rattle.world_steps.proofs.Reported.{report_is}
+use Rattle.world_records.proofs.Reported.{report_is}
 use Rattle.world_core.proofs.tables.Tables.report.Goals as goal
 
 pub returns-clause-report : goal.returns-clause-report

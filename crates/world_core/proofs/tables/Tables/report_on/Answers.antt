@@ -1,7 +1,7 @@
 use Rattle.std.proofs.Common.{◌≡◌, set, ◌∙◌}
 use Rattle.world_core.specs.contracts.tables.Tables.{the_view}
-use Rattle.world_steps.proofs.PhasersKept.{if_err, same_phasers}
-use Rattle.world_steps.proofs.Calls.{kept}
+use Rattle.world_records.proofs.PhasersKept.{if_err, same_phasers}
+use Rattle.world_records.proofs.Calls.{kept}
 use Rattle.world_core.proofs.tables.Tables.report_on.Goals as goal
 
 pub returns-in_err-single_done-clause-kept : goal.returns-in_err-single_done-clause-kept

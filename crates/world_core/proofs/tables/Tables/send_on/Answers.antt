@@ -1,6 +1,6 @@
 use Rattle.std.proofs.Common.{◌≡◌, set, ◌∙◌}
 use Rattle.world_core.specs.contracts.tables.Tables.{the_view}
-use Rattle.world_steps.proofs.PhasersKept.{send_kept, if_err, same_phasers}
+use Rattle.world_records.proofs.PhasersKept.{send_kept, if_err, same_phasers}
 use Rattle.world_core.proofs.tables.Tables.send_on.Goals as goal
 
 pub returns-in_err-send-clause-kept : goal.returns-in_err-send-clause-kept

@@ -1,7 +1,7 @@
 use Rattle.std.proofs.Common.{◌≡◌, set, ◌∙◌}
 use Rattle.world_core.specs.contracts.tables.Tables.{the_view}
-use Rattle.world_steps.proofs.PhasersKept.{if_err}
-use Rattle.world_steps.proofs.FinishCalls.{finish_kept, same_finishes}
+use Rattle.world_records.proofs.PhasersKept.{if_err}
+use Rattle.world_records.proofs.FinishCalls.{finish_kept, same_finishes}
 use Rattle.world_core.proofs.tables.Tables.shut_in.Goals as goal
 
 pub returns-in_err-shut-clause-kept : goal.returns-in_err-shut-clause-kept

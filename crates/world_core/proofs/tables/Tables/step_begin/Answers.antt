@@ -1,4 +1,4 @@
-use Rattle.world_steps.proofs.SpawnBegun.{begin_is_step}
+use Rattle.world_records.proofs.SpawnBegun.{begin_is_step}
 use Rattle.world_core.proofs.tables.Tables.step_begin.Goals as goal
 
 pub returns : goal.returns

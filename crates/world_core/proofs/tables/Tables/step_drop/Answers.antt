@@ -1,4 +1,4 @@
-use Rattle.world_steps.proofs.DropMade.{drop_is_step}
+use Rattle.world_records.proofs.DropMade.{drop_is_step}
 use Rattle.world_core.proofs.tables.Tables.step_drop.Goals as goal
 
 pub returns : goal.returns

@@ -1,4 +1,4 @@
-use Rattle.world_steps.proofs.EndMade.{end_is_step}
+use Rattle.world_records.proofs.EndMade.{end_is_step}
 use Rattle.world_core.proofs.tables.Tables.step_end.Goals as goal
 
 pub returns : goal.returns

@@ -1,4 +1,4 @@
-use Rattle.world_steps.proofs.FailMade.{fail_is_step}
+use Rattle.world_records.proofs.FailMade.{fail_is_step}
 use Rattle.world_core.proofs.tables.Tables.step_fail.Goals as goal
 
 pub returns : goal.returns

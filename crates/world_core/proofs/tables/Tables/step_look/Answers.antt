@@ -1,4 +1,4 @@
-use Rattle.world_steps.proofs.SendMade.{look_is_step}
+use Rattle.world_records.proofs.SendMade.{look_is_step}
 use Rattle.world_core.proofs.tables.Tables.step_look.Goals as goal
 
 pub returns : goal.returns

@@ -1,4 +1,4 @@
-use Rattle.world_steps.proofs.MakeMade.{make_is_step}
+use Rattle.world_records.proofs.MakeMade.{make_is_step}
 use Rattle.world_core.proofs.tables.Tables.step_make.Goals as goal
 
 pub returns : goal.returns

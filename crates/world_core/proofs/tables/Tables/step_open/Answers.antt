@@ -1,4 +1,4 @@
-use Rattle.world_steps.proofs.OpenMade.{open_is_step}
+use Rattle.world_records.proofs.OpenMade.{open_is_step}
 use Rattle.world_core.proofs.tables.Tables.step_open.Goals as goal
 
 pub returns : goal.returns

@@ -1,4 +1,4 @@
-use Rattle.world_steps.proofs.PassMade.{pass_is_step}
+use Rattle.world_records.proofs.PassMade.{pass_is_step}
 use Rattle.world_core.proofs.tables.Tables.step_pass.Goals as goal
 
 pub returns : goal.returns

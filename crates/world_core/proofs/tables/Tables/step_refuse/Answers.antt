@@ -1,4 +1,4 @@
-use Rattle.world_steps.proofs.RefuseMade.{refuse_is_step}
+use Rattle.world_records.proofs.RefuseMade.{refuse_is_step}
 use Rattle.world_core.proofs.tables.Tables.step_refuse.Goals as goal
 
 pub returns : goal.returns

@@ -1,4 +1,4 @@
-use Rattle.world_steps.proofs.RegisterMade.{register_is_step}
+use Rattle.world_records.proofs.RegisterMade.{register_is_step}
 use Rattle.world_core.proofs.tables.Tables.step_register.Goals as goal
 
 pub returns : goal.returns

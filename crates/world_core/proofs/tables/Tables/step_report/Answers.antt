@@ -1,4 +1,4 @@
-use Rattle.world_steps.proofs.SingleMade.{report_is_step}
+use Rattle.world_records.proofs.SingleMade.{report_is_step}
 use Rattle.world_core.proofs.tables.Tables.step_report.Goals as goal
 
 pub returns : goal.returns

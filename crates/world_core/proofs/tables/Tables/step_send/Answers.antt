@@ -1,6 +1,6 @@
 use Rattle.std.proofs.Common.{w32}
 use Rattle.std.proofs.lemmas.Int.{to_z-of_z}
-use Rattle.world_steps.proofs.SendMade.{send_is_step}
+use Rattle.world_records.proofs.SendMade.{send_is_step}
 use Rattle.world_core.proofs.tables.Tables.step_send.Goals as goal
 
 pub returns : goal.returns

@@ -1,4 +1,4 @@
-use Rattle.world_steps.proofs.ShutMade.{shut_is_step}
+use Rattle.world_records.proofs.ShutMade.{shut_is_step}
 use Rattle.world_core.proofs.tables.Tables.step_shut.Goals as goal
 
 pub returns : goal.returns

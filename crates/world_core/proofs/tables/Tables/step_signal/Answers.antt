@@ -1,4 +1,4 @@
-use Rattle.world_steps.proofs.SignalMade.{signal_is_step}
+use Rattle.world_records.proofs.SignalMade.{signal_is_step}
 use Rattle.world_core.proofs.tables.Tables.step_signal.Goals as goal
 
 pub returns : goal.returns

@@ -1,4 +1,4 @@
-use Rattle.world_steps.proofs.SpawnMade.{spawn_is_step}
+use Rattle.world_records.proofs.SpawnMade.{spawn_is_step}
 use Rattle.world_core.proofs.tables.Tables.step_spawn.Goals as goal
 
 pub returns : goal.returns

@@ -1,4 +1,4 @@
-use Rattle.world_steps.proofs.Drawn.{phasers_unused, tasks_unused, finishes_unused}
+use Rattle.world_records.proofs.Drawn.{phasers_unused, tasks_unused, finishes_unused}
 use Rattle.world_core.proofs.tables.Tables.unused.Goals as goal
 
 pub returns-clause-phaser : goal.returns-clause-phaser

@@ -1,7 +1,7 @@
 -- The phaser and the task of the event are asked by their numbers.
 use Rattle.std.proofs.Common.{ap, rules, ◌≡◌, ◌∙◌}
 use Rattle.phase_model.specs.Waiting.{signal_would_wait, would_wait}
-use Rattle.world_steps.specs.Kept.{story_at}
+use Rattle.world_records.specs.Kept.{story_at}
 use Rattle.world_core.proofs.tables.Tables.waits.Goals as goal
 
 pub returns-in-Some-Phaser-default-Pass : goal.returns-in-Some-Phaser-default-Pass

@@ -1,8 +1,8 @@
 -- A number that is in use is passed by, and the first that isn't is the least.
 use Rattle.std.proofs.Common.{ℕ, Bool, not, sym, ◌∙◌}
 use Rattle.phase_modes.specs.Lists.{is_empty}
-use Rattle.world_steps.specs.Kept.{past_in}
-use Rattle.world_steps.proofs.Least.{least_found, least_later}
+use Rattle.world_records.specs.Kept.{past_in}
+use Rattle.world_records.proofs.Least.{least_found, least_later}
 use Rattle.world_core.proofs.tables.unused.first_unmade.Goals as goal
 
 pub returns-then-not-is_made : goal.returns-then-not-is_made

@@ -1,7 +1,7 @@
 -- A number that is in use is passed by, and the first that isn't is the least.
 use Rattle.std.proofs.Common.{ℕ, Bool, get_or, sym, ◌∙◌}
-use Rattle.world_steps.specs.Kept.{blank_task}
-use Rattle.world_steps.proofs.Least.{least_found, least_later}
+use Rattle.world_records.specs.Kept.{blank_task}
+use Rattle.world_records.proofs.Least.{least_found, least_later}
 use Rattle.world_core.proofs.tables.unused.first_unnamed.Goals as goal
 
 pub returns-then-not-is_named_in : goal.returns-then-not-is_named_in

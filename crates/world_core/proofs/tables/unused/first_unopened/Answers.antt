@@ -2,7 +2,7 @@
 use Rattle.std.proofs.Common.{ℕ, Bool, not, get_or, sym, ◌∙◌}
 use Rattle.phase_modes.specs.Lists.{is_empty}
 use Rattle.finish_core.specs.Finish.{fresh}
-use Rattle.world_steps.proofs.Least.{least_found, least_later}
+use Rattle.world_records.proofs.Least.{least_found, least_later}
 use Rattle.world_core.proofs.tables.unused.first_unopened.Goals as goal
 
 pub returns-then-not-is_begun : goal.returns-then-not-is_begun

@@ -1,8 +1,8 @@
 -- The tables are asked by the task's number.
 use Rattle.std.proofs.Common.{ap, subst, sym, ◌∙◌}
 use Rattle.world_model.specs.Able.{is_able}
-use Rattle.world_steps.specs.WorldState.{WorldState}
-use Rattle.world_steps.specs.StandsFor.{StandsFor}
+use Rattle.world_records.specs.WorldState.{WorldState}
+use Rattle.world_records.specs.StandsFor.{StandsFor}
 use Rattle.world_core.proofs.world.World.able.Goals as goal
 
 pub returns : goal.returns

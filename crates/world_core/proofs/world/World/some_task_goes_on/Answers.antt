@@ -1,10 +1,10 @@
 use Rattle.std.proofs.Common.{◌≡◌, false, List, subst}
 use Rattle.world_model.specs.declared.event.WorldEvent.{WorldEvent}
 use Rattle.world_model.specs.Able.{is_stuck}
-use Rattle.world_steps.specs.WorldState.{WorldState}
-use Rattle.world_steps.specs.StandsFor.{StandsFor}
+use Rattle.world_records.specs.WorldState.{WorldState}
+use Rattle.world_records.specs.StandsFor.{StandsFor}
 use Rattle.world_model.proofs.NeverStuck.{nobody_is_stuck}
-use Rattle.world_steps.proofs.Worlds.{goes_on}
+use Rattle.world_records.proofs.Worlds.{goes_on}
 use Rattle.world_core.proofs.world.World.some_task_goes_on.Goals as goal
 
 pub returns-clause-world : goal.returns-clause-world

@@ -1,4 +1,4 @@
-use Rattle.world_steps.proofs.Worlds.{still_a_world}
+use Rattle.world_records.proofs.Worlds.{still_a_world}
 use Rattle.world_core.proofs.world.World.step.Goals as goal
 
 pub invariant_of-self : goal.invariant_of-self

@@ -1,6 +1,6 @@
 use Rattle.trace_model.specs.Explained.{event_of}
 use Rattle.trace_model.specs.Views.{viewed}
-use Rattle.world_steps.proofs.Worlds.{still_a_world}
+use Rattle.world_records.proofs.Worlds.{still_a_world}
 use Rattle.world_core.proofs.world.World.step_traced.Goals as goal
 
 pub invariant_of-self : goal.invariant_of-self

@@ -2,7 +2,7 @@
 use Rattle.std.proofs.Common.{◌≡◌}
 use Rattle.phase_model.specs.declared.call.Call.TheVariants.{Pass}
 use Rattle.phase_model.specs.Replies.{reply, after}
-use Rattle.phaser_answers.specs.Answers.{pass_result}
+use Rattle.phase_model.specs.Answers.{pass_result}
 use Rattle.world_records.proofs.phaser.KeptPhaser.pass.Goals as goal
 
 pub returns-clause-reply : goal.returns-clause-reply

@@ -3,7 +3,7 @@ use Rattle.std.proofs.Common.{ap, ◌∙◌}
 use Rattle.phase_model.specs.Rules.{Story}
 use Rattle.phase_model.specs.declared.call.Call.TheVariants.{Signal}
 use Rattle.phase_model.specs.Replies.{reply, after}
-use Rattle.phaser_answers.specs.Answers.{signal_result}
+use Rattle.phase_model.specs.Answers.{signal_result}
 use Rattle.world_records.proofs.phaser.KeptPhaser.signal.Goals as goal
 
 pub returns-clause-reply : goal.returns-clause-reply

@@ -1,8 +1,8 @@
 -- Whether one of those that were come to passes the test.
 use Rattle.std.proofs.Common.{◌≡◌, take}
 use Rattle.std.specs.List.{list_any}
-use Rattle.world_steps.specs.Kept.{past_in}
-use Rattle.world_steps.specs.inner.Facts.{owes}
+use Rattle.world_records.specs.Kept.{past_in}
+use Rattle.world_records.specs.inner.Facts.{owes}
 use Rattle.world_records.proofs.task.begins.any_owed.Given as goal
 
 abbrev pub invariant-loop-i : goal.invariant-loop-i

@@ -1,7 +1,7 @@
 -- What was come to and is enclosed is listed, and there is room for the rest.
 use Rattle.std.proofs.Common.{◌≡◌, ◌≤◌, length, take}
 use Rattle.std.specs.Prelude.{vec_capacity}
-use Rattle.world_steps.specs.inner.Begins.{enclosed}
+use Rattle.world_records.specs.inner.Begins.{enclosed}
 use Rattle.world_records.proofs.task.begins.list_enclosed.Given as goal
 
 abbrev pub invariant-loop-i : goal.invariant-loop-i

@@ -1,7 +1,7 @@
 -- The numbers that were come to are listed.
 use Rattle.std.proofs.Common.{◌≡◌, map, take}
-use Rattle.world_steps.specs.Kept.{past_in}
-use Rattle.world_steps.specs.inner.Drawings.{mode_at}
+use Rattle.world_records.specs.Kept.{past_in}
+use Rattle.world_records.specs.inner.Drawings.{mode_at}
 use Rattle.world_records.proofs.task.pairs.list_pairs.Given as goal
 
 abbrev pub invariant-loop-i : goal.invariant-loop-i

@@ -1,4 +1,0 @@
-use Rattle.certify_job.proofs.certifying.certify_on.Goals as goal
-
-pub returns-clause-reported : goal.returns-clause-reported
-returns-clause-reported g c = λ h. (c.ending_on.result.reported, c.ending_on.ensures.reported h)

@@ -1,2 +1,0 @@
--- Lemmas on the file that bytes spell.
-pub mod Spelled

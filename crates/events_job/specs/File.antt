@@ -1,9 +1,0 @@
--- The events file that bytes spell, within the limit of their number.
-use Rattle.std.specs.Prelude.{ℕ, List, length, nat_le, if◌then◌else◌, Result, Err}
-use Rattle.text_words.specs.Reading.{reading}
-use Rattle.events_text.specs.Form.{Form, form_of}
-use Rattle.events_job.specs.declared.events.TheConstants.{MOST_BYTES}
-
--- the file, or the place of the first fault; more bytes than an events file may have are at fault at 0
-abbrev pub file_spelled : List ℕ → Result Form ℕ
-file_spelled bytes = if nat_le (length bytes) MOST_BYTES then form_of (reading bytes) else Err 0

@@ -1,3 +1,0 @@
-pub mod Unrefused
-pub mod Whole
-pub mod Texts

@@ -1,0 +1,9 @@
+use Rattle.std.proofs.Common.{refl}
+use Rattle.phase_model.specs.declared.call.Call.TheVariants.{Look as look}
+use Rattle.phaser_core.proofs.Numbers.{numbered_after}
+use Rattle.phaser_core.proofs.long_phaser.LongPhaser.look.Goals as goal
+
+pub invariant_of-self : goal.invariant_of-self
+invariant_of-self c =
+    rw c.look.ensures.history
+    (numbered_after c.self.inside.next c.self.inside.engine.story (look c.args.task c.args.accumulator) (λ t. refl) c.self.invariant)

@@ -1,5 +1,0 @@
-use Rattle.std.proofs.Common.{◌≡◌, vec_len}
-use Rattle.phaser_crew.proofs.long_entry.hands.Given as goal
-
-abbrev pub invariant-loop-worker : goal.invariant-loop-worker
-invariant-loop-worker g l = vec_len l.hands ≡ l.worker

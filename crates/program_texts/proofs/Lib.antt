@@ -1,2 +1,0 @@
--- Lemmas on the program that bytes spell.
-pub mod Spelled

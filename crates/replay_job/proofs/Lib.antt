@@ -1,2 +1,0 @@
--- Lemmas on the trace that bytes spell.
-pub mod Spelled

@@ -1,7 +1,0 @@
-use Rattle.job_ends.proofs.Reported.{reports_of}
-use Rattle.replay_job.specs.Replayed.{IsOfReplay}
-use Rattle.replay_job.proofs.replaying.ending_on.Goals as goal
-
-pub returns-in-Err-clause-reported : goal.returns-in-Err-clause-reported
-returns-in-Err-clause-reported g c =
-    λ _. reports_of (IsOfReplay c.args.input.now) _ _ _ _ c.in-Err.ensures.failure tt c.end.ensures.reported

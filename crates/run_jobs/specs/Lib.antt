@@ -1,0 +1,6 @@
+-- The definitions that the contracts cite.
+pub mod Certain
+pub mod Certificate
+pub mod KernelsWorked
+pub mod Printed
+pub mod Worked

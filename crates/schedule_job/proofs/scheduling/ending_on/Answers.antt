@@ -1,7 +1,0 @@
-use Rattle.job_ends.proofs.Reported.{reports_of}
-use Rattle.schedule_job.specs.Scheduled.{IsOfSchedule}
-use Rattle.schedule_job.proofs.scheduling.ending_on.Goals as goal
-
-pub returns-in-Err-clause-reported : goal.returns-in-Err-clause-reported
-returns-in-Err-clause-reported g c =
-    λ _. reports_of (IsOfSchedule c.args.input.now) _ _ _ _ c.in-Err.ensures.failure tt c.end.ensures.reported

@@ -1,9 +1,0 @@
-pub mod Begins
-pub mod Failures
-pub mod Follow
-pub mod GoesOn
-pub mod Legal
-pub mod NoActs
-pub mod Places
-pub mod Rounds
-pub mod Used

@@ -1,3 +1,0 @@
-pub mod Keys
-pub mod Loops
-pub mod Utf8

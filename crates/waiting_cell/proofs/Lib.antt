@@ -1,4 +1,0 @@
-pub mod Steps
-pub mod Calling
-pub mod Going
-pub mod Leaving

@@ -1,4 +1,0 @@
-pub mod Calls
-pub mod Courses
-pub mod Firsts
-pub mod Turns
