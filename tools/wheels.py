@@ -1,4 +1,4 @@
-"""The Python wheel of a release: the package, its plugin of pytest and the shared library, as pip installs them."""
+"""The Python wheel of a release: the package, its checker, its plugin of pytest and the shared library, as pip installs them."""
 import base64
 import hashlib
 import re

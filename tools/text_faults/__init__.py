@@ -1,4 +1,4 @@
-"""Where and why a text is refused, for ./program_check: programs, events files and traces.
+"""Where and why a text is refused, for ./program_check and for `check` of the Python package: programs, events files and traces.
 
 `json_text` reads JSON as the program does and finds a value's line and column, `forms` has what all texts share, `programs`,
 `events` and `traces` have the form of each text, `world` makes the events of a trace again, with its phasers in `phasers`,

@@ -245,6 +245,15 @@ def place_of_fault(raw, kind):
     return None
 
 
+def faults_of_trace(name, raw):
+    """The lines that say why the bytes are the trace of no run; none if a run makes them."""
+    try:
+        said_of_trace(text_in(name, raw, "trace"))
+    except Stop as stop:
+        return [stop.line]
+    return []
+
+
 # ---- the streams
 
 

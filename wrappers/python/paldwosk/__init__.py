@@ -39,7 +39,7 @@ import queue
 import weakref
 from ctypes import c_char_p, c_int32, c_int64, c_size_t, c_uint32, c_uint64, c_void_p
 
-__all__ = ["Barrier", "Mode", "Operator", "Phaser", "Refusal", "Task", "events", "replay"]
+__all__ = ["Barrier", "Mode", "Operator", "Phaser", "Refusal", "Task", "check", "events", "replay"]
 __version__ = "0.1.0"
 
 _FILE = "libpaldwosk.so.0"
@@ -345,6 +345,24 @@ def replay(trace):
     24 refused 24 BadText at 0
     """
     return _lines_of("replay", trace)
+
+
+def check(trace):
+    """The list of lines that `phaser-check --trace FILE` prints of a trace that no run makes: where it is wrong, and why. It is
+    empty if the trace is a run. `trace` is its text, as str or bytes. In the lines `trace` stands for the file's name.
+    `ImportError` if the checker isn't in the package, as in a checkout.
+
+    The checker makes the events again in Python, and nothing of it is proved. What counts is `replay`.
+
+    >>> check('{"version":2,"limits":{},"events":[\\n[1,"p",0,"make",0,"SIG_WAIT",[],null],\\n[2,"t",1,"begin",["next"]]]}')
+    ['trace:3:1: event 2, ticket 2: task 1 begins ["next"]: task 1 was never spawned']
+    """
+    try:
+        from .text_faults.command import faults_of_trace
+    except ModuleNotFoundError:
+        raise ImportError("paldwosk.check finds no checker: there is no folder text_faults in %s; install the wheel or the tarball "
+                          "of a release, or a checkout by `make install`" % pathlib.Path(__file__).parent) from None
+    return faults_of_trace("trace", trace.encode() if isinstance(trace, str) else trace)
 
 
 def events(file):
