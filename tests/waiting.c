@@ -1231,6 +1231,12 @@ static void bounded(int items, int bound) {
 
 /* ---- Traces */
 
+/* Whether the text has become shorter: a task that has left meanwhile ends in fewer bytes than one that is still there. */
+static int is_shorter(paldwosk_barrier *barrier, size_t least) {
+  size_t now = 0;
+  return paldwosk_barrier_trace(barrier, NULL, 0, &now) == PALDWOSK_SHORT && now < least;
+}
+
 /* The trace so far; the caller frees it. */
 static char *trace_of(paldwosk_barrier *barrier, size_t *length) {
   size_t least = 0, written = 0;
@@ -1239,8 +1245,9 @@ static char *trace_of(paldwosk_barrier *barrier, size_t *length) {
     char *text = (char *)malloc(least + 1);
     if (!text) exit(5);
     text[0] = text[least] = '#';
-    MUST(paldwosk_barrier_trace(barrier, text, least - 1, &written) == PALDWOSK_SHORT && text[0] == '#');
-    paldwosk_answer answer = paldwosk_barrier_trace(barrier, text, least, &written);
+    paldwosk_answer answer = paldwosk_barrier_trace(barrier, text, least - 1, &written);
+    MUST(answer == PALDWOSK_SHORT ? text[0] == '#' : is_shorter(barrier, least));
+    answer = paldwosk_barrier_trace(barrier, text, least, &written);
     MUST(text[least] == '#' && (answer == PALDWOSK_DONE || answer == PALDWOSK_SHORT));
     *length = written;
     if (answer != PALDWOSK_SHORT) return text;
@@ -1269,14 +1276,17 @@ static void *take_traced_turns(void *given) {
 
 /* What a replay has to say. The first events are the making, a joining for each thread and the leaving of the first
  * task. Then each phase has a signal of each thread and then a pass of each, and phases don't overlap: when the last
- * has signalled all pass, before the lock is given back. So it is clear what stands within the limit. */
-static void write_wanted(char *wanted, size_t room, int64_t threads, int64_t phases) {
+ * has signalled all pass, before the lock is given back. So it is clear what stands within the limit. Those that are
+ * still there at the limit end by a refused act. */
+static void write_wanted(char *wanted, size_t room, int64_t threads, int64_t phases, int is_long) {
   int64_t left = PALDWOSK_TRACE_EVENTS - (threads + 2), whole = left / (2 * threads), more = left % (2 * threads);
   if (whole >= phases) whole = phases, more = 0;
   int64_t signals = threads * whole + (more < threads ? more : threads);
   int64_t passes = threads * whole + (more < threads ? 0 : more - threads);
   int at = snprintf(wanted, room, "phaser 0 phases %" PRId64 "\n", whole + (more > 0));
-  for (int task = 0; task <= threads; task++) at += snprintf(wanted + at, room - (size_t)at, "task %d ended\n", task);
+  for (int task = 0; task <= threads; task++)
+    at += snprintf(wanted + at, room - (size_t)at, "task %d %s\n", task,
+                   task && is_long ? "refused 21 NoFinish" : "ended");
   at += snprintf(wanted + at, room - (size_t)at, "finish 0 tasks %" PRId64 "\n", threads);
   at += snprintf(wanted + at, room - (size_t)at, "totals registered %" PRId64, threads + 1);
   at += snprintf(wanted + at, room - (size_t)at, " signals %" PRId64 " passes %" PRId64, signals, passes);
@@ -1300,7 +1310,7 @@ static void traced(int threads, int phases) {
   run_members(take_traced_turns);
   MUST(paldwosk_barrier_trace_ended(&the_party.barrier) == is_long);
   replay(&the_party.barrier, report, sizeof report);
-  write_wanted(wanted, sizeof wanted, threads, phases);
+  write_wanted(wanted, sizeof wanted, threads, phases, is_long);
   MUST(!strcmp(report, wanted));
   if (strcmp(report, wanted)) fprintf(stderr, "%s%s", report, wanted);
   DONE(paldwosk_barrier_free(&the_party.barrier));
@@ -1937,10 +1947,17 @@ static void send_value(visitor *me) {
   DONE(paldwosk_barrier_send(&me->task, 1, value));
 }
 
+/* helgrind complains of what glibc does in a wait that times out. */
+#ifdef WITHOUT_TIMES
+enum { CROWD_HAS_TIMES = 0 };
+#else
+enum { CROWD_HAS_TIMES = 1 };
+#endif
+
 /* A next or a wait. Each third has a time, which is often too short: then it comes back. */
 static void pass_in_crowd(visitor *me, int is_next, uint64_t *phase) {
   paldwosk_answer answer = PALDWOSK_TIMED_OUT;
-  int has_time = drawn(me, 3) == 0;
+  int has_time = drawn(me, 3) == 0 && CROWD_HAS_TIMES;
   while (has_time && answer == PALDWOSK_TIMED_OUT) {
     uint32_t time = drawn(me, 3);
     if (is_next) answer = paldwosk_barrier_next_for(&me->task, time, phase);
@@ -1959,7 +1976,7 @@ static void propose(visitor *me) {
   uint32_t number = 1 + (drawn(me, 8) == 0);
   int64_t *runs = &crowd.runs[me->passes];
   paldwosk_answer answer = PALDWOSK_TIMED_OUT;
-  for (int has_time = drawn(me, 3) == 0; has_time && answer == PALDWOSK_TIMED_OUT;)
+  for (int has_time = drawn(me, 3) == 0 && CROWD_HAS_TIMES; has_time && answer == PALDWOSK_TIMED_OUT;)
     answer = paldwosk_barrier_single_for(&me->task, number, drawn(me, 2), run_in_crowd, runs, &phase);
   if (answer == PALDWOSK_TIMED_OUT) answer = paldwosk_barrier_single(&me->task, number, run_in_crowd, runs, &phase);
   MUST(answer == PALDWOSK_DONE || answer == PALDWOSK_SINGLE_MISMATCH);
