@@ -15,8 +15,8 @@
  * WHAT IS PROVED. The archive's functions phaser_c_waiting_.. make every decision: which tasks a call frees, with which
  * answer, in which order. They let no task go on too early, and a task that waits after a call still has to wait.
  * NOT PROVED, but tested by tests/waiting, is what this header adds: a mutex round each of these calls, and threads
- * that spin, yield, sleep and are woken. So is what it notes of each task, to say who is missing. Nor is the trace that
- * it writes proved; a replay judges it.
+ * that spin, yield, sleep and are woken. So is what it notes of each task, to say which are missing. Nor is the trace
+ * that it writes proved; a replay judges it.
  *
  * WHAT IT NEEDS. gcc or clang, C11 or C++17, and the threads of POSIX. -std=c11 does: nothing has to be defined
  * before it, and it defines nothing that changes what other headers declare. Link what paldwosk.h asks for, and
@@ -194,7 +194,7 @@ enum {
   PALDWOSK_EVENT_LOOK,
   PALDWOSK_EVENT_LOOK_AT_NOTHING,
   PALDWOSK_EVENT_LEAVE,
-  PALDWOSK_EVENT_STILL, /* of the text alone: the task is still there, where the text has to end */
+  PALDWOSK_EVENT_STILL, /* of the text alone: the task is still there when the text has to end */
   PALDWOSK_EVENT_SHUT   /* the end of the root, which is the last of all */
 };
 
@@ -540,7 +540,7 @@ PALDWOSK_INLINE int paldwosk_is_ahead(const paldwosk_barrier *barrier, const str
          !paldwosk_is_held(barrier, sleeper, member->passes, paldwosk_least_phase(barrier));
 }
 
-/* A new task, that stands where its parent stands; or the first, which is its own parent. */
+/* A new task that stands where its parent stands; or the first, which is its own parent. */
 PALDWOSK_INLINE void paldwosk_add_member(paldwosk_barrier *barrier, uint64_t parent, uint32_t mode, uint64_t number) {
   const struct paldwosk_member *from = paldwosk_member_of(barrier, parent);
   struct paldwosk_member *member = paldwosk_member_of(barrier, number);
@@ -769,7 +769,7 @@ PALDWOSK_INLINE void paldwosk_spin(paldwosk_barrier *barrier, struct paldwosk_sl
   __atomic_compare_exchange_n(&me->state, &state, PALDWOSK_ASLEEP, 0, __ATOMIC_ACQUIRE, __ATOMIC_ACQUIRE);
 }
 
-/* The turn is read before the state. Who is freed after that finds that the turn isn't what it was, and doesn't
+/* The turn is read before the state. A thread freed after that finds that the turn isn't what it was, and doesn't
  * sleep. */
 PALDWOSK_INLINE void paldwosk_sleep(paldwosk_barrier *barrier, struct paldwosk_sleeper *me) {
   while (!paldwosk_is_ready(me)) {
@@ -1331,7 +1331,7 @@ PALDWOSK_INLINE paldwosk_answer paldwosk_new_barrier(paldwosk_barrier *barrier, 
   return PALDWOSK_DONE;
 }
 
-/* The same where there is no barrier, whatever the memory has. */
+/* The same if there is no barrier, whatever the memory has. */
 PALDWOSK_INLINE paldwosk_answer paldwosk_init_barrier(paldwosk_barrier *barrier, uint32_t bound,
                                                       const paldwosk_operator *operators, size_t count, int is_traced) {
   static const paldwosk_barrier none = PALDWOSK_NO_BARRIER;

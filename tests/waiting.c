@@ -682,7 +682,7 @@ static void wait_in_time(int way) {
   DONE(paldwosk_barrier_free(&barrier));
 }
 
-/* Who is freed before it is time to say so is woken at once, and says nothing. */
+/* A thread that is freed before it is time to say so is woken at once, and says nothing. */
 static void wait_for_short(int way) {
   paldwosk_barrier barrier;
   paldwosk_task tasks[2] = {PALDWOSK_NO_TASK};
@@ -780,7 +780,7 @@ static void come_at_first(int number) {
 
 static void no_yield(int number) { (void)number; }
 
-/* A party of two, who don't spin, since that didn't pay before. It has this credit. */
+/* A party of two threads that don't spin, since that didn't pay before. It has this credit. */
 static void make_yielding(paldwosk_barrier *barrier, paldwosk_task *tasks, int32_t credit, void (*instead)(int)) {
   make_party(barrier, tasks, 2);
   last_task = tasks[1];
@@ -1565,8 +1565,8 @@ static int64_t milliseconds(void) {
   return (int64_t)now.tv_sec * 1000 + now.tv_nsec / 1000000;
 }
 
-/* The signal is made once: who comes back waits for what it has begun. Sent are 3 and 4 in phase 0, and 5 after task 0
- * has signalled that, so in phase 1. */
+/* The signal is made once: a task that comes back waits for what it has begun. Sent are 3 and 4 in phase 0, and 5 after
+ * task 0 has signalled that, so in phase 1. */
 static void next_runs_out(int way) {
   paldwosk_barrier barrier;
   paldwosk_task tasks[2] = {PALDWOSK_NO_TASK};
@@ -1686,7 +1686,7 @@ static void others_go_on(int way) {
   DONE(paldwosk_barrier_free(&barrier));
 }
 
-/* Who comes back without a time sleeps until it is woken, and so does who comes back with one. */
+/* A task that comes back sleeps until it is woken, with a time or without. */
 static void who_comes_back_is_woken(int way) {
   paldwosk_barrier barrier;
   paldwosk_task tasks[2] = {PALDWOSK_NO_TASK};
@@ -1970,7 +1970,7 @@ static void pass_in_crowd(visitor *me, int is_next, uint64_t *phase) {
 
 static void run_in_crowd(void *given) { __atomic_fetch_add((int64_t *)given, 1, __ATOMIC_RELAXED); }
 
-/* Two numbers are about: who comes with another than the first of its phase is refused, and goes on without. */
+/* There are two numbers: a task that comes with another than its phase's first is refused, and goes on without. */
 static void propose(visitor *me) {
   uint64_t phase = 77;
   uint32_t number = 1 + (drawn(me, 8) == 0);

@@ -58,7 +58,7 @@ impl Members {
         self.seated[seat] = Some(new);
     }
 
-    /// A new task, that stands where its parent stands. The phase that it is in.
+    /// A new task that stands where its parent stands. The phase that it is in.
     pub(crate) fn joined(&mut self, parent: usize, seat: usize, task: u64, mode: Mode) -> u64 {
         let from = self.seated[parent];
         self.made(seat, task, mode);

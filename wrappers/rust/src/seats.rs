@@ -1,5 +1,5 @@
 //! Where a task's answer comes while its thread spins or sleeps. A phaser has a seat for each task that it has room for, and
-//! keeps them as long as itself: so whoever answers writes where memory stays, even if the task has left meanwhile.
+//! keeps them as long as itself: so an answer is written to memory that stays, even if the task has left meanwhile.
 use crate::archive::{Freed, MOST_FREED};
 use crate::waiting_cell::{outcome, Outcome};
 use std::sync::atomic::{AtomicU32, AtomicU64, Ordering::*};
@@ -33,7 +33,8 @@ impl Seat {
     pub(crate) fn give(&self, freed: &Freed) -> bool {
         self.answer.store(freed.answer, Relaxed);
         self.number.store(freed.number, Relaxed);
-        // Release: who sees READY sees the answer. From here on the task may be gone, and another one have the seat.
+        // Release: a thread that sees READY sees the answer. From here on the task may be gone and
+        // its seat another's.
         self.state.swap(READY, AcqRel) == ASLEEP
     }
 
@@ -86,7 +87,7 @@ mod tests {
         }
     }
 
-    /// Who sees that the answer stands there sees this answer, and no earlier one.
+    /// A thread that sees that the answer is there sees this answer, and no earlier one.
     #[test]
     fn ready_seat_has_its_answer() {
         const ROUNDS: u64 = 50_000;

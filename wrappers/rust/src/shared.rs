@@ -1,8 +1,8 @@
 //! A phaser as its tasks share it: the archive's calls behind a lock, and those who wait.
 //!
-//! Who calls takes the lock, makes the archive's call, and answers those whom it freed, all before the lock is given back. So
-//! what the archive has parked, and who waits here, are the same tasks whenever the lock is free. A thread that is woken has
-//! its answer, and takes no lock.
+//! A caller takes the lock, makes the archive's call, and answers the tasks that it freed, then gives the lock back. So
+//! the archive's parked tasks are those that wait here whenever the lock is free. A woken thread has its answer, and
+//! takes no lock.
 use crate::answers::{Look, Mode, Operator, Refusal};
 use crate::archive::Freed;
 use crate::bell::Bell;
@@ -238,7 +238,7 @@ impl Shared {
         self.bell.wake(woken);
     }
 
-    /// Waits until the answer stands at the seat; none if the patience comes to an end before.
+    /// Waits until the answer stands at the seat; none if the patience ends before.
     fn answer_at(&self, at: usize, may_spin: bool, patience: Patience) -> Option<Outcome> {
         let seat = &self.seats[at];
         let has_come = || seat.is_ready();
@@ -262,7 +262,7 @@ impl Shared {
         Some(seat.outcome())
     }
 
-    /// Sleeps until somebody is woken, or the patience comes to an end. Whether it has, before the answer has come.
+    /// Sleeps until somebody is woken, or the patience ends. Whether it has ended before the answer has come.
     fn sleeps_in_vain(&self, word: u32, at: usize, patience: Patience) -> bool {
         let Patience::Until(end) = patience else {
             self.bell.sleep(word, bit(at));
@@ -276,7 +276,7 @@ impl Shared {
         false
     }
 
-    /// Gives the lock back, and waits where the task was parked.
+    /// Gives the lock back, and waits if the task was parked.
     fn finish(
         &self,
         held: MutexGuard<'_, Held>,
@@ -301,7 +301,7 @@ impl Shared {
         }
     }
 
-    /// Makes a call. None if the patience has come to an end: then the call goes on, and `go_on` waits for its answer.
+    /// Makes a call. None if the patience has ended: then the call goes on, and `go_on` waits for its answer.
     pub(crate) fn call(&self, me: Place, call: Call, patience: Patience) -> Option<Outcome> {
         let mut held = self.lock();
         let answer = held.call(&self.seats, me, call);
@@ -405,7 +405,7 @@ mod tests {
         })
     }
 
-    /// The word is raised where somebody sleeps who is answered, so that nobody falls asleep who was answered just now.
+    /// The word is raised if a task that sleeps is answered, so that no task just answered falls asleep.
     #[test]
     fn word_is_raised_for_who_sleeps() {
         let shared = Arc::new(Shared::new(2, &[], false).unwrap());
@@ -425,7 +425,7 @@ mod tests {
         assert_eq!((turn(&shared, maker), word()), (Ok(Ended::Done(1)), 1));
     }
 
-    /// Nor does anybody whose time is over: who is answered then isn't woken.
+    /// Nor does a task whose time is over: if it is answered then, it isn't woken.
     #[test]
     fn word_is_raised_for_nobody_whose_time_is_over() {
         let shared = Shared::new(2, &[], false).unwrap();

@@ -55,14 +55,14 @@ impl Spins {
             Some(aim) if aim > rounds => aim,
             Some(aim) => rounds - (rounds - aim) / 8,
         };
-        // What all read is written only where it changes.
+        // What all read is written only if it changes.
         if better != rounds {
             self.rounds.store(better, Relaxed);
         }
     }
 }
 
-/// Whether so many threads may each have a processor. Where they can't, who spins keeps one from whom it waits for.
+/// Whether so many threads may each have a processor. If not, a thread that spins keeps one from those it waits for.
 pub(crate) fn have_processors(threads: usize) -> bool {
     static PROCESSORS: OnceLock<usize> = OnceLock::new();
     threads <= *PROCESSORS.get_or_init(|| available_parallelism().map_or(1, usize::from))

@@ -37,7 +37,7 @@ enum Event {
     Look(u64, u8, Look),
     Drop(u64),
     Ended(u64),
-    /// Of the text alone: the task is still there, where the text has to end.
+    /// Of the text alone: the task is still there when the text has to end.
     Still(u64),
     Shut,
 }
@@ -275,7 +275,7 @@ impl Trace {
         }
     }
 
-    /// All who hadn't signalled this phase are at an end, so it is closed. Who comes first claims, if nobody has.
+    /// All who hadn't signalled this phase are at an end, so it is closed. The first to come claims, if none has.
     fn close_single(&mut self, task: u64) {
         let phase = self.told(task).phase;
         if self.single_done < Some(phase) {

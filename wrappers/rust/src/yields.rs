@@ -58,7 +58,7 @@ impl Yields {
             old => old - COST * took.min(1_000_000) as i64,
         };
         let better = better.clamp(LEAST_CREDIT.into(), MOST_CREDIT.into()) as i32;
-        // What all read is written only where it changes.
+        // What all read is written only if it changes.
         if better != credit {
             self.credit.store(better, Relaxed);
         }
@@ -89,7 +89,7 @@ mod tests {
         yields.credit.load(Relaxed)
     }
 
-    /// What is long costs 200 microseconds at least: so it may be where others take the processor from the test.
+    /// What is long costs 200 microseconds at least: so it may be if others take the processor from the test.
     #[test]
     fn yields_until_it_comes() {
         let yields = with_credit(1_000);

@@ -28,7 +28,7 @@ fn main() {
         Ok(lines) => lines.iter().for_each(|line| println!("cargo::{line}")),
         Err(fault) => {
             println!("cargo::warning={fault}");
-            // The compiler finds no such library where it has to link one.
+            // The compiler finds no such library if it has to link one.
             println!("cargo::rustc-link-lib=static=paldwosk");
             // As long as this file isn't there, and it never is, the script runs each time: an archive may have come.
             println!("cargo::rerun-if-changed=no_archive");

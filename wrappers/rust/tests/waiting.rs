@@ -182,7 +182,7 @@ fn task_knows_its_phase() {
     });
 }
 
-/// Who waits for a single that another runs has ended its turn too.
+/// A task that waits for a single that another runs has ended its turn too.
 #[test]
 fn all_know_the_phase_after_a_single() {
     in_time(|| {
@@ -544,7 +544,7 @@ fn no_phase_ends_before_all_have_started() {
     });
 }
 
-/// A producer, two consumers and one who runs singles: a scope has threads of every mode.
+/// A producer, two consumers and one task that runs singles: a scope has threads of every mode.
 #[test]
 fn scope_has_all_modes() {
     in_time(|| {
@@ -615,8 +615,8 @@ fn scope_has_room_for_255() {
 
 const MINUTE: Duration = Duration::from_secs(60);
 
-/// The signal is made once: who comes back waits for what it has begun. Sent are 3 and 4 in phase 0, and 5 after task 0 has
-/// signalled that, so in phase 1.
+/// The signal is made once: a task that comes back waits for what it has begun. Sent are 3 and 4 in phase 0, and 5 after
+/// task 0 has signalled that, so in phase 1.
 #[test]
 fn next_runs_out_and_goes_on() {
     in_time(|| {
@@ -772,7 +772,7 @@ fn hasty_threads_turn() {
     }
 }
 
-/// Who waits isn't missing, nor is anybody if nobody waits. Who runs a single is.
+/// A task that waits isn't missing, nor is any if none waits. A task that runs a single is.
 #[test]
 fn missing_tasks_are_named() {
     in_time(|| {

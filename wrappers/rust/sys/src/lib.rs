@@ -11,7 +11,7 @@
 //! assert_eq!((status, &lines[..length]), (0, &b"ok\nok\n"[..]));
 //! ```
 //!
-//! Nothing compares the declarations with those of `crates/phaser_c`: who changes one changes the other.
+//! Nothing compares the declarations with those of `crates/phaser_c`: a change to one needs the same change to the other.
 #![no_std]
 
 use core::ffi::c_void;
