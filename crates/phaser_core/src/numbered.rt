@@ -6,6 +6,7 @@ ghost use Rattle.phase_model.specs.Tasks.{registers, is_registered};
 
 use phase_model::{Bound, Event, History, Ops, Terms};
 use phase_modes::{Limits, NumberSet, Refusal};
+use phaser_engine::Engine;
 use std::alloc::Global;
 use std::marker::Model;
 
@@ -62,26 +63,26 @@ impl NumberedHistory {
         task < self.history.limits().tasks && self.known.contains(task)
     }
 
-    /// Adds an event that registers nobody.
+    /// Adds the event that the engine has added, which registers nobody.
     #[inline(always)]
-    pub(crate) fn add(&mut self, event: Event)
-        requires room { length self.old.past < self.old.limits.history }
+    pub(crate) fn add(&mut self, engine: &Engine, event: Event)
+        requires added { engine.now.story ≡ with_event self.old event }
         requires nobody { (t : ℕ) → registers t event ≡ false }
         ensures { self.new ≡ with_event self.old event }
     {
-        self.history.add(event);
+        add_as(engine, &mut self.history, event);
     }
 
-    /// Adds the event that registers the task.
+    /// Adds the event that the engine has added, which registers the task.
     #[inline(always)]
-    pub(crate) fn add_registering(&mut self, task: u32, event: Event)
-        requires room { length self.old.past < self.old.limits.history }
+    pub(crate) fn add_registering(&mut self, engine: &Engine, task: u32, event: Event)
+        requires added { engine.now.story ≡ with_event self.old event }
         requires task { task < self.old.limits.tasks }
         requires registers { (t : ℕ) → registers t event ≡ (task == t) }
         ensures { self.new ≡ with_event self.old event }
     {
         self.known.insert(task);
-        self.history.add(event);
+        add_as(engine, &mut self.history, event);
     }
 
     /// The history.
@@ -98,4 +99,15 @@ impl NumberedHistory {
         let NumberedHistory { history, known: _ } = self;
         history
     }
+}
+
+/// Adds the event that the engine has added.
+#[inline(always)]
+fn add_as(engine: &Engine, history: &mut History, event: Event)
+    requires { engine.now.story ≡ with_event history.old event }
+    ensures { history.new ≡ with_event history.old event }
+{
+    // The engine's history is within its limits, so there is room for the event.
+    let _ = engine.history().len();
+    history.add(event);
 }

@@ -23,7 +23,7 @@ impl PhaserState {
             _ => false,
         };
         // So there is room for phases and sums.
-        let _ = self.history.history().limits();
+        self.limits_fit();
         self.engine.reply_to(call, is_known)
     }
 
@@ -56,7 +56,7 @@ impl PhaserState {
             (slice_get self.now.story.terms.ops accumulator)) }
     {
         // So there is room for the sum.
-        let _ = self.history.history().limits();
+        self.limits_fit();
         match self.engine.fold_at(accumulator, phase as u64) {
             Some(look) => Some(short_look(look)),
             None => None,
@@ -76,7 +76,7 @@ impl PhaserState {
         ensures { result ≡ registration task self.now.story.past }
     {
         // So there is room for the phase.
-        let _ = self.history.history().limits();
+        self.limits_fit();
         match self.engine.registration(task as u64) {
             Some(reg) => Some(reg.short()),
             None => None,
