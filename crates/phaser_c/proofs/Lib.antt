@@ -1,7 +1,8 @@
 mod GoneOn
+mod HandleWalks
+mod Handles
 mod Held
 mod Parts
 mod Refusals
 mod Telling
 mod Values
-mod WaitingHeld

@@ -10,4 +10,3 @@ pub mod History
 pub mod Told
 pub mod Waiting
 pub mod WaitingGiven
-pub mod WaitingHeld

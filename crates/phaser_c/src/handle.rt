@@ -22,7 +22,7 @@ pub struct Handle {
 }
 
 impl Model for Handle {
-    ghost also_owns = { λ h. held h.at h.state };
+    ghost also_owns = { λ h. held phaser_row h.at h.state };
 }
 
 /// The value, of a type that may go from thread to thread: so may a handle, with what it leads to.

@@ -4,7 +4,7 @@ ghost use Rattle.std.specs.declared.option.Option.{Option};
 ghost use Rattle.std.specs.Coded.{coded_option};
 ghost use Rattle.phaser_c.specs.declared.waiting.Waiting.{Waiting as Kept};
 ghost use Rattle.phaser_c.specs.contracts.waiting.Waiting.{the_row as waiting_row};
-ghost use Rattle.phaser_c.specs.WaitingHeld.{waiting_held};
+ghost use Rattle.phaser_c.specs.Held.{held};
 
 use crate::handle::movable;
 use crate::loose::Loose;
@@ -23,7 +23,7 @@ pub struct WaitingHandle {
 }
 
 impl Model for WaitingHandle {
-    ghost also_owns = { λ h. waiting_held h.at h.state };
+    ghost also_owns = { λ h. held waiting_row h.at h.state };
 }
 
 impl WaitingHandle {
