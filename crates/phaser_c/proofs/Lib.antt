@@ -1,8 +1,13 @@
+mod CalledRounds
 mod GoneOn
 mod HandleWalks
 mod Handles
 mod Held
+mod Level
+mod LevelRounds
+mod Looks
 mod Parts
 mod Refusals
+mod Rounds
 mod Telling
 mod Values

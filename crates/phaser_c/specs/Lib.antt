@@ -7,6 +7,9 @@ pub mod Freed
 pub mod Given
 pub mod Held
 pub mod History
+pub mod RoundCalls
+pub mod RoundLaws
+pub mod Rounds
 pub mod Told
 pub mod Waiting
 pub mod WaitingGiven
