@@ -40,8 +40,8 @@ struct Meeting {
     came: u64,
 }
 
-const SLEEPERS: u32 = 1;
-const GENERATION: u32 = 2;
+const SLEEPERS: u64 = 1;
+const GENERATION: u64 = 2;
 
 /// What [`Barrier::wait`] returns.
 ///
@@ -113,7 +113,7 @@ impl Barrier {
     }
 
     /// The archive freed all that came before: the next generation begins.
-    fn go_on(&self, meeting: MutexGuard<'_, Meeting>, next: u32) {
+    fn go_on(&self, meeting: MutexGuard<'_, Meeting>, next: u64) {
         let was = self.bell.word.swap(next, AcqRel);
         drop(meeting);
         if was & SLEEPERS != 0 {
@@ -121,7 +121,7 @@ impl Barrier {
         }
     }
 
-    fn wait_past(&self, generation: u32) {
+    fn wait_past(&self, generation: u64) {
         let is_over = || self.bell.word.load(Acquire) & !SLEEPERS != generation;
         if have_processors(self.threads) && self.spins.until(is_over) || self.yields.until(is_over) {
             return;

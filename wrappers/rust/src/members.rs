@@ -1,8 +1,8 @@
-//! Who is registered, and where each task stands. The archive knows, but isn't asked: it has no export that tells. All this
-//! is with the phaser's lock held.
+//! Who is registered, and where each task stands. The archive knows, but isn't asked: it has no export that tells. While rounds
+//! are counted nobody notes how far the tasks have come: they all stand in one phase, and are set to it at the end.
 use crate::answers::Mode;
+use crate::held::{Call, Place};
 use crate::seats::SEATS;
-use crate::shared::Call;
 use crate::waiting_cell::{Ended, Outcome};
 
 /// A registered task.
@@ -28,12 +28,20 @@ impl Member {
     fn can_wait(&self) -> bool {
         self.mode != Mode::Sig
     }
+
+    /// Whether it is in none of its calls, and hasn't signalled, and signals and waits at once.
+    fn is_level(&self) -> bool {
+        self.mode == Mode::SigWait && !self.is_ahead && self.waits_in.is_none() && !self.runs_single
+    }
 }
 
 /// The members, by their seats.
 pub(crate) struct Members {
     bound: u64,
     seated: Box<[Option<Member>]>,
+    /// How many are there, and how many of them aren't level.
+    count: usize,
+    uneven: usize,
 }
 
 /// For which calls of others the waiting calls wait.
@@ -46,58 +54,86 @@ struct Want {
 
 impl Members {
     pub(crate) fn new(bound: u32) -> Members {
-        Members { bound: bound.into(), seated: vec![None; SEATS].into_boxed_slice() }
+        Members { bound: bound.into(), seated: vec![None; SEATS].into_boxed_slice(), count: 0, uneven: 0 }
     }
 
     fn all(&self) -> impl Iterator<Item = &Member> {
         self.seated.iter().flatten()
     }
 
+    pub(crate) fn count(&self) -> usize {
+        self.count
+    }
+
+    /// Whether all may stand level: each would make a turn next, by all that is known here.
+    pub(crate) fn are_level(&self) -> bool {
+        self.uneven == 0 && self.count > 0
+    }
+
+    /// The task of this seat, with it.
+    pub(crate) fn place(&self, seat: usize) -> Option<Place> {
+        self.seated[seat].map(|it| Place { task: it.task, seat })
+    }
+
+    /// All tasks.
+    pub(crate) fn places(&self) -> impl Iterator<Item = Place> + '_ {
+        (0..SEATS).filter_map(|seat| self.place(seat))
+    }
+
+    fn set(&mut self, seat: usize, member: Option<Member>) {
+        let old = std::mem::replace(&mut self.seated[seat], member);
+        let counted = |member: Option<Member>| (member.is_some() as usize, member.is_some_and(|it| !it.is_level()) as usize);
+        let ((was, was_uneven), (is, is_uneven)) = (counted(old), counted(member));
+        self.count = self.count + is - was;
+        self.uneven = self.uneven + is_uneven - was_uneven;
+    }
+
+    /// Changes the member of a seat, if there is one.
+    fn change(&mut self, seat: usize, change: impl FnOnce(Member) -> Member) {
+        self.set(seat, self.seated[seat].map(change));
+    }
+
     pub(crate) fn made(&mut self, seat: usize, task: u64, mode: Mode) {
-        let new = Member { task, mode, passes: 0, is_ahead: false, waits_in: None, runs_single: false };
-        self.seated[seat] = Some(new);
+        self.set(seat, Some(Member { task, mode, passes: 0, is_ahead: false, waits_in: None, runs_single: false }));
     }
 
     /// A new task that stands where its parent stands. The phase that it is in.
     pub(crate) fn joined(&mut self, parent: usize, seat: usize, task: u64, mode: Mode) -> u64 {
-        let from = self.seated[parent];
-        self.made(seat, task, mode);
-        let is_ahead = from.is_some_and(|from| mode != Mode::Wait && self.has_signalled(&from));
-        match (&mut self.seated[seat], from) {
-            (Some(child), Some(from)) => {
-                (child.passes, child.is_ahead) = (from.passes, is_ahead);
-                from.passes
-            }
-            _ => unreachable!("a task that isn't registered has no other join"),
-        }
+        let Some(from) = self.seated[parent] else { unreachable!("a task that isn't registered has no other join") };
+        let is_ahead = mode != Mode::Wait && self.has_signalled(&from);
+        let child = Member { task, mode, passes: from.passes, is_ahead, waits_in: None, runs_single: false };
+        self.set(seat, Some(child));
+        from.passes
     }
 
     pub(crate) fn left(&mut self, seat: usize) {
-        self.seated[seat] = None;
+        self.set(seat, None);
     }
 
     pub(crate) fn waits(&mut self, seat: usize, call: Call) {
-        if let Some(member) = &mut self.seated[seat] {
-            member.waits_in = Some(call);
-        }
+        self.change(seat, |member| Member { waits_in: Some(call), ..member });
     }
 
     /// A call has ended. One that is refused moves nobody.
     pub(crate) fn ended(&mut self, seat: usize, call: Call, outcome: Outcome) {
-        let Some(member) = &mut self.seated[seat] else { return };
-        member.waits_in = None;
-        match (call, outcome) {
-            (_, Err(_)) => {}
-            (Call::Signal, Ok(_)) => member.is_ahead = true,
-            (_, Ok(Ended::Done(phase))) => (member.passes, member.is_ahead) = (phase + 1, false),
-            (_, Ok(Ended::Claimed)) => (member.is_ahead, member.runs_single) = (true, true),
-        }
+        self.change(seat, |member| {
+            let member = Member { waits_in: None, ..member };
+            match (call, outcome) {
+                (_, Err(_)) => member,
+                (Call::Signal, Ok(_)) => Member { is_ahead: true, ..member },
+                (_, Ok(Ended::Done(phase))) => Member { passes: phase + 1, is_ahead: false, ..member },
+                (_, Ok(Ended::Claimed)) => Member { is_ahead: true, runs_single: true, ..member },
+            }
+        });
     }
 
     pub(crate) fn reported(&mut self, seat: usize) {
-        if let Some(member) = &mut self.seated[seat] {
-            member.runs_single = false;
-        }
+        self.change(seat, |member| Member { runs_single: false, ..member });
+    }
+
+    /// The task of this seat stands in this phase: it came there by calls that nobody noted.
+    pub(crate) fn stands(&mut self, seat: usize, phase: u64) {
+        self.change(seat, |member| Member { passes: phase, ..member });
     }
 
     /// The least phase in which a task is that can wait.

@@ -1,8 +1,10 @@
 //! A phaser for threads that wait.
 use crate::answers::{Look, Mode, Operator, Refusal};
-use crate::shared::{ended, Call, Patience, Place, Shared};
+use crate::held::{Call, Place};
+use crate::shared::{ended, Shared};
 use crate::trace::Trace;
 use crate::waiting_cell::Ended;
+use crate::waits::Patience;
 use std::fmt;
 use std::sync::Arc;
 use std::time::Duration;
@@ -259,7 +261,7 @@ impl Task {
     /// Makes a call, or goes on with the same one, whose time was over. None if the time is over, once more.
     fn call_in_time(&mut self, call: Call, patience: Patience) -> Result<Option<Ended>, Refusal> {
         let outcome = match self.unfinished {
-            None => self.shared.call(self.place, call, patience),
+            None => self.shared.call(self.place, self.phase, call, patience),
             Some(unfinished) if unfinished == call => self.shared.go_on(self.place, patience),
             Some(_) => return Err(Refusal::NotNow),
         };
@@ -372,7 +374,7 @@ impl Task {
     /// What an accumulator holds of the phase before the task's own. `NoWait`, `NoAccumulator`, `NoPhaseYet`, `HistoryFull`;
     /// `TooGreat` if it isn't within an `i64`.
     pub fn look(&mut self, accumulator: u8) -> Result<Look, Refusal> {
-        self.shared.look(self.place, accumulator)
+        self.shared.look(self.place, self.phase, accumulator)
     }
 
     /// Leaves: no task waits for this one any more. What it sent still counts.

@@ -1,35 +1,94 @@
-//! Where a task's answer comes while its thread spins or sleeps. A phaser has a seat for each task that it has room for, and
-//! keeps them as long as itself: so an answer is written to memory that stays, even if the task has left meanwhile.
-use crate::archive::{Freed, MOST_FREED};
+//! Where a task keeps what it sends until it comes, says that it has come, and is answered while its thread spins or sleeps. A
+//! phaser has a seat for each task that it has room for, and keeps them as long as itself: so an answer is written to memory that
+//! stays, even if the task has left meanwhile.
+use crate::archive::{Freed, GivenSend, MOST_FREED};
+use crate::spins::Spins;
 use crate::waiting_cell::{outcome, Outcome};
 use std::sync::atomic::{AtomicU32, AtomicU64, Ordering::*};
 
 /// How many seats there are: as many as tasks may be registered at once.
 pub(crate) const SEATS: usize = MOST_FREED;
 
+/// How many values a seat has room for.
+pub(crate) const KEPT: usize = 4;
+
 const SPINNING: u32 = 0; // its thread looks at the seat again and again, or is about to
 const READY: u32 = 1; // the answer stands there
 const ASLEEP: u32 = 2; // its thread sleeps, or is about to: it has to be woken
 
 /// The seat of one task, on a cache line of its own.
-#[repr(align(64))]
+#[repr(align(128))]
 pub(crate) struct Seat {
     state: AtomicU32,
     answer: AtomicU32,
     number: AtomicU64,
+    /// One more than the phase in which it came last and was counted; 0: none, or it was taken back.
+    came: AtomicU64,
+    /// How many values are kept.
+    count: AtomicU32,
+    kept: [AtomicU64; KEPT],
+    /// What those who waited here have learned.
+    pub(crate) spins: Spins,
 }
 
 impl Seat {
     pub(crate) const fn new() -> Seat {
-        Seat { state: AtomicU32::new(READY), answer: AtomicU32::new(0), number: AtomicU64::new(0) }
+        Seat {
+            state: AtomicU32::new(READY),
+            answer: AtomicU32::new(0),
+            number: AtomicU64::new(0),
+            came: AtomicU64::new(0),
+            count: AtomicU32::new(0),
+            kept: [const { AtomicU64::new(0) }; KEPT],
+            spins: Spins::new(),
+        }
     }
 
-    /// The task waits from now on. The lock is held, under which alone answers are given.
+    /// Keeps a value that its task sends, if there is room for it. The task hasn't come, so nobody else looks.
+    pub(crate) fn keeps(&self, accumulator: u8, value: i32) -> bool {
+        let count = self.count.load(Relaxed);
+        let Some(place) = self.kept.get(count as usize) else { return false };
+        place.store(u64::from(accumulator) << 32 | u64::from(value as u32), Relaxed);
+        self.count.store(count + 1, Relaxed);
+        true
+    }
+
+    pub(crate) fn keeps_any(&self) -> bool {
+        self.count.load(Relaxed) > 0
+    }
+
+    /// What was kept for this task, which is kept no longer: for the task itself, or once it has come.
+    pub(crate) fn take_kept(&self, task: u64) -> impl Iterator<Item = GivenSend> + '_ {
+        let count = self.count.load(Relaxed);
+        if count > 0 {
+            self.count.store(0, Relaxed);
+        }
+        self.kept[..count as usize].iter().map(move |kept| {
+            let kept = kept.load(Relaxed);
+            GivenSend { task, value: kept as u32 as i32, accumulator: (kept >> 32) as u8 }
+        })
+    }
+
+    /// Its task has been counted in this phase. What it did before is seen by who takes it back.
+    pub(crate) fn comes(&self, phase: u64) {
+        self.came.store(phase + 1, Release);
+    }
+
+    /// Whether its task has been counted in this phase, and hadn't been taken back. From now on it is.
+    pub(crate) fn is_taken_back(&self, phase: u64) -> bool {
+        let came = self.came.load(Acquire) == phase + 1;
+        if came {
+            self.came.store(0, Relaxed);
+        }
+        came
+    }
+
+    /// The task waits from now on. Its call isn't known yet to anybody who gives answers.
     pub(crate) fn takes(&self) {
         self.state.store(SPINNING, Relaxed);
     }
 
-    /// Gives the answer, with the lock held. Whether its thread has to be woken.
+    /// Gives the answer. Whether its thread has to be woken.
     pub(crate) fn give(&self, freed: &Freed) -> bool {
         self.answer.store(freed.answer, Relaxed);
         self.number.store(freed.number, Relaxed);

@@ -1,386 +1,266 @@
-//! A phaser as its tasks share it: the archive's calls behind a lock, and those who wait.
+//! A phaser as its tasks share it: the archive's calls, one at a time, and those who wait.
 //!
-//! A caller takes the lock, makes the archive's call, and answers the tasks that it freed, then gives the lock back. So
-//! the archive's parked tasks are those that wait here whenever the lock is free. A woken thread has its answer, and
-//! takes no lock.
+//! While all stand level a turn takes no lock. Who comes is counted, and the last has the archive make the turns of all, and then
+//! lets the others go. Each other call takes the lock. Some of them stop the counting: from then on turns take the lock too, until
+//! all stand level again.
 use crate::answers::{Look, Mode, Operator, Refusal};
-use crate::archive::Freed;
-use crate::bell::Bell;
-use crate::members::Members;
+use crate::folds::Folds;
+use crate::held::{Call, Held, Place};
+use crate::rounds::{Coming, Holder, Last, Rounds};
 use crate::seats::{bit, Seat, SEATS};
-use crate::spins::{have_processors, lock, Spins};
 use crate::trace::Trace;
-use crate::waiting_cell::{freed_with, outcome, Answer, Outcome, WaitingCell};
-use crate::yields::Yields;
-use std::collections::VecDeque;
+use crate::waiting_cell::{Answer, Ended, Outcome};
+use crate::waits::{Awaited, Patience, Waits};
 use std::mem::take;
-use std::sync::atomic::Ordering::{Acquire, Release};
-use std::sync::{Mutex, MutexGuard};
-use std::time::{Duration, Instant};
-
-/// A call that may have to wait.
-#[derive(Clone, Copy, Debug, PartialEq, Eq)]
-pub(crate) enum Call {
-    Signal,
-    Pass,
-    /// A signal, which may propose a single, and then a pass.
-    Turn(Option<u32>),
-}
-
-/// For how long a call waits.
-#[derive(Clone, Copy)]
-pub(crate) enum Patience {
-    Endless,
-    Until(Instant),
-    None,
-}
-
-impl Patience {
-    pub(crate) fn of(timeout: Duration) -> Patience {
-        Instant::now().checked_add(timeout).map_or(Patience::Endless, Patience::Until)
-    }
-}
-
-/// A task, and the seat that it has while it is registered.
-#[derive(Clone, Copy, Debug, PartialEq, Eq)]
-pub(crate) struct Place {
-    pub(crate) task: u64,
-    pub(crate) seat: usize,
-}
-
-/// Who is parked, and in which call.
-struct Sleeper {
-    place: Place,
-    call: Call,
-}
-
-/// What the lock guards.
-struct Held {
-    cell: WaitingCell,
-    /// Those who are parked, the first of them first. It has room for all.
-    sleepers: VecDeque<Sleeper>,
-    /// Those whose turns have signalled, and are to pass. Of a traced phaser alone, and none of them while the lock is free.
-    passing: VecDeque<Place>,
-    members: Members,
-    /// The seats of nobody.
-    free: Vec<usize>,
-    /// The bits of those who sleep, and were answered since the lock was taken.
-    woken: u32,
-    trace: Option<Box<Trace>>,
-}
-
-impl Held {
-    fn registered(&self) -> usize {
-        SEATS - self.free.len()
-    }
-
-    /// The seat of a task that was just registered.
-    fn seated(&mut self, task: u64) -> Place {
-        match self.free.pop() {
-            Some(seat) => Place { task, seat },
-            None => unreachable!("the archive registers no more tasks than there are seats"),
-        }
-    }
-
-    /// Makes a call, and answers those whom it freed. With a trace a turn is a signal and then a pass, so that each who is
-    /// freed made one event: the trace knows which.
-    fn call(&mut self, seats: &[Seat], me: Place, call: Call) -> Result<Answer, Refusal> {
-        // Before anybody is answered: the caller itself may be among them.
-        let park = || seats[me.seat].takes();
-        let mut answer = self.ask(seats, me, call, park);
-        if self.is_split(call) && matches!(answer, Ok(Answer::Ended(_))) {
-            answer = self.ask(seats, me, Call::Pass, park);
-        }
-        self.let_pass(seats);
-        answer
-    }
-
-    /// Whether the archive is asked for a signal first, and then for a pass.
-    fn is_split(&self, call: Call) -> bool {
-        matches!(call, Call::Turn(_)) && self.trace.is_some()
-    }
-
-    /// What a call of the archive did that has ended.
-    fn made(&self, call: Call) -> Call {
-        if self.is_split(call) {
-            Call::Signal
-        } else {
-            call
-        }
-    }
-
-    /// Makes one call of the archive.
-    fn ask(&mut self, seats: &[Seat], me: Place, call: Call, park: impl Fn()) -> Result<Answer, Refusal> {
-        let answer = match call {
-            Call::Signal => self.cell.signal(me.task, None),
-            Call::Pass => self.cell.pass(me.task),
-            Call::Turn(proposed) if self.trace.is_some() => self.cell.signal(me.task, proposed),
-            Call::Turn(proposed) => self.cell.next(me.task, proposed),
-        };
-        match answer {
-            Ok(Answer::Parked) => {
-                park();
-                self.sleepers.push_back(Sleeper { place: me, call });
-                self.members.waits(me.seat, call);
-            }
-            Ok(Answer::Ended(ended)) => self.members.ended(me.seat, self.made(call), Ok(ended)),
-            Err(_) => {}
-        }
-        if let Some(trace) = &mut self.trace {
-            trace.called(me.task, call, answer);
-        }
-        self.answer_freed(seats);
-        answer
-    }
-
-    /// Those whose turns have signalled meanwhile ask to pass. Their threads may sleep, or may have gone.
-    fn let_pass(&mut self, seats: &[Seat]) {
-        while let Some(place) = self.passing.pop_front() {
-            let outcome = match self.ask(seats, place, Call::Pass, || ()) {
-                Ok(Answer::Parked) => continue,
-                Ok(Answer::Ended(ended)) => Ok(ended),
-                Err(refusal) => Err(refusal),
-            };
-            self.give(seats, place, &freed_with(place.task, outcome));
-        }
-    }
-
-    /// Reports the single done that the task claimed.
-    fn report(&mut self, seats: &[Seat], me: Place) -> Result<(), Refusal> {
-        self.cell.single_done(me.task)?;
-        self.members.reported(me.seat);
-        if let Some(trace) = &mut self.trace {
-            trace.did(me.task);
-        }
-        self.answer_freed(seats);
-        self.let_pass(seats);
-        Ok(())
-    }
-
-    fn leave(&mut self, seats: &[Seat], me: Place) -> Result<(), Refusal> {
-        self.cell.leave(me.task)?;
-        self.free.push(me.seat);
-        if let Some(trace) = &mut self.trace {
-            trace.left(me.task);
-        }
-        self.answer_freed(seats);
-        self.members.left(me.seat);
-        self.let_pass(seats);
-        Ok(())
-    }
-
-    /// Answers those whom the last call freed. Of a traced turn that is its signal: it goes on with its pass.
-    fn answer_freed(&mut self, seats: &[Seat]) {
-        for at in 0..self.cell.freed().len() {
-            let freed = self.cell.freed()[at];
-            let outcome = outcome(freed.answer, freed.number);
-            if let Some(trace) = &mut self.trace {
-                trace.freed(freed.task, outcome);
-            }
-            // Mostly it is the first.
-            let at = self.sleepers.iter().position(|it| it.place.task == freed.task);
-            let Some(Sleeper { place, call }) = at.and_then(|at| self.sleepers.remove(at)) else {
-                unreachable!("the archive freed a task that isn't parked")
-            };
-            self.members.ended(place.seat, self.made(call), outcome);
-            if self.is_split(call) && outcome.is_ok() {
-                self.passing.push_back(place);
-            } else {
-                self.give(seats, place, &freed);
-            }
-        }
-    }
-
-    /// Gives a task its answer, and notes whether it is to be woken.
-    fn give(&mut self, seats: &[Seat], place: Place, freed: &Freed) {
-        if seats[place.seat].give(freed) {
-            self.woken |= bit(place.seat);
-        }
-    }
-}
 
 /// What a phaser and its tasks have a share of.
 pub(crate) struct Shared {
-    held: Mutex<Held>,
+    rounds: Rounds<Held>,
     seats: Box<[Seat]>,
-    /// Its word is raised before sleepers are woken.
-    bell: Bell,
-    spins: Spins,
-    yields: Yields,
+    waits: Waits,
+    folds: Folds,
+    accumulators: usize,
 }
 
 impl Shared {
     pub(crate) fn new(bound: u32, operators: &[Operator], is_traced: bool) -> Result<Shared, Refusal> {
-        let cell = WaitingCell::new(bound, operators)?;
-        let trace = is_traced.then(|| Box::new(Trace::new(bound, operators)));
-        let sleepers = VecDeque::with_capacity(SEATS);
-        let passing = VecDeque::with_capacity(if is_traced { SEATS } else { 0 });
-        let (members, free) = (Members::new(bound), (0..SEATS).rev().collect());
-        let held = Held { cell, sleepers, passing, members, free, woken: 0, trace };
+        let rounds = Rounds::new(Held::new(bound, operators, is_traced)?);
         let seats = (0..SEATS).map(|_| Seat::new()).collect();
-        let (held, bell, spins, yields) = (Mutex::new(held), Bell::new(), Spins::new(), Yields::new());
-        Ok(Shared { held, seats, bell, spins, yields })
+        Ok(Shared { rounds, seats, waits: Waits::new(), folds: Folds::new(), accumulators: operators.len() })
     }
 
-    fn lock(&self) -> MutexGuard<'_, Held> {
-        lock(&self.held)
+    /// Takes the lock, and has the counting stopped.
+    fn lock_stopped(&self) -> Holder<'_, Held> {
+        loop {
+            let mut held = self.rounds.lock();
+            if held.is_stopped() {
+                return held;
+            }
+            if let Some(missing) = held.stop() {
+                self.stopped();
+                held.end(&self.seats, missing);
+                return held;
+            }
+            // All have come, so this ends the round.
+            self.release(held);
+        }
     }
 
-    /// Gives the lock back, and wakes those who sleep and were answered under it.
-    fn release(&self, mut held: MutexGuard<'_, Held>) {
+    /// Rounds are counted no longer.
+    fn stopped(&self) {
+        self.waits.set_stopped(true);
+        self.folds.forget();
+    }
+
+    /// Gives the lock back, and wakes those who sleep and were answered under it. Rounds are counted from now on if all stand level;
+    /// and if all have come meanwhile the round is ended.
+    fn release(&self, mut held: Holder<'_, Held>) {
+        let woken = self.raise(&mut held);
+        if !held.is_stopped() {
+            if let Some(last) = held.release() {
+                self.end_round(last);
+            }
+        } else if let Some(count) = held.begin() {
+            self.waits.set_stopped(false);
+            held.begin_round(count);
+        }
+        self.waits.wake(woken);
+    }
+
+    /// The bits of those who are to be woken, whom nobody else wakes.
+    fn raise(&self, held: &mut Held) -> u32 {
         let woken = take(&mut held.woken);
-        if woken == 0 {
-            return;
+        if woken != 0 {
+            self.waits.raise();
         }
-        // Only now that all of them are ready: who read the word before isn't let asleep by it.
-        self.bell.word.fetch_add(1, Release);
-        drop(held);
-        self.bell.wake(woken);
+        woken
     }
 
-    /// Waits until the answer stands at the seat; none if the patience ends before.
-    fn answer_at(&self, at: usize, may_spin: bool, patience: Patience) -> Option<Outcome> {
-        let seat = &self.seats[at];
-        let has_come = || seat.is_ready();
-        if let Patience::None = patience {
-            return has_come().then(|| seat.outcome());
-        }
-        let is_ready = may_spin && self.spins.until(has_come) || self.yields.until(has_come);
-        if !is_ready && seat.falls_asleep() {
-            loop {
-                // The word comes first. If it was raised for this task, the seat is ready; if it is raised after this, the
-                // thread isn't let asleep, or is woken.
-                let word = self.bell.word.load(Acquire);
-                if seat.is_ready() {
-                    break;
+    /// Does it with the lock held, and the counting stopped.
+    fn stopping<T>(&self, act: impl FnOnce(&mut Held) -> T) -> T {
+        let mut held = self.lock_stopped();
+        let done = act(&mut held);
+        self.release(held);
+        done
+    }
+
+    /// Does it with the lock held, while others come.
+    fn holding<T>(&self, act: impl FnOnce(&mut Held) -> T) -> T {
+        let mut held = self.rounds.lock();
+        let done = act(&mut held);
+        self.release(held);
+        done
+    }
+
+    /// All have come. The archive makes the round, and then the others are let go.
+    fn end_round(&self, mut last: Last<'_, Held>) {
+        let senders = last.take_marks();
+        match last.round(&self.seats, senders) {
+            Some(round) => {
+                if let Some(seen) = round.seen {
+                    self.folds.set(round.phase, seen);
                 }
-                if self.sleeps_in_vain(word, at, patience) {
-                    return None;
-                }
+                // First: whoever is let go may come again at once.
+                last.begin_round(round.count);
+                self.waits.end_round();
+            }
+            None => {
+                self.stopped();
+                let woken = self.raise(&mut last);
+                last.stop();
+                self.waits.wake(woken);
             }
         }
-        Some(seat.outcome())
     }
 
-    /// Sleeps until somebody is woken, or the patience ends. Whether it has ended before the answer has come.
-    fn sleeps_in_vain(&self, word: u32, at: usize, patience: Patience) -> bool {
-        let Patience::Until(end) = patience else {
-            self.bell.sleep(word, bit(at));
-            return false;
-        };
-        let left = end.saturating_duration_since(Instant::now());
-        if left.is_zero() {
-            return self.seats[at].stops_sleeping();
+    /// A turn of a task that stands in this phase.
+    fn turn(&self, me: Place, phase: u64) -> Outcome {
+        loop {
+            if let Some(outcome) = self.counted_turn(me, phase).or_else(|| self.locked_turn(me)) {
+                return outcome;
+            }
         }
-        self.bell.sleep_for(word, bit(at), left);
-        false
+    }
+
+    /// The turn if it is counted.
+    fn counted_turn(&self, me: Place, phase: u64) -> Option<Outcome> {
+        if self.waits.is_stopped() {
+            return None;
+        }
+        let seat = &self.seats[me.seat];
+        let awaited = Awaited { seat, bit: bit(me.seat), round: Some(self.waits.round()) };
+        seat.takes();
+        // SAFETY: counted are the registered tasks, as `begin_round`, `join` and `leave` see to. Each is one `Task`'s, which is
+        // lent for the call. It doesn't come twice in a round, since it waits for its end.
+        match unsafe { self.rounds.come(seat.keeps_any().then_some(me.seat)) } {
+            Coming::Stopped => return None,
+            Coming::Waits => seat.comes(phase),
+            Coming::Last(last) => self.end_round(last),
+        }
+        self.waits.until(&awaited, Patience::Endless);
+        Some(if seat.is_ready() { seat.outcome() } else { Ok(Ended::Done(phase)) })
+    }
+
+    /// The turn if it isn't.
+    fn locked_turn(&self, me: Place) -> Option<Outcome> {
+        let mut held = self.rounds.lock();
+        if !held.is_stopped() {
+            self.release(held);
+            return None;
+        }
+        let answer = held.call(&self.seats, me, Call::Turn(None));
+        self.finish(held, me, answer, Patience::Endless)
     }
 
     /// Gives the lock back, and waits if the task was parked.
     fn finish(
         &self,
-        held: MutexGuard<'_, Held>,
+        held: Holder<'_, Held>,
         me: Place,
         answer: Result<Answer, Refusal>,
         patience: Patience,
     ) -> Option<Outcome> {
+        self.release(held);
         match answer {
-            Ok(Answer::Parked) => {
-                let may_spin = have_processors(held.registered());
-                self.release(held);
-                self.answer_at(me.seat, may_spin, patience)
-            }
-            Ok(Answer::Ended(ended)) => {
-                self.release(held);
-                Some(Ok(ended))
-            }
-            Err(refusal) => {
-                self.release(held);
-                Some(Err(refusal))
-            }
+            Ok(Answer::Parked) => self.go_on(me, patience),
+            Ok(Answer::Ended(ended)) => Some(Ok(ended)),
+            Err(refusal) => Some(Err(refusal)),
         }
     }
 
-    /// Makes a call. None if the patience has ended: then the call goes on, and `go_on` waits for its answer.
-    pub(crate) fn call(&self, me: Place, call: Call, patience: Patience) -> Option<Outcome> {
-        let mut held = self.lock();
+    /// Makes a call of a task that stands in this phase. None if the patience has ended: then the call goes on, and `go_on` waits
+    /// for its answer.
+    pub(crate) fn call(&self, me: Place, phase: u64, call: Call, patience: Patience) -> Option<Outcome> {
+        if let (Call::Turn(None), Patience::Endless) = (call, patience) {
+            return Some(self.turn(me, phase));
+        }
+        let mut held = self.lock_stopped();
         let answer = held.call(&self.seats, me, call);
         self.finish(held, me, answer, patience)
     }
 
-    /// Waits again for the answer of a call that goes on.
+    /// Waits, or waits again, for the answer of a call that goes on.
     pub(crate) fn go_on(&self, me: Place, patience: Patience) -> Option<Outcome> {
-        let may_spin = have_processors(self.lock().registered());
-        self.answer_at(me.seat, may_spin, patience)
+        let seat = &self.seats[me.seat];
+        let awaited = Awaited { seat, bit: bit(me.seat), round: None };
+        self.waits.until(&awaited, patience).then(|| seat.outcome())
     }
 
     /// Reports the claimed single done, and ends the turn in which it was proposed. All have signalled, so it doesn't wait.
     pub(crate) fn report(&self, me: Place) -> Outcome {
-        let mut held = self.lock();
-        held.report(&self.seats, me)?;
-        let passed = held.call(&self.seats, me, Call::Pass);
+        let mut held = self.lock_stopped();
+        let passed = held.report(&self.seats, me).and_then(|()| held.call(&self.seats, me, Call::Pass));
         ended(self.finish(held, me, passed, Patience::Endless))
     }
 
     pub(crate) fn make(&self, mode: Mode) -> Result<Place, Refusal> {
-        let mut held = self.lock();
-        let task = held.cell.make(mode)?;
-        if let Some(trace) = &mut held.trace {
-            trace.made(mode);
-        }
-        let place = held.seated(task);
-        held.members.made(place.seat, task, mode);
-        Ok(place)
+        self.holding(|held| {
+            let made = held.make(mode);
+            self.waits.set_threads(held.registered());
+            made
+        })
     }
 
     /// The place of a new task, and the phase that it is in.
     pub(crate) fn join(&self, parent: Place, mode: Mode) -> Result<(Place, u64), Refusal> {
-        let mut held = self.lock();
-        let child = held.cell.register(parent.task, mode)?;
-        if let Some(trace) = &mut held.trace {
-            trace.joined(parent.task, child, mode);
+        let mut held = if mode == Mode::SigWait { self.rounds.lock() } else { self.lock_stopped() };
+        let joined = if held.is_stopped() { held.join(parent, mode) } else { held.join_level(parent, mode) };
+        if joined.is_ok() && !held.is_stopped() {
+            held.adds();
         }
-        let place = held.seated(child);
-        let phase = held.members.joined(parent.seat, place.seat, child, mode);
-        Ok((place, phase))
+        self.waits.set_threads(held.registered());
+        self.release(held);
+        joined
     }
 
-    pub(crate) fn missing(&self) -> Vec<u64> {
-        self.lock().members.missing()
-    }
-
-    pub(crate) fn send(&self, me: Place, accumulator: u8, value: i32) -> Result<(), Refusal> {
-        let mut held = self.lock();
-        held.cell.send(me.task, accumulator, value)?;
-        if let Some(trace) = &mut held.trace {
-            trace.sent(me.task, accumulator, value);
+    /// Takes the lock for one task less. Without any task nothing is counted.
+    fn lock_to_leave(&self) -> Holder<'_, Held> {
+        let held = self.rounds.lock();
+        if held.registered() > 1 {
+            return held;
         }
-        Ok(())
-    }
-
-    pub(crate) fn look(&self, me: Place, accumulator: u8) -> Result<Look, Refusal> {
-        let mut held = self.lock();
-        let seen = held.cell.look(me.task, accumulator)?;
-        if let Some(trace) = &mut held.trace {
-            trace.looked(me.task, accumulator, seen);
-        }
-        Ok(seen)
+        self.release(held);
+        self.lock_stopped()
     }
 
     pub(crate) fn leave(&self, me: Place) -> Result<(), Refusal> {
-        let mut held = self.lock();
-        held.leave(&self.seats, me)?;
+        let mut held = self.lock_to_leave();
+        let left = held.leave(&self.seats, me);
+        if left.is_ok() && !held.is_stopped() {
+            held.removes();
+        }
+        self.waits.set_threads(held.registered());
         self.release(held);
-        Ok(())
+        left
+    }
+
+    pub(crate) fn missing(&self) -> Vec<u64> {
+        self.stopping(|held| held.missing())
+    }
+
+    pub(crate) fn send(&self, me: Place, accumulator: u8, value: i32) -> Result<(), Refusal> {
+        let is_kept = !self.waits.is_stopped() && usize::from(accumulator) < self.accumulators;
+        if is_kept && self.seats[me.seat].keeps(accumulator, value) {
+            return Ok(());
+        }
+        self.holding(|held| held.send(&self.seats, me, accumulator, value))
+    }
+
+    /// What a task sees that stands in this phase, or in a later one that it doesn't know of yet.
+    pub(crate) fn look(&self, me: Place, phase: u64, accumulator: u8) -> Result<Look, Refusal> {
+        match self.folds.seen(phase, accumulator) {
+            Some(seen) => Ok(seen),
+            None => self.holding(|held| held.look(me, accumulator)),
+        }
     }
 
     /// What was traced so far.
     pub(crate) fn trace(&self) -> Option<Trace> {
-        self.lock().trace.as_deref().cloned()
+        self.holding(|held| held.trace.as_deref().cloned())
     }
 
     pub(crate) fn trace_has_ended(&self) -> bool {
-        self.lock().trace.as_ref().is_some_and(|trace| trace.has_ended())
+        self.holding(|held| held.trace.as_ref().is_some_and(|trace| trace.has_ended()))
     }
 }
 
@@ -392,7 +272,6 @@ pub(crate) fn ended(outcome: Option<Outcome>) -> Outcome {
 #[cfg(test)]
 mod tests {
     use super::*;
-    use crate::waiting_cell::Ended;
     use std::sync::Arc;
     use std::thread::{sleep, spawn};
     use std::time::Duration;
@@ -409,10 +288,10 @@ mod tests {
     #[test]
     fn word_is_raised_for_who_sleeps() {
         let shared = Arc::new(Shared::new(2, &[], false).unwrap());
-        let word = || shared.bell.word.load(Acquire);
+        let word = || shared.waits.word();
         let maker = shared.make(Mode::SigWait).unwrap();
         let (child, _) = shared.join(maker, Mode::SigWait).unwrap();
-        let turn = |shared: &Shared, task| ended(shared.call(task, Call::Turn(None), Patience::Endless));
+        let turn = |shared: &Shared, task| ended(shared.call(task, 0, Call::Turn(None), Patience::Endless));
         let theirs = shared.clone();
         let waiting = spawn(move || turn(&theirs, child));
         assert!(comes(|| shared.seats[child.seat].is_asleep()));
@@ -429,7 +308,7 @@ mod tests {
     #[test]
     fn word_is_raised_for_nobody_whose_time_is_over() {
         let shared = Shared::new(2, &[], false).unwrap();
-        let word = || shared.bell.word.load(Acquire);
+        let word = || shared.waits.word();
         let maker = shared.make(Mode::SigWait).unwrap();
         let (child, _) = shared.join(maker, Mode::SigWait).unwrap();
         let soon = Patience::of(Duration::from_millis(20));

@@ -2,7 +2,7 @@
 use std::hint::spin_loop;
 use std::sync::atomic::{AtomicU32, Ordering::Relaxed};
 use std::sync::{Mutex, MutexGuard, OnceLock, PoisonError, TryLockError};
-use std::thread::available_parallelism;
+use std::thread::{available_parallelism, yield_now};
 
 /// As many rounds as take about as long as to fall asleep and to be woken.
 const MOST: u32 = 1_000;
@@ -58,6 +58,26 @@ impl Spins {
         // What all read is written only if it changes.
         if better != rounds {
             self.rounds.store(better, Relaxed);
+        }
+    }
+}
+
+/// The pauses of a thread that waits for what takes another a fraction of a microsecond: that one may have no processor.
+pub(crate) struct Pauses {
+    made: u32,
+}
+
+impl Pauses {
+    pub(crate) fn new() -> Pauses {
+        Pauses { made: 0 }
+    }
+
+    pub(crate) fn pause(&mut self) {
+        self.made = self.made.saturating_add(1);
+        if self.made < LOCK_TRIES {
+            spin_loop();
+        } else {
+            yield_now();
         }
     }
 }

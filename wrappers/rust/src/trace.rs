@@ -1,7 +1,7 @@
 //! The trace of a phaser for threads that wait: the text of a run of a world in which the maker is the root, and each task that
 //! joins a child. Each event is noted with the phaser's lock held, in the order in which the archive made them.
 use crate::answers::{Look, Mode, Operator, Refusal};
-use crate::shared::Call;
+use crate::held::Call;
 use crate::waiting_cell::{Answer, Ended, Outcome};
 use std::fmt::Write;
 

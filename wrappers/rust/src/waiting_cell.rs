@@ -106,6 +106,26 @@ impl WaitingCell {
         }
     }
 
+    /// The phase of these tasks, if they stand level: each is of mode `SigWait`, and hasn't signalled, and nobody waits.
+    pub(crate) fn level(&mut self, tasks: &[u64]) -> Option<u64> {
+        let mut phase = 0;
+        let answer =
+            unsafe { phaser_c_waiting_level(&mut self.handle, tasks.as_ptr(), tasks.len(), &mut phase) };
+        (answer == 0).then_some(phase)
+    }
+
+    /// Makes the whole round of this phase of tasks that stand level: these sends, a signal of each task but the first, a signal
+    /// and a pass of the first, and a pass of each other. If one is answered otherwise than in a round: how many were answered
+    /// so before it.
+    pub(crate) fn round(&mut self, sends: &[GivenSend], tasks: &[u64], phase: u64) -> Result<(), usize> {
+        let (mut made, handle) = (0, &mut self.handle);
+        let (told, all) = (sends.as_ptr(), tasks.as_ptr());
+        match unsafe { phaser_c_waiting_round(handle, told, sends.len(), all, tasks.len(), phase, &mut made) } {
+            0 => Ok(()),
+            _ => Err(made.saturating_sub(1)),
+        }
+    }
+
     /// Makes a call with the room for those whom it frees.
     fn freeing(&mut self, call: impl FnOnce(&mut Handle, *mut Freed, &mut usize) -> u32) -> u32 {
         self.count = 0;

@@ -42,6 +42,15 @@ pub struct Freed {
     pub answer: u32,
 }
 
+/// `paldwosk_send`: a value that a task sends to an accumulator.
+#[repr(C)]
+#[derive(Clone, Copy)]
+pub struct GivenSend {
+    pub task: u64,
+    pub value: i32,
+    pub accumulator: u8,
+}
+
 /// `PALDWOSK_MOST_FREED`: how many tasks may wait at once, and be freed by one call.
 pub const MOST_FREED: usize = 256;
 
@@ -154,5 +163,15 @@ unsafe extern "C" {
         freed: *mut Freed,
         room: usize,
         count: &mut usize,
+    ) -> u32;
+    pub fn phaser_c_waiting_level(phaser: &mut Handle, tasks: *const u64, count: usize, phase: &mut u64) -> u32;
+    pub fn phaser_c_waiting_round(
+        phaser: &mut Handle,
+        sends: *const GivenSend,
+        send_count: usize,
+        tasks: *const u64,
+        task_count: usize,
+        phase: u64,
+        made: &mut usize,
     ) -> u32;
 }

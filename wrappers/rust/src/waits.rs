@@ -1,0 +1,162 @@
+//! Where threads wait: for the answer at a seat, or for the end of the round in which they came.
+use crate::bell::Bell;
+use crate::seats::Seat;
+use crate::spins::have_processors;
+use crate::yields::Yields;
+use std::sync::atomic::{AtomicBool, AtomicU32, AtomicUsize, Ordering::*};
+use std::time::{Duration, Instant};
+
+/// For how long a call waits.
+#[derive(Clone, Copy)]
+pub(crate) enum Patience {
+    Endless,
+    Until(Instant),
+    None,
+}
+
+impl Patience {
+    pub(crate) fn of(timeout: Duration) -> Patience {
+        Instant::now().checked_add(timeout).map_or(Patience::Endless, Patience::Until)
+    }
+}
+
+/// What a thread waits for.
+pub(crate) struct Awaited<'a> {
+    pub(crate) seat: &'a Seat,
+    /// By which it is woken.
+    pub(crate) bit: u32,
+    /// The round in which it came; none if it wasn't counted.
+    pub(crate) round: Option<u32>,
+}
+
+impl Awaited<'_> {
+    /// Whether it has come, by a word of the bell.
+    fn is_over(&self, word: u64) -> bool {
+        self.round.is_some_and(|round| round != round_of(word)) || self.seat.is_ready()
+    }
+}
+
+/// The high half of the word: how many rounds have ended.
+fn round_of(word: u64) -> u32 {
+    (word >> 32) as u32
+}
+
+/// The low half rises, and nothing is carried.
+fn raised(word: u64) -> u64 {
+    word & !u64::from(u32::MAX) | u64::from((word as u32).wrapping_add(1))
+}
+
+/// What all who wait look at, in a line of its own.
+#[repr(align(128))]
+struct Signs {
+    /// Its word has two halves. The low one rises before anybody is woken. Who has what all share writes it.
+    bell: Bell,
+    /// How many sleep, or are about to.
+    sleepers: AtomicU32,
+    /// Whether nothing is counted. It may be late: the count decides.
+    is_stopped: AtomicBool,
+    threads: AtomicUsize,
+}
+
+/// The place where the threads of a phaser wait.
+pub(crate) struct Waits {
+    signs: Signs,
+    yields: Yields,
+}
+
+impl Waits {
+    pub(crate) fn new() -> Waits {
+        let (sleepers, is_stopped, threads) = (AtomicU32::new(0), AtomicBool::new(true), AtomicUsize::new(0));
+        Waits { signs: Signs { bell: Bell::new(), sleepers, is_stopped, threads }, yields: Yields::new() }
+    }
+
+    pub(crate) fn is_stopped(&self) -> bool {
+        self.signs.is_stopped.load(Relaxed)
+    }
+
+    pub(crate) fn set_stopped(&self, is_stopped: bool) {
+        self.signs.is_stopped.store(is_stopped, Relaxed);
+    }
+
+    /// How many threads may come here.
+    pub(crate) fn threads(&self) -> usize {
+        self.signs.threads.load(Relaxed)
+    }
+
+    pub(crate) fn set_threads(&self, threads: usize) {
+        self.signs.threads.store(threads, Relaxed);
+    }
+
+    /// The number of this round. Who reads it before it comes has the one in which it comes.
+    pub(crate) fn round(&self) -> u32 {
+        round_of(self.signs.bell.word.load(Acquire))
+    }
+
+    /// Whoever read the word before isn't let asleep by it. Only then is anybody woken whose answer has come.
+    pub(crate) fn raise(&self) {
+        let word = &self.signs.bell.word;
+        word.store(raised(word.load(Relaxed)), SeqCst);
+    }
+
+    /// Wakes those who sleep by one of these bits.
+    pub(crate) fn wake(&self, bits: u32) {
+        if bits != 0 {
+            self.signs.bell.wake(bits);
+        }
+    }
+
+    /// Lets all go on who came in this round.
+    pub(crate) fn end_round(&self) {
+        let word = &self.signs.bell.word;
+        let ended = raised(word.load(Relaxed)).wrapping_add(1 << 32);
+        word.store(ended, SeqCst);
+        // Who isn't counted yet as a sleeper sees the word.
+        if self.signs.sleepers.load(SeqCst) > 0 {
+            self.wake(u32::MAX);
+        }
+    }
+
+    /// Waits until it has come, or the patience ends. Whether it has come.
+    pub(crate) fn until(&self, awaited: &Awaited, patience: Patience) -> bool {
+        let has_come = || awaited.is_over(self.signs.bell.word.load(Acquire));
+        if let Patience::None = patience {
+            return has_come();
+        }
+        let may_spin = have_processors(self.threads());
+        let is_over = may_spin && awaited.seat.spins.until(has_come) || self.yields.until(has_come);
+        is_over || !awaited.seat.falls_asleep() || self.sleeps_until(awaited, patience)
+    }
+
+    /// Sleeps until it has come, or the patience ends. Whether it has come.
+    fn sleeps_until(&self, awaited: &Awaited, patience: Patience) -> bool {
+        self.signs.sleepers.fetch_add(1, SeqCst);
+        let has_come = loop {
+            // The word comes first. If it was raised for this thread that is seen; if it is raised after this, the thread
+            // isn't let asleep, or is woken.
+            let word = self.signs.bell.word.load(SeqCst);
+            if awaited.is_over(word) {
+                break true;
+            }
+            if self.sleeps_in_vain(word, awaited, patience) {
+                break false;
+            }
+        };
+        self.signs.sleepers.fetch_sub(1, Relaxed);
+        has_come
+    }
+
+    /// Sleeps until somebody is woken, or the patience ends. Whether it has ended before the answer has come.
+    fn sleeps_in_vain(&self, word: u64, awaited: &Awaited, patience: Patience) -> bool {
+        let bell = &self.signs.bell;
+        let Patience::Until(end) = patience else {
+            bell.sleep(word, awaited.bit);
+            return false;
+        };
+        let left = end.saturating_duration_since(Instant::now());
+        if left.is_zero() {
+            return awaited.seat.stops_sleeping();
+        }
+        bell.sleep_for(word, awaited.bit, left);
+        false
+    }
+}
