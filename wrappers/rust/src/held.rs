@@ -72,6 +72,12 @@ impl Held {
         self.members.missing()
     }
 
+    /// Has the archive make a signal of which nothing else learns.
+    #[cfg(test)]
+    pub(crate) fn signal_unnoticed(&mut self, me: Place) {
+        self.cell.signal(me.task, None).unwrap();
+    }
+
     /// The seat of a task that was just registered.
     fn seated(&mut self, task: u64) -> Place {
         match self.free.pop() {
@@ -353,6 +359,46 @@ impl Held {
             self.ask_for(seats, place, Call::Pass);
         } else {
             self.ask_for(seats, place, Call::Turn(None));
+        }
+    }
+}
+
+#[cfg(test)]
+mod tests {
+    use super::*;
+    use crate::archive::GivenSend;
+
+    fn held() -> (Held, Vec<Seat>, [Place; 3]) {
+        let mut held = Held::new(2, &[Operator::Sum], false).unwrap();
+        let maker = held.make(Mode::SigWait).unwrap();
+        let [one, other] = [(); 2].map(|_| held.join(maker, Mode::SigWait).unwrap().0);
+        (held, (0..SEATS).map(|_| Seat::new()).collect(), [maker, one, other])
+    }
+
+    /// Makes the call of this number of a round in which task 1 sends 3 and task 2 sends 4.
+    fn make_call(cell: &mut WaitingCell, number: usize) {
+        match number {
+            0 | 1 => cell.send(number as u64 + 1, 0, number as i32 + 3).unwrap(),
+            2 | 3 => assert!(cell.signal(number as u64 - 1, None).is_ok()),
+            4 => assert!(cell.signal(0, None).is_ok()),
+            _ => assert_eq!(cell.pass(number as u64 - 5), Ok(Answer::Ended(Ended::Done(0)))),
+        }
+    }
+
+    /// However many of the eight calls of a round are made, the others are made by themselves, and all three tasks are answered.
+    #[test]
+    fn round_is_taken_up_after_any_call() {
+        for made in 0..8 {
+            let (mut held, seats, tasks) = held();
+            assert_eq!(held.begin(), Some(3));
+            tasks.iter().for_each(|task| seats[task.seat].takes());
+            (0..made).for_each(|number| make_call(&mut held.cell, number));
+            held.level.sends.extend([1, 2].map(|task| GivenSend { task, value: task as i32 + 2, accumulator: 0 }));
+            held.answer_each(&seats, made);
+            let answers = tasks.map(|task| seats[task.seat].is_ready().then(|| seats[task.seat].outcome()));
+            assert_eq!(answers, [Some(Ok(Ended::Done(0))); 3], "{made}");
+            assert!(held.sleepers.is_empty() && held.members.are_level());
+            assert!(tasks.iter().all(|task| held.look(*task, 0) == Ok(Look::Value(3 + 4))));
         }
     }
 }

@@ -211,3 +211,181 @@ impl<T> DerefMut for Holder<'_, T> {
         unsafe { &mut *self.rounds.value.get() }
     }
 }
+
+#[cfg(test)]
+mod tests {
+    use super::*;
+    use std::array::from_fn;
+    use std::thread::scope;
+
+    /// A value for so many threads that come in rounds.
+    fn counted<T>(value: T, count: usize) -> Rounds<T> {
+        let rounds = Rounds::new(value);
+        rounds.lock().begin_round(count);
+        rounds
+    }
+
+    // SAFETY: each test has as many come as it has counted.
+    fn come<T>(rounds: &Rounds<T>) -> Coming<'_, T> {
+        unsafe { rounds.come(None) }
+    }
+
+    fn waits<T>(coming: Coming<'_, T>) -> bool {
+        matches!(coming, Coming::Waits)
+    }
+
+    fn last<T>(coming: Coming<'_, T>) -> Last<'_, T> {
+        match coming {
+            Coming::Last(last) => last,
+            _ => panic!("it isn't the last"),
+        }
+    }
+
+    #[test]
+    fn last_of_three_has_the_value() {
+        let rounds = counted(0, 3);
+        for round in 0..10 {
+            assert!(waits(come(&rounds)) && waits(come(&rounds)));
+            let mut last = last(come(&rounds));
+            assert_eq!(*last, round);
+            *last += 1;
+            last.begin_round(3);
+        }
+    }
+
+    #[test]
+    fn nobody_comes_while_nothing_is_counted() {
+        let rounds = Rounds::new(7);
+        assert!((0..1_000).all(|_| matches!(come(&rounds), Coming::Stopped)));
+        let mut held = rounds.lock();
+        assert!(held.is_stopped() && *held == 7);
+        *held = 8;
+        assert!(held.release().is_none());
+        // Those who came too late aren't counted.
+        rounds.lock().begin_round(1);
+        assert_eq!(*last(come(&rounds)), 8);
+    }
+
+    /// With the lock held one of two comes, one joins, and both that are missing come.
+    #[test]
+    fn who_releases_the_lock_may_be_the_last() {
+        let rounds = counted((), 2);
+        assert!(waits(come(&rounds)));
+        let held = rounds.lock();
+        held.adds();
+        assert!(waits(come(&rounds)) && waits(come(&rounds)));
+        held.release().unwrap().begin_round(1);
+        last(come(&rounds)).begin_round(1);
+    }
+
+    /// Two of three come while the third leaves.
+    #[test]
+    fn who_leaves_may_be_the_last() {
+        let rounds = counted((), 3);
+        assert!(waits(come(&rounds)));
+        let held = rounds.lock();
+        assert!(waits(come(&rounds)));
+        held.removes();
+        held.release().unwrap().begin_round(2);
+        assert!(waits(come(&rounds)));
+        assert!(rounds.lock().release().is_none());
+        last(come(&rounds)).stop();
+        assert!(rounds.lock().is_stopped());
+    }
+
+    #[test]
+    fn counting_is_stopped_unless_all_have_come() {
+        let rounds = counted((), 3);
+        assert!(waits(come(&rounds)));
+        let mut held = rounds.lock();
+        assert_eq!((held.is_stopped(), held.stop(), held.is_stopped()), (false, Some(2), true));
+        assert!(matches!(come(&rounds), Coming::Stopped));
+        held.begin_round(1);
+        let mut held = rounds.lock();
+        assert!(waits(come(&rounds)));
+        assert_eq!((held.stop(), held.is_stopped()), (None, false));
+        held.release().unwrap().begin_round(1);
+    }
+
+    #[test]
+    fn lock_waits_for_the_last() {
+        let rounds = counted(0, 1);
+        scope(|scope| {
+            let mut last = last(come(&rounds));
+            let waiting = scope.spawn(|| {
+                let held = rounds.lock();
+                let seen = *held;
+                assert!(held.release().is_none());
+                seen
+            });
+            std::thread::sleep(std::time::Duration::from_millis(20));
+            assert!(!waiting.is_finished());
+            *last = 5;
+            last.begin_round(1);
+            assert_eq!(waiting.join().unwrap(), 5);
+        });
+    }
+
+    #[test]
+    fn marks_are_taken_once() {
+        let rounds = counted((), 4);
+        for mark in [0, 64, 255] {
+            // SAFETY: as above.
+            assert!(waits(unsafe { rounds.come(Some(mark)) }));
+        }
+        let last = last(come(&rounds));
+        assert_eq!(last.take_marks().collect::<Vec<_>>(), [0, 64, 255]);
+        assert_eq!(last.take_marks().count(), 0);
+        last.begin_round(1);
+    }
+
+    /// The value counts the rounds, and how often threads that aren't counted held it. Each change is made by who has it alone, so
+    /// none is lost.
+    #[test]
+    fn one_thread_at_a_time_has_the_value() {
+        const THREADS: usize = 3;
+        const ROUNDS: u64 = 3_000;
+        let rounds = counted([0_u64; 2], THREADS);
+        let ended = AtomicU64::new(0);
+        let until = |round| {
+            let mut pauses = Pauses::new();
+            while ended.load(Acquire) < round {
+                pauses.pause();
+            }
+        };
+        let ends = |mut last: Last<'_, [u64; 2]>| {
+            last[0] += 1;
+            let round = last[0];
+            last.begin_round(THREADS);
+            ended.store(round, Release);
+        };
+        let held = scope(|scope| {
+            for _ in 0..THREADS {
+                scope.spawn(|| {
+                    for round in 1..=ROUNDS {
+                        if let Coming::Last(last) = come(&rounds) {
+                            ends(last);
+                        }
+                        until(round);
+                    }
+                });
+            }
+            let others: [_; 2] = from_fn(|_| {
+                scope.spawn(|| {
+                    let mut held_count = 0;
+                    while ended.load(Acquire) < ROUNDS {
+                        let mut held = rounds.lock();
+                        held[1] += 1;
+                        held_count += 1;
+                        if let Some(last) = held.release() {
+                            ends(last);
+                        }
+                    }
+                    held_count
+                })
+            });
+            others.map(|other| other.join().unwrap()).iter().sum::<u64>()
+        });
+        assert_eq!(*rounds.lock(), [ROUNDS, held]);
+    }
+}

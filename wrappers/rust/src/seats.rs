@@ -191,4 +191,26 @@ mod tests {
         assert!(seat.is_ready() && !seat.stops_sleeping());
         assert_eq!(seat.outcome(), Ok(Ended::Done(5)));
     }
+
+    #[test]
+    fn seat_has_room_for_four_values() {
+        let seat = Seat::new();
+        let kept = |seat: &Seat| seat.take_kept(9).map(|it| (it.task, it.accumulator, it.value)).collect::<Vec<_>>();
+        assert!(!seat.keeps_any() && kept(&seat).is_empty());
+        let sent = [(0, i32::MIN), (3, -1), (255, 0), (1, i32::MAX)];
+        assert!(sent.iter().all(|(accumulator, value)| seat.keeps(*accumulator, *value)));
+        assert!(seat.keeps_any() && !seat.keeps(0, 1));
+        assert_eq!(kept(&seat), sent.map(|(accumulator, value)| (9, accumulator, value)));
+        assert!(!seat.keeps_any() && seat.keeps(2, 5));
+        assert_eq!(kept(&seat), [(9, 2, 5)]);
+    }
+
+    #[test]
+    fn who_came_is_taken_back_once() {
+        let seat = Seat::new();
+        assert!(!seat.is_taken_back(0));
+        seat.comes(0);
+        assert!(!seat.is_taken_back(1));
+        assert_eq!([(); 2].map(|_| seat.is_taken_back(0)), [true, false]);
+    }
 }

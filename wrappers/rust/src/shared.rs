@@ -272,6 +272,7 @@ pub(crate) fn ended(outcome: Option<Outcome>) -> Outcome {
 #[cfg(test)]
 mod tests {
     use super::*;
+    use std::iter::once;
     use std::sync::Arc;
     use std::thread::{sleep, spawn};
     use std::time::Duration;
@@ -284,49 +285,227 @@ mod tests {
         })
     }
 
-    /// The word is raised if a task that sleeps is answered, so that no task just answered falls asleep.
+    /// The first task of a phaser, and as many others of the same mode.
+    fn phaser(mode: Mode, others: usize, operators: &[Operator]) -> (Arc<Shared>, Vec<Place>) {
+        let shared = Shared::new(2, operators, false).unwrap();
+        let maker = shared.make(mode).unwrap();
+        let joined = (0..others).map(|_| shared.join(maker, mode).unwrap().0);
+        let places = once(maker).chain(joined).collect();
+        (Arc::new(shared), places)
+    }
+
+    /// Makes a call that may have to wait.
+    fn call(shared: &Shared, task: Place, phase: u64, call: Call) -> Outcome {
+        ended(shared.call(task, phase, call, Patience::Endless))
+    }
+
+    fn turn(shared: &Shared, task: Place, phase: u64) -> Outcome {
+        call(shared, task, phase, Call::Turn(None))
+    }
+
+    /// Each task makes a turn in a thread of its own: what they came to.
+    fn turns(shared: &Arc<Shared>, tasks: &[Place], phase: u64) -> Vec<Outcome> {
+        let start = |task: &Place| {
+            let (shared, task) = (shared.clone(), *task);
+            spawn(move || turn(&shared, task, phase))
+        };
+        let threads: Vec<_> = tasks.iter().map(start).collect();
+        threads.into_iter().map(|thread| thread.join().unwrap()).collect()
+    }
+
+    /// How many rounds were counted, and whether the next is.
+    fn rounds(shared: &Shared) -> (u32, bool) {
+        (shared.waits.round(), !shared.waits.is_stopped())
+    }
+
+    /// The low half of the word is raised if a task that sleeps is answered, so that no task just answered falls asleep. The tasks
+    /// might run singles, so nothing is counted.
     #[test]
     fn word_is_raised_for_who_sleeps() {
-        let shared = Arc::new(Shared::new(2, &[], false).unwrap());
-        let word = || shared.waits.word();
-        let maker = shared.make(Mode::SigWait).unwrap();
-        let (child, _) = shared.join(maker, Mode::SigWait).unwrap();
-        let turn = |shared: &Shared, task| ended(shared.call(task, 0, Call::Turn(None), Patience::Endless));
-        let theirs = shared.clone();
-        let waiting = spawn(move || turn(&theirs, child));
-        assert!(comes(|| shared.seats[child.seat].is_asleep()));
-        assert_eq!(word(), 0);
-        assert_eq!(turn(&shared, maker), Ok(Ended::Done(0)));
+        let (shared, tasks) = phaser(Mode::Single, 1, &[]);
+        let theirs = (shared.clone(), tasks[1]);
+        let waiting = spawn(move || turn(&theirs.0, theirs.1, 0));
+        assert!(comes(|| shared.seats[tasks[1].seat].is_asleep()));
+        assert_eq!(shared.waits.word(), 0);
+        assert_eq!(turn(&shared, tasks[0], 0), Ok(Ended::Done(0)));
         assert!(comes(|| waiting.is_finished()));
-        assert_eq!((waiting.join().unwrap(), word()), (Ok(Ended::Done(0)), 1));
-        shared.leave(child).unwrap();
+        assert_eq!((waiting.join().unwrap(), shared.waits.word()), (Ok(Ended::Done(0)), 1));
+        shared.leave(tasks[1]).unwrap();
         // Nobody sleeps.
-        assert_eq!((turn(&shared, maker), word()), (Ok(Ended::Done(1)), 1));
+        assert_eq!((turn(&shared, tasks[0], 1), shared.waits.word()), (Ok(Ended::Done(1)), 1));
     }
 
     /// Nor does a task whose time is over: if it is answered then, it isn't woken.
     #[test]
     fn word_is_raised_for_nobody_whose_time_is_over() {
-        let shared = Shared::new(2, &[], false).unwrap();
-        let word = || shared.waits.word();
-        let maker = shared.make(Mode::SigWait).unwrap();
-        let (child, _) = shared.join(maker, Mode::SigWait).unwrap();
+        let (shared, tasks) = phaser(Mode::SigWait, 1, &[]);
         let soon = Patience::of(Duration::from_millis(20));
-        assert_eq!(shared.call(child, Call::Turn(None), soon), None);
-        assert_eq!(shared.go_on(child, Patience::None), None);
-        assert_eq!(shared.call(maker, Call::Turn(None), Patience::None), Some(Ok(Ended::Done(0))));
-        assert_eq!((shared.go_on(child, Patience::None), word()), (Some(Ok(Ended::Done(0))), 0));
+        assert_eq!(shared.call(tasks[1], 0, Call::Turn(None), soon), None);
+        assert_eq!(shared.go_on(tasks[1], Patience::None), None);
+        assert_eq!(shared.call(tasks[0], 0, Call::Turn(None), Patience::None), Some(Ok(Ended::Done(0))));
+        assert_eq!((shared.go_on(tasks[1], Patience::None), shared.waits.word()), (Some(Ok(Ended::Done(0))), 0));
     }
 
     #[test]
     fn seats_are_given_again() {
-        let shared = Shared::new(2, &[], false).unwrap();
-        let maker = shared.make(Mode::SigWait).unwrap();
-        for task in 1..1_000 {
-            let (child, _) = shared.join(maker, Mode::Sig).unwrap();
-            assert_eq!(child, Place { task, seat: 1 });
-            shared.leave(child).unwrap();
+        for mode in [Mode::Sig, Mode::SigWait] {
+            let (shared, tasks) = phaser(Mode::SigWait, 0, &[]);
+            for task in 1..1_000 {
+                let (child, _) = shared.join(tasks[0], mode).unwrap();
+                assert_eq!(child, Place { task, seat: 1 });
+                shared.leave(child).unwrap();
+            }
+            assert_eq!(shared.waits.threads(), 1);
         }
-        assert_eq!(shared.lock().registered(), 1);
+    }
+
+    #[test]
+    fn turns_of_level_tasks_are_counted() {
+        let (shared, tasks) = phaser(Mode::SigWait, 3, &[]);
+        for phase in 0..200 {
+            assert_eq!(turns(&shared, &tasks, phase), [Ok(Ended::Done(phase)); 4]);
+        }
+        assert_eq!(rounds(&shared), (200, true));
+    }
+
+    #[test]
+    fn turns_of_others_are_not_counted() {
+        let traced = Shared::new(2, &[], true).unwrap();
+        let maker = traced.make(Mode::SigWait).unwrap();
+        assert_eq!((turn(&traced, maker, 0), rounds(&traced)), (Ok(Ended::Done(0)), (0, false)));
+        for mode in [Mode::Sig, Mode::Wait, Mode::Single] {
+            let (shared, tasks) = phaser(Mode::Single, 0, &[]);
+            let (child, _) = shared.join(tasks[0], mode).unwrap();
+            let (level, _) = shared.join(tasks[0], Mode::SigWait).unwrap();
+            shared.leave(tasks[0]).unwrap();
+            assert_eq!(rounds(&shared), (0, false));
+            shared.leave(child).unwrap();
+            // Only now all signal and wait.
+            assert_eq!((rounds(&shared), turn(&shared, level, 0), rounds(&shared)), ((0, true), Ok(Ended::Done(0)), (1, true)));
+        }
+    }
+
+    /// Each call that stops the counting while one task of two has come. That one's turn goes on all the same, and ends in the phase
+    /// in which the other signals.
+    #[test]
+    fn counting_is_stopped_by_other_calls() {
+        let leaves = |shared: &Shared, task: Place| {
+            let (child, phase) = shared.join(task, Mode::Sig).unwrap();
+            assert_eq!(phase, 1);
+            shared.leave(child).unwrap();
+        };
+        let stops: [&dyn Fn(&Shared, Place); 5] = [
+            &|shared, task| assert_eq!(call(shared, task, 1, Call::Signal), Ok(Ended::Done(0))),
+            &|shared, task| assert_eq!(call(shared, task, 1, Call::Pass), Err(Refusal::NotSignalled)),
+            &|shared, task| assert_eq!(call(shared, task, 1, Call::Turn(Some(7))), Err(Refusal::NoSingle)),
+            &|shared, _| assert_eq!(shared.missing(), [0]),
+            &leaves,
+        ];
+        for (at, stop) in stops.into_iter().enumerate() {
+            let (shared, tasks) = phaser(Mode::SigWait, 1, &[]);
+            assert_eq!(turns(&shared, &tasks, 0), [Ok(Ended::Done(0)); 2]);
+            assert_eq!(rounds(&shared), (1, true));
+            let theirs = (shared.clone(), tasks[1]);
+            let waiting = spawn(move || turn(&theirs.0, theirs.1, 1));
+            assert!(comes(|| shared.seats[tasks[1].seat].is_asleep()));
+            stop(&shared, tasks[0]);
+            assert_eq!(rounds(&shared), (1, false), "{at}");
+            let last = if at == 0 { Call::Pass } else { Call::Turn(None) };
+            assert_eq!(call(&shared, tasks[0], 1, last), Ok(Ended::Done(1)));
+            assert_eq!(waiting.join().unwrap(), Ok(Ended::Done(1)));
+        }
+    }
+
+    /// After the first stop the tasks have to stand level twice, after the second four times. One task stands so after each turn.
+    #[test]
+    fn counting_begins_again() {
+        let (shared, tasks) = phaser(Mode::SigWait, 0, &[]);
+        let turn = |phase| (turn(&shared, tasks[0], phase), rounds(&shared));
+        let done = |phase| Ok(Ended::Done(phase));
+        assert_eq!(rounds(&shared), (0, true));
+        assert_eq!(call(&shared, tasks[0], 0, Call::Signal).and(call(&shared, tasks[0], 0, Call::Pass)), done(0));
+        assert_eq!(rounds(&shared), (0, false));
+        assert_eq!([1, 2].map(turn), [(done(1), (0, true)), (done(2), (1, true))]);
+        assert_eq!(call(&shared, tasks[0], 3, Call::Signal).and(call(&shared, tasks[0], 3, Call::Pass)), done(3));
+        let turns = [(done(4), (1, false)), (done(5), (1, false)), (done(6), (1, true)), (done(7), (2, true))];
+        assert_eq!([4, 5, 6, 7].map(turn), turns);
+    }
+
+    /// A thread is counted a while before it says so at its seat. Who stops the counting meanwhile waits for that.
+    #[test]
+    fn who_stops_waits_for_who_came() {
+        let (shared, tasks) = phaser(Mode::SigWait, 2, &[]);
+        let seat = &shared.seats[tasks[1].seat];
+        seat.takes();
+        // SAFETY: the task makes no other turn.
+        assert!(matches!(unsafe { shared.rounds.come(None) }, Coming::Waits));
+        let theirs = shared.clone();
+        let stopping = spawn(move || theirs.missing());
+        assert!(comes(|| shared.waits.is_stopped()));
+        sleep(Duration::from_millis(20));
+        assert!(!stopping.is_finished());
+        seat.comes(0);
+        assert_eq!(stopping.join().unwrap(), [0, 2]);
+        assert!(!seat.is_ready());
+        assert_eq!(turns(&shared, &[tasks[0], tasks[2]], 0), [Ok(Ended::Done(0)); 2]);
+        assert!(seat.is_ready());
+        assert_eq!(seat.outcome(), Ok(Ended::Done(0)));
+    }
+
+    /// Two of three come while the third has the lock, to leave. It ends the round.
+    #[test]
+    fn who_leaves_ends_the_round() {
+        let (shared, tasks) = phaser(Mode::SigWait, 2, &[]);
+        let mut held = shared.rounds.lock();
+        let theirs = (shared.clone(), tasks.clone());
+        let waiting = spawn(move || turns(&theirs.0, &theirs.1[..2], 0));
+        assert!(comes(|| tasks[..2].iter().all(|it| shared.seats[it.seat].is_asleep())));
+        held.leave(&shared.seats, tasks[2]).unwrap();
+        held.removes();
+        assert_eq!(shared.waits.round(), 0);
+        shared.release(held);
+        assert_eq!((waiting.join().unwrap(), rounds(&shared)), (vec![Ok(Ended::Done(0)); 2], (1, true)));
+        assert_eq!(turns(&shared, &tasks[..2], 1), [Ok(Ended::Done(1)); 2]);
+    }
+
+    /// One of three has signalled behind the others' backs. So the archive doesn't answer as in a round: it refuses the turn of that
+    /// one, and ends those of the others. All go on.
+    #[test]
+    fn round_that_is_refused_is_answered_to_each() {
+        for odd in 0..3 {
+            let (shared, tasks) = phaser(Mode::SigWait, 2, &[Operator::Sum]);
+            shared.holding(|held| held.signal_unnoticed(tasks[odd]));
+            (0..3).for_each(|at| shared.send(tasks[at], 0, 5).unwrap());
+            let mut outcomes = [Ok(Ended::Done(0)); 3];
+            outcomes[odd] = Err(Refusal::AlreadySignalled);
+            assert_eq!(turns(&shared, &tasks, 0), outcomes);
+            assert_eq!(rounds(&shared), (0, false));
+            assert_eq!(call(&shared, tasks[odd], 0, Call::Pass), Ok(Ended::Done(0)));
+            // It had signalled before its value was sent.
+            assert!(tasks.iter().all(|task| shared.look(*task, 1, 0) == Ok(Look::Value(10))));
+            assert_eq!(turns(&shared, &tasks, 1), [Ok(Ended::Done(1)); 3]);
+            assert!(tasks.iter().all(|task| shared.look(*task, 2, 0) == Ok(Look::Value(5))));
+        }
+    }
+
+    /// What is sent and seen while turns are counted needs no lock: not even while another thread has it.
+    #[test]
+    fn values_need_no_lock() {
+        let (shared, tasks) = phaser(Mode::SigWait, 0, &[Operator::Sum]);
+        let turns = |value| {
+            shared.send(tasks[0], 0, value).unwrap();
+            turn(&shared, tasks[0], 0)
+        };
+        assert_eq!(turns(1), Ok(Ended::Done(0)));
+        assert_eq!(shared.look(tasks[0], 1, 0), Ok(Look::Value(1)));
+        shared.send(tasks[0], 0, 2).unwrap();
+        assert_eq!(turn(&shared, tasks[0], 1), Ok(Ended::Done(1)));
+        let held = shared.rounds.lock();
+        assert_eq!(shared.look(tasks[0], 2, 0), Ok(Look::Value(2)));
+        (0..4).for_each(|value| shared.send(tasks[0], 0, value).unwrap());
+        shared.release(held);
+        shared.send(tasks[0], 0, 4).unwrap(); // there is room for four
+        assert_eq!(turn(&shared, tasks[0], 2), Ok(Ended::Done(2)));
+        assert_eq!(shared.look(tasks[0], 3, 0), Ok(Look::Value(10)));
     }
 }

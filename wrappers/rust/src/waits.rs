@@ -92,6 +92,11 @@ impl Waits {
         round_of(self.signs.bell.word.load(Acquire))
     }
 
+    #[cfg(test)]
+    pub(crate) fn word(&self) -> u64 {
+        self.signs.bell.word.load(Acquire)
+    }
+
     /// Whoever read the word before isn't let asleep by it. Only then is anybody woken whose answer has come.
     pub(crate) fn raise(&self) {
         let word = &self.signs.bell.word;
@@ -158,5 +163,46 @@ impl Waits {
         }
         bell.sleep_for(word, awaited.bit, left);
         false
+    }
+}
+
+#[cfg(test)]
+mod tests {
+    use super::*;
+
+    #[test]
+    fn halves_of_the_word_rise_apart() {
+        let waits = Waits::new();
+        let full = u64::from(u32::MAX);
+        waits.signs.bell.word.store(7 << 32 | full, Relaxed);
+        waits.raise();
+        assert_eq!((waits.word(), waits.round()), (7 << 32, 7));
+        waits.end_round();
+        assert_eq!((waits.word(), waits.round()), (8 << 32 | 1, 8));
+        waits.signs.bell.word.store(full << 32 | full, Relaxed);
+        waits.end_round();
+        assert_eq!((waits.word(), waits.round()), (0, 0));
+    }
+
+    #[test]
+    fn end_of_a_round_is_waited_for() {
+        let (waits, seat) = (Waits::new(), Seat::new());
+        waits.set_threads(1);
+        seat.takes();
+        let awaited = |round| Awaited { seat: &seat, bit: 1, round };
+        assert!(!waits.until(&awaited(Some(0)), Patience::None));
+        assert!(waits.until(&awaited(Some(1)), Patience::None));
+        std::thread::scope(|scope| {
+            let sleeps = scope.spawn(|| waits.until(&awaited(Some(0)), Patience::Endless));
+            while !seat.is_asleep() {
+                std::thread::yield_now();
+            }
+            assert!(!sleeps.is_finished());
+            waits.end_round();
+            assert!(sleeps.join().unwrap());
+        });
+        // The seat has no answer by it.
+        assert!(!waits.until(&awaited(None), Patience::None));
+        assert_eq!(waits.signs.sleepers.load(Relaxed), 0);
     }
 }
