@@ -82,7 +82,8 @@ impl Members {
 
     fn set(&mut self, seat: usize, member: Option<Member>) {
         let old = std::mem::replace(&mut self.seated[seat], member);
-        let counted = |member: Option<Member>| (member.is_some() as usize, member.is_some_and(|it| !it.is_level()) as usize);
+        let counted =
+            |member: Option<Member>| (member.is_some() as usize, member.is_some_and(|it| !it.is_level()) as usize);
         let ((was, was_uneven), (is, is_uneven)) = (counted(old), counted(member));
         self.count = self.count + is - was;
         self.uneven = self.uneven + is_uneven - was_uneven;

@@ -112,7 +112,8 @@ impl<T> Last<'_, T> {
             0 => 0,
             _ => word.swap(0, Relaxed),
         });
-        let bits = |(at, word): (usize, u64)| (0..64).filter(move |bit| word >> bit & 1 != 0).map(move |bit| 64 * at + bit);
+        let bits =
+            |(at, word): (usize, u64)| (0..64).filter(move |bit| word >> bit & 1 != 0).map(move |bit| 64 * at + bit);
         words.into_iter().enumerate().flat_map(bits)
     }
 

@@ -381,7 +381,10 @@ mod tests {
             assert_eq!(rounds(&shared), (0, false));
             shared.leave(child).unwrap();
             // Only now all signal and wait.
-            assert_eq!((rounds(&shared), turn(&shared, level, 0), rounds(&shared)), ((0, true), Ok(Ended::Done(0)), (1, true)));
+            assert_eq!(
+                (rounds(&shared), turn(&shared, level, 0), rounds(&shared)),
+                ((0, true), Ok(Ended::Done(0)), (1, true))
+            );
         }
     }
 

@@ -109,8 +109,7 @@ impl WaitingCell {
     /// The phase of these tasks, if they stand level: each is of mode `SigWait`, and hasn't signalled, and nobody waits.
     pub(crate) fn level(&mut self, tasks: &[u64]) -> Option<u64> {
         let mut phase = 0;
-        let answer =
-            unsafe { phaser_c_waiting_level(&mut self.handle, tasks.as_ptr(), tasks.len(), &mut phase) };
+        let answer = unsafe { phaser_c_waiting_level(&mut self.handle, tasks.as_ptr(), tasks.len(), &mut phase) };
         (answer == 0).then_some(phase)
     }
 

@@ -45,7 +45,8 @@ struct Course {
 
 impl Course {
     fn new(phases: u64) -> Course {
-        let none = || Counted { sum: AtomicI64::new(0), greatest: AtomicI64::new(i64::MIN), singles: AtomicU64::new(0) };
+        let none =
+            || Counted { sum: AtomicI64::new(0), greatest: AtomicI64::new(i64::MIN), singles: AtomicU64::new(0) };
         // A value may be sent to the phase after the last.
         let counted = (0..=phases).map(|_| none()).collect();
         Course { phases, counted, signalled: [const { AtomicU64::new(0) }; WORKERS] }

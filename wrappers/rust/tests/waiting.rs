@@ -817,6 +817,154 @@ fn missing_at_the_bound_are_named() {
     });
 }
 
+// ---- Turns that take no lock, and calls that change that
+
+/// While two turn, the third joins tasks that leave in the same phase, and hands its part over to another now and then. The sums are
+/// 1, 2 and 3 of those who turn, and 10 of each who leaves.
+#[test]
+fn tasks_join_and_leave_while_others_come() {
+    in_time(|| {
+        let others = children(&mut maker(Mode::SigWait, &[Operator::Sum]), Mode::SigWait, 3);
+        let phases = together(others, |mut task| {
+            let (number, turns) = (task.number(), 0..3_000);
+            turns.for_each(|phase| {
+                for _ in 0..if number == 3 { phase % 4 } else { 0 } {
+                    let mut child = task.join(Mode::SigWait).unwrap();
+                    child.send(0, 10).unwrap();
+                    child.leave();
+                }
+                if number == 3 && phase % 5 == 0 {
+                    task = task.join(Mode::SigWait).unwrap();
+                }
+                task.send(0, number as i32).unwrap();
+                assert_eq!(task.next(), Ok(phase));
+                assert_eq!(task.look(0), Ok(Look::Value(6 + 10 * (phase as i64 % 4))));
+            });
+            task.phase()
+        });
+        assert_eq!(phases, [3_000; 3]);
+    });
+}
+
+/// In each phase one of three makes another call before it turns, or turns by other calls. Sent are 1, 2 and 3 in each phase.
+#[test]
+fn turns_change_their_way() {
+    let turn = |task: &mut Task, phaser: &Phaser, phase: u64| {
+        let turns_otherwise = (phase / 7 + task.number()) % 3 == 0;
+        match phase % 70 {
+            0 if turns_otherwise => task.signal().and_then(|()| task.wait()),
+            7 if turns_otherwise => Ok(task.try_next()?.map_or_else(|| task.next(), Ok)?),
+            14 if turns_otherwise => {
+                Ok(task.next_timeout(Duration::from_micros(20))?.map_or_else(|| task.next(), Ok)?)
+            }
+            21 | 28 if turns_otherwise => {
+                task.join(if phase % 70 == 21 { Mode::Sig } else { Mode::Wait })?.leave();
+                task.next()
+            }
+            35 if turns_otherwise => {
+                assert!(!phaser.missing().contains(&99));
+                task.next()
+            }
+            42 if turns_otherwise => {
+                assert_eq!(task.wait(), Err(Refusal::NotSignalled));
+                assert_eq!(task.single(5, || unreachable!()), Err(Refusal::NoSingle));
+                task.next()
+            }
+            _ => task.next(),
+        }
+    };
+    in_time(move || {
+        let phaser = Arc::new(Phaser::new(2, &[Operator::Sum, Operator::Least, Operator::Greatest]).unwrap());
+        let all = tasks(phaser.make(Mode::SigWait).unwrap(), Mode::SigWait, 3);
+        together(all, move |mut task| {
+            for phase in 0..2_000 {
+                (0..3).for_each(|accumulator| task.send(accumulator, task.number() as i32 + 1).unwrap());
+                assert_eq!(turn(&mut task, &phaser, phase), Ok(phase));
+                let looks = [0, 1, 2].map(|accumulator| task.look(accumulator));
+                assert_eq!(looks, [6, 1, 3].map(|fold| Ok(Look::Value(fold))));
+            }
+        });
+    });
+}
+
+/// Seven values are more than are kept for a task until it comes. All count, whatever the task does next; that it leaves, too.
+#[test]
+fn many_values_of_a_phase_count() {
+    in_time(|| {
+        let mut maker = maker(Mode::SigWait, &[Operator::Sum]);
+        assert_eq!(maker.next(), Ok(0));
+        let send = |task: &mut Task, count| (1..=count).for_each(|value| task.send(0, value).unwrap());
+        let mut child = maker.join(Mode::SigWait).unwrap();
+        send(&mut child, 7);
+        send(&mut maker, 3);
+        child.leave();
+        assert_eq!((maker.next(), maker.look(0)), (Ok(1), Ok(Look::Value(28 + 6))));
+        send(&mut maker, 2);
+        assert_eq!((maker.signal(), maker.send(0, 100)), (Ok(()), Ok(()))); // that one counts for phase 3
+        assert_eq!((maker.wait(), maker.look(0)), (Ok(2), Ok(Look::Value(3))));
+        send(&mut maker, 7);
+        assert_eq!((maker.try_next(), maker.look(0)), (Ok(Some(3)), Ok(Look::Value(128))));
+        for phase in 4..100 {
+            send(&mut maker, phase % 9);
+            let sum = phase % 9 * (phase % 9 + 1) / 2;
+            assert_eq!((maker.next(), maker.look(0)), (Ok(phase as u64), Ok(Look::Value(sum.into()))));
+        }
+    });
+}
+
+/// What was sent before a turn whose time is over counts for its phase, and what is sent after it for the next. Once others have ended
+/// the phase its fold is seen, though the task hasn't come back yet.
+#[test]
+fn who_ran_out_sees_the_phase_that_has_ended() {
+    in_time(|| {
+        let mut maker = maker(Mode::SigWait, &[Operator::Sum]);
+        let mut other = maker.join(Mode::SigWait).unwrap();
+        let turn = |task: Task| {
+            let mut task = task;
+            (task.send(0, 10).and_then(|()| task.next()), task)
+        };
+        for phase in 0..20 {
+            let thread = thread::spawn(move || turn(other));
+            assert_eq!((maker.send(0, phase), maker.next()), (Ok(()), Ok(phase as u64)));
+            assert_eq!(maker.look(0), Ok(Look::Value(i64::from(phase) + 10)));
+            other = joined(thread).1;
+        }
+        assert_eq!((maker.send(0, 5), maker.try_next(), maker.send(0, 6)), (Ok(()), Ok(None), Ok(())));
+        assert_eq!(maker.look(0), Ok(Look::Value(19 + 10)));
+        let (turned, mut other) = turn(other);
+        assert_eq!((turned, maker.look(0)), (Ok(20), Ok(Look::Value(15))));
+        assert_eq!((maker.phase(), maker.next(), maker.look(0)), (20, Ok(20), Ok(Look::Value(15))));
+        assert_eq!((maker.try_next(), other.next(), maker.next()), (Ok(None), Ok(21), Ok(21)));
+        assert_eq!(maker.look(0), Ok(Look::Value(6)));
+    });
+}
+
+/// A task that waits in its turn has another join, which has signalled as it has. So only the third is missing.
+#[test]
+fn child_of_who_waits_has_signalled() {
+    in_time(|| {
+        let phaser = Phaser::new(2, &[]).unwrap();
+        let mut maker = phaser.make(Mode::SigWait).unwrap();
+        (0..5).for_each(|phase| assert_eq!(maker.next(), Ok(phase)));
+        let mut late = maker.join(Mode::SigWait).unwrap();
+        assert_eq!(maker.try_next(), Ok(None));
+        let mut child = maker.join(Mode::SigWait).unwrap();
+        assert_eq!((child.phase(), child.signal(), phaser.missing()), (5, Err(Refusal::AlreadySignalled), vec![1]));
+        assert_eq!((late.next(), child.wait(), maker.next()), (Ok(5), Ok(5), Ok(5)));
+    });
+}
+
+/// Whoever goes on drops its task at once: the phaser ends while others go on from the same phase.
+#[test]
+fn phaser_ends_with_its_last_phase() {
+    in_time(|| {
+        for _ in 0..300 {
+            let all = tasks(maker(Mode::SigWait, &[]), Mode::SigWait, 4);
+            assert_eq!(together(all, |mut task| (task.next(), task.next())), [(Ok(0), Ok(1)); 4]);
+        }
+    });
+}
+
 // ---- Many phases
 
 /// Whether in each phase the sum is that of this phase's values, and all had come before anybody went on.
