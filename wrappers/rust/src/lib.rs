@@ -16,10 +16,16 @@
 //! threads that wait that is: what a call is answered, which tasks it frees and with which answer, and that each task that
 //! stays parked still has to wait. So no task is forgotten.
 //!
+//! A phase whose turns [take no lock](Phaser#when-a-turn-takes-no-lock) is made by one call of the archive. It says that each
+//! task has ended its turn before any thread is let go.
+//!
 //! Nothing in this crate is proved; it is tested. For a [`Phaser`] and a [`Barrier`] that is the lock round each call, the
-//! spinning, yielding and sleeping, the waking of freed threads, and the noting of a trace and of who is missing. The `unsafe`
-//! code only passes on what Rust's own types promise, slices and places that nothing else has, and hands a word to Linux to
-//! sleep by.
+//! spinning, yielding and sleeping, the waking of freed threads, and the noting of a trace and of who is missing. For a
+//! [`Phaser`] it is also the counting of those who come, and each change between counting and locking.
+//!
+//! The `unsafe` code passes on what Rust's own types promise: slices and places that nothing else has, and a task that is lent
+//! to one call at a time. Besides, it lends the archive's phaser to the one thread that has it by the count or by the lock, and
+//! hands a word to Linux to sleep by.
 #![deny(unsafe_op_in_unsafe_fn)]
 
 mod answers;

@@ -16,6 +16,16 @@ use std::time::Duration;
 /// leaves when it is dropped. The thread that makes the phaser takes part in it, or drops its task once the others have joined.
 /// [`scope`](Phaser::scope) does that by itself.
 ///
+/// # When a turn takes no lock
+///
+/// While all tasks are of mode `SigWait`, and stand in one phase, a [`next`](Task::next) takes no lock. Each thread that comes is
+/// counted, and the last has the turns of all made. A [`send`](Task::send) or a [`look`](Task::look) mostly takes none either.
+/// Tasks may join in mode `SigWait` and leave meanwhile.
+///
+/// A `signal`, a `wait`, a call with a time, a task of another mode and [`missing`](Phaser::missing) change that: from then on
+/// each call takes a lock. It is as before once all stand in one phase again. If such calls come often that takes some phases
+/// more. A [`traced`](Phaser::traced) phaser always takes its lock. The answers are the same.
+///
 /// ```
 /// use paldwosk::{Look, Mode, Operator, Phaser, Refusal};
 /// use std::thread;

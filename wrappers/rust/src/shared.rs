@@ -397,7 +397,8 @@ mod tests {
             assert_eq!(phase, 1);
             shared.leave(child).unwrap();
         };
-        let stops: [&dyn Fn(&Shared, Place); 5] = [
+        type Stop<'a> = &'a dyn Fn(&Shared, Place);
+        let stops: [Stop; 5] = [
             &|shared, task| assert_eq!(call(shared, task, 1, Call::Signal), Ok(Ended::Done(0))),
             &|shared, task| assert_eq!(call(shared, task, 1, Call::Pass), Err(Refusal::NotSignalled)),
             &|shared, task| assert_eq!(call(shared, task, 1, Call::Turn(Some(7))), Err(Refusal::NoSingle)),

@@ -14,7 +14,7 @@ const PROBES: u32 = 64;
 /// How often a thread tries to take a lock before it waits for it.
 const LOCK_TRIES: u32 = 100;
 
-/// How many rounds are likely to do, by what those did who waited here before. All who wait share it.
+/// How many rounds are likely to do, by what those did who waited here before. Who waits in the same place shares it.
 // It orders nothing: a number that is lost or late makes a thread spin for too long or too short a time.
 pub(crate) struct Spins {
     rounds: AtomicU32,

@@ -87,7 +87,8 @@ impl Waits {
         self.signs.threads.store(threads, Relaxed);
     }
 
-    /// The number of this round. Who reads it before it comes has the one in which it comes.
+    /// The number of this round. A task that reads it before it comes has the one in which it comes: it has seen the end of the
+    /// round before, or was joined by one that has.
     pub(crate) fn round(&self) -> u32 {
         round_of(self.signs.bell.word.load(Acquire))
     }
