@@ -92,25 +92,23 @@ impl Shared {
         done
     }
 
-    /// All have come. The archive makes the round, and then the others are let go.
-    fn end_round(&self, mut last: Last<'_, Held>) {
+    /// All have come. The archive makes the round, and then the others are let go. Whether it was made; else each has its own answer.
+    fn end_round(&self, mut last: Last<'_, Held>) -> bool {
         let senders = last.take_marks();
-        match last.round(&self.seats, senders) {
-            Some(round) => {
-                if let Some(seen) = round.seen {
-                    self.folds.set(round.phase, seen);
-                }
-                // First: whoever is let go may come again at once.
-                last.begin_round(round.count);
-                self.waits.end_round();
-            }
-            None => {
-                self.stopped();
-                let woken = self.raise(&mut last);
-                last.stop();
-                self.waits.wake(woken);
-            }
+        let Some(round) = last.round(&self.seats, senders) else {
+            self.stopped();
+            let woken = self.raise(&mut last);
+            last.stop();
+            self.waits.wake(woken);
+            return false;
+        };
+        if let Some(seen) = round.seen {
+            self.folds.set(round.phase, seen);
         }
+        // First: whoever is let go may come again at once.
+        last.begin_round(round.count);
+        self.waits.end_round();
+        true
     }
 
     /// A turn of a task that stands in this phase.
@@ -132,12 +130,17 @@ impl Shared {
         seat.takes();
         // SAFETY: counted are the registered tasks, as `begin_round`, `join` and `leave` see to. Each is one `Task`'s, which is
         // lent for the call. It doesn't come twice in a round, since it waits for its end.
-        match unsafe { self.rounds.come(seat.keeps_any().then_some(me.seat)) } {
+        let has_ended = match unsafe { self.rounds.come(seat.keeps_any().then_some(me.seat)) } {
             Coming::Stopped => return None,
-            Coming::Waits => seat.comes(phase),
             Coming::Last(last) => self.end_round(last),
+            Coming::Waits => {
+                seat.comes(phase);
+                false
+            }
+        };
+        if !has_ended {
+            self.waits.until(&awaited, Patience::Endless);
         }
-        self.waits.until(&awaited, Patience::Endless);
         Some(if seat.is_ready() { seat.outcome() } else { Ok(Ended::Done(phase)) })
     }
 
