@@ -350,6 +350,10 @@ impl Held {
     /// Answers the turn of a task that has made these parts of it.
     fn answer_one(&mut self, seats: &[Seat], task: u64, has_signalled: bool, has_passed: bool) {
         let Some(place) = self.members.places().find(|it| it.task == task) else { return };
+        let mut pauses = Pauses::new();
+        while !seats[place.seat].is_taken_back(self.level.phase) {
+            pauses.pause();
+        }
         let done = Ended::Done(self.level.phase);
         if has_passed {
             self.members.ended(place.seat, Call::Pass, Ok(done));
@@ -391,13 +395,17 @@ mod tests {
         for made in 0..8 {
             let (mut held, seats, tasks) = held();
             assert_eq!(held.begin(), Some(3));
-            tasks.iter().for_each(|task| seats[task.seat].takes());
+            tasks.iter().for_each(|task| {
+                seats[task.seat].takes();
+                seats[task.seat].comes(0);
+            });
             (0..made).for_each(|number| make_call(&mut held.cell, number));
             held.level.sends.extend([1, 2].map(|task| GivenSend { task, value: task as i32 + 2, accumulator: 0 }));
             held.answer_each(&seats, made);
             let answers = tasks.map(|task| seats[task.seat].is_ready().then(|| seats[task.seat].outcome()));
             assert_eq!(answers, [Some(Ok(Ended::Done(0))); 3], "{made}");
             assert!(held.sleepers.is_empty() && held.members.are_level());
+            assert!(!tasks.iter().any(|task| seats[task.seat].is_taken_back(0)));
             assert!(tasks.iter().all(|task| held.look(*task, 0) == Ok(Look::Value(3 + 4))));
         }
     }

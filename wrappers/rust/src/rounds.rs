@@ -345,7 +345,7 @@ mod tests {
     #[test]
     fn one_thread_at_a_time_has_the_value() {
         const THREADS: usize = 3;
-        const ROUNDS: u64 = 3_000;
+        const ROUNDS: u64 = 500;
         let rounds = counted([0_u64; 2], THREADS);
         let ended = AtomicU64::new(0);
         let until = |round| {

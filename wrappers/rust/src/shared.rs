@@ -130,13 +130,14 @@ impl Shared {
         seat.takes();
         // SAFETY: counted are the registered tasks, as `begin_round`, `join` and `leave` see to. Each is one `Task`'s, which is
         // lent for the call. It doesn't come twice in a round, since it waits for its end.
-        let has_ended = match unsafe { self.rounds.come(seat.keeps_any().then_some(me.seat)) } {
-            Coming::Stopped => return None,
+        let coming = unsafe { self.rounds.come(seat.keeps_any().then_some(me.seat)) };
+        if let Coming::Stopped = coming {
+            return None;
+        }
+        seat.comes(phase);
+        let has_ended = match coming {
             Coming::Last(last) => self.end_round(last),
-            Coming::Waits => {
-                seat.comes(phase);
-                false
-            }
+            _ => false,
         };
         if !has_ended {
             self.waits.until(&awaited, Patience::Endless);
