@@ -307,22 +307,18 @@ impl Held {
         count
     }
 
-    /// All have come, and these seats may keep what was sent: the archive makes the round. None if it doesn't answer as in a
-    /// round: then rounds are counted no longer, and each call is made by itself.
-    pub(crate) fn round(&mut self, seats: &[Seat], senders: impl Iterator<Item = usize>) -> Option<Round> {
+    /// All have come, and these seats may keep what was sent: the archive makes the round. If it doesn't answer as in a round: how
+    /// many calls it answered so. Then `answer_each` is to go on.
+    pub(crate) fn round(&mut self, seats: &[Seat], senders: impl Iterator<Item = usize>) -> Result<Round, usize> {
         let (members, level) = (&self.members, &mut self.level);
         let places = senders.filter_map(|seat| members.place(seat));
         level.sends.clear();
         level.sends.extend(places.flat_map(|it| seats[it.seat].take_kept(it.task)));
-        if let Err(made) = self.cell.round(&level.sends, &level.tasks, level.phase) {
-            level.ends();
-            self.answer_each(seats, made);
-            return None;
-        }
+        self.cell.round(&level.sends, &level.tasks, level.phase)?;
         level.goes_on();
         let is_wanted = self.level.wanted.contains(&true);
         let (count, phase) = (self.level.tasks.len(), self.level.phase);
-        Some(Round { count, phase, seen: is_wanted.then(|| self.seen()) })
+        Ok(Round { count, phase, seen: is_wanted.then(|| self.seen()) })
     }
 
     /// What is seen of the wanted accumulators.
@@ -332,8 +328,9 @@ impl Held {
     }
 
     /// So many calls of the round were answered as they are in one: the sends, the signals of all but the first, the signal and the
-    /// pass of the first, and the passes of the others. The rest is made now, and all are answered.
-    fn answer_each(&mut self, seats: &[Seat], made: usize) {
+    /// pass of the first, and the passes of the others. The rest is made now, and all are answered. Nothing is counted any more.
+    pub(crate) fn answer_each(&mut self, seats: &[Seat], made: usize) {
+        self.level.ends();
         self.stand_level();
         let (sends, tasks) = (take(&mut self.level.sends), take(&mut self.level.tasks));
         for send in sends.iter().skip(made) {

@@ -13,7 +13,7 @@ use std::sync::{Mutex, MutexGuard};
 /// Nothing is counted.
 const STOPPED: u64 = 1 << 63;
 
-/// Who has the lock has the value.
+/// Who has the lock has the value; or the last, if nothing is counted.
 const HELD: u64 = 1 << 62;
 
 /// How many haven't come. If this is 0 and neither flag is set, the last who came has the value.
@@ -83,7 +83,8 @@ impl<T> Rounds<T> {
         loop {
             let word = self.word.missing.load(Acquire);
             let is_stopped = word & STOPPED != 0;
-            if is_stopped || word & COUNT != 0 && self.is_held_from(word) {
+            let is_free = if is_stopped { word & HELD == 0 } else { word & COUNT != 0 && self.is_held_from(word) };
+            if is_free {
                 return Holder { rounds: self, value: PhantomData, _lock: lock, is_stopped };
             }
             pauses.pause();
@@ -95,10 +96,10 @@ impl<T> Rounds<T> {
     }
 }
 
-/// Who came last has the value, until it begins the next round or stops the counting.
+/// Who came last has the value, until it begins the next round, or stops the counting and releases it.
 ///
 /// It alone has the value: it came when the word had no flag and 1 was missing. With 0 and no flag nobody else gets at the value,
-/// since `lock` waits and nobody is to come. The word is set again by this alone, which is consumed by it.
+/// since `lock` waits and nobody is to come; nor with both flags. The word is set otherwise by this alone, which is consumed by it.
 #[must_use = "the others wait for the next round"]
 pub(crate) struct Last<'a, T> {
     rounds: &'a Rounds<T>,
@@ -122,8 +123,13 @@ impl<T> Last<'_, T> {
         self.rounds.word.missing.store(count as u64, Release);
     }
 
-    /// From now on whoever comes takes the lock.
-    pub(crate) fn stop(self) {
+    /// From now on whoever comes takes the lock, and waits there until this is released.
+    pub(crate) fn stop(&self) {
+        self.rounds.word.missing.store(STILL | HELD, Release);
+    }
+
+    /// Releases the value, after a stop.
+    pub(crate) fn release(self) {
         self.rounds.word.missing.store(STILL, Release);
     }
 }
@@ -290,7 +296,10 @@ mod tests {
         held.release().unwrap().begin_round(2);
         assert!(waits(come(&rounds)));
         assert!(rounds.lock().release().is_none());
-        last(come(&rounds)).stop();
+        let last = last(come(&rounds));
+        last.stop();
+        assert!(matches!(come(&rounds), Coming::Stopped));
+        last.release();
         assert!(rounds.lock().is_stopped());
     }
 
@@ -323,6 +332,22 @@ mod tests {
             assert!(!waiting.is_finished());
             *last = 5;
             last.begin_round(1);
+            assert_eq!(waiting.join().unwrap(), 5);
+        });
+    }
+
+    /// The last stops the counting, and has the value still.
+    #[test]
+    fn lock_waits_for_the_last_who_stops() {
+        let rounds = counted(0, 1);
+        scope(|scope| {
+            let mut last = last(come(&rounds));
+            last.stop();
+            let waiting = scope.spawn(|| *rounds.lock());
+            std::thread::sleep(std::time::Duration::from_millis(20));
+            assert!(!waiting.is_finished());
+            *last = 5;
+            last.release();
             assert_eq!(waiting.join().unwrap(), 5);
         });
     }

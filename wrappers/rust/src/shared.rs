@@ -95,12 +95,12 @@ impl Shared {
     /// All have come. The archive makes the round, and then the others are let go. Whether it was made; else each has its own answer.
     fn end_round(&self, mut last: Last<'_, Held>) -> bool {
         let senders = last.take_marks();
-        let Some(round) = last.round(&self.seats, senders) else {
-            self.stopped();
-            let woken = self.raise(&mut last);
-            last.stop();
-            self.waits.wake(woken);
-            return false;
+        let round = match last.round(&self.seats, senders) {
+            Ok(round) => round,
+            Err(made) => {
+                self.answer_each(last, made);
+                return false;
+            }
         };
         if let Some(seen) = round.seen {
             self.folds.set(round.phase, seen);
@@ -109,6 +109,17 @@ impl Shared {
         last.begin_round(round.count);
         self.waits.end_round();
         true
+    }
+
+    /// The archive has refused a round after so many calls. Each who came is answered by itself.
+    fn answer_each(&self, mut last: Last<'_, Held>, made: usize) {
+        // First: whoever is answered may come again at once.
+        last.stop();
+        self.stopped();
+        last.answer_each(&self.seats, made);
+        let woken = self.raise(&mut last);
+        last.release();
+        self.waits.wake(woken);
     }
 
     /// A turn of a task that stands in this phase.
@@ -494,6 +505,30 @@ mod tests {
             assert_eq!(turns(&shared, &tasks, 1), [Ok(Ended::Done(1)); 3]);
             assert!(tasks.iter().all(|task| shared.look(*task, 2, 0) == Ok(Look::Value(5))));
         }
+    }
+
+    /// Each 100th round is refused, as above, and those who are answered come again at once.
+    #[test]
+    fn who_is_answered_comes_again_at_once() {
+        let (shared, tasks) = phaser(Mode::SigWait, 2, &[]);
+        let threads = tasks.into_iter().enumerate().map(|(number, task)| {
+            let shared = shared.clone();
+            spawn(move || {
+                for phase in 0..4_000 {
+                    let is_odd = phase % 100 == 99 && phase / 100 % 3 == number as u64;
+                    if is_odd {
+                        shared.holding(|held| held.signal_unnoticed(task));
+                        assert_eq!(turn(&shared, task, phase), Err(Refusal::AlreadySignalled));
+                    }
+                    let last = if is_odd { Call::Pass } else { Call::Turn(None) };
+                    assert_eq!(call(&shared, task, phase, last), Ok(Ended::Done(phase)));
+                }
+            })
+        });
+        let threads: Vec<_> = threads.collect();
+        threads.into_iter().for_each(|thread| thread.join().unwrap());
+        // From the first phase to the 100th, and mostly afterwards.
+        assert!(rounds(&shared).0 >= 99);
     }
 
     /// What is sent and seen while turns are counted needs no lock: not even while another thread has it.
