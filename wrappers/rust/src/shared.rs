@@ -510,12 +510,12 @@ mod tests {
     /// Each 100th round is refused, as above, and those who are answered come again at once.
     #[test]
     fn who_is_answered_comes_again_at_once() {
-        let (shared, tasks) = phaser(Mode::SigWait, 2, &[]);
+        let (shared, tasks) = phaser(Mode::SigWait, 15, &[]);
         let threads = tasks.into_iter().enumerate().map(|(number, task)| {
             let shared = shared.clone();
             spawn(move || {
                 for phase in 0..4_000 {
-                    let is_odd = phase % 100 == 99 && phase / 100 % 3 == number as u64;
+                    let is_odd = phase % 100 == 99 && phase / 100 % 16 == number as u64;
                     if is_odd {
                         shared.holding(|held| held.signal_unnoticed(task));
                         assert_eq!(turn(&shared, task, phase), Err(Refusal::AlreadySignalled));
