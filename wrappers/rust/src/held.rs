@@ -277,8 +277,8 @@ impl Held {
         Some(self.level.tasks.len())
     }
 
-    /// Rounds are counted no longer, while so many were missing. Those who had come make their turns now. Each says that it had at
-    /// its seat, right after it was counted.
+    /// Rounds are counted no longer, while so many were missing. Those who had come make their turns now. Each says that it
+    /// had at its seat, right after it was counted.
     pub(crate) fn end(&mut self, seats: &[Seat], missing: usize) {
         let mut to_come = self.level.tasks.len() - missing;
         self.level.ends();
@@ -307,8 +307,8 @@ impl Held {
         count
     }
 
-    /// All have come, and these seats may keep what was sent: the archive makes the round. If it doesn't answer as in a round: how
-    /// many calls it answered so. Then `answer_each` is to go on.
+    /// All have come, and these seats may keep what was sent: the archive makes the round. If it doesn't answer as in a
+    /// round: how many calls it answered so. Then `answer_each` is to go on.
     pub(crate) fn round(&mut self, seats: &[Seat], senders: impl Iterator<Item = usize>) -> Result<Round, usize> {
         let (members, level) = (&self.members, &mut self.level);
         let places = senders.filter_map(|seat| members.place(seat));
@@ -327,8 +327,9 @@ impl Held {
         from_fn(|at| wanted[at].then(|| self.cell.look(task, at as u8).ok())?)
     }
 
-    /// So many calls of the round were answered as they are in one: the sends, the signals of all but the first, the signal and the
-    /// pass of the first, and the passes of the others. The rest is made now, and all are answered. Nothing is counted any more.
+    /// So many calls of the round were answered as they are in one: the sends, the signals of all but the first, the signal
+    /// and the pass of the first, and the passes of the others. The rest is made now, and all are answered. Nothing is
+    /// counted any more.
     pub(crate) fn answer_each(&mut self, seats: &[Seat], made: usize) {
         self.level.ends();
         self.stand_level();

@@ -98,8 +98,9 @@ impl<T> Rounds<T> {
 
 /// Who came last has the value, until it begins the next round, or stops the counting and releases it.
 ///
-/// It alone has the value: it came when the word had no flag and 1 was missing. With 0 and no flag nobody else gets at the value,
-/// since `lock` waits and nobody is to come; nor with both flags. The word is set otherwise by this alone, which is consumed by it.
+/// It alone has the value: it came when the word had no flag and 1 was missing. With 0 and no flag nobody else gets at the
+/// value, since `lock` waits and nobody is to come; nor with both flags. The word is set otherwise by this alone, which is
+/// consumed by it.
 #[must_use = "the others wait for the next round"]
 pub(crate) struct Last<'a, T> {
     rounds: &'a Rounds<T>,
@@ -365,8 +366,8 @@ mod tests {
         last.begin_round(1);
     }
 
-    /// The value counts the rounds, and how often threads that aren't counted held it. Each change is made by who has it alone, so
-    /// none is lost.
+    /// The value counts the rounds, and how often threads that aren't counted held it. Each change is made by who has it
+    /// alone, so none is lost.
     #[test]
     fn one_thread_at_a_time_has_the_value() {
         const THREADS: usize = 3;

@@ -1,8 +1,8 @@
 //! A phaser as its tasks share it: the archive's calls, one at a time, and those who wait.
 //!
-//! While all stand level a turn takes no lock. Who comes is counted, and the last has the archive make the turns of all, and then
-//! lets the others go. Each other call takes the lock. Some of them stop the counting: from then on turns take the lock too, until
-//! all stand level again.
+//! While all stand level a turn takes no lock. Who comes is counted, and the last has the archive make the turns of all, and
+//! then lets the others go. Each other call takes the lock. Some of them stop the counting: from then on turns take the lock
+//! too, until all stand level again.
 use crate::answers::{Look, Mode, Operator, Refusal};
 use crate::folds::Folds;
 use crate::held::{Call, Held, Place};
@@ -52,8 +52,8 @@ impl Shared {
         self.folds.forget();
     }
 
-    /// Gives the lock back, and wakes those who sleep and were answered under it. Rounds are counted from now on if all stand level;
-    /// and if all have come meanwhile the round is ended.
+    /// Gives the lock back, and wakes those who sleep and were answered under it. Rounds are counted from now on if all stand
+    /// level; and if all have come meanwhile the round is ended.
     fn release(&self, mut held: Holder<'_, Held>) {
         let woken = self.raise(&mut held);
         if !held.is_stopped() {
@@ -92,7 +92,8 @@ impl Shared {
         done
     }
 
-    /// All have come. The archive makes the round, and then the others are let go. Whether it was made; else each has its own answer.
+    /// All have come. The archive makes the round, and then the others are let go. Whether it was made; else each has its own
+    /// answer.
     fn end_round(&self, mut last: Last<'_, Held>) -> bool {
         let senders = last.take_marks();
         let round = match last.round(&self.seats, senders) {
@@ -333,8 +334,8 @@ mod tests {
         (shared.waits.round(), !shared.waits.is_stopped())
     }
 
-    /// The low half of the word is raised if a task that sleeps is answered, so that no task just answered falls asleep. The tasks
-    /// might run singles, so nothing is counted.
+    /// The low half of the word is raised if a task that sleeps is answered, so that no task just answered falls asleep. The
+    /// tasks might run singles, so nothing is counted.
     #[test]
     fn word_is_raised_for_who_sleeps() {
         let (shared, tasks) = phaser(Mode::Single, 1, &[]);
@@ -403,8 +404,8 @@ mod tests {
         }
     }
 
-    /// Each call that stops the counting while one task of two has come. That one's turn goes on all the same, and ends in the phase
-    /// in which the other signals.
+    /// Each call that stops the counting while one task of two has come. That one's turn goes on all the same, and ends in
+    /// the phase in which the other signals.
     #[test]
     fn counting_is_stopped_by_other_calls() {
         let leaves = |shared: &Shared, task: Place| {
@@ -487,8 +488,8 @@ mod tests {
         assert_eq!(turns(&shared, &tasks[..2], 1), [Ok(Ended::Done(1)); 2]);
     }
 
-    /// One of three has signalled behind the others' backs. So the archive doesn't answer as in a round: it refuses the turn of that
-    /// one, and ends those of the others. All go on.
+    /// One of three has signalled behind the others' backs. So the archive doesn't answer as in a round: it refuses the turn
+    /// of that one, and ends those of the others. All go on.
     #[test]
     fn round_that_is_refused_is_answered_to_each() {
         for odd in 0..3 {

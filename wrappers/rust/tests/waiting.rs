@@ -819,8 +819,8 @@ fn missing_at_the_bound_are_named() {
 
 // ---- Turns that take no lock, and calls that change that
 
-/// While two turn, the third joins tasks that leave in the same phase, and hands its part over to another now and then. The sums are
-/// 1, 2 and 3 of those who turn, and 10 of each who leaves.
+/// While two turn, the third joins tasks that leave in the same phase, and hands its part over to another now and then. The
+/// sums are 1, 2 and 3 of those who turn, and 10 of each who leaves.
 #[test]
 fn tasks_join_and_leave_while_others_come() {
     in_time(|| {
@@ -912,8 +912,8 @@ fn many_values_of_a_phase_count() {
     });
 }
 
-/// What was sent before a turn whose time is over counts for its phase, and what is sent after it for the next. Once others have ended
-/// the phase its fold is seen, though the task hasn't come back yet.
+/// What was sent before a turn whose time is over counts for its phase, and what is sent after it for the next. Once others
+/// have ended the phase its fold is seen, though the task hasn't come back yet.
 #[test]
 fn who_ran_out_sees_the_phase_that_has_ended() {
     in_time(|| {
