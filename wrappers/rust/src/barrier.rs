@@ -26,8 +26,9 @@ use std::sync::{Mutex, MutexGuard};
 #[must_use = "threads meet at a barrier by calling `wait`"]
 pub struct Barrier {
     meeting: Mutex<Meeting>,
-    /// Its word is twice the number of the generation; one more if a thread sleeps, and has to be woken. It goes round, after
-    /// 2^31 generations: a thread would have to stand still so long between two instructions to take one for another.
+    /// Its word is twice the number of the generation; one more if a thread sleeps, and has to be woken. The half by which
+    /// threads sleep goes round, after 2^31 generations: a thread would have to stand still so long between two instructions
+    /// to take one for another.
     bell: Bell,
     spins: Spins,
     yields: Yields,
