@@ -251,6 +251,13 @@ typedef struct paldwosk_freed {
   uint32_t answer; /* a paldwosk_answer: DONE, CLAIMED, or why the call was refused */
 } paldwosk_freed;
 
+/* A value that a task sends to an accumulator, of the calls of a round. */
+typedef struct paldwosk_given_send {
+  uint64_t task;
+  int32_t value;
+  uint8_t accumulator;
+} paldwosk_given_send;
+
 /* How many tasks may wait at a phaser at once, and be freed by one call. */
 #define PALDWOSK_MOST_FREED 256
 
@@ -309,6 +316,15 @@ uint32_t phaser_c_waiting_single_done(paldwosk_waiting *phaser, uint64_t task, p
                                       size_t *count);
 uint32_t phaser_c_waiting_leave(paldwosk_waiting *phaser, uint64_t task, paldwosk_freed *freed, size_t room,
                                 size_t *count);
+/* Whether these tasks stand level: each is registered SIG_WAIT in one phase and hasn't signalled it, and nobody waits. On
+ * DONE *phase is it. NOT_NOW. Nothing is changed. */
+uint32_t phaser_c_waiting_level(paldwosk_waiting *phaser, const uint64_t *tasks, size_t count, uint64_t *phase);
+/* Makes the calls of a round in this order: the sends, a signal of each task but the first, a signal and a pass of the
+ * first, a pass of each other. DONE if each send and signal was done, and each pass ended the turn of this phase. Else
+ * NOT_NOW: *made calls were made, and the last of them was answered otherwise. None is made if somebody waits, or if
+ * there are more than 256 tasks or 65,536 sends. */
+uint32_t phaser_c_waiting_round(paldwosk_waiting *phaser, const paldwosk_given_send *sends, size_t send_count,
+                                const uint64_t *tasks, size_t task_count, uint64_t phase, size_t *made);
 
 /* ---- The checker */
 

@@ -86,6 +86,9 @@
 #include <sys/syscall.h>
 #ifdef SYS_futex
 #define PALDWOSK_BY_FUTEX
+#if defined __x86_64__ && !defined PALDWOSK_WITHOUT_ROUNDS
+#define PALDWOSK_IN_ROUNDS
+#endif
 #endif
 #endif
 
@@ -104,14 +107,31 @@ int pthread_condattr_setclock(pthread_condattr_t *by, int clock);
 
 struct paldwosk_member;
 struct paldwosk_overdue;
+struct paldwosk_rounds;
 struct paldwosk_sleeper;
 struct paldwosk_trace;
+
+/* How often a thread has waited; at which of these times it spins for as long as it may. */
+struct paldwosk_tries {
+  uint32_t waits, probe;
+};
 
 /* A barrier. Its fields are the header's. */
 typedef struct paldwosk_barrier {
   const uint32_t *forks; /* how many forks lie above this process, by the file that made it; NULL: there is none */
   uint32_t forks_then;   /* the same when it was made */
+  uint32_t bound;
+  uint32_t watch;             /* after how many seconds a thread tells that it waits; 0: it never does */
+  uint32_t accumulators;      /* how many there are */
+  uint32_t tasks, processors; /* that are registered (atomic); that are online */
+#ifdef PALDWOSK_IN_ROUNDS
+  struct paldwosk_rounds *rounds; /* where its tasks come while the barrier is fast */
+  void *rounds_memory;            /* what is to be freed of it */
+#endif
+  uint8_t kept_apart[64]; /* what changes seldom isn't in the line of the lock */
+#ifndef PALDWOSK_IN_ROUNDS
   uint32_t turn;         /* atomic: rises when sleepers are woken; it is on this word that they sleep */
+#endif
   pthread_mutex_t lock;  /* guards what isn't said to be atomic */
 #ifndef PALDWOSK_BY_FUTEX
   pthread_cond_t turned; /* or on this */
@@ -123,13 +143,13 @@ typedef struct paldwosk_barrier {
   struct paldwosk_overdue *overdue; /* the calls whose time is over, and whose answer hasn't been given */
   struct paldwosk_member *members; /* the registered tasks, by their numbers */
   struct paldwosk_overdue *room, *spare; /* room for a call of each task whose time is over; what is free of it */
-  uint32_t bound;
-  uint32_t watch;                 /* after how many seconds a thread tells that it waits; 0: it never does */
   uint32_t to_wake;               /* bits of sleepers that were freed, and are to be woken */
   uint32_t coming;                /* how many run a single, and will be back */
   uint64_t claimer;               /* the task that claimed a single last */
-  uint32_t tasks, processors;     /* that are registered; that are online */
-  uint32_t waits, probe;          /* how many have waited; which of them spins for as long as it may */
+  struct paldwosk_tries tries;    /* of all threads together */
+#ifdef PALDWOSK_IN_ROUNDS
+  uint32_t uneven; /* how many tasks are ahead, and have another mode than SIG_WAIT, and have no seat */
+#endif
   uint8_t apart[64];              /* what threads write that were freed isn't in the line of what is under the lock */
   uint32_t inside;                /* atomic: how many threads wait, or read the barrier still after they were freed */
   uint32_t pauses, most_pauses;   /* atomic: for how many a thread spins, and may spin */
@@ -141,6 +161,7 @@ typedef struct paldwosk_barrier {
 typedef struct paldwosk_task {
   paldwosk_barrier *barrier;
   uint64_t number; /* no other task of the barrier has it, or had it */
+  uint32_t seat;   /* the header's */
 } paldwosk_task;
 
 #ifdef __cplusplus
@@ -148,7 +169,7 @@ typedef struct paldwosk_task {
 #else
 #define PALDWOSK_NO_BARRIER {0}
 #endif
-#define PALDWOSK_NO_TASK {NULL, 0}
+#define PALDWOSK_NO_TASK {NULL, 0, 0}
 
 /* For how many pauses of the processor a thread spins at most before it sleeps, by default. */
 #define PALDWOSK_MOST_PAUSES 2000
@@ -427,10 +448,12 @@ enum { PALDWOSK_CALL_SIGNAL, PALDWOSK_CALL_WAIT, PALDWOSK_CALL_NEXT, PALDWOSK_CA
 enum { PALDWOSK_SPINNING = 0, PALDWOSK_READY = 1, PALDWOSK_ASLEEP = 2 };
 enum { PALDWOSK_CLOCK = 1 }; /* CLOCK_MONOTONIC */
 
-/* A call that may have to wait, on the stack of the thread that makes it. Once it is READY it may be gone. */
+/* A call that may have to wait, on the stack of the thread that makes it, or at its task's seat. Once it is READY it
+ * may be gone. */
 struct paldwosk_sleeper {
   struct paldwosk_sleeper *next;
   uint64_t task, number; /* the number is what the answer has besides */
+  uint64_t turn;         /* in a round: of the rounds, as it was before the task came */
   uint32_t call, single, answer;
   uint32_t state;     /* atomic if threads sleep by futex, else guarded by the lock */
   uint32_t patience;  /* for how many pauses it spins */
@@ -439,7 +462,70 @@ struct paldwosk_sleeper {
   uint8_t is_parked;  /* it has to wait: it was put into the list, and counted as inside */
   uint8_t is_to_ask;  /* of a traced barrier: it makes its next call before the lock is given back */
   uint8_t is_to_pass; /* of a traced barrier: that call is the pass */
+  uint8_t is_in_round; /* it is over too once the round is over in which the task came */
 };
+
+PALDWOSK_INLINE struct paldwosk_sleeper paldwosk_new_sleeper(uint64_t task, uint32_t call, uint32_t single) {
+  struct paldwosk_sleeper me = {NULL, task, 0, 0, call, single, PALDWOSK_NOT_YET, PALDWOSK_SPINNING, 0, 0, 0, 0, 0, 0, 0};
+  return me;
+}
+
+enum { PALDWOSK_MOST_MEMBERS = 256, PALDWOSK_MEMBER_PLACES = 512 };
+
+#ifdef PALDWOSK_IN_ROUNDS
+
+enum { PALDWOSK_MOST_KEPT = 4, PALDWOSK_MOST_ACCUMULATORS = 4, PALDWOSK_SEAT_WORDS = PALDWOSK_MOST_MEMBERS / 64 };
+enum { PALDWOSK_NO_SEAT = PALDWOSK_MOST_MEMBERS };
+enum { PALDWOSK_LINE = 128 }; /* a processor may fetch two lines of memory at once */
+
+/* Who is at a seat: nobody; a thread that touches it, and doesn't block; or one that has come, and waits. */
+enum { PALDWOSK_OUTSIDE = 0, PALDWOSK_PASSING = 1, PALDWOSK_SEATED = 2 };
+
+#define PALDWOSK_ALONE __attribute__((aligned(PALDWOSK_LINE))) /* begins a line of its own */
+
+/* Where a task comes. It is its own thread's, unless another claims it, or has it with the lock while the barrier is
+ * slow. */
+struct paldwosk_seat {
+  uint64_t task PALDWOSK_ALONE;         /* atomic: the number of its task; PALDWOSK_NOBODY if it is free */
+  uint64_t phase;                       /* atomic: where the task stands, while the barrier is fast */
+  uint64_t came;                        /* atomic: the phase after the one in which it came last; 0 once the phaser is told */
+  uint32_t inside;                      /* atomic: who is at it */
+  uint32_t sends;                       /* how many values it keeps of which the phaser isn't told */
+  int32_t values[PALDWOSK_MOST_KEPT];   /* these */
+  uint8_t indices[PALDWOSK_MOST_KEPT];  /* and for which accumulator each is */
+  struct paldwosk_tries tries;          /* of its thread */
+  struct paldwosk_sleeper call;         /* the next with which it has come */
+};
+
+/* What a look at an accumulator is answered in this phase. */
+struct paldwosk_fold {
+  uint64_t phase;
+  int64_t value;
+  uint32_t answer;
+};
+
+/* The last who comes has the phaser until it sets the count again. So has the holder of the lock while the word says
+ * SLOW or BUSY. What isn't atomic is theirs. */
+struct paldwosk_rounds {
+  uint64_t to_come PALDWOSK_ALONE;           /* atomic: SLOW, BUSY, and how many tasks haven't come */
+  uint64_t have_sent[PALDWOSK_SEAT_WORDS];   /* atomic: which seats keep values */
+  uint64_t whole PALDWOSK_ALONE;             /* atomic: how many rounds are over (high half); the turn (low half) */
+  uint32_t sleepers, is_slow;                /* atomic: how many sleep who have come; whether the word says SLOW */
+  struct paldwosk_fold folds[PALDWOSK_MOST_ACCUMULATORS] PALDWOSK_ALONE; /* read by tasks that haven't come */
+  uint64_t phase PALDWOSK_ALONE;             /* in which all tasks stand, while the barrier is fast */
+  uint64_t fast_since;                       /* the first of these phases */
+  uint32_t ended;                            /* how many rounds are over, also if the others aren't let go yet */
+  uint32_t rest, rest_left;                  /* at how many level moments it stays slow; how many are left of these */
+  uint32_t wanted;                           /* bits of the accumulators at which tasks look */
+  struct paldwosk_seat *claimed;             /* by the holder of the lock; or NULL */
+  uint64_t used[PALDWOSK_SEAT_WORDS];        /* which seats have a task */
+  uint64_t tasks[PALDWOSK_MOST_MEMBERS];     /* the registered tasks, in any order */
+  uint16_t places[PALDWOSK_MOST_MEMBERS];    /* the seats of these */
+  paldwosk_given_send sends[PALDWOSK_MOST_MEMBERS * PALDWOSK_MOST_KEPT]; /* room for the sends of a round */
+  struct paldwosk_seat seats[PALDWOSK_MOST_MEMBERS];
+};
+
+#endif
 
 PALDWOSK_INLINE void paldwosk_put_last(paldwosk_barrier *barrier, struct paldwosk_sleeper *sleeper) {
   sleeper->next = NULL;
@@ -479,9 +565,8 @@ PALDWOSK_INLINE void paldwosk_replace(paldwosk_barrier *barrier, struct paldwosk
 }
 
 /* ---- Who is registered, and where each task stands. The core knows, but isn't asked: it has no export that tells. All
- * this is with the lock. What a waiting call has done so far isn't noted. It follows from the list of sleepers. */
-
-enum { PALDWOSK_MOST_MEMBERS = 256, PALDWOSK_MEMBER_PLACES = 512 };
+ * this is with the lock. What a waiting call has done so far isn't noted. It follows from the list of sleepers. While
+ * the barrier is fast all stand in one phase, and no member is looked at. */
 
 /* A registered task, in the first place that is free from its number on. */
 struct paldwosk_member {
@@ -497,10 +582,24 @@ PALDWOSK_INLINE struct paldwosk_member *paldwosk_member_of(paldwosk_barrier *bar
   return &barrier->members[at];
 }
 
+/* For how much the member counts among what keeps the barrier from being fast. */
+PALDWOSK_INLINE uint32_t paldwosk_unevenness(const struct paldwosk_member *member) {
+  return (uint32_t)(member->mode != PALDWOSK_SIG_WAIT) + member->is_ahead;
+}
+
+PALDWOSK_INLINE void paldwosk_count_uneven(paldwosk_barrier *barrier, uint32_t more, uint32_t fewer) {
+#ifdef PALDWOSK_IN_ROUNDS
+  barrier->uneven += more - fewer;
+#else
+  (void)barrier, (void)more, (void)fewer;
+#endif
+}
+
 /* Takes a task out. Those behind it move up, if else a free place came before them. */
 PALDWOSK_INLINE void paldwosk_remove_member(paldwosk_barrier *barrier, uint64_t number) {
   struct paldwosk_member *members = barrier->members;
   size_t hole = (size_t)(paldwosk_member_of(barrier, number) - members);
+  paldwosk_count_uneven(barrier, 0, paldwosk_unevenness(&members[hole]));
   for (size_t at = (hole + 1) % PALDWOSK_MEMBER_PLACES; members[at].is_there; at = (at + 1) % PALDWOSK_MEMBER_PLACES) {
     size_t from_first = (at - members[at].number) % PALDWOSK_MEMBER_PLACES;
     if (from_first < (at - hole) % PALDWOSK_MEMBER_PLACES) continue;
@@ -508,7 +607,7 @@ PALDWOSK_INLINE void paldwosk_remove_member(paldwosk_barrier *barrier, uint64_t 
     hole = at;
   }
   members[hole].is_there = 0;
-  barrier->tasks--;
+  __atomic_store_n(&barrier->tasks, barrier->tasks - 1, __ATOMIC_RELAXED);
 }
 
 PALDWOSK_INLINE int paldwosk_can_signal(const struct paldwosk_member *member) { return member->mode != PALDWOSK_WAIT; }
@@ -551,15 +650,18 @@ PALDWOSK_INLINE void paldwosk_add_member(paldwosk_barrier *barrier, uint64_t par
   member->mode = mode & 3;
   member->is_ahead = is_ahead & 1;
   member->is_there = 1;
-  barrier->tasks++;
+  paldwosk_count_uneven(barrier, paldwosk_unevenness(member), 0);
+  __atomic_store_n(&barrier->tasks, barrier->tasks + 1, __ATOMIC_RELAXED);
 }
 
 /* A call of a task was made: it has passed this phase, or it has signalled. */
 PALDWOSK_INLINE void paldwosk_move_member(paldwosk_barrier *barrier, const struct paldwosk_sleeper *sleeper) {
   struct paldwosk_member *member = paldwosk_member_of(barrier, sleeper->task);
   int has_passed = sleeper->answer == PALDWOSK_DONE && sleeper->call != PALDWOSK_CALL_SIGNAL;
+  uint32_t before = paldwosk_unevenness(member);
   if (has_passed) member->passes = (sleeper->number + 1) & (UINT64_MAX >> 4);
   member->is_ahead = !has_passed;
+  paldwosk_count_uneven(barrier, paldwosk_unevenness(member), before);
 }
 
 /* For which calls of others the waiting calls wait. */
@@ -617,6 +719,16 @@ PALDWOSK_INLINE void paldwosk_set_answer(paldwosk_barrier *barrier, struct paldw
 
 PALDWOSK_INLINE int paldwosk_is_ready(const struct paldwosk_sleeper *me) {
   return __atomic_load_n(&me->state, __ATOMIC_ACQUIRE) == PALDWOSK_READY;
+}
+
+/* Whether its call is over: it has an answer, or the round is over in which its task came. */
+PALDWOSK_INLINE int paldwosk_is_over(const paldwosk_barrier *barrier, const struct paldwosk_sleeper *me) {
+#ifdef PALDWOSK_IN_ROUNDS
+  if (me->is_in_round && (__atomic_load_n(&barrier->rounds->whole, __ATOMIC_SEQ_CST) ^ me->turn) >> 32) return 1;
+#else
+  (void)barrier;
+#endif
+  return paldwosk_is_ready(me);
 }
 
 PALDWOSK_INLINE int64_t paldwosk_microseconds(void) {
@@ -679,14 +791,14 @@ PALDWOSK_INLINE void paldwosk_give_way(paldwosk_barrier *barrier) {
 /* With more threads than processors those that the call waits for may have none. To yield to them takes less time than
  * to sleep and to be woken. */
 PALDWOSK_INLINE void paldwosk_yield(paldwosk_barrier *barrier, struct paldwosk_sleeper *me) {
-  if (!me->yields || paldwosk_is_ready(me)) return;
+  if (!me->yields || paldwosk_is_over(barrier, me)) return;
   int64_t began = paldwosk_microseconds(), took = 0;
-  for (uint32_t done = 0; done < me->yields && took < PALDWOSK_LONG_YIELDS && !paldwosk_is_ready(me); done++) {
+  for (uint32_t done = 0; done < me->yields && took < PALDWOSK_LONG_YIELDS && !paldwosk_is_over(barrier, me); done++) {
     paldwosk_give_way(barrier);
     took = paldwosk_microseconds() - began;
     if (took < 0) took = 0; /* somebody has set the clock */
   }
-  paldwosk_learn_of_yields(barrier, took, took >= PALDWOSK_LONG_YIELDS || !paldwosk_is_ready(me));
+  paldwosk_learn_of_yields(barrier, took, took >= PALDWOSK_LONG_YIELDS || !paldwosk_is_over(barrier, me));
 }
 
 #ifdef PALDWOSK_BY_FUTEX
@@ -704,20 +816,26 @@ PALDWOSK_INLINE void paldwosk_pause(void) {
 /* For how many pauses a thread that waits now spins before it sleeps: as many as the barrier has learned to be good.
  * Now and then it spins for as long as it may, to see whether that is good again. With more tasks than processors it
  * would only keep others off. */
-PALDWOSK_INLINE uint32_t paldwosk_patience(paldwosk_barrier *barrier, struct paldwosk_sleeper *me) {
-  if (barrier->tasks > barrier->processors) return 0;
-  me->is_probe = ++barrier->waits == barrier->probe;
+PALDWOSK_INLINE uint32_t paldwosk_patience(paldwosk_barrier *barrier, struct paldwosk_sleeper *me,
+                                           struct paldwosk_tries *tries) {
+  if (__atomic_load_n(&barrier->tasks, __ATOMIC_RELAXED) > barrier->processors) return 0;
+  me->is_probe = ++tries->waits == tries->probe;
   if (!me->is_probe) return __atomic_load_n(&barrier->pauses, __ATOMIC_RELAXED);
-  barrier->probe += __atomic_load_n(&barrier->probe_after, __ATOMIC_RELAXED);
+  tries->probe += __atomic_load_n(&barrier->probe_after, __ATOMIC_RELAXED);
   return __atomic_load_n(&barrier->most_pauses, __ATOMIC_RELAXED);
 }
 
 /* A thread that neither spins nor yields counts as asleep from the start; but not at a traced barrier, because its call
  * may be over before the lock is given back. */
 PALDWOSK_INLINE void paldwosk_prepare(paldwosk_barrier *barrier, struct paldwosk_sleeper *me) {
-  me->patience = paldwosk_patience(barrier, me);
+  me->patience = paldwosk_patience(barrier, me, &barrier->tries);
   me->yields = paldwosk_yields(barrier);
   me->state = me->patience || me->yields || barrier->trace ? PALDWOSK_SPINNING : PALDWOSK_ASLEEP;
+}
+
+/* Sets a word that all who wait read, if it isn't so already. */
+PALDWOSK_INLINE void paldwosk_set(uint32_t *word, uint32_t value) {
+  if (__atomic_load_n(word, __ATOMIC_RELAXED) != value) __atomic_store_n(word, value, __ATOMIC_RELAXED);
 }
 
 /* What a thread learns that has spun. If it was freed meanwhile, others spin longer, else half as long, and soon not
@@ -729,8 +847,25 @@ PALDWOSK_INLINE void paldwosk_learn(paldwosk_barrier *barrier, const struct pald
   if (!is_in_vain) after = PALDWOSK_PROBE_AFTER;
   else if (me->is_probe && after < 64 * PALDWOSK_PROBE_AFTER) after *= 2;
   pauses = is_in_vain ? pauses / 2 : (pauses + most + 1) / 2;
-  __atomic_store_n(&barrier->probe_after, after, __ATOMIC_RELAXED);
-  __atomic_store_n(&barrier->pauses, pauses < PALDWOSK_LEAST_PAUSES ? 0 : pauses, __ATOMIC_RELAXED);
+  paldwosk_set(&barrier->probe_after, after);
+  paldwosk_set(&barrier->pauses, pauses < PALDWOSK_LEAST_PAUSES ? 0 : pauses);
+}
+
+/* The word on which threads sleep. */
+PALDWOSK_INLINE uint32_t *paldwosk_turn_word(paldwosk_barrier *barrier) {
+#ifdef PALDWOSK_IN_ROUNDS
+  return (uint32_t *)&barrier->rounds->whole; /* its low half */
+#else
+  return &barrier->turn;
+#endif
+}
+
+PALDWOSK_INLINE uint32_t paldwosk_turn(paldwosk_barrier *barrier) {
+#ifdef PALDWOSK_IN_ROUNDS
+  return (uint32_t)__atomic_load_n(&barrier->rounds->whole, __ATOMIC_SEQ_CST);
+#else
+  return __atomic_load_n(&barrier->turn, __ATOMIC_ACQUIRE);
+#endif
 }
 
 /* Sleeps while the word is as it was seen; or wakes all that sleep there and have one of the bits. */
@@ -759,37 +894,24 @@ PALDWOSK_INLINE void paldwosk_lock(paldwosk_barrier *barrier) {
   pthread_mutex_lock(&barrier->lock);
 }
 
-/* After it the sleeper is READY, or ASLEEP: then others have to wake it. */
+/* After it the call is over, or the sleeper is ASLEEP: then others have to wake it. */
 PALDWOSK_INLINE void paldwosk_spin(paldwosk_barrier *barrier, struct paldwosk_sleeper *me) {
   uint32_t spun = 0, state = PALDWOSK_SPINNING;
-  for (; spun < me->patience && !paldwosk_is_ready(me); spun++) paldwosk_pause();
+  for (; spun < me->patience && !paldwosk_is_over(barrier, me); spun++) paldwosk_pause();
   if (me->patience) paldwosk_learn(barrier, me, spun == me->patience);
   paldwosk_yield(barrier, me);
-  if (__atomic_load_n(&me->state, __ATOMIC_RELAXED) != PALDWOSK_SPINNING) return;
+  if (paldwosk_is_over(barrier, me) || __atomic_load_n(&me->state, __ATOMIC_RELAXED) != PALDWOSK_SPINNING) return;
   __atomic_compare_exchange_n(&me->state, &state, PALDWOSK_ASLEEP, 0, __ATOMIC_ACQUIRE, __ATOMIC_ACQUIRE);
 }
 
-/* The turn is read before the state. A thread freed after that finds that the turn isn't what it was, and doesn't
- * sleep. */
+/* The turn is read before it is asked whether the call is over. A thread freed after that finds that the turn isn't what
+ * it was, and doesn't sleep. */
 PALDWOSK_INLINE void paldwosk_sleep(paldwosk_barrier *barrier, struct paldwosk_sleeper *me) {
-  while (!paldwosk_is_ready(me)) {
-    uint32_t seen = __atomic_load_n(&barrier->turn, __ATOMIC_ACQUIRE);
-    if (!paldwosk_is_ready(me)) paldwosk_futex(&barrier->turn, 0, seen, paldwosk_bit(me->task));
+  while (!paldwosk_is_over(barrier, me)) {
+    uint32_t seen = paldwosk_turn(barrier);
+    if (!paldwosk_is_over(barrier, me))
+      paldwosk_futex(paldwosk_turn_word(barrier), 0, seen, paldwosk_bit(me->task));
   }
-}
-
-/* Gives the lock back, wakes the threads that the call has freed, and waits until the call itself is over. After the
- * unlock only threads that are counted as inside read the barrier; a thread's last access takes it off that count. */
-PALDWOSK_INLINE void paldwosk_unlock(paldwosk_barrier *barrier, struct paldwosk_sleeper *me) {
-  uint32_t bits = barrier->to_wake, leaving = (uint32_t)(bits != 0) + me->is_parked;
-  barrier->to_wake = 0;
-  if (bits) __atomic_fetch_add(&barrier->inside, 1, __ATOMIC_RELAXED);
-  if (bits) __atomic_store_n(&barrier->turn, barrier->turn + 1, __ATOMIC_RELEASE);
-  pthread_mutex_unlock(&barrier->lock);
-  if (bits) paldwosk_futex(&barrier->turn, 1, INT_MAX, bits);
-  if (me->is_parked) paldwosk_spin(barrier, me);
-  if (me->is_parked) paldwosk_sleep(barrier, me);
-  if (leaving) __atomic_fetch_sub(&barrier->inside, leaving, __ATOMIC_RELEASE);
 }
 
 #else
@@ -812,15 +934,6 @@ PALDWOSK_INLINE void paldwosk_sleep(paldwosk_barrier *barrier, struct paldwosk_s
   pthread_setcancelstate(PTHREAD_CANCEL_DISABLE, &old);
   while (!paldwosk_is_ready(me)) pthread_cond_wait(&barrier->turned, &barrier->lock);
   pthread_setcancelstate(old, &old);
-}
-
-/* Wakes the threads that the call has freed, waits until the call itself is over, and gives the lock back. */
-PALDWOSK_INLINE void paldwosk_unlock(paldwosk_barrier *barrier, struct paldwosk_sleeper *me) {
-  if (barrier->to_wake) pthread_cond_broadcast(&barrier->turned);
-  barrier->to_wake = 0;
-  if (me->is_parked) paldwosk_sleep(barrier, me);
-  if (me->is_parked) __atomic_fetch_sub(&barrier->inside, 1, __ATOMIC_RELAXED);
-  pthread_mutex_unlock(&barrier->lock);
 }
 
 #endif
@@ -908,11 +1021,14 @@ PALDWOSK_APART void paldwosk_ask_and_free(paldwosk_barrier *barrier, struct pald
   paldwosk_free_those(barrier, freed, count);
 }
 
-PALDWOSK_APART void paldwosk_ask_traced(paldwosk_barrier *barrier, struct paldwosk_sleeper *sleeper) {
+/* Makes the call of a sleeper that isn't in the list: of one at a traced barrier, or of one that has come in a round. */
+PALDWOSK_APART void paldwosk_ask_for(paldwosk_barrier *barrier, struct paldwosk_sleeper *sleeper) {
   paldwosk_freed freed[PALDWOSK_MOST_FREED];
   size_t count = 0;
+  uint32_t answer;
   sleeper->is_to_ask = 0;
-  uint32_t answer = paldwosk_ask_once(barrier, sleeper, freed, &count);
+  if (barrier->trace) answer = paldwosk_ask_once(barrier, sleeper, freed, &count);
+  else answer = paldwosk_ask_whole(barrier, sleeper, freed, &count);
   if (answer == PALDWOSK_NOT_YET) paldwosk_put_last(barrier, sleeper);
   else paldwosk_go_on(barrier, sleeper, answer, sleeper->number);
   paldwosk_free_those(barrier, freed, count);
@@ -969,22 +1085,657 @@ PALDWOSK_APART void paldwosk_go_on_overdue(paldwosk_barrier *barrier, struct pal
   paldwosk_end_overdue(barrier, me->task);
 }
 
-PALDWOSK_APART void paldwosk_ask_to_leave(paldwosk_barrier *barrier, struct paldwosk_sleeper *me) {
-  paldwosk_freed freed[PALDWOSK_MOST_FREED];
-  size_t count = 0;
-  me->answer = phaser_c_waiting_leave(&barrier->phaser, me->task, freed, PALDWOSK_MOST_FREED, &count);
-  if (me->answer == PALDWOSK_DONE) paldwosk_remove_member(barrier, me->task);
-  if (me->answer == PALDWOSK_DONE && barrier->trace) paldwosk_trace_left(barrier->trace, me->task);
-  paldwosk_free_those(barrier, freed, count);
-  if (me->answer == PALDWOSK_DONE) paldwosk_end_overdue(barrier, me->task);
-}
-
 PALDWOSK_APART void paldwosk_report(paldwosk_barrier *barrier, struct paldwosk_sleeper *me) {
   paldwosk_freed freed[PALDWOSK_MOST_FREED];
   size_t count = 0;
   me->answer = phaser_c_waiting_single_done(&barrier->phaser, me->task, freed, PALDWOSK_MOST_FREED, &count);
   if (me->answer == PALDWOSK_DONE && barrier->trace) paldwosk_trace_did(barrier->trace, me->task);
   paldwosk_free_those(barrier, freed, count);
+}
+
+/* The threads that are counted as inside have been woken, and only need a processor for a moment. If yielding doesn't
+ * give them one, this thread sleeps: theirs may be of a lower priority. */
+PALDWOSK_INLINE void paldwosk_let_others_run(uint32_t tried) {
+  int old = 0;
+  if (tried < 100) {
+    sched_yield();
+    return;
+  }
+  pthread_setcancelstate(PTHREAD_CANCEL_DISABLE, &old);
+  poll(NULL, 0, 1);
+  pthread_setcancelstate(old, &old);
+}
+
+/* ---- Rounds. While all tasks stand level the barrier is fast: a task comes by taking 1 from a count. The last who
+ * comes has the phaser make all calls of the phase in one, and then lets the others go. The word with the count says
+ * SLOW if each call takes the lock. It says BUSY if the holder of the lock has the phaser; tasks come meanwhile. If it
+ * says neither and the count is 0, the last who came has the phaser. */
+
+#ifdef PALDWOSK_IN_ROUNDS
+
+#define PALDWOSK_SLOW (UINT64_C(1) << 63)
+#define PALDWOSK_BUSY (UINT64_C(1) << 62)
+#define PALDWOSK_STILL (PALDWOSK_SLOW | UINT64_C(1) << 31) /* who subtracts from it doesn't reach what it says */
+#define PALDWOSK_NOBODY UINT64_MAX
+
+/* For so many level moments a barrier stays slow at most; and so many fast phases in a row make that 1 again. */
+enum { PALDWOSK_MOST_REST = 64 };
+
+/* Waits for a thread that doesn't block. */
+PALDWOSK_INLINE void paldwosk_bide(uint32_t tried) {
+  if (tried < PALDWOSK_LOCK_TRIES) paldwosk_pause();
+  else paldwosk_let_others_run(tried - PALDWOSK_LOCK_TRIES);
+}
+
+/* With the lock. */
+PALDWOSK_INLINE int paldwosk_is_slow(const paldwosk_barrier *barrier) {
+  return __atomic_load_n(&barrier->rounds->to_come, __ATOMIC_RELAXED) >= PALDWOSK_SLOW;
+}
+
+/* With the phaser: raises the turn, and the number of the rounds that are over by so many. The halves are raised apart:
+ * no carry of the turn may end a round. */
+PALDWOSK_INLINE void paldwosk_raise(struct paldwosk_rounds *rounds, uint64_t over) {
+  uint64_t whole = __atomic_load_n(&rounds->whole, __ATOMIC_RELAXED);
+  __atomic_store_n(&rounds->whole, ((whole >> 32) + over) << 32 | (uint32_t)(whole + 1), __ATOMIC_SEQ_CST);
+}
+
+/* ---- Seats */
+
+/* The seat of a task; NULL if it has none, or isn't registered. */
+PALDWOSK_INLINE struct paldwosk_seat *paldwosk_seat_of(const paldwosk_task *task) {
+  struct paldwosk_seat *seat = &task->barrier->rounds->seats[task->seat % PALDWOSK_MOST_MEMBERS];
+  return __atomic_load_n(&seat->task, __ATOMIC_RELAXED) == task->number ? seat : NULL;
+}
+
+/* Nobody is at it: its thread comes, or another claims it. */
+PALDWOSK_INLINE int paldwosk_pass_to_seat(struct paldwosk_seat *seat) {
+  uint32_t outside = PALDWOSK_OUTSIDE;
+  return __atomic_compare_exchange_n(&seat->inside, &outside, PALDWOSK_PASSING, 0, __ATOMIC_SEQ_CST, __ATOMIC_RELAXED);
+}
+
+/* The last that a thread does at its seat: it reads the barrier no more. */
+PALDWOSK_INLINE void paldwosk_leave_seat(struct paldwosk_seat *seat) {
+  __atomic_store_n(&seat->inside, PALDWOSK_OUTSIDE, __ATOMIC_RELEASE);
+}
+
+/* The seat of a task, to which its thread passes; NULL if the barrier is slow, or another is there. Whoever makes the
+ * barrier slow says so before it looks who is at a seat. */
+PALDWOSK_INLINE struct paldwosk_seat *paldwosk_enter_seat(const paldwosk_task *task) {
+  struct paldwosk_rounds *rounds = task->barrier->rounds;
+  struct paldwosk_seat *seat = &rounds->seats[task->seat % PALDWOSK_MOST_MEMBERS];
+  if (__atomic_load_n(&rounds->is_slow, __ATOMIC_RELAXED) || !paldwosk_pass_to_seat(seat)) return NULL;
+  if (!__atomic_load_n(&rounds->is_slow, __ATOMIC_SEQ_CST) && paldwosk_seat_of(task)) return seat;
+  paldwosk_leave_seat(seat);
+  return NULL;
+}
+
+/* Whether a thread is at the seat of which the phaser isn't told: it passes, or a round has let it go just now. Such a
+ * thread doesn't block. */
+PALDWOSK_INLINE int paldwosk_is_at_seat(const struct paldwosk_seat *seat) {
+  uint32_t inside = __atomic_load_n(&seat->inside, __ATOMIC_SEQ_CST);
+  return inside == PALDWOSK_PASSING ||
+         (inside == PALDWOSK_SEATED && __atomic_load_n(&seat->came, __ATOMIC_ACQUIRE) != 0);
+}
+
+/* With the phaser, if nobody else touches the seat. */
+PALDWOSK_INLINE void paldwosk_tell_sends(paldwosk_barrier *barrier, struct paldwosk_seat *seat) {
+  uint64_t task = __atomic_load_n(&seat->task, __ATOMIC_RELAXED);
+  for (uint32_t at = 0; at < seat->sends; at++)
+    (void)phaser_c_waiting_send(&barrier->phaser, task, seat->indices[at], seat->values[at]);
+  seat->sends = 0;
+}
+
+PALDWOSK_INLINE uint64_t paldwosk_seat_bit(uint32_t place) { return UINT64_C(1) << place % 64; }
+
+/* A thread whose task has left may still wait at a seat. */
+PALDWOSK_INLINE int paldwosk_is_seat_free(const struct paldwosk_rounds *rounds, uint32_t place) {
+  if (rounds->used[place / 64] & paldwosk_seat_bit(place)) return 0;
+  return __atomic_load_n(&rounds->seats[place].inside, __ATOMIC_ACQUIRE) != PALDWOSK_SEATED;
+}
+
+/* With the lock: a seat for a new task; NO_SEAT if there is none. */
+PALDWOSK_INLINE uint32_t paldwosk_free_place(const struct paldwosk_rounds *rounds) {
+  uint32_t place = 0;
+  while (place < PALDWOSK_NO_SEAT && !paldwosk_is_seat_free(rounds, place)) place++;
+  return place;
+}
+
+PALDWOSK_INLINE void paldwosk_prepare_seat(struct paldwosk_rounds *rounds, uint32_t place, uint64_t number) {
+  struct paldwosk_seat *seat = &rounds->seats[place];
+  rounds->used[place / 64] |= paldwosk_seat_bit(place);
+  seat->call = paldwosk_new_sleeper(number, PALDWOSK_CALL_NEXT, 0);
+  seat->call.is_in_round = 1;
+  seat->sends = 0;
+  seat->tries.waits = place % PALDWOSK_PROBE_AFTER; /* so that not all try in one phase whether it is good to spin */
+  seat->tries.probe = PALDWOSK_PROBE_AFTER;
+  __atomic_store_n(&seat->came, 0, __ATOMIC_RELAXED);
+  __atomic_store_n(&seat->phase, rounds->phase, __ATOMIC_RELAXED);
+  __atomic_store_n(&seat->task, number, __ATOMIC_RELEASE);
+}
+
+/* With the phaser: a seat for a task that is registered now and counted. If there is none, the barrier is slow. */
+PALDWOSK_INLINE uint32_t paldwosk_add_seat(paldwosk_barrier *barrier, uint64_t number) {
+  struct paldwosk_rounds *rounds = barrier->rounds;
+  uint32_t place = paldwosk_free_place(rounds), at = barrier->tasks - 1;
+  rounds->tasks[at] = number;
+  rounds->places[at] = (uint16_t)place;
+  if (place == PALDWOSK_NO_SEAT) barrier->uneven++;
+  else paldwosk_prepare_seat(rounds, place, number);
+  if (!paldwosk_is_slow(barrier)) __atomic_fetch_add(&rounds->to_come, 1, __ATOMIC_SEQ_CST);
+  return place;
+}
+
+PALDWOSK_INLINE void paldwosk_clear_seat(struct paldwosk_rounds *rounds, uint32_t place) {
+  rounds->used[place / 64] &= ~paldwosk_seat_bit(place);
+  __atomic_store_n(&rounds->seats[place].task, PALDWOSK_NOBODY, __ATOMIC_RELEASE);
+}
+
+/* With the phaser: the same for a task that has left, while it is counted. */
+PALDWOSK_INLINE void paldwosk_remove_seat(paldwosk_barrier *barrier, uint64_t number) {
+  struct paldwosk_rounds *rounds = barrier->rounds;
+  uint32_t at = 0, last = barrier->tasks - 1;
+  while (rounds->tasks[at] != number) at++;
+  uint32_t place = rounds->places[at];
+  rounds->tasks[at] = rounds->tasks[last];
+  rounds->places[at] = rounds->places[last];
+  if (place == PALDWOSK_NO_SEAT) barrier->uneven--;
+  else paldwosk_clear_seat(rounds, place);
+  if (!paldwosk_is_slow(barrier)) __atomic_fetch_sub(&rounds->to_come, 1, __ATOMIC_SEQ_CST);
+}
+
+PALDWOSK_INLINE int paldwosk_are_seats_left(const paldwosk_barrier *barrier) {
+  uint32_t place = 0;
+  while (place < PALDWOSK_MOST_MEMBERS &&
+         __atomic_load_n(&barrier->rounds->seats[place].inside, __ATOMIC_ACQUIRE) == PALDWOSK_OUTSIDE)
+    place++;
+  return place == PALDWOSK_MOST_MEMBERS;
+}
+
+/* With the lock: whether a task has come, and waits for others. */
+PALDWOSK_INLINE int paldwosk_has_come(const paldwosk_barrier *barrier) {
+  uint64_t word = __atomic_load_n(&barrier->rounds->to_come, __ATOMIC_ACQUIRE);
+  return word < PALDWOSK_SLOW && (uint32_t)word != barrier->tasks;
+}
+
+/* ---- From fast to slow. The phaser is told of those who have come; they stay where they wait. */
+
+PALDWOSK_INLINE void paldwosk_set_members(paldwosk_barrier *barrier, uint64_t phase) {
+  for (size_t at = 0; at < PALDWOSK_MEMBER_PLACES; at++)
+    if (barrier->members[at].is_there) barrier->members[at].passes = phase & (UINT64_MAX >> 4);
+}
+
+/* A barrier that is made slow soon after it has become fast stays so for twice as long. */
+PALDWOSK_INLINE void paldwosk_say_slow(paldwosk_barrier *barrier) {
+  struct paldwosk_rounds *rounds = barrier->rounds;
+  if (rounds->phase - rounds->fast_since >= PALDWOSK_MOST_REST) rounds->rest = 1;
+  else if (rounds->rest < PALDWOSK_MOST_REST) rounds->rest *= 2;
+  rounds->rest_left = rounds->rest;
+  paldwosk_set_members(barrier, rounds->phase);
+  __atomic_store_n(&rounds->is_slow, 1, __ATOMIC_SEQ_CST);
+}
+
+/* Whether the task at the seat has come in this phase, and the phaser isn't told. */
+PALDWOSK_INLINE int paldwosk_has_come_to(const struct paldwosk_rounds *rounds, uint32_t place) {
+  return place != PALDWOSK_NO_SEAT &&
+         __atomic_load_n(&rounds->seats[place].came, __ATOMIC_ACQUIRE) == rounds->phase + 1;
+}
+
+/* Has the phaser make the call of a task that has come: its next, or its pass if its signal is made. */
+PALDWOSK_INLINE void paldwosk_tell_coming(paldwosk_barrier *barrier, struct paldwosk_seat *seat, uint32_t call) {
+  __atomic_store_n(&seat->came, 0, __ATOMIC_RELEASE);
+  seat->call.call = call;
+  paldwosk_tell_sends(barrier, seat);
+  paldwosk_ask_for(barrier, &seat->call);
+}
+
+/* Of those whose seats say by now that they have come. How many there are. */
+PALDWOSK_INLINE uint32_t paldwosk_tell_who_came(paldwosk_barrier *barrier) {
+  struct paldwosk_rounds *rounds = barrier->rounds;
+  uint32_t told = 0;
+  for (uint32_t at = 0; at < barrier->tasks; at++) {
+    uint32_t place = rounds->places[at];
+    if (!paldwosk_has_come_to(rounds, place)) continue;
+    paldwosk_tell_coming(barrier, &rounds->seats[place], PALDWOSK_CALL_NEXT);
+    told++;
+  }
+  return told;
+}
+
+/* With the lock and BUSY, unless all have come. The word says how many have come. Each of these says so at its seat
+ * right after it has taken 1 from the count. */
+PALDWOSK_INLINE int paldwosk_stop_rounds(paldwosk_barrier *barrier) {
+  uint64_t *to_come = &barrier->rounds->to_come, word = __atomic_load_n(to_come, __ATOMIC_RELAXED);
+  do {
+    if (!(uint32_t)word) return 0;
+  } while (!__atomic_compare_exchange_n(to_come, &word, PALDWOSK_STILL, 0, __ATOMIC_SEQ_CST, __ATOMIC_RELAXED));
+  paldwosk_say_slow(barrier);
+  uint32_t untold = barrier->tasks - (uint32_t)word;
+  for (uint32_t tried = 0; (untold -= paldwosk_tell_who_came(barrier)) != 0; tried++) paldwosk_bide(tried);
+  return 1;
+}
+
+/* ---- The end of a round */
+
+PALDWOSK_INLINE size_t paldwosk_take_sends(struct paldwosk_rounds *rounds, uint32_t place, size_t count) {
+  struct paldwosk_seat *seat = &rounds->seats[place];
+  uint64_t task = __atomic_load_n(&seat->task, __ATOMIC_RELAXED);
+  for (uint32_t at = 0; at < seat->sends; at++) {
+    paldwosk_given_send send = {task, seat->values[at], seat->indices[at]};
+    rounds->sends[count++] = send;
+  }
+  seat->sends = 0;
+  return count;
+}
+
+PALDWOSK_INLINE size_t paldwosk_take_sends_of(struct paldwosk_rounds *rounds, uint32_t word, size_t count) {
+  if (!__atomic_load_n(&rounds->have_sent[word], __ATOMIC_RELAXED)) return count;
+  uint64_t bits = __atomic_exchange_n(&rounds->have_sent[word], 0, __ATOMIC_RELAXED);
+  for (; bits; bits &= bits - 1) count = paldwosk_take_sends(rounds, 64 * word + (uint32_t)__builtin_ctzll(bits), count);
+  return count;
+}
+
+/* What a look at each accumulator is answered in the next phase, if any task looks at it. */
+PALDWOSK_INLINE void paldwosk_publish_folds(paldwosk_barrier *barrier) {
+  struct paldwosk_rounds *rounds = barrier->rounds;
+  for (uint32_t bits = rounds->wanted; bits; bits &= bits - 1) {
+    uint8_t index = (uint8_t)__builtin_ctz(bits);
+    struct paldwosk_fold *fold = &rounds->folds[index];
+    fold->answer = phaser_c_waiting_look(&barrier->phaser, rounds->tasks[0], index, &fold->value);
+    fold->phase = rounds->phase + 1;
+  }
+}
+
+/* Whether a look was answered so. */
+PALDWOSK_INLINE int paldwosk_is_fold(uint32_t answer) {
+  return answer == PALDWOSK_DONE || answer == PALDWOSK_NOTHING || answer == PALDWOSK_TOO_GREAT;
+}
+
+/* The round wasn't made as a whole. Before the call `refused` all were made: the sends, a signal of each task but the
+ * first, a signal and a pass of the first, and the passes of the others. Tells the task of this place what is its. */
+PALDWOSK_INLINE void paldwosk_tell_task(paldwosk_barrier *barrier, uint32_t at, size_t sends, size_t refused) {
+  struct paldwosk_rounds *rounds = barrier->rounds;
+  struct paldwosk_seat *seat = &rounds->seats[rounds->places[at]];
+  size_t signal = sends + (at ? at : barrier->tasks) - 1, pass = sends + barrier->tasks + at;
+  for (uint32_t tried = 0; !paldwosk_has_come_to(rounds, rounds->places[at]); tried++) paldwosk_bide(tried);
+  if (pass >= refused) {
+    paldwosk_tell_coming(barrier, seat, signal < refused ? PALDWOSK_CALL_WAIT : PALDWOSK_CALL_NEXT);
+  } else {
+    __atomic_store_n(&seat->came, 0, __ATOMIC_RELEASE);
+    paldwosk_go_on(barrier, &seat->call, PALDWOSK_DONE, rounds->phase);
+  }
+}
+
+/* Tells the phaser each call by itself that it hasn't made, and makes the barrier slow. A history that is full comes to
+ * this, after 2^62 events. */
+PALDWOSK_APART void paldwosk_end_round_singly(paldwosk_barrier *barrier, size_t sends, size_t made) {
+  struct paldwosk_rounds *rounds = barrier->rounds;
+  size_t refused = made ? made - 1 : 0;
+  paldwosk_say_slow(barrier);
+  for (size_t at = refused; at < sends; at++)
+    (void)phaser_c_waiting_send(&barrier->phaser, rounds->sends[at].task, rounds->sends[at].accumulator,
+                                rounds->sends[at].value);
+  for (uint32_t at = 0; at < barrier->tasks; at++) paldwosk_tell_task(barrier, at, sends, refused);
+  barrier->to_wake = 0;
+  paldwosk_raise(rounds, 0);
+  __atomic_store_n(&rounds->to_come, PALDWOSK_STILL, __ATOMIC_SEQ_CST);
+  paldwosk_futex(paldwosk_turn_word(barrier), 1, INT_MAX, UINT32_MAX);
+}
+
+/* All have come: the phaser makes the phase, and then the others are let go. The count is set before: who is let go may
+ * come at once. */
+PALDWOSK_APART void paldwosk_end_round(paldwosk_barrier *barrier) {
+  struct paldwosk_rounds *rounds = barrier->rounds;
+  uint32_t tasks = barrier->tasks;
+  size_t sends = 0, made = 0;
+  for (uint32_t word = 0; word < PALDWOSK_SEAT_WORDS; word++) sends = paldwosk_take_sends_of(rounds, word, sends);
+  if (phaser_c_waiting_round(&barrier->phaser, rounds->sends, sends, rounds->tasks, tasks, rounds->phase, &made) !=
+      PALDWOSK_DONE) {
+    paldwosk_end_round_singly(barrier, sends, made);
+    return;
+  }
+  paldwosk_publish_folds(barrier);
+  rounds->phase++;
+  rounds->ended++;
+  __atomic_store_n(&rounds->to_come, tasks, __ATOMIC_RELEASE);
+  paldwosk_raise(rounds, 1);
+  if (__atomic_load_n(&rounds->sleepers, __ATOMIC_SEQ_CST))
+    paldwosk_futex(paldwosk_turn_word(barrier), 1, INT_MAX, UINT32_MAX);
+}
+
+/* ---- From slow to fast */
+
+/* Whether the tasks may stand level, as far as the header knows; the phaser is asked then. */
+PALDWOSK_INLINE int paldwosk_may_be_level(const paldwosk_barrier *barrier) {
+  return !barrier->first && !barrier->overdue && !barrier->coming && !barrier->uneven && barrier->tasks &&
+         !barrier->trace && !barrier->watch;
+}
+
+PALDWOSK_INLINE void paldwosk_set_seats(paldwosk_barrier *barrier, uint64_t phase) {
+  struct paldwosk_rounds *rounds = barrier->rounds;
+  for (uint32_t at = 0; at < barrier->tasks; at++)
+    __atomic_store_n(&rounds->seats[rounds->places[at]].phase, phase, __ATOMIC_RELAXED);
+}
+
+/* With the lock, at a slow barrier: makes it fast if all stand level, and have often enough. */
+PALDWOSK_INLINE int paldwosk_begin_rounds(paldwosk_barrier *barrier) {
+  struct paldwosk_rounds *rounds = barrier->rounds;
+  uint64_t phase = 0;
+  if (!paldwosk_may_be_level(barrier)) return 0;
+  if (rounds->rest_left > 1) return (int)(rounds->rest_left-- & 0);
+  if (phaser_c_waiting_level(&barrier->phaser, rounds->tasks, barrier->tasks, &phase) != PALDWOSK_DONE) return 0;
+  rounds->phase = rounds->fast_since = phase;
+  paldwosk_set_seats(barrier, phase);
+  __atomic_store_n(&rounds->is_slow, 0, __ATOMIC_SEQ_CST);
+  __atomic_store_n(&rounds->to_come, barrier->tasks, __ATOMIC_SEQ_CST);
+  return 1;
+}
+
+/* ---- The phaser, for the holder of the lock */
+
+/* At a fast barrier the word says BUSY after it. If all have come, the last has the phaser until it sets the count. */
+PALDWOSK_INLINE void paldwosk_take_word(paldwosk_barrier *barrier) {
+  uint64_t *to_come = &barrier->rounds->to_come, word = __atomic_load_n(to_come, __ATOMIC_ACQUIRE);
+  for (uint32_t tried = 0; word < PALDWOSK_SLOW; tried++) {
+    if (!(uint32_t)word) paldwosk_bide(tried);
+    else if (__atomic_compare_exchange_n(to_come, &word, word | PALDWOSK_BUSY, 0, __ATOMIC_SEQ_CST, __ATOMIC_RELAXED))
+      return;
+    word = __atomic_load_n(to_come, __ATOMIC_ACQUIRE);
+  }
+}
+
+/* The same, and all who have come in a round that is over have been let go: else a new task could come, and be let go
+ * with them. */
+PALDWOSK_INLINE void paldwosk_take_phaser(paldwosk_barrier *barrier) {
+  const struct paldwosk_rounds *rounds = barrier->rounds;
+  paldwosk_take_word(barrier);
+  for (uint32_t tried = 0; __atomic_load_n(&rounds->whole, __ATOMIC_ACQUIRE) >> 32 != rounds->ended; tried++)
+    paldwosk_bide(tried);
+}
+
+/* The last may have come meanwhile, or who was missing has left: then this thread ends the round. */
+PALDWOSK_INLINE void paldwosk_give_phaser_back(paldwosk_barrier *barrier) {
+  struct paldwosk_rounds *rounds = barrier->rounds;
+  uint64_t word = __atomic_load_n(&rounds->to_come, __ATOMIC_RELAXED);
+  if (rounds->claimed) paldwosk_leave_seat(rounds->claimed);
+  rounds->claimed = NULL;
+  if (word < PALDWOSK_SLOW) {
+    word = __atomic_fetch_and(&rounds->to_come, ~PALDWOSK_BUSY, __ATOMIC_SEQ_CST);
+    if (!(uint32_t)word) paldwosk_end_round(barrier);
+  } else if (!paldwosk_begin_rounds(barrier) && word != PALDWOSK_STILL) {
+    __atomic_store_n(&rounds->to_come, PALDWOSK_STILL, __ATOMIC_RELAXED);
+  }
+}
+
+/* With the phaser: makes the barrier slow. */
+PALDWOSK_INLINE void paldwosk_go_slow(paldwosk_barrier *barrier) {
+  while (!paldwosk_is_slow(barrier) && !paldwosk_stop_rounds(barrier)) {
+    paldwosk_give_phaser_back(barrier);
+    paldwosk_take_phaser(barrier);
+  }
+}
+
+/* With the phaser: makes the barrier slow, for a call of this task. After it no thread touches the task's seat, until
+ * the lock is given back. */
+PALDWOSK_INLINE void paldwosk_settle(const paldwosk_task *task) {
+  paldwosk_go_slow(task->barrier);
+  struct paldwosk_seat *seat = paldwosk_seat_of(task);
+  if (!seat) return;
+  for (uint32_t tried = 0; paldwosk_is_at_seat(seat); tried++) paldwosk_bide(tried);
+  paldwosk_tell_sends(task->barrier, seat);
+}
+
+/* The same, but the barrier stays fast if nobody is at the seat. */
+PALDWOSK_INLINE void paldwosk_claim(const paldwosk_task *task) {
+  struct paldwosk_seat *seat = paldwosk_seat_of(task);
+  if (!seat) return;
+  if (paldwosk_is_slow(task->barrier) || !paldwosk_pass_to_seat(seat)) {
+    paldwosk_settle(task);
+    return;
+  }
+  task->barrier->rounds->claimed = seat;
+  paldwosk_tell_sends(task->barrier, seat);
+}
+
+PALDWOSK_INLINE void paldwosk_claim_to_join(const paldwosk_task *parent, uint32_t mode) {
+  paldwosk_barrier *barrier = parent->barrier;
+  if (mode != PALDWOSK_SIG_WAIT || paldwosk_free_place(barrier->rounds) == PALDWOSK_NO_SEAT) paldwosk_go_slow(barrier);
+  paldwosk_claim(parent);
+}
+
+PALDWOSK_INLINE void paldwosk_claim_to_leave(const paldwosk_task *task) {
+  if (task->barrier->tasks == 1) paldwosk_go_slow(task->barrier); /* no round is made of no tasks */
+  paldwosk_claim(task);
+}
+
+/* ---- What a task does at its seat, without the lock */
+
+/* Whether the seat keeps the value until its task comes. */
+PALDWOSK_INLINE int paldwosk_keep_send(const paldwosk_task *task, uint8_t index, int32_t value) {
+  struct paldwosk_seat *seat = index < task->barrier->accumulators ? paldwosk_enter_seat(task) : NULL;
+  if (!seat) return 0;
+  int has_room = seat->sends < PALDWOSK_MOST_KEPT;
+  if (has_room) {
+    seat->values[seat->sends] = value;
+    seat->indices[seat->sends++] = index;
+  }
+  paldwosk_leave_seat(seat);
+  return has_room;
+}
+
+/* Whether the fold of the last phase stands there; then the look is answered by it. */
+PALDWOSK_INLINE int paldwosk_look_at_fold(const paldwosk_task *task, uint8_t index, int64_t *value,
+                                          paldwosk_answer *answer) {
+  struct paldwosk_seat *seat = index < task->barrier->accumulators ? paldwosk_enter_seat(task) : NULL;
+  if (!seat) return 0;
+  const struct paldwosk_fold *fold = &task->barrier->rounds->folds[index];
+  int is_there = fold->phase == __atomic_load_n(&seat->phase, __ATOMIC_RELAXED);
+  if (is_there) *answer = (paldwosk_answer)fold->answer;
+  if (is_there && fold->answer == PALDWOSK_DONE) *value = fold->value;
+  paldwosk_leave_seat(seat);
+  return is_there;
+}
+
+/* With the phaser, after a look that was answered so: from the next round on its fold stands there. */
+PALDWOSK_INLINE void paldwosk_want_fold(paldwosk_barrier *barrier, uint8_t index, uint32_t answer) {
+  if (paldwosk_is_fold(answer)) barrier->rounds->wanted |= UINT32_C(1) << index;
+}
+
+PALDWOSK_INLINE void paldwosk_say_sends(struct paldwosk_rounds *rounds, const struct paldwosk_seat *seat) {
+  uint32_t place = (uint32_t)(seat - rounds->seats);
+  __atomic_fetch_or(&rounds->have_sent[place / 64], paldwosk_seat_bit(place), __ATOMIC_RELAXED);
+}
+
+/* The task comes, unless the barrier is slow by now. Its seat says so after the count does: else it might count as come,
+ * and come in the next phase. */
+PALDWOSK_INLINE int paldwosk_come(paldwosk_barrier *barrier, struct paldwosk_seat *seat) {
+  struct paldwosk_rounds *rounds = barrier->rounds;
+  uint64_t phase = __atomic_load_n(&seat->phase, __ATOMIC_RELAXED);
+  seat->call.turn = __atomic_load_n(&rounds->whole, __ATOMIC_ACQUIRE);
+  if (seat->sends) paldwosk_say_sends(rounds, seat);
+  uint64_t word = __atomic_fetch_sub(&rounds->to_come, 1, __ATOMIC_SEQ_CST);
+  if (word >= PALDWOSK_SLOW) return 0;
+  __atomic_store_n(&seat->came, phase + 1, __ATOMIC_RELEASE);
+  if (word == 1) paldwosk_end_round(barrier);
+  return 1;
+}
+
+/* It may be over at once, and is for the last who comes. */
+PALDWOSK_INLINE void paldwosk_wait_at_seat(paldwosk_barrier *barrier, struct paldwosk_seat *seat) {
+  struct paldwosk_sleeper *me = &seat->call;
+  if (paldwosk_is_over(barrier, me)) return;
+  me->patience = paldwosk_patience(barrier, me, &seat->tries);
+  me->yields = paldwosk_yields(barrier);
+  paldwosk_spin(barrier, me);
+  if (paldwosk_is_over(barrier, me)) return;
+  __atomic_fetch_add(&barrier->rounds->sleepers, 1, __ATOMIC_SEQ_CST);
+  paldwosk_sleep(barrier, me);
+  __atomic_fetch_sub(&barrier->rounds->sleepers, 1, __ATOMIC_SEQ_CST);
+}
+
+/* The phaser was told of the call if it has an answer. That comes first: a task that was made to leave has one, and the
+ * others' next round may be over before its thread knows. */
+PALDWOSK_INLINE paldwosk_answer paldwosk_answer_at_seat(struct paldwosk_seat *seat, uint64_t *phase) {
+  struct paldwosk_sleeper *me = &seat->call;
+  uint64_t number = __atomic_load_n(&seat->phase, __ATOMIC_RELAXED);
+  uint32_t answer = PALDWOSK_DONE;
+  if (paldwosk_is_ready(me)) {
+    answer = me->answer;
+    number = me->number;
+  } else __atomic_store_n(&seat->phase, number + 1, __ATOMIC_RELAXED);
+  __atomic_store_n(&me->state, PALDWOSK_SPINNING, __ATOMIC_RELAXED);
+  if (answer == PALDWOSK_DONE && phase) *phase = number;
+  return (paldwosk_answer)answer;
+}
+
+/* A next by the task's seat. Whether it was made: else the barrier is slow, or another is at the seat. */
+PALDWOSK_INLINE int paldwosk_next_at_seat(const paldwosk_task *task, paldwosk_answer *answer, uint64_t *phase) {
+  struct paldwosk_seat *seat = paldwosk_enter_seat(task);
+  if (!seat) return 0;
+  int has_come = paldwosk_come(task->barrier, seat);
+  if (has_come) {
+    __atomic_store_n(&seat->inside, PALDWOSK_SEATED, __ATOMIC_RELEASE);
+    paldwosk_wait_at_seat(task->barrier, seat);
+    *answer = paldwosk_answer_at_seat(seat, phase);
+  }
+  paldwosk_leave_seat(seat);
+  return has_come;
+}
+
+/* With the phaser: whether the task can come by its seat. */
+PALDWOSK_INLINE int paldwosk_can_come(const paldwosk_task *task) {
+  const struct paldwosk_seat *seat = paldwosk_seat_of(task);
+  return seat && !paldwosk_is_slow(task->barrier) &&
+         __atomic_load_n(&seat->inside, __ATOMIC_ACQUIRE) == PALDWOSK_OUTSIDE;
+}
+
+/* ---- Making and freeing rounds */
+
+PALDWOSK_INLINE int paldwosk_new_rounds(paldwosk_barrier *barrier) {
+  barrier->rounds_memory = calloc(1, sizeof *barrier->rounds + PALDWOSK_LINE);
+  uintptr_t first = ((uintptr_t)barrier->rounds_memory + PALDWOSK_LINE - 1) / PALDWOSK_LINE * PALDWOSK_LINE;
+  barrier->rounds = (struct paldwosk_rounds *)first;
+  return barrier->rounds_memory != NULL;
+}
+
+PALDWOSK_INLINE void paldwosk_free_rounds(paldwosk_barrier *barrier) {
+  free(barrier->rounds_memory);
+  barrier->rounds_memory = NULL;
+  barrier->rounds = NULL;
+}
+
+/* Their memory is of nulls. The barrier is slow until it has a task. */
+PALDWOSK_INLINE void paldwosk_open_turn(paldwosk_barrier *barrier) {
+  struct paldwosk_rounds *rounds = barrier->rounds;
+  barrier->uneven = 0;
+  rounds->to_come = PALDWOSK_STILL;
+  rounds->is_slow = rounds->rest = rounds->rest_left = 1;
+  for (int at = 0; at < PALDWOSK_MOST_MEMBERS; at++) rounds->seats[at].task = PALDWOSK_NOBODY;
+  for (int at = 0; at < PALDWOSK_MOST_ACCUMULATORS; at++) rounds->folds[at].phase = UINT64_MAX;
+}
+
+PALDWOSK_INLINE void paldwosk_raise_turn(paldwosk_barrier *barrier) { paldwosk_raise(barrier->rounds, 0); }
+
+#else
+
+PALDWOSK_INLINE void paldwosk_take_phaser(paldwosk_barrier *barrier) { (void)barrier; }
+PALDWOSK_INLINE void paldwosk_give_phaser_back(paldwosk_barrier *barrier) { (void)barrier; }
+PALDWOSK_INLINE void paldwosk_go_slow(paldwosk_barrier *barrier) { (void)barrier; }
+PALDWOSK_INLINE void paldwosk_settle(const paldwosk_task *task) { (void)task; }
+PALDWOSK_INLINE void paldwosk_claim(const paldwosk_task *task) { (void)task; }
+PALDWOSK_INLINE void paldwosk_claim_to_join(const paldwosk_task *parent, uint32_t mode) { (void)parent, (void)mode; }
+PALDWOSK_INLINE void paldwosk_claim_to_leave(const paldwosk_task *task) { (void)task; }
+
+PALDWOSK_INLINE int paldwosk_keep_send(const paldwosk_task *task, uint8_t index, int32_t value) {
+  (void)task, (void)index, (void)value;
+  return 0;
+}
+
+PALDWOSK_INLINE int paldwosk_look_at_fold(const paldwosk_task *task, uint8_t index, int64_t *value,
+                                          paldwosk_answer *answer) {
+  (void)task, (void)index, (void)value, (void)answer;
+  return 0;
+}
+
+PALDWOSK_INLINE void paldwosk_want_fold(paldwosk_barrier *barrier, uint8_t index, uint32_t answer) {
+  (void)barrier, (void)index, (void)answer;
+}
+
+PALDWOSK_INLINE uint32_t paldwosk_add_seat(paldwosk_barrier *barrier, uint64_t number) {
+  (void)barrier, (void)number;
+  return 0;
+}
+
+PALDWOSK_INLINE void paldwosk_remove_seat(paldwosk_barrier *barrier, uint64_t number) { (void)barrier, (void)number; }
+PALDWOSK_INLINE int paldwosk_has_come(const paldwosk_barrier *barrier) { return (void)barrier, 0; }
+PALDWOSK_INLINE int paldwosk_are_seats_left(const paldwosk_barrier *barrier) { return (void)barrier, 1; }
+PALDWOSK_INLINE int paldwosk_new_rounds(paldwosk_barrier *barrier) { return (void)barrier, 1; }
+PALDWOSK_INLINE void paldwosk_free_rounds(paldwosk_barrier *barrier) { (void)barrier; }
+PALDWOSK_INLINE void paldwosk_open_turn(paldwosk_barrier *barrier) { barrier->turn = 0; }
+
+#ifdef PALDWOSK_BY_FUTEX
+PALDWOSK_INLINE void paldwosk_raise_turn(paldwosk_barrier *barrier) {
+  __atomic_store_n(&barrier->turn, barrier->turn + 1, __ATOMIC_RELEASE);
+}
+#endif
+
+#endif
+
+/* ---- Giving the lock back */
+
+#ifdef PALDWOSK_BY_FUTEX
+
+/* Gives the phaser and the lock back, and wakes the threads that the call has freed. After the unlock only threads that
+ * are counted as inside read the barrier; a thread's last access takes it off that count. */
+PALDWOSK_INLINE void paldwosk_unlock(paldwosk_barrier *barrier) {
+  uint32_t bits = barrier->to_wake;
+  barrier->to_wake = 0;
+  if (bits) __atomic_fetch_add(&barrier->inside, 1, __ATOMIC_RELAXED);
+  if (bits) paldwosk_raise_turn(barrier);
+  paldwosk_give_phaser_back(barrier);
+  pthread_mutex_unlock(&barrier->lock);
+  if (!bits) return;
+  paldwosk_futex(paldwosk_turn_word(barrier), 1, INT_MAX, bits);
+  __atomic_fetch_sub(&barrier->inside, 1, __ATOMIC_RELEASE);
+}
+
+/* The same, and it waits until the call itself is over. */
+PALDWOSK_INLINE void paldwosk_unlock_and_wait(paldwosk_barrier *barrier, struct paldwosk_sleeper *me) {
+  paldwosk_unlock(barrier);
+  if (!me->is_parked) return;
+  paldwosk_spin(barrier, me);
+  paldwosk_sleep(barrier, me);
+  __atomic_fetch_sub(&barrier->inside, 1, __ATOMIC_RELEASE);
+}
+
+#else
+
+/* Wakes the threads that the call has freed, and gives the lock back. */
+PALDWOSK_INLINE void paldwosk_unlock(paldwosk_barrier *barrier) {
+  if (barrier->to_wake) pthread_cond_broadcast(&barrier->turned);
+  barrier->to_wake = 0;
+  pthread_mutex_unlock(&barrier->lock);
+}
+
+/* The same, and before it gives the lock back it waits until the call itself is over. */
+PALDWOSK_INLINE void paldwosk_unlock_and_wait(paldwosk_barrier *barrier, struct paldwosk_sleeper *me) {
+  if (barrier->to_wake) pthread_cond_broadcast(&barrier->turned);
+  barrier->to_wake = 0;
+  if (me->is_parked) paldwosk_sleep(barrier, me);
+  if (me->is_parked) __atomic_fetch_sub(&barrier->inside, 1, __ATOMIC_RELAXED);
+  pthread_mutex_unlock(&barrier->lock);
+}
+
+#endif
+
+PALDWOSK_APART void paldwosk_ask_to_leave(paldwosk_barrier *barrier, struct paldwosk_sleeper *me) {
+  paldwosk_freed freed[PALDWOSK_MOST_FREED];
+  size_t count = 0;
+  me->answer = phaser_c_waiting_leave(&barrier->phaser, me->task, freed, PALDWOSK_MOST_FREED, &count);
+  if (me->answer == PALDWOSK_DONE) paldwosk_remove_seat(barrier, me->task);
+  if (me->answer == PALDWOSK_DONE) paldwosk_remove_member(barrier, me->task);
+  if (me->answer == PALDWOSK_DONE && barrier->trace) paldwosk_trace_left(barrier->trace, me->task);
+  paldwosk_free_those(barrier, freed, count);
+  if (me->answer == PALDWOSK_DONE) paldwosk_end_overdue(barrier, me->task);
 }
 
 /* ---- Waits that have a time. One that is watched sleeps until it is to be told of, and then as long as it has to. */
@@ -998,17 +1749,17 @@ enum { PALDWOSK_MOST_TOLD = 16, PALDWOSK_LINE_ROOM = 2048 }; /* sixteen tasks of
 PALDWOSK_INLINE void paldwosk_sleep_until(paldwosk_barrier *barrier, struct paldwosk_sleeper *me,
                                           const struct timespec *until) {
   enum { WAIT_BITSET = 9, IS_PRIVATE = 128 };
+  uint32_t *word = paldwosk_turn_word(barrier);
   long slept = 0;
-  me->is_parked = 0; /* or paldwosk_unlock would wait */
-  paldwosk_unlock(barrier, me);
+  paldwosk_unlock(barrier);
   paldwosk_spin(barrier, me);
   do {
-    uint32_t seen = __atomic_load_n(&barrier->turn, __ATOMIC_ACQUIRE);
+    uint32_t seen = paldwosk_turn(barrier);
     if (paldwosk_is_ready(me)) break;
-    slept = syscall(SYS_futex, &barrier->turn, WAIT_BITSET | IS_PRIVATE, seen, until, NULL, paldwosk_bit(me->task));
+    slept = syscall(SYS_futex, word, WAIT_BITSET | IS_PRIVATE, seen, until, NULL, paldwosk_bit(me->task));
   } while (slept == 0 || errno != ETIMEDOUT);
   paldwosk_lock(barrier);
-  me->is_parked = 1;
+  paldwosk_take_phaser(barrier);
   me->patience = me->yields = 0; /* it has spun */
 }
 
@@ -1114,14 +1865,14 @@ PALDWOSK_INLINE uint32_t paldwosk_watch_of_environment(void) {
 /* The call's own part is done. Sleepers that are still to ask do so. */
 PALDWOSK_INLINE void paldwosk_let_ask(paldwosk_barrier *barrier) {
   struct paldwosk_sleeper *sleeper;
-  while (barrier->trace && (sleeper = paldwosk_take_asking(barrier))) paldwosk_ask_traced(barrier, sleeper);
+  while (barrier->trace && (sleeper = paldwosk_take_asking(barrier))) paldwosk_ask_for(barrier, sleeper);
 }
 
 /* They do so, the lock is given back, and it waits if it must. */
 PALDWOSK_INLINE void paldwosk_end_call(paldwosk_barrier *barrier, struct paldwosk_sleeper *me) {
   paldwosk_let_ask(barrier);
   if (barrier->watch && me->is_parked) paldwosk_watch(barrier, me);
-  paldwosk_unlock(barrier, me);
+  paldwosk_unlock_and_wait(barrier, me);
 }
 
 /* The same, but it waits for so many milliseconds at most. */
@@ -1130,7 +1881,7 @@ PALDWOSK_INLINE void paldwosk_end_in_time(paldwosk_barrier *barrier, struct pald
   paldwosk_let_ask(barrier);
   if (milliseconds && me->is_parked && !paldwosk_is_ready(me)) paldwosk_wait_in_time(barrier, me, milliseconds);
   if (me->is_parked && !paldwosk_is_ready(me)) paldwosk_go_overdue(barrier, me);
-  paldwosk_unlock(barrier, me);
+  paldwosk_unlock_and_wait(barrier, me);
 }
 
 PALDWOSK_INLINE void paldwosk_begin_call(paldwosk_barrier *barrier, struct paldwosk_sleeper *me) {
@@ -1138,11 +1889,6 @@ PALDWOSK_INLINE void paldwosk_begin_call(paldwosk_barrier *barrier, struct paldw
   me->is_to_pass = me->call == PALDWOSK_CALL_WAIT;
   if (barrier->trace) paldwosk_park(barrier, me);
   else paldwosk_ask_and_free(barrier, me);
-}
-
-PALDWOSK_INLINE struct paldwosk_sleeper paldwosk_new_sleeper(uint64_t task, uint32_t call, uint32_t single) {
-  struct paldwosk_sleeper me = {NULL, task, 0, call, single, PALDWOSK_NOT_YET, PALDWOSK_SPINNING, 0, 0, 0, 0, 0, 0};
-  return me;
 }
 
 /* ---- Who may enter */
@@ -1167,11 +1913,17 @@ PALDWOSK_INLINE int paldwosk_is_inherited(const paldwosk_barrier *barrier) {
   return __atomic_load_n(barrier->forks, __ATOMIC_RELAXED) != barrier->forks_then;
 }
 
-/* Takes the lock if it answers DONE. */
-PALDWOSK_INLINE paldwosk_answer paldwosk_enter(paldwosk_barrier *barrier) {
+PALDWOSK_INLINE paldwosk_answer paldwosk_may_enter(const paldwosk_barrier *barrier) {
   if (!barrier) return PALDWOSK_NULL;
-  if (!barrier->forks || paldwosk_is_inherited(barrier)) return PALDWOSK_CLOSED;
+  return !barrier->forks || paldwosk_is_inherited(barrier) ? PALDWOSK_CLOSED : PALDWOSK_DONE;
+}
+
+/* Takes the lock and the phaser if it answers DONE. Tasks may come meanwhile. */
+PALDWOSK_INLINE paldwosk_answer paldwosk_enter(paldwosk_barrier *barrier) {
+  paldwosk_answer answer = paldwosk_may_enter(barrier);
+  if (answer != PALDWOSK_DONE) return answer;
   paldwosk_lock(barrier);
+  paldwosk_take_phaser(barrier);
   return PALDWOSK_DONE;
 }
 
@@ -1192,17 +1944,37 @@ PALDWOSK_INLINE void paldwosk_begin_or_go_on(const paldwosk_task *task, struct p
   else paldwosk_begin_call(barrier, me);
 }
 
-/* The call of a task that may have to wait. */
-PALDWOSK_INLINE paldwosk_answer paldwosk_call_by(const paldwosk_task *task, uint32_t call, uint32_t single,
-                                                 uint64_t *phase) {
-  paldwosk_answer entered = paldwosk_enter_by(task);
-  if (entered != PALDWOSK_DONE) return entered;
+/* The call of a task that may have to wait, with the lock and the phaser, which it gives back. */
+PALDWOSK_INLINE paldwosk_answer paldwosk_call_entered(const paldwosk_task *task, uint32_t call, uint32_t single,
+                                                      uint64_t *phase) {
   struct paldwosk_sleeper me = paldwosk_new_sleeper(task->number, call, single);
+  paldwosk_settle(task);
   paldwosk_begin_or_go_on(task, &me);
   paldwosk_end_call(task->barrier, &me);
   if (me.answer == PALDWOSK_DONE && phase) *phase = me.number;
   return (paldwosk_answer)me.answer;
 }
+
+/* The call of a task that may have to wait. */
+PALDWOSK_INLINE paldwosk_answer paldwosk_call_by(const paldwosk_task *task, uint32_t call, uint32_t single,
+                                                 uint64_t *phase) {
+  paldwosk_answer entered = paldwosk_enter_by(task);
+  return entered == PALDWOSK_DONE ? paldwosk_call_entered(task, call, single, phase) : entered;
+}
+
+#ifdef PALDWOSK_IN_ROUNDS
+/* A next: by the task's seat, or with the lock if the barrier is slow. It may be fast again once this thread has the
+ * lock. */
+PALDWOSK_INLINE paldwosk_answer paldwosk_next_by(const paldwosk_task *task, uint64_t *phase) {
+  for (;;) {
+    paldwosk_answer answer = task ? paldwosk_may_enter(task->barrier) : PALDWOSK_NULL;
+    if (answer != PALDWOSK_DONE || paldwosk_next_at_seat(task, &answer, phase)) return answer;
+    (void)paldwosk_enter(task->barrier);
+    if (!paldwosk_can_come(task)) return paldwosk_call_entered(task, PALDWOSK_CALL_NEXT, 0, phase);
+    paldwosk_unlock(task->barrier);
+  }
+}
+#endif
 
 /* The same, but it waits for so many milliseconds at most. */
 PALDWOSK_APART paldwosk_answer paldwosk_call_in_time(const paldwosk_task *task, uint32_t call, uint32_t single,
@@ -1210,10 +1982,20 @@ PALDWOSK_APART paldwosk_answer paldwosk_call_in_time(const paldwosk_task *task, 
   paldwosk_answer entered = paldwosk_enter_by(task);
   if (entered != PALDWOSK_DONE) return entered;
   struct paldwosk_sleeper me = paldwosk_new_sleeper(task->number, call, single);
+  paldwosk_settle(task);
   paldwosk_begin_or_go_on(task, &me);
   paldwosk_end_in_time(task->barrier, &me, milliseconds);
   if (me.answer == PALDWOSK_DONE && phase) *phase = me.number;
   return (paldwosk_answer)me.answer;
+}
+
+/* With the lock: adds a task that the phaser has registered. */
+PALDWOSK_INLINE paldwosk_task paldwosk_new_task(paldwosk_barrier *barrier, uint64_t parent, uint32_t mode,
+                                                uint64_t number) {
+  paldwosk_task task = {barrier, number, 0};
+  paldwosk_add_member(barrier, parent, mode, number);
+  task.seat = paldwosk_add_seat(barrier, number);
+  return task;
 }
 
 /* The task that has run its single reports that, and passes. */
@@ -1288,9 +2070,9 @@ PALDWOSK_INLINE void paldwosk_destroy_lock(paldwosk_barrier *barrier) {
 /* What a barrier has besides its phaser, its trace and its lock. */
 PALDWOSK_INLINE void paldwosk_open(paldwosk_barrier *barrier) {
   long processors = sysconf(_SC_NPROCESSORS_ONLN);
-  barrier->turn = barrier->to_wake = barrier->coming = barrier->tasks = barrier->waits = 0;
+  barrier->to_wake = barrier->coming = barrier->tasks = barrier->tries.waits = 0;
   barrier->inside = barrier->pauses = 0;
-  barrier->probe = barrier->probe_after = PALDWOSK_PROBE_AFTER;
+  barrier->tries.probe = barrier->probe_after = PALDWOSK_PROBE_AFTER;
   barrier->processors = processors > 0 ? (uint32_t)processors : 1;
   barrier->most_pauses = PALDWOSK_MOST_PAUSES;
   barrier->watch = paldwosk_watch_of_environment();
@@ -1300,8 +2082,19 @@ PALDWOSK_INLINE void paldwosk_open(paldwosk_barrier *barrier) {
   barrier->overdue = NULL;
   barrier->spare = barrier->room;
   for (int at = 0; at < PALDWOSK_MOST_MEMBERS - 1; at++) barrier->room[at].next = &barrier->room[at + 1];
+  paldwosk_open_turn(barrier);
   barrier->forks_then = __atomic_load_n(&paldwosk_forks, __ATOMIC_RELAXED);
   barrier->forks = &paldwosk_forks;
+}
+
+PALDWOSK_INLINE void paldwosk_free_memory(paldwosk_barrier *barrier) {
+  free(barrier->members);
+  free(barrier->room);
+  free(barrier->trace);
+  paldwosk_free_rounds(barrier);
+  barrier->members = NULL;
+  barrier->room = NULL;
+  barrier->trace = NULL;
 }
 
 PALDWOSK_INLINE paldwosk_answer paldwosk_new_barrier(paldwosk_barrier *barrier, uint32_t bound,
@@ -1316,14 +2109,13 @@ PALDWOSK_INLINE paldwosk_answer paldwosk_new_barrier(paldwosk_barrier *barrier, 
   paldwosk_answer made = (paldwosk_answer)phaser_c_waiting_new(&barrier->phaser, numbers, count > 4 ? 4 : count, bound);
   if (made != PALDWOSK_DONE) return made;
   barrier->bound = bound;
+  barrier->accumulators = (uint32_t)count;
   barrier->members = (struct paldwosk_member *)calloc(PALDWOSK_MEMBER_PLACES, sizeof *barrier->members);
   barrier->room = (struct paldwosk_overdue *)calloc(PALDWOSK_MOST_MEMBERS, sizeof *barrier->room);
   barrier->trace = is_traced ? paldwosk_new_trace(bound, numbers, count) : NULL;
-  int has_room = barrier->members && barrier->room && (barrier->trace || !is_traced);
+  int has_room = paldwosk_new_rounds(barrier) && barrier->members && barrier->room && (barrier->trace || !is_traced);
   if (!has_room || !paldwosk_init_lock(barrier)) {
-    free(barrier->members);
-    free(barrier->room);
-    free(barrier->trace);
+    paldwosk_free_memory(barrier);
     phaser_c_waiting_free(&barrier->phaser);
     return PALDWOSK_MEMORY;
   }
@@ -1338,19 +2130,6 @@ PALDWOSK_INLINE paldwosk_answer paldwosk_init_barrier(paldwosk_barrier *barrier,
   if (!barrier || (!operators && count)) return PALDWOSK_NULL;
   *barrier = none;
   return paldwosk_new_barrier(barrier, bound, operators, count, is_traced);
-}
-
-/* The threads that are counted as inside have been woken, and only need a processor for a moment. If yielding doesn't
- * give them one, this thread sleeps: theirs may be of a lower priority. */
-PALDWOSK_INLINE void paldwosk_let_others_run(uint32_t tried) {
-  int old = 0;
-  if (tried < 100) {
-    sched_yield();
-    return;
-  }
-  pthread_setcancelstate(PTHREAD_CANCEL_DISABLE, &old);
-  poll(NULL, 0, 1);
-  pthread_setcancelstate(old, &old);
 }
 
 /* ---- The barrier */
@@ -1401,20 +2180,15 @@ PALDWOSK_INLINE paldwosk_answer paldwosk_barrier_free(paldwosk_barrier *barrier)
   for (uint32_t tried = 0;; tried++) {
     paldwosk_answer entered = paldwosk_enter(barrier);
     if (entered != PALDWOSK_DONE) return entered;
-    int is_busy = barrier->first || barrier->coming;
-    int is_left = __atomic_load_n(&barrier->inside, __ATOMIC_ACQUIRE) == 0;
+    int is_busy = barrier->first || barrier->coming || paldwosk_has_come(barrier);
+    int is_left = __atomic_load_n(&barrier->inside, __ATOMIC_ACQUIRE) == 0 && paldwosk_are_seats_left(barrier);
     if (!is_busy && is_left) break;
-    pthread_mutex_unlock(&barrier->lock);
+    paldwosk_unlock(barrier);
     if (is_busy) return PALDWOSK_NOT_NOW;
     paldwosk_let_others_run(tried);
   }
   phaser_c_waiting_free(&barrier->phaser);
-  free(barrier->members);
-  free(barrier->room);
-  free(barrier->trace);
-  barrier->members = NULL;
-  barrier->room = NULL;
-  barrier->trace = NULL;
+  paldwosk_free_memory(barrier);
   barrier->forks = NULL;
   pthread_mutex_unlock(&barrier->lock);
   paldwosk_destroy_lock(barrier);
@@ -1431,11 +2205,9 @@ PALDWOSK_INLINE paldwosk_answer paldwosk_barrier_make(paldwosk_barrier *barrier,
   answer = (paldwosk_answer)phaser_c_waiting_make(&barrier->phaser, (uint32_t)mode, &number);
   if (answer == PALDWOSK_DONE) {
     if (barrier->trace) paldwosk_trace_new_task(barrier->trace, number, (uint32_t)mode, number);
-    paldwosk_add_member(barrier, number, (uint32_t)mode, number);
-    task->barrier = barrier;
-    task->number = number;
+    *task = paldwosk_new_task(barrier, number, (uint32_t)mode, number);
   }
-  pthread_mutex_unlock(&barrier->lock);
+  paldwosk_unlock(barrier);
   return answer;
 }
 
@@ -1449,14 +2221,13 @@ PALDWOSK_INLINE paldwosk_answer paldwosk_barrier_join(const paldwosk_task *paren
   if (answer != PALDWOSK_DONE) return answer;
   paldwosk_barrier *barrier = parent->barrier;
   uint64_t number = 0;
+  paldwosk_claim_to_join(parent, (uint32_t)mode);
   answer = (paldwosk_answer)phaser_c_waiting_register(&barrier->phaser, parent->number, (uint32_t)mode, &number);
   if (answer == PALDWOSK_DONE) {
     if (barrier->trace) paldwosk_trace_new_task(barrier->trace, parent->number, (uint32_t)mode, number);
-    paldwosk_add_member(barrier, parent->number, (uint32_t)mode, number);
-    task->barrier = barrier;
-    task->number = number;
+    *task = paldwosk_new_task(barrier, parent->number, (uint32_t)mode, number);
   }
-  pthread_mutex_unlock(&barrier->lock);
+  paldwosk_unlock(barrier);
   return answer;
 }
 
@@ -1465,7 +2236,11 @@ PALDWOSK_INLINE paldwosk_answer paldwosk_barrier_join(const paldwosk_task *paren
  * HISTORY_FULL. */
 PALDWOSK_MUST_CHECK
 PALDWOSK_INLINE paldwosk_answer paldwosk_barrier_next(const paldwosk_task *task, uint64_t *phase) {
+#ifdef PALDWOSK_IN_ROUNDS
+  return paldwosk_next_by(task, phase);
+#else
   return paldwosk_call_by(task, PALDWOSK_CALL_NEXT, 0, phase);
+#endif
 }
 
 /* Signals, and goes on. It waits only if the task would be ahead of a waiting task by more than the bound.
@@ -1488,14 +2263,16 @@ PALDWOSK_INLINE paldwosk_answer paldwosk_barrier_wait(const paldwosk_task *task,
  * NO_ACCUMULATOR, HISTORY_FULL. */
 PALDWOSK_MUST_CHECK
 PALDWOSK_INLINE paldwosk_answer paldwosk_barrier_send(const paldwosk_task *task, uint32_t accumulator, int32_t value) {
-  paldwosk_answer answer = paldwosk_enter_by(task);
-  if (answer != PALDWOSK_DONE) return answer;
-  paldwosk_barrier *barrier = task->barrier;
+  paldwosk_answer answer = task ? paldwosk_may_enter(task->barrier) : PALDWOSK_NULL;
   uint8_t index = accumulator < 255 ? (uint8_t)accumulator : 255; /* there are four at most */
+  if (answer != PALDWOSK_DONE || paldwosk_keep_send(task, index, value)) return answer;
+  paldwosk_barrier *barrier = task->barrier;
+  (void)paldwosk_enter(barrier);
+  paldwosk_claim(task);
   answer = (paldwosk_answer)phaser_c_waiting_send(&barrier->phaser, task->number, index, value);
   if (answer == PALDWOSK_DONE && barrier->trace)
     paldwosk_trace_act(barrier->trace, PALDWOSK_EVENT_SEND, task->number, index, value);
-  pthread_mutex_unlock(&barrier->lock);
+  paldwosk_unlock(barrier);
   return answer;
 }
 
@@ -1504,18 +2281,20 @@ PALDWOSK_INLINE paldwosk_answer paldwosk_barrier_send(const paldwosk_task *task,
  * NOT_REGISTERED, NO_WAIT, NO_ACCUMULATOR, NO_PHASE_YET, HISTORY_FULL. */
 PALDWOSK_MUST_CHECK
 PALDWOSK_INLINE paldwosk_answer paldwosk_barrier_look(const paldwosk_task *task, uint32_t accumulator, int64_t *value) {
-  paldwosk_answer answer = value ? paldwosk_enter_by(task) : PALDWOSK_NULL;
-  if (answer != PALDWOSK_DONE) return answer;
-  paldwosk_barrier *barrier = task->barrier;
+  paldwosk_answer answer = task && value ? paldwosk_may_enter(task->barrier) : PALDWOSK_NULL;
   uint8_t index = accumulator < 255 ? (uint8_t)accumulator : 255;
+  if (answer != PALDWOSK_DONE || paldwosk_look_at_fold(task, index, value, &answer)) return answer;
+  paldwosk_barrier *barrier = task->barrier;
   int64_t seen = 0;
+  (void)paldwosk_enter(barrier);
   answer = (paldwosk_answer)phaser_c_waiting_look(&barrier->phaser, task->number, index, &seen);
   if (answer == PALDWOSK_DONE) *value = seen;
   if (barrier->trace && answer == PALDWOSK_DONE)
     paldwosk_trace_act(barrier->trace, PALDWOSK_EVENT_LOOK, task->number, index, seen);
   if (barrier->trace && answer == PALDWOSK_NOTHING)
     paldwosk_trace_act(barrier->trace, PALDWOSK_EVENT_LOOK_AT_NOTHING, task->number, index, 0);
-  pthread_mutex_unlock(&barrier->lock);
+  paldwosk_want_fold(barrier, index, answer);
+  paldwosk_unlock(barrier);
   return answer;
 }
 
@@ -1607,6 +2386,7 @@ PALDWOSK_INLINE paldwosk_answer paldwosk_barrier_leave(const paldwosk_task *task
   paldwosk_answer entered = paldwosk_enter_by(task);
   if (entered != PALDWOSK_DONE) return entered;
   struct paldwosk_sleeper me = paldwosk_new_sleeper(task->number, PALDWOSK_CALL_WAIT, 0);
+  paldwosk_claim_to_leave(task);
   paldwosk_ask_to_leave(task->barrier, &me);
   paldwosk_end_call(task->barrier, &me);
   return (paldwosk_answer)me.answer;
@@ -1628,8 +2408,9 @@ PALDWOSK_INLINE paldwosk_answer paldwosk_barrier_missing(paldwosk_barrier *barri
   uint64_t missing[PALDWOSK_MOST_MEMBERS];
   paldwosk_answer answer = count && (tasks || !room) ? paldwosk_enter(barrier) : PALDWOSK_NULL;
   if (answer != PALDWOSK_DONE) return answer;
+  paldwosk_go_slow(barrier);
   *count = paldwosk_find_missing(barrier, missing);
-  pthread_mutex_unlock(&barrier->lock);
+  paldwosk_unlock(barrier);
   if (*count > room) return PALDWOSK_SHORT;
   for (size_t at = 0; at < *count; at++) tasks[at] = missing[at];
   return PALDWOSK_DONE;
@@ -1647,7 +2428,7 @@ PALDWOSK_INLINE paldwosk_answer paldwosk_barrier_spin(paldwosk_barrier *barrier,
   if (most > UINT32_MAX / 4) most = UINT32_MAX / 4;
   __atomic_store_n(&barrier->most_pauses, most, __ATOMIC_RELAXED);
   __atomic_store_n(&barrier->pauses, 0, __ATOMIC_RELAXED);
-  pthread_mutex_unlock(&barrier->lock);
+  paldwosk_unlock(barrier);
   return PALDWOSK_DONE;
 }
 
@@ -1665,7 +2446,7 @@ PALDWOSK_INLINE paldwosk_answer paldwosk_barrier_trace(paldwosk_barrier *barrier
   if (!barrier->trace) answer = PALDWOSK_NOT_KEPT;
   else if ((*written = paldwosk_text_whole(barrier->trace, NULL)) > room) answer = PALDWOSK_SHORT;
   else paldwosk_text_whole(barrier->trace, text);
-  pthread_mutex_unlock(&barrier->lock);
+  paldwosk_unlock(barrier);
   return answer;
 }
 
@@ -1675,7 +2456,7 @@ PALDWOSK_INLINE paldwosk_answer paldwosk_barrier_trace(paldwosk_barrier *barrier
 PALDWOSK_INLINE int paldwosk_barrier_trace_ended(paldwosk_barrier *barrier) {
   if (paldwosk_enter(barrier) != PALDWOSK_DONE) return 0;
   int has_ended = barrier->trace && barrier->trace->has_ended;
-  pthread_mutex_unlock(&barrier->lock);
+  paldwosk_unlock(barrier);
   return has_ended;
 }
 

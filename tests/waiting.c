@@ -167,7 +167,7 @@ static paldwosk_answer make_in_way(paldwosk_barrier *barrier, int way, uint32_t 
 
 static void wrong_pointers(void) {
   paldwosk_barrier barrier = PALDWOSK_NO_BARRIER, other = PALDWOSK_NO_BARRIER;
-  paldwosk_task zeroed = PALDWOSK_NO_TASK, task = PALDWOSK_NO_TASK, child = {&other, 77};
+  paldwosk_task zeroed = PALDWOSK_NO_TASK, task = PALDWOSK_NO_TASK, child = {&other, 77, 0};
   int64_t value = 77;
   uint64_t phase = 77;
   size_t written = 77;
@@ -2163,7 +2163,7 @@ static void stranger_can_not_arrive(void) {
   paldwosk_task tasks[2] = {PALDWOSK_NO_TASK};
   call waiter;
   make_party(&barrier, tasks, 2);
-  paldwosk_task stranger = {&barrier, 2};
+  paldwosk_task stranger = {&barrier, 2, 0};
   begin_call(&waiter, tasks[0], 'n');
   MUST(are_parked(&barrier, 1));
   MUST(paldwosk_barrier_signal(&stranger) == PALDWOSK_NOT_REGISTERED);
