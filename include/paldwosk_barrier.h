@@ -1573,15 +1573,16 @@ PALDWOSK_INLINE void paldwosk_wait_at_seat(paldwosk_barrier *barrier, struct pal
 }
 
 /* The phaser was told of the call if it has an answer. That comes first: a task that was made to leave has one, and the
- * others' next round may be over before its thread knows. */
+ * others' next round may be over before its thread knows. Else a round was made of the phase in which the task came. The
+ * barrier may have become slow since, and fast again. */
 PALDWOSK_INLINE paldwosk_answer paldwosk_answer_at_seat(struct paldwosk_seat *seat, uint64_t *phase) {
   struct paldwosk_sleeper *me = &seat->call;
-  uint64_t number = __atomic_load_n(&seat->phase, __ATOMIC_RELAXED);
+  uint64_t came = __atomic_load_n(&seat->came, __ATOMIC_RELAXED), number = came - 1;
   uint32_t answer = PALDWOSK_DONE;
   if (paldwosk_is_ready(me)) {
     answer = me->answer;
     number = me->number;
-  } else __atomic_store_n(&seat->phase, number + 1, __ATOMIC_RELAXED);
+  } else __atomic_store_n(&seat->phase, came, __ATOMIC_RELAXED);
   __atomic_store_n(&me->state, PALDWOSK_SPINNING, __ATOMIC_RELAXED);
   if (answer == PALDWOSK_DONE && phase) *phase = number;
   return (paldwosk_answer)answer;

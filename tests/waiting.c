@@ -21,8 +21,11 @@
  *   events.
  * waiting timed: calls with a time, each of which ends in time or later, and what goes on meanwhile.
  * waiting hasty THREADS PHASES: turns of threads as in stress, whose calls have a time that is often too short.
- * waiting crowd SECONDS SEED VISITORS: so many threads that join, leave, and make any calls, at barriers with and
- *   without a trace.
+ * waiting crowd SECONDS SEED VISITORS KIND: so many threads that join, leave, and make any calls, at barriers with and
+ *   without a trace. KIND 1: all calls leave the barrier fast; 2: nearly all, so that it is slow and fast in turn.
+ * waiting rounds THREADS PHASES MOST: turns of threads as in stress, all of which are made in rounds.
+ * waiting uneven THREADS PHASES MOST: the same with signals, waits and times, so that few are.
+ * waiting changing: calls that make a fast barrier slow, while tasks have come; after each it is fast again.
  * Status 4: something wasn't as it must be, which standard error names. Status 5: there was no thread, or no memory. */
 #include "../include/paldwosk_barrier.h"
 
@@ -97,12 +100,39 @@ OF_LIBC int sched_yield(void) AS_IN_LIBC {
   return 0;
 }
 
+/* ---- What the header has of a barrier that is fast. Without rounds it never is. */
+
+#ifdef PALDWOSK_IN_ROUNDS
+enum { HAS_ROUNDS = 1 };
+static int is_fast(const paldwosk_barrier *barrier) { return !paldwosk_is_slow(barrier); }
+static uint64_t phase_of_rounds(const paldwosk_barrier *barrier) { return barrier->rounds->phase; }
+static unsigned rounds_of(const paldwosk_barrier *barrier) { return barrier->rounds->ended; }
+
+/* With the lock: how many have come, and wait. */
+static unsigned count_come(const paldwosk_barrier *barrier) {
+  uint64_t word = __atomic_load_n(&barrier->rounds->to_come, __ATOMIC_RELAXED);
+  return word < PALDWOSK_SLOW ? barrier->tasks - (uint32_t)word : 0;
+}
+#else
+enum { HAS_ROUNDS = 0 };
+static int is_fast(const paldwosk_barrier *barrier) { return (void)barrier, 0; }
+static uint64_t phase_of_rounds(const paldwosk_barrier *barrier) { return (void)barrier, 0; }
+static unsigned rounds_of(const paldwosk_barrier *barrier) { return (void)barrier, 0; }
+static unsigned count_come(const paldwosk_barrier *barrier) { return (void)barrier, 0; }
+#endif
+
+/* Whether so many rounds were made so far, and the barrier is fast; without rounds it never is. */
+static int is_fast_after(paldwosk_barrier *barrier, unsigned rounds) {
+  return HAS_ROUNDS ? is_fast(barrier) && rounds_of(barrier) == rounds : !rounds_of(barrier);
+}
+
 /* Whether as many threads as this sleep, spin or yield in calls of the barrier, in time. */
 static int are_parked(paldwosk_barrier *barrier, unsigned count) {
   for (int tried = 0; tried < 20000; tried++, rest(1)) {
     unsigned found = 0;
     pthread_mutex_lock(&barrier->lock);
     for (struct paldwosk_sleeper *at = barrier->first; at; at = at->next) found++;
+    found += count_come(barrier);
     pthread_mutex_unlock(&barrier->lock);
     if (found == count) return 1;
   }
@@ -144,13 +174,23 @@ static void end_call(call *it, paldwosk_answer answer, uint64_t phase) {
   MUST(it->answer == answer && it->phase == phase);
 }
 
+/* The mode of the tasks of a party. With singles it is slow, without it is fast. */
+static paldwosk_mode party_mode = PALDWOSK_SINGLE;
+
 /* A barrier of so many tasks that signal and wait, bound 2, with a sum. */
 static void make_party(paldwosk_barrier *barrier, paldwosk_task *tasks, int count) {
   const paldwosk_operator sum = PALDWOSK_SUM;
   memset(barrier, 0, sizeof *barrier);
   DONE(paldwosk_barrier_new(barrier, 2, &sum, 1));
-  DONE(paldwosk_barrier_make(barrier, PALDWOSK_SINGLE, &tasks[0]));
-  for (int at = 1; at < count; at++) DONE(paldwosk_barrier_join(&tasks[0], PALDWOSK_SINGLE, &tasks[at]));
+  DONE(paldwosk_barrier_make(barrier, party_mode, &tasks[0]));
+  for (int at = 1; at < count; at++) DONE(paldwosk_barrier_join(&tasks[0], party_mode, &tasks[at]));
+}
+
+static void in_both_modes(void (*body)(void)) {
+  body();
+  party_mode = PALDWOSK_SIG_WAIT;
+  body();
+  party_mode = PALDWOSK_SINGLE;
 }
 
 /* Makes a barrier in one of four ways: without a trace and with one, in memory of nulls and in memory of anything. */
@@ -753,6 +793,7 @@ static void freed(int times) {
   for (int time = 0; time < times; time++) {
     paldwosk_task tasks[4] = {PALDWOSK_NO_TASK};
     pthread_t threads[3];
+    party_mode = time % 5 < 2 ? PALDWOSK_SINGLE : PALDWOSK_SIG_WAIT;
     make_party(barrier, tasks, 4);
     DONE(paldwosk_barrier_spin(barrier, time % 3 ? 1 << 22 : 0));
     barrier->pauses = time % 3 == 1 ? 1 << 20 : 0; /* as if it had been good to spin for so long, or not at all */
@@ -871,9 +912,9 @@ static void credit_is_counted(void) {
 
 static void yielding(void) {
   credit_is_counted();
-  yields_until_it_is_freed();
-  sleeps_in_the_end();
-  long_yields_are_paid();
+  in_both_modes(yields_until_it_is_freed);
+  in_both_modes(sleeps_in_the_end);
+  in_both_modes(long_yields_are_paid);
 }
 
 /* ---- Forks */
@@ -922,6 +963,7 @@ static void forked(int times) {
   pthread_t sender;
   call waiter;
   UNCHECKED(&is_over, sizeof is_over);
+  __atomic_store_n(&is_over, 0, __ATOMIC_RELAXED);
   make_party(&barrier, tasks, 3);
   begin_call(&waiter, tasks[2], 'n');
   MUST(are_parked(&barrier, 1));
@@ -939,6 +981,12 @@ static void forked(int times) {
   DONE(paldwosk_barrier_next(&tasks[1], NULL));
   end_call(&waiter, PALDWOSK_DONE, 0);
   DONE(paldwosk_barrier_free(&barrier));
+}
+
+static void forked_in_both(int times) {
+  forked(times);
+  party_mode = PALDWOSK_SIG_WAIT;
+  forked(times);
 }
 
 /* ---- Signals */
@@ -961,6 +1009,7 @@ static void interrupted(void) {
   pthread_t late;
   uint64_t phase = 77;
   make_party(&barrier, tasks, 2);
+  was_signalled = 0;
   signal(SIGALRM, on_signal);
   start(&late, come_late, &tasks[1]);
   alarm(1);
@@ -1036,6 +1085,8 @@ static void cancelled(void) {
   UNCHECKED(&has_returned, sizeof has_returned);
   cancelled_in(0);
   cancelled_in(1);
+  party_mode = PALDWOSK_SIG_WAIT;
+  cancelled_in(0);
 }
 
 /* ---- Turns of threads */
@@ -1043,7 +1094,7 @@ static void cancelled(void) {
 typedef struct party {
   paldwosk_barrier barrier;
   paldwosk_task tasks[THREADS];
-  int threads, phases, are_hasty;
+  int threads, phases, are_hasty, are_even; /* all end each turn by one call */
   int64_t arrived[THREADS]; /* atomic: how many phases each thread has come to the end of */
   int64_t written[THREADS]; /* not atomic: the barrier alone orders who writes and who reads it */
   int64_t ran;              /* not atomic either */
@@ -1103,7 +1154,7 @@ static void *take_turns(void *given) {
     DONE(paldwosk_barrier_send(task, 0, (int32_t)(7 * me->index + at)));
     if (at % 2 == 0) all->written[me->index] = at;
     __atomic_store_n(&all->arrived[me->index], at + 1, __ATOMIC_RELEASE);
-    int by_two = (at + me->index) % 3 == 0;
+    int by_two = (at + me->index) % 3 == 0 && !all->are_even;
     if (all->are_hasty && (at + me->index) % 4) end_turn_in_haste(task, by_two, &phase);
     else end_turn(task, by_two, &phase);
     MUST(phase == (uint64_t)at);
@@ -1126,7 +1177,22 @@ static void stress(int threads, int phases, uint32_t most, int are_hasty) {
   DONE(paldwosk_barrier_spin(&the_party.barrier, most));
   run_members(take_turns);
   MUST(the_party.barrier.tasks == 0);
+  if (the_party.are_even) MUST(rounds_of(&the_party.barrier) == (HAS_ROUNDS ? (unsigned)phases : 0));
   DONE(paldwosk_barrier_free(&the_party.barrier));
+}
+
+/* All phases are made in rounds: no call is made that would make the barrier slow. */
+static void rounds(int threads, int phases, uint32_t most) {
+  party_mode = PALDWOSK_SIG_WAIT;
+  the_party.are_even = 1;
+  stress(threads, phases, most, 0);
+}
+
+/* Nearly all turns are ended by signals and waits, so the barrier is slow and fast in turn. */
+static void uneven(int threads, int phases, uint32_t most) {
+  party_mode = PALDWOSK_SIG_WAIT;
+  stress(threads, phases, most, 0);
+  stress(threads, phases, most, 1);
 }
 
 /* ---- Singles */
@@ -1875,6 +1941,7 @@ enum { VISITORS = 200 };
 static struct crowd {
   paldwosk_barrier barrier;
   int is_traced, most;
+  enum { ANY_CROWD, EVEN_CROWD, CHANGING_CROWD } kind; /* in an even one all tasks end each turn by one call */
   int count; /* atomic: of visitors so far; from here on others may read what a visitor has */
   visitor all[VISITORS];
   int64_t sums[PHASES_KEPT], least[PHASES_KEPT], runs[PHASES_KEPT]; /* atomic: of each phase */
@@ -1904,6 +1971,8 @@ static void bring_child(visitor *me) {
   if (index >= crowd.most) return;
   visitor *child = &crowd.all[index];
   child->mode = within[me->mode][drawn(me, 4)];
+  if (crowd.kind == EVEN_CROWD) child->mode = PALDWOSK_SIG_WAIT;
+  if (crowd.kind == CHANGING_CROWD && can_signal(me) && can_wait(me) && drawn(me, 16)) child->mode = PALDWOSK_SIG_WAIT;
   child->luck = me->luck + (uint64_t)index * 0x9e3779b97f4a7c15u;
   child->passes = me->passes;
   child->made = can_signal(child) && can_signal(me) ? me->made : me->passes;
@@ -1986,9 +2055,26 @@ static void propose(visitor *me) {
   has_passed(me, phase, !is_refused);
 }
 
+/* At an even crowd a next without a time, and at a changing one nearly always. */
+static int is_plain(visitor *me) {
+  return crowd.kind == EVEN_CROWD || (crowd.kind == CHANGING_CROWD && drawn(me, 128) != 0);
+}
+
+static void end_its_turn_plainly(visitor *me) {
+  uint64_t phase = 77;
+  __atomic_fetch_add(&me->signals, 1, __ATOMIC_RELAXED);
+  DONE(paldwosk_barrier_next(&me->task, &phase));
+  me->made++;
+  has_passed(me, phase, 0);
+}
+
 static void end_its_turn(visitor *me) {
   uint64_t phase = 77;
   uint32_t how = drawn(me, 3);
+  if (can_signal(me) && me->made == me->passes && is_plain(me)) {
+    end_its_turn_plainly(me);
+    return;
+  }
   if (can_signal(me) && me->made == me->passes) {
     __atomic_fetch_add(&me->signals, 1, __ATOMIC_RELAXED);
     if (me->mode == PALDWOSK_SINGLE && how == 0) {
@@ -2006,7 +2092,7 @@ static void end_its_turn(visitor *me) {
 /* Some leave while a call of theirs goes on. */
 static void leave_crowd(visitor *me) {
   int is_ahead = can_signal(me) && me->made > me->passes;
-  if (drawn(me, 3) == 0 && can_signal(me) && !is_ahead) {
+  if (drawn(me, 3) == 0 && can_signal(me) && !is_ahead && !is_plain(me)) {
     __atomic_fetch_add(&me->signals, 1, __ATOMIC_RELAXED);
     paldwosk_answer answer = paldwosk_barrier_try_next(&me->task, NULL);
     MUST(answer == PALDWOSK_DONE || answer == PALDWOSK_TIMED_OUT);
@@ -2015,16 +2101,20 @@ static void leave_crowd(visitor *me) {
   DONE(paldwosk_barrier_leave(&me->task));
 }
 
-/* The header has noted of it what it has counted itself. If others wait, somebody keeps them waiting. */
-static void see_itself(const visitor *me) {
+/* The header has noted of it what it has counted itself. If others wait, somebody keeps them waiting. At a fast barrier
+ * all stand in the phase of the rounds. */
+static void see_itself(visitor *me) {
   uint64_t missing[THREADS];
   paldwosk_barrier *barrier = &crowd.barrier;
-  pthread_mutex_lock(&barrier->lock);
+  DONE(paldwosk_enter(barrier));
+  if (crowd.kind != EVEN_CROWD && drawn(me, crowd.kind == CHANGING_CROWD ? 200 : 4) == 0) paldwosk_go_slow(barrier);
   const struct paldwosk_member *member = paldwosk_member_of(barrier, me->task.number);
-  MUST(member->is_there && member->mode == (unsigned)me->mode && member->passes == (uint64_t)me->passes);
+  MUST(member->is_there && member->mode == (unsigned)me->mode);
   MUST(member->is_ahead == (unsigned)(can_signal(me) && me->made > me->passes));
-  MUST((paldwosk_find_missing(barrier, missing) > 0) == (barrier->first != NULL));
-  pthread_mutex_unlock(&barrier->lock);
+  if (is_fast(barrier)) MUST(phase_of_rounds(barrier) == (uint64_t)me->passes);
+  else MUST(member->passes == (uint64_t)me->passes);
+  if (!is_fast(barrier)) MUST((paldwosk_find_missing(barrier, missing) > 0) == (barrier->first != NULL));
+  paldwosk_unlock(barrier);
 }
 
 static void *visit(void *given) {
@@ -2042,7 +2132,21 @@ static void *visit(void *given) {
   return NULL;
 }
 
-static void meet(uint64_t luck, int most) {
+static struct changes {
+  int64_t rounds, others; /* phases of changing crowds that were made in rounds, and by single calls */
+} changes;
+
+/* All phases of an even crowd are made in rounds: the last who leaves has passed the last of them. */
+static void see_rounds(void) {
+  int64_t most = 0, rounds = rounds_of(&crowd.barrier);
+  for (int at = 0; at < crowd.count && at < crowd.most; at++)
+    if (crowd.all[at].passes > most) most = crowd.all[at].passes;
+  if (crowd.kind == EVEN_CROWD) MUST(rounds == (HAS_ROUNDS ? most : 0));
+  changes.rounds += rounds;
+  changes.others += most - rounds;
+}
+
+static void meet(uint64_t luck, int most, int kind) {
   static char report[1 << 18];
   static const paldwosk_operator operators[2] = {PALDWOSK_SUM, PALDWOSK_LEAST};
   memset(&crowd, 0, sizeof crowd);
@@ -2051,25 +2155,29 @@ static void meet(uint64_t luck, int most) {
   visitor *first = &crowd.all[0];
   crowd.most = most < VISITORS ? most : VISITORS;
   first->luck = luck;
-  crowd.is_traced = drawn(first, 2) == 0;
+  crowd.is_traced = drawn(first, 2) == 0 && kind == ANY_CROWD;
+  crowd.kind = kind == 1 ? EVEN_CROWD : kind == 2 ? CHANGING_CROWD : ANY_CROWD;
   uint32_t bound = 1 + drawn(first, 4);
   if (crowd.is_traced) DONE(paldwosk_barrier_new_traced(&crowd.barrier, bound, operators, 2));
   else DONE(paldwosk_barrier_new(&crowd.barrier, bound, operators, 2));
   if (drawn(first, 3) == 0) DONE(paldwosk_barrier_spin(&crowd.barrier, 0));
-  first->mode = drawn(first, 4) ? PALDWOSK_SINGLE : PALDWOSK_SIG_WAIT;
+  first->mode = drawn(first, 4) && kind == ANY_CROWD ? PALDWOSK_SINGLE : PALDWOSK_SIG_WAIT;
+  if (kind == CHANGING_CROWD && drawn(first, 4) == 0) first->mode = PALDWOSK_SINGLE;
   DONE(paldwosk_barrier_make(&crowd.barrier, first->mode, &first->task));
   crowd.count = first->is_there = 1;
   start(&first->thread, visit, first);
   for (int at = 0; at < __atomic_load_n(&crowd.count, __ATOMIC_RELAXED) && at < crowd.most; at++)
     pthread_join(crowd.all[at].thread, NULL);
   if (crowd.is_traced) replay(&crowd.barrier, report, sizeof report);
+  see_rounds();
   DONE(paldwosk_barrier_free(&crowd.barrier));
 }
 
-static void meet_for(int seconds, uint64_t seed, int most) {
+static void meet_for(int seconds, uint64_t seed, int most, int kind) {
   time_t until = time(NULL) + seconds;
   for (uint64_t round = 1; !faults && (round == 1 || time(NULL) < until); round++)
-    meet((seed + 1) * 0x9e3779b97f4a7c15u + round * 0xbf58476d1ce4e5b9u, most);
+    meet((seed + 1) * 0x9e3779b97f4a7c15u + round * 0xbf58476d1ce4e5b9u, most, kind);
+  if (kind == CHANGING_CROWD && HAS_ROUNDS && !faults) MUST(changes.rounds > 0 && changes.others > 0);
 }
 
 /* ---- What holds of other people's barriers. Each says whose tests have it, in words; the code is ours. */
@@ -2241,21 +2349,406 @@ static void barrier_is_made_anew(void) {
 }
 
 static void facts(void) {
-  arriving_does_not_wait();
   one_party_never_waits();
-  late_party_begins_at_its_parent();
-  leaving_lets_others_go_on();
-  phase_that_is_over_is_not_awaited();
-  stranger_can_not_arrive();
+  in_both_modes(arriving_does_not_wait);
+  in_both_modes(late_party_begins_at_its_parent);
+  in_both_modes(leaving_lets_others_go_on);
+  in_both_modes(phase_that_is_over_is_not_awaited);
+  in_both_modes(stranger_can_not_arrive);
   action_comes_before_all_go();
   /* helgrind takes what another thread's unlocking does in a mutex for a race with the mutex's end. */
   if (!IS_UNDER_VALGRIND) barrier_is_made_anew();
 }
 
+/* ---- Between fast and slow. Each body begins at a fast barrier of three tasks, of which some have come. */
+
+static struct trio {
+  paldwosk_barrier barrier;
+  paldwosk_task tasks[3];
+  call calls[3];
+  uint64_t phase; /* in which all stand */
+} trio;
+
+static void end_phase_of_trio(void) {
+  for (int at = 0; at < 3; at++) begin_call(&trio.calls[at], trio.tasks[at], 'n');
+  for (int at = 0; at < 3; at++) end_call(&trio.calls[at], PALDWOSK_DONE, trio.phase);
+  trio.phase++;
+}
+
+/* It goes through phases until it is fast again, which takes 64 at most. */
+static void speed_trio_up(void) {
+  for (int done = 0; HAS_ROUNDS && !is_fast(&trio.barrier) && done < 70; done++) end_phase_of_trio();
+  MUST(is_fast(&trio.barrier) == HAS_ROUNDS);
+  unsigned before = rounds_of(&trio.barrier);
+  end_phase_of_trio();
+  MUST(is_fast_after(&trio.barrier, before + HAS_ROUNDS));
+}
+
+/* So many of its tasks have come. */
+static void begin_trio(int come) {
+  speed_trio_up();
+  for (int at = 0; at < come; at++) begin_call(&trio.calls[at], trio.tasks[at], 'n');
+  MUST(are_parked(&trio.barrier, (unsigned)come));
+  MUST(is_fast(&trio.barrier) == HAS_ROUNDS);
+}
+
+/* Those that had come are let go. */
+static void end_trio(int come) {
+  for (int at = 0; at < come; at++) end_call(&trio.calls[at], PALDWOSK_DONE, trio.phase);
+  trio.phase++;
+}
+
+static void changed_by_signal(void) {
+  uint64_t phase = 77;
+  begin_trio(2);
+  DONE(paldwosk_barrier_signal(&trio.tasks[2]));
+  end_trio(2);
+  MUST(paldwosk_barrier_signal(&trio.tasks[2]) == PALDWOSK_ALREADY_SIGNALLED);
+  DONE(paldwosk_barrier_wait(&trio.tasks[2], &phase));
+  MUST(phase == trio.phase - 1);
+  begin_trio(1);
+  DONE(paldwosk_barrier_signal(&trio.tasks[1]));
+  DONE(paldwosk_barrier_next(&trio.tasks[2], &phase));
+  end_trio(1);
+  MUST(phase == trio.phase - 1);
+  DONE(paldwosk_barrier_wait(&trio.tasks[1], &phase));
+  MUST(phase == trio.phase - 1);
+}
+
+/* What is refused changes nothing: the others are still let go by the last. */
+static void changed_by_refusals(void) {
+  begin_trio(2);
+  MUST(paldwosk_barrier_wait(&trio.tasks[2], NULL) == PALDWOSK_NOT_SIGNALLED);
+  MUST(paldwosk_barrier_single(&trio.tasks[2], 1, nothing, NULL, NULL) == PALDWOSK_NO_SINGLE);
+  MUST(paldwosk_barrier_try_wait(&trio.tasks[2], NULL) == PALDWOSK_NOT_SIGNALLED);
+  MUST(paldwosk_barrier_free(&trio.barrier) == PALDWOSK_NOT_NOW);
+  MUST(are_parked(&trio.barrier, 2));
+  DONE(paldwosk_barrier_next(&trio.tasks[2], NULL));
+  end_trio(2);
+  begin_trio(2);
+  MUST(paldwosk_barrier_free(&trio.barrier) == PALDWOSK_NOT_NOW); /* and it is still fast */
+  MUST(is_fast(&trio.barrier) == HAS_ROUNDS);
+  DONE(paldwosk_barrier_next(&trio.tasks[2], NULL));
+  end_trio(2);
+}
+
+static void changed_by_time(void) {
+  uint64_t phase = 77;
+  begin_trio(1);
+  MUST(paldwosk_barrier_next_for(&trio.tasks[2], 5, NULL) == PALDWOSK_TIMED_OUT);
+  MUST(paldwosk_barrier_try_next(&trio.tasks[2], NULL) == PALDWOSK_TIMED_OUT);
+  DONE(paldwosk_barrier_next(&trio.tasks[1], &phase));
+  end_trio(1);
+  MUST(phase == trio.phase - 1);
+  DONE(paldwosk_barrier_next(&trio.tasks[2], &phase));
+  MUST(phase == trio.phase - 1);
+  begin_trio(2);
+  DONE(paldwosk_barrier_next_for(&trio.tasks[2], 60000, &phase));
+  end_trio(2);
+  MUST(phase == trio.phase - 1);
+}
+
+/* A waiter passes when the phase is over, and nobody waits for it; a signaller is waited for. */
+static void changed_by_other_modes(void) {
+  paldwosk_task waits = PALDWOSK_NO_TASK, signals = PALDWOSK_NO_TASK;
+  uint64_t phase = 77;
+  begin_trio(1);
+  DONE(paldwosk_barrier_join(&trio.tasks[2], PALDWOSK_WAIT, &waits));
+  DONE(paldwosk_barrier_join(&trio.tasks[2], PALDWOSK_SIG, &signals));
+  begin_call(&trio.calls[1], trio.tasks[1], 'n');
+  begin_call(&trio.calls[2], trio.tasks[2], 'n');
+  MUST(are_parked(&trio.barrier, 3));
+  DONE(paldwosk_barrier_signal(&signals));
+  end_trio(3);
+  DONE(paldwosk_barrier_wait(&waits, &phase));
+  MUST(phase == trio.phase - 1);
+  DONE(paldwosk_barrier_leave(&waits));
+  DONE(paldwosk_barrier_leave(&signals));
+}
+
+static void changed_by_missing(void) {
+  char wanted[50];
+  begin_trio(1);
+  snprintf(wanted, sizeof wanted, "%" PRIu64 " %" PRIu64, trio.tasks[1].number, trio.tasks[2].number);
+  MUST(misses(&trio.barrier, wanted));
+  begin_call(&trio.calls[1], trio.tasks[1], 'n');
+  MUST(are_parked(&trio.barrier, 2));
+  snprintf(wanted, sizeof wanted, "%" PRIu64, trio.tasks[2].number);
+  MUST(misses(&trio.barrier, wanted));
+  DONE(paldwosk_barrier_next(&trio.tasks[2], NULL));
+  end_trio(2);
+}
+
+/* What a second thread may do for a task that has come. It sends 3 for the next phase: the task has signalled this. */
+static void changed_by_second_thread(void) {
+  paldwosk_task child = PALDWOSK_NO_TASK;
+  uint64_t phase = 77;
+  int64_t value = 77;
+  begin_trio(2);
+  MUST(paldwosk_barrier_next(&trio.tasks[0], NULL) == PALDWOSK_NOT_NOW);
+  MUST(paldwosk_barrier_signal(&trio.tasks[1]) == PALDWOSK_NOT_NOW);
+  MUST(paldwosk_barrier_wait(&trio.tasks[1], NULL) == PALDWOSK_NOT_NOW);
+  MUST(paldwosk_barrier_try_next(&trio.tasks[1], NULL) == PALDWOSK_NOT_NOW);
+  DONE(paldwosk_barrier_send(&trio.tasks[0], 0, 3));
+  DONE(paldwosk_barrier_look(&trio.tasks[0], 0, &value)); /* nobody has sent in the phase before */
+  MUST(value == 0);
+  DONE(paldwosk_barrier_join(&trio.tasks[1], PALDWOSK_SIG_WAIT, &child)); /* it has signalled, as its parent has */
+  MUST(paldwosk_barrier_signal(&child) == PALDWOSK_ALREADY_SIGNALLED);
+  DONE(paldwosk_barrier_next(&trio.tasks[2], &phase));
+  end_trio(2);
+  MUST(phase == trio.phase - 1);
+  DONE(paldwosk_barrier_wait(&child, &phase));
+  MUST(phase == trio.phase - 1);
+  DONE(paldwosk_barrier_leave(&child));
+  end_phase_of_trio();
+  DONE(paldwosk_barrier_look(&trio.tasks[1], 0, &value));
+  MUST(value == 3);
+}
+
+/* A second thread has a task leave that has come. Its thread is told so, even if the others have gone on long before. */
+static void changed_by_leave(void) {
+  paldwosk_task late = PALDWOSK_NO_TASK;
+  call waiter;
+  speed_trio_up();
+  DONE(paldwosk_barrier_join(&trio.tasks[0], PALDWOSK_SIG_WAIT, &late));
+  MUST(is_fast(&trio.barrier) == HAS_ROUNDS);
+  begin_call(&waiter, late, 'n');
+  MUST(are_parked(&trio.barrier, 1));
+  DONE(paldwosk_barrier_leave(&late));
+  end_call(&waiter, PALDWOSK_NOT_REGISTERED, 77);
+  MUST(paldwosk_barrier_next(&late, NULL) == PALDWOSK_NOT_REGISTERED);
+  MUST(paldwosk_barrier_leave(&late) == PALDWOSK_NOT_REGISTERED);
+  end_phase_of_trio();
+}
+
+/* The one that is missing leaves: it ends the round for the others. */
+static void ended_by_leave(void) {
+  paldwosk_task late = PALDWOSK_NO_TASK;
+  speed_trio_up();
+  unsigned before = rounds_of(&trio.barrier);
+  DONE(paldwosk_barrier_join(&trio.tasks[0], PALDWOSK_SIG_WAIT, &late));
+  DONE(paldwosk_barrier_send(&late, 0, 40)); /* it counts though the task leaves */
+  for (int at = 0; at < 3; at++) begin_call(&trio.calls[at], trio.tasks[at], 'n');
+  MUST(are_parked(&trio.barrier, 3));
+  DONE(paldwosk_barrier_leave(&late));
+  end_trio(3);
+  MUST(is_fast_after(&trio.barrier, before + HAS_ROUNDS));
+  int64_t value = 77;
+  DONE(paldwosk_barrier_look(&trio.tasks[1], 0, &value));
+  MUST(value == 40);
+}
+
+/* While another has the lock all come: it ends the round when it gives the lock back. */
+static void ended_by_holder(void) {
+  speed_trio_up();
+  unsigned before = rounds_of(&trio.barrier);
+  DONE(paldwosk_enter(&trio.barrier));
+  for (int at = 0; at < 3; at++) begin_call(&trio.calls[at], trio.tasks[at], 'n');
+  for (int tried = 0; tried < 20000 && count_come(&trio.barrier) < 3 * HAS_ROUNDS; tried++) rest(1);
+  MUST(count_come(&trio.barrier) == 3 * HAS_ROUNDS && rounds_of(&trio.barrier) == before);
+  paldwosk_unlock(&trio.barrier);
+  end_trio(3);
+  MUST(is_fast_after(&trio.barrier, before + HAS_ROUNDS));
+}
+
+/* The same, and the holder makes the barrier slow: it has to end the round first. */
+static void ended_by_holder_who_changes_it(void) {
+  speed_trio_up();
+  unsigned before = rounds_of(&trio.barrier);
+  DONE(paldwosk_enter(&trio.barrier));
+  for (int at = 0; at < 3; at++) begin_call(&trio.calls[at], trio.tasks[at], 'n');
+  for (int tried = 0; tried < 20000 && count_come(&trio.barrier) < 3 * HAS_ROUNDS; tried++) rest(1);
+  paldwosk_go_slow(&trio.barrier);
+  MUST(rounds_of(&trio.barrier) == before + HAS_ROUNDS && !is_fast(&trio.barrier));
+  paldwosk_unlock(&trio.barrier);
+  end_trio(3);
+}
+
+/* More values than a seat keeps, of two tasks: 1 + 2 + .. + 9, and 5 times 100. */
+static void kept_and_told(void) {
+  int64_t value = 77;
+  speed_trio_up();
+  for (int32_t sent = 1; sent <= 9; sent++) DONE(paldwosk_barrier_send(&trio.tasks[0], 0, sent));
+  for (int sent = 0; sent < 5; sent++) DONE(paldwosk_barrier_send(&trio.tasks[1], 0, 100));
+  MUST(paldwosk_barrier_send(&trio.tasks[1], 1, 100) == PALDWOSK_NO_ACCUMULATOR);
+  MUST(is_fast(&trio.barrier) == HAS_ROUNDS);
+  end_phase_of_trio();
+  DONE(paldwosk_barrier_look(&trio.tasks[2], 0, &value));
+  MUST(value == 545 && is_fast(&trio.barrier) == HAS_ROUNDS);
+  DONE(paldwosk_barrier_send(&trio.tasks[0], 0, 7)); /* kept, and then its task doesn't come by its seat */
+  DONE(paldwosk_barrier_signal(&trio.tasks[0]));
+  DONE(paldwosk_barrier_send(&trio.tasks[0], 0, 8)); /* for the phase after */
+  begin_call(&trio.calls[1], trio.tasks[1], 'n');
+  DONE(paldwosk_barrier_next(&trio.tasks[2], NULL));
+  end_call(&trio.calls[1], PALDWOSK_DONE, trio.phase);
+  DONE(paldwosk_barrier_wait(&trio.tasks[0], NULL));
+  DONE(paldwosk_barrier_look(&trio.tasks[1], 0, &value));
+  MUST(value == 7);
+  trio.phase++;
+  end_phase_of_trio();
+  DONE(paldwosk_barrier_look(&trio.tasks[1], 0, &value));
+  MUST(value == 8);
+}
+
+/* A barrier is fast once its last task with singles has left. */
+static void fast_without_singles(void) {
+  paldwosk_barrier barrier;
+  paldwosk_task root = PALDWOSK_NO_TASK, task = PALDWOSK_NO_TASK;
+  make_party(&barrier, &root, 1);
+  DONE(paldwosk_barrier_join(&root, PALDWOSK_SIG_WAIT, &task));
+  DONE(paldwosk_barrier_signal(&root));
+  DONE(paldwosk_barrier_next(&task, NULL));
+  DONE(paldwosk_barrier_wait(&root, NULL));
+  MUST(!is_fast(&barrier));
+  DONE(paldwosk_barrier_leave(&root));
+  MUST(is_fast_after(&barrier, 0));
+  DONE(paldwosk_barrier_next(&task, NULL));
+  MUST(is_fast_after(&barrier, HAS_ROUNDS));
+  DONE(paldwosk_barrier_free(&barrier));
+}
+
+/* A barrier with a trace, or that is watched, is never fast. */
+static void slow_for_good(void) {
+  for (int is_traced = 0; is_traced < 2; is_traced++) {
+    paldwosk_barrier barrier = PALDWOSK_NO_BARRIER;
+    paldwosk_task task = PALDWOSK_NO_TASK;
+    setenv("PALDWOSK_WATCH", is_traced ? "0" : "60", 1);
+    DONE(is_traced ? paldwosk_barrier_new_traced(&barrier, 2, NULL, 0) : paldwosk_barrier_new(&barrier, 2, NULL, 0));
+    setenv("PALDWOSK_WATCH", "0", 1);
+    DONE(paldwosk_barrier_make(&barrier, PALDWOSK_SIG_WAIT, &task));
+    DONE(paldwosk_barrier_next(&task, NULL));
+    MUST(!is_fast(&barrier) && rounds_of(&barrier) == 0);
+    DONE(paldwosk_barrier_free(&barrier));
+  }
+}
+
+#ifdef PALDWOSK_IN_ROUNDS
+
+static int has_signalled; /* atomic */
+
+static void *signal_third(void *unused) {
+  (void)unused;
+  DONE(paldwosk_barrier_signal(&trio.tasks[2]));
+  __atomic_store_n(&has_signalled, 1, __ATOMIC_SEQ_CST);
+  return NULL;
+}
+
+/* Task 0 has taken 1 from the count, and its seat doesn't say yet that it has come. Whoever makes the barrier slow waits
+ * for that, and only then tells the phaser of it. */
+static void come_and_not_said(void) {
+  pthread_t thread;
+  uint64_t phase = 77;
+  paldwosk_answer answer = PALDWOSK_NOT_YET;
+  speed_trio_up();
+  struct paldwosk_rounds *rounds = trio.barrier.rounds;
+  struct paldwosk_seat *seat = paldwosk_enter_seat(&trio.tasks[0]);
+  MUST(seat == &rounds->seats[trio.tasks[0].seat]);
+  seat->call.turn = __atomic_load_n(&rounds->whole, __ATOMIC_SEQ_CST);
+  MUST(__atomic_fetch_sub(&rounds->to_come, 1, __ATOMIC_SEQ_CST) == 3);
+  has_signalled = 0;
+  start(&thread, signal_third, NULL);
+  for (int tried = 0; tried < 20000 && !__atomic_load_n(&rounds->is_slow, __ATOMIC_SEQ_CST); tried++) rest(1);
+  rest(20);
+  MUST(!__atomic_load_n(&has_signalled, __ATOMIC_SEQ_CST));
+  __atomic_store_n(&seat->came, trio.phase + 1, __ATOMIC_RELEASE);
+  __atomic_store_n(&seat->inside, PALDWOSK_SEATED, __ATOMIC_RELEASE);
+  pthread_join(thread, NULL);
+  MUST(are_parked(&trio.barrier, 1));
+  DONE(paldwosk_barrier_next(&trio.tasks[1], &phase));
+  paldwosk_wait_at_seat(&trio.barrier, seat);
+  answer = paldwosk_answer_at_seat(seat, &phase);
+  paldwosk_leave_seat(seat);
+  MUST(answer == PALDWOSK_DONE && phase == trio.phase);
+  DONE(paldwosk_barrier_wait(&trio.tasks[2], &phase));
+  trio.phase++;
+}
+
+/* All seats but one are taken by threads that still wait, as it were. So one task has no seat, and the barrier is slow
+ * until it leaves. */
+static void without_a_seat(void) {
+  paldwosk_barrier barrier;
+  paldwosk_task tasks[3] = {PALDWOSK_NO_TASK};
+  call first;
+  party_mode = PALDWOSK_SIG_WAIT;
+  make_party(&barrier, tasks, 1);
+  for (int at = 2; at < THREADS; at++) barrier.rounds->seats[at].inside = PALDWOSK_SEATED;
+  DONE(paldwosk_barrier_join(&tasks[0], PALDWOSK_SIG_WAIT, &tasks[1]));
+  MUST(is_fast(&barrier) && tasks[1].seat == 1);
+  begin_call(&first, tasks[0], 'n');
+  MUST(are_parked(&barrier, 1));
+  DONE(paldwosk_barrier_join(&tasks[1], PALDWOSK_SIG_WAIT, &tasks[2]));
+  MUST(!is_fast(&barrier) && tasks[2].seat == PALDWOSK_NO_SEAT);
+  DONE(paldwosk_barrier_signal(&tasks[1]));
+  DONE(paldwosk_barrier_next(&tasks[2], NULL));
+  end_call(&first, PALDWOSK_DONE, 0);
+  DONE(paldwosk_barrier_wait(&tasks[1], NULL));
+  MUST(!is_fast(&barrier));
+  DONE(paldwosk_barrier_leave(&tasks[2]));
+  for (int at = 2; at < THREADS; at++) barrier.rounds->seats[at].inside = PALDWOSK_OUTSIDE;
+  DONE(paldwosk_barrier_leave(&tasks[0]));
+  for (int done = 0; done < 70 && !is_fast(&barrier); done++) DONE(paldwosk_barrier_next(&tasks[1], NULL));
+  MUST(is_fast(&barrier));
+  DONE(paldwosk_barrier_free(&barrier));
+}
+
+/* A barrier that is made slow again and again stays so for 1, 2, 4 .. 64 level moments, of which each phase of one task
+ * has one. After 64 fast phases it begins at 1 again. */
+static void rests_longer(void) {
+  paldwosk_barrier barrier;
+  paldwosk_task task = PALDWOSK_NO_TASK;
+  size_t count = 0;
+  party_mode = PALDWOSK_SIG_WAIT;
+  make_party(&barrier, &task, 1);
+  for (int moments = 2, made = 0; made < 9; made++, moments *= moments < 64 ? 2 : 1) {
+    DONE(paldwosk_barrier_missing(&barrier, NULL, 0, &count)); /* its end is the first level moment */
+    for (int moment = 1; moment < moments; moment++) {
+      MUST(!is_fast(&barrier));
+      DONE(paldwosk_barrier_next(&task, NULL));
+    }
+    MUST(is_fast(&barrier));
+  }
+  for (int phase = 0; phase < 64; phase++) DONE(paldwosk_barrier_next(&task, NULL));
+  MUST(is_fast_after(&barrier, 64));
+  DONE(paldwosk_barrier_missing(&barrier, NULL, 0, &count));
+  MUST(is_fast(&barrier));
+  DONE(paldwosk_barrier_free(&barrier));
+}
+
+static void of_rounds_alone(void) {
+  MUST(sizeof(struct paldwosk_seat) == 128 && (uintptr_t)trio.barrier.rounds % 128 == 0);
+  come_and_not_said();
+  without_a_seat();
+  rests_longer();
+}
+
+#else
+
+static void of_rounds_alone(void) {}
+
+#endif
+
+static void changing(void) {
+  void (*const bodies[])(void) = {changed_by_signal,  changed_by_refusals,      changed_by_time, changed_by_other_modes,
+                                  changed_by_missing, changed_by_second_thread, changed_by_leave, ended_by_leave,
+                                  ended_by_holder,    ended_by_holder_who_changes_it, kept_and_told};
+  fast_without_singles();
+  slow_for_good();
+  for (int most = 0; most < 2; most++) {
+    party_mode = PALDWOSK_SIG_WAIT;
+    make_party(&trio.barrier, trio.tasks, 3);
+    DONE(paldwosk_barrier_spin(&trio.barrier, most ? PALDWOSK_MOST_PAUSES : 0));
+    trio.phase = 0;
+    for (size_t at = 0; at < sizeof bodies / sizeof *bodies; at++) bodies[at]();
+    of_rounds_alone();
+    for (int at = 0; at < 3; at++) DONE(paldwosk_barrier_leave(&trio.tasks[at]));
+    DONE(paldwosk_barrier_free(&trio.barrier));
+  }
+}
+
 int main(int count, char **words) {
-  int given[3] = {0, 0, 0};
+  int given[4] = {0, 0, 0, 0};
   const char *what = count > 1 ? words[1] : "";
-  for (int at = 2; at < count && at < 5; at++) given[at - 2] = atoi(words[at]);
+  for (int at = 2; at < count && at < 6; at++) given[at - 2] = atoi(words[at]);
   UNCHECKED(&yields, sizeof yields);
   if (!strcmp(what, "wrong")) wrong();
   else if (!strcmp(what, "memory")) memory();
@@ -2263,8 +2756,8 @@ int main(int count, char **words) {
   else if (!strcmp(what, "watched")) watched();
   else if (!strcmp(what, "freed")) freed(given[0]);
   else if (!strcmp(what, "yielding")) yielding();
-  else if (!strcmp(what, "forked")) forked(given[0]);
-  else if (!strcmp(what, "interrupted")) interrupted();
+  else if (!strcmp(what, "forked")) forked_in_both(given[0]);
+  else if (!strcmp(what, "interrupted")) in_both_modes(interrupted);
   else if (!strcmp(what, "cancelled")) cancelled();
   else if (!strcmp(what, "facts")) facts();
   else if (!strcmp(what, "stress")) stress(given[0], given[1], (uint32_t)given[2], 0);
@@ -2274,7 +2767,10 @@ int main(int count, char **words) {
   else if (!strcmp(what, "bounded")) bounded(given[0], given[1]);
   else if (!strcmp(what, "traced")) traced(given[0], given[1]);
   else if (!strcmp(what, "told")) told();
-  else if (!strcmp(what, "crowd")) meet_for(given[0], (uint64_t)given[1], given[2]);
+  else if (!strcmp(what, "crowd")) meet_for(given[0], (uint64_t)given[1], given[2], given[3]);
+  else if (!strcmp(what, "rounds")) rounds(given[0], given[1], (uint32_t)given[2]);
+  else if (!strcmp(what, "uneven")) uneven(given[0], given[1], (uint32_t)given[2]);
+  else if (!strcmp(what, "changing")) changing();
   else return 3;
   return faults ? 4 : 0;
 }
