@@ -25,8 +25,15 @@
  *   without a trace. KIND 1: all calls leave the barrier fast; 2: nearly all, so that it is slow and fast in turn.
  * waiting rounds THREADS PHASES MOST: turns of threads as in stress, all of which are made in rounds.
  * waiting uneven THREADS PHASES MOST: the same with signals, waits and times, so that few are.
+ * waiting refused: rounds of which a call is refused. The program has it if it is compiled with WITH_REFUSED_ROUNDS.
  * waiting changing: calls that make a fast barrier slow, while tasks have come; after each it is fast again.
  * Status 4: something wasn't as it must be, which standard error names. Status 5: there was no thread, or no memory. */
+#ifdef WITH_REFUSED_ROUNDS
+#include "../include/paldwosk.h"
+#define phaser_c_waiting_round refusing_round /* the header calls it in the archive's place */
+static uint32_t refusing_round(paldwosk_waiting *phaser, const paldwosk_given_send *sends, size_t send_count,
+                               const uint64_t *tasks, size_t task_count, uint64_t phase, size_t *made);
+#endif
 #include "../include/paldwosk_barrier.h"
 
 #include <inttypes.h>
@@ -1937,11 +1944,12 @@ typedef struct visitor {
 } visitor;
 
 enum { VISITORS = 200 };
+enum { ANY_CROWD, EVEN_CROWD, CHANGING_CROWD }; /* in an even one all tasks end each turn by one call */
 
 static struct crowd {
   paldwosk_barrier barrier;
   int is_traced, most;
-  enum { ANY_CROWD, EVEN_CROWD, CHANGING_CROWD } kind; /* in an even one all tasks end each turn by one call */
+  int kind;
   int count; /* atomic: of visitors so far; from here on others may read what a visitor has */
   visitor all[VISITORS];
   int64_t sums[PHASES_KEPT], least[PHASES_KEPT], runs[PHASES_KEPT]; /* atomic: of each phase */
@@ -2156,7 +2164,7 @@ static void meet(uint64_t luck, int most, int kind) {
   crowd.most = most < VISITORS ? most : VISITORS;
   first->luck = luck;
   crowd.is_traced = drawn(first, 2) == 0 && kind == ANY_CROWD;
-  crowd.kind = kind == 1 ? EVEN_CROWD : kind == 2 ? CHANGING_CROWD : ANY_CROWD;
+  crowd.kind = kind;
   uint32_t bound = 1 + drawn(first, 4);
   if (crowd.is_traced) DONE(paldwosk_barrier_new_traced(&crowd.barrier, bound, operators, 2));
   else DONE(paldwosk_barrier_new(&crowd.barrier, bound, operators, 2));
@@ -2544,7 +2552,7 @@ static void ended_by_holder(void) {
   unsigned before = rounds_of(&trio.barrier);
   DONE(paldwosk_enter(&trio.barrier));
   for (int at = 0; at < 3; at++) begin_call(&trio.calls[at], trio.tasks[at], 'n');
-  for (int tried = 0; tried < 20000 && count_come(&trio.barrier) < 3 * HAS_ROUNDS; tried++) rest(1);
+  for (int tried = 0; tried < 20000 && count_come(&trio.barrier) != 3 * HAS_ROUNDS; tried++) rest(1);
   MUST(count_come(&trio.barrier) == 3 * HAS_ROUNDS && rounds_of(&trio.barrier) == before);
   paldwosk_unlock(&trio.barrier);
   end_trio(3);
@@ -2557,7 +2565,7 @@ static void ended_by_holder_who_changes_it(void) {
   unsigned before = rounds_of(&trio.barrier);
   DONE(paldwosk_enter(&trio.barrier));
   for (int at = 0; at < 3; at++) begin_call(&trio.calls[at], trio.tasks[at], 'n');
-  for (int tried = 0; tried < 20000 && count_come(&trio.barrier) < 3 * HAS_ROUNDS; tried++) rest(1);
+  for (int tried = 0; tried < 20000 && count_come(&trio.barrier) != 3 * HAS_ROUNDS; tried++) rest(1);
   paldwosk_go_slow(&trio.barrier);
   MUST(rounds_of(&trio.barrier) == before + HAS_ROUNDS && !is_fast(&trio.barrier));
   paldwosk_unlock(&trio.barrier);
@@ -2727,6 +2735,74 @@ static void of_rounds_alone(void) {}
 
 #endif
 
+/* ---- Rounds of which a call is refused. After 2^62 events the archive's would be; here it is done as the test wants. */
+
+#ifdef WITH_REFUSED_ROUNDS
+#undef phaser_c_waiting_round
+
+static size_t calls_before; /* so many calls of the round are made, and the next is refused */
+static int is_to_refuse;
+
+static void make_round_call(paldwosk_waiting *phaser, const paldwosk_given_send *sends, size_t send_count,
+                            const uint64_t *tasks, size_t task_count, uint64_t phase, size_t at) {
+  static paldwosk_freed freed[PALDWOSK_MOST_FREED];
+  size_t count = 77, of_signals = at - send_count + 1, of_passes = at - send_count - task_count;
+  uint64_t number = 77;
+  if (at < send_count) {
+    MUST(phaser_c_waiting_send(phaser, sends[at].task, sends[at].accumulator, sends[at].value) == PALDWOSK_DONE);
+  } else if (at < send_count + task_count) {
+    uint64_t task = tasks[of_signals % task_count];
+    MUST(phaser_c_waiting_signal(phaser, task, freed, PALDWOSK_MOST_FREED, &count) == PALDWOSK_DONE && count == 0);
+  } else {
+    uint64_t task = tasks[of_passes];
+    uint32_t answer = phaser_c_waiting_pass(phaser, task, &number, freed, PALDWOSK_MOST_FREED, &count);
+    MUST(answer == PALDWOSK_DONE && count == 0 && number == phase);
+  }
+}
+
+static uint32_t refusing_round(paldwosk_waiting *phaser, const paldwosk_given_send *sends, size_t send_count,
+                               const uint64_t *tasks, size_t task_count, uint64_t phase, size_t *made) {
+  if (!is_to_refuse) return phaser_c_waiting_round(phaser, sends, send_count, tasks, task_count, phase, made);
+  for (size_t at = 0; at < calls_before; at++)
+    make_round_call(phaser, sends, send_count, tasks, task_count, phase, at);
+  *made = is_to_refuse == 1 ? calls_before + 1 : 0;
+  return PALDWOSK_NOT_NOW;
+}
+
+/* Two sends, three signals and three passes. The refused call and those after it are made by single calls, so all tasks
+ * pass, and both values count. */
+static void refused_after(size_t calls, int how) {
+  int64_t value = 77;
+  speed_trio_up();
+  unsigned before = rounds_of(&trio.barrier);
+  calls_before = calls;
+  is_to_refuse = how;
+  DONE(paldwosk_barrier_send(&trio.tasks[0], 0, 5));
+  DONE(paldwosk_barrier_send(&trio.tasks[2], 0, 6));
+  end_phase_of_trio();
+  is_to_refuse = 0;
+  MUST(!is_fast(&trio.barrier) && rounds_of(&trio.barrier) == before);
+  DONE(paldwosk_barrier_look(&trio.tasks[1], 0, &value));
+  MUST(value == 11);
+}
+
+static void refused(void) {
+  party_mode = PALDWOSK_SIG_WAIT;
+  make_party(&trio.barrier, trio.tasks, 3);
+  for (size_t calls = 0; calls < 8; calls++) refused_after(calls, 1);
+  refused_after(0, 2); /* no call is made */
+  DONE(paldwosk_barrier_spin(&trio.barrier, 0)); /* the same while they sleep */
+  for (size_t calls = 0; calls < 8; calls++) refused_after(calls, 1);
+  speed_trio_up();
+  DONE(paldwosk_barrier_free(&trio.barrier));
+}
+
+#else
+
+static void refused(void) { exit(3); }
+
+#endif
+
 static void changing(void) {
   void (*const bodies[])(void) = {changed_by_signal,  changed_by_refusals,      changed_by_time, changed_by_other_modes,
                                   changed_by_missing, changed_by_second_thread, changed_by_leave, ended_by_leave,
@@ -2771,6 +2847,7 @@ int main(int count, char **words) {
   else if (!strcmp(what, "rounds")) rounds(given[0], given[1], (uint32_t)given[2]);
   else if (!strcmp(what, "uneven")) uneven(given[0], given[1], (uint32_t)given[2]);
   else if (!strcmp(what, "changing")) changing();
+  else if (!strcmp(what, "refused")) refused();
   else return 3;
   return faults ? 4 : 0;
 }
