@@ -13,10 +13,12 @@
  * programs of examples/linked have.
  *
  * WHAT IS PROVED. The archive's functions phaser_c_waiting_.. make every decision: which tasks a call frees, with which
- * answer, in which order. They let no task go on too early, and a task that waits after a call still has to wait.
+ * answer, in which order. They let no task go on too early, and a task that waits after a call still has to wait. At a
+ * fast barrier it is one call, phaser_c_waiting_round, that decides for all tasks, and before any of them goes on.
  * NOT PROVED, but tested by tests/waiting, is what this header adds: a mutex round each of these calls, and threads
- * that spin, yield, sleep and are woken. So is what it notes of each task, to say which are missing. Nor is the trace
- * that it writes proved; a replay judges it.
+ * that spin, yield, sleep and are woken. So is the counting of the tasks that have come, and each change between fast
+ * and slow. So is what it notes of each task, to say which are missing. Nor is the trace that it writes proved; a
+ * replay judges it.
  *
  * WHAT IT NEEDS. gcc or clang, C11 or C++17, and the threads of POSIX. -std=c11 does: nothing has to be defined
  * before it, and it defines nothing that changes what other headers declare. Link what paldwosk.h asks for, and
@@ -34,6 +36,19 @@
  *     leave by itself.
  *   - No call is made from a signal handler, or by a thread that may be cancelled asynchronously. A call takes up to
  *     8 KB of stack.
+ *
+ * FAST AND SLOW. On Linux with x86-64 a barrier is fast while all its tasks are SIG_WAIT, stand in one phase and haven't
+ * signalled it. Then paldwosk_barrier_next takes no lock. It takes 1 from a count of the tasks that haven't come. The
+ * last who comes has the phaser make the whole phase, and lets the others go. So a phase costs each task one change of
+ * one word, and the last a call of the phaser that takes some 40 ns for each task.
+ *
+ *   - Joins in SIG_WAIT and leaves take the lock, and leave the barrier fast; tasks come meanwhile. Up to 4 values that
+ *     a task sends in a phase take no lock. Nor do looks, from the second phase on in which tasks look.
+ *   - A task in another mode, a signal, wait or single, a call with a time, a second thread's call for a task that waits
+ *     and paldwosk_barrier_missing make it slow. Then each call takes the lock. No answer depends on it.
+ *   - A slow barrier is fast again once all stand in one phase and nobody waits. One that is made slow again and again
+ *     stays so for longer, up to 64 such moments.
+ *   - A barrier that keeps a trace or is watched is always slow.
  *
  * WAITS WITH A TIME. Of each call that may wait there is a form .._for, which waits for so many milliseconds at most,
  * and a form try_.., which doesn't wait. If the answer hasn't come by then, it is PALDWOSK_TIMED_OUT. Nothing is taken
@@ -1421,7 +1436,10 @@ PALDWOSK_INLINE int paldwosk_begin_rounds(paldwosk_barrier *barrier) {
   struct paldwosk_rounds *rounds = barrier->rounds;
   uint64_t phase = 0;
   if (!paldwosk_may_be_level(barrier)) return 0;
-  if (rounds->rest_left > 1) return (int)(rounds->rest_left-- & 0);
+  if (rounds->rest_left > 1) {
+    rounds->rest_left--;
+    return 0;
+  }
   if (phaser_c_waiting_level(&barrier->phaser, rounds->tasks, barrier->tasks, &phase) != PALDWOSK_DONE) return 0;
   rounds->phase = rounds->fast_since = phase;
   paldwosk_set_seats(barrier, phase);
@@ -1977,7 +1995,7 @@ PALDWOSK_INLINE paldwosk_answer paldwosk_next_by(const paldwosk_task *task, uint
 }
 #endif
 
-/* The same, but it waits for so many milliseconds at most. */
+/* The call of a task that may have to wait, for so many milliseconds at most. */
 PALDWOSK_APART paldwosk_answer paldwosk_call_in_time(const paldwosk_task *task, uint32_t call, uint32_t single,
                                                      uint32_t milliseconds, uint64_t *phase) {
   paldwosk_answer entered = paldwosk_enter_by(task);

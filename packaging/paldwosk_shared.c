@@ -3,7 +3,8 @@
  * answer and a status are numbers of 32 bits.
  *
  * Memory for a barrier has to be zeroed, aligned to 16 and paldwosk_so_barrier_size() bytes long. A task is a
- * pointer and a number of 64 bits. A barrier is used by these functions alone, or by those of one header alone.
+ * pointer, a number of 64 bits and one of 32. A barrier is used by these functions alone, or by those of one header
+ * alone.
  *
  * Tested by tests/packages, not proved. */
 #include "paldwosk_barrier.h"

@@ -51,7 +51,7 @@ _ALIGNMENT = 16
 class _Held(ctypes.Structure):
     """A paldwosk_task."""
 
-    _fields_ = [("barrier", c_void_p), ("number", c_uint64)]
+    _fields_ = [("barrier", c_void_p), ("number", c_uint64), ("seat", c_uint32)]
 
 
 # Of each function what it takes. Each answers a number of 32 bits, but for the two of _RESULTS.
