@@ -2544,6 +2544,12 @@ static void ended_by_leave(void) {
   int64_t value = 77;
   DONE(paldwosk_barrier_look(&trio.tasks[1], 0, &value));
   MUST(value == 40);
+  MUST(paldwosk_barrier_send(&late, 0, 1) == PALDWOSK_NOT_REGISTERED); /* it has no seat any more */
+  MUST(paldwosk_barrier_look(&late, 0, &value) == PALDWOSK_NOT_REGISTERED);
+  MUST(paldwosk_barrier_join(&late, PALDWOSK_SIG_WAIT, &late) == PALDWOSK_NOT_REGISTERED);
+  MUST(is_fast_after(&trio.barrier, before + HAS_ROUNDS));
+  MUST(paldwosk_barrier_next(&late, NULL) == PALDWOSK_NOT_REGISTERED);
+  end_phase_of_trio();
 }
 
 /* While another has the lock all come: it ends the round when it gives the lock back. */
@@ -2671,6 +2677,61 @@ static void come_and_not_said(void) {
   trio.phase++;
 }
 
+/* The thread of signal_third is on its way, and doesn't get on. */
+static int does_third_wait(void) {
+  rest(20);
+  return !__atomic_load_n(&has_signalled, __ATOMIC_SEQ_CST);
+}
+
+/* Task 2 comes by hand, and the others end the round. It has been let go, and its thread isn't out yet. A second thread's
+ * signal for it waits for that. If the barrier is slow and fast again meanwhile, the answer is still the phase in which
+ * it came. */
+static void let_go_and_not_out(void) {
+  pthread_t thread;
+  uint64_t phase = 77;
+  size_t count = 77;
+  speed_trio_up();
+  struct paldwosk_seat *seat = paldwosk_enter_seat(&trio.tasks[2]);
+  MUST(seat && paldwosk_come(&trio.barrier, seat));
+  __atomic_store_n(&seat->inside, PALDWOSK_SEATED, __ATOMIC_RELEASE);
+  begin_call(&trio.calls[0], trio.tasks[0], 'n');
+  DONE(paldwosk_barrier_next(&trio.tasks[1], &phase));
+  end_call(&trio.calls[0], PALDWOSK_DONE, trio.phase);
+  MUST(phase == trio.phase && paldwosk_is_over(&trio.barrier, &seat->call));
+  DONE(paldwosk_barrier_missing(&trio.barrier, NULL, 0, &count));
+  for (int tried = 0; tried < 64 && !is_fast(&trio.barrier); tried++)
+    DONE(paldwosk_barrier_missing(&trio.barrier, NULL, 0, &count));
+  MUST(is_fast(&trio.barrier) && count == 0);
+  has_signalled = 0;
+  start(&thread, signal_third, NULL);
+  MUST(does_third_wait());
+  MUST(paldwosk_answer_at_seat(seat, &phase) == PALDWOSK_DONE && phase == trio.phase);
+  paldwosk_leave_seat(seat);
+  pthread_join(thread, NULL);
+  trio.phase++;
+  begin_call(&trio.calls[0], trio.tasks[0], 'n');
+  DONE(paldwosk_barrier_next(&trio.tasks[1], &phase));
+  end_call(&trio.calls[0], PALDWOSK_DONE, trio.phase);
+  DONE(paldwosk_barrier_wait(&trio.tasks[2], &phase));
+  MUST(phase == trio.phase++);
+}
+
+/* A round is over, as it were, and the others aren't let go yet. Until they are nobody has the phaser. */
+static void over_and_not_let_go(void) {
+  pthread_t thread;
+  speed_trio_up();
+  trio.barrier.rounds->ended++;
+  has_signalled = 0;
+  start(&thread, signal_third, NULL);
+  MUST(does_third_wait());
+  paldwosk_raise(trio.barrier.rounds, 1);
+  pthread_join(thread, NULL);
+  begin_call(&trio.calls[0], trio.tasks[0], 'n');
+  DONE(paldwosk_barrier_next(&trio.tasks[1], NULL));
+  end_call(&trio.calls[0], PALDWOSK_DONE, trio.phase++);
+  DONE(paldwosk_barrier_wait(&trio.tasks[2], NULL));
+}
+
 /* All seats but one are taken by threads that still wait, as it were. So one task has no seat, and the barrier is slow
  * until it leaves. */
 static void without_a_seat(void) {
@@ -2725,6 +2786,8 @@ static void rests_longer(void) {
 static void of_rounds_alone(void) {
   MUST(sizeof(struct paldwosk_seat) == 128 && (uintptr_t)trio.barrier.rounds % 128 == 0);
   come_and_not_said();
+  let_go_and_not_out();
+  over_and_not_let_go();
   without_a_seat();
   rests_longer();
 }
