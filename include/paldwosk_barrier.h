@@ -39,8 +39,8 @@
  *
  * FAST AND SLOW. On Linux with x86-64 a barrier is fast while all its tasks are SIG_WAIT, stand in one phase and haven't
  * signalled it. Then paldwosk_barrier_next takes no lock. It takes 1 from a count of the tasks that haven't come. The
- * last who comes has the phaser make the whole phase, and lets the others go. So a phase costs each task one change of
- * one word, and the last a call of the phaser that takes some 40 ns for each task.
+ * last task to come has the phaser make the whole phase, and lets the others go. So a phase costs each task one change
+ * of one word. The last also pays for a call of the phaser, some 40 ns for each task.
  *
  *   - Joins in SIG_WAIT and leaves take the lock, and leave the barrier fast; tasks come meanwhile. Up to 4 values that
  *     a task sends in a phase take no lock. Nor do looks, from the second phase on in which tasks look.
@@ -519,7 +519,7 @@ struct paldwosk_fold {
   uint32_t answer;
 };
 
-/* The last who comes has the phaser until it sets the count again. So has the holder of the lock while the word says
+/* The last task to come has the phaser until it sets the count again. So has the holder of the lock while the word says
  * SLOW or BUSY. What isn't atomic is theirs. */
 struct paldwosk_rounds {
   uint64_t to_come PALDWOSK_ALONE;           /* atomic: SLOW, BUSY, and how many tasks haven't come */
@@ -866,7 +866,7 @@ PALDWOSK_INLINE void paldwosk_learn(paldwosk_barrier *barrier, const struct pald
   paldwosk_set(&barrier->pauses, pauses < PALDWOSK_LEAST_PAUSES ? 0 : pauses);
 }
 
-/* The word on which threads sleep. */
+/* The word on which threads sleep: the turn. */
 PALDWOSK_INLINE uint32_t *paldwosk_turn_word(paldwosk_barrier *barrier) {
 #ifdef PALDWOSK_IN_ROUNDS
   return (uint32_t *)&barrier->rounds->whole; /* its low half */
@@ -1121,16 +1121,16 @@ PALDWOSK_INLINE void paldwosk_let_others_run(uint32_t tried) {
   pthread_setcancelstate(old, &old);
 }
 
-/* ---- Rounds. While all tasks stand level the barrier is fast: a task comes by taking 1 from a count. The last who
- * comes has the phaser make all calls of the phase in one, and then lets the others go. The word with the count says
- * SLOW if each call takes the lock. It says BUSY if the holder of the lock has the phaser; tasks come meanwhile. If it
- * says neither and the count is 0, the last who came has the phaser. */
+/* ---- Rounds. While all tasks stand level the barrier is fast: a task comes by taking 1 from a count. The last to come
+ * has the phaser make all calls of the phase in one, and then lets the others go. The word with the count says SLOW if
+ * each call takes the lock. It says BUSY if the holder of the lock has the phaser; tasks come meanwhile. If it says
+ * neither and the count is 0, the last to come has the phaser. */
 
 #ifdef PALDWOSK_IN_ROUNDS
 
 #define PALDWOSK_SLOW (UINT64_C(1) << 63)
 #define PALDWOSK_BUSY (UINT64_C(1) << 62)
-#define PALDWOSK_STILL (PALDWOSK_SLOW | UINT64_C(1) << 31) /* who subtracts from it doesn't reach what it says */
+#define PALDWOSK_STILL (PALDWOSK_SLOW | UINT64_C(1) << 31) /* late subtractions don't reach SLOW */
 #define PALDWOSK_NOBODY UINT64_MAX
 
 /* For so many level moments a barrier stays slow at most; and so many fast phases in a row make that 1 again. */
@@ -1396,8 +1396,8 @@ PALDWOSK_APART void paldwosk_end_round_singly(paldwosk_barrier *barrier, size_t 
   paldwosk_futex(paldwosk_turn_word(barrier), 1, INT_MAX, UINT32_MAX);
 }
 
-/* All have come: the phaser makes the phase, and then the others are let go. The count is set before: who is let go may
- * come at once. */
+/* All have come: the phaser makes the phase, and then the others are let go. The count is set before: a task that is let
+ * go may come at once. */
 PALDWOSK_APART void paldwosk_end_round(paldwosk_barrier *barrier) {
   struct paldwosk_rounds *rounds = barrier->rounds;
   uint32_t tasks = barrier->tasks;
@@ -1577,7 +1577,7 @@ PALDWOSK_INLINE int paldwosk_come(paldwosk_barrier *barrier, struct paldwosk_sea
   return 1;
 }
 
-/* It may be over at once, and is for the last who comes. */
+/* The call may be over at once, and is for the last to come. */
 PALDWOSK_INLINE void paldwosk_wait_at_seat(paldwosk_barrier *barrier, struct paldwosk_seat *seat) {
   struct paldwosk_sleeper *me = &seat->call;
   if (paldwosk_is_over(barrier, me)) return;
