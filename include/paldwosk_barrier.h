@@ -525,7 +525,7 @@ struct paldwosk_rounds {
   uint64_t to_come PALDWOSK_ALONE;           /* atomic: SLOW, BUSY, and how many tasks haven't come */
   uint64_t have_sent[PALDWOSK_SEAT_WORDS];   /* atomic: which seats keep values */
   uint64_t whole PALDWOSK_ALONE;             /* atomic: how many rounds are over (high half); the turn (low half) */
-  uint32_t sleepers, is_slow;                /* atomic: how many sleep who have come; whether the word says SLOW */
+  uint32_t sleepers, is_slow;                /* atomic: how many threads sleep at seats; whether the word says SLOW */
   struct paldwosk_fold folds[PALDWOSK_MOST_ACCUMULATORS] PALDWOSK_ALONE; /* read by tasks that haven't come */
   uint64_t phase PALDWOSK_ALONE;             /* in which all tasks stand, while the barrier is fast */
   uint64_t fast_since;                       /* the first of these phases */
