@@ -143,7 +143,9 @@ typedef struct paldwosk_barrier {
   struct paldwosk_rounds *rounds; /* where its tasks come while the barrier is fast */
   void *rounds_memory;            /* what is to be freed of it */
 #endif
-  uint8_t kept_apart[64]; /* what changes seldom isn't in the line of the lock */
+  struct paldwosk_member *members; /* the registered tasks, by their numbers */
+  struct paldwosk_trace *trace;    /* NULL if none is kept */
+  uint8_t kept_apart[64];          /* what changes seldom isn't in the line of the lock */
 #ifndef PALDWOSK_IN_ROUNDS
   uint32_t turn;         /* atomic: rises when sleepers are woken; it is on this word that they sleep */
 #endif
@@ -154,16 +156,15 @@ typedef struct paldwosk_barrier {
   paldwosk_waiting phaser;
   struct paldwosk_sleeper *first; /* the waiting calls, the earliest in front */
   struct paldwosk_sleeper **last; /* the place of the next of them */
-  struct paldwosk_trace *trace;   /* NULL if none is kept */
   struct paldwosk_overdue *overdue; /* the calls whose time is over, and whose answer hasn't been given */
-  struct paldwosk_member *members; /* the registered tasks, by their numbers */
   struct paldwosk_overdue *room, *spare; /* room for a call of each task whose time is over; what is free of it */
   uint32_t to_wake;               /* bits of sleepers that were freed, and are to be woken */
   uint32_t coming;                /* how many run a single, and will be back */
   uint64_t claimer;               /* the task that claimed a single last */
   struct paldwosk_tries tries;    /* of all threads together */
 #ifdef PALDWOSK_IN_ROUNDS
-  uint32_t uneven; /* how many tasks are ahead, and have another mode than SIG_WAIT, and have no seat */
+  uint32_t uneven;          /* how many tasks are ahead, and have another mode than SIG_WAIT, and have no seat */
+  uint32_t rest, rest_left; /* at how many level moments it stays slow; how many are left of these */
 #endif
   uint8_t apart[64];              /* what threads write that were freed isn't in the line of what is under the lock */
   uint32_t inside;                /* atomic: how many threads wait, or read the barrier still after they were freed */
@@ -530,9 +531,8 @@ struct paldwosk_rounds {
   uint64_t phase PALDWOSK_ALONE;             /* in which all tasks stand, while the barrier is fast */
   uint64_t fast_since;                       /* the first of these phases */
   uint32_t ended;                            /* how many rounds are over, also if the others aren't let go yet */
-  uint32_t rest, rest_left;                  /* at how many level moments it stays slow; how many are left of these */
   uint32_t wanted;                           /* bits of the accumulators at which tasks look */
-  struct paldwosk_seat *claimed;             /* by the holder of the lock; or NULL */
+  struct paldwosk_seat *claimed;             /* by the holder of the lock, while the barrier is fast; or NULL */
   uint64_t used[PALDWOSK_SEAT_WORDS];        /* which seats have a task */
   uint64_t tasks[PALDWOSK_MOST_MEMBERS];     /* the registered tasks, in any order */
   uint16_t places[PALDWOSK_MOST_MEMBERS];    /* the seats of these */
@@ -1197,7 +1197,7 @@ PALDWOSK_INLINE void paldwosk_tell_sends(paldwosk_barrier *barrier, struct paldw
   uint64_t task = __atomic_load_n(&seat->task, __ATOMIC_RELAXED);
   for (uint32_t at = 0; at < seat->sends; at++)
     (void)phaser_c_waiting_send(&barrier->phaser, task, seat->indices[at], seat->values[at]);
-  seat->sends = 0;
+  if (seat->sends) seat->sends = 0;
 }
 
 PALDWOSK_INLINE uint64_t paldwosk_seat_bit(uint32_t place) { return UINT64_C(1) << place % 64; }
@@ -1282,9 +1282,9 @@ PALDWOSK_INLINE void paldwosk_set_members(paldwosk_barrier *barrier, uint64_t ph
 /* A barrier that is made slow soon after it has become fast stays so for twice as long. */
 PALDWOSK_INLINE void paldwosk_say_slow(paldwosk_barrier *barrier) {
   struct paldwosk_rounds *rounds = barrier->rounds;
-  if (rounds->phase - rounds->fast_since >= PALDWOSK_MOST_REST) rounds->rest = 1;
-  else if (rounds->rest < PALDWOSK_MOST_REST) rounds->rest *= 2;
-  rounds->rest_left = rounds->rest;
+  if (rounds->phase - rounds->fast_since >= PALDWOSK_MOST_REST) barrier->rest = 1;
+  else if (barrier->rest < PALDWOSK_MOST_REST) barrier->rest *= 2;
+  barrier->rest_left = barrier->rest;
   paldwosk_set_members(barrier, rounds->phase);
   __atomic_store_n(&rounds->is_slow, 1, __ATOMIC_SEQ_CST);
 }
@@ -1436,8 +1436,8 @@ PALDWOSK_INLINE int paldwosk_begin_rounds(paldwosk_barrier *barrier) {
   struct paldwosk_rounds *rounds = barrier->rounds;
   uint64_t phase = 0;
   if (!paldwosk_may_be_level(barrier)) return 0;
-  if (rounds->rest_left > 1) {
-    rounds->rest_left--;
+  if (barrier->rest_left > 1) {
+    barrier->rest_left--;
     return 0;
   }
   if (phaser_c_waiting_level(&barrier->phaser, rounds->tasks, barrier->tasks, &phase) != PALDWOSK_DONE) return 0;
@@ -1461,11 +1461,12 @@ PALDWOSK_INLINE void paldwosk_take_word(paldwosk_barrier *barrier) {
   }
 }
 
-/* The same, and all who have come in a round that is over have been let go: else a new task could come, and be let go
- * with them. */
+/* The same, and all tasks of a round that is over have been let go: else a new task could come, and be let go with them.
+ * Whoever made the barrier slow has waited for that. */
 PALDWOSK_INLINE void paldwosk_take_phaser(paldwosk_barrier *barrier) {
   const struct paldwosk_rounds *rounds = barrier->rounds;
   paldwosk_take_word(barrier);
+  if (paldwosk_is_slow(barrier)) return;
   for (uint32_t tried = 0; __atomic_load_n(&rounds->whole, __ATOMIC_ACQUIRE) >> 32 != rounds->ended; tried++)
     paldwosk_bide(tried);
 }
@@ -1474,9 +1475,9 @@ PALDWOSK_INLINE void paldwosk_take_phaser(paldwosk_barrier *barrier) {
 PALDWOSK_INLINE void paldwosk_give_phaser_back(paldwosk_barrier *barrier) {
   struct paldwosk_rounds *rounds = barrier->rounds;
   uint64_t word = __atomic_load_n(&rounds->to_come, __ATOMIC_RELAXED);
-  if (rounds->claimed) paldwosk_leave_seat(rounds->claimed);
-  rounds->claimed = NULL;
   if (word < PALDWOSK_SLOW) {
+    if (rounds->claimed) paldwosk_leave_seat(rounds->claimed);
+    rounds->claimed = NULL;
     word = __atomic_fetch_and(&rounds->to_come, ~PALDWOSK_BUSY, __ATOMIC_SEQ_CST);
     if (!(uint32_t)word) paldwosk_end_round(barrier);
   } else if (!paldwosk_begin_rounds(barrier) && word != PALDWOSK_STILL) {
@@ -1647,7 +1648,7 @@ PALDWOSK_INLINE void paldwosk_open_turn(paldwosk_barrier *barrier) {
   struct paldwosk_rounds *rounds = barrier->rounds;
   barrier->uneven = 0;
   rounds->to_come = PALDWOSK_STILL;
-  rounds->is_slow = rounds->rest = rounds->rest_left = 1;
+  rounds->is_slow = barrier->rest = barrier->rest_left = 1;
   for (int at = 0; at < PALDWOSK_MOST_MEMBERS; at++) rounds->seats[at].task = PALDWOSK_NOBODY;
   for (int at = 0; at < PALDWOSK_MOST_ACCUMULATORS; at++) rounds->folds[at].phase = UINT64_MAX;
 }
