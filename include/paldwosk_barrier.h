@@ -48,7 +48,8 @@
  *     and paldwosk_barrier_missing make it slow. Then each call takes the lock. No answer depends on it.
  *   - A slow barrier is fast again once all stand in one phase and nobody waits. One that is made slow again and again
  *     stays so for longer, up to 64 such moments.
- *   - A barrier that keeps a trace or is watched is always slow.
+ *   - A barrier that keeps a trace or is watched is always slow. So is one of a program that defines
+ *     PALDWOSK_WITHOUT_ROUNDS, in all files that share it.
  *
  * WAITS WITH A TIME. Of each call that may wait there is a form .._for, which waits for so many milliseconds at most,
  * and a form try_.., which doesn't wait. If the answer hasn't come by then, it is PALDWOSK_TIMED_OUT. Nothing is taken
@@ -1111,7 +1112,7 @@ PALDWOSK_APART void paldwosk_report(paldwosk_barrier *barrier, struct paldwosk_s
 /* The threads that are counted as inside have been woken, and only need a processor for a moment. If yielding doesn't
  * give them one, this thread sleeps: theirs may be of a lower priority. */
 PALDWOSK_INLINE void paldwosk_let_others_run(uint32_t tried) {
-  int old = 0;
+  int old = 0, kept = errno;
   if (tried < 100) {
     sched_yield();
     return;
@@ -1119,6 +1120,7 @@ PALDWOSK_INLINE void paldwosk_let_others_run(uint32_t tried) {
   pthread_setcancelstate(PTHREAD_CANCEL_DISABLE, &old);
   poll(NULL, 0, 1);
   pthread_setcancelstate(old, &old);
+  errno = kept;
 }
 
 /* ---- Rounds. While all tasks stand level the barrier is fast: a task comes by taking 1 from a count. The last to come
