@@ -1304,13 +1304,8 @@ static void bounded(int items, int bound) {
 
 /* ---- Traces */
 
-/* Whether the text has become shorter: a task that has left meanwhile ends in fewer bytes than one that is still there. */
-static int is_shorter(paldwosk_barrier *barrier, size_t least) {
-  size_t now = 0;
-  return paldwosk_barrier_trace(barrier, NULL, 0, &now) == PALDWOSK_SHORT && now < least;
-}
-
-/* The trace so far; the caller frees it. */
+/* The trace so far; the caller frees it. It may become shorter between two calls: a task that has left meanwhile ends in
+ * fewer bytes than one that is still there. */
 static char *trace_of(paldwosk_barrier *barrier, size_t *length) {
   size_t least = 0, written = 0;
   for (;;) { /* others may add events between the two calls */
@@ -1319,7 +1314,7 @@ static char *trace_of(paldwosk_barrier *barrier, size_t *length) {
     if (!text) exit(5);
     text[0] = text[least] = '#';
     paldwosk_answer answer = paldwosk_barrier_trace(barrier, text, least - 1, &written);
-    MUST(answer == PALDWOSK_SHORT ? text[0] == '#' : is_shorter(barrier, least));
+    MUST(answer == PALDWOSK_SHORT ? text[0] == '#' : answer == PALDWOSK_DONE && written < least);
     answer = paldwosk_barrier_trace(barrier, text, least, &written);
     MUST(text[least] == '#' && (answer == PALDWOSK_DONE || answer == PALDWOSK_SHORT));
     *length = written;
