@@ -7,7 +7,7 @@ use phase_model::{LongPassing, Passing, Signalling};
 use phase_modes::Refusal;
 use phaser_core::{LongPhaser, LongTask, Phase};
 
-/// A value that a task sent: `paldwosk_send`.
+/// A value that a task sent: `paldwosk_given_send`.
 #[repr(C)]
 #[derive(Clone, Copy, Debug, Drop)]
 pub struct GivenSend {
