@@ -113,6 +113,11 @@ impl Seat {
     }
 
     #[cfg(test)]
+    pub(crate) fn has_come(&self, phase: u64) -> bool {
+        self.came.load(Acquire) == phase + 1
+    }
+
+    #[cfg(test)]
     pub(crate) fn is_asleep(&self) -> bool {
         self.state.load(Acquire) == ASLEEP
     }

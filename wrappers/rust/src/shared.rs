@@ -427,7 +427,7 @@ mod tests {
             assert_eq!(rounds(&shared), (1, true));
             let theirs = (shared.clone(), tasks[1]);
             let waiting = spawn(move || turn(&theirs.0, theirs.1, 1));
-            assert!(comes(|| shared.seats[tasks[1].seat].is_asleep()));
+            assert!(comes(|| shared.seats[tasks[1].seat].has_come(1)));
             stop(&shared, tasks[0]);
             assert_eq!(rounds(&shared), (1, false), "{at}");
             let last = if at == 0 { Call::Pass } else { Call::Turn(None) };
