@@ -17,11 +17,11 @@
 //! stays parked still has to wait. So no task is forgotten.
 //!
 //! A phase whose turns [take no lock](Phaser#when-a-turn-takes-no-lock) is made by one call of the archive. It says that each
-//! task has ended its turn before any thread is let go.
+//! task has ended its turn before any thread is let go. So are all phases of a [`Barrier`].
 //!
-//! Nothing in this crate is proved; it is tested. For a [`Phaser`] and a [`Barrier`] that is the lock round each call, the
-//! spinning, yielding and sleeping, the waking of freed threads, and the noting of a trace and of who is missing. For a
-//! [`Phaser`] it is also the counting of those who come, and each change between counting and locking.
+//! Nothing in this crate is proved; it is tested. For a [`Phaser`] and a [`Barrier`] that is the counting of those who come, the
+//! spinning, yielding and sleeping, and the waking of those who are let go. For a [`Phaser`] it is also the lock round each
+//! call, each change between counting and locking, and the noting of a trace and of who is missing.
 //!
 //! The `unsafe` code passes on what Rust's own types promise: slices and places that nothing else has, and a task that is lent
 //! to one call at a time. Besides, it lends the archive's phaser to the one thread that has it by the count or by the lock, and
@@ -42,6 +42,7 @@ mod rounds;
 mod scope;
 mod seats;
 mod shared;
+mod sign;
 mod spins;
 mod trace;
 mod waiting_cell;

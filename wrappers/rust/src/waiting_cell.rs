@@ -58,6 +58,9 @@ pub(crate) struct WaitingCell {
     handle: Handle,
     freed: Box<[Freed; MOST_FREED]>,
     count: usize,
+    /// How many calls of signals and passes the archive was asked for.
+    #[cfg(test)]
+    pub(crate) asked: u64,
 }
 
 // SAFETY: what the handle leads to is this cell's alone, and the library proves of it that it may go to another thread.
@@ -70,7 +73,13 @@ impl WaitingCell {
         let numbers: Vec<u32> = operators.iter().map(|it| *it as u32).collect();
         let none = Freed { task: 0, number: 0, answer: 0 };
         let handle = Handle { held: null_mut() };
-        let mut cell = WaitingCell { handle, freed: Box::new([none; MOST_FREED]), count: 0 };
+        let mut cell = WaitingCell {
+            handle,
+            freed: Box::new([none; MOST_FREED]),
+            count: 0,
+            #[cfg(test)]
+            asked: 0,
+        };
         unsafe { phaser_c_abi_1() };
         done(unsafe { phaser_c_waiting_new(&mut cell.handle, numbers.as_ptr(), numbers.len(), bound) })?;
         Ok(cell)
@@ -117,7 +126,7 @@ impl WaitingCell {
     /// and a pass of the first, and a pass of each other. If one is answered otherwise than in a round: how many were answered
     /// so before it.
     pub(crate) fn round(&mut self, sends: &[GivenSend], tasks: &[u64], phase: u64) -> Result<(), usize> {
-        let (mut made, handle) = (0, &mut self.handle);
+        let (mut made, handle) = (0, self.asking());
         let (told, all) = (sends.as_ptr(), tasks.as_ptr());
         match unsafe { phaser_c_waiting_round(handle, told, sends.len(), all, tasks.len(), phase, &mut made) } {
             0 => Ok(()),
@@ -127,8 +136,18 @@ impl WaitingCell {
 
     /// Makes a call with the room for those whom it frees.
     fn freeing(&mut self, call: impl FnOnce(&mut Handle, *mut Freed, &mut usize) -> u32) -> u32 {
+        self.asking();
         self.count = 0;
         call(&mut self.handle, self.freed.as_mut_ptr(), &mut self.count)
+    }
+
+    /// The handle for a call of signals and passes.
+    fn asking(&mut self) -> &mut Handle {
+        #[cfg(test)]
+        {
+            self.asked += 1;
+        }
+        &mut self.handle
     }
 
     pub(crate) fn signal(&mut self, task: u64, proposed: Option<u32>) -> Result<Answer, Refusal> {

@@ -1,9 +1,8 @@
 //! Where threads wait: for the answer at a seat, or for the end of the round in which they came.
-use crate::bell::Bell;
 use crate::seats::Seat;
-use crate::spins::have_processors;
+use crate::sign::Sign;
 use crate::yields::Yields;
-use std::sync::atomic::{AtomicBool, AtomicU32, AtomicUsize, Ordering::*};
+use std::sync::atomic::{AtomicBool, AtomicUsize, Ordering::*};
 use std::time::{Duration, Instant};
 
 /// For how long a call waits.
@@ -49,10 +48,8 @@ fn raised(word: u64) -> u64 {
 /// What all who wait look at, in a line of its own.
 #[repr(align(128))]
 struct Signs {
-    /// Its word has two halves. The low one rises before anybody is woken. Who has what all share writes it.
-    bell: Bell,
-    /// How many sleep, or are about to.
-    sleepers: AtomicU32,
+    /// Its word has two halves. The low one rises before anybody is woken. Who has what all share sets it.
+    sign: Sign,
     /// Whether nothing is counted. It may be late: the count decides.
     is_stopped: AtomicBool,
     threads: AtomicUsize,
@@ -66,8 +63,8 @@ pub(crate) struct Waits {
 
 impl Waits {
     pub(crate) fn new() -> Waits {
-        let (sleepers, is_stopped, threads) = (AtomicU32::new(0), AtomicBool::new(true), AtomicUsize::new(0));
-        Waits { signs: Signs { bell: Bell::new(), sleepers, is_stopped, threads }, yields: Yields::new() }
+        let (is_stopped, threads) = (AtomicBool::new(true), AtomicUsize::new(0));
+        Waits { signs: Signs { sign: Sign::new(), is_stopped, threads }, yields: Yields::new() }
     }
 
     pub(crate) fn is_stopped(&self) -> bool {
@@ -90,70 +87,44 @@ impl Waits {
     /// The number of this round. A task that reads it before it comes has the one in which it comes: it has seen the end of the
     /// round before, or was joined by one that has.
     pub(crate) fn round(&self) -> u32 {
-        round_of(self.signs.bell.word.load(Acquire))
+        round_of(self.word())
     }
 
-    #[cfg(test)]
     pub(crate) fn word(&self) -> u64 {
-        self.signs.bell.word.load(Acquire)
+        self.signs.sign.word()
     }
 
     /// Whoever read the word before isn't let asleep by it. Only then is anybody woken whose answer has come.
     pub(crate) fn raise(&self) {
-        let word = &self.signs.bell.word;
-        word.store(raised(word.load(Relaxed)), SeqCst);
+        self.signs.sign.set(raised(self.word()));
     }
 
     /// Wakes those who sleep by one of these bits.
     pub(crate) fn wake(&self, bits: u32) {
         if bits != 0 {
-            self.signs.bell.wake(bits);
+            self.signs.sign.bell.wake(bits);
         }
     }
 
     /// Lets all go on who came in this round.
     pub(crate) fn end_round(&self) {
-        let word = &self.signs.bell.word;
-        let ended = raised(word.load(Relaxed)).wrapping_add(1 << 32);
-        word.store(ended, SeqCst);
-        // Who isn't counted yet as a sleeper sees the word.
-        if self.signs.sleepers.load(SeqCst) > 0 {
-            self.wake(u32::MAX);
-        }
+        self.signs.sign.set_for_all(raised(self.word()).wrapping_add(1 << 32));
     }
 
     /// Waits until it has come, or the patience ends. Whether it has come.
     pub(crate) fn until(&self, awaited: &Awaited, patience: Patience) -> bool {
-        let has_come = || awaited.is_over(self.signs.bell.word.load(Acquire));
+        let (sign, is_over) = (&self.signs.sign, |word| awaited.is_over(word));
         if let Patience::None = patience {
-            return has_come();
+            return is_over(self.word());
         }
-        let may_spin = have_processors(self.threads());
-        let is_over = may_spin && awaited.seat.spins.until(has_come) || self.yields.until(has_come);
-        is_over || !awaited.seat.falls_asleep() || self.sleeps_until(awaited, patience)
-    }
-
-    /// Sleeps until it has come, or the patience ends. Whether it has come.
-    fn sleeps_until(&self, awaited: &Awaited, patience: Patience) -> bool {
-        self.signs.sleepers.fetch_add(1, SeqCst);
-        let has_come = loop {
-            // The word comes first. If it was raised for this thread that is seen; if it is raised after this, the thread
-            // isn't let asleep, or is woken.
-            let word = self.signs.bell.word.load(SeqCst);
-            if awaited.is_over(word) {
-                break true;
-            }
-            if self.sleeps_in_vain(word, awaited, patience) {
-                break false;
-            }
-        };
-        self.signs.sleepers.fetch_sub(1, Relaxed);
-        has_come
+        sign.is_seen(is_over, self.threads(), &awaited.seat.spins, &self.yields)
+            || !awaited.seat.falls_asleep()
+            || sign.sleeps_until(is_over, |word| self.sleeps_in_vain(word, awaited, patience))
     }
 
     /// Sleeps until somebody is woken, or the patience ends. Whether it has ended before the answer has come.
     fn sleeps_in_vain(&self, word: u64, awaited: &Awaited, patience: Patience) -> bool {
-        let bell = &self.signs.bell;
+        let bell = &self.signs.sign.bell;
         let Patience::Until(end) = patience else {
             bell.sleep(word, awaited.bit);
             return false;
@@ -175,12 +146,12 @@ mod tests {
     fn halves_of_the_word_rise_apart() {
         let waits = Waits::new();
         let full = u64::from(u32::MAX);
-        waits.signs.bell.word.store(7 << 32 | full, Relaxed);
+        waits.signs.sign.set(7 << 32 | full);
         waits.raise();
         assert_eq!((waits.word(), waits.round()), (7 << 32, 7));
         waits.end_round();
         assert_eq!((waits.word(), waits.round()), (8 << 32 | 1, 8));
-        waits.signs.bell.word.store(full << 32 | full, Relaxed);
+        waits.signs.sign.set(full << 32 | full);
         waits.end_round();
         assert_eq!((waits.word(), waits.round()), (0, 0));
     }
@@ -204,6 +175,6 @@ mod tests {
         });
         // The seat has no answer by it.
         assert!(!waits.until(&awaited(None), Patience::None));
-        assert_eq!(waits.signs.sleepers.load(Relaxed), 0);
+        assert_eq!(waits.signs.sign.sleepers(), 0);
     }
 }

@@ -1,6 +1,6 @@
 //! Threads that make all calls of a phaser by turns, as a seed has it. Each value, phase and single is checked against what the
-//! threads count themselves.
-use paldwosk::{Look, Mode, Operator, Phaser, Task};
+//! threads count themselves. And threads that meet at a barrier, some of them late.
+use paldwosk::{Barrier, Look, Mode, Operator, Phaser, Task};
 use std::sync::atomic::{AtomicBool, AtomicI64, AtomicU64, Ordering::*};
 use std::thread::{self, Scope};
 use std::time::Duration;
@@ -251,4 +251,38 @@ fn stress_of_seed_2() {
 #[test]
 fn stress_of_seed_3() {
     stress(3, 3_000);
+}
+
+/// Now and then one of those who meet sleeps before it comes, so that the others sleep too. What each wrote before a meeting is
+/// seen after it, and one leads.
+fn meet(seed: u64, threads: usize, rounds: u64) {
+    let (barrier, leaders, mut dice) = (Barrier::new(threads), AtomicU64::new(0), Dice(seed));
+    // A thread writes to two places by turns, since others may still read what it wrote last.
+    let written: Vec<_> = (0..threads).map(|_| [const { AtomicU64::new(0) }; 2]).collect();
+    let go_through = |own: &[AtomicU64; 2], mut dice: Dice| {
+        for round in 0..rounds {
+            if !is_calm(round) && dice.below(8) == 0 {
+                thread::sleep(dice.short_time());
+            }
+            let place = (round % 2) as usize;
+            own[place].store(round + 1, Relaxed);
+            leaders.fetch_add(u64::from(barrier.wait().is_leader()), Relaxed);
+            assert!(written.iter().all(|it| it[place].load(Relaxed) == round + 1));
+        }
+    };
+    let go_through = &go_through;
+    thread::scope(|scope| {
+        for own in &written {
+            let dice = Dice(dice.below(u64::MAX));
+            scope.spawn(move || go_through(own, dice));
+        }
+    });
+    assert_eq!(leaders.load(Relaxed), rounds);
+}
+
+#[test]
+fn threads_meet_that_come_late() {
+    for (seed, threads) in [(1, 2), (2, 3), (3, 4), (4, 5), (5, 16)] {
+        meet(seed, threads, 3_000);
+    }
 }

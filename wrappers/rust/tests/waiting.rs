@@ -1144,22 +1144,23 @@ macro_rules! barrier_tests {
                 assert!(leaders.iter().all(|leaders| leaders.load(Relaxed) == 1));
             }
 
-            /// More threads than the barrier is for: each wait takes the place of one.
+            /// More threads than the barrier is for: each wait takes the place of one. Of as many as have gone on there have
+            /// come whole generations, and each has one leader.
             fn crowd(size: u64, threads: usize, generations: u64) {
-                let barrier = Arc::new(Barrier::new(size as usize));
-                let (waits, leaders) = (Arc::new(AtomicU64::new(0)), Arc::new(AtomicU64::new(0)));
-                let crowd: Vec<_> = (0..threads)
-                    .map(|_| {
-                        let (barrier, waits, leaders) = (barrier.clone(), waits.clone(), leaders.clone());
-                        thread::spawn(move || {
-                            while waits.fetch_add(1, Relaxed) < size * generations {
-                                leaders.fetch_add(u64::from(barrier.wait().is_leader()), Relaxed);
-                            }
-                        })
-                    })
-                    .collect();
-                crowd.into_iter().for_each(joined);
-                assert_eq!(leaders.load(Relaxed), generations);
+                let barrier = Barrier::new(size as usize);
+                let [came, went, leaders] = [const { AtomicU64::new(0) }; 3];
+                thread::scope(|scope| {
+                    let meets = || {
+                        while came.fetch_add(1, Relaxed) < size * generations {
+                            let leads = barrier.wait().is_leader();
+                            let gone = went.fetch_add(1, AcqRel) + 1;
+                            assert!(came.load(Relaxed) >= gone.next_multiple_of(size));
+                            leaders.fetch_add(u64::from(leads), Relaxed);
+                        }
+                    };
+                    (0..threads).for_each(|_| drop(scope.spawn(meets)));
+                });
+                assert_eq!([&went, &leaders].map(|it| it.load(Relaxed)), [size * generations, generations]);
             }
 
             #[test]
@@ -1177,6 +1178,10 @@ macro_rules! barrier_tests {
             fn more_threads_than_it_is_for_meet() {
                 in_time(|| crowd(2, 6, 20_000));
                 in_time(|| crowd(3, 8, 10_000));
+                for size in [1, 2, 4, 7] {
+                    in_time(move || crowd(size, 2 * size as usize, 5_000));
+                    in_time(move || crowd(size, 2 * size as usize + 1, 5_000));
+                }
             }
 
             #[test]
