@@ -1,0 +1,15 @@
+//! Judges the events of phasers as they come. A `Judge` is handed the events of any number of phasers
+//! one after the other, as a runtime's log has them, and says of each whether it could happen there. It
+//! keeps no history: its memory is bounded by the phasers that are there and the tasks that are
+//! registered on them.
+#![tactic(auto)]
+
+mod calls;
+mod event;
+mod judged;
+mod names;
+mod refused;
+
+pub use event::{Named, NamedEvent};
+pub use judged::Judged;
+pub use refused::Refused;
