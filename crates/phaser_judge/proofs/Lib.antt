@@ -1,2 +1,4 @@
 pub mod Removing
 pub mod Telling
+pub mod Registering
+pub mod Moving

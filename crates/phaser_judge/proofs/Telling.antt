@@ -1,5 +1,5 @@
 -- What the phaser tells of an event: that it is done exactly where it is allowed.
-use Rattle.std.proofs.Common.{◌≡◌, ℕ, ◌+◌, Bool, true, false, ◌||◌, ◌&&◌, ◌==◌, not, cond, List, [], ◌∷◌, Option, Some, None, Result, Ok, Err, refl, ap, sym, ◌∙◌, subst, inl, inr, ℤ}
+use Rattle.std.proofs.Common.{◌≡◌, ◌≢◌, ℕ, ◌+◌, Bool, true, false, ◌||◌, ◌&&◌, ◌==◌, not, cond, List, [], ◌∷◌, Option, Some, None, Result, Ok, Err, refl, ap, sym, ◌∙◌, subst, inl, inr, ℤ}
 use Rattle.std.proofs.lemmas.Bool.{and_parts, or_parts, cases_Bool, false≢true, false_from_ne_true}
 use Rattle.std.proofs.lemmas.Bool.Decides.{Decides-int_eq}
 use Rattle.phase_modes.specs.Refusal.{first_refusal, are_met}
@@ -23,7 +23,14 @@ use Rattle.phase_model.proofs.SingleReplies.{pass_claims}
 use Rattle.phase_model.proofs.SingleRules.{claim_follows}
 use Rattle.phase_model.proofs.Claims.{done_is_claimed}
 use Rattle.phase_model.proofs.Proposers.{owes, single_waits, proposer_proposes}
+use Rattle.phase_modes.specs.declared.refusal.Refusal.{Refusal}
+use Rattle.phase_model.specs.declared.answer.Signalling.{Signalling}
+use Rattle.phase_model.specs.declared.answer.Signalling.TheVariants.{Signalled}
+use Rattle.phase_model.specs.declared.answer.Signalling.TheVariants as signallings
+use Rattle.phase_model.specs.declared.answer.Passing.{Passing}
+use Rattle.phase_model.specs.declared.answer.Passing.TheVariants.{Passed, Claimed, NotYet}
 use Rattle.phaser_judge.specs.declared.refused.Refused.{Refused}
+use Rattle.phaser_judge.specs.declared.refused.Refused.TheVariants.{SawOther, Memory}
 use Rattle.phaser_judge.specs.Judging.{call_of, by_rule, by_signal, by_pass, by_claim, by_look, told_by, told, left}
 
 -- a pass is of the task that was asked for
@@ -187,6 +194,50 @@ module _ (s : Story) where
 same_look_same : (x : Look ℤ) → same_look x x ≡ true
 same_look_same (Value v) = (Decides-int_eq v v).1 refl
 same_look_same Nothing = refl
+
+not_by_rule : (r : Result (Unit {0}) Refusal) → by_rule r ≡ Err Memory → ⊥
+not_by_rule (Ok u) k = cc
+not_by_rule (Err r) k = cc
+
+not_by_signal : (r : Result Signalling Refusal) → by_signal r ≡ Err Memory → ⊥
+not_by_signal (Ok Signalled) k = cc
+not_by_signal (Ok signallings.NotYet) k = cc
+not_by_signal (Err r) k = cc
+
+not_by_pass : (r : Result (Passing ℕ) Refusal) → by_pass r ≡ Err Memory → ⊥
+not_by_pass (Ok (Passed p)) k = cc
+not_by_pass (Ok (Claimed n)) k = cc
+not_by_pass (Ok NotYet) k = cc
+not_by_pass (Err r) k = cc
+
+not_by_claim : (r : Result (Passing ℕ) Refusal) → by_claim r ≡ Err Memory → ⊥
+not_by_claim (Ok (Passed p)) k = cc
+not_by_claim (Ok (Claimed n)) k = cc
+not_by_claim (Ok NotYet) k = cc
+not_by_claim (Err r) k = cc
+
+abbrev told_or : Bool → Look ℤ → Result (Unit {0}) Refused
+told_or b y = cond b (Ok tt) (Err (SawOther y))
+
+told_apart : (b : Bool) (y : Look ℤ) → told_or b y ≡ Err Memory → ⊥
+told_apart true y k = absurd cc
+told_apart false y k = absurd cc
+
+not_by_look : (x : Look ℤ) (r : Result (Look ℤ) Refusal) → by_look x r ≡ Err Memory → ⊥
+not_by_look x (Ok y) k = told_apart (same_look x y) y k
+not_by_look x (Err r) k = cc
+
+-- no reply tells that there is no memory
+pub never_memory : (s : Story) (e : Event) → told s e ≢ Err Memory
+never_memory s (Make t m) = not_by_rule (done_result (reply s (make t m)))
+never_memory s (Reg q t m) = not_by_rule (done_result (reply s (register q t m)))
+never_memory s (Sig t x) = not_by_signal (signal_result (reply s (signal t x)))
+never_memory s (Claim t) = not_by_claim (pass_result s.past (reply s (pass t)))
+never_memory s (Did t) = not_by_rule (done_result (reply s (single_done t)))
+never_memory s (Pass t) = not_by_pass (pass_result s.past (reply s (pass t)))
+never_memory s (Send t a v) = not_by_rule (done_result (reply s (send t a v)))
+never_memory s (Looked t a x) = not_by_look x (look_result (reply s (look t a)))
+never_memory s (Drop t) = not_by_rule (done_result (reply s (drop_task t)))
 
 -- the reply that is the event tells it
 tells : (h : List Event) (e : Event) → told_by h e (done e) ≡ Ok tt

@@ -108,11 +108,6 @@ abbrev pub by_look : Look ℤ → Result (Look ℤ) Refusal → Result (Unit {0}
 by_look x (Ok y) = if same_look x y then Ok tt else Err (SawOther y)
 by_look x (Err r) = Err (Rule r)
 
--- a result without its value
-abbrev pub without : {A : Type 0} → Result A Refused → Result (Unit {0}) Refused
-without (Ok x) = Ok tt
-without (Err r) = Err r
-
 -- what a reply to an event's call says of the event
 abbrev pub told_by : List Event → Event → Reply → Result (Unit {0}) Refused
 told_by h (Make t m) r = by_rule (done_result r)

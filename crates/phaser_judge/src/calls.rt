@@ -1,5 +1,5 @@
 //! What a phaser says of an event: the call that would make it is made, and its answer compared.
-ghost use Rattle.std.specs.Prelude.{◌≡◌, ◌+◌, Ok, Err, IfOk};
+ghost use Rattle.std.specs.Prelude.{◌≡◌, ◌≢◌, ◌+◌, Ok, Err, IfOk, IfErr};
 ghost use Rattle.phase_model.specs.declared.history.Event.TheVariants as event;
 ghost use Rattle.phase_model.specs.Replies.{reply, after};
 ghost use Rattle.phase_model.specs.Rules.{same_look};
@@ -84,16 +84,14 @@ pub(crate) fn register(
     phaser: &mut LongPhaser,
     parent: LongTask,
     mode: Mode,
-) -> Result<LongTask, Refused>
-    ensures told { judging.without result ≡ told phaser.old.story (event.Reg parent phaser.old.next mode) }
+) -> Result<LongTask, Refusal>
+    ensures told { IfOk result (λ _. told phaser.old.story (event.Reg parent phaser.old.next mode) ≡ Ok tt) }
+    ensures refused { IfErr result (λ r. told phaser.old.story (event.Reg parent phaser.old.next mode) ≡ Err (Refused.Rule r)) }
     ensures number { IfOk result (λ t. t ≡ phaser.old.next) }
     ensures story { phaser.new.story ≡ left phaser.old.story (event.Reg parent phaser.old.next mode) }
     ensures next { IfOk result (λ t. phaser.new.next ≡ t + 1) }
 {
-    match phaser.register(parent, mode) {
-        Ok(child) => Ok(child),
-        Err(refusal) => Err(Refused::Rule(refusal)),
-    }
+    phaser.register(parent, mode)
 }
 
 /// A signal.
@@ -173,12 +171,14 @@ pub(crate) fn leave(phaser: &mut LongPhaser, task: LongTask) -> Result<(), Refus
     by_rule(phaser.leave(task))
 }
 
+#[tactic(auto, using(crate::proofs::Telling::never_memory))]
 /// Any event but the first and a registration.
 pub(crate) fn tell(phaser: &mut LongPhaser, event: LongEvent) -> Result<(), Refused>
     requires { IsOfTask event }
     ensures told { result ≡ told phaser.old.story (event_of event) }
     ensures story { phaser.new.story ≡ left phaser.old.story (event_of event) }
     ensures next { phaser.new.next ≡ phaser.old.next }
+    ensures not_memory { result ≢ Err Refused.Memory }
 {
     match event {
         LongEvent::Make(..) | LongEvent::Reg(..) => unreachable!(),

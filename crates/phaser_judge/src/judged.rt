@@ -1,5 +1,8 @@
 //! One phaser, judged.
 ghost use Rattle.std.specs.Prelude.{◌≡◌, ◌≢◌, Ok, Err, Some, None, true, false, IfOk, IfErr};
+ghost use Rattle.phase_modes.specs.declared.reg.Mode.{Mode};
+ghost use Rattle.phase_modes.specs.Lists.{is_empty};
+ghost use Rattle.phase_model.specs.declared.history.Event.TheVariants as event;
 ghost use Rattle.told_history.specs.Wide.{event_of};
 ghost use Rattle.phaser_judge.specs.declared.event.Named.TheVariants as named;
 ghost use Rattle.phase_model.specs.Rules.{is_legal};
@@ -83,6 +86,7 @@ impl Judged {
         requires { IsNoRegistration event.now }
         ensures named { IfOk result (λ e. renamed_event self.now event.now ≡ Ok (event_of e)) }
         ensures of_task { IfOk result IsOfTask }
+        ensures not_memory { IfErr result (λ r. r ≢ Refused.Memory) }
         ensures nameless { IfErr result (λ r. renamed_event self.now event.now ≡ Err r) }
     {
         match *event {
@@ -109,8 +113,81 @@ impl Judged {
         ensures story { self.new.story ≡ left_by self.old.story (renamed_event self.old event.now) }
         ensures names { self.new.names ≡ self.old.names }
         ensures next { self.new.next ≡ self.old.next }
+        ensures not_memory { result ≢ Err Refused.Memory }
     {
         let event = self.renamed(event)?;
         calls::tell(&mut self.phaser, event)
+    }
+
+    /// The phaser's number of a parent that may register this child.
+    fn parent(&self, parent: u64, child: u64) -> Result<LongTask, Refused>
+        ensures named { IfOk result (λ n. (m : Mode) → renamed_event self.now (named.Reg parent child m) ≡ Ok (event.Reg n self.now.next m)) }
+        ensures nameless { IfErr result (λ r. (m : Mode) → renamed_event self.now (named.Reg parent child m) ≡ Err r) }
+        ensures not_memory { IfErr result (λ r. r ≢ Refused.Memory) }
+    {
+        if self.names.number_of(child).is_some() {
+            return Err(Refused::RegisteredAlready);
+        }
+        self.number(parent)
+    }
+
+    /// A registration.
+    fn register(&mut self, parent: u64, child: u64, mode: Mode) -> Result<(), Refused>
+        ensures told { result ≢ Err Refused.Memory → result ≡ verdict self.old (named.Reg parent child mode) }
+        ensures memory { result ≡ Err Refused.Memory → self.new ≡ self.old }
+        ensures story { IfOk result (λ _. self.new.story ≡ left_by self.old.story (renamed_event self.old (named.Reg parent child mode))) }
+        ensures names { IfOk result (λ _. self.new.names ≡ names_after self.old (named.Reg parent child mode)) }
+        ensures next { IfOk result (λ _. self.new.next ≡ next_after self.old.next (named.Reg parent child mode)) }
+    {
+        let parent = self.parent(parent, child)?;
+        if self.names.reserve().is_err() {
+            return Err(Refused::Memory);
+        }
+        match calls::register(&mut self.phaser, parent, mode) {
+            Ok(number) => {
+                self.names.push(child, number);
+                Ok(())
+            }
+            Err(refusal) => Err(Refused::Rule(refusal)),
+        }
+    }
+
+    /// Whether no task is left.
+    pub fn is_empty(&self) -> bool
+        ensures { result ≡ is_empty self.now.names }
+    {
+        self.names.is_empty()
+    }
+
+    /// What an event is told, before its consequences for the names.
+    fn step(&mut self, event: &Named) -> Result<(), Refused>
+        ensures told { result ≢ Err Refused.Memory → result ≡ verdict self.old event.now }
+        ensures memory { result ≡ Err Refused.Memory → self.new ≡ self.old }
+        ensures story { IfOk result (λ _. self.new.story ≡ left_by self.old.story (renamed_event self.old event.now)) }
+        ensures names { IfOk result (λ _. self.new.names ≡ names_after self.old event.now) }
+        ensures next { IfOk result (λ _. self.new.next ≡ next_after self.old.next event.now) }
+    {
+        match *event {
+            Named::Reg(parent, child, mode) => self.register(parent, child, mode),
+            Named::Drop(task) => {
+                self.act(event)?;
+                self.names.remove(task);
+                Ok(())
+            }
+            _ => self.act(event),
+        }
+    }
+
+    /// Judges one event more. Nothing is known of what the phaser is after a refusal that isn't `Memory`.
+    pub fn event(&mut self, event: &Named) -> Result<(), Refused>
+        ensures accepted { IfOk result (λ _. can_happen self.old event.now ≡ true) }
+        ensures refused { IfErr result (λ r. r ≢ Refused.Memory → can_happen self.old event.now ≡ false) }
+        ensures moved { IfOk result (λ _. self.new ≡ moved self.old event.now) }
+        ensures reason { result ≢ Err Refused.Memory → result ≡ verdict self.old event.now }
+        ensures memory { result ≡ Err Refused.Memory → self.new ≡ self.old }
+    {
+        // The story so far is legal.
+        let _ = self.phaser.history();
+        self.step(event)
     }
 }
