@@ -8,6 +8,7 @@ mod calls;
 mod event;
 mod judged;
 mod names;
+mod phasers;
 mod refused;
 
 pub use event::{Named, NamedEvent};
