@@ -1,2 +1,3 @@
 pub mod Judging
 pub mod Standings
+pub mod Courses

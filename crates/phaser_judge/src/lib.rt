@@ -6,11 +6,15 @@
 
 mod calls;
 mod event;
+mod judge;
 mod judged;
 mod names;
 mod phasers;
 mod refused;
+mod totals;
 
 pub use event::{Named, NamedEvent};
+pub use judge::Judge;
 pub use judged::Judged;
 pub use refused::Refused;
+pub use totals::Totals;
