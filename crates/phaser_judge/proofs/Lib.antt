@@ -2,3 +2,4 @@ pub mod Removing
 pub mod Telling
 pub mod Registering
 pub mod Moving
+pub mod Lives

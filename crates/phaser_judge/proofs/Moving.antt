@@ -31,7 +31,7 @@ pub fails : (s : Standing) (e : Named) (r : Refused) → is_legal s.story.limits
 fails s e r k l = told_fails s.story (renamed_event s e) r k (sym l)
 
 -- a standing is its three parts
-same_standing : (t : Standing) (story : Story) (names : List (ℕ × ℕ)) (next : ℕ) → t.story ≡ story → t.names ≡ names
+pub same_standing : (t : Standing) (story : Story) (names : List (ℕ × ℕ)) (next : ℕ) → t.story ≡ story → t.names ≡ names
     → t.next ≡ next → t ≡ record { story = story; names = names; next = next }
 same_standing t story names next a b d =
     ap (λ (x : Story). record { story = x; names = t.names; next = t.next }) a

@@ -1,5 +1,5 @@
 -- What a judge has accepted, and what it counts of it.
-use Rattle.std.specs.Prelude.{ℕ, ◌≡◌, ◌+◌, min, Bool, false, List, [], ◌∷◌}
+use Rattle.std.specs.Prelude.{ℕ, ◌≡◌, ◌+◌, min, Bool, true, false, List, [], ◌∷◌}
 use Rattle.std.specs.BTreeMap.{BTreeMap}
 use Rattle.phaser_judge.specs.declared.event.Named.{Named}
 use Rattle.phaser_judge.specs.declared.event.Named.TheVariants as named
@@ -7,6 +7,7 @@ use Rattle.phaser_judge.specs.declared.event.NamedEvent.{NamedEvent}
 use Rattle.phaser_judge.specs.declared.totals.Totals.{Totals}
 use Rattle.phaser_judge.specs.Judging.{Standing}
 use Rattle.phaser_judge.specs.Standings.{at, standing}
+use Rattle.phaser_judge.specs.Renaming.{all_come}
 
 -- the events that a judge has accepted, the newest first, and whether it has refused one since
 pub record Course : Type 0 where
@@ -53,3 +54,4 @@ totals_of (e ∷ es) = counted (totals_of es) e.event
 pub record IsKept (phasers : BTreeMap ℕ Standing) (counts : Totals) (over : Bool) (events : List NamedEvent) : Type 0 where
   pub standings : over ≡ false → (p : ℕ) → at phasers p ≡ standing p events
   pub totals : counts ≡ totals_of events
+  pub come : all_come events ≡ true

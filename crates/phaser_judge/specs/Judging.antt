@@ -40,20 +40,25 @@ number_of names t = lookup (nat_eq t) names
 abbrev pub by_number : List (ℕ × ℕ) → ℕ → (ℕ → Event) → Result Event Refused
 by_number names t event = option_map_or (λ n. Ok (event n)) (number_of names t) (Err NotRegistered)
 
--- the event with the story's numbers, or why it has none
-abbrev pub renamed_event : Standing → Named → Result Event Refused
-renamed_event s (named.Make t m ops b) = Err MadeAlready
-renamed_event s (named.Reg q t m) =
-    if is_some (number_of s.names t)
+-- the event with the story's numbers, or why it has none: these tasks are registered, and n is the number that comes
+-- next
+abbrev pub numbered : List (ℕ × ℕ) → ℕ → Named → Result Event Refused
+numbered names n (named.Make t m ops b) = Err MadeAlready
+numbered names n (named.Reg q t m) =
+    if is_some (number_of names t)
     then Err RegisteredAlready
-    else by_number s.names q (λ n. Reg n s.next m)
-renamed_event s (named.Sig t x) = by_number s.names t (λ n. Sig n x)
-renamed_event s (named.Claim t) = by_number s.names t (λ n. Claim n)
-renamed_event s (named.Did t) = by_number s.names t (λ n. Did n)
-renamed_event s (named.Pass t) = by_number s.names t (λ n. Pass n)
-renamed_event s (named.Send t a v) = by_number s.names t (λ n. Send n a v)
-renamed_event s (named.Look t a x) = by_number s.names t (λ n. Looked n a x)
-renamed_event s (named.Drop t) = by_number s.names t (λ n. Drop n)
+    else by_number names q (λ k. Reg k n m)
+numbered names n (named.Sig t x) = by_number names t (λ k. Sig k x)
+numbered names n (named.Claim t) = by_number names t (λ k. Claim k)
+numbered names n (named.Did t) = by_number names t (λ k. Did k)
+numbered names n (named.Pass t) = by_number names t (λ k. Pass k)
+numbered names n (named.Send t a v) = by_number names t (λ k. Send k a v)
+numbered names n (named.Look t a x) = by_number names t (λ k. Looked k a x)
+numbered names n (named.Drop t) = by_number names t (λ k. Drop k)
+
+-- the same where the phaser stands so
+abbrev pub renamed_event : Standing → Named → Result Event Refused
+renamed_event s e = numbered s.names s.next e
 
 -- the event registers no child
 abbrev pub IsNoRegistration : Named → Type 0
@@ -157,10 +162,14 @@ story_with s (Ok e) = with_event s e
 story_with s (Err r) = s
 
 -- the tasks after the event
+abbrev pub names_with : List (ℕ × ℕ) → ℕ → Named → List (ℕ × ℕ)
+names_with names n (named.Reg q t m) = names ++ (t, n) ∷ []
+names_with names n (named.Drop t) = remove_entry (nat_eq t) names
+names_with names n _ = names
+
+-- the same where the phaser stands so
 abbrev pub names_after : Standing → Named → List (ℕ × ℕ)
-names_after s (named.Reg q t m) = s.names ++ (t, s.next) ∷ []
-names_after s (named.Drop t) = remove_entry (nat_eq t) s.names
-names_after s _ = s.names
+names_after s e = names_with s.names s.next e
 
 -- the number that comes next after the event
 abbrev pub next_after : ℕ → Named → ℕ

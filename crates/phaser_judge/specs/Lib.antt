@@ -1,3 +1,4 @@
 pub mod Judging
 pub mod Standings
 pub mod Courses
+pub mod Renaming

@@ -2,6 +2,7 @@
 ghost use Rattle.std.specs.Prelude.{◌≡◌, ◌≢◌, [], ◌∷◌, Ok, Err, true, false, IfOk, IfErr};
 ghost use Rattle.phaser_judge.specs.Standings.{standing, may_come, verdict_at};
 ghost use Rattle.phaser_judge.specs.Courses.{totals_of};
+ghost use Rattle.phaser_judge.specs.Renaming.{AreLegal};
 
 use crate::event::NamedEvent;
 use crate::phasers::Phasers;
@@ -49,6 +50,7 @@ impl Judge {
 
     /// Judges one event more: `Ok` if it can happen after those before it. `Memory` leaves the judge as it
     /// was. After any other refusal the judge is over, and refuses every event with `Over`.
+    #[tactic(auto, using(crate::proofs::Lives::come_legal))]
     pub fn event(&mut self, event: &NamedEvent) -> Result<(), Refused>
         ensures accepted { IfOk result (λ _. may_come (standing event.now.phaser self.old.events) event.now.event ≡ true) }
         ensures added { IfOk result (λ _. self.new ≡ record { events = event.now ∷ self.old.events; over = self.old.over }) }
@@ -59,6 +61,7 @@ impl Judge {
         ensures ended { IfErr result (λ r. r ≢ Refused.Memory → self.new ≡ record { events = self.old.events; over = true }) }
         ensures over { self.old.over ≡ true → result ≡ Err Refused.Over }
         ensures memory { result ≡ Err Refused.Memory → self.new ≡ self.old }
+        ensures legal { AreLegal self.new.events }
     {
         if self.over {
             return Err(Refused::Over);

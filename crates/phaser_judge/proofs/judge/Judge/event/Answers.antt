@@ -1,0 +1,11 @@
+use Rattle.std.proofs.Common.{◌≡◌, true, subst}
+use Rattle.phaser_judge.specs.Standings.{may_come}
+use Rattle.phaser_judge.proofs.Lives.{next_legal}
+use Rattle.phaser_judge.proofs.judge.Judge.event.Goals as goal
+
+pub returns-in-Ok-clause-legal : goal.returns-in-Ok-clause-legal
+returns-in-Ok-clause-legal c =
+    let e = c.args.event.now in
+    next_legal c.self.inside.accepted.items c.add.new.self.items e c.self.invariant.come
+    (subst (λ o. may_come o e.event ≡ true) (c.self.invariant.standings c.if-self.false e.phaser)
+    c.in-Ok.ensures.accepted) c.add.ensures.1
