@@ -20,3 +20,6 @@ pub use judged::Judged;
 pub use laws::accepted_are_legal;
 pub use refused::Refused;
 pub use totals::Totals;
+
+#[cfg(test)]
+mod tests;

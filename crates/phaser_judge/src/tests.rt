@@ -1,0 +1,211 @@
+//! Runs that were worked out by hand, event by event.
+use crate::{Judge, Named, NamedEvent, Refused, Totals};
+use phase_model::{Bound, LongLook, Look, Op, Ops};
+use phase_modes::{Mode, Refusal};
+use std::process::Abort;
+use std::test::Fail;
+
+/// Hands the judge an event of phaser 7.
+fn say(judge: &mut Judge, event: Named) -> Result<(), Refused> {
+    judge.event(&NamedEvent { phaser: 7, event })
+}
+
+/// The judge accepts these events of phaser 7.
+fn accepts(rt: &impl Abort, judge: &mut Judge, events: &[Named]) {
+    for event in events {
+        assert_eq!(rt; say(judge, *event), Ok(()));
+    }
+}
+
+/// Task 100 makes phaser 7 without accumulators, and registers task 200. Both have this mode.
+fn two(rt: &impl Abort, judge: &mut Judge, mode: Mode) {
+    accepts(rt, judge, &[Named::Make(100, mode, Ops::none(), None), Named::Reg(100, 200, mode)]);
+}
+
+fn summing() -> Ops {
+    let mut ops = Ops::none();
+    ops.push(Op::Sum);
+    ops
+}
+
+fn saw(sum: i128) -> LongLook {
+    Look::Value(sum)
+}
+
+#[test]
+fn a_barrier_and_an_early_pass(rt: HostRuntime) {
+    let mut judge = Judge::new(rt.alloc());
+    two(&rt, &mut judge, Mode::SigWait);
+    accepts(&rt, &mut judge, &[
+        Named::Sig(100, None),
+        Named::Sig(200, None),
+        Named::Pass(100),
+        Named::Pass(200),
+        Named::Sig(200, None),
+    ]);
+    // Task 100 has not signalled phase 1.
+    assert_eq!(rt; say(&mut judge, Named::Pass(200)), Err(Refused::HadToWait));
+    assert!(rt; judge.is_over());
+    assert_eq!(rt; say(&mut judge, Named::Sig(100, None)), Err(Refused::Over));
+    let totals = Totals {
+        events: 7,
+        made: 1,
+        registrations: 2,
+        passes: 2,
+    };
+    assert_eq!(rt; judge.totals(), totals);
+}
+
+#[test]
+fn rules(rt: HostRuntime) {
+    let mut judge = Judge::new(rt.alloc());
+    two(&rt, &mut judge, Mode::SigWait);
+    let refused = Err(Refused::Rule(Refusal::NotSignalled));
+    assert_eq!(rt; say(&mut judge, Named::Pass(200)), refused);
+
+    let mut judge = Judge::new(rt.alloc());
+    two(&rt, &mut judge, Mode::Sig);
+    let refused = Err(Refused::Rule(Refusal::MoreThanParent));
+    assert_eq!(rt; say(&mut judge, Named::Reg(100, 300, Mode::SigWait)), refused);
+}
+
+#[test]
+fn a_sum(rt: HostRuntime) {
+    let mut judge = Judge::new(rt.alloc());
+    accepts(&rt, &mut judge, &[
+        Named::Make(1, Mode::SigWait, summing(), None),
+        Named::Reg(1, 2, Mode::SigWait),
+        Named::Send(1, 0, 5),
+        Named::Send(2, 0, -8),
+        Named::Sig(1, None),
+        Named::Sig(2, None),
+        Named::Pass(1),
+        Named::Look(1, 0, saw(-3)),
+        Named::Pass(2),
+    ]);
+    let refused = Err(Refused::SawOther(saw(-3)));
+    assert_eq!(rt; say(&mut judge, Named::Look(2, 0, saw(13))), refused);
+}
+
+#[test]
+fn a_single(rt: HostRuntime) {
+    let mut judge = Judge::new(rt.alloc());
+    two(&rt, &mut judge, Mode::Single);
+    accepts(&rt, &mut judge, &[
+        Named::Sig(100, Some(9)),
+        Named::Sig(200, Some(9)),
+        Named::Claim(200),
+        Named::Did(200),
+        Named::Pass(100),
+        Named::Pass(200),
+        Named::Sig(100, None),
+        Named::Sig(200, None),
+    ]);
+    assert_eq!(rt; say(&mut judge, Named::Claim(100)), Err(Refused::PassesInstead));
+
+    let mut judge = Judge::new(rt.alloc());
+    two(&rt, &mut judge, Mode::Single);
+    accepts(&rt, &mut judge, &[Named::Sig(100, Some(9)), Named::Sig(200, Some(9))]);
+    assert_eq!(rt; say(&mut judge, Named::Pass(100)), Err(Refused::ClaimsInstead));
+
+    let mut judge = Judge::new(rt.alloc());
+    two(&rt, &mut judge, Mode::Single);
+    accepts(&rt, &mut judge, &[
+        Named::Sig(100, Some(9)),
+        Named::Sig(200, Some(9)),
+        Named::Claim(200),
+    ]);
+    assert_eq!(rt; say(&mut judge, Named::Pass(100)), Err(Refused::HadToWait));
+}
+
+#[test]
+fn numbers_used_again(rt: HostRuntime) {
+    let mut judge = Judge::new(rt.alloc());
+    two(&rt, &mut judge, Mode::SigWait);
+    accepts(&rt, &mut judge, &[
+        Named::Sig(100, None),
+        Named::Drop(200),
+        Named::Pass(100),
+        Named::Reg(100, 200, Mode::SigWait),
+        Named::Sig(200, None),
+        Named::Drop(100),
+        Named::Pass(200),
+        Named::Drop(200),
+        // Nobody is left, so the phaser's number is free.
+        Named::Make(200, Mode::Sig, Ops::none(), None),
+        Named::Sig(200, None),
+    ]);
+    assert_eq!(rt; say(&mut judge, Named::Sig(100, None)), Err(Refused::NotRegistered));
+}
+
+#[test]
+fn who_is_there(rt: HostRuntime) {
+    let make = Named::Make(100, Mode::SigWait, Ops::none(), None);
+    let mut judge = Judge::new(rt.alloc());
+    assert_eq!(rt; say(&mut judge, Named::Sig(100, None)), Err(Refused::NotMade));
+
+    let mut judge = Judge::new(rt.alloc());
+    accepts(&rt, &mut judge, &[make, Named::Drop(100)]);
+    assert_eq!(rt; say(&mut judge, Named::Drop(100)), Err(Refused::NotMade));
+
+    let mut judge = Judge::new(rt.alloc());
+    accepts(&rt, &mut judge, &[make]);
+    // Another phaser has its own tasks.
+    let other = NamedEvent {
+        phaser: 8,
+        event: make,
+    };
+    assert_eq!(rt; judge.event(&other), Ok(()));
+    assert_eq!(rt; judge.event(&other), Err(Refused::MadeAlready));
+
+    let mut judge = Judge::new(rt.alloc());
+    two(&rt, &mut judge, Mode::SigWait);
+    let again = Named::Reg(100, 200, Mode::Sig);
+    assert_eq!(rt; say(&mut judge, again), Err(Refused::RegisteredAlready));
+}
+
+#[test]
+fn a_bound(rt: HostRuntime) -> Result<(), Fail> {
+    let bound = Bound::of(2).ok_or("no bound")?;
+    let mut judge = Judge::new(rt.alloc());
+    accepts(&rt, &mut judge, &[
+        Named::Make(1, Mode::SigWait, Ops::none(), Some(bound)),
+        Named::Reg(1, 2, Mode::Sig),
+        Named::Sig(2, None),
+        Named::Pass(2),
+        Named::Sig(2, None),
+        Named::Pass(2),
+    ]);
+    // Task 1 has passed no phase, and phase 2 is two further.
+    assert_eq!(rt; say(&mut judge, Named::Sig(2, None)), Err(Refused::HadToWait));
+    Ok(())
+}
+
+#[test]
+fn no_bound(rt: HostRuntime) {
+    let mut judge = Judge::new(rt.alloc());
+    accepts(&rt, &mut judge, &[
+        Named::Make(1, Mode::SigWait, summing(), None),
+        Named::Reg(1, 2, Mode::Sig),
+    ]);
+    for _ in 0..65_536 {
+        accepts(&rt, &mut judge, &[Named::Sig(2, None), Named::Pass(2)]);
+    }
+    assert_eq!(rt; say(&mut judge, Named::Sig(2, None)), Err(Refused::HadToWait));
+}
+
+#[test]
+fn a_million_events(rt: HostRuntime) {
+    let mut judge = Judge::new(rt.alloc());
+    two(&rt, &mut judge, Mode::SigWait);
+    for _ in 0..250_000 {
+        accepts(&rt, &mut judge, &[
+            Named::Sig(100, None),
+            Named::Sig(200, None),
+            Named::Pass(200),
+            Named::Pass(100),
+        ]);
+    }
+    assert_eq!(rt; judge.totals().events, 1_000_002);
+    assert_eq!(rt; say(&mut judge, Named::Pass(100)), Err(Refused::Rule(Refusal::NotSignalled)));
+}
