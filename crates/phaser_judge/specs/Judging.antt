@@ -1,5 +1,5 @@
 -- What an event of a runtime is on the phaser, and whether it may follow there.
-use Rattle.std.specs.Prelude.{ℕ, ◌≡◌, ◌+◌, Bool, true, false, if◌then◌else◌, List, [], ◌∷◌, ◌++◌, nat_eq, Option, Some, None, is_some, unwrap_or, Result, Ok, Err, ℤ}
+use Rattle.std.specs.Prelude.{ℕ, ◌≡◌, ◌+◌, max, Bool, true, false, if◌then◌else◌, List, [], ◌∷◌, ◌++◌, nat_eq, Option, Some, None, is_some, unwrap_or, Result, Ok, Err, ℤ}
 use Rattle.std.specs.Option.{option_map_or}
 use Rattle.std.specs.Map.{lookup, remove_entry}
 use Rattle.phase_modes.specs.declared.reg.Mode.{Mode}
@@ -17,6 +17,7 @@ use Rattle.phase_model.specs.declared.call.Call.{Call}
 use Rattle.phase_model.specs.declared.call.Call.TheVariants.{Make as make, Register as register, Signal as signal, Pass as pass, SingleDone as single_done, Send as send, Look as look, Drop as drop_task}
 use Rattle.phase_model.specs.Rules.{Story, with_event, is_allowed, same_look}
 use Rattle.phase_model.specs.Replies.{Reply, reply, after, done_result}
+use Rattle.phase_model.specs.Registration.{registration}
 use Rattle.phase_model.specs.Answers.{signal_result, pass_result, look_result}
 use Rattle.told_history.specs.declared.wide.LongEvent.{LongEvent}
 use Rattle.told_history.specs.declared.wide.LongEvent.TheVariants as longs
@@ -195,3 +196,12 @@ started t m ops b = record {
   names = (t, 0) ∷ [];
   next = 1;
 }
+
+-- how many turns the task has ended, if it is registered
+abbrev pub turns_of : List Event → ℕ → ℕ
+turns_of h n = option_map_or (λ r. r.phase) (registration n h) 0
+
+-- the first phase that none of these tasks has passed
+abbrev pub first_phase : List Event → List (ℕ × ℕ) → ℕ
+first_phase h [] = 0
+first_phase h (p ∷ names) = max (turns_of h p.1) (first_phase h names)

@@ -1,5 +1,7 @@
 //! The judge of many phasers.
 ghost use Rattle.std.specs.Prelude.{◌≡◌, ◌≢◌, [], ◌∷◌, Ok, Err, true, false, IfOk, IfErr};
+ghost use Rattle.std.specs.Option.{option_map};
+ghost use Rattle.phaser_judge.specs.Judging.{first_phase};
 ghost use Rattle.phaser_judge.specs.Standings.{standing, may_come, verdict_at};
 ghost use Rattle.phaser_judge.specs.Courses.{totals_of};
 ghost use Rattle.phaser_judge.specs.Renaming.{AreLegal};
@@ -8,6 +10,7 @@ use crate::event::NamedEvent;
 use crate::phasers::Phasers;
 use crate::refused::Refused;
 use crate::totals::Totals;
+use phaser_core::Phase;
 use std::alloc::Global;
 use std::marker::Model;
 use told_history::Whole;
@@ -92,5 +95,14 @@ impl Judge {
         ensures { result ≡ totals_of self.now.events }
     {
         self.totals
+    }
+
+    /// The first phase that none of the phaser's tasks has passed, if the phaser is there.
+    pub fn phase(&self, phaser: u64) -> Option<Phase>
+        ensures { self.now.over ≡ false
+            → result ≡ option_map (λ s. first_phase s.story.past s.names) (standing phaser self.now.events) }
+    {
+        let _ = self.over;
+        self.phasers.phase(phaser)
     }
 }

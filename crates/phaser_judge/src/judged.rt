@@ -6,7 +6,7 @@ ghost use Rattle.phase_model.specs.declared.history.Event.TheVariants as event;
 ghost use Rattle.told_history.specs.Wide.{event_of};
 ghost use Rattle.phaser_judge.specs.declared.event.Named.TheVariants as named;
 ghost use Rattle.phase_model.specs.Rules.{is_legal};
-ghost use Rattle.phaser_judge.specs.Judging.{started, IsNoRegistration, IsOfTask, verdict, can_happen, moved, number_of, renamed_event, left_by, names_after, next_after};
+ghost use Rattle.phaser_judge.specs.Judging.{started, IsNoRegistration, IsOfTask, verdict, can_happen, moved, number_of, renamed_event, left_by, names_after, next_after, first_phase};
 
 use crate::calls;
 use crate::event::Named;
@@ -14,7 +14,7 @@ use crate::names::Names;
 use crate::refused::Refused;
 use phase_model::{Bound, Ops};
 use phase_modes::Mode;
-use phaser_core::{LongPhaser, LongTask};
+use phaser_core::{LongPhaser, LongTask, Phase};
 use std::alloc::Global;
 use std::marker::Model;
 use told_history::LongEvent;
@@ -189,5 +189,18 @@ impl Judged {
         // The story so far is legal.
         let _ = self.phaser.history();
         self.step(event)
+    }
+
+    /// The first phase that none of its tasks has passed.
+    pub fn phase(&self) -> Phase
+        ensures { result ≡ first_phase self.now.story.past self.now.names }
+    {
+        let mut phase = 0;
+        for (_, number) in &self.names.tasks {
+            if let Some(reg) = self.phaser.registration(*number) {
+                phase = reg.phase.max(phase);
+            }
+        }
+        phase
     }
 }

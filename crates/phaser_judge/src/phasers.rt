@@ -3,7 +3,7 @@ ghost use Rattle.std.specs.Prelude.{◌≡◌, ◌≢◌, ℕ, Err, Some, None, 
 ghost use Rattle.std.specs.Option.{option_map, option_map_or};
 ghost use Rattle.phase_modes.specs.Lists.{is_empty};
 ghost use Rattle.phaser_judge.specs.declared.event.Named.TheVariants as named;
-ghost use Rattle.phaser_judge.specs.Judging.{started, moved, verdict};
+ghost use Rattle.phaser_judge.specs.Judging.{started, moved, first_phase};
 ghost use Rattle.phaser_judge.specs.Standings.{at, may_come, stands_after, verdict_at, if_there, IsNoMaking};
 
 use crate::event::Named;
@@ -11,6 +11,7 @@ use crate::judged::Judged;
 use crate::refused::Refused;
 use phase_model::{Bound, Ops};
 use phase_modes::Mode;
+use phaser_core::Phase;
 use std::alloc::Global;
 use std::collections::BTreeMap;
 
@@ -109,6 +110,16 @@ impl Phasers {
         match *event {
             Named::Make(task, mode, ops, bound) => self.make(alloc, phaser, task, mode, ops, bound),
             _ => self.go_on(phaser, event),
+        }
+    }
+
+    /// The first phase that none of the phaser's tasks has passed, if it is there.
+    pub(crate) fn phase(&self, phaser: u64) -> Option<Phase>
+        ensures { result ≡ option_map (λ s. first_phase s.story.past s.names) (at self.now.phasers phaser) }
+    {
+        match self.phasers.get(&phaser) {
+            Some(judged) => Some(judged.phase()),
+            None => None,
         }
     }
 }

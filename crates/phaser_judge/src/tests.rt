@@ -22,6 +22,11 @@ fn two(rt: &impl Abort, judge: &mut Judge, mode: Mode) {
     accepts(rt, judge, &[Named::Make(100, mode, Ops::none(), None), Named::Reg(100, 200, mode)]);
 }
 
+/// Task 100 makes a phaser.
+fn made() -> Named {
+    Named::Make(100, Mode::SigWait, Ops::none(), None)
+}
+
 fn summing() -> Ops {
     let mut ops = Ops::none();
     ops.push(Op::Sum);
@@ -140,20 +145,19 @@ fn numbers_used_again(rt: HostRuntime) {
 
 #[test]
 fn who_is_there(rt: HostRuntime) {
-    let make = Named::Make(100, Mode::SigWait, Ops::none(), None);
     let mut judge = Judge::new(rt.alloc());
     assert_eq!(rt; say(&mut judge, Named::Sig(100, None)), Err(Refused::NotMade));
 
     let mut judge = Judge::new(rt.alloc());
-    accepts(&rt, &mut judge, &[make, Named::Drop(100)]);
+    accepts(&rt, &mut judge, &[made(), Named::Drop(100)]);
     assert_eq!(rt; say(&mut judge, Named::Drop(100)), Err(Refused::NotMade));
 
     let mut judge = Judge::new(rt.alloc());
-    accepts(&rt, &mut judge, &[make]);
+    accepts(&rt, &mut judge, &[made()]);
     // Another phaser has its own tasks.
     let other = NamedEvent {
         phaser: 8,
-        event: make,
+        event: made(),
     };
     assert_eq!(rt; judge.event(&other), Ok(()));
     assert_eq!(rt; judge.event(&other), Err(Refused::MadeAlready));
