@@ -1,6 +1,8 @@
 -- How the phasers stand after the events of a runtime, and which event may come next.
-use Rattle.std.specs.Prelude.{ℕ, ◌≡◌, ◌≢◌, Bool, true, false, ◌==◌, if◌then◌else◌, List, [], ◌∷◌, Option, Some, None, Result, Ok, Err}
-use Rattle.std.specs.Ordering.{nat_cmp}
+use Rattle.std.specs.Prelude.{ℕ, ◌≡◌, ◌≢◌, Bool, true, false, ◌==◌, if◌then◌else◌, List, [], ◌∷◌, length, Option, Some, None, is_some, Result, Ok, Err}
+use Rattle.std.specs.Ordering.{nat_cmp, eq_by_cmp}
+use Rattle.std.specs.List.{list_any}
+use Rattle.std.specs.List.Sorted.{IsStrictlySortedBy}
 use Rattle.std.specs.BTreeMap.{BTreeMap, get}
 use Rattle.phase_modes.specs.Lists.{is_empty}
 use Rattle.phaser_judge.specs.declared.event.Named.{Named}
@@ -46,3 +48,10 @@ at m p = get nat_cmp m p
 abbrev pub IsNoMaking : Named → Type 0
 IsNoMaking (named.Make t m ops b) = ⊥
 IsNoMaking _ = Unit {0}
+
+-- there are so many phasers: those of these numbers, which rise
+pub record AreThere (stands : ℕ → Option Standing) (count : ℕ) : Type 0 where
+  pub numbers : List ℕ
+  pub rising : IsStrictlySortedBy nat_cmp numbers
+  pub each : (p : ℕ) → is_some (stands p) ≡ list_any (eq_by_cmp nat_cmp p) numbers
+  pub count_is : count ≡ length numbers

@@ -2,7 +2,7 @@
 ghost use Rattle.std.specs.Prelude.{◌≡◌, ◌≢◌, [], ◌∷◌, Ok, Err, true, false, IfOk, IfErr};
 ghost use Rattle.std.specs.Option.{option_map};
 ghost use Rattle.phaser_judge.specs.Judging.{first_phase};
-ghost use Rattle.phaser_judge.specs.Standings.{standing, may_come, verdict_at};
+ghost use Rattle.phaser_judge.specs.Standings.{standing, AreThere, may_come, verdict_at};
 ghost use Rattle.phaser_judge.specs.Courses.{totals_of};
 ghost use Rattle.phaser_judge.specs.Renaming.{AreLegal};
 
@@ -104,5 +104,13 @@ impl Judge {
     {
         let _ = self.over;
         self.phasers.phase(phaser)
+    }
+
+    /// How many phasers are there.
+    pub fn phasers(&self) -> usize
+        ensures { self.now.over ≡ false → AreThere (λ p. standing p self.now.events) result }
+    {
+        let _ = self.over;
+        self.phasers.len()
     }
 }

@@ -4,7 +4,7 @@ ghost use Rattle.std.specs.Option.{option_map, option_map_or};
 ghost use Rattle.phase_modes.specs.Lists.{is_empty};
 ghost use Rattle.phaser_judge.specs.declared.event.Named.TheVariants as named;
 ghost use Rattle.phaser_judge.specs.Judging.{started, moved, first_phase};
-ghost use Rattle.phaser_judge.specs.Standings.{at, may_come, stands_after, verdict_at, if_there, IsNoMaking};
+ghost use Rattle.phaser_judge.specs.Standings.{at, AreThere, may_come, stands_after, verdict_at, if_there, IsNoMaking};
 
 use crate::event::Named;
 use crate::judged::Judged;
@@ -121,5 +121,14 @@ impl Phasers {
             Some(judged) => Some(judged.phase()),
             None => None,
         }
+    }
+
+    /// How many are there.
+    pub(crate) fn len(&self) -> usize
+        ensures { AreThere (at self.now.phasers) result }
+    {
+        // Their numbers are the keys.
+        let _ = self.phasers.keys();
+        self.phasers.len()
     }
 }
