@@ -1,5 +1,5 @@
 -- What may come is what leaves each phaser's renamed history legal.
-use Rattle.std.proofs.Common.{◌≡◌, ◌↔◌, ℕ, ◌+◌, ◌==◌, Bool, true, false, ◌&&◌, cond, List, [], ◌∷◌, ◌++◌, Option, Some, None, Result, Ok, Err, refl, ap, sym, subst, ◌∙◌, inl, inr}
+use Rattle.std.proofs.Common.{◌≡◌, ℕ, ◌==◌, Bool, true, false, cond, List, [], ◌∷◌, ◌++◌, Option, Some, None, Result, Ok, Err, refl, ap, sym, subst, ◌∙◌, inl, inr}
 use Rattle.std.specs.Option.{option_map_or}
 use Rattle.std.proofs.lemmas.Bool.{and_parts, and_from, cases_Bool, eq-eqb, eqb-true, false≢true}
 use Rattle.phase_modes.specs.Lists.{is_empty}
@@ -11,7 +11,8 @@ use Rattle.phaser_judge.specs.declared.event.Named.{Named}
 use Rattle.phaser_judge.specs.declared.event.Named.TheVariants as named
 use Rattle.phaser_judge.specs.declared.event.NamedEvent.{NamedEvent}
 use Rattle.phaser_judge.specs.declared.refused.Refused.{Refused}
-use Rattle.phaser_judge.specs.Judging.{Standing, numbered, renamed_event, names_with, next_after, moved, story_with, is_allowed_of, can_happen}
+use Rattle.phaser_judge.specs.Standings.{Standing, moved, story_with, is_allowed_of}
+use Rattle.phaser_judge.specs.Numbers.{numbered, names_with, next_after}
 use Rattle.phaser_judge.specs.Standings.{standing, may_come, stands_after, if_there}
 use Rattle.phaser_judge.specs.Renaming.{next, who, terms_of, history_with, renamed, is_legal_life, life_with, since_made, AreLegal, all_come, AcceptedAreLegal}
 use Rattle.phaser_judge.proofs.Moving.{same_standing}

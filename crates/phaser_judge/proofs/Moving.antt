@@ -1,23 +1,26 @@
 -- Where an event that is told leaves a phaser, and what one that isn't told is.
-use Rattle.std.proofs.Common.{◌≡◌, ◌≢◌, ℕ, Bool, true, false, List, Result, Ok, Err, refl, ap, sym, subst, ◌∙◌, IfOk, IfErr}
+use Rattle.std.proofs.Common.{◌≡◌, ◌≢◌, ℕ, true, false, List, Result, Ok, Err, refl, ap, sym, subst, ◌∙◌, IfOk, IfErr}
 use Rattle.phase_model.specs.declared.history.Event.{Event}
-use Rattle.phase_model.specs.Rules.{Story, with_event, is_legal}
+use Rattle.phase_model.specs.Rules.{Story, is_legal}
 use Rattle.phaser_judge.specs.declared.event.Named.{Named}
 use Rattle.phaser_judge.specs.declared.refused.Refused.{Refused}
 use Rattle.phaser_judge.specs.declared.refused.Refused.TheVariants.{Memory}
-use Rattle.phaser_judge.specs.Judging.{Standing, renamed_event, told, told_of, left, left_by, verdict, is_allowed_of, can_happen, story_with, names_after, next_after, moved}
+use Rattle.phaser_judge.specs.Standings.{Standing, renamed_event, is_allowed_of, can_happen, story_with, names_after, moved}
+use Rattle.phaser_judge.specs.Reasons.{said_of, verdict}
+use Rattle.phaser_judge.specs.inner.Steps.{left_by}
+use Rattle.phaser_judge.specs.Numbers.{next_after}
 use Rattle.phaser_judge.proofs.Telling.{told_ok, told_err}
 
-told_happens : (s : Story) (x : Result Event Refused) → told_of s x ≡ Ok tt → is_allowed_of s x ≡ true
+told_happens : (s : Story) (x : Result Event Refused) → said_of s x ≡ Ok tt → is_allowed_of s x ≡ true
 told_happens s (Ok e) k = (told_ok s e k).0
 told_happens s (Err r) k = absurd cc
 
-told_stands : (s : Story) (x : Result Event Refused) → told_of s x ≡ Ok tt → left_by s x ≡ story_with s x
+told_stands : (s : Story) (x : Result Event Refused) → said_of s x ≡ Ok tt → left_by s x ≡ story_with s x
 told_stands s (Ok e) k = (told_ok s e k).1
 told_stands s (Err r) k = refl
 
 told_fails : (s : Story) (x : Result Event Refused) (r : Refused) → is_legal s.limits s.terms s.past ≡ true
-    → told_of s x ≡ Err r → is_allowed_of s x ≡ false
+    → said_of s x ≡ Err r → is_allowed_of s x ≡ false
 told_fails s (Ok e) r k l = told_err s e r k l
 told_fails s (Err q) r k l = refl
 

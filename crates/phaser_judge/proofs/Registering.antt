@@ -5,13 +5,15 @@ use Rattle.phase_model.specs.declared.history.Event.TheVariants.{Reg}
 use Rattle.phase_model.specs.Rules.{Story}
 use Rattle.phaser_judge.specs.declared.event.Named.{Named}
 use Rattle.phaser_judge.specs.declared.refused.Refused.{Refused}
-use Rattle.phaser_judge.specs.Judging.{Standing, renamed_event, told, told_of, left, left_by, verdict}
+use Rattle.phaser_judge.specs.Standings.{Standing, renamed_event}
+use Rattle.phaser_judge.specs.Reasons.{said, said_of, verdict}
+use Rattle.phaser_judge.specs.inner.Steps.{left, left_by}
 
 -- it is told as the story's phaser tells it
 pub reg_told : (v s : Standing) → v ≡ s → (e : Named) (q : ℕ) (m : Mode) (r : Result (Unit {0}) Refused)
-    → renamed_event s e ≡ Ok (Reg q s.next m) → told v.story (Reg q v.next m) ≡ r → r ≡ verdict s e
+    → renamed_event s e ≡ Ok (Reg q s.next m) → said v.story (Reg q v.next m) ≡ r → r ≡ verdict s e
 reg_told v s same e q m r k l =
-    sym (ap (λ x. told_of s.story x) k ∙ subst (λ (w : Standing). told w.story (Reg q w.next m) ≡ r) same l)
+    sym (ap (λ x. said_of s.story x) k ∙ subst (λ (w : Standing). said w.story (Reg q w.next m) ≡ r) same l)
 
 -- and left as it leaves it
 pub reg_left : (v s : Standing) → v ≡ s → (e : Named) (q : ℕ) (m : Mode) (t : Story)

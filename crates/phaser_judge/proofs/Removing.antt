@@ -1,5 +1,5 @@
 -- A task taken out of the names.
-use Rattle.std.proofs.Common.{◌≡◌, ℕ, suc, ◌+◌, ◌<◌, ◌≤◌, Bool, true, List, [], ◌∷◌, ◌++◌, nat_eq, length, get_or, take, drop, refl, ap, sym, subst, ◌∙◌, cond, add-one, arith, drop-cons}
+use Rattle.std.proofs.Common.{◌≡◌, ℕ, suc, ◌+◌, ◌<◌, ◌≤◌, List, [], ◌∷◌, ◌++◌, nat_eq, length, get_or, take, drop, ap, sym, ◌∙◌, cond, add-one, arith, drop-cons}
 use Rattle.std.proofs.lemmas.Bool.{eq-eqb}
 use Rattle.std.proofs.lemmas.List.{append-nil}
 use Rattle.std.proofs.lemmas.Grind.{common_steps}
@@ -28,4 +28,3 @@ none_out t i xs all before =
     let e : drop i xs ≡ [] = grind (arith, common_steps) in
     let f : take i xs ≡ xs = grind (arith, common_steps) in
     sym (before ∙ ap (λ ys. take i xs ++ remove_entry (nat_eq t) ys) e ∙ append-nil (take i xs) ∙ f)
-

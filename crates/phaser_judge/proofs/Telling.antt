@@ -1,9 +1,9 @@
 -- What the phaser tells of an event: that it is done exactly where it is allowed.
-use Rattle.std.proofs.Common.{◌≡◌, ◌≢◌, ℕ, ◌+◌, Bool, true, false, ◌||◌, ◌&&◌, ◌==◌, not, cond, List, [], ◌∷◌, Option, Some, None, Result, Ok, Err, refl, ap, sym, ◌∙◌, subst, inl, inr, ℤ}
-use Rattle.std.proofs.lemmas.Bool.{and_parts, or_parts, cases_Bool, false≢true, false_from_ne_true}
+use Rattle.std.proofs.Common.{◌≡◌, ◌≢◌, ℕ, Bool, true, false, ◌||◌, ◌&&◌, not, cond, List, ◌∷◌, Result, Ok, Err, refl, ap, sym, ◌∙◌, subst, inl, inr, ℤ}
+use Rattle.std.proofs.lemmas.Bool.{and_parts, cases_Bool, false≢true, false_from_ne_true}
 use Rattle.std.proofs.lemmas.Bool.Decides.{Decides-int_eq}
 use Rattle.phase_modes.specs.Refusal.{first_refusal, are_met}
-use Rattle.phase_modes.specs.Mode.{can_wait, can_signal}
+use Rattle.phase_modes.specs.Mode.{can_wait}
 use Rattle.phase_model.specs.declared.op.Look.{Look}
 use Rattle.phase_model.specs.declared.op.Look.TheVariants.{Value, Nothing}
 use Rattle.phase_model.specs.declared.history.Event.{Event}
@@ -31,7 +31,8 @@ use Rattle.phase_model.specs.declared.answer.Passing.{Passing}
 use Rattle.phase_model.specs.declared.answer.Passing.TheVariants.{Passed, Claimed, NotYet}
 use Rattle.phaser_judge.specs.declared.refused.Refused.{Refused}
 use Rattle.phaser_judge.specs.declared.refused.Refused.TheVariants.{SawOther, Memory}
-use Rattle.phaser_judge.specs.Judging.{call_of, by_rule, by_signal, by_pass, by_claim, by_look, told_by, told, left}
+use Rattle.phaser_judge.specs.Reasons.{call_of, by_rule, by_signal, by_pass, by_claim, by_look, said_by, said}
+use Rattle.phaser_judge.specs.inner.Steps.{left}
 
 -- a pass is of the task that was asked for
 passer : (b : Bool) (t u : ℕ) → cond b (Claim t) (Pass t) ≡ Pass u → u ≡ t
@@ -125,7 +126,7 @@ module _ (s : Story) where
   looked t a x (done (Drop u)) p q = absurd cc
 
   -- an event that is told is the reply to its call
-  told_is_done : (e : Event) → told s e ≡ Ok tt → reply s (call_of e) ≡ done e
+  told_is_done : (e : Event) → said s e ≡ Ok tt → reply s (call_of e) ≡ done e
   told_is_done (Make t m) k = ruled (make t m) (Make t m) (reply s (make t m)) refl refl k
   told_is_done (Reg q t m) k = ruled (register q t m) (Reg q t m) (reply s (register q t m)) refl refl k
   told_is_done (Sig t x) k = signalled (signal t x) (Sig t x) (reply s (signal t x)) refl refl k
@@ -228,7 +229,7 @@ not_by_look x (Ok y) k = told_apart (same_look x y) y k
 not_by_look x (Err r) k = cc
 
 -- no reply tells that there is no memory
-pub never_memory : (s : Story) (e : Event) → told s e ≢ Err Memory
+pub never_memory : (s : Story) (e : Event) → said s e ≢ Err Memory
 never_memory s (Make t m) = not_by_rule (done_result (reply s (make t m)))
 never_memory s (Reg q t m) = not_by_rule (done_result (reply s (register q t m)))
 never_memory s (Sig t x) = not_by_signal (signal_result (reply s (signal t x)))
@@ -240,7 +241,7 @@ never_memory s (Looked t a x) = not_by_look x (look_result (reply s (look t a)))
 never_memory s (Drop t) = not_by_rule (done_result (reply s (drop_task t)))
 
 -- the reply that is the event tells it
-tells : (h : List Event) (e : Event) → told_by h e (done e) ≡ Ok tt
+tells : (h : List Event) (e : Event) → said_by h e (done e) ≡ Ok tt
 tells h (Make t m) = refl
 tells h (Reg q t m) = refl
 tells h (Sig t x) = refl
@@ -252,7 +253,7 @@ tells h (Looked t a x) = rw (same_look_same x) refl
 tells h (Drop t) = refl
 
 -- what is told is allowed, and is then the newest event
-pub told_ok : (s : Story) (e : Event) → told s e ≡ Ok tt
+pub told_ok : (s : Story) (e : Event) → said s e ≡ Ok tt
     → (is_allowed s.limits s.terms s.past e ≡ true) × (left s e ≡ with_event s e)
 told_ok s e k =
     let d = told_is_done s e k in
@@ -260,11 +261,11 @@ told_ok s e k =
 
 -- what is allowed is told
 pub allowed_told : (s : Story) (e : Event) → is_legal s.limits s.terms s.past ≡ true
-    → is_allowed s.limits s.terms s.past e ≡ true → told s e ≡ Ok tt
-allowed_told s e k may = ap (told_by s.past e) (allowed_is_reply s e k may) ∙ tells s.past e
+    → is_allowed s.limits s.terms s.past e ≡ true → said s e ≡ Ok tt
+allowed_told s e k may = ap (said_by s.past e) (allowed_is_reply s e k may) ∙ tells s.past e
 
 -- what is not told is not allowed
 pub told_err : (s : Story) (e : Event) (r : Refused) → is_legal s.limits s.terms s.past ≡ true
-    → told s e ≡ Err r → is_allowed s.limits s.terms s.past e ≡ false
+    → said s e ≡ Err r → is_allowed s.limits s.terms s.past e ≡ false
 told_err s e r k untold =
     false_from_ne_true (is_allowed s.limits s.terms s.past e) (λ may. absurd (cc (untold, allowed_told s e k may)))

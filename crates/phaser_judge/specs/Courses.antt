@@ -1,13 +1,16 @@
--- What a judge has accepted, and what it counts of it.
-use Rattle.std.specs.Prelude.{ℕ, ◌≡◌, ◌+◌, min, Bool, true, false, List, [], ◌∷◌}
-use Rattle.std.specs.BTreeMap.{BTreeMap}
+-- What a judge has accepted, and what it tells and counts of it.
+use Rattle.std.specs.Prelude.{ℕ, ◌≡◌, ◌+◌, max, Bool, List, [], ◌∷◌, Option, is_some, length, min}
+use Rattle.std.specs.Option.{option_map_or}
+use Rattle.std.specs.Ordering.{nat_cmp, eq_by_cmp}
+use Rattle.std.specs.List.{list_any}
+use Rattle.std.specs.List.Sorted.{IsStrictlySortedBy}
+use Rattle.phase_model.specs.declared.history.Event.{Event}
+use Rattle.phase_model.specs.Registration.{registration}
 use Rattle.phaser_judge.specs.declared.event.Named.{Named}
 use Rattle.phaser_judge.specs.declared.event.Named.TheVariants as named
 use Rattle.phaser_judge.specs.declared.event.NamedEvent.{NamedEvent}
+use Rattle.phaser_judge.specs.Standings.{Standing}
 use Rattle.phaser_judge.specs.declared.totals.Totals.{Totals}
-use Rattle.phaser_judge.specs.Judging.{Standing}
-use Rattle.phaser_judge.specs.Standings.{at, standing}
-use Rattle.phaser_judge.specs.Renaming.{all_come}
 
 -- the events that a judge has accepted, the newest first, and whether it has refused one since
 pub record Course : Type 0 where
@@ -50,8 +53,18 @@ abbrev pub totals_of : List NamedEvent → Totals
 totals_of [] = record { events = 0; made = 0; registrations = 0; passes = 0 }
 totals_of (e ∷ es) = counted (totals_of es) e.event
 
--- what the judge keeps is what these events tell
-pub record IsKept (phasers : BTreeMap ℕ Standing) (counts : Totals) (over : Bool) (events : List NamedEvent) : Type 0 where
-  pub standings : over ≡ false → (p : ℕ) → at phasers p ≡ standing p events
-  pub totals : counts ≡ totals_of events
-  pub come : all_come events ≡ true
+-- how many turns the task has ended, if it is registered
+abbrev pub turns_of : List Event → ℕ → ℕ
+turns_of h n = option_map_or (λ r. r.phase) (registration n h) 0
+
+-- the first phase that none of these tasks has passed
+abbrev pub first_phase : List Event → List (ℕ × ℕ) → ℕ
+first_phase h [] = 0
+first_phase h (p ∷ names) = max (turns_of h p.1) (first_phase h names)
+
+-- there are so many phasers: those of these numbers, which rise
+pub record AreThere (stands : ℕ → Option Standing) (count : ℕ) : Type 0 where
+  pub numbers : List ℕ
+  pub rising : IsStrictlySortedBy nat_cmp numbers
+  pub each : (p : ℕ) → is_some (stands p) ≡ list_any (eq_by_cmp nat_cmp p) numbers
+  pub count_is : count ≡ length numbers

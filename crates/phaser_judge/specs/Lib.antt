@@ -1,4 +1,6 @@
-pub mod Judging
-pub mod Standings
 pub mod Courses
+pub mod Numbers
+pub mod Reasons
 pub mod Renaming
+pub mod Standings
+pub mod inner

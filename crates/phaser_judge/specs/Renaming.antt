@@ -1,6 +1,6 @@
 -- The history of each phaser in the events of a runtime, with the tasks' numbers replaced by fresh ones in the order of
 -- their registration: 0 for the maker, and so on.
-use Rattle.std.specs.Prelude.{ℕ, ◌≡◌, ◌↔◌, ◌+◌, Bool, true, false, ◌&&◌, ◌==◌, if◌then◌else◌, List, [], ◌∷◌, ◌++◌, Option, Some, None, unwrap_or, Result, Ok, Err}
+use Rattle.std.specs.Prelude.{ℕ, ◌≡◌, ◌↔◌, Bool, true, false, ◌&&◌, ◌==◌, if◌then◌else◌, List, [], ◌∷◌, ◌++◌, Option, Some, None, unwrap_or, Result, Ok, Err}
 use Rattle.std.specs.Option.{option_map_or}
 use Rattle.phase_modes.specs.Lists.{is_empty}
 use Rattle.phase_model.specs.declared.history.Event.{Event}
@@ -12,7 +12,7 @@ use Rattle.phaser_judge.specs.declared.event.Named.{Named}
 use Rattle.phaser_judge.specs.declared.event.Named.TheVariants as named
 use Rattle.phaser_judge.specs.declared.event.NamedEvent.{NamedEvent}
 use Rattle.phaser_judge.specs.declared.refused.Refused.{Refused}
-use Rattle.phaser_judge.specs.Judging.{numbered, names_with, next_after}
+use Rattle.phaser_judge.specs.Numbers.{numbered, names_with, next_after}
 use Rattle.phaser_judge.specs.Standings.{standing, may_come}
 
 -- how many numbers were given out in these events of one phaser, the newest first

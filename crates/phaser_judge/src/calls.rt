@@ -3,8 +3,9 @@ ghost use Rattle.std.specs.Prelude.{◌≡◌, ◌≢◌, ◌+◌, Ok, Err, IfOk
 ghost use Rattle.phase_model.specs.declared.history.Event.TheVariants as event;
 ghost use Rattle.phase_model.specs.Replies.{reply, after};
 ghost use Rattle.phase_model.specs.Rules.{same_look};
-ghost use Rattle.phaser_judge.specs.Judging as judging;
-ghost use Rattle.phaser_judge.specs.Judging.{told, left, IsOfTask};
+ghost use Rattle.phaser_judge.specs.Reasons as reasons;
+ghost use Rattle.phaser_judge.specs.Reasons.{said};
+ghost use Rattle.phaser_judge.specs.inner.Steps.{left, IsOfTask};
 ghost use Rattle.told_history.specs.Wide.{event_of};
 
 use crate::refused::Refused;
@@ -14,7 +15,7 @@ use phaser_core::{LongPhaser, LongTask};
 use told_history::LongEvent;
 
 fn by_rule(answer: Result<(), Refusal>) -> Result<(), Refused>
-    ensures { result ≡ judging.by_rule answer }
+    ensures { result ≡ reasons.by_rule answer }
 {
     match answer {
         Ok(()) => Ok(()),
@@ -23,7 +24,7 @@ fn by_rule(answer: Result<(), Refusal>) -> Result<(), Refused>
 }
 
 fn by_signal(answer: Result<Signalling, Refusal>) -> Result<(), Refused>
-    ensures { result ≡ judging.by_signal answer }
+    ensures { result ≡ reasons.by_signal answer }
 {
     match answer {
         Ok(Signalling::Signalled) => Ok(()),
@@ -33,7 +34,7 @@ fn by_signal(answer: Result<Signalling, Refusal>) -> Result<(), Refused>
 }
 
 fn by_pass(answer: Result<LongPassing, Refusal>) -> Result<(), Refused>
-    ensures { result ≡ judging.by_pass answer }
+    ensures { result ≡ reasons.by_pass answer }
 {
     match answer {
         Ok(Passing::Passed(_)) => Ok(()),
@@ -44,7 +45,7 @@ fn by_pass(answer: Result<LongPassing, Refusal>) -> Result<(), Refused>
 }
 
 fn by_claim(answer: Result<LongPassing, Refusal>) -> Result<(), Refused>
-    ensures { result ≡ judging.by_claim answer }
+    ensures { result ≡ reasons.by_claim answer }
 {
     match answer {
         Ok(Passing::Passed(_)) => Err(Refused::PassesInstead),
@@ -65,7 +66,7 @@ fn is_same(told: LongLook, seen: LongLook) -> bool
 }
 
 fn by_look(told: LongLook, answer: Result<LongLook, Refusal>) -> Result<(), Refused>
-    ensures { result ≡ judging.by_look told answer }
+    ensures { result ≡ reasons.by_look told answer }
 {
     match answer {
         Ok(seen) => {
@@ -85,8 +86,8 @@ pub(crate) fn register(
     parent: LongTask,
     mode: Mode,
 ) -> Result<LongTask, Refusal>
-    ensures told { IfOk result (λ _. told phaser.old.story (event.Reg parent phaser.old.next mode) ≡ Ok tt) }
-    ensures refused { IfErr result (λ r. told phaser.old.story (event.Reg parent phaser.old.next mode) ≡ Err (Refused.Rule r)) }
+    ensures said { IfOk result (λ _. said phaser.old.story (event.Reg parent phaser.old.next mode) ≡ Ok tt) }
+    ensures refused { IfErr result (λ r. said phaser.old.story (event.Reg parent phaser.old.next mode) ≡ Err (Refused.Rule r)) }
     ensures number { IfOk result (λ t. t ≡ phaser.old.next) }
     ensures story { phaser.new.story ≡ left phaser.old.story (event.Reg parent phaser.old.next mode) }
     ensures next { IfOk result (λ t. phaser.new.next ≡ t + 1) }
@@ -100,7 +101,7 @@ pub(crate) fn signal(
     task: LongTask,
     number: Option<u32>,
 ) -> Result<(), Refused>
-    ensures told { result ≡ told phaser.old.story (event.Sig task number) }
+    ensures said { result ≡ said phaser.old.story (event.Sig task number) }
     ensures story { phaser.new.story ≡ left phaser.old.story (event.Sig task number) }
     ensures next { phaser.new.next ≡ phaser.old.next }
 {
@@ -109,7 +110,7 @@ pub(crate) fn signal(
 
 /// A claim.
 pub(crate) fn claim(phaser: &mut LongPhaser, task: LongTask) -> Result<(), Refused>
-    ensures told { result ≡ told phaser.old.story (event.Claim task) }
+    ensures said { result ≡ said phaser.old.story (event.Claim task) }
     ensures story { phaser.new.story ≡ left phaser.old.story (event.Claim task) }
     ensures next { phaser.new.next ≡ phaser.old.next }
 {
@@ -118,7 +119,7 @@ pub(crate) fn claim(phaser: &mut LongPhaser, task: LongTask) -> Result<(), Refus
 
 /// A report.
 pub(crate) fn did(phaser: &mut LongPhaser, task: LongTask) -> Result<(), Refused>
-    ensures told { result ≡ told phaser.old.story (event.Did task) }
+    ensures said { result ≡ said phaser.old.story (event.Did task) }
     ensures story { phaser.new.story ≡ left phaser.old.story (event.Did task) }
     ensures next { phaser.new.next ≡ phaser.old.next }
 {
@@ -127,7 +128,7 @@ pub(crate) fn did(phaser: &mut LongPhaser, task: LongTask) -> Result<(), Refused
 
 /// A pass.
 pub(crate) fn pass(phaser: &mut LongPhaser, task: LongTask) -> Result<(), Refused>
-    ensures told { result ≡ told phaser.old.story (event.Pass task) }
+    ensures said { result ≡ said phaser.old.story (event.Pass task) }
     ensures story { phaser.new.story ≡ left phaser.old.story (event.Pass task) }
     ensures next { phaser.new.next ≡ phaser.old.next }
 {
@@ -141,7 +142,7 @@ pub(crate) fn send(
     accumulator: u8,
     value: i32,
 ) -> Result<(), Refused>
-    ensures told { result ≡ told phaser.old.story (event.Send task accumulator value) }
+    ensures said { result ≡ said phaser.old.story (event.Send task accumulator value) }
     ensures story { phaser.new.story ≡ left phaser.old.story (event.Send task accumulator value) }
     ensures next { phaser.new.next ≡ phaser.old.next }
 {
@@ -155,7 +156,7 @@ pub(crate) fn look(
     accumulator: u8,
     seen: LongLook,
 ) -> Result<(), Refused>
-    ensures told { result ≡ told phaser.old.story (event.Look task accumulator seen) }
+    ensures said { result ≡ said phaser.old.story (event.Look task accumulator seen) }
     ensures story { phaser.new.story ≡ left phaser.old.story (event.Look task accumulator seen) }
     ensures next { phaser.new.next ≡ phaser.old.next }
 {
@@ -164,7 +165,7 @@ pub(crate) fn look(
 
 /// A task leaves.
 pub(crate) fn leave(phaser: &mut LongPhaser, task: LongTask) -> Result<(), Refused>
-    ensures told { result ≡ told phaser.old.story (event.Drop task) }
+    ensures said { result ≡ said phaser.old.story (event.Drop task) }
     ensures story { phaser.new.story ≡ left phaser.old.story (event.Drop task) }
     ensures next { phaser.new.next ≡ phaser.old.next }
 {
@@ -175,7 +176,7 @@ pub(crate) fn leave(phaser: &mut LongPhaser, task: LongTask) -> Result<(), Refus
 /// Any event but the first and a registration.
 pub(crate) fn tell(phaser: &mut LongPhaser, event: LongEvent) -> Result<(), Refused>
     requires { IsOfTask event }
-    ensures told { result ≡ told phaser.old.story (event_of event) }
+    ensures said { result ≡ said phaser.old.story (event_of event) }
     ensures story { phaser.new.story ≡ left phaser.old.story (event_of event) }
     ensures next { phaser.new.next ≡ phaser.old.next }
     ensures not_memory { result ≢ Err Refused.Memory }

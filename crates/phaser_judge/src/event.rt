@@ -15,7 +15,8 @@ pub struct NamedEvent {
 pub enum Named {
     /// The task made the phaser with these operators, and was registered in this mode. A signaller may
     /// be ahead of a waiter by as many phases as the bound says. Without a bound it is 65,536 phases, and
-    /// a signal beyond them is refused as one that had to wait.
+    /// a signal beyond them is refused as one that had to wait. The judge takes 272 bytes for each phase
+    /// of the bound, 18 megabytes without one; at a barrier a bound of 2 says the same as none.
     Make(u64, Mode, Ops, Option<Bound>),
     /// The parent registered a child, in this mode.
     Reg(u64, u64, Mode),

@@ -1,8 +1,10 @@
 //! The judge of many phasers.
 ghost use Rattle.std.specs.Prelude.{◌≡◌, ◌≢◌, [], ◌∷◌, Ok, Err, true, false, IfOk, IfErr};
 ghost use Rattle.std.specs.Option.{option_map};
-ghost use Rattle.phaser_judge.specs.Judging.{first_phase};
-ghost use Rattle.phaser_judge.specs.Standings.{standing, AreThere, may_come, verdict_at};
+ghost use Rattle.phaser_judge.specs.Courses.{first_phase};
+ghost use Rattle.phaser_judge.specs.Standings.{standing, may_come};
+ghost use Rattle.phaser_judge.specs.Courses.{AreThere};
+ghost use Rattle.phaser_judge.specs.Reasons.{verdict_at};
 ghost use Rattle.phaser_judge.specs.Courses.{totals_of};
 ghost use Rattle.phaser_judge.specs.Renaming.{AreLegal};
 
@@ -28,7 +30,8 @@ pub struct Judge {
 }
 
 impl Model for Judge {
-    ghost use Rattle.phaser_judge.specs.Courses.{Course, IsKept};
+    ghost use Rattle.phaser_judge.specs.Courses.{Course};
+    ghost use Rattle.phaser_judge.specs.inner.Steps.{IsKept};
 
     ghost Value = { Course };
 

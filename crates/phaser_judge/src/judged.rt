@@ -6,7 +6,11 @@ ghost use Rattle.phase_model.specs.declared.history.Event.TheVariants as event;
 ghost use Rattle.told_history.specs.Wide.{event_of};
 ghost use Rattle.phaser_judge.specs.declared.event.Named.TheVariants as named;
 ghost use Rattle.phase_model.specs.Rules.{is_legal};
-ghost use Rattle.phaser_judge.specs.Judging.{started, IsNoRegistration, IsOfTask, verdict, can_happen, moved, number_of, renamed_event, left_by, names_after, next_after, first_phase};
+ghost use Rattle.phaser_judge.specs.Standings.{started, can_happen, moved, renamed_event, names_after};
+ghost use Rattle.phaser_judge.specs.inner.Steps.{IsNoRegistration, IsOfTask, left_by};
+ghost use Rattle.phaser_judge.specs.Reasons.{verdict};
+ghost use Rattle.phaser_judge.specs.Numbers.{number_of, next_after};
+ghost use Rattle.phaser_judge.specs.Courses.{first_phase};
 
 use crate::calls;
 use crate::event::Named;
@@ -28,7 +32,7 @@ pub struct Judged {
 }
 
 impl Model for Judged {
-    ghost use Rattle.phaser_judge.specs.Judging.{Standing};
+    ghost use Rattle.phaser_judge.specs.Standings.{Standing};
 
     ghost Value = { Standing };
 
@@ -109,7 +113,7 @@ impl Judged {
     /// An event that registers nobody. The names stay as they are.
     fn act(&mut self, event: &Named) -> Result<(), Refused>
         requires { IsNoRegistration event.now }
-        ensures told { result ≡ verdict self.old event.now }
+        ensures said { result ≡ verdict self.old event.now }
         ensures story { self.new.story ≡ left_by self.old.story (renamed_event self.old event.now) }
         ensures names { self.new.names ≡ self.old.names }
         ensures next { self.new.next ≡ self.old.next }
@@ -133,7 +137,7 @@ impl Judged {
 
     /// A registration.
     fn register(&mut self, parent: u64, child: u64, mode: Mode) -> Result<(), Refused>
-        ensures told { result ≢ Err Refused.Memory → result ≡ verdict self.old (named.Reg parent child mode) }
+        ensures said { result ≢ Err Refused.Memory → result ≡ verdict self.old (named.Reg parent child mode) }
         ensures memory { result ≡ Err Refused.Memory → self.new ≡ self.old }
         ensures story { IfOk result (λ _. self.new.story ≡ left_by self.old.story (renamed_event self.old (named.Reg parent child mode))) }
         ensures names { IfOk result (λ _. self.new.names ≡ names_after self.old (named.Reg parent child mode)) }
@@ -161,7 +165,7 @@ impl Judged {
 
     /// What an event is told, before its consequences for the names.
     fn step(&mut self, event: &Named) -> Result<(), Refused>
-        ensures told { result ≢ Err Refused.Memory → result ≡ verdict self.old event.now }
+        ensures said { result ≢ Err Refused.Memory → result ≡ verdict self.old event.now }
         ensures memory { result ≡ Err Refused.Memory → self.new ≡ self.old }
         ensures story { IfOk result (λ _. self.new.story ≡ left_by self.old.story (renamed_event self.old event.now)) }
         ensures names { IfOk result (λ _. self.new.names ≡ names_after self.old event.now) }

@@ -1,7 +1,12 @@
 //! Judges the events of phasers as they come. A `Judge` is handed the events of any number of phasers
 //! one after the other, as a runtime's log has them, and says of each whether it could happen there. It
-//! keeps no history: its memory is bounded by the phasers that are there and the tasks that are
-//! registered on them.
+//! keeps no history: its memory is that of the phasers that are there and of the tasks registered on
+//! them, however long they live.
+//!
+//! The runtime names phasers and tasks by any numbers. A phaser is gone with its last task, and its
+//! number may be used again; so may a task's once it has left. With the tasks' numbers replaced by fresh
+//! ones in the order of their registration, what was accepted is a legal history of each phaser, and
+//! whatever leaves it one is accepted.
 #![tactic(auto)]
 
 mod calls;

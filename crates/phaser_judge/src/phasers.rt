@@ -3,8 +3,12 @@ ghost use Rattle.std.specs.Prelude.{◌≡◌, ◌≢◌, ℕ, Err, Some, None, 
 ghost use Rattle.std.specs.Option.{option_map, option_map_or};
 ghost use Rattle.phase_modes.specs.Lists.{is_empty};
 ghost use Rattle.phaser_judge.specs.declared.event.Named.TheVariants as named;
-ghost use Rattle.phaser_judge.specs.Judging.{started, moved, first_phase};
-ghost use Rattle.phaser_judge.specs.Standings.{at, AreThere, may_come, stands_after, verdict_at, if_there, IsNoMaking};
+ghost use Rattle.phaser_judge.specs.Standings.{started, moved};
+ghost use Rattle.phaser_judge.specs.Courses.{first_phase};
+ghost use Rattle.phaser_judge.specs.inner.Steps.{at, IsNoMaking};
+ghost use Rattle.phaser_judge.specs.Courses.{AreThere};
+ghost use Rattle.phaser_judge.specs.Standings.{may_come, stands_after, if_there};
+ghost use Rattle.phaser_judge.specs.Reasons.{verdict_at};
 
 use crate::event::Named;
 use crate::judged::Judged;
@@ -94,12 +98,7 @@ impl Phasers {
     }
 
     /// Judges one event more.
-    pub(crate) fn event(
-        &mut self,
-        alloc: Global,
-        phaser: u64,
-        event: &Named,
-    ) -> Result<(), Refused>
+    pub(crate) fn event(&mut self, alloc: Global, phaser: u64, event: &Named) -> Result<(), Refused>
         ensures accepted { IfOk result (λ _. may_come (at self.old.phasers phaser) event.now ≡ true) }
         ensures refused { IfErr result (λ r. r ≢ Refused.Memory → may_come (at self.old.phasers phaser) event.now ≡ false) }
         ensures own { IfOk result (λ _. at self.new.phasers phaser ≡ stands_after (at self.old.phasers phaser) event.now) }

@@ -19,7 +19,14 @@ fn accepts(rt: &impl Abort, judge: &mut Judge, events: &[Named]) {
 
 /// Task 100 makes phaser 7 without accumulators, and registers task 200. Both have this mode.
 fn two(rt: &impl Abort, judge: &mut Judge, mode: Mode) {
-    accepts(rt, judge, &[Named::Make(100, mode, Ops::none(), None), Named::Reg(100, 200, mode)]);
+    accepts(
+        rt,
+        judge,
+        &[
+            Named::Make(100, mode, Ops::none(), None),
+            Named::Reg(100, 200, mode),
+        ],
+    );
 }
 
 /// Task 100 makes a phaser.
@@ -41,13 +48,17 @@ fn saw(sum: i128) -> LongLook {
 fn a_barrier_and_an_early_pass(rt: HostRuntime) {
     let mut judge = Judge::new(rt.alloc());
     two(&rt, &mut judge, Mode::SigWait);
-    accepts(&rt, &mut judge, &[
-        Named::Sig(100, None),
-        Named::Sig(200, None),
-        Named::Pass(100),
-        Named::Pass(200),
-        Named::Sig(200, None),
-    ]);
+    accepts(
+        &rt,
+        &mut judge,
+        &[
+            Named::Sig(100, None),
+            Named::Sig(200, None),
+            Named::Pass(100),
+            Named::Pass(200),
+            Named::Sig(200, None),
+        ],
+    );
     // Task 100 has not signalled phase 1.
     assert_eq!(rt; say(&mut judge, Named::Pass(200)), Err(Refused::HadToWait));
     assert!(rt; judge.is_over());
@@ -71,23 +82,30 @@ fn rules(rt: HostRuntime) {
     let mut judge = Judge::new(rt.alloc());
     two(&rt, &mut judge, Mode::Sig);
     let refused = Err(Refused::Rule(Refusal::MoreThanParent));
-    assert_eq!(rt; say(&mut judge, Named::Reg(100, 300, Mode::SigWait)), refused);
+    assert_eq!(rt;
+        say(&mut judge, Named::Reg(100, 300, Mode::SigWait)),
+        refused
+    );
 }
 
 #[test]
 fn a_sum(rt: HostRuntime) {
     let mut judge = Judge::new(rt.alloc());
-    accepts(&rt, &mut judge, &[
-        Named::Make(1, Mode::SigWait, summing(), None),
-        Named::Reg(1, 2, Mode::SigWait),
-        Named::Send(1, 0, 5),
-        Named::Send(2, 0, -8),
-        Named::Sig(1, None),
-        Named::Sig(2, None),
-        Named::Pass(1),
-        Named::Look(1, 0, saw(-3)),
-        Named::Pass(2),
-    ]);
+    accepts(
+        &rt,
+        &mut judge,
+        &[
+            Named::Make(1, Mode::SigWait, summing(), None),
+            Named::Reg(1, 2, Mode::SigWait),
+            Named::Send(1, 0, 5),
+            Named::Send(2, 0, -8),
+            Named::Sig(1, None),
+            Named::Sig(2, None),
+            Named::Pass(1),
+            Named::Look(1, 0, saw(-3)),
+            Named::Pass(2),
+        ],
+    );
     let refused = Err(Refused::SawOther(saw(-3)));
     assert_eq!(rt; say(&mut judge, Named::Look(2, 0, saw(13))), refused);
 }
@@ -96,30 +114,48 @@ fn a_sum(rt: HostRuntime) {
 fn a_single(rt: HostRuntime) {
     let mut judge = Judge::new(rt.alloc());
     two(&rt, &mut judge, Mode::Single);
-    accepts(&rt, &mut judge, &[
-        Named::Sig(100, Some(9)),
-        Named::Sig(200, Some(9)),
-        Named::Claim(200),
-        Named::Did(200),
-        Named::Pass(100),
-        Named::Pass(200),
-        Named::Sig(100, None),
-        Named::Sig(200, None),
-    ]);
-    assert_eq!(rt; say(&mut judge, Named::Claim(100)), Err(Refused::PassesInstead));
+    accepts(
+        &rt,
+        &mut judge,
+        &[
+            Named::Sig(100, Some(9)),
+            Named::Sig(200, Some(9)),
+            Named::Claim(200),
+            Named::Did(200),
+            Named::Pass(100),
+            Named::Pass(200),
+            Named::Sig(100, None),
+            Named::Sig(200, None),
+        ],
+    );
+    assert_eq!(rt;
+        say(&mut judge, Named::Claim(100)),
+        Err(Refused::PassesInstead)
+    );
 
     let mut judge = Judge::new(rt.alloc());
     two(&rt, &mut judge, Mode::Single);
-    accepts(&rt, &mut judge, &[Named::Sig(100, Some(9)), Named::Sig(200, Some(9))]);
-    assert_eq!(rt; say(&mut judge, Named::Pass(100)), Err(Refused::ClaimsInstead));
+    accepts(
+        &rt,
+        &mut judge,
+        &[Named::Sig(100, Some(9)), Named::Sig(200, Some(9))],
+    );
+    assert_eq!(rt;
+        say(&mut judge, Named::Pass(100)),
+        Err(Refused::ClaimsInstead)
+    );
 
     let mut judge = Judge::new(rt.alloc());
     two(&rt, &mut judge, Mode::Single);
-    accepts(&rt, &mut judge, &[
-        Named::Sig(100, Some(9)),
-        Named::Sig(200, Some(9)),
-        Named::Claim(200),
-    ]);
+    accepts(
+        &rt,
+        &mut judge,
+        &[
+            Named::Sig(100, Some(9)),
+            Named::Sig(200, Some(9)),
+            Named::Claim(200),
+        ],
+    );
     assert_eq!(rt; say(&mut judge, Named::Pass(100)), Err(Refused::HadToWait));
 }
 
@@ -127,26 +163,36 @@ fn a_single(rt: HostRuntime) {
 fn numbers_used_again(rt: HostRuntime) {
     let mut judge = Judge::new(rt.alloc());
     two(&rt, &mut judge, Mode::SigWait);
-    accepts(&rt, &mut judge, &[
-        Named::Sig(100, None),
-        Named::Drop(200),
-        Named::Pass(100),
-        Named::Reg(100, 200, Mode::SigWait),
-        Named::Sig(200, None),
-        Named::Drop(100),
-        Named::Pass(200),
-        Named::Drop(200),
-        // Nobody is left, so the phaser's number is free.
-        Named::Make(200, Mode::Sig, Ops::none(), None),
-        Named::Sig(200, None),
-    ]);
-    assert_eq!(rt; say(&mut judge, Named::Sig(100, None)), Err(Refused::NotRegistered));
+    accepts(
+        &rt,
+        &mut judge,
+        &[
+            Named::Sig(100, None),
+            Named::Drop(200),
+            Named::Pass(100),
+            Named::Reg(100, 200, Mode::SigWait),
+            Named::Sig(200, None),
+            Named::Drop(100),
+            Named::Pass(200),
+            Named::Drop(200),
+            // Nobody is left, so the phaser's number is free.
+            Named::Make(200, Mode::Sig, Ops::none(), None),
+            Named::Sig(200, None),
+        ],
+    );
+    assert_eq!(rt;
+        say(&mut judge, Named::Sig(100, None)),
+        Err(Refused::NotRegistered)
+    );
 }
 
 #[test]
 fn who_is_there(rt: HostRuntime) {
     let mut judge = Judge::new(rt.alloc());
-    assert_eq!(rt; say(&mut judge, Named::Sig(100, None)), Err(Refused::NotMade));
+    assert_eq!(rt;
+        say(&mut judge, Named::Sig(100, None)),
+        Err(Refused::NotMade)
+    );
 
     let mut judge = Judge::new(rt.alloc());
     accepts(&rt, &mut judge, &[made(), Named::Drop(100)]);
@@ -172,30 +218,44 @@ fn who_is_there(rt: HostRuntime) {
 fn a_bound(rt: HostRuntime) -> Result<(), Fail> {
     let bound = Bound::of(2).ok_or("no bound")?;
     let mut judge = Judge::new(rt.alloc());
-    accepts(&rt, &mut judge, &[
-        Named::Make(1, Mode::SigWait, Ops::none(), Some(bound)),
-        Named::Reg(1, 2, Mode::Sig),
-        Named::Sig(2, None),
-        Named::Pass(2),
-        Named::Sig(2, None),
-        Named::Pass(2),
-    ]);
+    accepts(
+        &rt,
+        &mut judge,
+        &[
+            Named::Make(1, Mode::SigWait, Ops::none(), Some(bound)),
+            Named::Reg(1, 2, Mode::Sig),
+            Named::Sig(2, None),
+            Named::Pass(2),
+            Named::Sig(2, None),
+            Named::Pass(2),
+        ],
+    );
     // Task 1 has passed no phase, and phase 2 is two further.
-    assert_eq!(rt; say(&mut judge, Named::Sig(2, None)), Err(Refused::HadToWait));
+    assert_eq!(rt;
+        say(&mut judge, Named::Sig(2, None)),
+        Err(Refused::HadToWait)
+    );
     Ok(())
 }
 
 #[test]
 fn no_bound(rt: HostRuntime) {
     let mut judge = Judge::new(rt.alloc());
-    accepts(&rt, &mut judge, &[
-        Named::Make(1, Mode::SigWait, summing(), None),
-        Named::Reg(1, 2, Mode::Sig),
-    ]);
+    accepts(
+        &rt,
+        &mut judge,
+        &[
+            Named::Make(1, Mode::SigWait, summing(), None),
+            Named::Reg(1, 2, Mode::Sig),
+        ],
+    );
     for _ in 0..65_536 {
         accepts(&rt, &mut judge, &[Named::Sig(2, None), Named::Pass(2)]);
     }
-    assert_eq!(rt; say(&mut judge, Named::Sig(2, None)), Err(Refused::HadToWait));
+    assert_eq!(rt;
+        say(&mut judge, Named::Sig(2, None)),
+        Err(Refused::HadToWait)
+    );
 }
 
 #[test]
@@ -203,13 +263,20 @@ fn a_million_events(rt: HostRuntime) {
     let mut judge = Judge::new(rt.alloc());
     two(&rt, &mut judge, Mode::SigWait);
     for _ in 0..250_000 {
-        accepts(&rt, &mut judge, &[
-            Named::Sig(100, None),
-            Named::Sig(200, None),
-            Named::Pass(200),
-            Named::Pass(100),
-        ]);
+        accepts(
+            &rt,
+            &mut judge,
+            &[
+                Named::Sig(100, None),
+                Named::Sig(200, None),
+                Named::Pass(200),
+                Named::Pass(100),
+            ],
+        );
     }
     assert_eq!(rt; judge.totals().events, 1_000_002);
-    assert_eq!(rt; say(&mut judge, Named::Pass(100)), Err(Refused::Rule(Refusal::NotSignalled)));
+    assert_eq!(rt;
+        say(&mut judge, Named::Pass(100)),
+        Err(Refused::Rule(Refusal::NotSignalled))
+    );
 }

@@ -1,5 +1,5 @@
 use Rattle.std.proofs.Common.{◌≡◌, max, drop}
-use Rattle.phaser_judge.specs.Judging.{first_phase}
+use Rattle.phaser_judge.specs.Courses.{first_phase}
 use Rattle.phaser_judge.proofs.judged.Judged.phase.Given as goal
 
 abbrev pub invariant-loop-number : goal.invariant-loop-number

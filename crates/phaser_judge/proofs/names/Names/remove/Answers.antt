@@ -1,4 +1,4 @@
-use Rattle.std.proofs.Common.{◌≡◌, ◌<◌, ◌∙◌, ap, length, nat_eq, arith, sym, ◌≤◌, List, ℕ}
+use Rattle.std.proofs.Common.{◌≡◌, ◌<◌, ◌∙◌, ap, length, nat_eq, arith, ◌≤◌, List, ℕ}
 use Rattle.std.specs.Map.{remove_entry}
 use Rattle.phaser_judge.proofs.Removing.{taken_out, none_out}
 use Rattle.phaser_judge.proofs.names.Names.remove.Goals as goal
