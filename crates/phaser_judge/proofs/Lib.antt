@@ -3,3 +3,4 @@ pub mod Telling
 pub mod Registering
 pub mod Moving
 pub mod Lives
+pub mod InOrder

@@ -226,7 +226,7 @@ agrees (e ∷ es) k p =
     ]
 
 -- what came before did come
-came_before : (later before : List NamedEvent) → all_come (later ++ before) ≡ true → all_come before ≡ true
+pub came_before : (later before : List NamedEvent) → all_come (later ++ before) ≡ true → all_come before ≡ true
 came_before [] before k = k
 came_before (e ∷ later) before k =
     came_before later before
@@ -245,7 +245,7 @@ next_legal es xs e k may is =
     (come_legal (e ∷ es) (and_from (may_come (standing e.phaser es) e.event) (all_come es) may k))
 
 -- and legal ones came
-legal_come : (es : List NamedEvent) → AreLegal es → all_come es ≡ true
+pub legal_come : (es : List NamedEvent) → AreLegal es → all_come es ≡ true
 legal_come [] k = refl
 legal_come (e ∷ es) k =
     let rest = legal_come es (λ later before p is. k (e ∷ later) before p (ap (λ xs. e ∷ xs) is)) in

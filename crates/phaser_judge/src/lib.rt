@@ -14,6 +14,7 @@ mod event;
 mod judge;
 mod judged;
 mod laws;
+mod lists;
 mod names;
 mod phasers;
 mod refused;
@@ -23,6 +24,7 @@ pub use event::{Named, NamedEvent};
 pub use judge::Judge;
 pub use judged::Judged;
 pub use laws::accepted_are_legal;
+pub use lists::judge_all;
 pub use refused::Refused;
 pub use totals::Totals;
 
