@@ -1,13 +1,35 @@
 //! Runs that were worked out by hand, event by event.
-use crate::{Judge, Named, NamedEvent, Refused, Totals};
+use crate::{Judge, Named, NamedEvent, Refused, Totals, judge_all};
 use phase_model::{Bound, LongLook, Look, Op, Ops};
 use phase_modes::{Mode, Refusal};
+use std::alloc::Global;
 use std::process::Abort;
 use std::test::Fail;
 
+/// An event of this phaser.
+fn of(phaser: u64, event: Named) -> NamedEvent {
+    NamedEvent { phaser, event }
+}
+
+/// Hands the judge an event, and once more if there was no memory for it.
+fn hand(judge: &mut Judge, event: &NamedEvent) -> Result<(), Refused> {
+    match judge.event(event) {
+        Err(Refused::Memory) => judge.event(event),
+        answer => answer,
+    }
+}
+
 /// Hands the judge an event of phaser 7.
 fn say(judge: &mut Judge, event: Named) -> Result<(), Refused> {
-    judge.event(&NamedEvent { phaser: 7, event })
+    hand(judge, &of(7, event))
+}
+
+/// Judges a whole list, and once more if there was no memory for it.
+fn judged(alloc: Global, events: &[NamedEvent]) -> Result<(), Refused> {
+    match judge_all(alloc, events) {
+        Err(Refused::Memory) => judge_all(alloc, events),
+        answer => answer,
+    }
 }
 
 /// The judge accepts these events of phaser 7.
@@ -59,6 +81,9 @@ fn a_barrier_and_an_early_pass(rt: HostRuntime) {
             Named::Sig(200, None),
         ],
     );
+    assert_eq!(rt; judge.phasers(), 1);
+    assert_eq!(rt; judge.phase(7), Some(1));
+    assert_eq!(rt; judge.phase(8), None);
     // Task 100 has not signalled phase 1.
     assert_eq!(rt; say(&mut judge, Named::Pass(200)), Err(Refused::HadToWait));
     assert!(rt; judge.is_over());
@@ -201,12 +226,8 @@ fn who_is_there(rt: HostRuntime) {
     let mut judge = Judge::new(rt.alloc());
     accepts(&rt, &mut judge, &[made()]);
     // Another phaser has its own tasks.
-    let other = NamedEvent {
-        phaser: 8,
-        event: made(),
-    };
-    assert_eq!(rt; judge.event(&other), Ok(()));
-    assert_eq!(rt; judge.event(&other), Err(Refused::MadeAlready));
+    assert_eq!(rt; hand(&mut judge, &of(8, made())), Ok(()));
+    assert_eq!(rt; hand(&mut judge, &of(8, made())), Err(Refused::MadeAlready));
 
     let mut judge = Judge::new(rt.alloc());
     two(&rt, &mut judge, Mode::SigWait);
@@ -279,4 +300,29 @@ fn a_million_events(rt: HostRuntime) {
         say(&mut judge, Named::Pass(100)),
         Err(Refused::Rule(Refusal::NotSignalled))
     );
+}
+
+#[test]
+fn a_whole_list(rt: HostRuntime) {
+    let events = [
+        of(7, made()),
+        of(8, made()),
+        of(7, Named::Sig(100, None)),
+        of(8, Named::Sig(100, None)),
+        of(8, Named::Pass(100)),
+        of(7, Named::Pass(100)),
+        of(7, Named::Drop(100)),
+        of(8, Named::Pass(100)),
+    ];
+    assert_eq!(rt; judged(rt.alloc(), &events[..7]), Ok(()));
+    let refused = Err(Refused::Rule(Refusal::NotSignalled));
+    assert_eq!(rt; judged(rt.alloc(), &events), refused);
+}
+
+#[test]
+fn nobody_is_left(rt: HostRuntime) {
+    let mut judge = Judge::new(rt.alloc());
+    accepts(&rt, &mut judge, &[made(), Named::Drop(100)]);
+    assert_eq!(rt; judge.phasers(), 0);
+    assert_eq!(rt; judge.phase(7), None);
 }
