@@ -11,9 +11,8 @@ use Rattle.phaser_judge.specs.declared.event.Named.{Named}
 use Rattle.phaser_judge.specs.declared.event.Named.TheVariants as named
 use Rattle.phaser_judge.specs.declared.event.NamedEvent.{NamedEvent}
 use Rattle.phaser_judge.specs.declared.refused.Refused.{Refused}
-use Rattle.phaser_judge.specs.Standings.{Standing, moved, story_with, is_allowed_of}
+use Rattle.phaser_judge.specs.Standings.{Standing, moved, story_with, is_allowed_of, standing, may_come, stands_after, if_there}
 use Rattle.phaser_judge.specs.Numbers.{numbered, names_with, next_after}
-use Rattle.phaser_judge.specs.Standings.{standing, may_come, stands_after, if_there}
 use Rattle.phaser_judge.specs.Renaming.{next, who, terms_of, history_with, renamed, is_legal_life, life_with, since_made, AreLegal, all_come, AcceptedAreLegal}
 use Rattle.phaser_judge.proofs.Moving.{same_standing}
 

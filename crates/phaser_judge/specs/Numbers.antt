@@ -13,12 +13,12 @@ use Rattle.phaser_judge.specs.declared.refused.Refused.TheVariants.{MadeAlready,
 abbrev pub number_of : List (ℕ × ℕ) → ℕ → Option ℕ
 number_of names t = lookup (nat_eq t) names
 
--- what is told of that number, if the task is registered
+-- the event of that number, if the task is registered
 abbrev pub by_number : List (ℕ × ℕ) → ℕ → (ℕ → Event) → Result Event Refused
 by_number names t event = option_map_or (λ n. Ok (event n)) (number_of names t) (Err NotRegistered)
 
--- the event with the story's numbers, or why it has none: these tasks are registered, and n is the number that comes
--- next
+-- the event with the story's numbers, or why it has none, where these tasks are registered, and n is the number that
+-- comes next
 abbrev pub numbered : List (ℕ × ℕ) → ℕ → Named → Result Event Refused
 numbered names n (named.Make t m ops b) = Err MadeAlready
 numbered names n (named.Reg q t m) =

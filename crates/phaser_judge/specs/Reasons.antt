@@ -83,11 +83,11 @@ abbrev pub said_of : Story → Result Event Refused → Result (Unit {0}) Refuse
 said_of s (Ok e) = said s e
 said_of s (Err r) = Err r
 
--- what the judge says of the event, memory aside
+-- what the judge says of the event at a phaser that stands so, memory aside
 abbrev pub verdict : Standing → Named → Result (Unit {0}) Refused
 verdict s e = said_of s.story (renamed_event s e)
 
--- what the judge says of the event, memory aside
+-- the same, whether the phaser is there or not
 abbrev pub verdict_at : Option Standing → Named → Result (Unit {0}) Refused
 verdict_at None (named.Make t m ops b) = Ok tt
 verdict_at None _ = Err NotMade

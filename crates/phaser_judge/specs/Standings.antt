@@ -19,11 +19,11 @@ pub record Standing : Type 0 where
   pub names : List (ℕ × ℕ)
   pub next : ℕ
 
--- the same where the phaser stands so
+-- the event with the story's numbers, or why it has none
 abbrev pub renamed_event : Standing → Named → Result Event Refused
 renamed_event s e = numbered s.names s.next e
 
--- the event is one that may follow the story
+-- the event has its numbers, and may follow the story
 abbrev pub is_allowed_of : Story → Result Event Refused → Bool
 is_allowed_of s (Ok e) = is_allowed s.limits s.terms s.past e
 is_allowed_of s (Err r) = false
@@ -37,7 +37,7 @@ abbrev pub story_with : Story → Result Event Refused → Story
 story_with s (Ok e) = with_event s e
 story_with s (Err r) = s
 
--- the same where the phaser stands so
+-- the tasks after the event
 abbrev pub names_after : Standing → Named → List (ℕ × ℕ)
 names_after s e = names_with s.names s.next e
 

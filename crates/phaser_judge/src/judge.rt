@@ -1,11 +1,9 @@
 //! The judge of many phasers.
 ghost use Rattle.std.specs.Prelude.{◌≡◌, ◌≢◌, [], ◌∷◌, Ok, Err, true, false, IfOk, IfErr};
 ghost use Rattle.std.specs.Option.{option_map};
-ghost use Rattle.phaser_judge.specs.Courses.{first_phase};
+ghost use Rattle.phaser_judge.specs.Courses.{first_phase, AreThere, totals_of};
 ghost use Rattle.phaser_judge.specs.Standings.{standing, may_come};
-ghost use Rattle.phaser_judge.specs.Courses.{AreThere};
 ghost use Rattle.phaser_judge.specs.Reasons.{verdict_at};
-ghost use Rattle.phaser_judge.specs.Courses.{totals_of};
 ghost use Rattle.phaser_judge.specs.Renaming.{AreLegal};
 
 use crate::event::NamedEvent;

@@ -3,11 +3,9 @@ ghost use Rattle.std.specs.Prelude.{◌≡◌, ◌≢◌, ℕ, Err, Some, None, 
 ghost use Rattle.std.specs.Option.{option_map, option_map_or};
 ghost use Rattle.phase_modes.specs.Lists.{is_empty};
 ghost use Rattle.phaser_judge.specs.declared.event.Named.TheVariants as named;
-ghost use Rattle.phaser_judge.specs.Standings.{started, moved};
-ghost use Rattle.phaser_judge.specs.Courses.{first_phase};
+ghost use Rattle.phaser_judge.specs.Standings.{started, moved, may_come, stands_after, if_there};
+ghost use Rattle.phaser_judge.specs.Courses.{first_phase, AreThere};
 ghost use Rattle.phaser_judge.specs.inner.Steps.{at, IsNoMaking};
-ghost use Rattle.phaser_judge.specs.Courses.{AreThere};
-ghost use Rattle.phaser_judge.specs.Standings.{may_come, stands_after, if_there};
 ghost use Rattle.phaser_judge.specs.Reasons.{verdict_at};
 
 use crate::event::Named;

@@ -33,11 +33,11 @@ abbrev pub IsNoMaking : Named → Type 0
 IsNoMaking (named.Make t m ops b) = ⊥
 IsNoMaking _ = Unit {0}
 
--- where that leaves the story
+-- where an event's call leaves the story
 abbrev pub left : Story → Event → Story
 left s e = after s (reply s (call_of e))
 
--- where that leaves the story
+-- the same of an event that may have no numbers
 abbrev pub left_by : Story → Result Event Refused → Story
 left_by s (Ok e) = left s e
 left_by s (Err r) = s
