@@ -13,6 +13,7 @@ use Rattle.phaser_judge.specs.declared.event.NamedEvent.{NamedEvent}
 use Rattle.phaser_judge.specs.declared.refused.Refused.{Refused}
 use Rattle.phaser_judge.specs.Standings.{Standing, moved, story_with, is_allowed_of, standing, may_come, stands_after, if_there}
 use Rattle.phaser_judge.specs.Numbers.{numbered, names_with, next_after}
+use Rattle.phaser_judge.specs.Courses.{Course}
 use Rattle.phaser_judge.specs.Renaming.{next, who, terms_of, history_with, renamed, is_legal_life, life_with, since_made, AreLegal, all_come, AcceptedAreLegal}
 use Rattle.phaser_judge.proofs.Moving.{same_standing}
 
@@ -256,3 +257,17 @@ legal_come (e ∷ es) k =
 
 pub accepted_are_legal : AcceptedAreLegal
 accepted_are_legal es = (come_legal es, legal_come es)
+
+-- with one that may not come they are not legal
+pub illegal_more : (es : List NamedEvent) (e : NamedEvent) → may_come (standing e.phaser es) e.event ≡ false
+    → AreLegal (e ∷ es) → ⊥
+illegal_more es e may legal =
+    false≢true (sym may
+    ∙ (and_parts (may_come (standing e.phaser es) e.event) (all_come es) (legal_come (e ∷ es) legal)).0)
+
+-- so a judge says that stands so
+pub refused_illegal : (v s : Course) → v ≡ s → (e : NamedEvent)
+    → may_come (standing e.phaser v.events) e.event ≡ false → AreLegal (e ∷ s.events) → ⊥
+refused_illegal v s same e may =
+    illegal_more s.events e
+    (subst (λ (w : Course). may_come (standing e.phaser w.events) e.event ≡ false) same may)

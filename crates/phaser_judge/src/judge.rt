@@ -66,6 +66,8 @@ impl Judge {
         ensures over { self.old.over ≡ true → result ≡ Err Refused.Over }
         ensures memory { result ≡ Err Refused.Memory → self.new ≡ self.old }
         ensures legal { AreLegal self.new.events }
+        ensures illegal { self.old.over ≡ false → IfErr result (λ r. r ≢ Refused.Memory
+            → AreLegal (event.now ∷ self.old.events) → ⊥) }
     {
         if self.over {
             return Err(Refused::Over);
