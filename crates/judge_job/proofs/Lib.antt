@@ -1,0 +1,3 @@
+pub mod Operators
+pub mod Utf8
+pub mod Taking

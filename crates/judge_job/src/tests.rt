@@ -1,0 +1,1 @@
+//! Lines that were worked out by hand.
