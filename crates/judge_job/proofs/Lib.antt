@@ -1,3 +1,5 @@
 pub mod Operators
 pub mod Utf8
 pub mod Taking
+pub mod Following
+pub mod Legal

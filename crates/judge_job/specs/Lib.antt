@@ -1,3 +1,6 @@
 pub mod Fronts
 pub mod Forms
 pub mod Lines
+pub mod Logs
+pub mod Endings
+pub mod Standing

@@ -3,9 +3,16 @@
 
 mod event;
 mod items;
+mod job;
+mod judging;
+mod laws;
 mod line;
 mod lines;
+mod report;
+mod stop;
 
+pub use job::judge_from;
+pub use laws::accepted_logs_are_legal;
 pub use line::{Line, MOST_LINE_BYTES, Unread, event_of_line, is_header_line};
 
 #[cfg(test)]

@@ -23,34 +23,25 @@ one_more n = min (n + 1) 18446744073709551615
 
 -- the totals with an event more
 abbrev pub counted : Totals → Named → Totals
-counted n (named.Make t m ops b) = record {
+counted n (named.Make t m ops b) = record n {
   events = one_more n.events;
   made = one_more n.made;
   registrations = one_more n.registrations;
-  passes = n.passes;
 }
-counted n (named.Reg q t m) = record {
-  events = one_more n.events;
-  made = n.made;
-  registrations = one_more n.registrations;
-  passes = n.passes;
-}
-counted n (named.Pass t) = record {
-  events = one_more n.events;
-  made = n.made;
-  registrations = n.registrations;
-  passes = one_more n.passes;
-}
-counted n _ = record {
-  events = one_more n.events;
-  made = n.made;
-  registrations = n.registrations;
-  passes = n.passes;
-}
+counted n (named.Reg q t m) = record n { events = one_more n.events; registrations = one_more n.registrations }
+counted n (named.Sig t x) = record n { events = one_more n.events; signals = one_more n.signals }
+counted n (named.Pass t) = record n { events = one_more n.events; passes = one_more n.passes }
+counted n (named.Send t a v) = record n { events = one_more n.events; sends = one_more n.sends }
+counted n (named.Drop t) = record n { events = one_more n.events; drops = one_more n.drops }
+counted n _ = record n { events = one_more n.events }
+
+-- the totals of no event
+abbrev pub no_totals : Totals
+no_totals = record { events = 0; made = 0; registrations = 0; signals = 0; passes = 0; drops = 0; sends = 0 }
 
 -- the totals of these events
 abbrev pub totals_of : List NamedEvent → Totals
-totals_of [] = record { events = 0; made = 0; registrations = 0; passes = 0 }
+totals_of [] = no_totals
 totals_of (e ∷ es) = counted (totals_of es) e.event
 
 -- how many turns the task has ended, if it is registered

@@ -92,7 +92,10 @@ fn a_barrier_and_an_early_pass(rt: HostRuntime) {
         events: 7,
         made: 1,
         registrations: 2,
+        signals: 3,
         passes: 2,
+        drops: 0,
+        sends: 0,
     };
     assert_eq!(rt; judge.totals(), totals);
 }

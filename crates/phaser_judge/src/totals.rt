@@ -12,8 +12,14 @@ pub struct Totals {
     pub made: u64,
     /// How many registrations there were, those of the makers among them.
     pub registrations: u64,
+    /// How often a task signalled its phase.
+    pub signals: u64,
     /// How often a task ended its turn.
     pub passes: u64,
+    /// How often a task left a phaser.
+    pub drops: u64,
+    /// How many values were sent.
+    pub sends: u64,
 }
 
 impl Totals {
@@ -27,7 +33,10 @@ impl Totals {
             events: 0,
             made: 0,
             registrations: 0,
+            signals: 0,
             passes: 0,
+            drops: 0,
+            sends: 0,
         }
     }
 
@@ -42,7 +51,10 @@ impl Totals {
                 self.registrations = self.registrations.saturating_add(1);
             }
             Named::Reg(..) => self.registrations = self.registrations.saturating_add(1),
+            Named::Sig(..) => self.signals = self.signals.saturating_add(1),
             Named::Pass(_) => self.passes = self.passes.saturating_add(1),
+            Named::Send(..) => self.sends = self.sends.saturating_add(1),
+            Named::Drop(_) => self.drops = self.drops.saturating_add(1),
             _ => {}
         }
     }
