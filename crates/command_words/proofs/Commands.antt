@@ -36,22 +36,23 @@ flag_by name f value is =
     ap (λ o. option_map_or (λ v. bytes_eq v (codes "true")) o false) (is ∙ first_value-rows f name)
 
 -- where FILE isn't there no such command is asked for anything
-nothing : (a b c d e : Bool) → ◌≡◌ {A = Option Asked} None
+nothing : (a b c d e f : Bool) → ◌≡◌ {A = Option Asked} None
     (if a then None else (if b then None else (if c then None else (if d then None
-    else (if e then None else None)))))
-nothing true b c d e = refl
-nothing false true c d e = refl
-nothing false false true d e = refl
-nothing false false false true e = refl
-nothing false false false false true = refl
-nothing false false false false false = refl
+    else (if e then None else (if f then None else None))))))
+nothing true b c d e f = refl
+nothing false true c d e f = refl
+nothing false false true d e f = refl
+nothing false false false true e f = refl
+nothing false false false false true f = refl
+nothing false false false false false true = refl
+nothing false false false false false false = refl
 
 pub among_none : (name : Text) (f : Found) (file : Option Text) → file ≡ first_value f (codes "file")
     → file ≡ None → None ≡ filed_among name (rows_of f)
 among_none name f file is none =
     rw (sym (is ∙ first_value-rows f (codes "file")) ∙ none)
     (nothing (bytes_eq name (codes "events")) (bytes_eq name (codes "schedule")) (bytes_eq name (codes "run"))
-    (bytes_eq name (codes "replay")) (bytes_eq name (codes "certify")))
+    (bytes_eq name (codes "replay")) (bytes_eq name (codes "certify")) (bytes_eq name (codes "judge")))
 
 -- what a kernel is asked for, by the two values that it needs
 module _ (kernel : Text → Text → Option Text → Asked) (f : Found) (first other : Text) where

@@ -3,6 +3,7 @@ pub mod Commands
 pub mod Listed
 pub mod Named
 pub mod Numbers
+pub mod Longs
 pub mod Plain
 pub mod PlainCommands
 pub mod PlainEntry

@@ -2,7 +2,7 @@
 use Rattle.std.proofs.Common.{◌≡◌, true, false, Bool, List, [], ◌∷◌, Option, Some, None, codes, refl}
 use Rattle.clap.specs.Words.{Text}
 use Rattle.clap.proofs.OnLiterals.{clap_on_literals}
-use Rattle.command_words.specs.CommandLine.{Asked, certify, events, pipeline, plain_words, replay, run, schedule, stencil}
+use Rattle.command_words.specs.CommandLine.{Asked, certify, events, judge, pipeline, plain_words, replay, run, schedule, stencil}
 use Rattle.command_words.proofs.PlainEntry.{IsCommand, shape_of}
 use Rattle.command_words.proofs.PlainItems.{Item, asked_of_items, given, named, texts_of}
 
@@ -13,6 +13,7 @@ name_of (schedule file list out) = codes "schedule"
 name_of (run file workers out certain) = codes "run"
 name_of (replay file out) = codes "replay"
 name_of (certify file) = codes "certify"
+name_of (judge file every) = codes "judge"
 name_of (stencil first steps workers) = codes "stencil"
 name_of (pipeline k items workers) = codes "pipeline"
 
@@ -37,6 +38,7 @@ items_of (run file workers out certain) =
     (with_option (codes "--trace") out (with_flag (codes "--certain") certain []))
 items_of (replay file out) = given file ∷ with_option (codes "--upgrade") out []
 items_of (certify file) = given file ∷ []
+items_of (judge file every) = given file ∷ with_option (codes "--every") every []
 items_of (stencil first steps workers) =
     named (codes "--first") ∷ given first ∷ named (codes "--steps") ∷ given steps
     ∷ with_option (codes "--workers") workers []
@@ -52,6 +54,7 @@ command_of (schedule file list out) = record { walks = refl; faults = refl; asks
 command_of (run file workers out certain) = record { walks = refl; faults = refl; asks = λ words. refl }
 command_of (replay file out) = record { walks = refl; faults = refl; asks = λ words. refl }
 command_of (certify file) = record { walks = refl; faults = refl; asks = λ words. refl }
+command_of (judge file every) = record { walks = refl; faults = refl; asks = λ words. refl }
 command_of (stencil first steps workers) = record { walks = refl; faults = refl; asks = λ words. refl }
 command_of (pipeline k items workers) = record { walks = refl; faults = refl; asks = λ words. refl }
 
@@ -86,6 +89,8 @@ as_said (run file workers out certain) = run_read file workers out certain
 as_said (replay file None) = record { said = λ p. refl; read = refl }
 as_said (replay file (Some out)) = record { said = λ p. refl; read = refl }
 as_said (certify file) = record { said = λ p. refl; read = refl }
+as_said (judge file None) = record { said = λ p. refl; read = refl }
+as_said (judge file (Some every)) = record { said = λ p. refl; read = refl }
 as_said (stencil first steps None) = record { said = λ p. refl; read = refl }
 as_said (stencil first steps (Some workers)) = record { said = λ p. refl; read = refl }
 as_said (pipeline k items None) = record { said = λ p. refl; read = refl }

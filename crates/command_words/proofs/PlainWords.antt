@@ -4,7 +4,7 @@ use Rattle.std.specs.Prelude.{option_and_then}
 use Rattle.std.specs.Option.{option_map_or}
 use Rattle.std.proofs.lemmas.Bool.{and_parts}
 use Rattle.clap.specs.Words.{Text}
-use Rattle.command_words.specs.CommandLine.{Asked, Work, asked_in, certify, events, is_plain, is_plainly_asked, pipeline, plain_words, replay, run, schedule, stencil, work_for, work_in}
+use Rattle.command_words.specs.CommandLine.{Asked, Work, asked_in, certify, events, is_plain, is_plainly_asked, judge, pipeline, plain_words, replay, run, schedule, stencil, work_for, work_in}
 use Rattle.command_words.proofs.Plain.{word}
 use Rattle.command_words.proofs.PlainCommands.{as_said, command_of, items_of, name_of, with_flag, with_option}
 use Rattle.command_words.proofs.PlainEntry.{command_entered, shape_of}
@@ -36,6 +36,8 @@ all_good (run file workers out certain) plain =
 all_good (replay file out) plain =
     let parts = and_parts _ _ plain in (word file parts.0, option_good _ out _ parts.1 tt)
 all_good (certify file) plain = (word file plain, tt)
+all_good (judge file every) plain =
+    let parts = and_parts _ _ plain in (word file parts.0, option_good _ every _ parts.1 tt)
 all_good (stencil first steps workers) plain =
     let parts = three _ _ _ plain in
     (tt, (word first parts.0, (tt, (word steps parts.1, option_good _ workers _ parts.2 tt))))

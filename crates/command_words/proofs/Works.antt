@@ -1,7 +1,7 @@
 -- The work that words name.
 use Rattle.std.proofs.Common.{◌≡◌, ℕ, List, option_map, Option, Some, None, Result, Ok, Err, IfOk, IfErr, MatchResult, refl, sym, ap, ◌∙◌, inl, inr}
 use Rattle.std.specs.Prelude.{option_and_then}
-use Rattle.command_words.specs.CommandLine.{Asked, IsNoJobFor, Work, certify, earlier, events, first_bad, pipeline, pipeline_of, replay, run, schedule, stencil, stencil_of, unless, work_for, work_of}
+use Rattle.command_words.specs.CommandLine.{Asked, IsNoJobFor, Work, certify, earlier, events, first_bad, judge, pipeline, pipeline_of, replay, run, schedule, stencil, stencil_of, unless, work_for, work_of}
 use Rattle.command_words.specs.declared.command_line.Job.{Job}
 use Rattle.command_words.specs.declared.command_line.NoJob.{NoJob}
 use Rattle.command_words.specs.declared.command_line.NoJob.TheVariants.{BadValue, Memory}
@@ -38,6 +38,7 @@ bad_works (schedule file list trace) v e = none_of _ _ v _ e
 bad_works (run file workers trace certain) v e = none_of _ _ v _ e
 bad_works (replay file upgrade) v e = cc
 bad_works (certify file) v e = cc
+bad_works (judge file every) v e = none_of _ _ v _ e
 bad_works (stencil first steps workers) v e = none_of_cells _ _ _ v _ _ _ e
 bad_works (pipeline k items workers) v e = none_of_stages _ _ _ v _ _ _ e
 

@@ -1,5 +1,5 @@
 -- The words that the program takes, by what `clap` says of a command and of its arguments.
-use Rattle.std.specs.Prelude.{◌≡◌, ◌⊎◌, ◌++◌, ◌<◌, ◌≤◌, ⊤, ℕ, List, length, [], ◌∷◌, Bool, true, false, not, ◌&&◌, ◌||◌, ◌==◌, if◌then◌else◌, Option, None, Some, option_and_then, option_map, codes}
+use Rattle.std.specs.Prelude.{◌≡◌, ◌⊎◌, ◌++◌, ◌<◌, ◌≤◌, ⊤, ℕ, List, length, [], ◌∷◌, Bool, true, false, not, ◌&&◌, ◌||◌, ◌==◌, if◌then◌else◌, Option, None, Some, option_and_then, option_map, IfSome, codes}
 use Rattle.std.specs.Option.{option_map_or}
 use Rattle.std.specs.Str.{bytes_eq}
 use Rattle.phase_modes.specs.Lists.{is_empty}
@@ -7,7 +7,7 @@ use Rattle.clap.specs.declared.builder.action.ArgAction.TheVariants.{SetTrue}
 use Rattle.clap.specs.Words.{App, Row, Rule, Text, fault_of, first_of, new_app, new_rule, subcommand_of, with_rule, with_subcommand}
 use Rattle.job_ends.specs.declared.failure.Status.{Status}
 use Rattle.job_ends.specs.declared.failure.Status.TheVariants as statuses
-use Rattle.command_words.specs.Lists.{first_in, listed_in, number_within, workers_in}
+use Rattle.command_words.specs.Lists.{every_in, first_in, listed_in, number_within, workers_in}
 use Rattle.command_words.specs.declared.words.Words.{Words}
 use Rattle.command_words.specs.declared.words.Words.TheVariants as words
 use Rattle.command_words.specs.declared.command_line.Job.{Job}
@@ -15,7 +15,7 @@ use Rattle.command_words.specs.declared.command_line.Job.TheVariants as jobs
 use Rattle.command_words.specs.declared.command_line.NoJob.{NoJob}
 use Rattle.command_words.specs.declared.command_line.NoJob.TheVariants.{Arguments, Missing, BadValue, Memory}
 use Rattle.command_words.specs.declared.command_line.Value.{Value}
-use Rattle.command_words.specs.declared.command_line.Value.TheVariants.{Picks, First, Steps, Stages, Items, Workers}
+use Rattle.command_words.specs.declared.command_line.Value.TheVariants.{Picks, First, Steps, Stages, Items, Workers, Every}
 
 -- ---- the commands
 
@@ -59,6 +59,10 @@ replay_app = with_rule (with_rule (new_app (codes "replay")) file_rule) (option_
 abbrev pub certify_app : App
 certify_app = with_rule (new_app (codes "certify")) file_rule
 
+-- `judge FILE [--every N]`
+abbrev pub judge_app : App
+judge_app = with_rule (with_rule (new_app (codes "judge")) file_rule) (option_rule (codes "every"))
+
 -- `stencil --first LIST --steps S [--workers N]`
 abbrev pub stencil_app : App
 stencil_app =
@@ -88,7 +92,8 @@ running_app =
 
 -- the commands of a file
 abbrev pub filed_app : App
-filed_app = with_subcommand (with_subcommand running_app replay_app.top) certify_app.top
+filed_app =
+    with_subcommand (with_subcommand (with_subcommand running_app replay_app.top) certify_app.top) judge_app.top
 
 abbrev pub program_app : App
 program_app = with_subcommand (with_subcommand filed_app stencil_app.top) pipeline_app.top
@@ -102,6 +107,7 @@ pub data Asked : Type 0 where
   run : Text → Option Text → Option Text → Bool → Asked
   replay : Text → Option Text → Asked
   certify : Text → Asked
+  judge : Text → Option Text → Asked
   stencil : Text → Text → Option Text → Asked
   pipeline : Text → Text → Option Text → Asked
 
@@ -115,6 +121,8 @@ pub data Work : Type 0 where
   -- FILE, OUT
   replays : Text → Option Text → Work
   certifies : Text → Work
+  -- FILE, and after how many events the report is told each time
+  judges : Text → Option ℕ → Work
   -- the first values, the steps, the workers
   cells : List ℕ → ℕ → ℕ → Work
   -- the stages, the items, the workers
@@ -135,6 +143,9 @@ to_run rows file =
 abbrev pub to_replay : List Row → Text → Asked
 to_replay rows file = replay file (first_of (codes "upgrade") rows)
 
+abbrev pub to_judge : List Row → Text → Asked
+to_judge rows file = judge file (first_of (codes "every") rows)
+
 -- what a command of a file is asked for
 abbrev pub filed_among : Text → List Row → Option Asked
 filed_among name rows =
@@ -143,7 +154,8 @@ filed_among name rows =
     else (if bytes_eq name (codes "run") then option_map (to_run rows) (first_of (codes "file") rows)
     else (if bytes_eq name (codes "replay") then option_map (to_replay rows) (first_of (codes "file") rows)
     else (if bytes_eq name (codes "certify") then option_map certify (first_of (codes "file") rows)
-    else None))))
+    else (if bytes_eq name (codes "judge") then option_map (to_judge rows) (first_of (codes "file") rows)
+    else None)))))
 
 -- what a kernel is asked for, by what it needs
 abbrev pub of_both : (Text → Text → Option Text → Asked) → Option Text → Option Text → Option Text → Option Asked
@@ -190,6 +202,7 @@ work_for (schedule file list trace) = option_map (λ picks. runs file picks trac
 work_for (run file workers trace certain) = option_map (λ n. works file n trace certain) (workers_in workers)
 work_for (replay file upgrade) = Some (replays file upgrade)
 work_for (certify file) = Some (certifies file)
+work_for (judge file every) = option_map (λ n. judges file n) (every_in every)
 work_for (stencil first steps workers) =
     stencil_of (first_in first) (number_within 0 100 steps) (workers_in workers)
 work_for (pipeline k items workers) =
@@ -211,6 +224,7 @@ first_bad (schedule file list trace) = unless Picks (listed_in list)
 first_bad (run file workers trace certain) = unless Workers (workers_in workers)
 first_bad (replay file upgrade) = None
 first_bad (certify file) = None
+first_bad (judge file every) = unless Every (every_in every)
 first_bad (stencil first steps workers) =
     earlier (unless First (first_in first))
     (earlier (unless Steps (number_within 0 100 steps)) (unless Workers (workers_in workers)))
@@ -225,6 +239,7 @@ IsInRange (runs file picks trace) = ⊤
 IsInRange (works file workers trace certain) = (0 < workers) × (workers ≤ 16)
 IsInRange (replays file upgrade) = ⊤
 IsInRange (certifies file) = ⊤
+IsInRange (judges file every) = IfSome every (λ n. 0 < n)
 IsInRange (cells first steps workers) =
     (length first ≤ 16) × (steps ≤ 100) × (0 < workers) × (workers ≤ 16)
 IsInRange (stages k items workers) =
@@ -237,6 +252,7 @@ file_of (runs file picks trace) = Some file
 file_of (works file workers trace certain) = Some file
 file_of (replays file upgrade) = Some file
 file_of (certifies file) = Some file
+file_of (judges file every) = Some file
 file_of (cells first steps workers) = None
 file_of (stages k items workers) = None
 
@@ -254,6 +270,7 @@ asked_by (words.Run file workers trace certain) =
     run file.now (option_map (λ t. t.now) workers) (option_map (λ t. t.now) trace) certain
 asked_by (words.Replay file upgrade) = replay file.now (option_map (λ t. t.now) upgrade)
 asked_by (words.Certify file) = certify file.now
+asked_by (words.Judge file every) = judge file.now (option_map (λ t. t.now) every)
 asked_by (words.Stencil first steps workers) =
     stencil first.now steps.now (option_map (λ t. t.now) workers)
 asked_by (words.Pipeline k items workers) = pipeline k.now items.now (option_map (λ t. t.now) workers)
@@ -264,6 +281,7 @@ work_of (jobs.Schedule file picks trace) = runs file.now picks.items (option_map
 work_of (jobs.Run file workers trace certain) = works file.now workers (option_map (λ t. t.now) trace) certain
 work_of (jobs.Replay file upgrade) = replays file.now (option_map (λ t. t.now) upgrade)
 work_of (jobs.Certify file) = certifies file.now
+work_of (jobs.Judge file every) = judges file.now every
 work_of (jobs.Stencil first steps workers) = cells first.items steps workers
 work_of (jobs.Pipeline k items workers) = stages k items workers
 
@@ -287,6 +305,7 @@ value_text Steps = codes "S is a number of 0 to 100"
 value_text Stages = codes "K is a number of 1 to 15"
 value_text Items = codes "the items are a number of 0 to 100"
 value_text Workers = codes "the workers are a number of 1 to 16"
+value_text Every = codes "N is a number of 1 to 18446744073709551615"
 
 -- reading a value fails for want of memory, or because it is none
 abbrev pub IsOfValue : {X : Type 0} → Value → Option X → NoJob → Type 0
@@ -320,6 +339,8 @@ plain_words program (run file workers out certain) =
 plain_words program (replay file out) =
     program ∷ codes "replay" ∷ file ∷ option_words (codes "--upgrade") out
 plain_words program (certify file) = program ∷ codes "certify" ∷ file ∷ []
+plain_words program (judge file every) =
+    program ∷ codes "judge" ∷ file ∷ option_words (codes "--every") every
 plain_words program (stencil first steps workers) =
     program ∷ codes "stencil" ∷ codes "--first" ∷ first ∷ codes "--steps" ∷ steps
     ∷ option_words (codes "--workers") workers
@@ -336,6 +357,7 @@ is_plainly_asked (run file workers out certain) =
     is_plain file && (option_map_or is_plain workers true && option_map_or is_plain out true)
 is_plainly_asked (replay file out) = is_plain file && option_map_or is_plain out true
 is_plainly_asked (certify file) = is_plain file
+is_plainly_asked (judge file every) = is_plain file && option_map_or is_plain every true
 is_plainly_asked (stencil first steps workers) =
     is_plain first && (is_plain steps && option_map_or is_plain workers true)
 is_plainly_asked (pipeline k items workers) =

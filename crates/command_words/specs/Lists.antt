@@ -19,6 +19,24 @@ abbrev pub number_in : List ℕ → Option ℕ
 number_in text =
     if is_numeral text && nat_lt (digits_value 10 text) (2 ^ 32) then Some (digits_value 10 text) else None
 
+-- the same of 64 bits
+abbrev pub long_in : List ℕ → Option ℕ
+long_in text =
+    if is_numeral text && nat_lt (digits_value 10 text) (2 ^ 64) then Some (digits_value 10 text) else None
+
+-- the number, if it isn't 0
+abbrev pub unless_zero : ℕ → Option ℕ
+unless_zero n = if nat_le 1 n then Some n else None
+
+-- after how many events each time: a number of 64 bits that isn't 0
+abbrev pub count_in : List ℕ → Option ℕ
+count_in text = option_and_then unless_zero (long_in text)
+
+-- the same, if it needn't be given
+abbrev pub every_in : Option (List ℕ) → Option (Option ℕ)
+every_in None = Some None
+every_in (Some text) = option_map Some (count_in text)
+
 -- the same, if it isn't out of range
 abbrev pub within : ℕ → ℕ → ℕ → Option ℕ
 within least greatest n = if nat_le least n && nat_le n greatest then Some n else None

@@ -2,7 +2,7 @@
 ghost use Rattle.std.specs.Prelude.{◌≡◌, ℕ, List, Some, None, map, option_map, true, IfErr, IfOk, MatchResult};
 ghost use Rattle.command_words.specs.CommandLine.{Asked, IsInRange, IsNoJobFor, Work, asked_by, asked_in, file_of, first_bad, is_plainly_asked, no_job_status, pipeline, plain_words, stencil, value_text, work_for, work_in, work_of};
 
-use crate::lists::{first_of, picks_of, value_of, workers_of};
+use crate::lists::{every_of, first_of, picks_of, value_of, workers_of};
 use crate::words::{Words, words_of};
 use job_ends::Status;
 use std::alloc::{AllocError, Global};
@@ -39,6 +39,11 @@ pub enum Job<'a> {
     Certify {
         file: &'a str,
     },
+    /// Judges the log, and tells the report after each `every` events.
+    Judge {
+        file: &'a str,
+        every: Option<u64>,
+    },
     /// Runs the stencil over these first values for so many steps.
     Stencil {
         first: Vec<u32>,
@@ -63,7 +68,8 @@ impl<'a> Job<'a> {
             | Job::Schedule { file, .. }
             | Job::Run { file, .. }
             | Job::Replay { file, .. }
-            | Job::Certify { file } => Some(file),
+            | Job::Certify { file }
+            | Job::Judge { file, .. } => Some(file),
             Job::Stencil { .. } | Job::Pipeline { .. } => None,
         }
     }
@@ -80,6 +86,8 @@ pub enum Value {
     Stages,
     Items,
     Workers,
+    /// N of a judge.
+    Every,
 }
 
 impl Value {
@@ -96,6 +104,7 @@ impl Value {
             Value::Stages => "K is a number of 1 to 15",
             Value::Items => "the items are a number of 0 to 100",
             Value::Workers => "the workers are a number of 1 to 16",
+            Value::Every => "N is a number of 1 to 18446744073709551615",
         }
     }
 }
@@ -223,6 +232,10 @@ fn job_for<'a>(alloc: Global, words: Words<'a>) -> Result<Job<'a>, NoJob>
         }
         Words::Replay { file, upgrade } => Ok(Job::Replay { file, upgrade }),
         Words::Certify { file } => Ok(Job::Certify { file }),
+        Words::Judge { file, every } => {
+            let every = every_of(every)?;
+            Ok(Job::Judge { file, every })
+        }
         Words::Stencil {
             first,
             steps,

@@ -1,10 +1,10 @@
 //! Numbers in digits alone, and lists of them with commas between.
-ghost use Rattle.std.specs.Prelude.{◌≡◌, ◌<◌, ◌≤◌, length, Some, IfErr, IfOk, option_map};
+ghost use Rattle.std.specs.Prelude.{◌≡◌, ◌<◌, ◌≤◌, length, Some, IfErr, IfOk, IfSome, option_map};
 ghost use Rattle.std.specs.Char.{is_ascii_digit};
 ghost use Rattle.std.specs.List.{list_all};
 ghost use Rattle.std.specs.Range.{range_inclusive_start, range_inclusive_end};
 ghost use Rattle.command_words.specs.CommandLine.{IsOfValue};
-ghost use Rattle.command_words.specs.Lists.{first_in, list_in, listed_in, number_in, number_within, workers_in};
+ghost use Rattle.command_words.specs.Lists.{count_in, every_in, first_in, list_in, listed_in, long_in, number_in, number_within, workers_in};
 
 use crate::command_line::{NoJob, Value};
 use std::alloc::Global;
@@ -125,5 +125,41 @@ pub(crate) fn workers_of(text: Option<&str>) -> Result<u32, NoJob>
     match text {
         Some(text) => value_of(Value::Workers, 1..=16, text),
         None => Ok(2),
+    }
+}
+
+/// The number that digits alone spell, if it has 64 bits.
+#[tactic(auto, using(crate::proofs::Longs::of_digits, crate::proofs::Longs::of_others))]
+fn long_of(text: &str) -> Option<u64>
+    ensures { result ≡ long_in text.now }
+{
+    if is_digits(text) {
+        text.parse().ok()
+    } else {
+        None
+    }
+}
+
+/// The same, if it isn't 0.
+fn count_of(text: &str) -> Option<u64>
+    ensures count { result ≡ count_in text.now }
+    ensures some { IfSome result (λ n. 0 < n) }
+{
+    let number = long_of(text)?;
+    if 1 <= number { Some(number) } else { None }
+}
+
+/// After how many events each time, if that is given.
+pub(crate) fn every_of(text: Option<&str>) -> Result<Option<u64>, NoJob>
+    ensures every { IfOk result (λ every. every_in (option_map (λ t. t.now) text.entry) ≡ Some every) }
+    ensures some { IfOk result (λ every. IfSome every (λ n. 0 < n)) }
+    ensures none { IfErr result (IsOfValue Value.Every (every_in (option_map (λ t. t.now) text.entry))) }
+{
+    let Some(text) = text else {
+        return Ok(None);
+    };
+    match count_of(text) {
+        Some(count) => Ok(Some(count)),
+        None => Err(NoJob::BadValue(Value::Every)),
     }
 }

@@ -2,7 +2,7 @@
 ghost use Rattle.std.specs.Prelude.{◌≡◌, ◌≢◌, List, Some, map, false, option_map, codes, IfErr, IfOk, MatchResult};
 ghost use Rattle.clap.specs.Words.{app_of, found_of, kind_of, new_app, rows_of, rule_of, with_rule, with_subcommand};
 ghost use Rattle.clap.specs.declared.builder.command.Command.TheViews.{out-Command as fields_of};
-ghost use Rattle.command_words.specs.CommandLine.{Asked, asked_among, asked_by, asked_in, bare_app, certify_app, events_app, file_rule, filed_among, filed_app, flag_rule, has_flag, needed_rule, option_rule, pipeline_among, pipeline_app, program_app, replay_app, run_app, running_app, schedule_app, stencil_among, stencil_app};
+ghost use Rattle.command_words.specs.CommandLine.{Asked, asked_among, asked_by, asked_in, bare_app, certify_app, events_app, file_rule, filed_among, filed_app, flag_rule, has_flag, judge_app, needed_rule, option_rule, pipeline_among, pipeline_app, program_app, replay_app, run_app, running_app, schedule_app, stencil_among, stencil_app};
 
 use crate::command_line::{NoJob, Value};
 use clap::error::ErrorKind;
@@ -32,6 +32,10 @@ pub(crate) enum Words<'a> {
     },
     Certify {
         file: &'a str,
+    },
+    Judge {
+        file: &'a str,
+        every: Option<&'a str>,
     },
     Stencil {
         first: &'a str,
@@ -153,10 +157,25 @@ NUMBER NAME, task T draws phaser N, or task T registers task C on phaser N.
 A file that isn't a program is refused whole: refused 24 BadText at PLACE.
 Exit status: 0 certain, 1 refused or not certain, 2 bad words or this help, 3 a read or a write failed.";
 
+/// What `judge --help` says of the log and of the lines.
+const JUDGE_HELP: &str = "\
+The log is read and judged line by line, as it comes. Its first line is {\"version\":2}. Each other line
+is an event, a list as in a trace, such as [TICKET,\"p\",PHASER,\"sig\",TASK], at most 65,536 bytes. Tickets
+rise. Phasers and tasks go by any numbers of 0 to 18446744073709551615.
+Lists with \"t\" or \"f\" in place of \"p\", acts of tasks and finishes, aren't judged.
+Lines: events E, phasers made P there L, totals.
+The first event that can't happen there is refused, with the lines of what was judged before it: refused
+25 NotExplained at PLACE, with the number of its line, and on a second line why. A line that is no event
+is refused 24 BadText at PLACE.
+Exit status: 0 done, 1 refused, 2 bad words or this help, 3 a read or a write failed.";
+
+/// What the option `--every` says of N.
+const EVERY_HELP: &str = "Prints the lines so far on standard error after each N events: 1 or more";
+
 /// What `--help` says of the exit status.
 const PROGRAM_HELP: &str = "\
-Exit status: 0 done, 1 refused (a bad text, a trace that no run makes, a program that isn't certain,
-or memory ran out), 2 bad words, help or version, 3 a read or a write failed.";
+Exit status: 0 done, 1 refused (a bad text, a trace that no run makes, a log with an event that can't
+happen, a program that isn't certain, or memory ran out), 2 bad words, help or version, 3 a read or a write failed.";
 
 /// FILE, which has to be there.
 fn file_argument<'a>(alloc: Global, help: &'a str) -> Arg<'a>
@@ -398,6 +417,21 @@ fn certify_command<'a>(alloc: Global) -> Result<Command<'a>, AllocError>
     )
 }
 
+/// `judge FILE [--every N]`.
+fn judge_command<'a>(alloc: Global) -> Result<Command<'a>, AllocError>
+    ensures app { IfOk result (λ c. app_of c ≡ judge_app) }
+    ensures local { IfOk result (λ c. (fields_of c).has_globals ≡ false) }
+{
+    let command = file_command(
+        alloc,
+        "judge",
+        "Says whether the events of a log could happen, line by line as it comes",
+        "The log; - reads standard input",
+        JUDGE_HELP,
+    )?;
+    command.arg(option(alloc, "every", "N", EVERY_HELP))
+}
+
 /// The program, without its subcommands.
 fn bare_command<'a>(alloc: Global) -> Command<'a>
     ensures { app_of result ≡ bare_app }
@@ -443,12 +477,21 @@ fn command_with_replay<'a>(alloc: Global) -> Result<Command<'a>, AllocError>
     command_with_run(alloc)?.subcommand(replay)
 }
 
-/// The program with the commands of a file.
+/// The program with `certify` too.
 fn command_with_certify<'a>(alloc: Global) -> Result<Command<'a>, AllocError>
-    ensures app { IfOk result (λ c. app_of c ≡ filed_app) }
+    ensures app { IfOk result (λ c.
+        app_of c ≡ with_subcommand (with_subcommand running_app replay_app.top) certify_app.top) }
 {
     let certify = certify_command(alloc)?;
     command_with_replay(alloc)?.subcommand(certify)
+}
+
+/// The program with the commands of a file.
+fn command_with_judge<'a>(alloc: Global) -> Result<Command<'a>, AllocError>
+    ensures app { IfOk result (λ c. app_of c ≡ filed_app) }
+{
+    let judge = judge_command(alloc)?;
+    command_with_certify(alloc)?.subcommand(judge)
 }
 
 /// The program with `stencil` too.
@@ -456,7 +499,7 @@ fn command_with_stencil<'a>(alloc: Global) -> Result<Command<'a>, AllocError>
     ensures app { IfOk result (λ c. app_of c ≡ with_subcommand filed_app stencil_app.top) }
 {
     let stencil = stencil_command(alloc)?;
-    command_with_certify(alloc)?.subcommand(stencil)
+    command_with_judge(alloc)?.subcommand(stencil)
 }
 
 /// The whole command line.
@@ -501,6 +544,10 @@ fn filed_among<'a>(name: &str, found: &ArgMatches<'a>) -> Option<Words<'a>>
             upgrade: found.get_str("upgrade"),
         }),
         "certify" => Some(Words::Certify { file }),
+        "judge" => Some(Words::Judge {
+            file,
+            every: found.get_str("every"),
+        }),
         _ => None,
     }
 }

@@ -11,7 +11,8 @@ use Rattle.phaser_judge.proofs.Lives.{accepted_are_legal}
 use Rattle.judge_job.specs.declared.line.Line.{Line}
 use Rattle.judge_job.specs.Forms.{line_in, is_header}
 use Rattle.judge_job.specs.Lines.{lines}
-use Rattle.judge_job.specs.Logs.{Judged, rises, after_event, after_line, and_then, judged_from, judged_lines, judged_log, nothing, report_text, AcceptedLogsAreLegal}
+use Rattle.judge_job.specs.Logs.{Judged, rises, after_event, after_line, and_then, judged_from, judged_lines, judged_log, nothing, AcceptedLogsAreLegal}
+use Rattle.judge_job.specs.Standing.{report_of, text_of}
 use Rattle.judge_job.specs.Endings.{IsAccepted, whole}
 
 -- the events that were accepted
@@ -64,7 +65,7 @@ accepted_logs_are_legal bytes j is = (accepted_are_legal j.events).0 (subst Come
 
 -- what is known where a log is accepted
 pub accepted : (Says : List ℕ → Type 0) (a : Option (List ℕ)) (j : Judged) (there : ℕ) → IfSome a (λ xs. whole xs ≡ Ok j)
-    → AreThere (λ p. standing p j.events) there → Says (report_text (totals_of j.events) there) → IfSome a (IsAccepted Says)
+    → AreThere (λ p. standing p j.events) there → Says (text_of (report_of (totals_of j.events) there)) → IfSome a (IsAccepted Says)
 unfolding judged_log
 accepted Says None j there is h says = tt
 accepted Says (Some xs) j there is h says = record {

@@ -9,7 +9,8 @@ use Rattle.phaser_judge.specs.Standings.{standing, AreThere}
 use Rattle.phaser_judge.specs.Courses.{totals_of}
 use Rattle.phaser_judge.specs.Renaming.{AreLegal}
 use Rattle.judge_job.specs.Lines.{lines, IsOfTaking, IsOfLongLine}
-use Rattle.judge_job.specs.Logs.{Judged, judged_from, judged_lines, judged_log, nothing, report_text}
+use Rattle.judge_job.specs.Logs.{Judged, judged_from, judged_lines, judged_log}
+use Rattle.judge_job.specs.Standing.{report_of, text_of}
 
 -- a failure to read or for want of memory, or the refusal that the known bytes have
 abbrev pub IsOfVerdict : (List ℕ → Result Judged Refusal) → Option (List ℕ) → Failure → Type 0
@@ -41,4 +42,4 @@ pub record IsAccepted (Says : List ℕ → Type 0) (all : List ℕ) : Type 0 whe
   pub accepted : judged_log all ≡ Ok judged
   pub legal : AreLegal judged.events
   pub are_there : AreThere (λ p. standing p judged.events) there
-  pub says : Says (report_text (totals_of judged.events) there)
+  pub says : Says (text_of (report_of (totals_of judged.events) there))

@@ -1,10 +1,9 @@
 -- What the judge says of a log, line by line, and of the bytes of one.
-use Rattle.std.specs.Prelude.{◌≡◌, ◌+◌, ℕ, Bool, true, false, nat_lt, if◌then◌else◌, List, [], ◌∷◌, ◌++◌, Option, Some, None, Result, Ok, Err, ⊤, codes, decimal}
+use Rattle.std.specs.Prelude.{◌≡◌, ◌+◌, ℕ, Bool, true, false, nat_lt, if◌then◌else◌, List, [], ◌∷◌, Option, Some, None, Result, Ok, Err, ⊤}
 use Rattle.std.specs.Io.BufRead.{strip_last}
 use Rattle.phase_modes.specs.declared.refusal.Refusal.{Refusal}
 use Rattle.phase_modes.specs.declared.refusal.Refusal.TheVariants.{BadText, NotExplained}
 use Rattle.phaser_judge.specs.declared.event.NamedEvent.{NamedEvent}
-use Rattle.phaser_judge.specs.declared.totals.Totals.{Totals}
 use Rattle.phaser_judge.specs.Standings.{standing, may_come}
 use Rattle.phaser_judge.specs.Renaming.{AreLegal}
 use Rattle.judge_job.specs.declared.line.Line.{Line}
@@ -61,12 +60,3 @@ judged_log bytes = judged_lines (lines bytes)
 -- ones
 abbrev pub AcceptedLogsAreLegal : Type 0
 AcceptedLogsAreLegal = (bytes : List ℕ) (j : Judged) → judged_log bytes ≡ Ok j → AreLegal j.events
-
--- the lines of the report, of the totals and of how many phasers are there
-abbrev pub report_text : Totals → ℕ → List ℕ
-report_text n there =
-    (codes "events " ++ decimal n.events ++ codes "\nphasers made " ++ decimal n.made
-    ++ codes " there " ++ decimal there)
-    ++ (codes "\ntotals registered " ++ decimal n.registrations ++ codes " signals " ++ decimal n.signals)
-    ++ (codes " passes " ++ decimal n.passes ++ codes " drops " ++ decimal n.drops
-    ++ codes " sends " ++ decimal n.sends ++ codes "\n")

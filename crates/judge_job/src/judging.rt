@@ -3,7 +3,7 @@ ghost use Rattle.std.specs.Prelude.{◌≡◌, Some, None, Ok, Err, true, false,
 ghost use Rattle.phaser_judge.specs.Courses.{totals_of};
 ghost use Rattle.phaser_judge.specs.Standings.{standing, AreThere};
 ghost use Rattle.judge_job.specs.Logs.{rises, after_event, after_line, nothing};
-ghost use Rattle.judge_job.specs.Standing.{judged_of, IsOfLine};
+ghost use Rattle.judge_job.specs.Standing.{judged_of, report_of, IsOfLine};
 
 use crate::line::Line;
 use crate::stop::{Reason, Stop};
@@ -80,12 +80,9 @@ impl Judging {
 
     /// What is reported of what was judged.
     pub(crate) fn report(&self) -> Report
-        ensures totals { result.totals ≡ totals_of self.now.judge.events }
+        ensures totals { result ≡ report_of (totals_of self.now.judge.events) result.there }
         ensures there { self.now.judge.over ≡ false → AreThere (λ p. standing p self.now.judge.events) result.there }
     {
-        Report {
-            totals: self.judge.totals(),
-            there: self.judge.phasers(),
-        }
+        Report::new(&self.judge.totals(), self.judge.phasers())
     }
 }

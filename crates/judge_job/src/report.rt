@@ -1,7 +1,8 @@
 //! The lines of the report.
 ghost use Rattle.std.specs.Prelude.{◌≡◌, OnOk, IfErr};
+ghost use Rattle.std.specs.Fmt.{WritesOnOk};
 ghost use Rattle.std.specs.Io.KnownBytes.{Appends};
-ghost use Rattle.judge_job.specs.Standing.{text_of, IsOfReport};
+ghost use Rattle.judge_job.specs.Standing.{phasers_text, registrations_text, report_of, text_of, turns_text, IsOfReport};
 
 use crate::judging::Judging;
 use job_ends::{Failure, put_text, write_text};
@@ -14,8 +15,32 @@ use std::io::Write;
 /// What is reported: the totals, and how many phasers are there.
 #[derive(Clone, Copy)]
 pub(crate) struct Report {
-    pub(crate) totals: Totals,
+    pub(crate) events: u64,
+    pub(crate) made: u64,
     pub(crate) there: usize,
+    pub(crate) registrations: u64,
+    pub(crate) signals: u64,
+    pub(crate) passes: u64,
+    pub(crate) drops: u64,
+    pub(crate) sends: u64,
+}
+
+impl Report {
+    /// Of these totals, where so many phasers are there.
+    pub(crate) fn new(totals: &Totals, there: usize) -> Report
+        ensures { result ≡ report_of totals.now there }
+    {
+        Report {
+            events: totals.events,
+            made: totals.made,
+            there,
+            registrations: totals.registrations,
+            signals: totals.signals,
+            passes: totals.passes,
+            drops: totals.drops,
+            sends: totals.sends,
+        }
+    }
 }
 
 impl fmt::Display for Report {
@@ -25,11 +50,28 @@ impl fmt::Display for Report {
     ghost output = { λ r. Some (text_of r) };
 
     fn fmt<W: fmt::Write>(&self, f: &mut fmt::Formatter<W>) -> fmt::Result {
-        let totals = &self.totals;
-        write!(f, "events {}\nphasers made {} there {}", totals.events, totals.made, self.there)?;
-        write!(f, "\ntotals registered {} signals {}", totals.registrations, totals.signals)?;
-        write!(f, " passes {} drops {} sends {}\n", totals.passes, totals.drops, totals.sends)
+        write_phasers(f, self)?;
+        write_registrations(f, self)?;
+        write_turns(f, self)
     }
+}
+
+fn write_phasers<W: fmt::Write>(f: &mut fmt::Formatter<W>, report: &Report) -> fmt::Result
+    ensures { WritesOnOk W.write_str_gives f.old result (phasers_text report.now) f.new }
+{
+    write!(f, "events {}\nphasers made {} there {}\n", report.events, report.made, report.there)
+}
+
+fn write_registrations<W: fmt::Write>(f: &mut fmt::Formatter<W>, report: &Report) -> fmt::Result
+    ensures { WritesOnOk W.write_str_gives f.old result (registrations_text report.now) f.new }
+{
+    write!(f, "totals registered {} signals {}", report.registrations, report.signals)
+}
+
+fn write_turns<W: fmt::Write>(f: &mut fmt::Formatter<W>, report: &Report) -> fmt::Result
+    ensures { WritesOnOk W.write_str_gives f.old result (turns_text report.now) f.new }
+{
+    write!(f, " passes {} drops {} sends {}\n", report.passes, report.drops, report.sends)
 }
 
 /// Writes the lines of the report. Nothing is written before they are there.

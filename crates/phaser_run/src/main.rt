@@ -8,6 +8,7 @@ ghost use Rattle.std.specs.Prelude.{◌≡◌, ◌≢◌, ◌⊎◌, ◌<◌, �
 ghost use Rattle.text_jobs.specs.EventsForm.{Form};
 ghost use Rattle.job_script.specs.Program.{Program};
 ghost use Rattle.job_ends.specs.Ends.{status_of};
+ghost use Rattle.judge_job.specs.Logs.{Judged, judged_log};
 ghost use Rattle.command_words.specs.CommandLine.{IsInRange, no_job_status, work_of};
 ghost use Rattle.text_jobs.specs.EventsFiles.{file_spelled};
 ghost use Rattle.text_jobs.specs.Texts.{program_spelled};
@@ -19,6 +20,7 @@ use crate::upgrade_file::Upgraded;
 use command_words::{Job, NoJob, job_of};
 use job_ends::{Failure, Reads, Status, bytes_of, write_text};
 use job_kernels::PipelineSize;
+use judge_job::judge_from;
 use phase_modes::Refusal;
 use run_jobs::{Workers, certain_on, certify_on, pipeline_on, run_on, stencil_on};
 use std::alloc::{AllocError, Global};
@@ -162,6 +164,7 @@ fn do_on<H: Threads + Wait + Sync, R: Read>(
         }
         Job::Replay { upgrade, .. } => replay(rt, *upgrade, reader),
         Job::Certify { .. } => certify(rt, reader),
+        Job::Judge { every, .. } => judge(rt, *every, reader),
         Job::Stencil {
             first,
             steps,
@@ -320,6 +323,16 @@ fn certify<R: Read>(rt: &HostRuntime, reader: &mut R) -> Status
         }
         Err(failure) => failed(rt, failure),
     }
+}
+
+/// Judges the log that the reader gives, and prints the report on standard output.
+fn judge<R: Read>(rt: &HostRuntime, every: Option<u64>, reader: &mut R) -> Status
+    ensures done { result ≡ Status.Done → IfSome (R.remaining reader.old) (λ all.
+        (j : Judged) × (judged_log all ≡ Ok j)) }
+    ensures usage { result ≢ Status.Usage }
+{
+    let (mut out, mut faults) = (rt.stdout(), rt.stderr());
+    judge_from(rt.alloc(), reader, &mut out, &mut faults, every)
 }
 
 /// Runs the stencil, and prints its cells on standard output.

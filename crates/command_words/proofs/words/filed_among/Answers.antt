@@ -1,7 +1,7 @@
 use Rattle.std.proofs.Common.{rules, codes, refl, ◌∙◌}
 use Rattle.clap.specs.Words.{found_of, rows_of}
 use Rattle.clap.proofs.WalkLemmas.{first_value-rows}
-use Rattle.command_words.specs.CommandLine.{certify, events, to_replay, to_run, to_schedule}
+use Rattle.command_words.specs.CommandLine.{certify, events, to_judge, to_replay, to_run, to_schedule}
 use Rattle.command_words.proofs.Commands.{among_file, among_none}
 use Rattle.command_words.proofs.words.filed_among.Goals as goal
 
@@ -44,3 +44,10 @@ returns-in-certify c =
     let found = found_of c.args.found.now in
     let is = among_file certify (codes "certify") c.args.name.now found _ c.in-certify.is c.get_str.ensures refl in
     search (rules, is)
+
+pub returns-in-judge : goal.returns-in-judge
+returns-in-judge c =
+    let found = found_of c.args.found.now in
+    let is = among_file (to_judge (rows_of found)) (codes "judge") c.args.name.now found _ c.in-judge.is c.get_str.ensures refl in
+    let every = c.get_str-in-judge.ensures ∙ first_value-rows found _ in
+    search (rules, is, every)

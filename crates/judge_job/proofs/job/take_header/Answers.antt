@@ -1,7 +1,7 @@
 use Rattle.std.proofs.Common.{◌≡◌, ◌<◌, length, true, sym, rules, arith}
 use Rattle.std.specs.Io.BufRead.{strip_last}
 use Rattle.judge_job.specs.Forms.{is_header}
-use Rattle.judge_job.proofs.Following.{goes_on_header}
+use Rattle.judge_job.proofs.Following.{goes_on_header, header_refused}
 use Rattle.judge_job.proofs.job.take_header.Goals as goal
 
 pub returns-in-Ok-true-clause-taken : goal.returns-in-Ok-true-clause-taken
@@ -10,3 +10,6 @@ returns-in-Ok-true-clause-taken g c =
     let some : 0 < length line = search rules in
     let is : is_header (strip_last 10 line) ≡ true = search rules in
     goes_on_header _ _ line (search rules) some is
+
+pub returns-in-Err-clause-stop : goal.returns-in-Err-clause-stop
+returns-in-Err-clause-stop g c = header_refused _ _ c.in-Err.ensures.stop
