@@ -12,6 +12,7 @@ COMMANDS = {
     "run": ("FILE [--workers N] [--trace OUT] [--certain]", "runs a program on threads, and prints its report"),
     "schedule": ("FILE [--picks LIST] [--trace OUT]", "runs a program without threads, the same each time"),
     "replay": ("FILE [--upgrade OUT]", "replays a trace, and prints its report"),
+    "judge": ("FILE [--every N]", "judges lines of events, and prints their counts"),
     "certify": ("FILE", "says what each run of a program comes to, where one run tells it"),
     "stencil": ("--first LIST --steps S [--workers N]", "runs a stencil on threads, and prints its cells"),
     "pipeline": ("--stages K --items N [--workers N]", "runs a pipeline on threads, and prints its items"),
@@ -26,6 +27,7 @@ VALUES = {
     "stages": (1, 1, 15, "K is a number of 1 to 15"),
     "items": (1, 0, 100, "the items are a number of 0 to 100"),
     "workers": (1, 1, 16, "the workers are a number of 1 to 16"),
+    "every": (1, 1, 4294967295, "N is a number of 1 to 4294967295"),
 }
 UNBUILT = """\
 phaser_run isn't built from these sources yet, and this help doesn't build it. Once built it prints this:
