@@ -12,8 +12,8 @@ COMMANDS = {
     "run": ("FILE [--workers N] [--trace OUT] [--certain]", "runs a program on threads, and prints its report"),
     "schedule": ("FILE [--picks LIST] [--trace OUT]", "runs a program without threads, the same each time"),
     "replay": ("FILE [--upgrade OUT]", "replays a trace, and prints its report"),
-    "judge": ("FILE [--every N]", "judges lines of events, and prints their counts"),
     "certify": ("FILE", "says what each run of a program comes to, where one run tells it"),
+    "judge": ("FILE [--every N]", "judges the events of a log line by line"),
     "stencil": ("--first LIST --steps S [--workers N]", "runs a stencil on threads, and prints its cells"),
     "pipeline": ("--stages K --items N [--workers N]", "runs a pipeline on threads, and prints its items"),
     "events": ("FILE", "answers the calls of an events file"),
@@ -27,7 +27,7 @@ VALUES = {
     "stages": (1, 1, 15, "K is a number of 1 to 15"),
     "items": (1, 0, 100, "the items are a number of 0 to 100"),
     "workers": (1, 1, 16, "the workers are a number of 1 to 16"),
-    "every": (1, 1, 4294967295, "N is a number of 1 to 4294967295"),
+    "every": (1, 1, 18446744073709551615, "N is a number of 1 to 18446744073709551615"),
 }
 UNBUILT = """\
 phaser_run isn't built from these sources yet, and this help doesn't build it. Once built it prints this:
@@ -133,7 +133,7 @@ def look_for_all(command, place, values):
 
 
 def is_number(text, least, greatest):
-    is_short = re.fullmatch("[0-9]+", text) and len(text.lstrip("0")) <= 10
+    is_short = re.fullmatch("[0-9]+", text) and len(text.lstrip("0")) <= 20
     return bool(is_short) and least <= int(text) <= greatest
 
 
