@@ -1,5 +1,5 @@
-//! Tests of one phaser's crates, up to `phaser_core`, and of `phase_modes`, `phase_model` and
-//! `finish_core`, which call what these export.
+//! Tests of one phaser's crates, up to `phaser_core`, of `phase_modes`, `phase_model` and `finish_core`, and
+//! of `world_model` and `world_core`, which call what these export.
 //!
 //! A library of tests alone: if they stood in the crates themselves, these would be proved once
 //! more with each change of a test.
@@ -9,6 +9,8 @@
 mod asserted;
 #[cfg(test)]
 mod cells;
+#[cfg(test)]
+mod definitions;
 #[cfg(test)]
 mod drawn;
 #[cfg(test)]
@@ -26,6 +28,12 @@ mod numbers;
 #[cfg(test)]
 mod phasers;
 #[cfg(test)]
+mod side_by_side;
+#[cfg(test)]
 mod singles;
 #[cfg(test)]
 mod spawn_lists;
+#[cfg(test)]
+mod sums;
+#[cfg(test)]
+mod worlds;

@@ -1,5 +1,6 @@
-//! Tests of what a job without threads is made of, which call what these crates export: programs,
-//! their runs by picks, traces, and what a task in flight knows of itself.
+//! Tests of the words of the command line and of texts, of events files and how a job ends, and of what
+//! a job without threads is made of: programs, their runs by picks, traces, and what a task in flight
+//! knows of itself; and of what is judged as it comes. They call what these crates export.
 //!
 //! A library of tests alone: if they stood in the crates themselves, these would be proved once
 //! more with each change of a test.
@@ -8,7 +9,17 @@
 #[cfg(test)]
 mod asserted;
 #[cfg(test)]
+mod ends;
+#[cfg(test)]
 mod entries;
+#[cfg(test)]
+mod events;
+#[cfg(test)]
+mod json_words;
+#[cfg(test)]
+mod judged_logs;
+#[cfg(test)]
+mod judged_runs;
 #[cfg(test)]
 mod programs_by_picks;
 #[cfg(test)]
@@ -19,3 +30,5 @@ mod schedules;
 mod standings;
 #[cfg(test)]
 mod walks;
+#[cfg(test)]
+mod words;

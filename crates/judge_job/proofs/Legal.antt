@@ -49,7 +49,7 @@ lines_come : (n : ℕ) (j : Judged) (ls : List (List ℕ)) → all_come j.events
 lines_come n j [] come = come
 lines_come n j (l ∷ ls) come =
     then_comes (λ k. judged_from (n + 1) k ls) (λ k h. lines_come (n + 1) k ls h) (after_line n j (line_in (strip_last 10 l)))
-        (line_comes n j (line_in (strip_last 10 l)) come)
+    (line_comes n j (line_in (strip_last 10 l)) come)
 
 log_comes : (ls : List (List ℕ)) → Come (judged_lines ls)
 log_comes [] = refl

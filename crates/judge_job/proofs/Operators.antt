@@ -24,6 +24,6 @@ pub one_more : (n : ℕ) (ops pushed : List Op) (ts rest : List Token) (o : Op) 
     → op_front ts ≡ Some (o, rest) → pushed ≡ ops ++ o ∷ [] → ops_from (n - 1) pushed rest ≡ ops_from n ops ts
 one_more n ops pushed ts rest o some none found is =
     sym (ops_from_more n ops ts some
-        ∙ ap (ops_step ops (ops_from (n - 1)) ts) none
-        ∙ ap (λ f. f >>= λ p. ops_from (n - 1) (ops ++ p.0 ∷ []) p.1) found
-        ∙ ap (λ l. ops_from (n - 1) l rest) (sym is))
+    ∙ ap (ops_step ops (ops_from (n - 1)) ts) none
+    ∙ ap (λ f. f >>= λ p. ops_from (n - 1) (ops ++ p.0 ∷ []) p.1) found
+    ∙ ap (λ l. ops_from (n - 1) l rest) (sym is))

@@ -5,7 +5,9 @@ ghost use Rattle.phase_modes.specs.Lists.{is_empty};
 ghost use Rattle.judge_job.specs.Fronts.{Reads};
 ghost use Rattle.judge_job.specs.Forms.{ops_from, ops_front, bound_in, bound_front, seen_front, make_in, reg_in, sig_in, sig_end, only_task_in, send_in, look_in, named_in, event_in};
 
-use crate::items::{begins, is_last, mode, number, number_within, op, signed_of, value, whole_of, word};
+use crate::items::{
+    begins, is_last, mode, number, number_within, op, signed_of, value, whole_of, word,
+};
 use json::{Reader, Token};
 use phase_model::{Bound, LongLook, Look, Ops};
 use phaser_judge::{Named, NamedEvent};
@@ -24,7 +26,11 @@ fn ops_after(reader: &mut Reader<'_>) -> Option<Ops>
         ops.push(op(reader)?);
         room -= 1;
     }
-    if reader.take_end_array() { Some(ops) } else { None }
+    if reader.take_end_array() {
+        Some(ops)
+    } else {
+        None
+    }
 }
 
 /// A list of at most four operators.
@@ -79,7 +85,11 @@ fn make_of(reader: &mut Reader<'_>) -> Option<Named>
     let mode = mode(reader)?;
     let ops = ops(reader)?;
     let bound = bound(reader)?;
-    if is_last(reader) { Some(Named::Make(task, mode, ops, bound)) } else { None }
+    if is_last(reader) {
+        Some(Named::Make(task, mode, ops, bound))
+    } else {
+        None
+    }
 }
 
 #[tactic(auto, unfolding(crate::specs::Forms::reg_in))]
@@ -89,7 +99,11 @@ fn reg_of(reader: &mut Reader<'_>) -> Option<Named>
     let parent = number(reader)?;
     let child = number(reader)?;
     let mode = mode(reader)?;
-    if is_last(reader) { Some(Named::Reg(parent, child, mode)) } else { None }
+    if is_last(reader) {
+        Some(Named::Reg(parent, child, mode))
+    } else {
+        None
+    }
 }
 
 /// What follows the task of a signal: the end of the list, or the number of a single before it.
@@ -97,10 +111,18 @@ fn sig_after(reader: &mut Reader<'_>, task: u64) -> Option<Named>
     ensures { result ≡ sig_end task reader.old (after_end_array reader.old) }
 {
     if reader.take_end_array() {
-        return if reader.next().is_none() { Some(Named::Sig(task, None)) } else { None };
+        return if reader.next().is_none() {
+            Some(Named::Sig(task, None))
+        } else {
+            None
+        };
     }
     let number = number_within(reader, 4_294_967_295)?;
-    if is_last(reader) { Some(Named::Sig(task, Some(number as u32))) } else { None }
+    if is_last(reader) {
+        Some(Named::Sig(task, Some(number as u32)))
+    } else {
+        None
+    }
 }
 
 #[tactic(auto, unfolding(crate::specs::Forms::sig_in))]
@@ -127,7 +149,11 @@ fn send_of(reader: &mut Reader<'_>) -> Option<Named>
     let task = number(reader)?;
     let accumulator = number_within(reader, 255)?;
     let value = value(reader)?;
-    if is_last(reader) { Some(Named::Send(task, accumulator as u8, value)) } else { None }
+    if is_last(reader) {
+        Some(Named::Send(task, accumulator as u8, value))
+    } else {
+        None
+    }
 }
 
 #[tactic(auto, unfolding(crate::specs::Forms::look_in))]
@@ -137,7 +163,11 @@ fn look_of(reader: &mut Reader<'_>) -> Option<Named>
     let task = number(reader)?;
     let accumulator = number_within(reader, 255)?;
     let seen = seen(reader)?;
-    if is_last(reader) { Some(Named::Look(task, accumulator as u8, seen)) } else { None }
+    if is_last(reader) {
+        Some(Named::Look(task, accumulator as u8, seen))
+    } else {
+        None
+    }
 }
 
 /// What happened, by its name.

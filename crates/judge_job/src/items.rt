@@ -48,7 +48,11 @@ fn with_minus(negative: bool, number: u64) -> Option<i64>
         }
         return Some(-((number - 1) as i64) - 1);
     }
-    if number < 1 << 63 { Some(number as i64) } else { None }
+    if number < 1 << 63 {
+        Some(number as i64)
+    } else {
+        None
+    }
 }
 
 /// A whole number of 64 bits with a sign, of the text of a number.

@@ -29,7 +29,11 @@ fn without_newline(bytes: &[u8]) -> &[u8]
     ensures { result.now ≡ strip_last 10 bytes.now }
 {
     let len = bytes.len();
-    if len > 0 && bytes[len - 1] == b'\n' { &bytes[..len - 1] } else { bytes }
+    if len > 0 && bytes[len - 1] == b'\n' {
+        &bytes[..len - 1]
+    } else {
+        bytes
+    }
 }
 
 /// Reads and judges a line. Returns whether it is an event of a phaser.
@@ -145,19 +149,21 @@ fn judge_log<B: BufRead, F: Write>(
     if let Err(stop) = take_header(reader, &mut line, &mut scratch) {
         return Err(stop);
     }
-    match judge_lines(reader, &mut line, &mut scratch, judging, &mut telling, faults) {
+    match judge_lines(
+        reader,
+        &mut line,
+        &mut scratch,
+        judging,
+        &mut telling,
+        faults,
+    ) {
         Ok(()) => Ok(()),
         Err(stop) => Err(stop),
     }
 }
 
 /// Writes the report of a log that is accepted.
-fn finish<W: Write, F: Write>(
-    alloc: Global,
-    report: &Report,
-    out: &mut W,
-    faults: &mut F,
-) -> Status
+fn finish<W: Write, F: Write>(alloc: Global, report: &Report, out: &mut W, faults: &mut F) -> Status
     ensures done { result ≡ Status.Done
         → Appends (W.contents out.old) (W.contents out.new) (text_of report.now) }
     ensures usage { result ≢ Status.Usage }

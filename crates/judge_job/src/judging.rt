@@ -6,8 +6,8 @@ ghost use Rattle.judge_job.specs.Logs.{rises, after_event, after_line, nothing};
 ghost use Rattle.judge_job.specs.Standing.{judged_of, report_of, IsOfLine};
 
 use crate::line::Line;
-use crate::stop::{Reason, Stop};
 use crate::report::Report;
+use crate::stop::{Reason, Stop};
 use phaser_judge::{Judge, NamedEvent, Refused};
 use std::alloc::Global;
 

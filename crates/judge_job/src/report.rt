@@ -59,23 +59,39 @@ impl fmt::Display for Report {
 fn write_phasers<W: fmt::Write>(f: &mut fmt::Formatter<W>, report: &Report) -> fmt::Result
     ensures { WritesOnOk W.write_str_gives f.old result (phasers_text report.now) f.new }
 {
-    write!(f, "events {}\nphasers made {} there {}\n", report.events, report.made, report.there)
+    write!(
+        f,
+        "events {}\nphasers made {} there {}\n",
+        report.events, report.made, report.there
+    )
 }
 
 fn write_registrations<W: fmt::Write>(f: &mut fmt::Formatter<W>, report: &Report) -> fmt::Result
     ensures { WritesOnOk W.write_str_gives f.old result (registrations_text report.now) f.new }
 {
-    write!(f, "totals registered {} signals {}", report.registrations, report.signals)
+    write!(
+        f,
+        "totals registered {} signals {}",
+        report.registrations, report.signals
+    )
 }
 
 fn write_turns<W: fmt::Write>(f: &mut fmt::Formatter<W>, report: &Report) -> fmt::Result
     ensures { WritesOnOk W.write_str_gives f.old result (turns_text report.now) f.new }
 {
-    write!(f, " passes {} drops {} sends {}\n", report.passes, report.drops, report.sends)
+    write!(
+        f,
+        " passes {} drops {} sends {}\n",
+        report.passes, report.drops, report.sends
+    )
 }
 
 /// Writes the lines of the report. Nothing is written before they are there.
-pub(crate) fn put_report<W: Write>(alloc: Global, report: &Report, out: &mut W) -> Result<(), Failure>
+pub(crate) fn put_report<W: Write>(
+    alloc: Global,
+    report: &Report,
+    out: &mut W,
+) -> Result<(), Failure>
     ensures done { OnOk result (Appends (W.contents out.old) (W.contents out.new) (text_of report.now)) }
     ensures failure { IfErr result IsOfReport }
 {

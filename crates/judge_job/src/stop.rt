@@ -112,7 +112,8 @@ fn words_of(refusal: Refusal) -> &'static str {
         Refusal::NoSingle => "its mode isn't SINGLE",
         Refusal::AlreadySignalled => "it has signalled since its last turn",
         Refusal::NotSignalled => "it hasn't signalled its phase",
-        Refusal::SingleMismatch => "another single is proposed in this phase, or another task runs it",
+        Refusal::SingleMismatch =>
+            "another single is proposed in this phase, or another task runs it",
         Refusal::NoAccumulator => "the phaser has no accumulator of that number",
         Refusal::NoPhaseYet => "it has ended no turn there yet",
         Refusal::MoreThanParent => "the child's mode isn't within its own",
@@ -130,7 +131,10 @@ fn write_event<W: fmt::Write>(
 ) -> fmt::Result {
     let (phaser, task) = (event.phaser, task_of(&event.event));
     match refused {
-        Refused::NotMade => write!(f, "phaser {phaser} isn't made, or its last task has left it"),
+        Refused::NotMade => write!(
+            f,
+            "phaser {phaser} isn't made, or its last task has left it"
+        ),
         Refused::MadeAlready => write!(f, "phaser {phaser} is made already"),
         Refused::NotRegistered => write!(f, "task {task} isn't registered on phaser {phaser}"),
         Refused::RegisteredAlready => {
@@ -166,7 +170,10 @@ fn write_reason<W: fmt::Write>(f: &mut fmt::Formatter<W>, reason: &Reason) -> fm
         ),
         Reason::TooLong => write!(f, "this line has more than 65,536 bytes"),
         Reason::Ticket(ticket) => {
-            write!(f, "ticket {ticket} isn't greater than that of the line before")
+            write!(
+                f,
+                "ticket {ticket} isn't greater than that of the line before"
+            )
         }
         Reason::Event(event, refused) => write_event(f, event, *refused),
         Reason::Outside => write!(f, "there is no memory for more"),

@@ -27,6 +27,3 @@ pub use laws::accepted_are_legal;
 pub use lists::judge_all;
 pub use refused::Refused;
 pub use totals::Totals;
-
-#[cfg(test)]
-mod tests;

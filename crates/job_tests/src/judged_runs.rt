@@ -1,7 +1,7 @@
-//! Runs that were worked out by hand, event by event.
-use crate::{Judge, Named, NamedEvent, Refused, Totals, judge_all};
+//! Runs that were worked out by hand, judged event by event.
 use phase_model::{Bound, LongLook, Look, Op, Ops};
 use phase_modes::{Mode, Refusal};
+use phaser_judge::{Judge, Named, NamedEvent, Refused, Totals, judge_all};
 use std::alloc::Global;
 use std::process::Abort;
 use std::test::Fail;

@@ -1,6 +1,6 @@
-//! Logs that were worked out by hand.
-use crate::judge_from;
+//! Logs that were worked out by hand, judged by the job.
 use job_ends::Status;
+use judge_job::judge_from;
 use std::alloc::Global;
 use std::process::Abort;
 
@@ -91,7 +91,8 @@ fn what_cannot_happen(rt: HostRuntime) {
 
 #[test]
 fn what_is_no_event(rt: HostRuntime) {
-    let faults = "refused 24 BadText at 3\nline 3: this is no event: the line is cut, or isn't JSON, or has an unknown word, a number out of its range, or items too many or too few\n";
+    let faults =
+        "refused 24 BadText at 3\nline 3: this is no event: the line is cut, or isn't JSON, or has an unknown word, a number out of its range, or items too many or too few\n";
     for line in [
         "[6,\"p\",0,\"sig\",1",
         "{\"version\":2}",
@@ -113,11 +114,33 @@ fn what_is_no_event(rt: HostRuntime) {
 #[test]
 fn headers(rt: HostRuntime) {
     let faults = "refused 24 BadText at 1\nline 1: this isn't the header {\"version\":2}\n";
-    for log in ["", "\n", "{\"version\":1}\n", "{\"version\":2,\"a\":1}\n", "[1,\"t\",0]\n"] {
+    for log in [
+        "",
+        "\n",
+        "{\"version\":1}\n",
+        "{\"version\":2,\"a\":1}\n",
+        "[1,\"t\",0]\n",
+    ] {
         judges(&rt, rt.alloc(), log, None, Status::Refused, NOTHING, faults);
     }
-    judges(&rt, rt.alloc(), "{\"version\":2}", None, Status::Done, NOTHING, "");
-    judges(&rt, rt.alloc(), " { \"version\" : 2 } \r\n", None, Status::Done, NOTHING, "");
+    judges(
+        &rt,
+        rt.alloc(),
+        "{\"version\":2}",
+        None,
+        Status::Done,
+        NOTHING,
+        "",
+    );
+    judges(
+        &rt,
+        rt.alloc(),
+        " { \"version\" : 2 } \r\n",
+        None,
+        Status::Done,
+        NOTHING,
+        "",
+    );
 }
 
 #[test]
