@@ -3,3 +3,5 @@ pub mod Utf8
 pub mod Taking
 pub mod Following
 pub mod Legal
+pub mod Reporting
+pub mod Pieces

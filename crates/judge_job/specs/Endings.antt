@@ -3,8 +3,10 @@ use Rattle.std.specs.Prelude.{◌≡◌, ◌⊎◌, ◌+◌, ℕ, List, [], ◌�
 use Rattle.std.specs.Io.KnownBytes.{Appends}
 use Rattle.phase_modes.specs.declared.refusal.Refusal.{Refusal}
 use Rattle.phase_modes.specs.declared.refusal.Refusal.TheVariants.{BadText}
+use Rattle.job_ends.specs.Ends.{ReportsStatus}
 use Rattle.job_ends.specs.declared.failure.Failure.{Failure}
-use Rattle.job_ends.specs.declared.failure.Failure.TheVariants.{Refused, Read}
+use Rattle.job_ends.specs.declared.failure.Status.{Status}
+use Rattle.job_ends.specs.declared.failure.Failure.TheVariants.{Refused, Read, Write}
 use Rattle.phaser_judge.specs.Standings.{standing, AreThere}
 use Rattle.phaser_judge.specs.Courses.{totals_of}
 use Rattle.phaser_judge.specs.Renaming.{AreLegal}
@@ -43,3 +45,11 @@ pub record IsAccepted (Says : List ℕ → Type 0) (all : List ℕ) : Type 0 whe
   pub legal : AreLegal judged.events
   pub are_there : AreThere (λ p. standing p judged.events) there
   pub says : Says (text_of (report_of (totals_of judged.events) there))
+
+-- why the job ended before its report was written: a read, want of memory, a write, or the refusal that the log has
+abbrev pub IsOfLog : Option (List ℕ) → Failure → Type 0
+IsOfLog known f = IsOfVerdict judged_log known f ⊎ (f ≡ Write)
+
+-- the line of a failure with this status was appended first, or if it wasn't reported, a beginning of it
+abbrev pub ReportsFirst : (Failure → Type 0) → Status → Option (List ℕ) → Option (List ℕ) → Type 0
+ReportsFirst Known s old new = (line : Option (List ℕ)) × ReportsStatus Known s old line × ((more : List ℕ) × Appends line new more)

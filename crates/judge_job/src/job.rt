@@ -1,5 +1,5 @@
 //! Judges the log that a reader gives.
-ghost use Rattle.std.specs.Prelude.{◌≡◌, ◌≢◌, Some, Ok, true, false, MatchResult, IfErr, IfSome, OnOk};
+ghost use Rattle.std.specs.Prelude.{◌≡◌, ◌≢◌, ◌⊎◌, ℕ, List, None, Some, Ok, true, false, MatchResult, IfErr, IfSome, OnOk};
 ghost use Rattle.std.specs.Io.BufRead.{strip_last};
 ghost use Rattle.std.specs.Io.KnownBytes.{Appends};
 ghost use Rattle.job_ends.specs.declared.failure.Failure.{Failure};
@@ -7,8 +7,8 @@ ghost use Rattle.job_ends.specs.Ends.{status_of};
 ghost use Rattle.judge_job.specs.Forms.{line_in};
 ghost use Rattle.judge_job.specs.Lines.{TakesLine};
 ghost use Rattle.judge_job.specs.Logs.{after_line, judged_log, nothing};
-ghost use Rattle.judge_job.specs.Standing.{judged_of, text_of, IsOfLine};
-ghost use Rattle.judge_job.specs.Endings.{GoesOn, IsAccepted, IsOfNext, IsOfVerdict, rest_from, whole};
+ghost use Rattle.judge_job.specs.Standing.{judged_of, text_of, IsOfLine, IsOfReport};
+ghost use Rattle.judge_job.specs.Endings.{GoesOn, IsAccepted, IsOfLog, IsOfNext, IsOfVerdict, ReportsFirst, rest_from, whole};
 
 use crate::judging::Judging;
 use crate::line::{MOST_LINE_BYTES, Unread, event_of_line, is_header_line};
@@ -110,6 +110,7 @@ fn judge_lines<B: BufRead, F: Write>(
     ensures stop { IfErr result
         (λ s. IsOfVerdict (rest_from 2 (judged_of judging.old)) (B.remaining reader.old) s.failure) }
     ensures over { OnOk result (judging.new.judge.over ≡ false) }
+    ensures quiet { telling.old.every ≡ None → faults.new ≡ faults.old }
 {
     let mut place = 2u64;
     while place < u64::MAX {
@@ -142,6 +143,7 @@ fn judge_log<B: BufRead, F: Write>(
     ensures done { OnOk result (IfSome (B.remaining reader.old) (λ xs. whole xs ≡ Ok (judged_of judging.new))) }
     ensures stop { IfErr result (λ s. IsOfVerdict whole (B.remaining reader.old) s.failure) }
     ensures over { OnOk result (judging.new.judge.over ≡ false) }
+    ensures quiet { every ≡ None → faults.new ≡ faults.old }
 {
     let mut line = Vec::new(alloc);
     let mut scratch = Scratch::new(alloc);
@@ -166,11 +168,25 @@ fn judge_log<B: BufRead, F: Write>(
 fn finish<W: Write, F: Write>(alloc: Global, report: &Report, out: &mut W, faults: &mut F) -> Status
     ensures done { result ≡ Status.Done
         → Appends (W.contents out.old) (W.contents out.new) (text_of report.now) }
+    ensures reported { result ≢ Status.Done
+        → ReportsFirst IsOfReport result (F.contents faults.old) (F.contents faults.new) }
     ensures usage { result ≢ Status.Usage }
 {
     match put_report(alloc, report, out) {
         Ok(()) => Status::Done,
         Err(failure) => failure.end(alloc, faults).status,
+    }
+}
+
+/// Writes why a log was refused, in plain words.
+fn tell_reason<F: Write>(alloc: Global, stop: &Stop, faults: &mut F)
+    ensures { (more : List ℕ) × Appends (F.contents faults.old) (F.contents faults.new) more }
+{
+    let Failure::Refused(_) = stop.failure else {
+        return;
+    };
+    if let Ok(text) = stop.to_string(alloc) {
+        write_text(faults, text.as_str());
     }
 }
 
@@ -183,16 +199,16 @@ fn stopped<W: Write, F: Write>(
     out: &mut W,
     faults: &mut F,
 ) -> Status
-    ensures { result ≡ status_of stop.now.failure }
+    ensures status { result ≡ status_of stop.now.failure }
+    ensures reported { ReportsFirst (λ f. (f ≡ stop.now.failure) ⊎ (f ≡ Failure.Refused Refusal.Memory)) result
+        (F.contents faults.old) (F.contents faults.new) }
 {
-    let status = stop.failure.end(alloc, faults).status;
-    if status == Status::Refused {
-        if let Ok(text) = stop.to_string(alloc) {
-            write_text(faults, text.as_str());
-        }
+    let ending = stop.failure.end(alloc, faults);
+    tell_reason(alloc, stop, faults);
+    if ending.status == Status::Refused {
         let _ = put_report(alloc, &judging.report(), out);
     }
-    status
+    ending.status
 }
 
 #[tactic(auto, unfolding(crate::specs::Logs::judged_log))]
@@ -206,6 +222,8 @@ fn judge_and_report<B: BufRead, W: Write, F: Write>(
 ) -> Status
     ensures done { result ≡ Status.Done → IfSome (B.remaining reader.old)
         (IsAccepted (Appends (W.contents out.old) (W.contents out.new))) }
+    ensures stopped { every ≡ None → result ≢ Status.Done → ReportsFirst (IsOfLog (B.remaining reader.old)) result
+        (F.contents faults.old) (F.contents faults.new) }
     ensures usage { result ≢ Status.Usage }
 {
     let mut judging = Judging::new(alloc);
@@ -232,6 +250,10 @@ pub fn judge_from<R: Read, W: Write, F: Write>(
     // The whole input is a log that is accepted, and exactly its report is written.
     ensures done { result ≡ Status.Done → IfSome (R.remaining reader.old)
         (IsAccepted (Appends (W.contents out.old) (W.contents out.new))) }
+    // Else the line of a failure with this status goes to `faults` first: a read, want of memory, a
+    // write, or the refusal that the log has, with the number of its line.
+    ensures stopped { every ≡ None → result ≢ Status.Done → ReportsFirst (IsOfLog (R.remaining reader.old)) result
+        (F.contents faults.old) (F.contents faults.new) }
     ensures usage { result ≢ Status.Usage }
 {
     let Ok(mut pieces) = BufReader::with_capacity(alloc, CHUNK, reader) else {

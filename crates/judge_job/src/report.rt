@@ -1,5 +1,5 @@
 //! The lines of the report.
-ghost use Rattle.std.specs.Prelude.{◌≡◌, OnOk, IfErr};
+ghost use Rattle.std.specs.Prelude.{◌≡◌, None, OnOk, IfErr};
 ghost use Rattle.std.specs.Fmt.{WritesOnOk};
 ghost use Rattle.std.specs.Io.KnownBytes.{Appends};
 ghost use Rattle.judge_job.specs.Standing.{phasers_text, registrations_text, report_of, text_of, turns_text, IsOfReport};
@@ -105,13 +105,15 @@ pub(crate) fn put_report<W: Write>(
 #[derive(Drop)]
 pub(crate) struct Telling {
     alloc: Global,
-    every: Option<u64>,
+    pub(crate) every: Option<u64>,
     since: u64,
 }
 
 impl Telling {
     /// Before the first event.
-    pub(crate) fn new(alloc: Global, every: Option<u64>) -> Telling {
+    pub(crate) fn new(alloc: Global, every: Option<u64>) -> Telling
+        ensures { result.every ≡ every }
+    {
         Telling {
             alloc,
             every,
@@ -120,7 +122,10 @@ impl Telling {
     }
 
     /// After an event. If the report can't be written, judging goes on without it.
-    pub(crate) fn event<F: Write>(&mut self, judging: &Judging, faults: &mut F) {
+    pub(crate) fn event<F: Write>(&mut self, judging: &Judging, faults: &mut F)
+        ensures every { self.new.every ≡ self.old.every }
+        ensures quiet { self.old.every ≡ None → faults.new ≡ faults.old }
+    {
         let Some(every) = self.every else {
             return;
         };

@@ -1,4 +1,4 @@
-use Rattle.std.proofs.Common.{◌≡◌, ◌<◌, ◌+◌, length, Ok, rules, arith}
+use Rattle.std.proofs.Common.{◌≡◌, ◌<◌, ◌+◌, length, Ok, refl, rules, arith}
 use Rattle.std.specs.Io.BufRead.{strip_last}
 use Rattle.judge_job.specs.Forms.{line_in}
 use Rattle.judge_job.specs.Logs.{after_line}
@@ -8,7 +8,7 @@ use Rattle.judge_job.proofs.Following.{starts, next_refused}
 use Rattle.judge_job.proofs.job.judge_lines.Goals as goal
 
 pub loop-place-init : goal.loop-place-init
-loop-place-init g c = (search rules, search rules, starts (rest_from 2 (judged_of c.args.judging.now)) (g.B.Read.remaining c.args.reader.now))
+loop-place-init g c = (search rules, search rules, starts (rest_from 2 (judged_of c.args.judging.now)) (g.B.Read.remaining c.args.reader.now), refl, λ _. refl)
 
 pub returns-in-Err-clause-stop : goal.returns-in-Err-clause-stop
 returns-in-Err-clause-stop g c =

@@ -1,5 +1,5 @@
 -- What is left has, from the next line on, the verdict of all.
-use Rattle.std.proofs.Common.{◌≡◌, ◌-◌, ◌≤◌, false}
+use Rattle.std.proofs.Common.{◌≡◌, ◌-◌, ◌≤◌, None, false}
 use Rattle.judge_job.specs.Standing.{judged_of}
 use Rattle.judge_job.specs.Endings.{GoesOn, rest_from}
 use Rattle.judge_job.proofs.job.judge_lines.Given as goal
@@ -9,6 +9,8 @@ invariant-loop-place g l =
     (l.judging.judge.over ≡ false)
     × (l.place ≤ 18446744073709551615)
     × GoesOn (rest_from 2 (judged_of l.fn.judging)) (g.B.Read.remaining l.fn.reader) (rest_from l.place (judged_of l.judging)) (g.B.Read.remaining l.reader)
+    × (l.telling.every ≡ l.fn.telling.every)
+    × (l.fn.telling.every ≡ None → l.faults ≡ l.fn.faults)
 
 abbrev pub decreases-loop-place : goal.decreases-loop-place
 decreases-loop-place g l = 18446744073709551615 - l.place
