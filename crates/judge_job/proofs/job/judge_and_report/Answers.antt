@@ -23,5 +23,5 @@ returns-clause-stopped g c = λ quiet fails.
     let f = c.in-Err.stop.failure in
     let new = g.F.Write.contents c.stopped.new.faults in
     let told = subst (λ x. ReportsFirst (λ e. (e ≡ f) ⊎ (e ≡ Refused Memory)) c.stopped.result (g.F.Write.contents x) new)
-        (c.in-Err.ensures.quiet quiet) c.stopped.ensures.reported in
+    (c.in-Err.ensures.quiet quiet) c.stopped.ensures.reported in
     first_of (IsOfLog (g.B.Read.remaining c.args.reader.now)) f c.stopped.result _ new (inl c.in-Err.ensures.stop) (inl (inl (inr refl))) told

@@ -8,4 +8,4 @@ returns-clause-stopped g c = λ quiet fails.
     let ready = c.in-Ok.ensures in
     let same = unread (λ r. g.R.Read.remaining r.now) c.in-Ok.pieces (g.R.Read.remaining c.args.reader.now) (search rules) ready.empty ready.capacity in
     subst (λ x. ReportsFirst (IsOfLog x) c.judge_and_report.result (g.F.Write.contents c.args.faults.now)
-        (g.F.Write.contents c.judge_and_report.new.faults)) same (c.judge_and_report.ensures.stopped quiet fails)
+    (g.F.Write.contents c.judge_and_report.new.faults)) same (c.judge_and_report.ensures.stopped quiet fails)
