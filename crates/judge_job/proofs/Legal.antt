@@ -4,8 +4,8 @@ use Rattle.std.specs.Io.BufRead.{strip_last}
 use Rattle.phase_modes.specs.declared.refusal.Refusal.{Refusal}
 use Rattle.phase_modes.specs.declared.refusal.Refusal.TheVariants.{BadText, NotExplained}
 use Rattle.phaser_judge.specs.declared.event.NamedEvent.{NamedEvent}
-use Rattle.phaser_judge.specs.Standings.{standing, may_come, AreThere}
-use Rattle.phaser_judge.specs.Courses.{totals_of}
+use Rattle.phaser_judge.specs.Standings.{standing, may_come}
+use Rattle.phaser_judge.specs.Courses.{totals_of, AreThere}
 use Rattle.phaser_judge.specs.Renaming.{all_come, AreLegal}
 use Rattle.phaser_judge.proofs.Lives.{accepted_are_legal}
 use Rattle.judge_job.specs.declared.line.Line.{Line}

@@ -7,8 +7,8 @@ use Rattle.job_ends.specs.Ends.{ReportsStatus}
 use Rattle.job_ends.specs.declared.failure.Failure.{Failure}
 use Rattle.job_ends.specs.declared.failure.Status.{Status}
 use Rattle.job_ends.specs.declared.failure.Failure.TheVariants.{Refused, Read, Write}
-use Rattle.phaser_judge.specs.Standings.{standing, AreThere}
-use Rattle.phaser_judge.specs.Courses.{totals_of}
+use Rattle.phaser_judge.specs.Standings.{standing}
+use Rattle.phaser_judge.specs.Courses.{totals_of, AreThere}
 use Rattle.phaser_judge.specs.Renaming.{AreLegal}
 use Rattle.judge_job.specs.Lines.{lines, IsOfTaking, IsOfLongLine}
 use Rattle.judge_job.specs.Logs.{Judged, judged_from, judged_lines, judged_log}

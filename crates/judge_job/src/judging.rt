@@ -1,7 +1,7 @@
 //! What is judged of a log: each event by the judge, and the tickets by the one before.
 ghost use Rattle.std.specs.Prelude.{◌≡◌, Some, None, Ok, Err, true, false, option_map, MatchResult, OnOk};
-ghost use Rattle.phaser_judge.specs.Courses.{totals_of};
-ghost use Rattle.phaser_judge.specs.Standings.{standing, AreThere};
+ghost use Rattle.phaser_judge.specs.Courses.{totals_of, AreThere};
+ghost use Rattle.phaser_judge.specs.Standings.{standing};
 ghost use Rattle.judge_job.specs.Logs.{rises, after_event, after_line, nothing};
 ghost use Rattle.judge_job.specs.Standing.{judged_of, report_of, IsOfLine};
 
