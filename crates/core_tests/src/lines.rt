@@ -38,13 +38,14 @@ fn put(table: &mut Table, task: u64) {
     }
 }
 
-/// A table with the lines of the tasks from the first on, put in in no order.
-fn filled(alloc: Global, first: u64) -> Result<Table, Refusal>
-    requires { first ≤ 1 }
+/// A table with the lines of task 0 and of 255 tasks behind so many that have none, put in in no order.
+fn filled(alloc: Global, gap: u64) -> Result<Table, Refusal>
+    requires { gap ≤ 1 }
 {
     let mut table = Table::new(alloc)?;
     for i in 0..256 {
-        put(&mut table, first + i * 37 % 256);
+        let number = i * 37 % 256;
+        put(&mut table, if number == 0 { 0 } else { number + gap });
     }
     Ok(table)
 }
@@ -70,18 +71,18 @@ fn each_line_is_found(rt: HostRuntime) -> Result<(), Fail> {
     Ok(())
 }
 
-/// The tasks 1 to 256 stand a place before their number. Task 255 is looked for at place 255, and
+/// Task 0, and the tasks 2 to 256 a place before their number. Task 255 is looked for at place 255, and
 /// then among 255 lines, at 127, 191, 223, 239, 247, 251, 253 and 254.
 #[test]
 fn the_dearest_line_takes_nine_comparisons(rt: HostRuntime) -> Result<(), Fail> {
     let table = filled(rt.alloc(), 1)?;
-    for task in 1..257 {
+    for task in 2..257 {
         let (place, made) = found(&table, task);
         equal(&rt, place, Some((task as usize - 1, task)));
         assert!(rt; made <= 9);
     }
     equal(&rt, found(&table, 255).1, 9);
-    equal(&rt, found(&table, 0).0, None);
+    equal(&rt, found(&table, 1).0, None);
     Ok(())
 }
 
@@ -111,7 +112,8 @@ fn put_last(table: &mut Table, task: u64) -> u32 {
     comparisons.made()
 }
 
-/// Lines that come and go at the end, each looked for first where its number says.
+/// Lines that come and go at the end, each looked for first as far behind the first as its number
+/// lies.
 #[test]
 fn lines_come_and_go_at_the_end(rt: HostRuntime) -> Result<(), Fail> {
     let mut table = Table::new(rt.alloc())?;
@@ -122,16 +124,18 @@ fn lines_come_and_go_at_the_end(rt: HostRuntime) -> Result<(), Fail> {
     let mut comparisons = Comparisons::none();
     let guessed = table.guess(9, &mut comparisons).map(|(place, _)| place);
     equal(&rt, guessed, Some(1));
-    assert!(rt; table.guess(5, &mut comparisons).is_none());
+    let first = table.guess(5, &mut comparisons).map(|(place, _)| place);
+    equal(&rt, first, Some(0));
+    assert!(rt; table.guess(7, &mut comparisons).is_none());
     assert!(rt; table.last_of(9, &mut comparisons).is_some());
     assert!(rt; table.last_of(5, &mut comparisons).is_none());
-    equal(&rt, comparisons.made(), 4);
+    equal(&rt, comparisons.made(), 5);
     // The last of two lines has a number above 0.
     assert!(rt; table.last_of(0, &mut comparisons).is_none());
-    equal(&rt, comparisons.made(), 4);
+    equal(&rt, comparisons.made(), 5);
     let halved = table.find_by_halving(5, &mut comparisons);
     equal(&rt, halved.map(|(place, _)| place), Some(0));
-    equal(&rt, comparisons.made(), 6);
+    equal(&rt, comparisons.made(), 7);
     if table.len() > 0 {
         table.pop();
     }
