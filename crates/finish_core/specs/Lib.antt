@@ -2,4 +2,5 @@
 pub mod Finish
 pub mod Laws
 pub mod Replies
+pub mod Shutting
 pub mod inner

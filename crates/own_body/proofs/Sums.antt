@@ -18,7 +18,7 @@ use Rattle.trace_model.specs.Explained.{past}
 use Rattle.trace_model.specs.Projections.{log, projection}
 use Rattle.trace_model.specs.Run.{Entry}
 use Rattle.long_locks.specs.Told.{HasLooked}
-use Rattle.table_receipts.specs.Logs.{GoesOn}
+use Rattle.told_history.specs.Stories.{GoesOn}
 use Rattle.job_script.specs.declared.act.Answer.{Answer}
 use Rattle.job_script.specs.declared.act.Answer.TheVariants.{Started, Done, Made, Spawned, Saw}
 use Rattle.tasks_in_flight.specs.Heard.{Asked, Seen, look, ends, IsAnswerTo}

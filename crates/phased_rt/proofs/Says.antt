@@ -11,9 +11,9 @@ use Rattle.trace_model.specs.Explained.{past}
 use Rattle.trace_model.specs.declared.event.TracedEvent.{TracedEvent}
 use Rattle.trace_model.specs.Projections.{phaser, log, whose, projection, AreOf}
 use Rattle.trace_model.specs.Run.{Entry}
-use Rattle.table_receipts.specs.Logs.{GoesOn}
+use Rattle.told_history.specs.Stories.{GoesOn}
 use Rattle.table_receipts.specs.Parts.{IsToldAt, HasShown}
-use Rattle.table_receipts.proofs.Goes.{some_more}
+use Rattle.told_history.proofs.Goes.{some_more}
 use Rattle.tasks_in_flight.specs.Heard.{Seen}
 use Rattle.task_remains.specs.Remaining.{AreLogsOf}
 use Rattle.tasks_in_flight.specs.Said.{Saying, IsSaid, IsSeenBy, IsSaidOfRoot, IsSaidOf, AreSaid, has_end}

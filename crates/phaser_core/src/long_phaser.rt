@@ -5,6 +5,7 @@ ghost use Rattle.phase_model.specs.Phases.{is_closed};
 ghost use Rattle.phase_model.specs.Rules.{is_legal};
 ghost use Rattle.phase_model.specs.declared.call.Call.TheVariants.{Make as make, Register as register, Signal as signal, Pass as pass, SingleDone as single_done, Send as send, Look as look, Drop as drop_task};
 ghost use Rattle.phase_model.specs.Replies.{reply, after, done_result};
+ghost use Rattle.phase_model.specs.Tasks.{live_count};
 ghost use Rattle.phase_model.specs.Waiting.{would_wait, signal_would_wait, is_in_open_phase};
 ghost use Rattle.phase_model.specs.Answers.{signal_result, pass_result, look_result};
 ghost use Rattle.phase_model.specs.Registration.{registration};
@@ -216,6 +217,13 @@ impl LongPhaser {
         ensures { result ≡ is_in_open_phase self.now.story task }
     {
         self.engine.is_in_open_phase(task)
+    }
+
+    /// How many tasks are registered now. If none is, nobody will ever be again.
+    pub fn registered(&self) -> usize
+        ensures { result ≡ live_count self.now.story.past }
+    {
+        self.engine.registered()
     }
 
     /// All that was done on the phaser, of which the proofs alone know more than how much it was. It

@@ -5,7 +5,7 @@ ghost use Rattle.phase_modes.specs.Reg.{maker_reg};
 ghost use Rattle.phase_model.specs.Ordering.{IsOrdered};
 ghost use Rattle.phase_model.specs.Phases.{is_closed};
 ghost use Rattle.phase_model.specs.Rules.{is_full, is_legal};
-ghost use Rattle.phase_model.specs.Tasks.{is_registered};
+ghost use Rattle.phase_model.specs.Tasks.{is_registered, live_count};
 ghost use Rattle.phase_model.specs.Values.{fold, sent};
 ghost use Rattle.phase_model.specs.declared.call.Call.TheVariants.{Make as make, Register as register, Signal as signal, Pass as pass, SingleDone as single_done, Send as send, Look as look, Drop as drop_task};
 ghost use Rattle.phase_model.specs.Replies.{reply, after, done_result};
@@ -316,6 +316,13 @@ impl Engine {
         ensures { result ≡ is_closed phase self.now.story.past }
     {
         self.table.is_closed(phase)
+    }
+
+    /// How many tasks are registered now.
+    pub fn registered(&self) -> usize
+        ensures { result ≡ live_count self.now.story.past }
+    {
+        self.table.len()
     }
 
     /// Whether an event that registers nobody and proposes nothing has no room in the history.

@@ -1,2 +1,1 @@
-pub mod Shutting
 pub mod Telling

@@ -2,14 +2,13 @@
 //! number.
 #![tactic(auto)]
 
-mod answer;
 mod finish;
 mod finishes;
 mod lock;
 mod phasers;
 
-pub use answer::ShutAnswer;
 pub use finish::FinishCell;
+pub use finish_core::ShutAnswer;
 pub use finishes::{FinishParts, FinishTable};
 pub use phaser_cell::{
     Out, Parked, ParkedCall, PassAnswer, PhaserCell, Post, SignalAnswer, Tickets,

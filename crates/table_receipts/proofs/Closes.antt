@@ -17,7 +17,7 @@ use Rattle.phaser_core.specs.declared.answer.PassAnswer.{PassAnswer}
 use Rattle.phaser_core.specs.declared.answer.PassAnswer.TheVariants.{Passed, Claimed, Parked as Waits, Refused}
 use Rattle.long_locks.specs.Told.{IsPassAnswer, IfPassed}
 use Rattle.long_locks.proofs.Closes.{passed_is}
-use Rattle.table_receipts.specs.Told.{IsAnswered}
+use Rattle.told_history.specs.Stories.{IsAnswered}
 
 pub pass_closes : {T : Type 0} (seen now : Story) (t : ℕ) (x : T) (a : PassAnswer T ℕ)
     → IsAnswered (λ h r. IsPassAnswer x (pass_result h r) a) (pass t) seen now → IsLegal now

@@ -1,5 +1,4 @@
 pub mod Closes
-pub mod Goes
 pub mod Kept
 pub mod Logged
 pub mod Looks

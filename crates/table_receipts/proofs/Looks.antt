@@ -13,7 +13,7 @@ use Rattle.phase_model.specs.Answers.{look_result}
 use Rattle.world_model.specs.Laws.{IsFolded}
 use Rattle.long_locks.specs.Told.{HasLooked}
 use Rattle.long_locks.proofs.Looks.{looked_is}
-use Rattle.table_receipts.specs.Told.{IsAnswered}
+use Rattle.told_history.specs.Stories.{IsAnswered}
 
 pub look_shows : (seen now : Story) (t a : ℕ) (r : Result (Look ℤ) Refusal)
     → IsAnswered (λ _ q. r ≡ look_result q) (look t a) seen now → IsFolded now.terms.ops now.past → IfOk r (λ x. HasLooked now.terms.ops t a now.past x)

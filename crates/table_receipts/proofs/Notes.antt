@@ -8,7 +8,8 @@ use Rattle.phase_model.specs.Rules.{Story}
 use Rattle.told_history.specs.Tails.{IsTail}
 use Rattle.long_locks.proofs.Tails.{mapped}
 use Rattle.table_receipts.specs.declared.noted.Noted.{Noted}
-use Rattle.table_receipts.specs.Logs.{terms_in, story_of, notes_of, with_newest, GoesOn, Follows}
+use Rattle.table_receipts.specs.Logs.{terms_in, story_of, notes_of, with_newest}
+use Rattle.told_history.specs.Stories.{GoesOn, Follows}
 
 -- an event with what the phaser was made with
 abbrev noted : Terms → Event → Noted

@@ -6,8 +6,9 @@ use Rattle.std.proofs.lemmas.Bool.Decides.{eqb_tells}
 use Rattle.std.proofs.Math.Dec.{eqb}
 use Rattle.std.specs.List.{slice_set}
 use Rattle.phase_model.specs.Rules.{Story}
-use Rattle.table_receipts.specs.Logs.{Sight, GoesOn}
-use Rattle.table_receipts.proofs.Goes.{goes_itself}
+use Rattle.table_receipts.specs.Logs.{Sight}
+use Rattle.told_history.specs.Stories.{GoesOn}
+use Rattle.told_history.proofs.Goes.{goes_itself}
 use Rattle.table_receipts.specs.Seen.{story_at, IsNamed, HasSeenMore}
 
 pub set_here : (xs : List Sight) (i : ℕ) (x : Sight) → i < length xs → story_at (slice_set xs i x) i ≡ x.story

@@ -2,4 +2,3 @@ pub mod Behind
 pub mod Logs
 pub mod Parts
 pub mod Seen
-pub mod Told

@@ -1,11 +1,9 @@
 -- What a phaser's log tells: its story.
-use Rattle.std.specs.Prelude.{ℕ, ◌≡◌, ◌⊎◌, false, List, [], ◌∷◌, map}
+use Rattle.std.specs.Prelude.{ℕ, List, [], ◌∷◌, map}
 use Rattle.phase_modes.specs.declared.limits.Limits.{Limits}
-use Rattle.phase_modes.specs.Lists.{is_empty}
 use Rattle.phase_model.specs.declared.history.Event.{Event}
 use Rattle.phase_model.specs.declared.terms.Terms.{Terms}
 use Rattle.phase_model.specs.Rules.{Story, no_terms}
-use Rattle.told_history.specs.Tails.{IsTail}
 use Rattle.table_receipts.specs.declared.noted.Noted.{Noted}
 
 -- what was seen of a phaser: the name of its log, and its story up to then
@@ -29,15 +27,6 @@ notes_of s = map (λ e. record { terms = s.terms; event = e }) s.past
 -- a phaser that nobody has made yet
 abbrev pub blank : Limits → Story
 blank l = record { limits = l; terms = no_terms; past = [] }
-
--- the story goes on from one that was seen: under the same limits, with the same events first; and what the phaser was
--- made with stays, once it was made
-abbrev pub GoesOn : Story → Story → Type 0
-GoesOn seen s = (s.limits ≡ seen.limits) × IsTail seen.past s.past × (is_empty seen.past ≡ false → s.terms ≡ seen.terms)
-
--- it is the same, or has one event more
-abbrev pub Follows : Story → Story → Type 0
-Follows s s' = (s' ≡ s) ⊎ ((e : Event) × (s'.past ≡ e ∷ s.past) × (s'.limits ≡ s.limits) × (is_empty s.past ≡ false → s'.terms ≡ s.terms))
 
 -- the log with the story's newest event, if it has one
 abbrev pub with_newest : Story → List Noted → List Noted

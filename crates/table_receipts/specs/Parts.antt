@@ -4,7 +4,8 @@ use Rattle.phase_model.specs.Laws.{IsLegal}
 use Rattle.phase_model.specs.Rules.{Story}
 use Rattle.trace_model.specs.Run.{Entry}
 use Rattle.trace_model.specs.Told.{phaser_told}
-use Rattle.table_receipts.specs.Logs.{Sight, GoesOn}
+use Rattle.table_receipts.specs.Logs.{Sight}
+use Rattle.told_history.specs.Stories.{GoesOn}
 
 -- the log of phaser n has its name, and the part tells the story that the log tells, which is legal, each event with
 -- its ticket

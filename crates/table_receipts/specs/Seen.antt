@@ -1,7 +1,8 @@
 -- What was seen of the phasers of a run, of each a beginning of its story.
 use Rattle.std.specs.Prelude.{ℕ, zero, suc, ◌≡◌, ◌==◌, false, List, [], ◌∷◌, IfSome, slice_get}
 use Rattle.phase_model.specs.Rules.{Story}
-use Rattle.table_receipts.specs.Logs.{Sight, blank, GoesOn}
+use Rattle.table_receipts.specs.Logs.{Sight, blank}
+use Rattle.told_history.specs.Stories.{GoesOn}
 
 -- what was seen of phaser n: nothing if there is none
 abbrev pub story_at : List Sight → ℕ → Story

@@ -3,7 +3,8 @@ ghost use Rattle.std.specs.Prelude.{◌≡◌, ◌⊎◌, [], length};
 ghost use Rattle.phase_model.specs.Laws.{IsLegal};
 ghost use Rattle.phase_model.specs.Ordering.{IsOrdered};
 ghost use Rattle.world_model.specs.Laws.{IsFolded};
-ghost use Rattle.table_receipts.specs.Logs.{Sight, blank, notes_of, story_of, GoesOn, Follows, with_newest};
+ghost use Rattle.table_receipts.specs.Logs.{Sight, blank, notes_of, story_of, with_newest};
+ghost use Rattle.told_history.specs.Stories.{GoesOn, Follows};
 
 use crate::naming::Naming;
 use crate::noted::Noted;

@@ -1,6 +1,6 @@
 //! What a worker has seen of all phasers.
 ghost use Rattle.std.specs.Prelude.{◌≡◌, ℕ, ◌==◌, ◌<◌, false, IfOk, IfErr, length};
-ghost use Rattle.table_receipts.specs.Logs.{GoesOn};
+ghost use Rattle.told_history.specs.Stories.{GoesOn};
 ghost use Rattle.table_receipts.specs.Seen.{story_at, IsNamed};
 
 use crate::front::{Front, PhaserLog};

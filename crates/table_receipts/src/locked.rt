@@ -10,8 +10,7 @@ ghost use Rattle.phase_model.specs.Answers.{signal_result, pass_result, look_res
 ghost use Rattle.phaser_core.specs.Parking.{is_parked, waiting, freed, parking, has_to_wait, goes_on, answered, IsBack, has_signalled, is_held, signal_answered, IsBackFromSignal};
 ghost use Rattle.phaser_cell.specs.Amounts.{amount_if};
 ghost use Rattle.long_locks.specs.Told.{IsSignalAnswer, IsPassAnswer, IfPassed, HasLooked};
-ghost use Rattle.table_receipts.specs.Logs.{GoesOn};
-ghost use Rattle.table_receipts.specs.Told.{IsAnswered, IsMade};
+ghost use Rattle.told_history.specs.Stories.{GoesOn, IsAnswered, IsMade};
 
 use crate::caller::Caller;
 use crate::cell::ReceiptCell;

@@ -8,10 +8,11 @@ use Rattle.phase_model.specs.Rules.{Story}
 use Rattle.trace_model.specs.Projections.{log, AreOf}
 use Rattle.trace_model.specs.Run.{Entry}
 use Rattle.trace_model.specs.TaskLog.{TaskLog}
-use Rattle.table_receipts.specs.Logs.{GoesOn, Sight}
+use Rattle.table_receipts.specs.Logs.{Sight}
+use Rattle.told_history.specs.Stories.{GoesOn}
 use Rattle.table_receipts.specs.Parts.{AreLogged, HasShown}
 use Rattle.table_receipts.specs.Seen.{story_at}
-use Rattle.table_receipts.proofs.Goes.{goes_far}
+use Rattle.told_history.proofs.Goes.{goes_far}
 use Rattle.table_receipts.proofs.Logged.{told_at_each}
 use Rattle.tasks_in_flight.specs.Heard.{Seen}
 use Rattle.tasks_in_flight.specs.Said.{AreSaid, IsSeenBy, has_end}

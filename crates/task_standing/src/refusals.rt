@@ -116,8 +116,8 @@ impl Standing {
         }
     }
 
-    /// What the act is refused by, as many as were begun aside.
-    fn may_make(&self, limits: Limits, tried: &Tried) -> Result<(), Refusal>
+    /// What the act is refused by, however many acts were begun: for a run that counts none.
+    pub fn may_make(&self, limits: Limits, tried: &Tried) -> Result<(), Refusal>
         ensures { result ≡ free_unless (first_refusal (own_conditions limits (facts self.now) tried.now)) }
     {
         match tried {

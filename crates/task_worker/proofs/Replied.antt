@@ -20,9 +20,8 @@ use Rattle.phaser_core.specs.declared.answer.PassAnswer.TheVariants.{Passed, Cla
 use Rattle.phaser_core.specs.Parking.{locked_signal, locked_pass, IsBack}
 use Rattle.long_locks.specs.Told.{IsSignalAnswer, IsPassAnswer}
 use Rattle.world_model.specs.declared.event.Step.TheVariants as steps
-use Rattle.table_receipts.specs.Logs.{GoesOn}
-use Rattle.table_receipts.specs.Told.{IsAnswered, IsMade}
-use Rattle.table_receipts.proofs.Goes.{answered_goes}
+use Rattle.told_history.specs.Stories.{GoesOn, IsAnswered, IsMade}
+use Rattle.told_history.proofs.Goes.{answered_goes}
 use Rattle.task_standing.specs.Known.{Known}
 use Rattle.task_worker.specs.inner.Driven.{IsReplied, IsOfPass}
 

@@ -3,7 +3,7 @@
 ghost use Rattle.std.specs.Prelude.{◌≡◌, Some, IfOk, OnOk, OnErr};
 ghost use Rattle.world_model.specs.declared.event.Step.TheVariants.{Reg, Sig, Pass, Drop};
 ghost use Rattle.world_model.specs.declared.event.WorldEvent.TheVariants.{Phaser};
-ghost use Rattle.scope_locks.specs.Shutting.{IsBackFromShut};
+ghost use Rattle.finish_core.specs.Shutting.{IsBackFromShut};
 ghost use Rattle.table_receipts.specs.Seen.{story_at};
 ghost use Rattle.task_queue.specs.Accounts.{IsSeatOf};
 ghost use Rattle.tasks_in_flight.specs.Heard.{make, send, look};

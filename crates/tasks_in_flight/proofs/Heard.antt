@@ -20,7 +20,7 @@ use Rattle.phaser_core.specs.declared.answer.SignalAnswer.TheVariants.{Signalled
 use Rattle.phaser_core.specs.declared.answer.PassAnswer.TheVariants.{Passed}
 use Rattle.phaser_core.specs.Parking.{locked_signal, locked_pass}
 use Rattle.long_locks.specs.Told.{IsSignalAnswer, IsPassAnswer}
-use Rattle.table_receipts.specs.Told.{IsAnswered, IsMade}
+use Rattle.told_history.specs.Stories.{IsAnswered, IsMade}
 use Rattle.tasks_in_flight.specs.Heard.{HasMade, HasSent, IsOwn}
 use Rattle.tasks_in_flight.specs.inner.Ready.{HasJustDone, HasJustPassed}
 

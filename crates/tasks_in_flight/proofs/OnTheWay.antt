@@ -18,9 +18,9 @@ use Rattle.trace_model.specs.declared.event.TracedEvent.{TracedEvent}
 use Rattle.trace_model.specs.declared.event.TracedEvent.TheVariants.{Begin}
 use Rattle.job_script.specs.declared.act.Answer.{Answer}
 use Rattle.job_script.specs.declared.act.Answer.TheVariants.{Started, Done, Made, Spawned, Saw}
-use Rattle.table_receipts.specs.Logs.{GoesOn}
+use Rattle.told_history.specs.Stories.{GoesOn}
 use Rattle.table_receipts.specs.Seen.{HasSeenMore}
-use Rattle.table_receipts.proofs.Goes.{goes_itself, goes_far}
+use Rattle.told_history.proofs.Goes.{goes_itself, goes_far}
 use Rattle.task_standing.specs.declared.held.Held.{Held}
 use Rattle.task_standing.specs.declared.plan.Plan.{Plan}
 use Rattle.task_standing.specs.declared.plan.Plan.TheVariants.{Idle, Signalling, Spawning, Shutting, Ending}

@@ -16,10 +16,11 @@ use Rattle.trace_model.specs.Run.{Entry}
 use Rattle.trace_model.specs.TaskLog.{TaskLog}
 use Rattle.job_script.specs.declared.act.Answer.{Answer}
 use Rattle.job_script.specs.declared.act.Answer.TheVariants.{Started}
-use Rattle.table_receipts.specs.Logs.{GoesOn, Sight}
+use Rattle.table_receipts.specs.Logs.{Sight}
+use Rattle.told_history.specs.Stories.{GoesOn}
 use Rattle.table_receipts.specs.Parts.{AreLogged}
 use Rattle.table_receipts.specs.Seen.{story_at}
-use Rattle.table_receipts.proofs.Goes.{goes_itself, goes_far}
+use Rattle.told_history.proofs.Goes.{goes_itself, goes_far}
 use Rattle.table_receipts.proofs.Logged.{told_at_each}
 use Rattle.task_standing.specs.declared.held.Held.{Held}
 use Rattle.task_standing.specs.declared.plan.Plan.{Plan}

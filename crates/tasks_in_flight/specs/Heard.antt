@@ -20,7 +20,7 @@ use Rattle.job_script.specs.declared.act.Answer.{Answer}
 use Rattle.job_script.specs.declared.act.Answer.TheVariants.{Started, Done, Made, Spawned, Saw}
 use Rattle.long_locks.specs.Told.{HasLooked}
 use Rattle.told_history.specs.Tails.{IsTail}
-use Rattle.table_receipts.specs.Logs.{GoesOn}
+use Rattle.told_history.specs.Stories.{GoesOn}
 use Rattle.task_standing.specs.declared.held.Held.{Held}
 use Rattle.task_standing.specs.Standing.{owes, pair_of}
 

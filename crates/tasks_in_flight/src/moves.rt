@@ -8,7 +8,7 @@ ghost use Rattle.phase_modes.specs.Refusal.{number_of};
 ghost use Rattle.world_model.specs.declared.event.Step.TheVariants as steps;
 ghost use Rattle.world_model.specs.declared.event.WorldEvent.TheVariants.{Phaser, Finish};
 ghost use Rattle.long_locks.specs.Told.{HasLooked};
-ghost use Rattle.table_receipts.specs.Logs.{GoesOn};
+ghost use Rattle.told_history.specs.Stories.{GoesOn};
 ghost use Rattle.table_receipts.specs.Seen.{story_at};
 ghost use Rattle.task_standing.specs.Noted.{plan_of};
 ghost use Rattle.task_standing.specs.Standing.{acted, begun, inner_of, marked, passed_by, registered_by, shut_by};

@@ -3,3 +3,4 @@ pub mod Steps
 pub mod SeenFields
 pub mod SeenSteps
 pub mod Tails
+pub mod Goes

@@ -4,7 +4,8 @@ use Rattle.phase_modes.specs.Numbers.{Numbers, has_number}
 use Rattle.phase_model.specs.Rules.{Story}
 use Rattle.trace_model.specs.Projections.{log, AreOf}
 use Rattle.trace_model.specs.Run.{Entry}
-use Rattle.table_receipts.specs.Logs.{Sight, GoesOn}
+use Rattle.table_receipts.specs.Logs.{Sight}
+use Rattle.told_history.specs.Stories.{GoesOn}
 use Rattle.table_receipts.specs.Seen.{story_at, IsNamed}
 use Rattle.task_remains.specs.Remaining.{AreLogsOf, AreDifferent}
 use Rattle.tasks_in_flight.specs.Heard.{Seen}

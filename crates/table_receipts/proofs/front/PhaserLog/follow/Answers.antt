@@ -2,7 +2,8 @@ use Rattle.std.proofs.Common.{◌≡◌, ◌<◌, length, List, sym, subst, arit
 use Rattle.phase_model.specs.Laws.{IsLegal}
 use Rattle.phase_model.specs.Rules.{Story}
 use Rattle.table_receipts.specs.declared.noted.Noted.{Noted}
-use Rattle.table_receipts.specs.Logs.{story_of, notes_of, Follows}
+use Rattle.table_receipts.specs.Logs.{story_of, notes_of}
+use Rattle.told_history.specs.Stories.{Follows}
 use Rattle.table_receipts.proofs.Notes.{followed}
 use Rattle.table_receipts.proofs.front.PhaserLog.follow.Goals as goal
 

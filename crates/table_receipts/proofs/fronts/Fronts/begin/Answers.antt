@@ -1,6 +1,7 @@
 use Rattle.std.proofs.Common.{◌≡◌, ◌<◌, List, length, sym, ap, ◌∙◌, subst, arith}
 use Rattle.phase_model.specs.Rules.{Story}
-use Rattle.table_receipts.specs.Logs.{Sight, GoesOn}
+use Rattle.table_receipts.specs.Logs.{Sight}
+use Rattle.told_history.specs.Stories.{GoesOn}
 use Rattle.table_receipts.specs.Seen.{story_at}
 use Rattle.table_receipts.proofs.Stories.{at_same, unset, begins_more, same_more}
 use Rattle.table_receipts.proofs.fronts.Fronts.begin.Goals as goal

@@ -1,5 +1,5 @@
 use Rattle.std.proofs.Common.{◌≡◌, ℕ, ◌<◌, length}
-use Rattle.table_receipts.specs.Logs.{GoesOn}
+use Rattle.told_history.specs.Stories.{GoesOn}
 use Rattle.table_receipts.specs.Seen.{story_at}
 use Rattle.table_receipts.proofs.fronts.Fronts.begin.Given as goal
 

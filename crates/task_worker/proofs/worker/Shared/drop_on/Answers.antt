@@ -5,7 +5,7 @@ use Rattle.phase_model.specs.declared.call.Call.TheVariants as calls
 use Rattle.phase_model.specs.Replies.{done_result}
 use Rattle.phase_model.specs.Rules.{Story}
 use Rattle.table_receipts.specs.Seen.{story_at}
-use Rattle.table_receipts.specs.Told.{IsAnswered}
+use Rattle.told_history.specs.Stories.{IsAnswered}
 use Rattle.world_model.specs.declared.event.Step.TheVariants as steps
 use Rattle.task_worker.specs.inner.Driven.{IsReplied}
 use Rattle.task_worker.proofs.Replied.{drop_replied}

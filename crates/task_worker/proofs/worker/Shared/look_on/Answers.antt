@@ -5,9 +5,9 @@ use Rattle.phase_model.specs.declared.op.Look.TheVariants.{Nothing}
 use Rattle.phase_model.specs.Rules.{Story}
 use Rattle.phase_model.specs.Answers.{look_result}
 use Rattle.long_locks.specs.Told.{HasLooked}
-use Rattle.table_receipts.specs.Logs.{GoesOn}
+use Rattle.told_history.specs.Stories.{GoesOn}
 use Rattle.table_receipts.specs.Seen.{story_at}
-use Rattle.table_receipts.proofs.Goes.{answered_goes}
+use Rattle.told_history.proofs.Goes.{answered_goes}
 use Rattle.tasks_in_flight.specs.Heard.{look}
 use Rattle.tasks_in_flight.proofs.Saying.{shows_kept}
 use Rattle.world_model.specs.declared.event.WorldEvent.TheVariants.{Phaser}

@@ -1,10 +1,9 @@
 use Rattle.std.proofs.Common.{ℕ, ◌≡◌, Ok, refl, sym, ap, subst, ◌∙◌}
 use Rattle.phase_model.specs.declared.call.Call.TheVariants as calls
 use Rattle.phase_model.specs.Rules.{Story}
-use Rattle.table_receipts.specs.Logs.{GoesOn}
+use Rattle.told_history.specs.Stories.{GoesOn, IsMade}
 use Rattle.table_receipts.specs.Seen.{story_at}
-use Rattle.table_receipts.specs.Told.{IsMade}
-use Rattle.table_receipts.proofs.Goes.{made_goes}
+use Rattle.told_history.proofs.Goes.{made_goes}
 use Rattle.tasks_in_flight.specs.Heard.{make, HasMade}
 use Rattle.tasks_in_flight.proofs.Heard.{has_made}
 use Rattle.tasks_in_flight.proofs.Saying.{shows_kept}

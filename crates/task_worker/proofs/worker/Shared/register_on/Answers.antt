@@ -2,10 +2,9 @@ use Rattle.std.proofs.Common.{ℕ, ◌≡◌, Ok, sym, ap, subst, ◌∙◌}
 use Rattle.phase_model.specs.declared.call.Call.TheVariants as calls
 use Rattle.phase_model.specs.Replies.{done_result}
 use Rattle.phase_model.specs.Rules.{Story}
-use Rattle.table_receipts.specs.Logs.{GoesOn}
+use Rattle.told_history.specs.Stories.{GoesOn, IsAnswered}
 use Rattle.table_receipts.specs.Seen.{story_at}
-use Rattle.table_receipts.specs.Told.{IsAnswered}
-use Rattle.table_receipts.proofs.Goes.{answered_goes}
+use Rattle.told_history.proofs.Goes.{answered_goes}
 use Rattle.tasks_in_flight.specs.Heard.{IsOwn}
 use Rattle.tasks_in_flight.proofs.Heard.{registration_is_own}
 use Rattle.world_model.specs.declared.event.Step.TheVariants as steps

@@ -4,10 +4,9 @@ use Rattle.std.proofs.lemmas.Int.{to_z-of_z}
 use Rattle.phase_model.specs.declared.call.Call.TheVariants as calls
 use Rattle.phase_model.specs.Replies.{done_result}
 use Rattle.phase_model.specs.Rules.{Story}
-use Rattle.table_receipts.specs.Logs.{GoesOn}
+use Rattle.told_history.specs.Stories.{GoesOn, IsAnswered}
 use Rattle.table_receipts.specs.Seen.{story_at}
-use Rattle.table_receipts.specs.Told.{IsAnswered}
-use Rattle.table_receipts.proofs.Goes.{answered_goes}
+use Rattle.told_history.proofs.Goes.{answered_goes}
 use Rattle.tasks_in_flight.specs.Heard.{send, HasSent}
 use Rattle.tasks_in_flight.proofs.Heard.{has_sent}
 use Rattle.tasks_in_flight.proofs.Saying.{shows_kept}

@@ -2,7 +2,7 @@ use Rattle.std.proofs.Common.{ℕ, ◌≡◌, Some, sym, ap, subst, ◌∙◌}
 use Rattle.phase_model.specs.declared.call.Call.TheVariants as calls
 use Rattle.phase_model.specs.declared.history.Event.TheVariants.{Sig}
 use Rattle.phase_model.specs.Rules.{Story}
-use Rattle.table_receipts.specs.Logs.{GoesOn}
+use Rattle.told_history.specs.Stories.{GoesOn}
 use Rattle.table_receipts.specs.Seen.{story_at}
 use Rattle.tasks_in_flight.specs.inner.Ready.{HasJustDone, IsDue}
 use Rattle.tasks_in_flight.proofs.Heard.{just_signalled}
