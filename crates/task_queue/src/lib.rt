@@ -3,11 +3,11 @@
 //! # What it is
 //!
 //! A worker puts tasks into its own deque and takes them from its front, first in, first out; to take
-//! one of its own it asks for no lock. If its own has none it steals the first of another worker's,
-//! and if none has one it sleeps until somebody puts one or closes the queue. A put wakes one
-//! sleeper, if there is one, and closing wakes all. Several are put quietly, and then as many are
-//! woken at once. Each worker has a `Seat`, which goes with its
-//! thread.
+//! one of its own it asks for no lock. If its own has none it looks for another worker's, yields,
+//! and after some looks sleeps until somebody puts one or closes the queue. It steals the first of a
+//! worker that takes its own slowly: items that are done in a microsecond aren't worth the
+//! way. A put wakes one sleeper if nobody looks, and who has found one wakes the next, so that as
+//! many come as find work. Closing wakes all. Each worker has a `Seat`, which goes with its thread.
 //!
 //! # A caller
 //!
@@ -40,8 +40,10 @@
 
 mod closing;
 mod deque;
+mod idle;
 mod opening;
 mod order;
+mod pace;
 mod queue;
 mod reach;
 mod rest;

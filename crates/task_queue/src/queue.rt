@@ -1,50 +1,89 @@
 //! The queue of all workers.
 //!
-//! No wake-up is lost. A worker that finds its own deque empty, and all others, says that it watches,
-//! by a word to which it adds 1, before it searches once more. `put` pushes, and asks that word
-//! afterwards, by adding 0. All that is added to the word has one order. So either the put sees that
-//! somebody watches, or whoever begins to watch later finds the item, unless another took it; and
-//! if nobody watches no put asks for the lock. If somebody does, it counts under the lock, and
-//! wakes one sleeper if the lock counts any. Whoever puts several pushes them all, counts them at
-//! once, and wakes as many, or as many as there are. A watcher reads the count, searches, and sleeps
-//! only if the count is unchanged under the lock, under which it is counted as a sleeper. So its
-//! search finds what was counted before it read, unless another took that; what is counted later
-//! keeps it awake, or finds it counted. So does the flag. One for one is enough: who is woken
-//! searches again, and if it takes another item than the one that woke it, the count of that other
-//! wakes one too. A sleeper that read the count only after a `put`, and is woken by it in place of an
-//! earlier one, sleeps again: its search had found the item taken.
+//! A worker that finds its own deque empty looks at the others' now and then, and then lies down and
+//! sleeps. One that looks is a looker, and one that has lain down a sleeper until it is called. One
+//! word counts both. A put wakes nobody if there is a looker, which finds what was put. So a row of
+//! puts wakes one at most. A looker that finds an item looks no longer; if it was the last one it
+//! calls a sleeper in its place, so that as many come as find work.
+//!
+//! A looker steals only from a worker that has taken nothing of its own between two looks, some
+//! microseconds apart. Who takes items faster than that is done with them before they are worth
+//! their way to another processor, where two workers would wait for each other at one lock.
+//!
+//! No wake-up is lost. What is claimed: while an item is held whose put has ended, and somebody
+//! sleeps, there is a looker, or one that was the last of them is about to call a sleeper.
+//! A put pushes, and then reads the word, by adding 0. All that is added to the word has one order.
+//!
+//! - If the put reads that there are no sleepers, then whoever sleeps later has lain down after that.
+//!   A worker that has lain down searches all deques once more before it sleeps, whatever the pace
+//!   of their owners. So it finds the item, unless another took it.
+//! - If the put reads that there are lookers, one of them is the first that leaves none behind. If it
+//!   leaves by lying down, it searches after that, as above. If it has found an item, it reads the
+//!   word after it has left, as a put does, and calls a sleeper if there are any and no looker.
+//! - If the put reads that there are sleepers and no looker, it calls one.
+//!
+//! Whoever calls reads the word again, under the lock. If all still sleep it counts one of them as
+//! called, and at once as a looker in place of a sleeper, and rings. Else it has read one of
+//! the first two cases. So what is claimed passes from each that looks to the next. Those who
+//! have lain down are the sleepers and those called that haven't risen, since all three counts
+//! change under the lock. Who rises takes a call if there is one, and else leaves the sleepers. So it
+//! doesn't matter whom the bell wakes, or whether the one who takes the call has slept at all:
+//! each who has lain down can take it, and nobody sleeps, or goes on sleeping, while a call is there.
+//! One whom the bell wakes too late, as another took the call, sleeps on. The lookers' claim
+//! then stands with that other. One who has lain down and finds an item by its last search rises
+//! first, and so leaves as a looker, with the same duty.
+//!
+//! To close sets a flag under the lock, and rings for all. Who has read the flag searches once more.
 ghost use Rattle.std.specs.Prelude.{◌≡◌, ◌<◌, ◌≤◌, IfOk, IfErr, MatchResult, MatchOption, vec_len, ◌⊎◌, ◌≢◌};
 ghost use Rattle.task_queue.specs.Accounts.{HasPut, IsSame, HasTaken, AreFresh, AreTogether, IsConserved};
 
 use crate::closing::rest_of;
+use crate::idle::Idle;
 use crate::opening::seat_all;
+use crate::pace::{Noted, Paces};
 use crate::seat::Seat;
 use phase_modes::Refusal;
 use std::alloc::Global;
+use std::hint::spin_loop;
 use std::marker::PhantomData;
-use std::sync::atomic::{AtomicU64, Ordering};
-use std::sync::{Condvar, Mutex, Wait};
+use std::sync::{Mutex, Wait};
+use std::thread;
 
-// What was seen of the queue at one moment: the number of puts, which begins again at 0 after its
-// last value, how many are counted as sleepers, and whether the queue is closed.
-#[derive(Clone, Copy)]
-struct Seen {
-    puts: u64,
-    sleepers: u64,
-    closed: bool,
-}
+// How often a looker looks before it lies down.
+const LOOKS: u32 = 50;
+
+// The same, if others look.
+const FEW_LOOKS: u32 = 3;
+
+// How often a looker yields between two looks, and how long it pauses before each time: together
+// some 2 to 9 microseconds, as long as a pause takes on the processor.
+const YIELDS: u32 = 4;
+
+const PAUSES: u32 = 40;
 
 /// A queue of items with a first-in-first-out deque for each of its workers.
 #[derive(Drop)]
 pub struct RunQueue<T> {
     alloc: Global,
     workers: usize,
-    // How many workers watch for an item: they have found none, and search again, or sleep.
-    watchers: AtomicU64,
-    seen: Mutex<Seen>,
-    moved: Condvar,
+    idle: Idle,
+    paces: Paces,
     // Its items go from thread to thread, and none is read by two at once.
     items: PhantomData<Mutex<T>>,
+}
+
+// Lets other threads run, and some time pass.
+fn pause() {
+    for _ in 0..YIELDS {
+        spin();
+        thread::yield_now();
+    }
+}
+
+fn spin() {
+    for _ in 0..PAUSES {
+        spin_loop();
+    }
 }
 
 impl<T: Drop> RunQueue<T> {
@@ -63,16 +102,14 @@ impl<T: Drop> RunQueue<T> {
         let Ok(seats) = seat_all(alloc, workers, room) else {
             return Err(Refusal::Memory);
         };
+        let Ok(paces) = Paces::new(alloc, workers) else {
+            return Err(Refusal::Memory);
+        };
         let queue = RunQueue {
             alloc,
             workers: workers as usize,
-            watchers: AtomicU64::new(0),
-            seen: Mutex::new(Seen {
-                puts: 0,
-                sleepers: 0,
-                closed: false,
-            }),
-            moved: Condvar::new(),
+            idle: Idle::new(),
+            paces,
             items: PhantomData,
         };
         Ok((queue, seats))
@@ -99,8 +136,9 @@ impl<T: Drop> RunQueue<T> {
 }
 
 impl<T> RunQueue<T> {
-    /// Puts an item last into the deque of this seat's worker, and wakes one of those that wait for
-    /// one. The item comes back if the deque refuses it, for memory or another cause.
+    /// Puts an item last into the deque of this seat's worker, and wakes one of those that sleep if
+    /// nobody else looks for one. The item comes back if the deque refuses it, for memory or another
+    /// cause.
     pub fn put<R: Wait>(&self, rt: &R, seat: &mut Seat<T>, item: T) -> Result<(), T>
         ensures { MatchResult result (λ _. HasPut seat.old item seat.new)
             (λ x. (x ≡ item) × IsSame seat.old seat.new) }
@@ -110,8 +148,7 @@ impl<T> RunQueue<T> {
         Ok(())
     }
 
-    /// The same, but nobody is woken: `wake` has to follow, once all of a row are put. So the lock is
-    /// asked for once.
+    /// The same, but nobody is woken: `wake` has to follow, once all of a row are put.
     pub fn put_quietly(&self, seat: &mut Seat<T>, item: T) -> Result<(), T>
         ensures { MatchResult result (λ _. HasPut seat.old item seat.new)
             (λ x. (x ≡ item) × IsSame seat.old seat.new) }
@@ -119,18 +156,15 @@ impl<T> RunQueue<T> {
         seat.put(item)
     }
 
-    /// Wakes one for each of so many items that were put quietly, as far as there are any who wait.
+    /// Wakes one for so many items that were put quietly, if all others that are idle sleep. It
+    /// wakes the next when it has found one of them.
     pub fn wake<R: Wait>(&self, rt: &R, puts: u64) {
-        if puts == 0 || self.watched_by() == 0 {
-            return;
-        }
-        let sleepers = self.count(rt, puts);
-        for _ in 0..puts.min(sleepers) {
-            self.moved.notify_one();
+        if puts > 0 {
+            self.idle.wake(rt);
         }
     }
 
-    /// Takes the first item of this worker's deque, or else of the next worker's that has one; waits
+    /// Takes the first item of this worker's deque, or else of another worker's that has one; waits
     /// if there is none. None once the queue is closed and no item was found after that.
     ///
     /// If all workers wait nobody is left to wake them: a worker that others wait for puts first,
@@ -140,65 +174,66 @@ impl<T> RunQueue<T> {
             (λ x. HasTaken seat.old x seat.new) }
     {
         if let Some(item) = seat.pop() {
+            self.show_pace(seat);
             return Some(item);
         }
-        if let Some(item) = seat.steal(rt) {
-            return Some(item);
-        }
-        self.watchers.fetch_add(1, Ordering::SeqCst);
-        let found = self.watch(rt, seat);
-        self.watchers.fetch_sub(1, Ordering::SeqCst);
+        self.idle.begin_to_look();
+        let found = self.search(rt, seat);
+        self.idle.stop_looking(rt);
         found
     }
 
     /// Closes the queue: whoever waits or comes to take gets what is left, and then None.
     pub fn close<R: Wait>(&self, rt: &R) {
-        self.seen.lock(rt).closed = true;
-        self.moved.notify_all();
+        self.idle.close(rt);
     }
 
-    // How many workers watch, as seen after all that this worker has put.
-    fn watched_by(&self) -> u64 {
-        self.watchers.fetch_add(0, Ordering::SeqCst)
+    // Shows the lookers, if there are any, that this worker has taken an item of its own.
+    fn show_pace(&self, seat: &Seat<T>) {
+        if self.idle.is_looked_for() {
+            self.paces.step(seat.worker);
+        }
     }
 
-    // Takes from another worker's deque, for a worker whose own is empty and who is counted as a
-    // watcher; waits if there is none.
-    fn watch<R: Wait>(&self, rt: &R, seat: &mut Seat<T>) -> Option<T>
+    // Takes from another worker's deque, for a looker whose own is empty; waits if there is none.
+    fn search<R: Wait>(&self, rt: &R, seat: &mut Seat<T>) -> Option<T>
         ensures { MatchOption result (IsSame seat.old seat.new)
             (λ x. HasTaken seat.old x seat.new) }
     {
         for _ in rt.forever() {
-            let seen = self.look(rt);
-            if let Some(item) = seat.steal(rt) {
+            if let Some(item) = self.look(rt, seat) {
                 return Some(item);
             }
-            if seen.closed {
+            self.idle.lie_down(rt);
+            let is_closed = self.idle.is_closed();
+            if let Some(item) = seat.steal(rt) {
+                self.idle.get_up(rt);
+                return Some(item);
+            }
+            if is_closed {
+                self.idle.get_up(rt);
                 return None;
             }
-            self.wait(rt, seen);
+            self.idle.sleep(rt);
         }
         unreachable!()
     }
 
-    // So many more were put. How many sleep.
-    fn count<R: Wait>(&self, rt: &R, puts: u64) -> u64 {
-        let mut seen = self.seen.lock(rt);
-        seen.puts = seen.puts.wrapping_add(puts);
-        seen.sleepers
-    }
-
-    fn look<R: Wait>(&self, rt: &R) -> Seen {
-        *self.seen.lock(rt)
-    }
-
-    // Sleeps until something was put, or the queue was closed, since it was seen so.
-    fn wait<R: Wait>(&self, rt: &R, last: Seen) {
-        let mut seen = self.seen.lock(rt);
-        seen.sleepers = seen.sleepers.wrapping_add(1);
-        let mut seen = self.moved.wait_while(rt, seen, |now| {
-            now.puts == last.puts && now.closed == last.closed
-        });
-        seen.sleepers = seen.sleepers.wrapping_sub(1);
+    // Looks for some time at the deques of the slow.
+    fn look<R: Wait>(&self, rt: &R, seat: &mut Seat<T>) -> Option<T>
+        ensures { MatchOption result (IsSame seat.old seat.new)
+            (λ x. HasTaken seat.old x seat.new) }
+    {
+        let mut noted = Noted::new();
+        for look in 0..LOOKS {
+            if let Some(item) = seat.steal_from_slow(rt, &self.paces, &mut noted) {
+                return Some(item);
+            }
+            if self.idle.is_closed() || (look >= FEW_LOOKS && self.idle.do_several_look()) {
+                return None;
+            }
+            pause();
+        }
+        None
     }
 }

@@ -4,8 +4,9 @@ ghost use Rattle.task_queue.specs.Accounts.{HasPut, IsSame, HasTaken};
 
 use crate::deque;
 use crate::deque::Deque;
+use crate::pace::{Noted, Paces};
 use crate::reach::Reach;
-use crate::steals::steal_any;
+use crate::steals::{steal_any, steal_slow};
 use std::marker::Model;
 use std::sync::Wait;
 
@@ -54,5 +55,18 @@ impl<T> Seat<T> {
             (λ x. HasTaken self.old x self.new) }
     {
         steal_any(rt, self.reaches.as_mut_slice(), self.worker)
+    }
+
+    // The same, but only from a worker that has taken none of its own since it was noted.
+    pub(crate) fn steal_from_slow<R: Wait>(
+        &mut self,
+        rt: &R,
+        paces: &Paces,
+        noted: &mut Noted,
+    ) -> Option<T>
+        ensures { MatchOption result (IsSame self.old self.new)
+            (λ x. HasTaken self.old x self.new) }
+    {
+        steal_slow(rt, self.reaches.as_mut_slice(), self.worker, paces, noted)
     }
 }

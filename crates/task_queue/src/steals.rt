@@ -4,6 +4,7 @@ ghost use Rattle.task_queue.specs.Reaches.{reach_deque, IsReach, stolen_of};
 ghost use Rattle.task_queue.specs.Accounts.{IsOneMore};
 
 use crate::deque;
+use crate::pace::{Noted, Paces};
 use crate::reach::Reach;
 use crossbeam_deque::Steal;
 use std::sync::Wait;
@@ -64,6 +65,34 @@ pub(crate) fn steal_any<T, R: Wait>(rt: &R, reaches: &mut [Reach<T>], worker: us
     let workers = reaches.len();
     for step in 1..workers {
         let at = around(worker + step, workers);
+        if let Some(item) = steal_at(rt, reaches, at) {
+            return Some(item);
+        }
+    }
+    None
+}
+
+// The same, but only from a worker that has taken none of its own since it was noted. Each is noted.
+pub(crate) fn steal_slow<T, R: Wait>(
+    rt: &R,
+    reaches: &mut [Reach<T>],
+    worker: usize,
+    paces: &Paces,
+    noted: &mut Noted,
+) -> Option<T>
+    requires ready { All IsReach reaches.old }
+    requires worker { (worker < length reaches.old) × (length reaches.old ≤ 17) }
+    ensures same { map reach_deque reaches.new ≡ map reach_deque reaches.old }
+    ensures ready { All IsReach reaches.new }
+    ensures taken { MatchOption result (map stolen_of reaches.new ≡ map stolen_of reaches.old)
+        (λ x. IsOneMore (map stolen_of reaches.old) x (map stolen_of reaches.new)) }
+{
+    let workers = reaches.len();
+    for step in 1..workers {
+        let at = around(worker + step, workers);
+        if paces.has_moved(noted, at) {
+            continue;
+        }
         if let Some(item) = steal_at(rt, reaches, at) {
             return Some(item);
         }
