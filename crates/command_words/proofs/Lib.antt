@@ -3,11 +3,11 @@ pub mod Commands
 pub mod Listed
 pub mod Named
 pub mod Numbers
-pub mod Longs
 pub mod Plain
 pub mod PlainCommands
 pub mod PlainEntry
 pub mod PlainItems
 pub mod PlainSteps
 pub mod PlainWords
+pub mod Seconds
 pub mod Works

@@ -10,7 +10,7 @@ use Rattle.command_words.proofs.PlainItems.{Item, asked_of_items, given, named, 
 abbrev pub name_of : Asked → Text
 name_of (events file) = codes "events"
 name_of (schedule file list out) = codes "schedule"
-name_of (run file workers out certain) = codes "run"
+name_of (run file workers out certain live progress) = codes "run"
 name_of (replay file out) = codes "replay"
 name_of (certify file) = codes "certify"
 name_of (judge file every) = codes "judge"
@@ -32,10 +32,12 @@ abbrev pub items_of : Asked → List Item
 items_of (events file) = given file ∷ []
 items_of (schedule file list out) =
     given file ∷ with_option (codes "--picks") list (with_option (codes "--trace") out [])
-items_of (run file workers out certain) =
+items_of (run file workers out certain live progress) =
     given file
     ∷ with_option (codes "--workers") workers
-    (with_option (codes "--trace") out (with_flag (codes "--certain") certain []))
+    (with_option (codes "--trace") out
+    (with_flag (codes "--certain") certain
+    (with_flag (codes "--live") live (with_flag (codes "--progress") progress []))))
 items_of (replay file out) = given file ∷ with_option (codes "--upgrade") out []
 items_of (certify file) = given file ∷ []
 items_of (judge file every) = given file ∷ with_option (codes "--every") every []
@@ -51,7 +53,7 @@ pub command_of : (asked : Asked) → IsCommand (name_of asked)
 unfolding clap_on_literals
 command_of (events file) = record { walks = refl; faults = refl; asks = λ words. refl }
 command_of (schedule file list out) = record { walks = refl; faults = refl; asks = λ words. refl }
-command_of (run file workers out certain) = record { walks = refl; faults = refl; asks = λ words. refl }
+command_of (run file workers out certain live progress) = record { walks = refl; faults = refl; asks = λ words. refl }
 command_of (replay file out) = record { walks = refl; faults = refl; asks = λ words. refl }
 command_of (certify file) = record { walks = refl; faults = refl; asks = λ words. refl }
 command_of (judge file every) = record { walks = refl; faults = refl; asks = λ words. refl }
@@ -70,22 +72,47 @@ schedule_read file (Some list) None = record { said = λ p. refl; read = refl }
 schedule_read file None (Some out) = record { said = λ p. refl; read = refl }
 schedule_read file (Some list) (Some out) = record { said = λ p. refl; read = refl }
 
-run_read : (file : Text) (workers out : Option Text) (certain : Bool) → IsRead (run file workers out certain)
+run_read : (file : Text) (workers out : Option Text) (certain live progress : Bool)
+    → IsRead (run file workers out certain live progress)
 unfolding clap_on_literals
-run_read file None None true = record { said = λ p. refl; read = refl }
-run_read file None None false = record { said = λ p. refl; read = refl }
-run_read file (Some workers) None true = record { said = λ p. refl; read = refl }
-run_read file (Some workers) None false = record { said = λ p. refl; read = refl }
-run_read file None (Some out) true = record { said = λ p. refl; read = refl }
-run_read file None (Some out) false = record { said = λ p. refl; read = refl }
-run_read file (Some workers) (Some out) true = record { said = λ p. refl; read = refl }
-run_read file (Some workers) (Some out) false = record { said = λ p. refl; read = refl }
+run_read file None None true true true = record { said = λ p. refl; read = refl }
+run_read file None None true true false = record { said = λ p. refl; read = refl }
+run_read file None None true false true = record { said = λ p. refl; read = refl }
+run_read file None None true false false = record { said = λ p. refl; read = refl }
+run_read file None None false true true = record { said = λ p. refl; read = refl }
+run_read file None None false true false = record { said = λ p. refl; read = refl }
+run_read file None None false false true = record { said = λ p. refl; read = refl }
+run_read file None None false false false = record { said = λ p. refl; read = refl }
+run_read file (Some workers) None true true true = record { said = λ p. refl; read = refl }
+run_read file (Some workers) None true true false = record { said = λ p. refl; read = refl }
+run_read file (Some workers) None true false true = record { said = λ p. refl; read = refl }
+run_read file (Some workers) None true false false = record { said = λ p. refl; read = refl }
+run_read file (Some workers) None false true true = record { said = λ p. refl; read = refl }
+run_read file (Some workers) None false true false = record { said = λ p. refl; read = refl }
+run_read file (Some workers) None false false true = record { said = λ p. refl; read = refl }
+run_read file (Some workers) None false false false = record { said = λ p. refl; read = refl }
+run_read file None (Some out) true true true = record { said = λ p. refl; read = refl }
+run_read file None (Some out) true true false = record { said = λ p. refl; read = refl }
+run_read file None (Some out) true false true = record { said = λ p. refl; read = refl }
+run_read file None (Some out) true false false = record { said = λ p. refl; read = refl }
+run_read file None (Some out) false true true = record { said = λ p. refl; read = refl }
+run_read file None (Some out) false true false = record { said = λ p. refl; read = refl }
+run_read file None (Some out) false false true = record { said = λ p. refl; read = refl }
+run_read file None (Some out) false false false = record { said = λ p. refl; read = refl }
+run_read file (Some workers) (Some out) true true true = record { said = λ p. refl; read = refl }
+run_read file (Some workers) (Some out) true true false = record { said = λ p. refl; read = refl }
+run_read file (Some workers) (Some out) true false true = record { said = λ p. refl; read = refl }
+run_read file (Some workers) (Some out) true false false = record { said = λ p. refl; read = refl }
+run_read file (Some workers) (Some out) false true true = record { said = λ p. refl; read = refl }
+run_read file (Some workers) (Some out) false true false = record { said = λ p. refl; read = refl }
+run_read file (Some workers) (Some out) false false true = record { said = λ p. refl; read = refl }
+run_read file (Some workers) (Some out) false false false = record { said = λ p. refl; read = refl }
 
 pub as_said : (asked : Asked) → IsRead asked
 unfolding clap_on_literals
 as_said (events file) = record { said = λ p. refl; read = refl }
 as_said (schedule file list out) = schedule_read file list out
-as_said (run file workers out certain) = run_read file workers out certain
+as_said (run file workers out certain live progress) = run_read file workers out certain live progress
 as_said (replay file None) = record { said = λ p. refl; read = refl }
 as_said (replay file (Some out)) = record { said = λ p. refl; read = refl }
 as_said (certify file) = record { said = λ p. refl; read = refl }

@@ -16,9 +16,10 @@ option_good : (name : Text) (o : Option Text) (rest : List Item) → option_map_
 option_good name None rest plain good = good
 option_good name (Some value) rest plain good = (tt, (word value plain, good))
 
-flag_good : (name : Text) (is_wanted : Bool) → AreGood (with_flag name is_wanted [])
-flag_good name true = (tt, tt)
-flag_good name false = tt
+flag_good : (name : Text) (is_wanted : Bool) (rest : List Item) → AreGood rest
+    → AreGood (with_flag name is_wanted rest)
+flag_good name true rest good = (tt, good)
+flag_good name false rest good = good
 
 three : (a b c : Bool) → (a && (b && c)) ≡ true → (a ≡ true) × (b ≡ true) × (c ≡ true)
 three a b c e =
@@ -30,9 +31,10 @@ all_good (events file) plain = (word file plain, tt)
 all_good (schedule file list out) plain =
     let parts = three _ _ _ plain in
     (word file parts.0, option_good _ list _ parts.1 (option_good _ out _ parts.2 tt))
-all_good (run file workers out certain) plain =
+all_good (run file workers out certain live progress) plain =
     let parts = three _ _ _ plain in
-    (word file parts.0, option_good _ workers _ parts.1 (option_good _ out _ parts.2 (flag_good _ certain)))
+    let flags = flag_good _ certain _ (flag_good _ live _ (flag_good _ progress [] tt)) in
+    (word file parts.0, option_good _ workers _ parts.1 (option_good _ out _ parts.2 flags))
 all_good (replay file out) plain =
     let parts = and_parts _ _ plain in (word file parts.0, option_good _ out _ parts.1 tt)
 all_good (certify file) plain = (word file plain, tt)

@@ -1,7 +1,7 @@
 -- The work that words name.
 use Rattle.std.proofs.Common.{◌≡◌, ℕ, List, option_map, Option, Some, None, Result, Ok, Err, IfOk, IfErr, MatchResult, refl, sym, ap, ◌∙◌, inl, inr}
 use Rattle.std.specs.Prelude.{option_and_then}
-use Rattle.command_words.specs.CommandLine.{Asked, IsNoJobFor, Work, certify, earlier, events, first_bad, judge, pipeline, pipeline_of, replay, run, schedule, stencil, stencil_of, unless, work_for, work_of}
+use Rattle.command_words.specs.CommandLine.{Asked, IsNoJobFor, Work, certify, earlier, events, first_bad, judge, pipeline, pipeline_of, replay, run, run_of, schedule, stencil, stencil_of, unless, work_for, work_of}
 use Rattle.command_words.specs.declared.command_line.Job.{Job}
 use Rattle.command_words.specs.declared.command_line.NoJob.{NoJob}
 use Rattle.command_words.specs.declared.command_line.NoJob.TheVariants.{BadValue, Memory}
@@ -32,10 +32,18 @@ none_of_stages p q r v (Some x) None c e = refl
 none_of_stages p q r v (Some x) (Some y) None e = refl
 none_of_stages p q r v (Some x) (Some y) (Some z) e = cc
 
+-- a run without workers, or with a bad flag, is none
+none_of_run : (v u : Value) (flag : Option Value) (workers : Option ℕ) (work : ℕ → Work)
+    → earlier (unless v workers) flag ≡ Some u → run_of flag workers work ≡ None
+none_of_run v u None None work e = refl
+none_of_run v u (Some f) None work e = refl
+none_of_run v u (Some f) (Some n) work e = refl
+none_of_run v u None (Some n) work e = cc
+
 pub bad_works : (asked : Asked) (v : Value) → first_bad asked ≡ Some v → work_for asked ≡ None
 bad_works (events file) v e = cc
 bad_works (schedule file list trace) v e = none_of _ _ v _ e
-bad_works (run file workers trace certain) v e = none_of _ _ v _ e
+bad_works (run file workers trace certain live progress) v e = none_of_run _ v _ _ _ e
 bad_works (replay file upgrade) v e = cc
 bad_works (certify file) v e = cc
 bad_works (judge file every) v e = none_of _ _ v _ e

@@ -7,15 +7,16 @@ use Rattle.clap.specs.declared.builder.action.ArgAction.TheVariants.{SetTrue}
 use Rattle.clap.specs.Words.{App, Row, Rule, Text, fault_of, first_of, new_app, new_rule, subcommand_of, with_rule, with_subcommand}
 use Rattle.job_ends.specs.declared.failure.Status.{Status}
 use Rattle.job_ends.specs.declared.failure.Status.TheVariants as statuses
-use Rattle.command_words.specs.Lists.{every_in, first_in, listed_in, number_within, workers_in}
+use Rattle.command_words.specs.Lists.{amount_of, every_in, first_in, listed_in, number_within, workers_in}
 use Rattle.command_words.specs.declared.words.Words.{Words}
 use Rattle.command_words.specs.declared.words.Words.TheVariants as words
 use Rattle.command_words.specs.declared.command_line.Job.{Job}
 use Rattle.command_words.specs.declared.command_line.Job.TheVariants as jobs
 use Rattle.command_words.specs.declared.command_line.NoJob.{NoJob}
 use Rattle.command_words.specs.declared.command_line.NoJob.TheVariants.{Arguments, Missing, BadValue, Memory}
+use Rattle.command_words.specs.declared.command_line.Every.{Every as Often}
 use Rattle.command_words.specs.declared.command_line.Value.{Value}
-use Rattle.command_words.specs.declared.command_line.Value.TheVariants.{Picks, First, Steps, Stages, Items, Workers, Every}
+use Rattle.command_words.specs.declared.command_line.Value.TheVariants.{Picks, First, Steps, Stages, Items, Workers, Every, Live, Progress}
 
 -- ---- the commands
 
@@ -45,11 +46,17 @@ schedule_app =
     with_rule (with_rule (with_rule (new_app (codes "schedule")) file_rule) (option_rule (codes "picks")))
     (option_rule (codes "trace"))
 
--- `run FILE [--workers N] [--trace OUT] [--certain]`
+-- `run FILE [--workers N] [--trace OUT]`
+abbrev pub traced_app : App
+traced_app =
+    with_rule (with_rule (with_rule (new_app (codes "run")) file_rule) (option_rule (codes "workers")))
+    (option_rule (codes "trace"))
+
+-- `run FILE [--workers N] [--trace OUT] [--certain] [--live] [--progress]`
 abbrev pub run_app : App
 run_app =
-    with_rule (with_rule (with_rule (with_rule (new_app (codes "run")) file_rule)
-    (option_rule (codes "workers"))) (option_rule (codes "trace"))) (flag_rule (codes "certain"))
+    with_rule (with_rule (with_rule traced_app (flag_rule (codes "certain"))) (flag_rule (codes "live")))
+    (flag_rule (codes "progress"))
 
 -- `replay FILE [--upgrade OUT]`
 abbrev pub replay_app : App
@@ -104,7 +111,8 @@ program_app = with_subcommand (with_subcommand filed_app stencil_app.top) pipeli
 pub data Asked : Type 0 where
   events : Text → Asked
   schedule : Text → Option Text → Option Text → Asked
-  run : Text → Option Text → Option Text → Bool → Asked
+  -- FILE, the workers, OUT, and whether the flags `--certain`, `--live` and `--progress` stand there
+  run : Text → Option Text → Option Text → Bool → Bool → Bool → Asked
   replay : Text → Option Text → Asked
   certify : Text → Asked
   judge : Text → Option Text → Asked
@@ -118,11 +126,13 @@ pub data Work : Type 0 where
   runs : Text → List ℕ → Option Text → Work
   -- FILE, the workers, OUT, and whether FILE has to be certain
   works : Text → ℕ → Option Text → Bool → Work
+  -- FILE, the workers, and whether the run says how fast it goes; no events of it are kept
+  lives : Text → ℕ → Bool → Work
   -- FILE, OUT
   replays : Text → Option Text → Work
   certifies : Text → Work
-  -- FILE, and after how many events the report is told each time
-  judges : Text → Option ℕ → Work
+  -- FILE, and after how many events or seconds the report is told each time
+  judges : Text → Option Often → Work
   -- the first values, the steps, the workers
   cells : List ℕ → ℕ → ℕ → Work
   -- the stages, the items, the workers
@@ -139,6 +149,7 @@ has_flag name rows = option_map_or (λ value. bytes_eq value (codes "true")) (fi
 abbrev pub to_run : List Row → Text → Asked
 to_run rows file =
     run file (first_of (codes "workers") rows) (first_of (codes "trace") rows) (has_flag (codes "certain") rows)
+    (has_flag (codes "live") rows) (has_flag (codes "progress") rows)
 
 abbrev pub to_replay : List Row → Text → Asked
 to_replay rows file = replay file (first_of (codes "upgrade") rows)
@@ -195,11 +206,31 @@ abbrev pub pipeline_of : Option ℕ → Option ℕ → Option ℕ → Option Wor
 pipeline_of (Some k) (Some items) (Some workers) = Some (stages k items workers)
 pipeline_of _ _ _ = None
 
--- the work that is asked for; a bad list or number asks for none
+-- a run whose events aren't kept has no trace, and isn't told by a certificate; of another no progress is said
+abbrev pub bad_flag : Option Text → Bool → Bool → Bool → Option Value
+bad_flag None false true progress = None
+bad_flag None true true progress = Some Live
+bad_flag (Some trace) certain true progress = Some Live
+bad_flag trace certain false true = Some Progress
+bad_flag trace certain false false = None
+
+-- the run of these words, whose events are kept or not
+abbrev pub run_work : Text → Option Text → Bool → Bool → Bool → ℕ → Work
+run_work file trace certain true progress n = lives file n progress
+run_work file trace certain false progress n = works file n trace certain
+
+-- the same, if no flag is bad and the workers are a number
+abbrev pub run_of : Option Value → Option ℕ → (ℕ → Work) → Option Work
+run_of None (Some n) work = Some (work n)
+run_of _ _ work = None
+
+-- the work that is asked for; a bad list, number or flag asks for none
 abbrev pub work_for : Asked → Option Work
 work_for (events file) = Some (answers file)
 work_for (schedule file list trace) = option_map (λ picks. runs file picks trace) (listed_in list)
-work_for (run file workers trace certain) = option_map (λ n. works file n trace certain) (workers_in workers)
+work_for (run file workers trace certain live progress) =
+    run_of (bad_flag trace certain live progress) (workers_in workers)
+    (run_work file trace certain live progress)
 work_for (replay file upgrade) = Some (replays file upgrade)
 work_for (certify file) = Some (certifies file)
 work_for (judge file every) = option_map (λ n. judges file n) (every_in every)
@@ -217,11 +248,12 @@ abbrev pub earlier : Option Value → Option Value → Option Value
 earlier (Some v) o = Some v
 earlier None o = o
 
--- the first of its values that is none
+-- the first of its values that is none, or a flag of its that is bad
 abbrev pub first_bad : Asked → Option Value
 first_bad (events file) = None
 first_bad (schedule file list trace) = unless Picks (listed_in list)
-first_bad (run file workers trace certain) = unless Workers (workers_in workers)
+first_bad (run file workers trace certain live progress) =
+    earlier (unless Workers (workers_in workers)) (bad_flag trace certain live progress)
 first_bad (replay file upgrade) = None
 first_bad (certify file) = None
 first_bad (judge file every) = unless Every (every_in every)
@@ -237,9 +269,10 @@ abbrev pub IsInRange : Work → Type 0
 IsInRange (answers file) = ⊤
 IsInRange (runs file picks trace) = ⊤
 IsInRange (works file workers trace certain) = (0 < workers) × (workers ≤ 16)
+IsInRange (lives file workers progress) = (0 < workers) × (workers ≤ 16)
 IsInRange (replays file upgrade) = ⊤
 IsInRange (certifies file) = ⊤
-IsInRange (judges file every) = IfSome every (λ n. 0 < n)
+IsInRange (judges file every) = IfSome every (λ e. 0 < amount_of e)
 IsInRange (cells first steps workers) =
     (length first ≤ 16) × (steps ≤ 100) × (0 < workers) × (workers ≤ 16)
 IsInRange (stages k items workers) =
@@ -250,6 +283,7 @@ abbrev pub file_of : Work → Option Text
 file_of (answers file) = Some file
 file_of (runs file picks trace) = Some file
 file_of (works file workers trace certain) = Some file
+file_of (lives file workers progress) = Some file
 file_of (replays file upgrade) = Some file
 file_of (certifies file) = Some file
 file_of (judges file every) = Some file
@@ -266,8 +300,8 @@ abbrev pub asked_by : Words → Asked
 asked_by (words.Events file) = events file.now
 asked_by (words.Schedule file picks trace) =
     schedule file.now (option_map (λ t. t.now) picks) (option_map (λ t. t.now) trace)
-asked_by (words.Run file workers trace certain) =
-    run file.now (option_map (λ t. t.now) workers) (option_map (λ t. t.now) trace) certain
+asked_by (words.Run file workers trace certain live progress) =
+    run file.now (option_map (λ t. t.now) workers) (option_map (λ t. t.now) trace) certain live progress
 asked_by (words.Replay file upgrade) = replay file.now (option_map (λ t. t.now) upgrade)
 asked_by (words.Certify file) = certify file.now
 asked_by (words.Judge file every) = judge file.now (option_map (λ t. t.now) every)
@@ -279,6 +313,7 @@ abbrev pub work_of : Job → Work
 work_of (jobs.Events file) = answers file.now
 work_of (jobs.Schedule file picks trace) = runs file.now picks.items (option_map (λ t. t.now) trace)
 work_of (jobs.Run file workers trace certain) = works file.now workers (option_map (λ t. t.now) trace) certain
+work_of (jobs.Live file workers progress) = lives file.now workers progress
 work_of (jobs.Replay file upgrade) = replays file.now (option_map (λ t. t.now) upgrade)
 work_of (jobs.Certify file) = certifies file.now
 work_of (jobs.Judge file every) = judges file.now every
@@ -297,7 +332,7 @@ no_job_status Missing = statuses.Usage
 no_job_status (BadValue v) = statuses.Usage
 no_job_status Memory = statuses.Refused
 
--- what a value is to be, as its line says it
+-- what a value is to be, or why a flag is bad, as its line says it
 abbrev pub value_text : Value → List ℕ
 value_text Picks = codes "LIST is 1 to 10,000 numbers of 0 to 4294967295 with commas between them"
 value_text First = codes "LIST is 1 to 16 numbers of 0 to 1000000 with commas between them"
@@ -305,7 +340,9 @@ value_text Steps = codes "S is a number of 0 to 100"
 value_text Stages = codes "K is a number of 1 to 15"
 value_text Items = codes "the items are a number of 0 to 100"
 value_text Workers = codes "the workers are a number of 1 to 16"
-value_text Every = codes "N is a number of 1 to 18446744073709551615"
+value_text Every = codes "N is a number of 1 to 18446744073709551615, or one with an s after it"
+value_text Live = codes "--live keeps no events: leave --trace and --certain out"
+value_text Progress = codes "--progress goes with --live"
 
 -- reading a value fails for want of memory, or because it is none
 abbrev pub IsOfValue : {X : Type 0} → Value → Option X → NoJob → Type 0
@@ -332,10 +369,12 @@ plain_words program (events file) = program ∷ codes "events" ∷ file ∷ []
 plain_words program (schedule file list out) =
     program ∷ codes "schedule" ∷ file
     ∷ (option_words (codes "--picks") list ++ option_words (codes "--trace") out)
-plain_words program (run file workers out certain) =
+plain_words program (run file workers out certain live progress) =
     program ∷ codes "run" ∷ file
     ∷ (option_words (codes "--workers") workers
-    ++ (option_words (codes "--trace") out ++ flag_words (codes "--certain") certain))
+    ++ (option_words (codes "--trace") out
+    ++ (flag_words (codes "--certain") certain
+    ++ (flag_words (codes "--live") live ++ flag_words (codes "--progress") progress))))
 plain_words program (replay file out) =
     program ∷ codes "replay" ∷ file ∷ option_words (codes "--upgrade") out
 plain_words program (certify file) = program ∷ codes "certify" ∷ file ∷ []
@@ -353,7 +392,7 @@ abbrev pub is_plainly_asked : Asked → Bool
 is_plainly_asked (events file) = is_plain file
 is_plainly_asked (schedule file list out) =
     is_plain file && (option_map_or is_plain list true && option_map_or is_plain out true)
-is_plainly_asked (run file workers out certain) =
+is_plainly_asked (run file workers out certain live progress) =
     is_plain file && (option_map_or is_plain workers true && option_map_or is_plain out true)
 is_plainly_asked (replay file out) = is_plain file && option_map_or is_plain out true
 is_plainly_asked (certify file) = is_plain file

@@ -4,6 +4,8 @@ use Rattle.std.specs.List.{list_all, slice_split}
 use Rattle.std.specs.Char.{is_ascii_digit}
 use Rattle.std.specs.Str.Parse.{digits_value}
 use Rattle.phase_modes.specs.Lists.{is_empty}
+use Rattle.command_words.specs.declared.command_line.Every.{Every}
+use Rattle.command_words.specs.declared.command_line.Every.TheVariants.{Events, Seconds}
 use Rattle.command_words.specs.declared.lists.TheConstants.{MOST_PICKS, GREATEST_PICK, MOST_CELLS, GREATEST_CELL}
 
 -- the texts between the commas (44)
@@ -14,35 +16,51 @@ pieces text = slice_split (λ c. c == 44) text
 abbrev pub is_numeral : List ℕ → Bool
 is_numeral text = not (is_empty text) && list_all is_ascii_digit text
 
--- the number that digits alone spell, if it has 32 bits
-abbrev pub number_in : List ℕ → Option ℕ
-number_in text =
-    if is_numeral text && nat_lt (digits_value 10 text) (2 ^ 32) then Some (digits_value 10 text) else None
-
--- the same of 64 bits
-abbrev pub long_in : List ℕ → Option ℕ
-long_in text =
-    if is_numeral text && nat_lt (digits_value 10 text) (2 ^ 64) then Some (digits_value 10 text) else None
+-- the number that digits alone spell, if it has so many bits
+abbrev pub number_of_bits : ℕ → List ℕ → Option ℕ
+number_of_bits bits text =
+    if is_numeral text && nat_lt (digits_value 10 text) (2 ^ bits) then Some (digits_value 10 text) else None
 
 -- the number, if it isn't 0
 abbrev pub unless_zero : ℕ → Option ℕ
 unless_zero n = if nat_le 1 n then Some n else None
 
--- after how many events each time: a number of 64 bits that isn't 0
+-- a number of 64 bits that isn't 0
 abbrev pub count_in : List ℕ → Option ℕ
-count_in text = option_and_then unless_zero (long_in text)
+count_in text = option_and_then unless_zero (number_of_bits 64 text)
+
+-- the text before the `s` (115) that ends it, if one does
+abbrev pub before_s : List ℕ → Option (List ℕ)
+before_s [] = None
+before_s (c ∷ []) = if c == 115 then Some [] else None
+before_s (c ∷ d ∷ cs) = option_map (λ front. c ∷ front) (before_s (d ∷ cs))
+
+-- a count of seconds, if that is what stands before an `s`; else one of events
+abbrev pub each_by : List ℕ → Option (List ℕ) → Option Every
+each_by text None = option_map Events (count_in text)
+each_by text (Some front) = option_map Seconds (count_in front)
+
+-- after how many events each time, or with an `s` after it, after how many seconds
+abbrev pub each_in : List ℕ → Option Every
+each_in text = each_by text (before_s text)
 
 -- the same, if it needn't be given
-abbrev pub every_in : Option (List ℕ) → Option (Option ℕ)
+abbrev pub every_in : Option (List ℕ) → Option (Option Every)
 every_in None = Some None
-every_in (Some text) = option_map Some (count_in text)
+every_in (Some text) = option_map Some (each_in text)
 
--- the same, if it isn't out of range
+-- how many events, or seconds
+abbrev pub amount_of : Every → ℕ
+amount_of (Events n) = n
+amount_of (Seconds n) = n
+
+-- the number, if it isn't out of range
 abbrev pub within : ℕ → ℕ → ℕ → Option ℕ
 within least greatest n = if nat_le least n && nat_le n greatest then Some n else None
 
+-- the number of 32 bits that digits alone spell, if it isn't out of range
 abbrev pub number_within : ℕ → ℕ → List ℕ → Option ℕ
-number_within least greatest text = option_and_then (within least greatest) (number_in text)
+number_within least greatest text = option_and_then (within least greatest) (number_of_bits 32 text)
 
 -- the number of each text, if each has one that is no greater
 abbrev pub numbers_in : ℕ → List (List ℕ) → Option (List ℕ)

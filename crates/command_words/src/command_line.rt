@@ -1,6 +1,6 @@
 //! The words of the command line, as a job.
 ghost use Rattle.std.specs.Prelude.{◌≡◌, ℕ, List, Some, None, map, option_map, true, IfErr, IfOk, MatchResult};
-ghost use Rattle.command_words.specs.CommandLine.{Asked, IsInRange, IsNoJobFor, Work, asked_by, asked_in, file_of, first_bad, is_plainly_asked, no_job_status, pipeline, plain_words, stencil, value_text, work_for, work_in, work_of};
+ghost use Rattle.command_words.specs.CommandLine.{Asked, IsInRange, IsNoJobFor, Work, asked_by, asked_in, bad_flag, file_of, first_bad, is_plainly_asked, no_job_status, pipeline, plain_words, run, stencil, value_text, work_for, work_in, work_of};
 
 use crate::lists::{every_of, first_of, picks_of, value_of, workers_of};
 use crate::words::{Words, words_of};
@@ -8,6 +8,15 @@ use job_ends::Status;
 use std::alloc::{AllocError, Global};
 use std::fmt;
 use thiserror::Error;
+
+/// After what a judge tells its report each time.
+#[derive(Clone, Copy, Debug, PartialEq, Eq)]
+pub enum Every {
+    /// So many events.
+    Events(u64),
+    /// So many seconds.
+    Seconds(u64),
+}
 
 /// What the program is to do. A FILE `-` is standard input.
 #[derive(Debug, Drop, PartialEq, Eq)]
@@ -30,6 +39,13 @@ pub enum Job<'a> {
         trace: Option<&'a str>,
         certain: bool,
     },
+    /// Runs the program by so many workers, and keeps no events; says how fast it goes, if `progress`
+    /// is wanted.
+    Live {
+        file: &'a str,
+        workers: u32,
+        progress: bool,
+    },
     /// Replays the trace, and writes it in the newest version into a file of the name `upgrade`.
     Replay {
         file: &'a str,
@@ -39,10 +55,10 @@ pub enum Job<'a> {
     Certify {
         file: &'a str,
     },
-    /// Judges the log, and tells the report after each `every` events.
+    /// Judges the log, and tells the report each time after so many events or seconds.
     Judge {
         file: &'a str,
-        every: Option<u64>,
+        every: Option<Every>,
     },
     /// Runs the stencil over these first values for so many steps.
     Stencil {
@@ -67,6 +83,7 @@ impl<'a> Job<'a> {
             Job::Events { file }
             | Job::Schedule { file, .. }
             | Job::Run { file, .. }
+            | Job::Live { file, .. }
             | Job::Replay { file, .. }
             | Job::Certify { file }
             | Job::Judge { file, .. } => Some(file),
@@ -75,7 +92,8 @@ impl<'a> Job<'a> {
     }
 }
 
-/// A value that is to be a number in a range, or a list of such numbers.
+/// A value that is to be a number in a range, or a list of such numbers; or a flag of `run` that is to
+/// stand beside some words, and not beside others.
 #[derive(Clone, Copy, Debug, PartialEq, Eq)]
 pub enum Value {
     /// LIST of a schedule.
@@ -88,10 +106,14 @@ pub enum Value {
     Workers,
     /// N of a judge.
     Every,
+    /// `--live`, beside which `--trace` or `--certain` stands.
+    Live,
+    /// `--progress`, beside which no `--live` stands.
+    Progress,
 }
 
 impl Value {
-    /// What the value is to be.
+    /// What the value is to be, or what to do about the flag.
     fn wanted(self) -> &'static str
         ensures { result.now ≡ value_text self }
     {
@@ -104,7 +126,9 @@ impl Value {
             Value::Stages => "K is a number of 1 to 15",
             Value::Items => "the items are a number of 0 to 100",
             Value::Workers => "the workers are a number of 1 to 16",
-            Value::Every => "N is a number of 1 to 18446744073709551615",
+            Value::Every => "N is a number of 1 to 18446744073709551615, or one with an s after it",
+            Value::Live => "--live keeps no events: leave --trace and --certain out",
+            Value::Progress => "--progress goes with --live",
         }
     }
 }
@@ -130,7 +154,7 @@ pub enum NoJob {
     /// A required word is missing.
     #[error("error: a required word is missing\n")]
     Missing,
-    /// This value isn't in digits alone, or is out of its range.
+    /// This value isn't in digits alone, or is out of its range; or this flag doesn't go with the others.
     #[error("error: {0}\n")]
     BadValue(Value),
     /// Memory ran out.
@@ -158,6 +182,54 @@ impl From<AllocError> for NoJob {
 
     fn from(_error: AllocError) -> NoJob {
         NoJob::Memory
+    }
+}
+
+/// The flag of a run that doesn't go with its other words, if one doesn't.
+fn bad_flag(trace: Option<&str>, certain: bool, live: bool, progress: bool) -> Option<Value>
+    ensures { result ≡ bad_flag (option_map (λ t. t.now) trace.entry) certain live progress }
+{
+    if live && (trace.is_some() || certain) {
+        Some(Value::Live)
+    } else if progress && !live {
+        Some(Value::Progress)
+    } else {
+        None
+    }
+}
+
+/// The run of these words.
+fn run_for<'a>(
+    file: &'a str,
+    workers: Option<&'a str>,
+    trace: Option<&'a str>,
+    certain: bool,
+    live: bool,
+    progress: bool,
+) -> Result<Job<'a>, NoJob>
+    ensures work { IfOk result (λ job. work_for (run file.now (option_map (λ t. t.now) workers.entry)
+        (option_map (λ t. t.now) trace.entry) certain live progress) ≡ Some (work_of job)) }
+    ensures range { IfOk result (λ job. IsInRange (work_of job)) }
+    ensures none { IfErr result (IsNoJobFor (run file.now (option_map (λ t. t.now) workers.entry)
+        (option_map (λ t. t.now) trace.entry) certain live progress)) }
+{
+    let workers = workers_of(workers)?;
+    if let Some(flag) = bad_flag(trace, certain, live, progress) {
+        return Err(NoJob::BadValue(flag));
+    }
+    if live {
+        Ok(Job::Live {
+            file,
+            workers,
+            progress,
+        })
+    } else {
+        Ok(Job::Run {
+            file,
+            workers,
+            trace,
+            certain,
+        })
     }
 }
 
@@ -221,15 +293,9 @@ fn job_for<'a>(alloc: Global, words: Words<'a>) -> Result<Job<'a>, NoJob>
             workers,
             trace,
             certain,
-        } => {
-            let workers = workers_of(workers)?;
-            Ok(Job::Run {
-                file,
-                workers,
-                trace,
-                certain,
-            })
-        }
+            live,
+            progress,
+        } => run_for(file, workers, trace, certain, live, progress),
         Words::Replay { file, upgrade } => Ok(Job::Replay { file, upgrade }),
         Words::Certify { file } => Ok(Job::Certify { file }),
         Words::Judge { file, every } => {

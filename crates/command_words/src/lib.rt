@@ -5,4 +5,4 @@ mod command_line;
 mod lists;
 mod words;
 
-pub use command_line::{Job, NoJob, Value, job_of};
+pub use command_line::{Every, Job, NoJob, Value, job_of};

@@ -4,9 +4,9 @@ ghost use Rattle.std.specs.Char.{is_ascii_digit};
 ghost use Rattle.std.specs.List.{list_all};
 ghost use Rattle.std.specs.Range.{range_inclusive_start, range_inclusive_end};
 ghost use Rattle.command_words.specs.CommandLine.{IsOfValue};
-ghost use Rattle.command_words.specs.Lists.{count_in, every_in, first_in, list_in, listed_in, long_in, number_in, number_within, workers_in};
+ghost use Rattle.command_words.specs.Lists.{count_in, every_in, first_in, amount_of, before_s, each_in, list_in, listed_in, number_of_bits, number_within, workers_in};
 
-use crate::command_line::{NoJob, Value};
+use crate::command_line::{Every, NoJob, Value};
 use std::alloc::Global;
 use std::ops::RangeInclusive;
 
@@ -32,7 +32,7 @@ fn is_digits(text: &str) -> bool
 /// The number that digits alone spell, if it has 32 bits.
 #[tactic(auto, using(crate::proofs::Numbers::of_digits, crate::proofs::Numbers::of_others))]
 fn number_of(text: &str) -> Option<u32>
-    ensures { result ≡ number_in text.now }
+    ensures { result ≡ number_of_bits 32 text.now }
 {
     if is_digits(text) {
         text.parse().ok()
@@ -129,9 +129,9 @@ pub(crate) fn workers_of(text: Option<&str>) -> Result<u32, NoJob>
 }
 
 /// The number that digits alone spell, if it has 64 bits.
-#[tactic(auto, using(crate::proofs::Longs::of_digits, crate::proofs::Longs::of_others))]
+#[tactic(auto, using(crate::proofs::Numbers::of_digits, crate::proofs::Numbers::of_others))]
 fn long_of(text: &str) -> Option<u64>
-    ensures { result ≡ long_in text.now }
+    ensures { result ≡ number_of_bits 64 text.now }
 {
     if is_digits(text) {
         text.parse().ok()
@@ -149,17 +149,36 @@ fn count_of(text: &str) -> Option<u64>
     if 1 <= number { Some(number) } else { None }
 }
 
-/// After how many events each time, if that is given.
-pub(crate) fn every_of(text: Option<&str>) -> Result<Option<u64>, NoJob>
+/// The text before the `s` that ends it, if one does.
+#[tactic(auto, using(crate::proofs::Seconds::before, crate::proofs::Seconds::no_s))]
+fn before_s(text: &str) -> Option<&str>
+    ensures { option_map (λ t. t.now) result ≡ before_s text.now }
+{
+    text.strip_suffix("s")
+}
+
+/// After how many events each time, or with an `s` after it, after how many seconds.
+fn each_of(text: &str) -> Option<Every>
+    ensures each { result ≡ each_in text.now }
+    ensures some { IfSome result (λ e. 0 < amount_of e) }
+{
+    match before_s(text) {
+        Some(front) => Some(Every::Seconds(count_of(front)?)),
+        None => Some(Every::Events(count_of(text)?)),
+    }
+}
+
+/// The same, if that is given.
+pub(crate) fn every_of(text: Option<&str>) -> Result<Option<Every>, NoJob>
     ensures every { IfOk result (λ every. every_in (option_map (λ t. t.now) text.entry) ≡ Some every) }
-    ensures some { IfOk result (λ every. IfSome every (λ n. 0 < n)) }
+    ensures some { IfOk result (λ every. IfSome every (λ e. 0 < amount_of e)) }
     ensures none { IfErr result (IsOfValue Value.Every (every_in (option_map (λ t. t.now) text.entry))) }
 {
     let Some(text) = text else {
         return Ok(None);
     };
-    match count_of(text) {
-        Some(count) => Ok(Some(count)),
+    match each_of(text) {
+        Some(every) => Ok(Some(every)),
         None => Err(NoJob::BadValue(Value::Every)),
     }
 }

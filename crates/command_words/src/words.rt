@@ -2,7 +2,7 @@
 ghost use Rattle.std.specs.Prelude.{◌≡◌, ◌≢◌, List, Some, map, false, option_map, codes, IfErr, IfOk, MatchResult};
 ghost use Rattle.clap.specs.Words.{app_of, found_of, kind_of, new_app, rows_of, rule_of, with_rule, with_subcommand};
 ghost use Rattle.clap.specs.declared.builder.command.Command.TheViews.{out-Command as fields_of};
-ghost use Rattle.command_words.specs.CommandLine.{Asked, asked_among, asked_by, asked_in, bare_app, certify_app, events_app, file_rule, filed_among, filed_app, flag_rule, has_flag, judge_app, needed_rule, option_rule, pipeline_among, pipeline_app, program_app, replay_app, run_app, running_app, schedule_app, stencil_among, stencil_app};
+ghost use Rattle.command_words.specs.CommandLine.{Asked, asked_among, asked_by, asked_in, bare_app, certify_app, events_app, file_rule, filed_among, filed_app, flag_rule, has_flag, judge_app, needed_rule, option_rule, pipeline_among, pipeline_app, program_app, replay_app, run_app, running_app, schedule_app, stencil_among, stencil_app, traced_app};
 
 use crate::command_line::{NoJob, Value};
 use clap::error::ErrorKind;
@@ -25,6 +25,8 @@ pub(crate) enum Words<'a> {
         workers: Option<&'a str>,
         trace: Option<&'a str>,
         certain: bool,
+        live: bool,
+        progress: bool,
     },
     Replay {
         file: &'a str,
@@ -103,13 +105,21 @@ of the run is replayed, and the report is that of the replay.
 Lines: phaser N phases K, its folds, task T ended or refused, finish F tasks N, totals.
 With --certain the program is certified first, as in certify --help. The line certain comes last.
 A program that isn't certain isn't run.
+With --live nothing is replayed. Lines: tasks T ended E refused R, phasers P, finishes F, totals.
 A file that isn't a program is refused whole: refused 24 BadText at PLACE, with the number of the
 first bad act, or 0.
 Exit status: 0 done, 1 refused or not certain, 2 bad words or this help, 3 a read or a write failed.";
 
-/// What `run --help` says of its flag.
+/// What `run --help` says of the flag `--certain`.
 const CERTAIN_HELP: &str =
     "Runs FILE only if certify says that every run of it prints the same report";
+
+/// What `run --help` says of the flag `--live`.
+const LIVE_HELP: &str =
+    "Keeps no events: any number of tasks and phases, no trace, and the counts alone are printed";
+
+/// What `run --help` says of the flag `--progress`.
+const PROGRESS_HELP: &str = "Says once a second on standard error how fast it goes";
 
 /// What the options `--trace` say of OUT.
 const TRACE_HELP: &str =
@@ -167,10 +177,12 @@ Lines: events E, phasers made P there L, totals.
 The first event that can't happen there is refused, with the lines of what was judged before it: refused
 25 NotExplained at PLACE, with the number of its line, and on a second line why. A line that is no event
 is refused 24 BadText at PLACE.
+The seconds of --every are looked at when an event has come: while none comes, nothing is printed.
 Exit status: 0 done, 1 refused, 2 bad words or this help, 3 a read or a write failed.";
 
 /// What the option `--every` says of N.
-const EVERY_HELP: &str = "Prints the lines so far on standard error after each N events: 1 or more";
+const EVERY_HELP: &str =
+    "Prints the lines so far on standard error after each N events, or with 5s each 5 seconds";
 
 /// What `--help` says of the exit status.
 const PROGRAM_HELP: &str = "\
@@ -281,8 +293,7 @@ fn threads_command<'a>(alloc: Global) -> Result<Command<'a>, AllocError>
 
 /// `run FILE [--workers N] [--trace OUT]`.
 fn traced_command<'a>(alloc: Global) -> Result<Command<'a>, AllocError>
-    ensures app { IfOk result (λ c. app_of c ≡ with_rule (with_rule (with_rule (new_app (codes "run")) file_rule)
-        (option_rule (codes "workers"))) (option_rule (codes "trace"))) }
+    ensures app { IfOk result (λ c. app_of c ≡ traced_app) }
     ensures local { IfOk result (λ c. (fields_of c).has_globals ≡ false) }
 {
     let trace = option(alloc, "trace", "OUT", TRACE_HELP);
@@ -301,12 +312,31 @@ fn flag<'a>(alloc: Global, name: &'a str, help: &'a str) -> Arg<'a>
 }
 
 /// `run FILE [--workers N] [--trace OUT] [--certain]`.
-fn run_command<'a>(alloc: Global) -> Result<Command<'a>, AllocError>
-    ensures app { IfOk result (λ c. app_of c ≡ run_app) }
+fn certain_command<'a>(alloc: Global) -> Result<Command<'a>, AllocError>
+    ensures app { IfOk result (λ c. app_of c ≡ with_rule traced_app (flag_rule (codes "certain"))) }
     ensures local { IfOk result (λ c. (fields_of c).has_globals ≡ false) }
 {
     let certain = flag(alloc, "certain", CERTAIN_HELP);
     traced_command(alloc)?.arg(certain)
+}
+
+/// `run FILE [--workers N] [--trace OUT] [--certain] [--live]`.
+fn live_command<'a>(alloc: Global) -> Result<Command<'a>, AllocError>
+    ensures app { IfOk result (λ c. app_of c ≡ with_rule (with_rule traced_app (flag_rule (codes "certain")))
+        (flag_rule (codes "live"))) }
+    ensures local { IfOk result (λ c. (fields_of c).has_globals ≡ false) }
+{
+    let live = flag(alloc, "live", LIVE_HELP);
+    certain_command(alloc)?.arg(live)
+}
+
+/// `run FILE [--workers N] [--trace OUT] [--certain] [--live] [--progress]`.
+fn run_command<'a>(alloc: Global) -> Result<Command<'a>, AllocError>
+    ensures app { IfOk result (λ c. app_of c ≡ run_app) }
+    ensures local { IfOk result (λ c. (fields_of c).has_globals ≡ false) }
+{
+    let progress = flag(alloc, "progress", PROGRESS_HELP);
+    live_command(alloc)?.arg(progress)
 }
 
 /// `--NAME VALUE`, which has to be there.
@@ -538,6 +568,8 @@ fn filed_among<'a>(name: &str, found: &ArgMatches<'a>) -> Option<Words<'a>>
             workers: found.get_str("workers"),
             trace: found.get_str("trace"),
             certain: has_flag(found, "certain"),
+            live: has_flag(found, "live"),
+            progress: has_flag(found, "progress"),
         }),
         "replay" => Some(Words::Replay {
             file,

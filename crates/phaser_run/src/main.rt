@@ -1,28 +1,31 @@
 //! The program: the words of the command line to a job, the job's file to lines.
 #![tactic(auto)]
 
+mod progress;
 mod trace_file;
 mod upgrade_file;
 
-ghost use Rattle.std.specs.Prelude.{◌≡◌, ◌≢◌, ◌⊎◌, ◌<◌, ◌≤◌, length, true, IfSome, Ok, ⊤};
+ghost use Rattle.std.specs.Prelude.{◌≡◌, ◌≢◌, ◌⊎◌, ◌<◌, ◌≤◌, ℕ, length, true, IfSome, None, Some, Ok, ⊤};
 ghost use Rattle.text_jobs.specs.EventsForm.{Form};
 ghost use Rattle.job_script.specs.Program.{Program};
 ghost use Rattle.job_ends.specs.Ends.{status_of};
 ghost use Rattle.judge_job.specs.Logs.{Judged, judged_log};
 ghost use Rattle.command_words.specs.CommandLine.{IsInRange, no_job_status, work_of};
+ghost use Rattle.command_words.specs.declared.command_line.Every.TheVariants as asked;
 ghost use Rattle.text_jobs.specs.EventsFiles.{file_spelled};
 ghost use Rattle.text_jobs.specs.Texts.{program_spelled};
 ghost use Rattle.run_jobs.specs.Certificate.{Certifies};
 ghost use Rattle.text_jobs.specs.Replayed.{Explains};
 
+use crate::progress::Speed;
 use crate::trace_file::make_out;
 use crate::upgrade_file::Upgraded;
 use command_words::{Job, NoJob, job_of};
 use job_ends::{Failure, Reads, Status, bytes_of, write_text};
 use job_kernels::PipelineSize;
-use judge_job::judge_from;
+use judge_job::{Every, judge_from};
 use phase_modes::Refusal;
-use run_jobs::{Workers, certain_on, certify_on, pipeline_on, run_on, stencil_on};
+use run_jobs::{Silent, Workers, certain_on, certify_on, live_on, pipeline_on, run_on, stencil_on};
 use std::alloc::{AllocError, Global};
 use std::env;
 use std::fs::File;
@@ -162,9 +165,14 @@ fn do_on<H: Threads + Wait + Sync, R: Read>(
             let workers = on_threads(threads, *workers);
             run_program(rt, workers, *certain, file, *trace, reader)
         }
+        Job::Live {
+            workers,
+            progress,
+            ..
+        } => live(rt, on_threads(threads, *workers), *progress, reader),
         Job::Replay { upgrade, .. } => replay(rt, *upgrade, reader),
         Job::Certify { .. } => certify(rt, reader),
-        Job::Judge { every, .. } => judge(rt, *every, reader),
+        Job::Judge { every, .. } => judge(rt, every_of(*every), reader),
         Job::Stencil {
             first,
             steps,
@@ -308,6 +316,46 @@ fn run_bytes<H: Threads + Wait + Sync>(
     }
 }
 
+/// Runs the program that the reader gives by workers, keeps no events, and prints the counts on standard
+/// output. If `progress` is wanted, how fast the run goes is said on standard error.
+fn live<H: Threads + Wait + Sync, R: Read>(
+    rt: &HostRuntime,
+    workers: Workers<'_, H>,
+    progress: bool,
+    reader: &mut R,
+) -> Status
+    requires { (0 < workers.number) × (workers.number ≤ 16) }
+    ensures done { result ≡ Status.Done → IfSome (R.remaining reader.old) (λ all.
+        (p : Program) × (program_spelled all ≡ Ok p)) }
+    ensures usage { result ≢ Status.Usage }
+{
+    let (alloc, mut reads) = (rt.alloc(), Reads::none());
+    match bytes_of(alloc, reader, &mut reads, text_jobs::MOST_PROGRAM_BYTES) {
+        Ok(bytes) => live_bytes(rt, workers, progress, &bytes),
+        Err(failure) => failed(rt, failure),
+    }
+}
+
+/// Runs the program of these bytes by workers, keeps no events, and prints the counts on standard output.
+fn live_bytes<H: Threads + Wait + Sync>(
+    rt: &HostRuntime,
+    workers: Workers<'_, H>,
+    progress: bool,
+    bytes: &[u8],
+) -> Status
+    requires { (0 < workers.number) × (workers.number ≤ 16) }
+    ensures done { result ≡ Status.Done → (p : Program) × (program_spelled bytes.now ≡ Ok p) }
+    ensures usage { result ≢ Status.Usage }
+{
+    let (alloc, mut out, mut faults) = (rt.alloc(), rt.stdout(), rt.stderr());
+    if progress {
+        let speed = Speed::new(rt);
+        live_on(workers, alloc, bytes, &speed, &mut out, &mut faults)
+    } else {
+        live_on(workers, alloc, bytes, &Silent, &mut out, &mut faults)
+    }
+}
+
 /// Certifies the program that the reader gives, and prints the report of each of its runs on standard
 /// output.
 fn certify<R: Read>(rt: &HostRuntime, reader: &mut R) -> Status
@@ -325,14 +373,26 @@ fn certify<R: Read>(rt: &HostRuntime, reader: &mut R) -> Status
     }
 }
 
+/// When the report of a judge is told, by the words.
+fn every_of(every: Option<command_words::Every>) -> Option<Every>
+    ensures none { every ≡ None → result ≡ None }
+    ensures events { (n : ℕ) → every ≡ Some (asked.Events n) → result ≡ Some (Every.Events n) }
+    ensures seconds { (n : ℕ) → every ≡ Some (asked.Seconds n) → result ≡ Some (Every.Seconds n) }
+{
+    match every? {
+        command_words::Every::Events(events) => Some(Every::Events(events)),
+        command_words::Every::Seconds(seconds) => Some(Every::Seconds(seconds)),
+    }
+}
+
 /// Judges the log that the reader gives, and prints the report on standard output.
-fn judge<R: Read>(rt: &HostRuntime, every: Option<u64>, reader: &mut R) -> Status
+fn judge<R: Read>(rt: &HostRuntime, every: Option<Every>, reader: &mut R) -> Status
     ensures done { result ≡ Status.Done → IfSome (R.remaining reader.old) (λ all.
         (j : Judged) × (judged_log all ≡ Ok j)) }
     ensures usage { result ≢ Status.Usage }
 {
     let (mut out, mut faults) = (rt.stdout(), rt.stderr());
-    judge_from(rt.alloc(), reader, &mut out, &mut faults, every)
+    judge_from(rt.alloc(), reader, &mut out, &mut faults, every, rt)
 }
 
 /// Runs the stencil, and prints its cells on standard output.

@@ -4,3 +4,4 @@ pub mod Certificate
 pub mod KernelsWorked
 pub mod Printed
 pub mod Worked
+pub mod Living

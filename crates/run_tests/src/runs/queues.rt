@@ -8,6 +8,7 @@ use std::sync::Wait;
 use std::sync::atomic::{AtomicU64, Ordering};
 use std::thread;
 use std::thread::Threads;
+use std::time::{Clock, Duration};
 use task_queue::{RunQueue, Seat};
 
 // Whether an item was put from the seat at this place.
@@ -237,7 +238,7 @@ struct Rows {
 }
 
 #[test]
-fn each_put_wakes_one(rt: HostRuntime) -> Result<(), Refusal> {
+fn each_put_is_taken_by_another(rt: HostRuntime) -> Result<(), Refusal> {
     let rows = Rows {
         count: 200,
         length: 1,
@@ -247,7 +248,7 @@ fn each_put_wakes_one(rt: HostRuntime) -> Result<(), Refusal> {
 }
 
 #[test]
-fn a_row_of_puts_wakes_as_many(rt: HostRuntime) -> Result<(), Refusal> {
+fn a_row_of_puts_is_taken_by_others(rt: HostRuntime) -> Result<(), Refusal> {
     let rows = Rows {
         count: 50,
         length: 4,
@@ -332,6 +333,103 @@ fn take_all<R: Wait>(
             break;
         }
         taken.fetch_add(1, Ordering::SeqCst);
+    }
+    queue.take(rt, &mut seat).is_none()
+}
+
+// Pauses of a giver: so many after another, of so many microseconds more each, from none on.
+#[derive(Clone, Copy)]
+struct Pauses {
+    count: u32,
+    step: u64,
+}
+
+// Whoever looks sleeps after some 150 microseconds, so these end while the takers look, lie down,
+// and begin to sleep.
+#[test]
+fn no_wake_is_lost_around_lying_down(rt: HostRuntime) -> Result<(), Refusal> {
+    let pauses = Pauses {
+        count: 500,
+        step: 2,
+    };
+    assert!(rt; are_all_woken(&rt, rt.alloc(), pauses)?);
+    Ok(())
+}
+
+#[test]
+fn no_wake_is_lost_in_deep_sleep(rt: HostRuntime) -> Result<(), Refusal> {
+    let pauses = Pauses {
+        count: 60,
+        step: 100,
+    };
+    assert!(rt; are_all_woken(&rt, rt.alloc(), pauses)?);
+    Ok(())
+}
+
+// Whether three takers each take one of every row of three, given after these pauses. A taker that
+// has one takes no second one of its row, so a row whose put wakes less than three in all would be
+// waited for without end.
+fn are_all_woken<R: Threads + Wait + Clock + Sync>(
+    rt: &R,
+    alloc: Global,
+    pauses: Pauses,
+) -> Result<bool, Refusal> {
+    let (queue, seats) = RunQueue::new(alloc, 4, 4)?;
+    let turns = AtomicU64::new(0);
+    let taken = AtomicU64::new(0);
+    let queue_in = &queue;
+    let done = thread::map_vec(
+        rt,
+        seats,
+        &|seat| {
+            if turns.fetch_add(1, Ordering::SeqCst) == 0 {
+                give_after_pauses(rt, queue_in, &taken, pauses, seat)
+            } else {
+                take_one_of_each_row(rt, queue_in, &taken, seat)
+            }
+        },
+    )?;
+    Ok(
+        done.iter().all(|&none| none)
+            && taken.load(Ordering::SeqCst) == u64::from(pauses.count).wrapping_mul(3),
+    )
+}
+
+// Gives a row of three after each of the pauses, each only once the one before was taken. It takes
+// none itself. Whether nothing is left then.
+fn give_after_pauses<R: Wait + Clock>(
+    rt: &R,
+    queue: &RunQueue<u32>,
+    taken: &AtomicU64,
+    pauses: Pauses,
+    mut seat: Seat<u32>,
+) -> bool {
+    let mut given = 0u64;
+    for row in 0..pauses.count {
+        let pause = u64::from(row).wrapping_mul(pauses.step);
+        thread::sleep(rt, Duration::from_micros(pause));
+        put_row(rt, queue, 3, &mut seat);
+        given = given.saturating_add(3);
+        wait_for(rt, taken, given);
+    }
+    queue.close(rt);
+    queue.take(rt, &mut seat).is_none()
+}
+
+// Takes until the queue is closed, and after each item waits until its row is taken. Whether nothing
+// is left then.
+fn take_one_of_each_row<R: Wait>(
+    rt: &R,
+    queue: &RunQueue<u32>,
+    taken: &AtomicU64,
+    mut seat: Seat<u32>,
+) -> bool {
+    for _ in rt.forever() {
+        if queue.take(rt, &mut seat).is_none() {
+            break;
+        }
+        let before = taken.fetch_add(1, Ordering::SeqCst);
+        wait_for(rt, taken, (before / 3).wrapping_add(1).wrapping_mul(3));
     }
     queue.take(rt, &mut seat).is_none()
 }

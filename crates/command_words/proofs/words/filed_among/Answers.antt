@@ -30,7 +30,7 @@ returns-in-run c =
     let is = among_file (to_run (rows_of found)) (codes "run") c.args.name.now found _ c.in-run.is c.get_str.ensures refl in
     let workers = c.get_str-in-run.ensures ∙ first_value-rows found _ in
     let trace = c.get_str-in-run-2.ensures ∙ first_value-rows found _ in
-    search (rules, is, workers, trace, c.has_flag.ensures)
+    search (rules, is, workers, trace, c.has_flag.ensures, c.has_flag-in-run.ensures, c.has_flag-in-run-2.ensures)
 
 pub returns-in-replay : goal.returns-in-replay
 returns-in-replay c =

@@ -1,0 +1,193 @@
+//! How a task's act is begun, and made if it is one event.
+ghost use Rattle.std.specs.Prelude.{◌≡◌};
+
+use crate::driver::Crew;
+use crate::ended::Ends;
+use crate::shared::{Worker, one_more};
+use crate::task::{Item, Task};
+use job_script::Act;
+use live_tables::SlotLogs;
+use phase_model::Terms;
+use phase_modes::{FinishNumber, Mode, Phased, Refusal, TaskNumber};
+use std::sync::Wait;
+use task_standing::Plan;
+use tasks_in_flight::{Body, Gate};
+use world_model::{Begun, Tried};
+
+/// What begins by this act, if it goes on by a plan and spawns nobody.
+fn begun_by<B: Drop>(act: &Act<B>) -> Option<Begun> {
+    match act {
+        Act::ShutFinish => Some(Begun::Shut),
+        Act::Signal => Some(Begun::Signal),
+        Act::Wait => Some(Begun::Wait),
+        Act::Next => Some(Begun::Next),
+        Act::NextSingle(number) => Some(Begun::NextSingle(*number)),
+        Act::End => Some(Begun::End),
+        _ => None,
+    }
+}
+
+impl<'a, B: Body, J: SlotLogs, E: Ends<B>, G: Gate> Crew<'a, B, J, E, G> {
+    /// Whether the task may make the act, as far as it knows itself; if it may not, it comes to
+    /// its end.
+    fn may_try(&self, task: &mut Task<B, J>, tried: &Tried) -> bool {
+        match task.standing.may_make(self.shared.limits, tried) {
+            Ok(()) => true,
+            Err(refusal) => {
+                task.give_up(refusal);
+                false
+            }
+        }
+    }
+
+    /// Makes a phaser, which has to have a bound: `NotNow` if it has none.
+    fn make<R: Wait>(
+        &self,
+        rt: &R,
+        worker: &mut Worker<B, J>,
+        task: &mut Task<B, J>,
+        mode: Mode,
+        terms: &Terms,
+    ) {
+        // Which number it gets is known once it is there; 0 is below every limit.
+        if !self.may_try(task, &Tried::New(0, mode, *terms)) {
+            return;
+        }
+        match self.shared.make_on(rt, task, mode, terms) {
+            Ok(()) => one_more(&mut worker.sums.totals.registered),
+            Err(refusal) => task.give_up(refusal),
+        }
+    }
+
+    /// Opens a finish. The memory that the task needs to know it is taken before.
+    fn open<R: Wait>(&self, rt: &R, task: &mut Task<B, J>) -> Result<(), Refusal> {
+        if task.standing.reserve_opening().is_err() {
+            task.give_up(Refusal::Memory);
+            return Ok(());
+        }
+        if !self.may_try(task, &Tried::Open(0)) {
+            return Ok(());
+        }
+        match self.shared.finishes.open(rt, task.standing.number() as u64) {
+            Ok(finish) => task.opened(finish),
+            Err(refusal) => {
+                task.give_up(refusal);
+                Ok(())
+            }
+        }
+    }
+
+    /// Sends a value.
+    fn send<R: Wait>(
+        &self,
+        rt: &R,
+        worker: &mut Worker<B, J>,
+        task: &mut Task<B, J>,
+        phaser: u32,
+        accumulator: u8,
+        value: i32,
+    ) {
+        match self.shared.send_on(rt, task, phaser, accumulator, value) {
+            Ok(()) => worker.sums.sent(value),
+            Err(refusal) => task.give_up(refusal),
+        }
+    }
+
+    /// Looks at an accumulator.
+    fn look<R: Wait>(&self, rt: &R, task: &mut Task<B, J>, phaser: u32, accumulator: u8) {
+        if let Err(refusal) = self.shared.look_on(rt, task, phaser, accumulator) {
+            task.give_up(refusal);
+        }
+    }
+
+    /// Begins an act that goes on by a plan, if it isn't refused. Once it has ended the
+    /// body hears of it, if it hears anything more.
+    fn enter(&self, task: &mut Task<B, J>, begun: Begun) {
+        let plan = Plan::of(&begun);
+        let answer = answer_to(&begun);
+        if self.may_try(task, &Tried::Begun(begun)) {
+            task.standing.begin(plan);
+            task.answer = answer;
+        }
+    }
+
+    /// Begins to spawn a child. The child's memory is taken before the act is looked at.
+    fn spawn(&self, item: &mut Item<B, J>, body: B, pairs: Phased) {
+        let number = self.shared.child_number();
+        let home = FinishNumber::of(item.task.standing.inner());
+        let its = TaskNumber::of(number);
+        let Ok(child) = Task::new(self.shared.alloc, its, body, home) else {
+            return item.task.give_up(Refusal::Memory);
+        };
+        let begun = Begun::Async(number, pairs);
+        let plan = Plan::of(&begun);
+        if self.may_try(&mut item.task, &Tried::Begun(begun)) {
+            item.task.standing.begin(plan);
+            item.task.answer = Some(job_script::Answer::Spawned(number));
+            item.unborn = Some(child);
+        }
+    }
+
+    /// Begins the act that the body gave, or makes it.
+    fn act<R: Wait>(
+        &self,
+        rt: &R,
+        worker: &mut Worker<B, J>,
+        item: &mut Item<B, J>,
+        act: Act<B>,
+    ) -> Result<(), Refusal> {
+        match act {
+            Act::Async(body, pairs) => self.spawn(item, body, pairs),
+            Act::AsyncAll(body) => {
+                let pairs = item.task.standing.pairs();
+                self.spawn(item, body, pairs)
+            }
+            Act::OpenFinish => return self.open(rt, &mut item.task),
+            Act::New(mode, ops, bound) => {
+                let terms = Terms { ops, bound };
+                self.make(rt, worker, &mut item.task, mode, &terms)
+            }
+            Act::Send(phaser, accumulator, value) => {
+                self.send(rt, worker, &mut item.task, phaser, accumulator, value)
+            }
+            Act::Look(phaser, accumulator) => self.look(rt, &mut item.task, phaser, accumulator),
+            other => match begun_by(&other) {
+                Some(begun) => self.enter(&mut item.task, begun),
+                None => return Err(Refusal::NotNow),
+            },
+        }
+        Ok(())
+    }
+
+    /// Asks the body for its next act, and begins it.
+    pub(crate) fn step<R: Wait>(
+        &self,
+        rt: &R,
+        worker: &mut Worker<B, J>,
+        item: &mut Item<B, J>,
+    ) -> Result<(), Refusal> {
+        // No clause says that something came of its last act.
+        let Some(answer) = item.task.answer.take() else {
+            return Err(Refusal::NotNow);
+        };
+        self.gate.enter(worker.number, item.task.standing.number());
+        let act = item.task.body.step(answer);
+        self.gate.leave(worker.number, item.task.standing.number());
+        match act {
+            Ok(act) => self.act(rt, worker, item, act),
+            Err(refusal) => {
+                item.task.give_up(refusal);
+                Ok(())
+            }
+        }
+    }
+}
+
+/// What the body hears once this act has ended: after its task's end nothing.
+fn answer_to(begun: &Begun) -> Option<job_script::Answer> {
+    match begun {
+        Begun::Async(child, _) => Some(job_script::Answer::Spawned(*child)),
+        Begun::End => None,
+        _ => Some(job_script::Answer::Done),
+    }
+}

@@ -1,0 +1,290 @@
+//! How a worker drives a task, event by event.
+ghost use Rattle.std.specs.Prelude.{◌≡◌, IfOk, IfErr};
+ghost use Rattle.tasks_in_flight.specs.Refused.{IsRunRefused};
+
+use crate::ended::Ends;
+use crate::shared::{RootLeft, Shared, Worker, one_more};
+use crate::task::{Item, Task};
+use crate::threads::Work;
+use finish_core::ShutAnswer;
+use live_tables::SlotLogs;
+use phase_modes::{Pair, Refusal};
+use phaser_core::{PassAnswer, SignalAnswer};
+use std::sync::Wait;
+use task_standing::Due;
+use tasks_in_flight::{Body, Gate};
+
+/// How many steps and events of a task a worker makes before it takes another, if there is one. A
+/// task that parks or ends makes fewer. So the queue is asked once for many events, and whoever
+/// stands in it comes on soon.
+const STRETCH: u32 = 64;
+
+/// A task that goes on; none if it is parked or has ended.
+type Next<B, J> = Option<Item<B, J>>;
+
+/// What all workers share, who hears of the tasks' ends, and the gate round each step.
+#[derive(Drop)]
+pub(crate) struct Crew<'a, B: Body, J: SlotLogs, E: Ends<B>, G: Gate> {
+    pub(crate) shared: &'a Shared<B, J>,
+    pub(crate) ends: &'a E,
+    pub(crate) gate: &'a G,
+}
+
+/// What is answered if a call on a phaser or a finish was refused that no act under way can be
+/// refused. Memory may be wanting anywhere.
+fn told(refusal: Refusal) -> Refusal
+    ensures { IsRunRefused result }
+{
+    match refusal {
+        Refusal::Memory => Refusal::Memory,
+        _ => Refusal::NotExplained(0),
+    }
+}
+
+/// The task gives up by this refusal.
+fn gives_up<B: Body, J: SlotLogs>(item: Item<B, J>, refusal: Refusal) -> Next<B, J> {
+    let mut item = item;
+    item.task.give_up(refusal);
+    Some(item)
+}
+
+impl<'a, B: Body, J: SlotLogs, E: Ends<B>, G: Gate> Crew<'a, B, J, E, G> {
+    /// A task that is parked signals again once it is woken: its signal is still due.
+    fn signal<R: Wait>(
+        &self,
+        rt: &R,
+        worker: &mut Worker<B, J>,
+        item: Item<B, J>,
+        phaser: u32,
+        number: Option<u32>,
+    ) -> Result<Next<B, J>, Refusal> {
+        match self.shared.signal_on(rt, worker, item, phaser, number)? {
+            SignalAnswer::Signalled(signalled) => {
+                one_more(&mut worker.sums.totals.signals);
+                Ok(Some(signalled))
+            }
+            SignalAnswer::Parked => Ok(None),
+            SignalAnswer::Refused(item, refusal) => Ok(gives_up(item, refusal)),
+        }
+    }
+
+    /// Runs the statement that the task has claimed, and reports it done. The pass comes again.
+    fn run_single<R: Wait>(
+        &self,
+        rt: &R,
+        worker: &mut Worker<B, J>,
+        item: Item<B, J>,
+        phaser: u32,
+        number: u32,
+    ) -> Result<Next<B, J>, Refusal> {
+        let mut item = item;
+        item.task.body.single(number);
+        self.shared.report_on(rt, worker, &mut item.task, phaser)?;
+        Ok(Some(item))
+    }
+
+    fn pass<R: Wait>(
+        &self,
+        rt: &R,
+        worker: &mut Worker<B, J>,
+        item: Item<B, J>,
+        phaser: u32,
+    ) -> Result<Next<B, J>, Refusal> {
+        match self.shared.pass_on(rt, worker, item, phaser)? {
+            PassAnswer::Passed(passed, _) => {
+                one_more(&mut worker.sums.totals.passes);
+                Ok(Some(passed))
+            }
+            PassAnswer::Claimed(item, number) => self.run_single(rt, worker, item, phaser, number),
+            PassAnswer::Parked => Ok(None),
+            PassAnswer::Refused(item, refusal) => Ok(gives_up(item, refusal)),
+        }
+    }
+
+    /// The unborn child is registered for the next pair.
+    fn register<R: Wait>(
+        &self,
+        rt: &R,
+        worker: &mut Worker<B, J>,
+        item: Item<B, J>,
+        pair: Pair,
+    ) -> Next<B, J> {
+        let mut item = item;
+        match self.shared.register_on(rt, &mut item, pair) {
+            Ok(()) => {
+                one_more(&mut worker.sums.totals.registered);
+                Some(item)
+            }
+            Err(refusal) => gives_up(item, refusal),
+        }
+    }
+
+    /// The child is born, and any worker may run it.
+    fn bear<R: Wait>(
+        &self,
+        rt: &R,
+        worker: &mut Worker<B, J>,
+        item: Item<B, J>,
+        finish: u32,
+    ) -> Result<Next<B, J>, Refusal> {
+        let Item { task, unborn } = item;
+        let mut task = task;
+        let Some(born) = unborn else {
+            return Err(Refusal::NotNow);
+        };
+        self.shared.finishes.spawned(rt, finish)?;
+        one_more(&mut worker.sums.spawned);
+        task.standing.note_birth();
+        self.shared.give(rt, worker, Item::of(born))?;
+        Ok(Some(Item::of(task)))
+    }
+
+    /// The task leaves a phaser.
+    fn leave<R: Wait>(
+        &self,
+        rt: &R,
+        worker: &mut Worker<B, J>,
+        item: Item<B, J>,
+        phaser: u32,
+    ) -> Result<Next<B, J>, Refusal> {
+        let mut item = item;
+        self.shared.leave_on(rt, worker, &mut item.task, phaser)?;
+        Ok(Some(item))
+    }
+
+    /// The unborn child is taken off a phaser.
+    fn drop_child<R: Wait>(
+        &self,
+        rt: &R,
+        worker: &mut Worker<B, J>,
+        item: Item<B, J>,
+        phaser: u32,
+    ) -> Result<Next<B, J>, Refusal> {
+        let Item { task, unborn } = item;
+        let Some(child) = unborn else {
+            return Err(Refusal::NotNow);
+        };
+        let mut child = child;
+        self.shared.leave_on(rt, worker, &mut child, phaser)?;
+        Ok(Some(Item {
+            task,
+            unborn: Some(child),
+        }))
+    }
+
+    fn shut<R: Wait>(&self, rt: &R, item: Item<B, J>, finish: u32) -> Result<Next<B, J>, Refusal> {
+        // No clause says that finish 0 is shut by the root's end alone.
+        if finish == 0 {
+            return Err(Refusal::NotNow);
+        }
+        match self.shared.finishes.shut(rt, finish, item) {
+            ShutAnswer::Done(shut) => {
+                let mut item = shut;
+                item.task.standing.note_shut();
+                Ok(Some(item))
+            }
+            ShutAnswer::Parked => Ok(None),
+            ShutAnswer::Refused(_, refusal) => Err(refusal),
+        }
+    }
+
+    /// The task ends, of which is heard first, and then its finish knows.
+    fn end<R: Wait>(
+        &self,
+        rt: &R,
+        worker: &mut Worker<B, J>,
+        item: Item<B, J>,
+        finish: u32,
+    ) -> Result<Next<B, J>, Refusal> {
+        let Item { task, unborn: _ } = item;
+        let Task { body, refused, .. } = Box::into_inner(task);
+        worker.sums.ended(refused);
+        self.ends.ended(body, refused);
+        self.shared.end_on(rt, worker, finish)?;
+        Ok(None)
+    }
+
+    /// The root shuts finish 0: the run is over, and what the root leaves is its worker's.
+    fn close<R: Wait>(
+        &self,
+        rt: &R,
+        worker: &mut Worker<B, J>,
+        item: Item<B, J>,
+    ) -> Result<Next<B, J>, Refusal> {
+        match self.shared.finishes.shut(rt, 0, item) {
+            ShutAnswer::Done(item) => {
+                let Item { task, unborn: _ } = item;
+                let Task { body, refused, .. } = Box::into_inner(task);
+                worker.sums.ended(refused);
+                worker.root = Some(RootLeft { body, refused });
+                self.shared.queue.close(rt);
+                Ok(None)
+            }
+            ShutAnswer::Parked => Ok(None),
+            ShutAnswer::Refused(_, refusal) => Err(refusal),
+        }
+    }
+
+    /// Makes the event that comes next, or asks the body for an act.
+    fn go_on<R: Wait>(
+        &self,
+        rt: &R,
+        worker: &mut Worker<B, J>,
+        item: Item<B, J>,
+    ) -> Result<Next<B, J>, Refusal> {
+        let mut item = item;
+        match item.due() {
+            Due::Step => {
+                self.step(rt, worker, &mut item)?;
+                Ok(Some(item))
+            }
+            Due::Signal(phaser, number) => self.signal(rt, worker, item, phaser, number),
+            Due::Pass(phaser) => self.pass(rt, worker, item, phaser),
+            Due::Register(_, pair) => Ok(self.register(rt, worker, item, pair)),
+            Due::Spawn(_, finish) => self.bear(rt, worker, item, finish),
+            Due::DropChild(phaser, _) => self.drop_child(rt, worker, item, phaser),
+            Due::Leave(phaser) => self.leave(rt, worker, item, phaser),
+            Due::Shut(finish) => self.shut(rt, item, finish),
+            Due::End(finish) => self.end(rt, worker, item, finish),
+            Due::Close => self.close(rt, worker, item),
+        }
+    }
+
+    /// Drives the task until it parks or ends, or for as long as a stretch is; then it waits in the
+    /// queue for its next one.
+    fn drive<R: Wait>(
+        &self,
+        rt: &R,
+        worker: &mut Worker<B, J>,
+        item: Item<B, J>,
+    ) -> Result<(), Refusal> {
+        let mut driven = item;
+        for _event in 0..STRETCH {
+            match self.go_on(rt, worker, driven)? {
+                Some(item) => driven = item,
+                None => return Ok(()),
+            }
+        }
+        self.shared.give(rt, worker, driven)
+    }
+}
+
+impl<'a, B: Body, J: SlotLogs, E: Ends<B>, G: Gate> Work<Worker<B, J>> for Crew<'a, B, J, E, G> {
+    /// Takes tasks and drives them, until the queue is closed. If something is amiss, the queue
+    /// is closed first, so that nobody waits at it for ever.
+    fn work<R: Wait>(&self, rt: &R, worker: Worker<B, J>) -> Result<Worker<B, J>, Refusal> {
+        let mut worker = worker;
+        for _ in rt.forever() {
+            let Some(item) = self.shared.next(rt, &mut worker) else {
+                return Ok(worker);
+            };
+            if let Err(refusal) = self.drive(rt, &mut worker, item) {
+                self.shared.queue.close(rt);
+                return Err(told(refusal));
+            }
+            self.shared.pulses.note(worker.number, &worker.sums);
+            self.ends.beat(&self.shared.pulses);
+        }
+        unreachable!()
+    }
+}

@@ -1,0 +1,104 @@
+//! The workers of a run, from the seats that they are given to what they hand back.
+ghost use Rattle.std.specs.Prelude.{◌≡◌, ◌<◌, All, IfOk, IfErr, vec_len};
+ghost use Rattle.tasks_in_flight.specs.Refused.{IsRunRefused};
+
+use crate::driver::Crew;
+use crate::ended::Ends;
+use crate::shared::{RootLeft, Sums, Worker};
+use crate::task::Item;
+use crate::threads::in_threads;
+use live_tables::SlotLogs;
+use phase_modes::Refusal;
+use phaser_core::Out;
+use std::alloc::Global;
+use std::collections::VecDeque;
+use std::sync::Wait;
+use std::thread::Threads;
+use task_queue::{RunQueue, Seat};
+use tasks_in_flight::{Body, Gate};
+
+/// What the workers hand back: what they counted, and what the root leaves.
+#[derive(Drop)]
+pub(crate) struct Left<B> {
+    pub(crate) sums: Sums,
+    pub(crate) root: Option<RootLeft<B>>,
+}
+
+/// A worker at each seat.
+pub(crate) fn staff_of<B: Body, J: SlotLogs>(
+    alloc: Global,
+    seats: Vec<Seat<Item<B, J>>>,
+) -> Result<Vec<Worker<B, J>>, Refusal>
+    ensures memory { IfErr result (λ e. e ≡ Refusal.Memory) }
+{
+    let mut staff = Vec::new(alloc);
+    let mut number = 0u32;
+    for seat in seats {
+        staff.push(Worker {
+            number,
+            seat,
+            out: Out::new(alloc)?,
+            kept: VecDeque::new(alloc),
+            sums: Sums::none(),
+            root: None,
+        })?;
+        number = number.saturating_add(1);
+    }
+    Ok(staff)
+}
+
+/// Puts the root into the queue, from the first seat.
+pub(crate) fn put_root<B: Body, J: SlotLogs, R: Wait>(
+    rt: &R,
+    queue: &RunQueue<Item<B, J>>,
+    seats: &mut Vec<Seat<Item<B, J>>>,
+    root: Item<B, J>,
+) -> Result<(), Refusal>
+    requires some { 0 < vec_len seats.old }
+    ensures memory { IfErr result (λ e. e ≡ Refusal.Memory) }
+{
+    match queue.put(rt, &mut seats[0], root) {
+        Ok(()) => Ok(()),
+        Err(_) => Err(Refusal::Memory),
+    }
+}
+
+/// Takes in what one worker hands back. Tasks that it still has are dropped.
+fn take_back<B: Body, J: SlotLogs>(left: &mut Left<B>, worker: Worker<B, J>) {
+    let Worker { sums, root, .. } = worker;
+    left.sums = left.sums.with(sums);
+    if let Some(root) = root {
+        left.root = Some(root);
+    }
+}
+
+/// What all workers hand back, or the first that something was amiss for.
+fn left_of<B: Body, J: SlotLogs>(
+    done: Vec<Result<Worker<B, J>, Refusal>>,
+) -> Result<Left<B>, Refusal>
+    requires { All (λ r. IfErr r (λ e. IsRunRefused e)) done.items }
+    ensures refused { IfErr result (λ e. IsRunRefused e) }
+{
+    let mut left = Left {
+        sums: Sums::none(),
+        root: None,
+    };
+    for worker in done {
+        take_back(&mut left, worker?);
+    }
+    Ok(left)
+}
+
+/// Runs the workers until all of them are done.
+pub(crate) fn work_all<
+    B: Body + Send,
+    J: SlotLogs + Send + Sync,
+    E: Ends<B> + Sync,
+    G: Gate + Sync,
+    R: Threads + Wait + Sync,
+>(rt: &R, crew: &Crew<'_, B, J, E, G>, staff: Vec<Worker<B, J>>) -> Result<Left<B>, Refusal>
+    ensures refused { IfErr result (λ e. IsRunRefused e) }
+{
+    let done = in_threads(rt, crew, staff)?;
+    left_of(done)
+}

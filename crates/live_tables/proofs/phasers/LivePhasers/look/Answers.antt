@@ -1,0 +1,23 @@
+use Rattle.std.proofs.Common.{◌≡◌, Err, refl, subst}
+use Rattle.phase_modes.specs.declared.refusal.Refusal.TheVariants.{NotRegistered}
+use Rattle.phase_model.specs.declared.call.Call.TheVariants.{Look as look}
+use Rattle.phase_model.specs.Answers.{look_result}
+use Rattle.told_history.specs.Stories.{IsAnswered}
+use Rattle.told_history.proofs.Goes.{goes_far}
+use Rattle.live_tables.specs.Slots.{told_of}
+use Rattle.live_tables.proofs.Gone.{answered_gone, answered_later}
+use Rattle.live_tables.proofs.phasers.LivePhasers.look.Goals as goal
+
+pub returns-in_default-clause-told : goal.returns-in_default-clause-told
+returns-in_default-clause-told g c =
+    answered_gone (λ _ r. Err NotRegistered ≡ look_result r) (look c.args.task c.args.accumulator) c.args.task (told_of c.args.at.number c.args.me.now.items) (told_of c.args.at.number c.find.new.me.items) _
+    (c.in_default.ensures.on c.args.at.number) c.in_default.ensures.gone refl refl
+
+pub returns-clause-told : goal.returns-clause-told
+returns-clause-told g c =
+    answered_later (λ _ r. c.look.result ≡ look_result r) (look c.args.task c.args.accumulator) (told_of c.args.at.number c.args.me.now.items) (told_of c.args.at.number c.find.new.me.items) (told_of c.args.at.number c.look.new.me.items) (c.in-Some.ensures.on c.args.at.number)
+    (subst (λ n. IsAnswered (λ _ r. c.look.result ≡ look_result r) (look c.args.task c.args.accumulator) (told_of n c.find.new.me.items) (told_of n c.look.new.me.items)) c.in-Some.ensures.here.1 c.look.ensures.told)
+
+pub returns-clause-others : goal.returns-clause-others
+returns-clause-others g c = λ k.
+    goes_far (told_of k c.args.me.now.items) (told_of k c.find.new.me.items) (told_of k c.look.new.me.items) (c.in-Some.ensures.on k) (c.look.ensures.others k)

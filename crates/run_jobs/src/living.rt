@@ -1,0 +1,201 @@
+//! Runs a program's text by workers without a store, and prints what can be known of such a run.
+ghost use Rattle.std.specs.Prelude.{◌≡◌, ◌≢◌, ◌<◌, ◌≤◌, Ok, OnOk, IfOk, IfErr};
+ghost use Rattle.std.specs.Io.KnownBytes.{Appends, Keeps};
+ghost use Rattle.std.specs.String.{string_bytes};
+ghost use Rattle.job_script.specs.Program.{Program as Programs};
+ghost use Rattle.job_ends.specs.Ends.{status_of, ReportsStatus};
+ghost use Rattle.text_jobs.specs.Texts.{program_spelled};
+ghost use Rattle.run_jobs.specs.Living.{RunsLive, live_text};
+ghost use Rattle.run_jobs.specs.Worked.{IsOfRun};
+
+use job_ends::{Failure, Status, put_text};
+use job_script::{Act, Answer, ScriptBody};
+use live_rt::{Body, Counts, Ends, OpenGate, Pulses, Room, run_live};
+use phase_model::Bound;
+use phase_modes::Refusal;
+use phased_rt::Workers;
+use std::alloc::Global;
+use std::fmt;
+use std::io::Write;
+use std::sync::Wait;
+use std::thread::Threads;
+use text_jobs::program_of;
+
+/// The bound of a phaser that the program makes without one: a signaller that is so many phases ahead of a
+/// waiter has to wait.
+const FAR: u32 = 65_536;
+
+/// How many phasers and finishes a program may have at once.
+const ROOM: Room = Room {
+    phasers: 4_096,
+    finishes: 4_096,
+};
+
+/// A body of the program, whose phasers all have a bound.
+#[derive(Drop)]
+struct Bounded<'p> {
+    body: ScriptBody<'p>,
+}
+
+/// The bound, or the greatest if there is none.
+fn some_bound(bound: Option<Bound>) -> Option<Bound> {
+    match bound {
+        Some(bound) => Some(bound),
+        None => Bound::of(FAR),
+    }
+}
+
+/// The same act, by which each phaser has a bound.
+fn with_bounds<'p>(act: Act<ScriptBody<'p>>) -> Act<Bounded<'p>> {
+    match act {
+        Act::Async(body, pairs) => Act::Async(Bounded { body }, pairs),
+        Act::AsyncAll(body) => Act::AsyncAll(Bounded { body }),
+        Act::OpenFinish => Act::OpenFinish,
+        Act::ShutFinish => Act::ShutFinish,
+        Act::New(mode, ops, bound) => Act::New(mode, ops, some_bound(bound)),
+        Act::Signal => Act::Signal,
+        Act::Wait => Act::Wait,
+        Act::Next => Act::Next,
+        Act::NextSingle(number) => Act::NextSingle(number),
+        Act::Send(phaser, accumulator, value) => Act::Send(phaser, accumulator, value),
+        Act::Look(phaser, accumulator) => Act::Look(phaser, accumulator),
+        Act::End => Act::End,
+    }
+}
+
+impl<'p> Body for Bounded<'p> {
+    fn step(&mut self, answer: Answer) -> Result<Act<Bounded<'p>>, Refusal> {
+        match self.body.step(answer) {
+            Ok(act) => Ok(with_bounds(act)),
+            Err(refusal) => Err(refusal),
+        }
+    }
+
+    /// A script's statement does nothing.
+    fn single(&mut self, _number: u32) {}
+}
+
+/// Is told how far a run is, while it goes on.
+pub trait Progress {
+    /// A worker has driven a task for a stretch, of at most 64 events.
+    fn beat(&self, pulses: &Pulses);
+}
+
+/// Shows nothing.
+#[derive(Drop)]
+pub struct Silent;
+
+impl Progress for Silent {
+    fn beat(&self, _pulses: &Pulses) {}
+}
+
+/// Whoever is told of a program's tasks.
+#[derive(Drop)]
+struct Told<'a, P> {
+    progress: &'a P,
+}
+
+impl<'a, 'p, P: Progress> Ends<Bounded<'p>> for Told<'a, P> {
+    fn ended(&self, _body: Bounded<'p>, _refused: Option<Refusal>) {}
+
+    fn beat(&self, pulses: &Pulses) {
+        self.progress.beat(pulses);
+    }
+}
+
+/// The lines of a run without a store: how many tasks, phasers and finishes there were, and the totals.
+#[derive(Drop)]
+struct Lines {
+    counts: Counts,
+}
+
+impl fmt::Display for Lines {
+    ghost use Rattle.std.specs.Prelude.{Some};
+    ghost use Rattle.run_jobs.specs.Living.{live_text};
+
+    ghost output = { λ l. Some (live_text l.counts) };
+
+    fn fmt<W: fmt::Write>(&self, f: &mut fmt::Formatter<W>) -> fmt::Result {
+        write!(
+            f,
+            "tasks {} ended {} refused {}\n",
+            self.counts.tasks, self.counts.ended, self.counts.refused
+        )?;
+        write!(
+            f,
+            "phasers {}\nfinishes {}\n",
+            self.counts.phasers, self.counts.finishes
+        )?;
+        write!(f, "{}\n", self.counts.totals)
+    }
+}
+
+/// The lines of a run of these counts.
+fn lines_of(alloc: Global, counts: Counts) -> Result<String, Refusal>
+    ensures lines { IfOk result (λ text. string_bytes text ≡ live_text counts) }
+    ensures memory { IfErr result (λ e. e ≡ Refusal.Memory) }
+{
+    let lines = Lines { counts };
+    match lines.to_string(alloc) {
+        Ok(text) => Ok(text),
+        Err(_) => Err(Refusal::Memory),
+    }
+}
+
+/// Reads a program's text, runs the program by these workers without a store, and writes what is counted
+/// of it. Nothing is written before the run is over. More than 1,048,576 bytes are refused at place 0.
+pub fn live_bytes<R: Threads + Wait + Sync, W: Write, P: Progress + Sync>(
+    workers: Workers<'_, R>,
+    alloc: Global,
+    input: &[u8],
+    progress: &P,
+    out: &mut W,
+) -> Result<(), Failure>
+    requires { (0 < workers.number) × (workers.number ≤ 16) }
+    ensures done { OnOk result (RunsLive input.now (λ c. Appends (W.contents out.old) (W.contents out.new) (live_text c))) }
+    ensures refused { IfErr result (λ f. status_of f ≡ Status.Refused → Keeps (W.contents out.old) (W.contents out.new)) }
+    ensures failure { IfErr result (IsOfRun input.now) }
+{
+    let program = program_of(alloc, input)?;
+    let root = Bounded {
+        body: program.root(),
+    };
+    let told = Told { progress };
+    let ended = run_live(
+        workers.rt,
+        alloc,
+        root,
+        ROOM,
+        workers.number,
+        &told,
+        &OpenGate,
+    )?;
+    let lines = lines_of(alloc, ended.counts)?;
+    put_text(out, lines.as_str())?;
+    Ok(())
+}
+
+/// Runs a program's text whose bytes are here by these workers, without a store. The line of a failure
+/// goes to `faults`; if it can't be written, the status stays what it is.
+pub fn live_on<R: Threads + Wait + Sync, W: Write, F: Write, P: Progress + Sync>(
+    workers: Workers<'_, R>,
+    alloc: Global,
+    input: &[u8],
+    progress: &P,
+    out: &mut W,
+    faults: &mut F,
+) -> Status
+    requires { (0 < workers.number) × (workers.number ≤ 16) }
+    ensures done { result ≡ Status.Done → RunsLive input.now (λ c. Appends (W.contents out.old) (W.contents out.new) (live_text c)) }
+    ensures quiet { result ≡ Status.Done → Keeps (F.contents faults.old) (F.contents faults.new) }
+    ensures refused { result ≡ Status.Refused → Keeps (W.contents out.old) (W.contents out.new) }
+    ensures fault { result ≡ Status.Fault → (p : Programs) × (program_spelled input.now ≡ Ok p) }
+    ensures reported { result ≢ Status.Done → ReportsStatus (IsOfRun input.now) result
+        (F.contents faults.old) (F.contents faults.new) }
+    ensures usage { result ≢ Status.Usage }
+{
+    match live_bytes(workers, alloc, input, progress, out) {
+        Ok(()) => Status::Done,
+        Err(failure) => failure.end(alloc, faults).status,
+    }
+}
