@@ -1,4 +1,4 @@
-/* Paldwosk for C: a checker of traces, and one phaser.
+/* Paldwosk for C: a checker of traces, a judge of events as they come, and one phaser.
  *
  * Link crates/phaser_c/out/libphaser_c.a, which `tools/build_program phaser_c` proves and builds, and the
  * toolchain's liblibc_c.a, through which it calls malloc, realloc and free (docs/barrier.md has the command).
@@ -13,7 +13,7 @@
  *   - What is written to (a room, a place of a result, a paldwosk_phaser) lies apart from all else that the call is
  *     given.
  *   - A paldwosk_phaser is zeroed before its first use, and is then only passed to these functions. It isn't copied:
- *     of two copies the library can't know that they are one phaser.
+ *     of two copies the library can't know that they are one phaser. The same holds of a paldwosk_judge, here and below.
  *   - One thread at a time has a paldwosk_phaser. It may go from thread to thread, if a lock, the start or the join of
  *     a thread orders their calls. For threads that share one, put a lock of your own round it:
  *
@@ -28,7 +28,7 @@
  *     handler, or in the forked child of a process with threads.
  *
  * A NULL pointer, a number that is no mode's and a room that is too small are answers, and change nothing but *written,
- * which says how much room it takes. So is a paldwosk_phaser that holds no phaser.
+ * which says how much room it takes. So is a paldwosk_phaser that holds no phaser, and a paldwosk_judge without a judge.
  */
 #ifndef PALDWOSK_H
 #define PALDWOSK_H
@@ -103,14 +103,25 @@ typedef enum paldwosk_answer {
 
   /* What was passed is at fault. Nothing changed, except *written if the room is too small. */
   PALDWOSK_NULL = 64,          /* a pointer is NULL */
-  PALDWOSK_CLOSED = 65,        /* the paldwosk_phaser holds no phaser */
-  PALDWOSK_OPEN = 66,          /* the paldwosk_phaser holds a phaser already */
+  PALDWOSK_CLOSED = 65,        /* the paldwosk_phaser holds no phaser, the paldwosk_judge no judge */
+  PALDWOSK_OPEN = 66,          /* the paldwosk_phaser holds a phaser already, the paldwosk_judge a judge */
   PALDWOSK_SHORT = 67,         /* the room is too small: *written says how many bytes the text has. For tasks: it has to be 256 */
   PALDWOSK_BAD_MODE = 68,      /* no mode has this number */
   PALDWOSK_BAD_LIMITS = 69,    /* a limit isn't between its least and its greatest */
   PALDWOSK_BAD_OPERATORS = 70, /* no operator has one of the numbers, or there are more than four */
   PALDWOSK_BAD_BOUND = 71,     /* the bound is over 65,536; for threads that wait also 0 */
-  PALDWOSK_BAD_TICKETS = 72    /* there aren't as many tickets as events */
+  PALDWOSK_BAD_TICKETS = 72,   /* there aren't as many tickets as events */
+  PALDWOSK_BAD_KIND = 73,      /* no kind of event has this number */
+
+  /* Answers of paldwosk_judge_event alone, beside those of 1 to 22: the event can't be. The judge is over. */
+  PALDWOSK_NOT_MADE = 80,           /* the phaser isn't made, or its last task has left it */
+  PALDWOSK_MADE_ALREADY = 81,       /* the phaser is made already */
+  PALDWOSK_REGISTERED_ALREADY = 82, /* the child is registered on the phaser already */
+  PALDWOSK_HAD_TO_WAIT = 83,        /* the task had to wait: for others, for its single, or by the bound */
+  PALDWOSK_CLAIMS_INSTEAD = 84,     /* it is a pass, but the task had a single to claim */
+  PALDWOSK_PASSES_INSTEAD = 85,     /* it is a claim, but the task had no single to claim, and passed */
+  PALDWOSK_SAW_OTHER = 86,          /* the look saw another value than the phaser had */
+  PALDWOSK_OVER = 87                /* an event was refused before, so nothing is said of this one */
 } paldwosk_answer;
 
 /* What an answer means and what to do about it, in one sentence for a person, beginning with its name and number: of
@@ -181,8 +192,8 @@ PALDWOSK_INLINE const char *paldwosk_answer_text(paldwosk_answer answer) {
     case PALDWOSK_NULL:
       return "Null (64): a pointer is NULL that may not be, or the task is zeroed; pass the address of a variable";
     case PALDWOSK_CLOSED:
-      return "Closed (65): there is no phaser, or it was freed, or a fork has left it behind; make one first";
-    case PALDWOSK_OPEN: return "Open (66): there is a phaser already; free it before you make another there";
+      return "Closed (65): there is no phaser or judge, or it was freed, or a fork has left it behind; make one first";
+    case PALDWOSK_OPEN: return "Open (66): there is a phaser or judge already; free it before you make another there";
     case PALDWOSK_SHORT:
       return "Short (67): the room is too small; call again with as much as the call says that it takes";
     case PALDWOSK_BAD_MODE: return "BadMode (68): no mode has this number; use one of the four of paldwosk_mode";
@@ -196,6 +207,31 @@ PALDWOSK_INLINE const char *paldwosk_answer_text(paldwosk_answer answer) {
              "take 2 if each task signals and waits";
     case PALDWOSK_BAD_TICKETS:
       return "BadTickets (72): there aren't as many tickets as events; draw one for each event";
+    case PALDWOSK_BAD_KIND:
+      return "BadKind (73): no kind of event has this number; use one of the eleven of paldwosk_judged_kind";
+    case PALDWOSK_NOT_MADE:
+      return "NotMade (80): the event's phaser isn't made, or its last task has left it; "
+             "see that its make is handed over first";
+    case PALDWOSK_MADE_ALREADY:
+      return "MadeAlready (81): the event makes a phaser that is there; "
+             "see that its last drop is handed over before its number is used again";
+    case PALDWOSK_REGISTERED_ALREADY:
+      return "RegisteredAlready (82): the event registers a task that is registered there; "
+             "see that its drop is handed over before its number is used again";
+    case PALDWOSK_HAD_TO_WAIT:
+      return "HadToWait (83): the event came before those that the task had to wait for; "
+             "see who hadn't signalled, or had a single to do, or was behind by the bound";
+    case PALDWOSK_CLAIMS_INSTEAD:
+      return "ClaimsInstead (84): the task passed, but it had the single of its phase to run; "
+             "see who ran the single, and when";
+    case PALDWOSK_PASSES_INSTEAD:
+      return "PassesInstead (85): the task claimed a single, but its phase had none left to run; "
+             "see whether the single ran twice";
+    case PALDWOSK_SAW_OTHER:
+      return "SawOther (86): the look saw another value than was sent to the phase before; "
+             "see which send is lost or counted twice";
+    case PALDWOSK_OVER:
+      return "Over (87): the judge refused an event before, and judges no more; look at that event, and make a new judge";
   }
   return "no answer has this number; compare the versions of the header and of the archive";
 }
@@ -244,6 +280,57 @@ typedef struct paldwosk_waiting {
 
 #define PALDWOSK_NOBODY_WAITING {NULL}
 
+/* A judge of events, as C holds it: one pointer, NULL while there is no judge. Its field is the library's. */
+typedef struct paldwosk_judge {
+  void *held;
+} paldwosk_judge;
+
+#define PALDWOSK_NO_JUDGE {NULL}
+
+/* What happened at a phaser. */
+typedef enum paldwosk_judged_kind {
+  PALDWOSK_JUDGED_MAKE = 0,         /* the task made the phaser, and was registered in `mode` */
+  PALDWOSK_JUDGED_REG = 1,          /* the task registered `child` in `mode` */
+  PALDWOSK_JUDGED_SIG = 2,          /* the task signalled its phase, and proposed no single */
+  PALDWOSK_JUDGED_SIG_SINGLE = 3,   /* it signalled, and proposed the single of the number `single` */
+  PALDWOSK_JUDGED_CLAIM = 4,        /* the task claimed the single of its phase, to run it */
+  PALDWOSK_JUDGED_DID = 5,          /* the task reported the single done that it had claimed */
+  PALDWOSK_JUDGED_PASS = 6,         /* the task ended its turn */
+  PALDWOSK_JUDGED_SEND = 7,         /* the task sent `value` to `accumulator` */
+  PALDWOSK_JUDGED_LOOK = 8,         /* the task looked at `accumulator`, and saw `seen` */
+  PALDWOSK_JUDGED_LOOK_NOTHING = 9, /* it looked, and there was no least and no greatest of no values */
+  PALDWOSK_JUDGED_DROP = 10         /* the task left the phaser, which is gone with its last task */
+} paldwosk_judged_kind;
+
+/* An event of a phaser. Only those fields are looked at that its kind has; the others may be any numbers. */
+typedef struct paldwosk_judged_event {
+  uint64_t phaser;         /* any number */
+  uint64_t task;           /* who acts, of REG the parent: any number */
+  uint64_t child;          /* of REG */
+  int64_t seen;            /* of LOOK */
+  int32_t value;           /* of SEND */
+  uint32_t single;         /* of SIG_SINGLE */
+  uint32_t kind;           /* a paldwosk_judged_kind */
+  uint32_t mode;           /* of MAKE and REG: a paldwosk_mode */
+  uint32_t accumulator;    /* of SEND, LOOK and LOOK_NOTHING: its index, from 0 */
+  uint32_t bound;          /* of MAKE: 1 to 65,536, or 0 for none */
+  uint32_t operator_count; /* of MAKE: 0 to 4 */
+  uint32_t operators[4];   /* of MAKE: the first so many, each a paldwosk_operator */
+} paldwosk_judged_event;
+
+/* What a judge counted of the events that it accepted. A count stays at 2^64 - 1 if it would be more. */
+typedef struct paldwosk_judged_totals {
+  uint64_t events;
+  uint64_t made;          /* phasers that were made */
+  uint64_t there;         /* phasers that are there now; of a judge that is over it says nothing */
+  uint64_t registrations; /* those of the makers among them */
+  uint64_t signals;
+  uint64_t passes;
+  uint64_t drops;
+  uint64_t sends;
+  uint32_t over; /* 1 if the judge is over, else 0 */
+} paldwosk_judged_totals;
+
 /* A task that had to wait. Another task's call has now ended its wait. */
 typedef struct paldwosk_freed {
   uint64_t task;
@@ -276,6 +363,10 @@ typedef enum paldwosk_status {
 uint32_t phaser_c_abi_1(void);
 uint32_t phaser_c_replay(const uint8_t *trace, size_t length, uint8_t *report, size_t room, size_t *written);
 uint32_t phaser_c_events(const uint8_t *file, size_t length, uint8_t *lines, size_t room, size_t *written);
+uint32_t phaser_c_judge_new(paldwosk_judge *judge);
+void phaser_c_judge_free(paldwosk_judge *judge);
+uint32_t phaser_c_judge_event(paldwosk_judge *judge, const paldwosk_judged_event *event);
+uint32_t phaser_c_judge_totals(paldwosk_judge *judge, paldwosk_judged_totals *totals);
 uint32_t phaser_c_new(paldwosk_phaser *phaser, const paldwosk_limits *limits, const uint32_t *operators, size_t count,
                       uint32_t bound);
 void phaser_c_free(paldwosk_phaser *phaser);
@@ -350,6 +441,55 @@ PALDWOSK_INLINE paldwosk_status paldwosk_events(const char *file, size_t length,
   (void)phaser_c_abi_1();
   return (paldwosk_status)phaser_c_events(file ? (const uint8_t *)file : &none, length,
                                           lines ? (uint8_t *)lines : &nowhere, room, written);
+}
+
+/* ---- The judge
+ *
+ * It is handed the events of any number of phasers, one after the other, and says of each whether it can be. So a program
+ * judges its own phasers and barriers while it runs, from a ring of events or a pipe. No event is stored: the memory is
+ * that of the phasers that are there and of the tasks registered on them, however long they live.
+ *
+ *     paldwosk_judge judge = PALDWOSK_NO_JUDGE;
+ *     const paldwosk_judged_event made = {.kind = PALDWOSK_JUDGED_MAKE, .mode = PALDWOSK_SIG_WAIT, .bound = 2};
+ *     paldwosk_answer answer = paldwosk_judge_new(&judge);
+ *     if (answer == PALDWOSK_DONE) answer = paldwosk_judge_event(&judge, &made);
+ *     if (answer != PALDWOSK_DONE) fprintf(stderr, "%s\n", paldwosk_answer_text(answer));
+ *     paldwosk_judge_free(&judge);
+ *
+ * Under one lock for all events, note a pass, a look and a claim just after they are done, and each other event just
+ * before. Then none comes before one that made it possible, unless signals wait by a bound: of such a phaser note each
+ * event under the lock under which it is done. */
+
+/* Makes a judge that has judged no event. OPEN, MEMORY. On DONE it is to be freed by paldwosk_judge_free. */
+PALDWOSK_MUST_CHECK
+PALDWOSK_INLINE paldwosk_answer paldwosk_judge_new(paldwosk_judge *judge) {
+  if (!judge) return PALDWOSK_NULL;
+  (void)phaser_c_abi_1();
+  return (paldwosk_answer)phaser_c_judge_new(judge);
+}
+
+/* Frees the judge, if there is one; `judge` holds none from then on, and paldwosk_judge_new may make one for it again. */
+PALDWOSK_INLINE void paldwosk_judge_free(paldwosk_judge *judge) {
+  if (judge) phaser_c_judge_free(judge);
+}
+
+/* Judges one event more. DONE: it can be after those before it. Nothing has changed on BAD_KIND, BAD_MODE, BAD_OPERATORS,
+ * BAD_BOUND, CLOSED and MEMORY, in this order; after MEMORY the event may be handed over again. On any other answer the
+ * event can't be, which says why, and the judge is over: it answers OVER to each event from then on. Why is one of
+ * NOT_MADE to SAW_OTHER, or the answer that a phaser gives to the call, as PALDWOSK_ALREADY_SIGNALLED. A task and a
+ * phaser may have a number that was another's, once that has left or is gone. There is no limit of phasers. Each has room
+ * for 256 tasks at once, and for 2^62 events: one task more is answered PALDWOSK_REGS_FULL. For a phaser the judge takes
+ * 272 bytes for each phase of its bound, and 18 megabytes if it has none: then it is judged by one of 65,536. At a
+ * barrier a bound of 2 says the same as none. */
+PALDWOSK_MUST_CHECK
+PALDWOSK_INLINE paldwosk_answer paldwosk_judge_event(paldwosk_judge *judge, const paldwosk_judged_event *event) {
+  return judge && event ? (paldwosk_answer)phaser_c_judge_event(judge, event) : PALDWOSK_NULL;
+}
+
+/* What the judge counted of the events that it accepted, and whether it is over. CLOSED: then nothing is written. */
+PALDWOSK_MUST_CHECK
+PALDWOSK_INLINE paldwosk_answer paldwosk_judge_totals(paldwosk_judge *judge, paldwosk_judged_totals *totals) {
+  return judge && totals ? (paldwosk_answer)phaser_c_judge_totals(judge, totals) : PALDWOSK_NULL;
 }
 
 /* ---- One phaser. docs/rules.md says what each call is answered, and in which order refusals come. */

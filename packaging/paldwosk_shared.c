@@ -104,4 +104,16 @@ paldwosk_status paldwosk_so_events(const char *file, size_t length, char *lines,
   return paldwosk_events(file, length, lines, room, written);
 }
 
+paldwosk_answer paldwosk_so_judge_new(paldwosk_judge *judge) { return paldwosk_judge_new(judge); }
+
+void paldwosk_so_judge_free(paldwosk_judge *judge) { paldwosk_judge_free(judge); }
+
+paldwosk_answer paldwosk_so_judge_event(paldwosk_judge *judge, const paldwosk_judged_event *event) {
+  return paldwosk_judge_event(judge, event);
+}
+
+paldwosk_answer paldwosk_so_judge_totals(paldwosk_judge *judge, paldwosk_judged_totals *totals) {
+  return paldwosk_judge_totals(judge, totals);
+}
+
 #pragma GCC visibility pop

@@ -89,6 +89,15 @@ class Phaser:
         it.waits += 1
         return True
 
+    def owing(self, what, task, *_):
+        """For whom a pass or a claim of the task has to wait: the phase at which it stands, and the tasks that haven't signalled it, in the order
+        of their registrations; None if for none."""
+        it = self.tasks.get(task)
+        if what not in ("pass", "claim") or not it or WAITS not in it.can or SIGNALS in it.can and it.signals != it.waits + 1:
+            return None
+        tasks = [name for name, other in self.tasks.items() if SIGNALS in other.can and other.signals <= it.waits]
+        return (it.waits, tasks) if tasks else None
+
     def send(self, task, accumulator, value):
         it = self.tasks.get(task)
         if not it or SIGNALS not in it.can or accumulator >= len(self.ops):
@@ -155,3 +164,15 @@ def judged(events):
         if not judge.takes(event):
             return line, judge.said()
     return None, judge.said()
+
+
+def owing(events):
+    """If these events are refused at a pass or a claim whose phase isn't closed: the phaser, the phase, and the tasks that haven't signalled
+    it. Else None."""
+    judge = Judge()
+    for event in events:
+        ticket, of, phaser, *rest = event if event[1] == "p" else [*event[:2], None]
+        found = phaser in judge.phasers and ticket > judge.ticket and judge.phasers[phaser].owing(*rest)
+        if not judge.takes(event):
+            return (phaser, *found) if found else None
+    return None

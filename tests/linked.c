@@ -5,6 +5,8 @@
  * linked calls: the calls that standard input lists, one on each line, on one phaser; a line for each reply, as the program
  *   prints it. The first three lines are the limits, the operators and the bound.
  * linked wrong: wrong pointers, numbers and rooms, each of which must be answered so, and change nothing.
+ * linked judge: lists of events, each of which the judge must answer as was worked out by hand.
+ * linked lacking: events of a judge, each of which is handed over again if memory was refused to it.
  * linked told: the text of each answer; the version is printed.
  * Status 4: something wasn't as it must be; it is named on standard error. */
 #include "../include/paldwosk.h"
@@ -279,6 +281,279 @@ static int wrong(void) {
   return 0;
 }
 
+/* ---- The judge */
+
+#define MOST UINT64_MAX
+#define HALF ((uint64_t)1 << 63)
+
+static paldwosk_judged_event happened(uint64_t phaser, paldwosk_judged_kind kind, uint64_t task) {
+  paldwosk_judged_event event;
+  memset(&event, 0xa5, sizeof event); /* what its kind doesn't have isn't looked at */
+  event.phaser = phaser;
+  event.kind = (uint32_t)kind;
+  event.task = task;
+  return event;
+}
+
+static paldwosk_answer judge_act(paldwosk_judge *judge, uint64_t phaser, paldwosk_judged_kind kind, uint64_t task) {
+  const paldwosk_judged_event event = happened(phaser, kind, task);
+  return paldwosk_judge_event(judge, &event);
+}
+
+static paldwosk_judged_event made_with(uint64_t phaser, uint64_t task, paldwosk_mode mode, paldwosk_operator operator) {
+  paldwosk_judged_event event = happened(phaser, PALDWOSK_JUDGED_MAKE, task);
+  event.mode = (uint32_t)mode;
+  event.bound = 2;
+  event.operator_count = 1;
+  event.operators[0] = (uint32_t)operator;
+  return event;
+}
+
+static paldwosk_answer judge_make(paldwosk_judge *judge, uint64_t phaser, uint64_t task, paldwosk_mode mode) {
+  const paldwosk_judged_event event = made_with(phaser, task, mode, PALDWOSK_SUM);
+  return paldwosk_judge_event(judge, &event);
+}
+
+static paldwosk_answer judge_reg(paldwosk_judge *judge, uint64_t phaser, uint64_t parent, uint64_t child,
+                                 paldwosk_mode mode) {
+  paldwosk_judged_event event = happened(phaser, PALDWOSK_JUDGED_REG, parent);
+  event.child = child;
+  event.mode = (uint32_t)mode;
+  return paldwosk_judge_event(judge, &event);
+}
+
+static paldwosk_answer judge_single(paldwosk_judge *judge, uint64_t phaser, uint64_t task, uint32_t single) {
+  paldwosk_judged_event event = happened(phaser, PALDWOSK_JUDGED_SIG_SINGLE, task);
+  event.single = single;
+  return paldwosk_judge_event(judge, &event);
+}
+
+static paldwosk_answer judge_send(paldwosk_judge *judge, uint64_t phaser, uint64_t task, uint32_t accumulator,
+                                  int32_t value) {
+  paldwosk_judged_event event = happened(phaser, PALDWOSK_JUDGED_SEND, task);
+  event.accumulator = accumulator;
+  event.value = value;
+  return paldwosk_judge_event(judge, &event);
+}
+
+static paldwosk_answer judge_look(paldwosk_judge *judge, uint64_t phaser, uint64_t task, int64_t seen) {
+  paldwosk_judged_event event = happened(phaser, PALDWOSK_JUDGED_LOOK, task);
+  event.accumulator = 0;
+  event.seen = seen;
+  return paldwosk_judge_event(judge, &event);
+}
+
+static paldwosk_answer judge_nothing(paldwosk_judge *judge, uint64_t phaser, uint64_t task) {
+  paldwosk_judged_event event = happened(phaser, PALDWOSK_JUDGED_LOOK_NOTHING, task);
+  event.accumulator = 0;
+  return paldwosk_judge_event(judge, &event);
+}
+
+/* Whether these are the counts, in the order of the struct. */
+static int counts(paldwosk_judge *judge, const uint64_t wanted[8], uint32_t over) {
+  paldwosk_judged_totals told;
+  memset(&told, 0xa5, sizeof told);
+  MUST(paldwosk_judge_totals(judge, &told) == PALDWOSK_DONE);
+  const uint64_t got[8] = {told.events, told.made,   told.there, told.registrations,
+                           told.signals, told.passes, told.drops, told.sends};
+  return !memcmp(got, wanted, sizeof got) && told.over == over;
+}
+
+static void renewed(paldwosk_judge *judge) {
+  paldwosk_judge_free(judge);
+  MUST(paldwosk_judge_new(judge) == PALDWOSK_DONE);
+}
+
+/* Two tasks make, turn and leave a barrier of the greatest number. One of them has the number 2^63. */
+static void judged_barrier(paldwosk_judge *judge) {
+  MUST(judge_make(judge, MOST, HALF, PALDWOSK_SIG_WAIT) == PALDWOSK_DONE);
+  MUST(judge_reg(judge, MOST, HALF, 0, PALDWOSK_SIG_WAIT) == PALDWOSK_DONE);
+  MUST(judge_act(judge, MOST, PALDWOSK_JUDGED_SIG, HALF) == PALDWOSK_DONE);
+  MUST(counts(judge, (const uint64_t[8]){3, 1, 1, 2, 1, 0, 0, 0}, 0));
+  MUST(judge_act(judge, MOST, PALDWOSK_JUDGED_SIG, 0) == PALDWOSK_DONE);
+  MUST(judge_act(judge, MOST, PALDWOSK_JUDGED_PASS, HALF) == PALDWOSK_DONE);
+  MUST(judge_act(judge, MOST, PALDWOSK_JUDGED_PASS, 0) == PALDWOSK_DONE);
+  MUST(judge_act(judge, MOST, PALDWOSK_JUDGED_DROP, HALF) == PALDWOSK_DONE);
+  MUST(judge_act(judge, MOST, PALDWOSK_JUDGED_DROP, 0) == PALDWOSK_DONE);
+  MUST(counts(judge, (const uint64_t[8]){8, 1, 0, 2, 2, 2, 2, 0}, 0));
+}
+
+/* The first task passes before the second has signalled: that event is refused, and from then on each is. */
+static void early_pass(paldwosk_judge *judge) {
+  MUST(judge_make(judge, 7, 1, PALDWOSK_SIG_WAIT) == PALDWOSK_DONE);
+  MUST(judge_reg(judge, 7, 1, 2, PALDWOSK_SIG_WAIT) == PALDWOSK_DONE);
+  MUST(judge_act(judge, 7, PALDWOSK_JUDGED_SIG, 1) == PALDWOSK_DONE);
+  MUST(judge_act(judge, 7, PALDWOSK_JUDGED_PASS, 1) == PALDWOSK_HAD_TO_WAIT);
+  MUST(judge_act(judge, 7, PALDWOSK_JUDGED_SIG, 2) == PALDWOSK_OVER);
+  MUST(judge_make(judge, 8, 1, PALDWOSK_SIG_WAIT) == PALDWOSK_OVER);
+  MUST(judge_act(judge, 8, (paldwosk_judged_kind)11, 1) == PALDWOSK_BAD_KIND);
+  paldwosk_judged_totals told;
+  MUST(paldwosk_judge_totals(judge, &told) == PALDWOSK_DONE && told.over == 1);
+  MUST(told.events == 3 && told.made == 1 && told.registrations == 2 && told.signals == 1 && told.passes == 0);
+}
+
+/* A task's number, and then the phaser's, are used again after they were freed, and not before. */
+static void used_again(paldwosk_judge *judge) {
+  MUST(judge_make(judge, 7, 1, PALDWOSK_SIG_WAIT) == PALDWOSK_DONE);
+  MUST(judge_reg(judge, 7, 1, 2, PALDWOSK_SIG_WAIT) == PALDWOSK_DONE);
+  MUST(judge_act(judge, 7, PALDWOSK_JUDGED_DROP, 2) == PALDWOSK_DONE);
+  MUST(judge_reg(judge, 7, 1, 2, PALDWOSK_WAIT) == PALDWOSK_DONE);
+  MUST(judge_act(judge, 7, PALDWOSK_JUDGED_DROP, 1) == PALDWOSK_DONE);
+  MUST(judge_act(judge, 7, PALDWOSK_JUDGED_DROP, 2) == PALDWOSK_DONE);
+  MUST(judge_make(judge, 7, 2, PALDWOSK_SIG) == PALDWOSK_DONE);
+  MUST(counts(judge, (const uint64_t[8]){7, 2, 1, 4, 0, 0, 3, 0}, 0));
+  MUST(judge_make(judge, 7, 3, PALDWOSK_SIG) == PALDWOSK_MADE_ALREADY);
+  renewed(judge);
+  MUST(judge_make(judge, 7, 1, PALDWOSK_SIG_WAIT) == PALDWOSK_DONE);
+  MUST(judge_reg(judge, 7, 1, 1, PALDWOSK_SIG_WAIT) == PALDWOSK_REGISTERED_ALREADY);
+  renewed(judge);
+  MUST(judge_make(judge, 7, 1, PALDWOSK_SIG_WAIT) == PALDWOSK_DONE);
+  MUST(judge_act(judge, 7, PALDWOSK_JUDGED_DROP, 1) == PALDWOSK_DONE);
+  MUST(judge_act(judge, 7, PALDWOSK_JUDGED_SIG, 1) == PALDWOSK_NOT_MADE);
+}
+
+/* A single, of two tasks. */
+static void judged_single(paldwosk_judge *judge) {
+  MUST(judge_make(judge, 7, 1, PALDWOSK_SINGLE) == PALDWOSK_DONE);
+  MUST(judge_reg(judge, 7, 1, 2, PALDWOSK_SINGLE) == PALDWOSK_DONE);
+  MUST(judge_single(judge, 7, 1, UINT32_MAX) == PALDWOSK_DONE);
+  MUST(judge_single(judge, 7, 2, UINT32_MAX) == PALDWOSK_DONE);
+  MUST(judge_act(judge, 7, PALDWOSK_JUDGED_CLAIM, 2) == PALDWOSK_DONE);
+  MUST(judge_act(judge, 7, PALDWOSK_JUDGED_DID, 2) == PALDWOSK_DONE);
+  MUST(judge_act(judge, 7, PALDWOSK_JUDGED_PASS, 1) == PALDWOSK_DONE);
+  MUST(judge_act(judge, 7, PALDWOSK_JUDGED_CLAIM, 2) == PALDWOSK_PASSES_INSTEAD);
+  renewed(judge);
+  MUST(judge_make(judge, 7, 1, PALDWOSK_SINGLE) == PALDWOSK_DONE);
+  MUST(judge_single(judge, 7, 1, 0) == PALDWOSK_DONE);
+  MUST(judge_act(judge, 7, PALDWOSK_JUDGED_PASS, 1) == PALDWOSK_CLAIMS_INSTEAD);
+}
+
+/* Sends and looks: what is seen is the fold of the phase before. */
+static void judged_values(paldwosk_judge *judge) {
+  const paldwosk_judged_event least = made_with(8, 1, PALDWOSK_SIG_WAIT, PALDWOSK_LEAST);
+  MUST(judge_make(judge, 7, 1, PALDWOSK_SIG_WAIT) == PALDWOSK_DONE);
+  MUST(judge_send(judge, 7, 1, 0, INT32_MIN) == PALDWOSK_DONE);
+  MUST(judge_send(judge, 7, 1, 0, INT32_MIN) == PALDWOSK_DONE);
+  MUST(judge_act(judge, 7, PALDWOSK_JUDGED_SIG, 1) == PALDWOSK_DONE);
+  MUST(judge_act(judge, 7, PALDWOSK_JUDGED_PASS, 1) == PALDWOSK_DONE);
+  MUST(judge_look(judge, 7, 1, -((int64_t)1 << 32)) == PALDWOSK_DONE);
+  MUST(paldwosk_judge_event(judge, &least) == PALDWOSK_DONE);
+  MUST(judge_act(judge, 8, PALDWOSK_JUDGED_SIG, 1) == PALDWOSK_DONE);
+  MUST(judge_act(judge, 8, PALDWOSK_JUDGED_PASS, 1) == PALDWOSK_DONE);
+  MUST(judge_nothing(judge, 8, 1) == PALDWOSK_DONE);
+  MUST(counts(judge, (const uint64_t[8]){10, 2, 2, 2, 2, 2, 0, 2}, 0));
+  MUST(judge_look(judge, 7, 1, -((int64_t)1 << 32) + 1) == PALDWOSK_SAW_OTHER);
+}
+
+/* The answers of a phaser itself. */
+static void judged_rules(paldwosk_judge *judge) {
+  MUST(judge_make(judge, 7, 1, PALDWOSK_SIG_WAIT) == PALDWOSK_DONE);
+  MUST(judge_act(judge, 7, PALDWOSK_JUDGED_SIG, 2) == PALDWOSK_NOT_REGISTERED);
+  renewed(judge);
+  MUST(judge_make(judge, 7, 1, PALDWOSK_SIG_WAIT) == PALDWOSK_DONE);
+  MUST(judge_act(judge, 7, PALDWOSK_JUDGED_SIG, 1) == PALDWOSK_DONE);
+  MUST(judge_act(judge, 7, PALDWOSK_JUDGED_SIG, 1) == PALDWOSK_ALREADY_SIGNALLED);
+  renewed(judge);
+  MUST(judge_make(judge, 7, 1, PALDWOSK_SIG) == PALDWOSK_DONE);
+  MUST(judge_reg(judge, 7, 1, 2, PALDWOSK_SIG_WAIT) == PALDWOSK_MORE_THAN_PARENT);
+  renewed(judge);
+  MUST(judge_make(judge, 7, 1, PALDWOSK_SIG_WAIT) == PALDWOSK_DONE);
+  MUST(judge_send(judge, 7, 1, 256, 1) == PALDWOSK_NO_ACCUMULATOR);
+}
+
+/* Numbers that are no event's, in the order in which they are looked at. They change nothing. */
+static void judged_numbers(paldwosk_judge *judge) {
+  paldwosk_judged_event event = made_with(7, 1, (paldwosk_mode)4, (paldwosk_operator)3);
+  event.bound = 65537;
+  event.kind = 11;
+  MUST(paldwosk_judge_event(judge, &event) == PALDWOSK_BAD_KIND);
+  event.kind = PALDWOSK_JUDGED_MAKE;
+  MUST(paldwosk_judge_event(judge, &event) == PALDWOSK_BAD_MODE);
+  event.mode = PALDWOSK_SIG;
+  MUST(paldwosk_judge_event(judge, &event) == PALDWOSK_BAD_OPERATORS);
+  event.operators[0] = PALDWOSK_GREATEST;
+  event.operator_count = 5;
+  MUST(paldwosk_judge_event(judge, &event) == PALDWOSK_BAD_OPERATORS);
+  event.operator_count = 1;
+  MUST(paldwosk_judge_event(judge, &event) == PALDWOSK_BAD_BOUND);
+  MUST(judge_reg(judge, 7, 1, 2, (paldwosk_mode)4) == PALDWOSK_BAD_MODE);
+  MUST(counts(judge, (const uint64_t[8]){0}, 0));
+  event.bound = 65536;
+  MUST(paldwosk_judge_event(judge, &event) == PALDWOSK_DONE);
+  event.phaser = 8;
+  event.operator_count = 0;
+  event.bound = 0;
+  MUST(paldwosk_judge_event(judge, &event) == PALDWOSK_DONE);
+  MUST(counts(judge, (const uint64_t[8]){2, 2, 2, 2, 0, 0, 0, 0}, 0));
+}
+
+/* No judge, and NULL. */
+static void no_judge(paldwosk_judge *judge) {
+  const paldwosk_judged_event event = made_with(7, 1, PALDWOSK_SIG, PALDWOSK_SUM);
+  paldwosk_judged_totals told;
+  memset(&told, 0x77, sizeof told);
+  const paldwosk_judged_totals before = told;
+  MUST(paldwosk_judge_new(NULL) == PALDWOSK_NULL);
+  MUST(paldwosk_judge_event(NULL, &event) == PALDWOSK_NULL);
+  MUST(paldwosk_judge_event(judge, NULL) == PALDWOSK_NULL);
+  MUST(paldwosk_judge_totals(NULL, &told) == PALDWOSK_NULL);
+  MUST(paldwosk_judge_totals(judge, NULL) == PALDWOSK_NULL);
+  MUST(paldwosk_judge_event(judge, &event) == PALDWOSK_CLOSED);
+  MUST(paldwosk_judge_totals(judge, &told) == PALDWOSK_CLOSED);
+  paldwosk_judge_free(NULL);
+  paldwosk_judge_free(judge);
+  MUST(!memcmp(&told, &before, sizeof told) && judge->held == NULL);
+}
+
+static int judge(void) {
+  void (*const parts[])(paldwosk_judge *) = {judged_barrier, early_pass,   used_again,    judged_single,
+                                             judged_values,  judged_rules, judged_numbers};
+  paldwosk_judge held = PALDWOSK_NO_JUDGE;
+  no_judge(&held);
+  MUST(paldwosk_judge_new(&held) == PALDWOSK_DONE);
+  MUST(counts(&held, (const uint64_t[8]){0}, 0));
+  MUST(paldwosk_judge_new(&held) == PALDWOSK_OPEN);
+  for (size_t at = 0; at < sizeof parts / sizeof *parts; at++, renewed(&held)) parts[at](&held);
+  paldwosk_judge_free(&held);
+  no_judge(&held);
+  return 0;
+}
+
+/* The events of a barrier of two tasks, and of one made with the greatest bound. An event to which memory is refused
+ * changes nothing, and is handed over again. Status 1: memory is refused twice in a row. */
+static int lacking(void) {
+  const paldwosk_judged_kind turns[] = {PALDWOSK_JUDGED_SIG, PALDWOSK_JUDGED_PASS, PALDWOSK_JUDGED_DROP};
+  paldwosk_judge held = PALDWOSK_NO_JUDGE;
+  paldwosk_judged_event events[10] = {made_with(7, 1, PALDWOSK_SIG_WAIT, PALDWOSK_SUM)};
+  paldwosk_judged_totals before, told;
+  size_t count = 0;
+  if (paldwosk_judge_new(&held) && paldwosk_judge_new(&held)) return 1;
+  events[++count] = happened(7, PALDWOSK_JUDGED_REG, 1);
+  events[count].child = 2;
+  events[count].mode = PALDWOSK_SIG_WAIT;
+  events[++count] = made_with(8, 1, PALDWOSK_SIG, PALDWOSK_LEAST);
+  events[count++].bound = 65536;
+  for (int at = 0; at < 6; at++) events[count++] = happened(7, turns[at / 2], 1 + (uint64_t)at % 2);
+  events[count++] = happened(8, PALDWOSK_JUDGED_DROP, 1);
+  for (size_t at = 0; at < count; at++) {
+    MUST(paldwosk_judge_totals(&held, &before) == PALDWOSK_DONE);
+    paldwosk_answer answer = paldwosk_judge_event(&held, &events[at]);
+    if (answer == PALDWOSK_MEMORY) {
+      MUST(paldwosk_judge_totals(&held, &told) == PALDWOSK_DONE && told.events == at && told.over == 0);
+      MUST(told.made == before.made && told.there == before.there && told.registrations == before.registrations);
+      answer = paldwosk_judge_event(&held, &events[at]);
+      if (answer == PALDWOSK_MEMORY) {
+        paldwosk_judge_free(&held);
+        return 1;
+      }
+    }
+    MUST(answer == PALDWOSK_DONE);
+  }
+  MUST(counts(&held, (const uint64_t[8]){10, 2, 0, 3, 2, 2, 3, 0}, 0));
+  paldwosk_judge_free(&held);
+  return 0;
+}
+
 /* ---- What answers say */
 
 typedef struct answer_name {
@@ -290,7 +565,9 @@ static const answer_name OTHERS[] = {
     {0, "Done"},        {24, "BadText"},    {25, "NotExplained"}, {26, "SharesDiffer"}, {32, "NotYet"},
     {33, "Claimed"},    {34, "Nothing"},    {35, "NotKept"},      {36, "TooGreat"},     {48, "TimedOut"},
     {64, "Null"},       {65, "Closed"},     {66, "Open"},         {67, "Short"},        {68, "BadMode"},
-    {69, "BadLimits"},  {70, "BadOperators"}, {71, "BadBound"},   {72, "BadTickets"}};
+    {69, "BadLimits"},  {70, "BadOperators"}, {71, "BadBound"},   {72, "BadTickets"},   {73, "BadKind"},
+    {80, "NotMade"},    {81, "MadeAlready"}, {82, "RegisteredAlready"}, {83, "HadToWait"}, {84, "ClaimsInstead"},
+    {85, "PassesInstead"}, {86, "SawOther"}, {87, "Over"}};
 
 /* It begins with the name and the number, and has two parts: what the answer means, and what to do. */
 static void answer_text(int number, const char *name) {
@@ -322,6 +599,8 @@ int main(int count, char **words) {
   else if (count == 3 && !strcmp(words[1], "events")) status = checked(paldwosk_events, words[2]);
   else if (count == 2 && !strcmp(words[1], "calls")) status = calls();
   else if (count == 2 && !strcmp(words[1], "wrong")) status = wrong();
+  else if (count == 2 && !strcmp(words[1], "judge")) status = judge();
+  else if (count == 2 && !strcmp(words[1], "lacking")) status = lacking();
   else if (count == 2 && !strcmp(words[1], "told")) status = told();
   return faults ? 4 : status;
 }

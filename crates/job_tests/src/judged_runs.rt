@@ -1,7 +1,7 @@
 //! Runs that were worked out by hand, judged event by event.
 use phase_model::{Bound, LongLook, Look, Op, Ops};
 use phase_modes::{Mode, Refusal};
-use phaser_judge::{Judge, Named, NamedEvent, Refused, Totals, judge_all};
+use phaser_judge::{Judge, Named, NamedEvent, Owing, Refused, Totals, judge_all};
 use std::alloc::Global;
 use std::process::Abort;
 use std::test::Fail;
@@ -328,4 +328,47 @@ fn nobody_is_left(rt: HostRuntime) {
     accepts(&rt, &mut judge, &[made(), Named::Drop(100)]);
     assert_eq!(rt; judge.phasers(), 0);
     assert_eq!(rt; judge.phase(7), None);
+}
+
+/// The event of phaser 7 had to wait, in this phase for these tasks.
+fn waits_for(
+    rt: &impl Abort,
+    alloc: Global,
+    judge: &mut Judge,
+    event: Named,
+    phase: u64,
+    tasks: &[u64],
+) {
+    let mut owing = Owing::none(alloc);
+    let event = of(7, event);
+    let answer = match judge.event_with_owing(&event, &mut owing) {
+        Err(Refused::Memory) => judge.event_with_owing(&event, &mut owing),
+        answer => answer,
+    };
+    assert_eq!(rt; answer, Err(Refused::HadToWait));
+    assert_eq!(rt; owing.phase, phase);
+    assert_eq!(rt; owing.tasks.as_slice(), tasks);
+}
+
+#[test]
+fn who_owes_a_phase(rt: HostRuntime) {
+    let mut judge = Judge::new(rt.alloc());
+    two(&rt, &mut judge, Mode::SigWait);
+    accepts(
+        &rt,
+        &mut judge,
+        &[
+            Named::Reg(100, 7, Mode::Sig),
+            Named::Reg(100, 300, Mode::Wait),
+            Named::Sig(100, None),
+            Named::Sig(200, None),
+            Named::Sig(7, None),
+            Named::Pass(200),
+            Named::Pass(7),
+            Named::Sig(200, None),
+        ],
+    );
+    // Task 100 has signalled phase 0 alone, and so has 7. Task 300 can't signal.
+    waits_for(&rt, rt.alloc(), &mut judge, Named::Pass(200), 1, &[100, 7]);
+    assert!(rt; judge.is_over());
 }

@@ -2,7 +2,7 @@
 mod bad_words;
 
 use crate::asserted::{equal, equal_at, holds_at};
-use command_words::{Job, NoJob, Value, job_of};
+use command_words::{Every, Job, NoJob, Value, job_of};
 use std::alloc::Global;
 use std::process::Abort;
 use std::test::Fail;
@@ -93,6 +93,45 @@ fn replay_words(rt: HostRuntime) {
     ];
     for (arguments, file, out) in ROWS {
         replays(&rt, rt.alloc(), arguments, file, out);
+    }
+}
+
+/// Words of `judge p`, with when the report is told.
+type JudgeWords = (&'static [&'static str], Option<Every>);
+
+#[test]
+fn judge_words(rt: HostRuntime) {
+    const ROWS: [JudgeWords; 6] = [
+        (&["phaser_run", "judge", "p"], None),
+        (
+            &["phaser_run", "judge", "p", "--every", "1000000"],
+            Some(Every::Events(1_000_000)),
+        ),
+        (
+            &["phaser_run", "judge", "p", "--every", "5s"],
+            Some(Every::Seconds(5)),
+        ),
+        (
+            &["phaser_run", "judge", "--every=007s", "p"],
+            Some(Every::Seconds(7)),
+        ),
+        (
+            &["phaser_run", "judge", "--every=18446744073709551615", "p"],
+            Some(Every::Events(u64::MAX)),
+        ),
+        (
+            &["phaser_run", "judge", "--every=18446744073709551615s", "p"],
+            Some(Every::Seconds(u64::MAX)),
+        ),
+    ];
+    for (arguments, wanted) in ROWS {
+        match job_of(rt.alloc(), arguments) {
+            Ok(Job::Judge { file, every }) => {
+                equal(&rt, file, "p");
+                equal(&rt, every, wanted);
+            }
+            _ => panic!(&rt; "nothing to judge: {arguments:?}"),
+        }
     }
 }
 
@@ -224,6 +263,52 @@ fn run_words(rt: HostRuntime) {
     ];
     for (arguments, workers, out, certain) in ROWS {
         runs(&rt, rt.alloc(), arguments, workers, out, certain);
+    }
+}
+
+/// Words of `run p --live`, with the workers that they name, and whether progress is said.
+type Lives = (&'static [&'static str], u32, bool);
+
+#[test]
+fn live_words(rt: HostRuntime) {
+    const ROWS: [Lives; 5] = [
+        (&["phaser_run", "run", "p", "--live"], 2, false),
+        (&["phaser_run", "run", "--live", "p", "--progress"], 2, true),
+        (&["phaser_run", "run", "--progress", "--live", "p"], 2, true),
+        (
+            &["phaser_run", "run", "--live", "--workers=16", "p"],
+            16,
+            false,
+        ),
+        (
+            &[
+                "phaser_run",
+                "run",
+                "p",
+                "--workers",
+                "1",
+                "--live",
+                "--progress",
+            ],
+            1,
+            true,
+        ),
+    ];
+    for (arguments, wanted, is_said) in ROWS {
+        match job_of(rt.alloc(), arguments) {
+            Ok(
+                Job::Live {
+                    file,
+                    workers,
+                    progress,
+                },
+            ) => {
+                equal(&rt, file, "p");
+                equal(&rt, workers, wanted);
+                equal(&rt, progress, is_said);
+            }
+            _ => panic!(&rt; "no run without events: {arguments:?}"),
+        }
     }
 }
 

@@ -1,13 +1,11 @@
 -- A log is judged line by line: what is left goes on from what was judged.
-use Rattle.std.proofs.Common.{◌≡◌, ℕ, ◌+◌, ◌-◌, ◌<◌, ◌≤◌, Bool, true, false, cond, ◌&&◌, not, nat_le, List, [], ◌∷◌, Option, None, Some, Result, Ok, Err, IfSome, length, take, refl, sym, ap, ◌∙◌, arith, inl, inr, length-take-le}
-use Rattle.std.specs.Str.{is_utf8}
+use Rattle.std.proofs.Common.{◌≡◌, ℕ, ◌+◌, ◌-◌, ◌<◌, ◌≤◌, Bool, true, false, cond, nat_le, List, [], ◌∷◌, Option, None, Some, Result, Ok, Err, IfSome, IfErr, OnOk, length, take, refl, ap, ◌∙◌, arith, inl, inr, length-take-le}
 use Rattle.std.specs.Io.BufRead.{ends_with_byte, strip_last}
 use Rattle.phase_modes.specs.declared.refusal.Refusal.{Refusal}
-use Rattle.phase_modes.specs.declared.refusal.Refusal.TheVariants.{Memory, BadText}
+use Rattle.phase_modes.specs.declared.refusal.Refusal.TheVariants.{BadText}
 use Rattle.job_ends.specs.declared.failure.Failure.{Failure}
-use Rattle.job_ends.specs.declared.failure.Failure.TheVariants.{Refused, Read}
 use Rattle.judge_job.specs.Forms.{line_in, is_header, most_bytes}
-use Rattle.judge_job.specs.Lines.{lines, TakesLine, IsOfLongLine, IsOfTaking}
+use Rattle.judge_job.specs.Lines.{lines, TakesLine, IsOfLongLine}
 use Rattle.judge_job.specs.Logs.{Judged, after_line, and_then, judged_from, judged_lines, nothing}
 use Rattle.judge_job.specs.Standing.{IsOfLine}
 use Rattle.judge_job.specs.Endings.{IsOfVerdict, IsOfNext, GoesOn, rest_from, whole}
@@ -128,3 +126,15 @@ module _ (first : List ℕ → Result Judged Refusal) where
       → IsOfVerdict after b f → IsOfVerdict first a f
   verdict_refused after a b f on (inl h) = inl h
   verdict_refused after a b f on (inr h) = inr (h.0, h.1, refusal_there after a b h.0 on h.2)
+
+  -- and so it is of a result
+  module _ {E : Type 0} (fault_of : E → Failure) where
+    pub done_there : (after : List ℕ → Result Judged Refusal) (a b : Option (List ℕ)) (j : Judged) (r : Result (Unit {0}) E)
+        → GoesOn first a after b → OnOk r (IfSome b (λ xs. after xs ≡ Ok j)) → OnOk r (IfSome a (λ xs. first xs ≡ Ok j))
+    done_there after a b j (Ok u) on h = verdict_there after a b j on h
+    done_there after a b j (Err e) on h = tt
+
+    pub stop_there : (after : List ℕ → Result Judged Refusal) (a b : Option (List ℕ)) (r : Result (Unit {0}) E)
+        → GoesOn first a after b → IfErr r (λ s. IsOfVerdict after b (fault_of s)) → IfErr r (λ s. IsOfVerdict first a (fault_of s))
+    stop_there after a b (Ok u) on h = tt
+    stop_there after a b (Err e) on h = verdict_refused after a b (fault_of e) on h

@@ -1,12 +1,12 @@
 -- The events of a log that is accepted are a legal history of each phaser.
-use Rattle.std.proofs.Common.{◌≡◌, ℕ, ◌+◌, Bool, true, false, cond, ◌&&◌, List, [], ◌∷◌, Option, None, Some, Result, Ok, Err, IfSome, refl, sym, ap, subst, ◌∙◌}
+use Rattle.std.proofs.Common.{◌≡◌, ℕ, ◌+◌, Bool, true, false, cond, ◌&&◌, List, [], ◌∷◌, Option, None, Some, Result, Ok, Err, IfSome, refl, ap, subst, ◌∙◌}
 use Rattle.std.specs.Io.BufRead.{strip_last}
 use Rattle.phase_modes.specs.declared.refusal.Refusal.{Refusal}
 use Rattle.phase_modes.specs.declared.refusal.Refusal.TheVariants.{BadText, NotExplained}
 use Rattle.phaser_judge.specs.declared.event.NamedEvent.{NamedEvent}
 use Rattle.phaser_judge.specs.Standings.{standing, may_come}
 use Rattle.phaser_judge.specs.Courses.{totals_of, AreThere}
-use Rattle.phaser_judge.specs.Renaming.{all_come, AreLegal}
+use Rattle.phaser_judge.specs.Renaming.{all_come}
 use Rattle.phaser_judge.proofs.Lives.{accepted_are_legal}
 use Rattle.judge_job.specs.declared.line.Line.{Line}
 use Rattle.judge_job.specs.Forms.{line_in, is_header}
@@ -63,7 +63,7 @@ pub accepted_logs_are_legal : AcceptedLogsAreLegal
 unfolding judged_log
 accepted_logs_are_legal bytes j is = (accepted_are_legal j.events).0 (subst Come is (log_comes (lines bytes)))
 
--- what is known where a log is accepted
+-- what is known if a log is accepted
 pub accepted : (Says : List ℕ → Type 0) (a : Option (List ℕ)) (j : Judged) (there : ℕ) → IfSome a (λ xs. whole xs ≡ Ok j)
     → AreThere (λ p. standing p j.events) there → Says (text_of (report_of (totals_of j.events) there)) → IfSome a (IsAccepted Says)
 unfolding judged_log

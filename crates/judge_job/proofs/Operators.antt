@@ -1,12 +1,12 @@
 -- A list of operators, one after the other.
-use Rattle.std.proofs.Common.{◌≡◌, ◌≢◌, ℕ, zero, suc, ◌+◌, ◌-◌, ◌<◌, List, [], ◌∷◌, ◌++◌, Some, None, refl, sym, arith, ap, ◌∙◌}
+use Rattle.std.proofs.Common.{◌≡◌, ℕ, zero, suc, ◌-◌, ◌<◌, List, [], ◌∷◌, ◌++◌, Some, None, sym, arith, ap, ◌∙◌}
 use Rattle.json.specs.Token.{Token}
 use Rattle.json.specs.Json.{after_end_array}
 use Rattle.phase_model.specs.declared.op.Op.{Op}
 use Rattle.judge_job.specs.Fronts.{◌>>=◌, op_front}
 use Rattle.judge_job.specs.Forms.{ops_from, ops_step}
 
--- where there is room, it is the end of the list, or one more
+-- if there is room, it is the end of the list, or one more
 pub ops_from_more : (n : ℕ) (ops : List Op) (ts : List Token) → 0 < n
     → ops_from n ops ts ≡ ops_step ops (ops_from (n - 1)) ts (after_end_array ts)
 unfolding ops_from
@@ -15,7 +15,7 @@ ops_from_more (suc n) ops ts some =
     let back : n ≡ suc n - 1 = omega arith in
     ap (λ k. ops_step ops (ops_from k) ts (after_end_array ts)) back
 
--- where there is none, it is the end of the list
+-- if there is none, it is the end of the list
 pub ops_from_none : (n : ℕ) (ops : List Op) (ts : List Token) → n ≡ 0 → ops_from n ops ts ≡ ops_from 0 ops ts
 ops_from_none n ops ts none = ap (λ k. ops_from k ops ts) none
 

@@ -1,6 +1,6 @@
 -- A line is taken off the known bytes.
-use Rattle.std.proofs.Common.{◌≡◌, ◌≢◌, ℕ, ◌+◌, ◌-◌, ◌<◌, ◌≤◌, Bool, true, false, eqb, List, [], ◌∷◌, ◌++◌, All, Option, None, Some, IfSome, OnSome, cond, length, drop, refl, sym, ap, subst, ◌∙◌, arith, length-append, unwrap_or}
-use Rattle.std.specs.Io.{StartsWith, StopsAt, IsEmptyOrEndsWith}
+use Rattle.std.proofs.Common.{◌≡◌, ◌≢◌, ℕ, ◌+◌, ◌<◌, Bool, true, false, eqb, List, [], ◌∷◌, ◌++◌, All, Option, None, Some, IfSome, OnSome, cond, length, refl, sym, ap, subst, ◌∙◌, arith, length-append, unwrap_or}
+use Rattle.std.specs.Io.{StopsAt, IsEmptyOrEndsWith}
 use Rattle.std.specs.Io.KnownBytes.{Consumes, IsAtEnd}
 use Rattle.std.specs.Io.BufRead.{take_through, drop_through, DropsThrough}
 use Rattle.std.proofs.BufReadLemmas.{Consumes_through, take_through-append, take_through-nil}

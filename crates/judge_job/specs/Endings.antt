@@ -1,15 +1,17 @@
--- How judging a log ends, for the bytes of a reader where those are known.
-use Rattle.std.specs.Prelude.{◌≡◌, ◌⊎◌, ◌+◌, ℕ, List, [], ◌∷◌, Option, Some, None, Result, Ok, Err, IfSome, ⊤}
+-- How judging a log ends, for the bytes of a reader if they are known.
+use Rattle.std.specs.Prelude.{◌≡◌, ◌⊎◌, ◌++◌, ℕ, List, [], ◌∷◌, take, Option, Some, None, Result, Ok, Err, IfSome, ⊤}
 use Rattle.std.specs.Io.KnownBytes.{Appends}
 use Rattle.phase_modes.specs.declared.refusal.Refusal.{Refusal}
 use Rattle.phase_modes.specs.declared.refusal.Refusal.TheVariants.{BadText}
 use Rattle.job_ends.specs.Ends.{ReportsStatus}
 use Rattle.job_ends.specs.declared.failure.Failure.{Failure}
 use Rattle.job_ends.specs.declared.failure.Status.{Status}
-use Rattle.job_ends.specs.declared.failure.Failure.TheVariants.{Refused, Read, Write}
+use Rattle.job_ends.specs.declared.failure.Failure.TheVariants.{Refused, Write}
 use Rattle.phaser_judge.specs.Standings.{standing}
 use Rattle.phaser_judge.specs.Courses.{totals_of, AreThere}
 use Rattle.phaser_judge.specs.Renaming.{AreLegal}
+use Rattle.judge_job.specs.declared.report.Every.{Every}
+use Rattle.judge_job.specs.declared.report.Report.{Report}
 use Rattle.judge_job.specs.Lines.{lines, IsOfTaking, IsOfLongLine}
 use Rattle.judge_job.specs.Logs.{Judged, judged_from, judged_lines, judged_log}
 use Rattle.judge_job.specs.Standing.{report_of, text_of}
@@ -53,3 +55,20 @@ IsOfLog known f = IsOfVerdict judged_log known f ⊎ (f ≡ Write)
 -- the line of a failure with this status was appended first, or if it wasn't reported, a beginning of it
 abbrev pub ReportsFirst : (Failure → Type 0) → Status → Option (List ℕ) → Option (List ℕ) → Type 0
 ReportsFirst Known s old new = (line : Option (List ℕ)) × ReportsStatus Known s old line × ((more : List ℕ) × Appends line new more)
+
+-- the reports that were told, the newest first: of each its lines, or a beginning of them if a write failed
+abbrev pub told_text : List (ℕ × Report) → List ℕ
+told_text [] = []
+told_text (p ∷ ps) = told_text ps ++ take p.0 (text_of p.1)
+
+-- nothing was appended but reports, and none without `every`
+pub record Tells (every : Option Every) (old new : Option (List ℕ)) : Type 0 where
+  pub reports : List (ℕ × Report)
+  pub quiet : every ≡ None → reports ≡ []
+  pub appends : Appends old new (told_text reports)
+
+-- first reports were told, and what was appended after them reports the failure first
+pub record TellsAndReports (every : Option Every) (Known : Failure → Type 0) (s : Status) (old new : Option (List ℕ)) : Type 0 where
+  pub between : Option (List ℕ)
+  pub tells : Tells every old between
+  pub reports : ReportsFirst Known s between new

@@ -1,5 +1,5 @@
 -- What a line of a log spells: the header, or an event with its ticket.
-use Rattle.std.specs.Prelude.{ℕ, ℤ, zero, suc, ◌^◌, ◌-◌, ◌++◌, ◌==◌, ◌&&◌, ◌||◌, nat_le, Bool, true, false, if◌then◌else◌, List, [], ◌∷◌, length, Option, Some, None, option_map, is_some, is_none, codes}
+use Rattle.std.specs.Prelude.{ℕ, ℤ, zero, suc, ◌++◌, ◌==◌, ◌&&◌, ◌||◌, nat_le, Bool, false, if◌then◌else◌, List, [], ◌∷◌, length, Option, Some, None, option_map, is_some, is_none, codes}
 use Rattle.std.specs.Str.{bytes_eq, is_utf8}
 use Rattle.json.specs.Token.{Token}
 use Rattle.json.specs.Token as token
@@ -146,7 +146,7 @@ line_in bytes = if nat_le (length bytes) most_bytes && is_utf8 bytes then text_i
 
 -- ---- the header
 
--- what follows the brace that opens an object, where one stands
+-- what follows the brace that opens an object, if one stands there
 abbrev pub after_begin_object : List Token → Option (List Token)
 after_begin_object [] = None
 after_begin_object (token.begin_object ∷ ts) = Some ts

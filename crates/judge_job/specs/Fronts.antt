@@ -1,5 +1,5 @@
 -- What stands first among the tokens of a line, and the tokens after it.
-use Rattle.std.specs.Prelude.{◌≡◌, ℕ, ℤ, pos, int_lt, ◌^◌, ◌-◌, ◌+◌, ◌++◌, ◌==◌, ◌&&◌, zero, suc, nat_lt, nat_le, not, Bool, true, false, if◌then◌else◌, List, [], ◌∷◌, drop, slice_index, length, Option, Some, None, option_map, option_and_then, MatchOption}
+use Rattle.std.specs.Prelude.{◌≡◌, ℕ, ℤ, pos, int_lt, ◌^◌, ◌-◌, ◌==◌, ◌&&◌, nat_lt, nat_le, Bool, true, false, if◌then◌else◌, List, [], ◌∷◌, drop, slice_index, Option, Some, None, MatchOption}
 use Rattle.std.specs.Option.{option_map_or}
 use Rattle.fast_float.specs.Text.{Parts, scan, digits_of, with_sign}
 use Rattle.json.specs.Token.{Token}
@@ -11,8 +11,6 @@ use Rattle.phase_modes.specs.Mode as modes
 use Rattle.phase_modes.specs.Lists.{is_empty}
 use Rattle.phase_model.specs.declared.op.Op.{Op}
 use Rattle.phase_model.specs.Ops as operators
-use Rattle.phase_model.specs.declared.op.Look.{Look}
-use Rattle.phase_model.specs.declared.op.Look.TheVariants.{Value, Nothing}
 
 -- the first step's value goes into the second step, if there is one
 infixl 10 ◌>>=◌
@@ -103,23 +101,9 @@ mode_front ts = word_front ts >>= λ w. modes.named w.0 >>= λ m. Some (m, w.1)
 unfoldable pub op_front : Parse Op
 op_front ts = word_front ts >>= λ w. operators.named w.0 >>= λ o. Some (o, w.1)
 
--- ---- null, and lists
+-- ---- lists
 
--- what follows a null, where one stands
-abbrev pub after_null : List Token → Option (List Token)
-after_null [] = None
-after_null (token.null ∷ ts) = Some ts
-after_null (token.begin_object ∷ ts) = None
-after_null (token.end_object ∷ ts) = None
-after_null (token.begin_array ∷ ts) = None
-after_null (token.end_array ∷ ts) = None
-after_null (token.key s ∷ ts) = None
-after_null (token.string s ∷ ts) = None
-after_null (token.number s ∷ ts) = None
-after_null (token.boolean b ∷ ts) = None
-after_null (token.bad ∷ ts) = None
-
--- what follows the bracket that opens a list, where one stands
+-- what follows the bracket that opens a list, if one stands there
 abbrev pub after_begin_array : List Token → Option (List Token)
 after_begin_array [] = None
 after_begin_array (token.begin_array ∷ ts) = Some ts

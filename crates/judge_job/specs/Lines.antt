@@ -14,7 +14,7 @@ abbrev pub lines : List ℕ → List (List ℕ)
 lines [] = []
 lines (b ∷ bs) = if b == 10 then (b ∷ []) ∷ lines bs else before_first b (lines bs)
 
--- the lines of the one are this line and those of the other; there is none where the line is empty
+-- the lines of the one are this line and those of the other; if the line is empty, there is none
 abbrev pub IsTaken : List ℕ → List ℕ → List ℕ → Type 0
 IsTaken xs ys [] = (lines xs ≡ []) × (lines ys ≡ [])
 IsTaken xs ys (b ∷ bs) = lines xs ≡ (b ∷ bs) ∷ lines ys

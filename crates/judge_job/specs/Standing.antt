@@ -1,5 +1,5 @@
 -- What a judge and the last ticket say of what was judged.
-use Rattle.std.specs.Prelude.{◌≡◌, ◌⊎◌, ◌++◌, ℕ, List, codes, decimal, Result, Ok, Err}
+use Rattle.std.specs.Prelude.{◌≡◌, ◌⊎◌, ◌++◌, ℕ, List, codes, decimal, Result, Err}
 use Rattle.phase_modes.specs.declared.refusal.Refusal.{Refusal}
 use Rattle.phase_modes.specs.declared.refusal.Refusal.TheVariants.{Memory}
 use Rattle.job_ends.specs.declared.failure.Failure.{Failure}
@@ -17,7 +17,7 @@ judged_of j = record { events = j.judge.events; last = j.last }
 abbrev pub IsOfLine : Result Judged Refusal → Failure → Type 0
 IsOfLine verdict f = (f ≡ Refused Memory) ⊎ ((r : Refusal) × (f ≡ Refused r) × (verdict ≡ Err r))
 
--- what is reported of these totals, where so many phasers are there
+-- what is reported of these totals, if so many phasers are there
 abbrev pub report_of : Totals → ℕ → Report
 report_of n there = record {
   events = n.events;

@@ -8,18 +8,19 @@ ghost use Rattle.judge_job.specs.Forms.{line_in};
 ghost use Rattle.judge_job.specs.Lines.{TakesLine};
 ghost use Rattle.judge_job.specs.Logs.{after_line, judged_log, nothing};
 ghost use Rattle.judge_job.specs.Standing.{judged_of, text_of, IsOfLine, IsOfReport};
-ghost use Rattle.judge_job.specs.Endings.{GoesOn, IsAccepted, IsOfLog, IsOfNext, IsOfVerdict, ReportsFirst, rest_from, whole};
+ghost use Rattle.judge_job.specs.Endings.{GoesOn, IsAccepted, IsOfLog, IsOfNext, IsOfVerdict, ReportsFirst, Tells, TellsAndReports, rest_from, whole};
 
 use crate::judging::Judging;
 use crate::line::{MOST_LINE_BYTES, Unread, event_of_line, is_header_line};
 use crate::lines::take_line;
-use crate::report::{Report, Telling, put_report};
-use crate::stop::{Reason, Stop};
+use crate::report::{Every, Report, Telling, put_report};
+use crate::stop::{Reason, Stop, Why};
 use job_ends::{Failure, Status, write_text};
 use json::Scratch;
 use phase_modes::Refusal;
 use std::alloc::Global;
 use std::io::{BufRead, BufReader, Read, Write};
+use std::time::Clock;
 
 /// How many bytes are read at once.
 const CHUNK: usize = 65_536;
@@ -59,7 +60,31 @@ fn judge_line(
     }
 }
 
-/// Takes the next line in place of what `line` held. No line is left where it then is empty.
+/// Reads and judges a line, and then tells the report if it is due.
+#[tactic(auto, using(crate::proofs::Reporting::tells_none))]
+fn judge_and_tell<F: Write, C: Clock>(
+    scratch: &mut Scratch,
+    judging: &mut Judging,
+    telling: &mut Telling<'_, C>,
+    faults: &mut F,
+    place: u64,
+    bytes: &[u8],
+) -> Result<(), Stop>
+    requires { judging.old.judge.over ≡ false }
+    ensures judged { MatchResult result
+        (λ _. after_line place (judged_of judging.old) (line_in bytes.now) ≡ Ok (judged_of judging.new))
+        (λ s. IsOfLine (after_line place (judged_of judging.old) (line_in bytes.now)) s.failure) }
+    ensures over { OnOk result (judging.new.judge.over ≡ false) }
+    ensures every { telling.new.every ≡ telling.old.every }
+    ensures told { Tells telling.old.every (F.contents faults.old) (F.contents faults.new) }
+{
+    if judge_line(scratch, judging, place, bytes)? {
+        telling.event(judging, faults);
+    }
+    Ok(())
+}
+
+/// Takes the next line in place of what `line` held. If it then is empty, no line is left.
 fn next<B: BufRead>(reader: &mut B, line: &mut Vec<u8>, place: u64) -> Result<(), Stop>
     ensures taken { OnOk result (TakesLine (B.remaining reader.old) (B.remaining reader.new) line.new.items) }
     ensures stop { IfErr result (λ s. IsOfNext MOST_LINE_BYTES place (B.remaining reader.old) s.failure) }
@@ -81,9 +106,7 @@ fn take_header<B: BufRead>(
     ensures taken { OnOk result (GoesOn whole (B.remaining reader.old) (rest_from 2 nothing) (B.remaining reader.new)) }
     ensures stop { IfErr result (λ s. IsOfVerdict whole (B.remaining reader.old) s.failure) }
 {
-    if let Err(stop) = next(reader, line, 1) {
-        return Err(stop);
-    }
+    next(reader, line, 1)?;
     if line.is_empty() {
         return Err(Stop::bad_text(1, Reason::NoHeader));
     }
@@ -95,13 +118,12 @@ fn take_header<B: BufRead>(
 }
 
 /// Judges the lines after the header.
-#[tactic(auto, using(crate::proofs::Following::line_refused, crate::proofs::Following::next_refused))]
-fn judge_lines<B: BufRead, F: Write>(
+fn judge_lines<B: BufRead, F: Write, C: Clock>(
     reader: &mut B,
     line: &mut Vec<u8>,
     scratch: &mut Scratch,
     judging: &mut Judging,
-    telling: &mut Telling,
+    telling: &mut Telling<'_, C>,
     faults: &mut F,
 ) -> Result<(), Stop>
     requires { judging.old.judge.over ≡ false }
@@ -110,58 +132,49 @@ fn judge_lines<B: BufRead, F: Write>(
     ensures stop { IfErr result
         (λ s. IsOfVerdict (rest_from 2 (judged_of judging.old)) (B.remaining reader.old) s.failure) }
     ensures over { OnOk result (judging.new.judge.over ≡ false) }
-    ensures quiet { telling.old.every ≡ None → faults.new ≡ faults.old }
+    ensures told { Tells telling.old.every (F.contents faults.old) (F.contents faults.new) }
 {
     let mut place = 2u64;
     while place < u64::MAX {
-        if let Err(stop) = next(reader, line, place) {
-            return Err(stop);
-        }
+        next(reader, line, place)?;
         if line.is_empty() {
             return Ok(());
         }
-        match judge_line(scratch, judging, place, without_newline(line)) {
-            Ok(true) => telling.event(judging, faults),
-            Ok(false) => {}
-            Err(stop) => return Err(stop),
-        }
+        let bytes = without_newline(line);
+        judge_and_tell(scratch, judging, telling, faults, place, bytes)?;
         place += 1;
     }
     Err(Stop::of_taking(Failure::Read))
 }
 
 /// Judges the log.
-fn judge_log<B: BufRead, F: Write>(
+fn judge_log<B: BufRead, F: Write, C: Clock>(
     alloc: Global,
     reader: &mut B,
     judging: &mut Judging,
-    every: Option<u64>,
     faults: &mut F,
+    every: Option<Every>,
+    clock: &C,
 ) -> Result<(), Stop>
     requires over { judging.old.judge.over ≡ false }
     requires fresh { judged_of judging.old ≡ nothing }
     ensures done { OnOk result (IfSome (B.remaining reader.old) (λ xs. whole xs ≡ Ok (judged_of judging.new))) }
     ensures stop { IfErr result (λ s. IsOfVerdict whole (B.remaining reader.old) s.failure) }
     ensures over { OnOk result (judging.new.judge.over ≡ false) }
-    ensures quiet { every ≡ None → faults.new ≡ faults.old }
+    ensures told { Tells every (F.contents faults.old) (F.contents faults.new) }
 {
     let mut line = Vec::new(alloc);
     let mut scratch = Scratch::new(alloc);
-    let mut telling = Telling::new(alloc, every);
-    if let Err(stop) = take_header(reader, &mut line, &mut scratch) {
-        return Err(stop);
-    }
-    match judge_lines(
+    let mut telling = Telling::new(alloc, every, clock);
+    take_header(reader, &mut line, &mut scratch)?;
+    judge_lines(
         reader,
         &mut line,
         &mut scratch,
         judging,
         &mut telling,
         faults,
-    ) {
-        Ok(()) => Ok(()),
-        Err(stop) => Err(stop),
-    }
+    )
 }
 
 /// Writes the report of a log that is accepted.
@@ -170,6 +183,7 @@ fn finish<W: Write, F: Write>(alloc: Global, report: &Report, out: &mut W, fault
         → Appends (W.contents out.old) (W.contents out.new) (text_of report.now) }
     ensures reported { result ≢ Status.Done
         → ReportsFirst IsOfReport result (F.contents faults.old) (F.contents faults.new) }
+    ensures quiet { result ≡ Status.Done → faults.new ≡ faults.old }
     ensures usage { result ≢ Status.Usage }
 {
     match put_report(alloc, report, out) {
@@ -179,13 +193,17 @@ fn finish<W: Write, F: Write>(alloc: Global, report: &Report, out: &mut W, fault
 }
 
 /// Writes why a log was refused, in plain words.
-fn tell_reason<F: Write>(alloc: Global, stop: &Stop, faults: &mut F)
+fn tell_reason<F: Write>(alloc: Global, judging: &Judging, stop: &Stop, faults: &mut F)
     ensures { (more : List ℕ) × Appends (F.contents faults.old) (F.contents faults.new) more }
 {
     let Failure::Refused(_) = stop.failure else {
         return;
     };
-    if let Ok(text) = stop.to_string(alloc) {
+    let why = Why {
+        stop,
+        owing: &judging.owing,
+    };
+    if let Ok(text) = why.to_string(alloc) {
         write_text(faults, text.as_str());
     }
 }
@@ -204,30 +222,32 @@ fn stopped<W: Write, F: Write>(
         (F.contents faults.old) (F.contents faults.new) }
 {
     let ending = stop.failure.end(alloc, faults);
-    tell_reason(alloc, stop, faults);
+    tell_reason(alloc, judging, stop, faults);
     if ending.status == Status::Refused {
         let _ = put_report(alloc, &judging.report(), out);
     }
     ending.status
 }
 
-#[tactic(auto, unfolding(crate::specs::Logs::judged_log))]
 /// Judges the log of a reader that hands out its bytes piece by piece, and reports.
-fn judge_and_report<B: BufRead, W: Write, F: Write>(
+#[tactic(auto, unfolding(crate::specs::Logs::judged_log))]
+fn judge_and_report<B: BufRead, W: Write, F: Write, C: Clock>(
     alloc: Global,
     reader: &mut B,
     out: &mut W,
     faults: &mut F,
-    every: Option<u64>,
+    every: Option<Every>,
+    clock: &C,
 ) -> Status
     ensures done { result ≡ Status.Done → IfSome (B.remaining reader.old)
         (IsAccepted (Appends (W.contents out.old) (W.contents out.new))) }
-    ensures stopped { every ≡ None → result ≢ Status.Done → ReportsFirst (IsOfLog (B.remaining reader.old)) result
+    ensures told { result ≡ Status.Done → Tells every (F.contents faults.old) (F.contents faults.new) }
+    ensures stopped { result ≢ Status.Done → TellsAndReports every (IsOfLog (B.remaining reader.old)) result
         (F.contents faults.old) (F.contents faults.new) }
     ensures usage { result ≢ Status.Usage }
 {
     let mut judging = Judging::new(alloc);
-    match judge_log(alloc, reader, &mut judging, every, faults) {
+    match judge_log(alloc, reader, &mut judging, faults, every, clock) {
         Ok(()) => {
             let report = judging.report();
             finish(alloc, &report, out, faults)
@@ -238,26 +258,29 @@ fn judge_and_report<B: BufRead, W: Write, F: Write>(
 
 /// Judges the log that the reader gives, line by line, as it comes: the header, and then events whose
 /// tickets rise, each of which could happen there. Then the report goes to `out`. If a line isn't
-/// accepted, why goes to `faults`, and the report of what was judged before it to `out`. After each
-/// `every` events the report so far goes to `faults`.
-pub fn judge_from<R: Read, W: Write, F: Write>(
+/// accepted, why goes to `faults`, and the report of what was judged before it to `out`. While judging
+/// goes on, the report so far goes to `faults` as `every` says; the clock is read for its seconds alone.
+pub fn judge_from<R: Read, W: Write, F: Write, C: Clock>(
     alloc: Global,
     reader: &mut R,
     out: &mut W,
     faults: &mut F,
-    every: Option<u64>,
+    every: Option<Every>,
+    clock: &C,
 ) -> Status
     // The whole input is a log that is accepted, and exactly its report is written.
     ensures done { result ≡ Status.Done → IfSome (R.remaining reader.old)
         (IsAccepted (Appends (W.contents out.old) (W.contents out.new))) }
-    // Else the line of a failure with this status goes to `faults` first: a read, want of memory, a
-    // write, or the refusal that the log has, with the number of its line.
-    ensures stopped { every ≡ None → result ≢ Status.Done → ReportsFirst (IsOfLog (R.remaining reader.old)) result
+    // Then nothing but reports went to `faults`, and none without `every`.
+    ensures told { result ≡ Status.Done → Tells every (F.contents faults.old) (F.contents faults.new) }
+    // Else after such reports the line of a failure with this status goes to `faults` first: a read,
+    // want of memory, a write, or the refusal that the log has, with the number of its line.
+    ensures stopped { result ≢ Status.Done → TellsAndReports every (IsOfLog (R.remaining reader.old)) result
         (F.contents faults.old) (F.contents faults.new) }
     ensures usage { result ≢ Status.Usage }
 {
     let Ok(mut pieces) = BufReader::with_capacity(alloc, CHUNK, reader) else {
         return Failure::Refused(Refusal::Memory).end(alloc, faults).status;
     };
-    judge_and_report(alloc, &mut pieces, out, faults, every)
+    judge_and_report(alloc, &mut pieces, out, faults, every, clock)
 }

@@ -8,14 +8,15 @@ ghost use Rattle.judge_job.specs.Standing.{judged_of, report_of, IsOfLine};
 use crate::line::Line;
 use crate::report::Report;
 use crate::stop::{Reason, Stop};
-use phaser_judge::{Judge, NamedEvent, Refused};
+use phaser_judge::{Judge, NamedEvent, Owing, Refused};
 use std::alloc::Global;
 
-/// A judge, and the ticket of the last line.
+/// A judge, the ticket of the last line, and for whom the event that was refused had to wait, if it did.
 #[derive(Drop)]
 pub(crate) struct Judging {
     pub(crate) judge: Judge,
     pub(crate) last: Option<u64>,
+    pub(crate) owing: Owing,
 }
 
 impl Judging {
@@ -27,6 +28,7 @@ impl Judging {
         Judging {
             judge: Judge::new(alloc),
             last: None,
+            owing: Owing::none(alloc),
         }
     }
 
@@ -48,7 +50,7 @@ impl Judging {
             (λ s. IsOfLine (after_event place ticket self.old.judge.events (Some event.now)) s.failure) }
         ensures over { OnOk result (self.new.judge.over ≡ false) }
     {
-        match self.judge.event(event) {
+        match self.judge.event_with_owing(event, &mut self.owing) {
             Ok(()) => {
                 self.last = Some(ticket);
                 Ok(())

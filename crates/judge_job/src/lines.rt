@@ -65,9 +65,9 @@ fn append_through<B: BufRead>(reader: &mut B, line: &mut Vec<u8>) -> Result<bool
     Ok(is_done)
 }
 
-/// Takes the next line with its newline, if it has one, in place of what `line` held. No line is left
-/// where it then is empty. Returns whether the line is whole: one that has more bytes than a line may
-/// have needn't be.
+/// Takes the next line with its newline, if it has one, in place of what `line` held. If it then is empty,
+/// no line is left. Returns whether the line is whole: one that has more bytes than a line may have
+/// needn't be.
 pub(crate) fn take_line<B: BufRead>(reader: &mut B, line: &mut Vec<u8>) -> Result<bool, Failure>
     ensures whole { result ≡ Ok true → TakesLine (B.remaining reader.old) (B.remaining reader.new) line.new.items }
     ensures cut { result ≡ Ok false → IfSome (B.remaining reader.old) (IsOfLongLine MOST_LINE_BYTES) }

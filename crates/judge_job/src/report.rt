@@ -1,8 +1,9 @@
-//! The lines of the report.
-ghost use Rattle.std.specs.Prelude.{◌≡◌, None, OnOk, IfErr};
+//! The lines of the report, and when they are told while judging goes on.
+ghost use Rattle.std.specs.Prelude.{◌≡◌, ℕ, None, false, take, OnOk, IfErr};
 ghost use Rattle.std.specs.Fmt.{WritesOnOk};
 ghost use Rattle.std.specs.Io.KnownBytes.{Appends};
 ghost use Rattle.judge_job.specs.Standing.{phasers_text, registrations_text, report_of, text_of, turns_text, IsOfReport};
+ghost use Rattle.judge_job.specs.Endings.{Tells};
 
 use crate::judging::Judging;
 use job_ends::{Failure, put_text, write_text};
@@ -11,6 +12,7 @@ use phaser_judge::Totals;
 use std::alloc::Global;
 use std::fmt;
 use std::io::Write;
+use std::time::{Clock, Duration, Instant};
 
 /// What is reported: the totals, and how many phasers are there.
 #[derive(Clone, Copy)]
@@ -26,7 +28,7 @@ pub(crate) struct Report {
 }
 
 impl Report {
-    /// Of these totals, where so many phasers are there.
+    /// Of these totals, if so many phasers are there.
     pub(crate) fn new(totals: &Totals, there: usize) -> Report
         ensures { result ≡ report_of totals.now there }
     {
@@ -101,41 +103,97 @@ pub(crate) fn put_report<W: Write>(
     }
 }
 
-/// After how many events the report is told while judging goes on, and how many there were since.
-#[derive(Drop)]
-pub(crate) struct Telling {
-    alloc: Global,
-    pub(crate) every: Option<u64>,
-    since: u64,
+/// After what the report is told each time while judging goes on. A number of 0 is taken as 1.
+#[derive(Clone, Copy, Debug, PartialEq, Eq)]
+pub enum Every {
+    /// So many events.
+    Events(u64),
+    /// So many seconds. They are looked at when an event has come, so nothing is told while none comes.
+    Seconds(u64),
 }
 
-impl Telling {
+/// When the report is told while judging goes on, and what there was since the last time.
+#[derive(Drop)]
+pub(crate) struct Telling<'a, C> {
+    alloc: Global,
+    clock: &'a C,
+    pub(crate) every: Option<Every>,
+    events: u64,
+    /// When it was told, at first when judging began; none if the clock couldn't be read.
+    last: Option<Instant>,
+}
+
+impl<'a, C: Clock> Telling<'a, C> {
     /// Before the first event.
-    pub(crate) fn new(alloc: Global, every: Option<u64>) -> Telling
+    pub(crate) fn new(alloc: Global, every: Option<Every>, clock: &'a C) -> Telling<'a, C>
         ensures { result.every ≡ every }
     {
+        let last = match every {
+            Some(Every::Seconds(_)) => Instant::now(clock).ok(),
+            _ => None,
+        };
         Telling {
             alloc,
+            clock,
             every,
-            since: 0,
+            events: 0,
+            last,
+        }
+    }
+
+    /// Counts an event. Whether so many have come.
+    fn have_come(&mut self, events: u64) -> bool
+        ensures { self.new.every ≡ self.old.every }
+    {
+        self.events = self.events.saturating_add(1);
+        if self.events < events {
+            return false;
+        }
+        self.events = 0;
+        true
+    }
+
+    /// Whether so many seconds have gone by. If the clock can't be read, they haven't.
+    fn have_gone_by(&mut self, seconds: u64) -> bool
+        ensures { self.new.every ≡ self.old.every }
+    {
+        let Ok(now) = Instant::now(self.clock) else {
+            return false;
+        };
+        let last = self.last.unwrap_or(now);
+        let is_due = Duration::from_secs(seconds) <= now.duration_since(last);
+        self.last = Some(if is_due { now } else { last });
+        is_due
+    }
+
+    /// Whether the report is told after this event.
+    fn is_due(&mut self) -> bool
+        ensures every { self.new.every ≡ self.old.every }
+        ensures quiet { self.old.every ≡ None → result ≡ false }
+    {
+        match self.every {
+            None => false,
+            Some(Every::Events(events)) => self.have_come(events),
+            Some(Every::Seconds(seconds)) => self.have_gone_by(seconds),
         }
     }
 
     /// After an event. If the report can't be written, judging goes on without it.
     pub(crate) fn event<F: Write>(&mut self, judging: &Judging, faults: &mut F)
         ensures every { self.new.every ≡ self.old.every }
-        ensures quiet { self.old.every ≡ None → faults.new ≡ faults.old }
+        ensures told { Tells self.old.every (F.contents faults.old) (F.contents faults.new) }
     {
-        let Some(every) = self.every else {
-            return;
-        };
-        self.since = self.since.saturating_add(1);
-        if self.since < every {
-            return;
+        if self.is_due() {
+            tell(self.alloc, &judging.report(), faults);
         }
-        self.since = 0;
-        if let Ok(text) = judging.report().to_string(self.alloc) {
-            write_text(faults, text.as_str());
-        }
+    }
+}
+
+/// Tells a report, if there is memory for it.
+fn tell<F: Write>(alloc: Global, report: &Report, faults: &mut F)
+    ensures { (n : ℕ) × Appends (F.contents faults.old) (F.contents faults.new) (take n (text_of report.now)) }
+{
+    if let Ok(text) = report.to_string(alloc) {
+        write_text(faults, text.as_str());
     }
 }

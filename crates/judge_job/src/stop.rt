@@ -1,12 +1,12 @@
 //! Why judging stopped, in plain words.
-ghost use Rattle.std.specs.Prelude.{◌≡◌};
+ghost use Rattle.std.specs.Prelude.{◌≡◌, ◌≤◌};
 ghost use Rattle.job_ends.specs.declared.failure.Failure.TheVariants as failures;
 ghost use Rattle.phase_modes.specs.declared.refusal.Refusal.TheVariants as refusals;
 
 use job_ends::Failure;
 use phase_model::Look;
 use phase_modes::Refusal;
-use phaser_judge::{Named, NamedEvent, Refused};
+use phaser_judge::{Named, NamedEvent, Owing, Refused};
 use std::fmt;
 
 /// Why judging stopped before the end of the log.
@@ -123,11 +123,88 @@ fn words_of(refusal: Refusal) -> &'static str {
     }
 }
 
+/// How many tasks are named at most, if there are too many to name all.
+const MOST_NAMED: usize = 8;
+
+/// How many of so many tasks are named.
+fn named_of(tasks: usize) -> usize
+    ensures { result ≤ tasks }
+{
+    if tasks <= MOST_NAMED + 1 {
+        tasks
+    } else {
+        MOST_NAMED
+    }
+}
+
+/// What stands before the task of this place, if so many are left.
+fn joint(place: usize, left: usize) -> &'static str {
+    if place == 0 {
+        ""
+    } else if left == 1 {
+        " and"
+    } else {
+        ","
+    }
+}
+
+/// Tasks by their numbers, as `task 3` or `tasks 1, 2 and 3`; of more than nine the first eight.
+fn write_tasks<W: fmt::Write>(f: &mut fmt::Formatter<W>, tasks: &[u64]) -> fmt::Result {
+    let named = named_of(tasks.len());
+    let word = if tasks.len() == 1 { "task" } else { "tasks" };
+    write!(f, "{word}")?;
+    for place in 0..named {
+        let (joint, task) = (joint(place, tasks.len() - place), tasks[place]);
+        write!(f, "{joint} {task}")?;
+    }
+    if named < tasks.len() {
+        let more = tasks.len() - named;
+        write!(f, " and {more} more")?;
+    }
+    Ok(())
+}
+
+/// For whom a pass or a claim had to wait.
+fn write_open<W: fmt::Write>(f: &mut fmt::Formatter<W>, phaser: u64, owing: &Owing) -> fmt::Result {
+    let tasks = owing.tasks.as_slice();
+    let have = if tasks.len() == 1 {
+        "hasn't"
+    } else {
+        "haven't"
+    };
+    write!(f, "phase {} of phaser {phaser} isn't closed: ", owing.phase)?;
+    write_tasks(f, tasks)?;
+    write!(f, " {have} signalled it")
+}
+
+/// Why the event had to wait.
+fn write_wait<W: fmt::Write>(
+    f: &mut fmt::Formatter<W>,
+    event: &NamedEvent,
+    owing: &Owing,
+) -> fmt::Result {
+    let (phaser, task) = (event.phaser, task_of(&event.event));
+    if let Named::Sig(..) = event.event {
+        return write!(
+            f,
+            "task {task} had to wait: the bound of phaser {phaser} holds its signal back"
+        );
+    }
+    if !owing.tasks.is_empty() {
+        return write_open(f, phaser, owing);
+    }
+    write!(
+        f,
+        "task {task} had to wait: the single of its phase of phaser {phaser} isn't done"
+    )
+}
+
 /// Why the event can't happen.
 fn write_event<W: fmt::Write>(
     f: &mut fmt::Formatter<W>,
     event: &NamedEvent,
     refused: Refused,
+    owing: &Owing,
 ) -> fmt::Result {
     let (phaser, task) = (event.phaser, task_of(&event.event));
     match refused {
@@ -145,10 +222,7 @@ fn write_event<W: fmt::Write>(
             let words = words_of(refusal);
             write!(f, "task {task} can't do this on phaser {phaser}: {words}")
         }
-        Refused::HadToWait => write!(
-            f,
-            "task {task} had to wait: its phase isn't closed, or its single isn't done, or the bound holds it back"
-        ),
+        Refused::HadToWait => write_wait(f, event, owing),
         Refused::ClaimsInstead => write!(f, "task {task} had a single to claim, and couldn't pass"),
         Refused::PassesInstead => write!(f, "task {task} had no single to claim"),
         Refused::SawOther(Look::Value(value)) => {
@@ -161,8 +235,8 @@ fn write_event<W: fmt::Write>(
 }
 
 /// What was wrong with a line.
-fn write_reason<W: fmt::Write>(f: &mut fmt::Formatter<W>, reason: &Reason) -> fmt::Result {
-    match reason {
+fn write_reason<W: fmt::Write>(f: &mut fmt::Formatter<W>, why: &Why<'_>) -> fmt::Result {
+    match &why.stop.reason {
         Reason::NoHeader => write!(f, "this isn't the header {{\"version\":2}}"),
         Reason::NoEvent => write!(
             f,
@@ -175,18 +249,25 @@ fn write_reason<W: fmt::Write>(f: &mut fmt::Formatter<W>, reason: &Reason) -> fm
                 "ticket {ticket} isn't greater than that of the line before"
             )
         }
-        Reason::Event(event, refused) => write_event(f, event, *refused),
+        Reason::Event(event, refused) => write_event(f, event, *refused, why.owing),
         Reason::Outside => write!(f, "there is no memory for more"),
     }
 }
 
-impl fmt::Display for Stop {
+/// Why judging stopped, and for whom the event that was refused had to wait, if it did.
+#[derive(Clone, Copy)]
+pub(crate) struct Why<'a> {
+    pub(crate) stop: &'a Stop,
+    pub(crate) owing: &'a Owing,
+}
+
+impl fmt::Display for Why<'_> {
     fn fmt<W: fmt::Write>(&self, f: &mut fmt::Formatter<W>) -> fmt::Result {
-        if let Reason::Outside = self.reason {
+        if let Reason::Outside = self.stop.reason {
             return write!(f, "there is no memory for more\n");
         }
-        write!(f, "line {}: ", self.place())?;
-        write_reason(f, &self.reason)?;
+        write!(f, "line {}: ", self.stop.place())?;
+        write_reason(f, self)?;
         write!(f, "\n")
     }
 }

@@ -4,6 +4,8 @@ use Rattle.phaser_core.specs.contracts.state.PhaserState.{the_row as phaser_row}
 use Rattle.phaser_c.specs.contracts.waiting.Waiting.{the_row as waiting_row}
 use Rattle.phaser_c.specs.contracts.handle.Handle.{the_type as handle_type}
 use Rattle.phaser_c.specs.contracts.waiting_handle.WaitingHandle.{the_type as waiting_handle_type}
+use Rattle.phaser_judge.specs.contracts.judge.Judge.{the_row as judge_row}
+use Rattle.phaser_c.specs.contracts.judge_handle.JudgeHandle.{the_type as judge_handle_type}
 use Rattle.phaser_c.proofs.Held.{Holder}
 
 abbrev pub handle : Holder phaser_row
@@ -19,6 +21,16 @@ handle = record {
 abbrev pub waiting_handle : Holder waiting_row
 waiting_handle = record {
   the_type = waiting_handle_type;
+  at = λ d. d.at;
+  state = λ d. d.state;
+  make = λ p s. record { at = p; state = s };
+  at_made = λ p s. refl;
+  state_made = λ p s. refl;
+}
+
+abbrev pub judge_handle : Holder judge_row
+judge_handle = record {
+  the_type = judge_handle_type;
   at = λ d. d.at;
   state = λ d. d.state;
   make = λ p s. record { at = p; state = s };

@@ -3,9 +3,11 @@ mod GoneOn
 mod HandleWalks
 mod Handles
 mod Held
+mod Judgements
 mod Level
 mod LevelRounds
 mod Looks
+mod NoMemory
 mod Parts
 mod Refusals
 mod Rounds

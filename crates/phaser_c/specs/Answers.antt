@@ -6,7 +6,7 @@ use Rattle.phase_model.specs.declared.op.Look.TheVariants.{Value, Nothing as Uns
 use Rattle.phase_model.specs.declared.call.Reply.{Reply}
 use Rattle.phase_model.specs.declared.call.Reply.TheVariants as replies
 use Rattle.phaser_c.specs.declared.answer.ExportAnswer.{ExportAnswer}
-use Rattle.phaser_c.specs.declared.answer.ExportAnswer.TheVariants.{Done, Refused, NotYet, Claimed, Nothing, NotKept, TooGreat, Closed, Open, Short, BadMode, BadLimits, BadOperators, BadBound, BadTickets}
+use Rattle.phaser_c.specs.declared.answer.ExportAnswer.TheVariants.{Done, Refused, NotYet, Claimed, Nothing, NotKept, TooGreat, Closed, Open, Short, BadMode, BadLimits, BadOperators, BadBound, BadTickets, BadKind, NotMade, MadeAlready, RegisteredAlready, HadToWait, ClaimsInstead, PassesInstead, SawOther, Over}
 
 -- the number of each answer; a refusal has its own, 1 to 26
 abbrev pub number_of_answer : ExportAnswer → ℕ
@@ -25,6 +25,15 @@ number_of_answer BadLimits = 69
 number_of_answer BadOperators = 70
 number_of_answer BadBound = 71
 number_of_answer BadTickets = 72
+number_of_answer BadKind = 73
+number_of_answer NotMade = 80
+number_of_answer MadeAlready = 81
+number_of_answer RegisteredAlready = 82
+number_of_answer HadToWait = 83
+number_of_answer ClaimsInstead = 84
+number_of_answer PassesInstead = 85
+number_of_answer SawOther = 86
+number_of_answer Over = 87
 
 -- what is answered if a call on a phaser returns this
 abbrev pub answer_for : Reply → ExportAnswer

@@ -7,6 +7,8 @@ pub mod Freed
 pub mod Given
 pub mod Held
 pub mod History
+pub mod Judged
+pub mod JudgedGiven
 pub mod RoundCalls
 pub mod RoundLaws
 pub mod Rounds

@@ -40,6 +40,24 @@ pub enum ExportAnswer {
     BadBound,
     /// There aren't as many tickets as events.
     BadTickets,
+    /// No kind of event has this number.
+    BadKind,
+    /// The event's phaser isn't made, or its last task has left it.
+    NotMade,
+    /// The event makes a phaser that is made already.
+    MadeAlready,
+    /// The event registers a task that is registered on the phaser already.
+    RegisteredAlready,
+    /// The event is of a task that had to wait.
+    HadToWait,
+    /// The event is a pass, but the task had a single to claim.
+    ClaimsInstead,
+    /// The event is a claim, but the task had no single to claim, and passed.
+    PassesInstead,
+    /// The event is a look that saw another value than the phaser had.
+    SawOther,
+    /// The judge refused an event before.
+    Over,
 }
 
 impl ExportAnswer {
@@ -63,6 +81,15 @@ impl ExportAnswer {
             ExportAnswer::BadOperators => 70,
             ExportAnswer::BadBound => 71,
             ExportAnswer::BadTickets => 72,
+            ExportAnswer::BadKind => 73,
+            ExportAnswer::NotMade => 80,
+            ExportAnswer::MadeAlready => 81,
+            ExportAnswer::RegisteredAlready => 82,
+            ExportAnswer::HadToWait => 83,
+            ExportAnswer::ClaimsInstead => 84,
+            ExportAnswer::PassesInstead => 85,
+            ExportAnswer::SawOther => 86,
+            ExportAnswer::Over => 87,
         }
     }
 

@@ -1,7 +1,8 @@
 //! What C calls of the library: the exports of the static library, beside the header
 //! `include/paldwosk.h`. It is thin: what an export answers is what the library's call answers, as a
 //! number. C holds a phaser by a pointer, which is taken out for a call and put back after it. The
-//! files `waiting*` have the exports for threads that wait, over a `long_locks::LongCell<Then>`.
+//! files `waiting*` have the exports for threads that wait, over a `long_locks::LongCell<Then>`, and
+//! the files `judge*` those of a judge, over a `phaser_judge::Judge`.
 #![tactic(auto)]
 
 mod abi;
@@ -13,6 +14,9 @@ mod freed;
 mod given;
 mod handle;
 mod history;
+mod judge;
+mod judge_given;
+mod judge_handle;
 mod loose;
 mod made;
 mod questions;
@@ -30,6 +34,9 @@ mod waiting_values;
 pub use freed::GivenFreed;
 pub use given::GivenLimits;
 pub use handle::Handle;
+pub use judge::GivenTotals;
+pub use judge_given::GivenEvent;
+pub use judge_handle::JudgeHandle;
 pub use round::GivenSend;
 pub use round_laws::{level_looks, level_round, round_is_calls};
 pub use waiting_handle::WaitingHandle;

@@ -16,7 +16,7 @@ use Rattle.phase_model.specs.Singles.{is_proposed, is_done, is_settled}
 use Rattle.phase_model.specs.Conditions.{conditions}
 use Rattle.phase_model.specs.Rules.{Story, with_event, is_permitted, is_allowed, is_legal, has_room, same_look, look_of}
 use Rattle.phase_model.specs.Replies.{Reply, refused, not_yet, done, event_for, must_wait, reply, after, done_result}
-use Rattle.phase_model.specs.Answers.{signal_result, pass_result, look_result}
+use Rattle.phase_model.specs.Answers.{signal_result, pass_result, look_result, passing, seen}
 use Rattle.phase_model.proofs.AllowedIsDone.{done_where_allowed}
 use Rattle.phase_model.proofs.Replied.{settled_done, done_is_allowed}
 use Rattle.phase_model.proofs.SingleReplies.{pass_claims}
@@ -30,7 +30,7 @@ use Rattle.phase_model.specs.declared.answer.Signalling.TheVariants as signallin
 use Rattle.phase_model.specs.declared.answer.Passing.{Passing}
 use Rattle.phase_model.specs.declared.answer.Passing.TheVariants.{Passed, Claimed, NotYet}
 use Rattle.phaser_judge.specs.declared.refused.Refused.{Refused}
-use Rattle.phaser_judge.specs.declared.refused.Refused.TheVariants.{SawOther, Memory}
+use Rattle.phaser_judge.specs.declared.refused.Refused.TheVariants.{SawOther, HadToWait, Memory}
 use Rattle.phaser_judge.specs.Reasons.{call_of, by_rule, by_signal, by_pass, by_claim, by_look, said_by, said}
 use Rattle.phaser_judge.specs.inner.Steps.{left}
 
@@ -239,6 +239,64 @@ never_memory s (Pass t) = not_by_pass (pass_result s.past (reply s (pass t)))
 never_memory s (Send t a v) = not_by_rule (done_result (reply s (send t a v)))
 never_memory s (Looked t a x) = not_by_look x (look_result (reply s (look t a)))
 never_memory s (Drop t) = not_by_rule (done_result (reply s (drop_task t)))
+
+done_claim : (h : List Event) (f : Event) → by_claim (passing h f) ≡ Err HadToWait → ⊥
+done_claim h (Make t m) k = cc
+done_claim h (Reg q t m) k = cc
+done_claim h (Sig t x) k = cc
+done_claim h (Claim t) k = cc
+done_claim h (Did t) k = cc
+done_claim h (Pass t) k = cc
+done_claim h (Send t a v) k = cc
+done_claim h (Looked t a x) k = cc
+done_claim h (Drop t) k = cc
+
+done_pass : (h : List Event) (f : Event) → by_pass (passing h f) ≡ Err HadToWait → ⊥
+done_pass h (Make t m) k = cc
+done_pass h (Reg q t m) k = cc
+done_pass h (Sig t x) k = cc
+done_pass h (Claim t) k = cc
+done_pass h (Did t) k = cc
+done_pass h (Pass t) k = cc
+done_pass h (Send t a v) k = cc
+done_pass h (Looked t a x) k = cc
+done_pass h (Drop t) k = cc
+
+saw_other : (b : Bool) (y : Look ℤ) → told_or b y ≡ Err HadToWait → ⊥
+saw_other true y k = absurd cc
+saw_other false y k = absurd cc
+
+done_look : (x : Look ℤ) (f : Event) → by_look x (seen f) ≡ Err HadToWait → ⊥
+done_look x (Make t m) k = cc
+done_look x (Reg q t m) k = cc
+done_look x (Sig t n) k = cc
+done_look x (Claim t) k = cc
+done_look x (Did t) k = cc
+done_look x (Pass t) k = cc
+done_look x (Send t a v) k = cc
+done_look x (Looked t a y) k = saw_other (same_look x y) y k
+done_look x (Drop t) k = cc
+
+-- a call that is done tells of no wait
+done_tells : (h : List Event) (e f : Event) → said_by h e (done f) ≡ Err HadToWait → ⊥
+done_tells h (Make t m) f k = cc
+done_tells h (Reg q t m) f k = cc
+done_tells h (Sig t x) f k = cc
+done_tells h (Claim t) f k = done_claim h f k
+done_tells h (Did t) f k = cc
+done_tells h (Pass t) f k = done_pass h f k
+done_tells h (Send t a v) f k = cc
+done_tells h (Looked t a x) f k = done_look x f k
+done_tells h (Drop t) f k = cc
+
+stays : (s : Story) (e : Event) (r : Reply) → said_by s.past e r ≡ Err HadToWait → after s r ≡ s
+stays s e (refused r) k = refl
+stays s e not_yet k = refl
+stays s e (done f) k = absurd (done_tells s.past e f k)
+
+-- a wait leaves the story as it is
+pub waited_stays : (s : Story) (e : Event) → said s e ≡ Err HadToWait → left s e ≡ s
+waited_stays s e k = stays s e (reply s (call_of e)) k
 
 -- the reply that is the event tells it
 tells : (h : List Event) (e : Event) → said_by h e (done e) ≡ Ok tt

@@ -172,14 +172,15 @@ pub(crate) fn leave(phaser: &mut LongPhaser, task: LongTask) -> Result<(), Refus
     by_rule(phaser.leave(task))
 }
 
-#[tactic(auto, using(crate::proofs::Telling::never_memory))]
 /// Any event but the first and a registration.
+#[tactic(auto, using(crate::proofs::Telling::never_memory, crate::proofs::Telling::waited_stays))]
 pub(crate) fn tell(phaser: &mut LongPhaser, event: LongEvent) -> Result<(), Refused>
     requires { IsOfTask event }
     ensures said { result ≡ said phaser.old.story (event_of event) }
     ensures story { phaser.new.story ≡ left phaser.old.story (event_of event) }
     ensures next { phaser.new.next ≡ phaser.old.next }
     ensures not_memory { result ≢ Err Refused.Memory }
+    ensures waited { result ≡ Err Refused.HadToWait → phaser.new.story ≡ phaser.old.story }
 {
     match event {
         LongEvent::Make(..) | LongEvent::Reg(..) => unreachable!(),

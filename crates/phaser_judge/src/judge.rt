@@ -4,9 +4,11 @@ ghost use Rattle.std.specs.Option.{option_map};
 ghost use Rattle.phaser_judge.specs.Courses.{first_phase, AreThere, totals_of};
 ghost use Rattle.phaser_judge.specs.Standings.{standing, may_come};
 ghost use Rattle.phaser_judge.specs.Reasons.{verdict_at};
+ghost use Rattle.phaser_judge.specs.Owing.{IsOwingTo};
 ghost use Rattle.phaser_judge.specs.Renaming.{AreLegal};
 
 use crate::event::NamedEvent;
+use crate::owing::Owing;
 use crate::phasers::Phasers;
 use crate::refused::Refused;
 use crate::totals::Totals;
@@ -54,7 +56,6 @@ impl Judge {
 
     /// Judges one event more: `Ok` if it can happen after those before it. `Memory` leaves the judge as it
     /// was. After any other refusal the judge is over, and refuses every event with `Over`.
-    #[tactic(auto, using(crate::proofs::Lives::come_legal))]
     pub fn event(&mut self, event: &NamedEvent) -> Result<(), Refused>
         ensures accepted { IfOk result (λ _. may_come (standing event.now.phaser self.old.events) event.now.event ≡ true) }
         ensures added { IfOk result (λ _. self.new ≡ record { events = event.now ∷ self.old.events; over = self.old.over }) }
@@ -69,10 +70,36 @@ impl Judge {
         ensures illegal { self.old.over ≡ false → IfErr result (λ r. r ≢ Refused.Memory
             → AreLegal (event.now ∷ self.old.events) → ⊥) }
     {
+        self.event_with_owing(event, &mut Owing::none(self.alloc))
+    }
+
+    /// The same as `event`. If the event had to wait, `owing` then says for whom: if it is a pass or a
+    /// claim, the phase of its task, and the tasks that owe it. `Memory` also if there is none to say so.
+    #[tactic(auto, using(crate::proofs::Lives::come_legal))]
+    pub fn event_with_owing(&mut self, event: &NamedEvent, owing: &mut Owing) -> Result<(), Refused>
+        ensures accepted { IfOk result (λ _. may_come (standing event.now.phaser self.old.events) event.now.event ≡ true) }
+        ensures added { IfOk result (λ _. self.new ≡ record { events = event.now ∷ self.old.events; over = self.old.over }) }
+        ensures refused { self.old.over ≡ false → IfErr result (λ r. r ≢ Refused.Memory
+            → may_come (standing event.now.phaser self.old.events) event.now.event ≡ false) }
+        ensures reason { self.old.over ≡ false → IfErr result (λ r. r ≢ Refused.Memory
+            → verdict_at (standing event.now.phaser self.old.events) event.now.event ≡ Err r) }
+        ensures ended { IfErr result (λ r. r ≢ Refused.Memory → self.new ≡ record { events = self.old.events; over = true }) }
+        ensures over { self.old.over ≡ true → result ≡ Err Refused.Over }
+        ensures memory { result ≡ Err Refused.Memory → self.new ≡ self.old }
+        ensures legal { AreLegal self.new.events }
+        ensures illegal { self.old.over ≡ false → IfErr result (λ r. r ≢ Refused.Memory
+            → AreLegal (event.now ∷ self.old.events) → ⊥) }
+        ensures owing { self.old.over ≡ false → result ≡ Err Refused.HadToWait
+            → IsOwingTo (standing event.now.phaser self.old.events) event.now.event owing.new }
+    {
         if self.over {
             return Err(Refused::Over);
         }
-        match self.phasers.event(self.alloc, event.phaser, &event.event) {
+        let (alloc, phaser) = (self.alloc, event.phaser);
+        match self
+            .phasers
+            .event_with_owing(alloc, phaser, &event.event, owing)
+        {
             Ok(()) => {
                 self.accepted.add(event);
                 self.totals.count(&event.event);

@@ -11,22 +11,24 @@ ghost use Rattle.phaser_judge.specs.inner.Steps.{IsNoRegistration, IsOfTask, lef
 ghost use Rattle.phaser_judge.specs.Reasons.{verdict};
 ghost use Rattle.phaser_judge.specs.Numbers.{number_of, next_after};
 ghost use Rattle.phaser_judge.specs.Courses.{first_phase};
+ghost use Rattle.phaser_judge.specs.Owing.{is_owed_by, owes, phase_at, IsOwingAt};
 
 use crate::calls;
 use crate::event::Named;
 use crate::names::Names;
+use crate::owing::Owing;
 use crate::refused::Refused;
 use phase_model::{Bound, Ops};
-use phase_modes::Mode;
+use phase_modes::{LongReg, Mode};
 use phaser_core::{LongPhaser, LongTask, Phase};
-use std::alloc::Global;
+use std::alloc::{AllocError, Global};
 use std::marker::Model;
 use told_history::LongEvent;
 
 /// A phaser that is made, and its tasks by the runtime's numbers. Contracts see the story that was told
 /// of it, in numbers of its own, and which number is whose. Nothing of the story is stored.
 #[derive(Drop)]
-pub struct Judged {
+pub(crate) struct Judged {
     phaser: LongPhaser,
     names: Names,
 }
@@ -51,7 +53,7 @@ fn widest() -> Bound
 
 impl Judged {
     /// A phaser that the task has just made. `Memory` if there is none for it.
-    pub fn make(
+    pub(crate) fn make(
         alloc: Global,
         task: u64,
         mode: Mode,
@@ -118,6 +120,7 @@ impl Judged {
         ensures names { self.new.names ≡ self.old.names }
         ensures next { self.new.next ≡ self.old.next }
         ensures not_memory { result ≢ Err Refused.Memory }
+        ensures waited { result ≡ Err Refused.HadToWait → self.new ≡ self.old }
     {
         let event = self.renamed(event)?;
         calls::tell(&mut self.phaser, event)
@@ -128,6 +131,7 @@ impl Judged {
         ensures named { IfOk result (λ n. (m : Mode) → renamed_event self.now (named.Reg parent child m) ≡ Ok (event.Reg n self.now.next m)) }
         ensures nameless { IfErr result (λ r. (m : Mode) → renamed_event self.now (named.Reg parent child m) ≡ Err r) }
         ensures not_memory { IfErr result (λ r. r ≢ Refused.Memory) }
+        ensures not_waited { IfErr result (λ r. r ≢ Refused.HadToWait) }
     {
         if self.names.number_of(child).is_some() {
             return Err(Refused::RegisteredAlready);
@@ -142,6 +146,7 @@ impl Judged {
         ensures story { IfOk result (λ _. self.new.story ≡ left_by self.old.story (renamed_event self.old (named.Reg parent child mode))) }
         ensures names { IfOk result (λ _. self.new.names ≡ names_after self.old (named.Reg parent child mode)) }
         ensures next { IfOk result (λ _. self.new.next ≡ next_after self.old.next (named.Reg parent child mode)) }
+        ensures not_waited { result ≢ Err Refused.HadToWait }
     {
         let parent = self.parent(parent, child)?;
         if self.names.reserve().is_err() {
@@ -157,7 +162,7 @@ impl Judged {
     }
 
     /// Whether no task is left.
-    pub fn is_empty(&self) -> bool
+    pub(crate) fn is_empty(&self) -> bool
         ensures { result ≡ is_empty self.now.names }
     {
         self.names.is_empty()
@@ -170,6 +175,7 @@ impl Judged {
         ensures story { IfOk result (λ _. self.new.story ≡ left_by self.old.story (renamed_event self.old event.now)) }
         ensures names { IfOk result (λ _. self.new.names ≡ names_after self.old event.now) }
         ensures next { IfOk result (λ _. self.new.next ≡ next_after self.old.next event.now) }
+        ensures waited { result ≡ Err Refused.HadToWait → self.new ≡ self.old }
     {
         match *event {
             Named::Reg(parent, child, mode) => self.register(parent, child, mode),
@@ -182,13 +188,15 @@ impl Judged {
         }
     }
 
-    /// Judges one event more. Nothing is known of what the phaser is after a refusal that isn't `Memory`.
-    pub fn event(&mut self, event: &Named) -> Result<(), Refused>
+    /// Judges one event more. Nothing is known of what the phaser is after a refusal that is neither `Memory`
+    /// nor `HadToWait`.
+    pub(crate) fn event(&mut self, event: &Named) -> Result<(), Refused>
         ensures accepted { IfOk result (λ _. can_happen self.old event.now ≡ true) }
         ensures refused { IfErr result (λ r. r ≢ Refused.Memory → can_happen self.old event.now ≡ false) }
         ensures moved { IfOk result (λ _. self.new ≡ moved self.old event.now) }
         ensures reason { result ≢ Err Refused.Memory → result ≡ verdict self.old event.now }
         ensures memory { result ≡ Err Refused.Memory → self.new ≡ self.old }
+        ensures waited { result ≡ Err Refused.HadToWait → self.new ≡ self.old }
     {
         // The story so far is legal.
         let _ = self.phaser.history();
@@ -196,7 +204,7 @@ impl Judged {
     }
 
     /// The first phase that none of its tasks has passed.
-    pub fn phase(&self) -> Phase
+    pub(crate) fn phase(&self) -> Phase
         ensures { result ≡ first_phase self.now.story.past self.now.names }
     {
         let mut phase = 0;
@@ -207,4 +215,54 @@ impl Judged {
         }
         phase
     }
+
+    /// The phase at which the task stands, 0 if it isn't registered.
+    fn phase_of(&self, task: u64) -> Phase
+        ensures { result ≡ phase_at self.now task }
+    {
+        let Some(number) = self.names.number_of(task) else {
+            return 0;
+        };
+        match self.phaser.registration(number) {
+            Some(reg) => reg.phase,
+            None => 0,
+        }
+    }
+
+    /// Whether the task of this number is registered, can signal, and hasn't signalled the phase.
+    fn owes(&self, phase: Phase, number: LongTask) -> bool
+        ensures { result ≡ owes phase self.now.story.past number }
+    {
+        match self.phaser.registration(number) {
+            Some(reg) => is_owed_by(phase, reg),
+            None => false,
+        }
+    }
+
+    /// Says for whom the task waits, if it does for any: who owes the phase at which it stands.
+    pub(crate) fn owing_to(&self, task: u64, owing: &mut Owing) -> Result<(), AllocError>
+        ensures { IfOk result (λ _. IsOwingAt self.now task owing.new) }
+    {
+        let phase = self.phase_of(task);
+        owing.tasks.clear();
+        for (name, number) in &self.names.tasks {
+            if self.owes(phase, *number) {
+                owing.tasks.push(*name)?;
+            }
+        }
+        owing.phase = phase;
+        Ok(())
+    }
+}
+
+/// Whether a task that is registered so can signal, and hasn't signalled the phase.
+fn is_owed_by(phase: Phase, reg: LongReg) -> bool
+    ensures { result ≡ is_owed_by phase reg }
+{
+    let signalled = if reg.ahead {
+        phase <= reg.phase
+    } else {
+        phase < reg.phase
+    };
+    reg.mode.can_signal() && !signalled
 }

@@ -16,14 +16,15 @@ mod judged;
 mod laws;
 mod lists;
 mod names;
+mod owing;
 mod phasers;
 mod refused;
 mod totals;
 
 pub use event::{Named, NamedEvent};
 pub use judge::Judge;
-pub use judged::Judged;
 pub use laws::accepted_are_legal;
 pub use lists::judge_all;
+pub use owing::Owing;
 pub use refused::Refused;
 pub use totals::Totals;

@@ -15,9 +15,7 @@ pub fn judge_all(alloc: Global, events: &[NamedEvent]) -> Result<(), Refused>
 {
     let mut judge = Judge::new(alloc);
     for event in events {
-        if let Err(refused) = judge.event(event) {
-            return Err(refused);
-        }
+        judge.event(event)?;
     }
     Ok(())
 }

@@ -7,9 +7,11 @@ ghost use Rattle.phaser_judge.specs.Standings.{started, moved, may_come, stands_
 ghost use Rattle.phaser_judge.specs.Courses.{first_phase, AreThere};
 ghost use Rattle.phaser_judge.specs.inner.Steps.{at, IsNoMaking};
 ghost use Rattle.phaser_judge.specs.Reasons.{verdict_at};
+ghost use Rattle.phaser_judge.specs.Owing.{IsOwingTo};
 
 use crate::event::Named;
 use crate::judged::Judged;
+use crate::owing::Owing;
 use crate::refused::Refused;
 use phase_model::{Bound, Ops};
 use phase_modes::Mode;
@@ -69,6 +71,7 @@ impl Phasers {
         ensures others { (q : ℕ) → q ≢ phaser → at self.new.phasers q ≡ at self.old.phasers q }
         ensures reason { IfErr result (λ r. r ≢ Refused.Memory → verdict_at (at self.old.phasers phaser) event.now ≡ Err r) }
         ensures memory { result ≡ Err Refused.Memory → at self.new.phasers phaser ≡ at self.old.phasers phaser }
+        ensures waited { result ≡ Err Refused.HadToWait → at self.new.phasers phaser ≡ at self.old.phasers phaser }
     {
         match self.phasers.get_mut(&phaser) {
             Some(judged) => {
@@ -88,6 +91,7 @@ impl Phasers {
         ensures others { (q : ℕ) → q ≢ phaser → at self.new.phasers q ≡ at self.old.phasers q }
         ensures reason { IfErr result (λ r. r ≢ Refused.Memory → verdict_at (at self.old.phasers phaser) event.now ≡ Err r) }
         ensures memory { result ≡ Err Refused.Memory → at self.new.phasers phaser ≡ at self.old.phasers phaser }
+        ensures waited { result ≡ Err Refused.HadToWait → at self.new.phasers phaser ≡ at self.old.phasers phaser }
     {
         if self.act(phaser, event)? {
             self.phasers.remove(&phaser);
@@ -103,11 +107,51 @@ impl Phasers {
         ensures others { (q : ℕ) → q ≢ phaser → at self.new.phasers q ≡ at self.old.phasers q }
         ensures reason { IfErr result (λ r. r ≢ Refused.Memory → verdict_at (at self.old.phasers phaser) event.now ≡ Err r) }
         ensures memory { result ≡ Err Refused.Memory → at self.new.phasers phaser ≡ at self.old.phasers phaser }
+        ensures waited { result ≡ Err Refused.HadToWait → at self.new.phasers phaser ≡ at self.old.phasers phaser }
     {
         match *event {
             Named::Make(task, mode, ops, bound) => self.make(alloc, phaser, task, mode, ops, bound),
             _ => self.go_on(phaser, event),
         }
+    }
+
+    /// Says for whom the event had to wait, if it did for any.
+    fn owing_to(&self, phaser: u64, event: &Named, owing: &mut Owing) -> Result<(), Refused>
+        ensures owing { IfOk result (λ _. IsOwingTo (at self.now.phasers phaser) event.now owing.new) }
+        ensures memory { IfErr result (λ r. r ≡ Refused.Memory) }
+    {
+        owing.tasks.clear();
+        let Some(judged) = self.phasers.get(&phaser) else {
+            return Ok(());
+        };
+        let told = match *event {
+            Named::Pass(task) | Named::Claim(task) => judged.owing_to(task, owing),
+            _ => Ok(()),
+        };
+        told.map_err(|_| Refused::Memory)
+    }
+
+    /// The same as `event`. If the event had to wait, `owing` then says for whom, if for any.
+    pub(crate) fn event_with_owing(
+        &mut self,
+        alloc: Global,
+        phaser: u64,
+        event: &Named,
+        owing: &mut Owing,
+    ) -> Result<(), Refused>
+        ensures accepted { IfOk result (λ _. may_come (at self.old.phasers phaser) event.now ≡ true) }
+        ensures refused { IfErr result (λ r. r ≢ Refused.Memory → may_come (at self.old.phasers phaser) event.now ≡ false) }
+        ensures own { IfOk result (λ _. at self.new.phasers phaser ≡ stands_after (at self.old.phasers phaser) event.now) }
+        ensures others { (q : ℕ) → q ≢ phaser → at self.new.phasers q ≡ at self.old.phasers q }
+        ensures reason { IfErr result (λ r. r ≢ Refused.Memory → verdict_at (at self.old.phasers phaser) event.now ≡ Err r) }
+        ensures memory { result ≡ Err Refused.Memory → at self.new.phasers phaser ≡ at self.old.phasers phaser }
+        ensures owing { result ≡ Err Refused.HadToWait → IsOwingTo (at self.old.phasers phaser) event.now owing.new }
+    {
+        let answer = self.event(alloc, phaser, event);
+        if let Err(Refused::HadToWait) = answer {
+            self.owing_to(phaser, event, owing)?;
+        }
+        answer
     }
 
     /// The first phase that none of the phaser's tasks has passed, if it is there.

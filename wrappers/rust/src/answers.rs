@@ -134,7 +134,8 @@ pub enum Look {
 /// The refusals, each with its name, its number, and the sentences that its page and its text have of it.
 macro_rules! refusals {
     ($($name:ident = $number:literal, $meaning:literal;)+) => {
-        /// Why a call was refused. It changed nothing. `docs/rules.md` of the repository has the rules.
+        /// Why a call was refused. It changed nothing; only a [`Judge`](crate::Judge) is over once it has refused an event.
+        /// `docs/rules.md` of the repository has the rules.
         ///
         /// Its text says what it means and what to do:
         ///
@@ -192,6 +193,14 @@ refusals! {
     BadOperators = 70, "There are more than four operators. Take at most four.";
     BadBound = 71, "The bound is 0 or over 65,536. Take one of 1 to 65,536 phases.";
     BadTickets = 72, "There aren't as many tickets as events. Give one for each that `event_count` counts.";
+    NotMade = 80, "The event's phaser isn't made, or its last task has left it. Hand its `Make` over first.";
+    MadeAlready = 81, "The event makes a phaser that is there. Hand its last `Drop` over before you use its number again.";
+    RegisteredAlready = 82, "The event registers a task that is registered. Hand its `Drop` over first.";
+    HadToWait = 83, "The event came before those that the task had to wait for. See who was behind, or ran a single.";
+    ClaimsInstead = 84, "The task passed, but it had the single of its phase to run. See who ran the single, and when.";
+    PassesInstead = 85, "The task claimed a single, but its phase had none left to run. See whether the single ran twice.";
+    SawOther = 86, "The look saw another value than was sent to the phase before. See which send is lost or counted twice.";
+    Over = 87, "The judge refused an event before, and judges no more. Look at that event, and make a new judge.";
 }
 
 impl fmt::Display for Refusal {

@@ -1,5 +1,5 @@
-//! The checked core of Paldwosk, from Rust: phasers and barriers for threads that wait, a phaser for one thread at a time, and a
-//! checker of traces.
+//! The checked core of Paldwosk, from Rust: phasers and barriers for threads that wait, a phaser for one thread at a time, a
+//! checker of traces, and a judge of events.
 //!
 //! - [`Phaser`] and its [`Task`]s: a barrier whose set of tasks may change, with modes, a bound, accumulators and single
 //!   statements. Its calls wait, and it lives as long as its program. It may leave a trace.
@@ -7,6 +7,7 @@
 //! - [`Barrier`]: the same in the form of `std::sync::Barrier`.
 //! - [`PhaserState`]: a phaser for one thread at a time, which keeps its history; no call waits.
 //! - [`replay`] and [`events`]: the checker.
+//! - [`Judge`]: it says of the events of phasers, as they come, whether they can be. So a program judges itself while it runs.
 //!
 //! In the repository `docs/rules.md` has the rules, and `docs/barrier.md` what is asked of `malloc`.
 //!
@@ -34,6 +35,7 @@ mod bell;
 mod checker;
 mod folds;
 mod held;
+mod judge;
 mod level;
 mod members;
 mod phaser;
@@ -54,6 +56,7 @@ use paldwosk_sys as archive;
 pub use answers::{Look, Mode, Operator, Passing, Refusal, Signalling};
 pub use barrier::{Barrier, BarrierWaitResult};
 pub use checker::{events, replay, Refused};
+pub use judge::{Judge, JudgedEvent, Totals};
 pub use phaser::{Phaser, Task};
 pub use phaser_state::{Limits, PhaserState};
 pub use scope::{Scope, ScopedThread};

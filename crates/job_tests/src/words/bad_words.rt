@@ -140,6 +140,36 @@ fn bad_replays(rt: HostRuntime) -> Result<(), Fail> {
 }
 
 #[test]
+fn bad_every(rt: HostRuntime) -> Result<(), Fail> {
+    const EVERY: &str =
+        "error: N is a number of 1 to 18446744073709551615, or one with an s after it\n";
+    const ROWS: [Row; 15] = [
+        (&["phaser_run", "judge", "a", "--every=0"], EVERY),
+        (&["phaser_run", "judge", "a", "--every=0s"], EVERY),
+        (&["phaser_run", "judge", "a", "--every=s"], EVERY),
+        (&["phaser_run", "judge", "a", "--every="], EVERY),
+        (&["phaser_run", "judge", "a", "--every=5ss"], EVERY),
+        (&["phaser_run", "judge", "a", "--every=s5"], EVERY),
+        (&["phaser_run", "judge", "a", "--every=5 s"], EVERY),
+        (&["phaser_run", "judge", "a", "--every=5S"], EVERY),
+        (&["phaser_run", "judge", "a", "--every=5sec"], EVERY),
+        (&["phaser_run", "judge", "a", "--every=-5s"], EVERY),
+        (&["phaser_run", "judge", "a", "--every=+5s"], EVERY),
+        (&["phaser_run", "judge", "a", "--every=1.5s"], EVERY),
+        (&["phaser_run", "judge", "a", "--every=0x5"], EVERY),
+        (
+            &["phaser_run", "judge", "a", "--every=18446744073709551616"],
+            EVERY,
+        ),
+        (
+            &["phaser_run", "judge", "a", "--every=18446744073709551616s"],
+            EVERY,
+        ),
+    ];
+    all_bad(&rt, rt.alloc(), &ROWS)
+}
+
+#[test]
 fn bad_runs(rt: HostRuntime) -> Result<(), Fail> {
     const WORKERS: &str = "error: the workers are a number of 1 to 16\n";
     const ROWS: [Row; 14] = [
@@ -174,6 +204,69 @@ fn bad_runs(rt: HostRuntime) -> Result<(), Fail> {
         (
             &["phaser_run", "certify", "a", "--certain"],
             "unexpected argument '--certain'",
+        ),
+    ];
+    all_bad(&rt, rt.alloc(), ROWS.as_slice())
+}
+
+#[test]
+fn bad_lives(rt: HostRuntime) -> Result<(), Fail> {
+    const LIVE: &str = "error: --live keeps no events: leave --trace and --certain out\n";
+    const PROGRESS: &str = "error: --progress goes with --live\n";
+    const ROWS: [Row; 12] = [
+        (&["phaser_run", "run", "--live"], "<FILE>"),
+        (
+            &["phaser_run", "run", "a", "--live", "--live"],
+            "cannot be used multiple times",
+        ),
+        (
+            &["phaser_run", "run", "a", "--live=yes"],
+            "unexpected value 'yes'",
+        ),
+        (
+            &["phaser_run", "schedule", "a", "--live"],
+            "unexpected argument '--live'",
+        ),
+        (
+            &["phaser_run", "certify", "a", "--progress"],
+            "unexpected argument '--progress'",
+        ),
+        (&["phaser_run", "run", "a", "--live", "--trace", "t"], LIVE),
+        (&["phaser_run", "run", "--certain", "a", "--live"], LIVE),
+        (
+            &[
+                "phaser_run",
+                "run",
+                "a",
+                "--certain",
+                "--trace=t",
+                "--live",
+                "--progress",
+            ],
+            LIVE,
+        ),
+        (&["phaser_run", "run", "a", "--progress"], PROGRESS),
+        (
+            &["phaser_run", "run", "--progress", "--trace", "t", "a"],
+            PROGRESS,
+        ),
+        // Of several faults the first is named: first the workers, and then a flag.
+        (
+            &[
+                "phaser_run",
+                "run",
+                "a",
+                "--live",
+                "--trace",
+                "t",
+                "--workers",
+                "0",
+            ],
+            "error: the workers are a number of 1 to 16\n",
+        ),
+        (
+            &["phaser_run", "run", "a", "--progress", "--workers", "17"],
+            "error: the workers are a number of 1 to 16\n",
         ),
     ];
     all_bad(&rt, rt.alloc(), ROWS.as_slice())
@@ -248,8 +341,16 @@ fn bad_kernels(rt: HostRuntime) -> Result<(), Fail> {
 
 #[test]
 fn help(rt: HostRuntime) -> Result<(), Fail> {
-    const ROWS: [Row; 10] = [
+    const ROWS: [Row; 12] = [
         (&["phaser_run", "--help"], "Exit status: 0 done"),
+        (
+            &["phaser_run", "run", "--help"],
+            "Keeps no events: any number of tasks and phases, no trace, and the counts alone are printed",
+        ),
+        (
+            &["phaser_run", "run", "--help"],
+            "Says once a second on standard error how fast it goes",
+        ),
         (&["phaser_run", "run", "--help"], "--workers <N>"),
         (
             &["phaser_run", "run", "--help"],

@@ -16,7 +16,7 @@
 
 use core::ffi::c_void;
 
-/// What the library keeps of a phaser: a pointer, null while there is none.
+/// What the library keeps of a phaser or of a judge: a pointer, null while there is none.
 #[repr(C)]
 pub struct Handle {
     pub held: *mut c_void,
@@ -51,6 +51,39 @@ pub struct GivenSend {
     pub accumulator: u8,
 }
 
+/// `paldwosk_judged_event`: an event of a phaser, for a judge.
+#[repr(C)]
+#[derive(Clone, Copy)]
+pub struct GivenEvent {
+    pub phaser: u64,
+    pub task: u64,
+    pub child: u64,
+    pub seen: i64,
+    pub value: i32,
+    pub single: u32,
+    pub kind: u32,
+    pub mode: u32,
+    pub accumulator: u32,
+    pub bound: u32,
+    pub operator_count: u32,
+    pub operators: [u32; 4],
+}
+
+/// `paldwosk_judged_totals`: what a judge counted.
+#[repr(C)]
+#[derive(Clone, Copy)]
+pub struct GivenTotals {
+    pub events: u64,
+    pub made: u64,
+    pub there: u64,
+    pub registrations: u64,
+    pub signals: u64,
+    pub passes: u64,
+    pub drops: u64,
+    pub sends: u64,
+    pub over: u32,
+}
+
 /// `PALDWOSK_MOST_FREED`: how many tasks may wait at once, and be freed by one call.
 pub const MOST_FREED: usize = 256;
 
@@ -72,6 +105,10 @@ unsafe extern "C" {
         room: usize,
         written: &mut usize,
     ) -> u32;
+    pub fn phaser_c_judge_new(judge: &mut Handle) -> u32;
+    pub fn phaser_c_judge_free(judge: &mut Handle);
+    pub fn phaser_c_judge_event(judge: &mut Handle, event: &GivenEvent) -> u32;
+    pub fn phaser_c_judge_totals(judge: &mut Handle, totals: &mut GivenTotals) -> u32;
     pub fn phaser_c_new(
         phaser: &mut Handle,
         limits: &GivenLimits,

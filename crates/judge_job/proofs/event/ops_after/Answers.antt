@@ -1,4 +1,4 @@
-use Rattle.std.proofs.Common.{◌≡◌, ◌∷◌, [], None, Some, ap, subst, sym, ◌∙◌, rules, arith, length, length-append}
+use Rattle.std.proofs.Common.{◌≡◌, ◌∷◌, [], None, Some, ap, ◌∙◌, rules, arith, length, length-append}
 use Rattle.json.specs.Json.{after_end_array}
 use Rattle.judge_job.specs.Fronts.{op_front}
 use Rattle.judge_job.proofs.Operators.{one_more}

@@ -1,4 +1,4 @@
-use Rattle.std.proofs.Common.{◌≡◌, ◌<◌, length, true, sym, rules, arith}
+use Rattle.std.proofs.Common.{◌≡◌, ◌<◌, length, true, rules}
 use Rattle.std.specs.Io.BufRead.{strip_last}
 use Rattle.judge_job.specs.Forms.{is_header}
 use Rattle.judge_job.proofs.Following.{goes_on_header, header_refused}
@@ -11,5 +11,7 @@ returns-in-Ok-true-clause-taken g c =
     let is : is_header (strip_last 10 line) ≡ true = search rules in
     goes_on_header _ _ line (search rules) some is
 
-pub returns-in-Err-clause-stop : goal.returns-in-Err-clause-stop
-returns-in-Err-clause-stop g c = header_refused _ _ c.in-Err.ensures.stop
+pub returns-in_err-next-clause-stop : goal.returns-in_err-next-clause-stop
+returns-in_err-next-clause-stop g c =
+    let stop = header_refused _ _ c.in_err-next.ensures.stop in
+    search (rules, stop)

@@ -1,7 +1,7 @@
-use Rattle.std.proofs.Common.{◌≡◌, ◌≢◌, ◌++◌, All, Ok, true, length, drop, sym, subst, rules, arith}
+use Rattle.std.proofs.Common.{◌≡◌, ◌≢◌, All, Ok, true, sym, subst, rules}
 use Rattle.std.specs.Io.KnownBytes.{Consumes}
 use Rattle.std.proofs.lemmas.List.Elements.{All-append}
-use Rattle.std.proofs.KnownBytes.{starts_with_rest, Consumes-nil, Consumes-trans}
+use Rattle.std.proofs.KnownBytes.{starts_with_rest, Consumes-trans}
 use Rattle.judge_job.proofs.Taking.{takes_parts, long_line_known}
 use Rattle.judge_job.proofs.lines.take_line.Goals as goal
 

@@ -1,7 +1,7 @@
 use Rattle.std.proofs.Common.{◌≡◌, true, false, subst}
 use Rattle.phaser_judge.specs.Standings.{may_come}
 use Rattle.phaser_judge.proofs.Lives.{next_legal, refused_illegal}
-use Rattle.phaser_judge.proofs.judge.Judge.event.Goals as goal
+use Rattle.phaser_judge.proofs.judge.Judge.event_with_owing.Goals as goal
 
 pub returns-in-Ok-clause-legal : goal.returns-in-Ok-clause-legal
 returns-in-Ok-clause-legal c =
