@@ -1,10 +1,13 @@
 """The cases of tests/runtimes for C, OpenMP and C++."""
 import os
 import shutil
+import signal
 import subprocess
 
+from runtimes_live import kinds, long_example, long_runs
 from runtimes_runs import PROGRAMS, RUNTIMES, again, as_right, as_wrong, full, is_built, lacking, ran, stopped, turning
 
+NOW = '        if (write(1, "now\\n", 4) == 4)\n            sleep(5);\n'  # what an example does after its early pass
 WARN = ["-O1", "-g", "-Wall", "-Wextra", "-Werror"]
 INCLUDE = ["-I", PROGRAMS, "-I", RUNTIMES]
 
@@ -31,6 +34,17 @@ def pthreads(folder, times, judge):
     yield from again(judge, folder, times, program, ["still_turning", "still_waiting"], as_right, traces=1)
     yield from stopped(judge, folder, times, program)
     yield from again(judge, folder, max(1, times // 2), faulty, ["late", "late_and_ends"], lambda run: as_wrong(run))
+    source, program_of_three = long_example(folder / "live", "three_threads.c", "sem_wait(&passed);\n", NOW), folder / "three"
+    yield "live, built", "" if is_built("cc", "-std=gnu11", "-pthread", *WARN, source, "-o", program_of_three) else "cc failed"
+    yield from long_runs(judge, folder, [program_of_three], 3)
+    live = lambda *names, **how: kinds(judge, folder, [program], names, **how)
+    yield from live("joined", "main_leaves", "come_and_go", "two_pools", "forks", "destroyed_at_once", says="")
+    yield from live("still_turning", "still_waiting")
+    yield from live("own_handler", status=7)
+    yield from live("too_many", says="its log ends: more threads than parties")
+    yield from live("hang", status=-signal.SIGTERM, stop_after=0.5, says="wait in phase 0: 1 2; missing: 3 (nobody yet)")
+    yield from live("turning_for_ever", status=-signal.SIGTERM, stop_after=0.5)
+    yield from kinds(judge, folder, [faulty], ["late", "late_and_ends"], is_wrong=True)
 
 
 def openmp(folder, times, judge):
@@ -54,6 +68,12 @@ def openmp(folder, times, judge):
     yield from again(judge, folder, times, program, ["exit_within"], as_right, traces=1)
     yield from turning(judge, folder, times, program)
     yield from again(judge, folder, max(1, times // 2), faulty, ["late"], lambda run: as_wrong(run))
+    source, program_of_three = long_example(folder / "live", "three_threads_omp.c", "sched_yield();\n", NOW), folder / "three"
+    yield "live, built", "" if is_built(*build, source, "-o", program_of_three) else "cc failed"
+    # By itself its threads spin while they wait. On a busy machine a turn then takes milliseconds, without a drop-in too.
+    yield from long_runs(judge, folder, ["env", "OMP_WAIT_POLICY=passive", program_of_three], 0)
+    yield from kinds(judge, folder, [program], ["regions", "nested", "exit_within"])
+    yield from kinds(judge, folder, [faulty], ["late"], is_wrong=True)
 
 
 def cplusplus(folder, times, judge):
@@ -85,6 +105,12 @@ def cplusplus(folder, times, judge):
     yield from again(judge, folder, times, program, ["still_turning"], as_right, traces=1)
     yield from turning(judge, folder, times, program)
     yield from again(judge, folder, max(1, times // 2), faulty, ["late"], lambda run: as_wrong(run))
+    source, program_of_three = long_example(folder / "live", "three_threads.cpp", "passed.acquire();\n", NOW), folder / "three"
+    words = ["c++", "-pthread", "-std=c++20", *WARN, source, "-o", program_of_three]
+    yield "live, built", "" if is_built(*words) else "c++ failed"
+    yield from long_runs(judge, folder, [program_of_three], 3)
+    yield from kinds(judge, folder, [program], ["joined", "split", "producer", "dropping", "many", "still_turning"])
+    yield from kinds(judge, folder, [faulty], ["late"], is_wrong=True)
 
 
 def cases(folder, times, judge):

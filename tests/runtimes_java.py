@@ -7,6 +7,7 @@ import subprocess
 import time
 
 from running import TOP, Missing, each, gave
+from runtimes_live import kinds, long_example, long_runs
 
 HERE = pathlib.Path(__file__).resolve().parent / "runtimes_programs"
 DROPIN = TOP / "examples/runtimes/TracedPhaser.java"
@@ -127,6 +128,18 @@ def cases(folder, times, judge):
     yield "in a package", compiled(packaged, planted, folder / "User.java")
     told = gave(SECONDS, "java", *FLAGS, "-cp", packaged, "User", cwd=folder)
     yield "run from a package", fault_of(told, folder / "trace.json", judge)
+    now = ' System.out.println("now"); Thread.sleep(5000);'
+    source, live = long_example(folder / "live", "ThreeThreads.java", "othersPassed.await();", now), folder / "live_classes"
+    yield "live, compiled", compiled(live, source, DROPIN)
+    yield from long_runs(judge, folder, ["java", *FLAGS, "-cp", live, "ThreeThreads"], 0)
+    words = ["java", *FLAGS, "-cp", classes, "Kinds"]
+    yield from kinds(judge, folder, words, [kind for kind in WHOLE if kind != "force"], says="")
+    yield from kinds(judge, folder, words, [*RUNNING, "force", "many", "twoPools"])
+    yield from kinds(judge, folder, words, ["crowded"], says="it can't tell this: more than 256 parties at once")
+    yield from kinds(judge, folder, words, ["hang"], status=143, stop_after=2, says="in phase 2 first, second wait; third didn't arrive")
+    for fault in FAULTS:
+        words = ["java", *FLAGS, "-Dfault=" + fault, "-cp", faulty, "Kinds"]
+        yield from kinds(judge, folder, words, ["faulty"], is_wrong=True)
 
 
 def once(folder, classes, judge, kind, said):

@@ -8,6 +8,7 @@ import sys
 import time
 
 from running import each, gave
+from runtimes_live import kinds, long_example, long_runs
 
 KINDS = pathlib.Path(__file__).resolve().parent / "runtimes_programs/kinds.py"
 SECONDS = 60  # that one run may take
@@ -93,3 +94,13 @@ def cases(folder, times, judge):
         file.write_text('{"events":[],"version":2}')
     ran("leave", old[0])
     yield "yesterday's traces", "".join(str(file) for file in old if file.exists())
+    now = '\n        print("now", flush=True)\n        __import__("time").sleep(5)'
+    source = long_example(folder / "live", "three_threads.py", "passed.acquire()", now)
+    yield from long_runs(judge, folder, [sys.executable, source], 0)
+    words = [sys.executable, KINDS]
+    yield from kinds(judge, folder, words, ["short_threads", "action", "two_pools"], says="")
+    yield from kinds(judge, folder, words, [*RUNNING, "reset_at_will"])
+    yield from kinds(judge, folder, words, ["action_throws", "timeout", "abort", "reset", "no_parties"], says="given up or broken")
+    yield from kinds(judge, folder, words, ["hang"], status=-signal.SIGTERM, stop_after=1, says="in phase 2 first, second wait; third")
+    for fault in FAULTS:
+        yield from kinds(judge, folder, words, ["faulty"], ["--fault", fault], is_wrong=True)

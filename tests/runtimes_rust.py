@@ -1,6 +1,8 @@
 """The cases of tests/runtimes for Rust."""
 import shutil
+import signal
 
+from runtimes_live import kinds, long_example, long_runs
 from runtimes_runs import PROGRAMS, RUNTIMES, again, as_right, as_wrong, full, is_built, lacking, ran, stopped
 
 
@@ -37,3 +39,14 @@ def cases(folder, times, judge):
     yield from again(judge, folder, times, program, ["too_many"], as_right)
     yield from stopped(judge, folder, times, program)
     yield from again(judge, folder, max(1, times // 2), faulty, ["late", "late_and_exits"], lambda run: as_wrong(run))
+    now = '        println!("now");\n        thread::sleep(std::time::Duration::from_secs(5));\n'
+    source, three = long_example(folder / "live", "three_threads.rs", "thread::yield_now();\n        }\n", now), folder / "three"
+    yield "live, built", "" if is_built("rustc", "-C", "opt-level=1", "--edition", "2021", "-o", three, source) else "rustc failed"
+    yield from long_runs(judge, folder, [three], 3)
+    live = lambda *names, **how: kinds(judge, folder, [program], names, **how)
+    yield from live("joined", "of_none", "in_a_static", "come_and_go", says="")
+    yield from live("exits", status=7)
+    yield from live("still_turning", "still_waiting")
+    yield from live("too_many", says="its log ends: more threads than parties")
+    yield from live("hang", status=-signal.SIGTERM, stop_after=0.5, says="wait in phase 0: 1 2; missing: 3 (nobody yet)")
+    yield from kinds(judge, folder, [faulty], ["late", "late_and_exits"], is_wrong=True)

@@ -1,10 +1,10 @@
-import java.io.IOException;
-import java.io.InputStream;
-import java.io.PrintWriter;
+import java.io.*;
+import java.lang.ref.Cleaner;
+import java.nio.charset.StandardCharsets;
 import java.nio.file.*;
 import java.util.*;
 import java.util.concurrent.*;
-import java.util.concurrent.atomic.AtomicInteger;
+import java.util.concurrent.atomic.*;
 
 /**
  * A phaser of {@code java.util.concurrent} that leaves a trace of its run: write {@code new TracedPhaser(3)} for
@@ -15,6 +15,10 @@ import java.util.concurrent.atomic.AtomicInteger;
  * trace is made of these lists when it is written. An arrival stands where its call was begun, and a pass where its wait
  * was over: so an arrival never stands after a pass that it let go. What a trace can't tell is said on standard error,
  * and the trace then ends in an event that a replay refuses.
+ *
+ * <p>If {@code PHASER_TRACE} is fd:N, or names a pipe, or ends in .jsonl, the log is written line by line as it comes, for
+ * {@code phaser_run judge}: all phasers in one log, of any length. So a run is judged while it goes on:
+ * {@code mkfifo log; phaser_run judge log & PHASER_TRACE=log java Program}. See {@link Lines}.
  */
 public class TracedPhaser extends Phaser {
     private static final int MOST_EVENTS = 65_536; // on a phaser of a trace
@@ -30,13 +34,15 @@ public class TracedPhaser extends Phaser {
     private static final String AFTER = System.getenv("PHASER_TRACE_AFTER"); // seconds
     private static final List<TracedPhaser> TRACED = new ArrayList<>(); // this and the next: under the lock of the list
     private static int untraced; // how many phasers came after the most
+    private static final Lines LINES = Lines.asked(); // null where traces are written whole
 
     private enum Kind {
-        NEXT, ARRIVE, LEAVE, REGISTER, AWAIT, END;
+        NEXT, ARRIVE, LEAVE, REGISTER, AWAIT, END, CLOSE; // the last is of lines alone
 
         static final Kind[] ALL = values();
     }
 
+    private final Parties lined; // as the log by lines tells it; null where there is none
     private final int atFirst; // the parties that it was made with
     private final AtomicInteger tickets = new AtomicInteger();
     private final ThreadLocal<Log> own = new ThreadLocal<>();
@@ -51,6 +57,10 @@ public class TracedPhaser extends Phaser {
     public TracedPhaser(int parties) {
         super(parties);
         atFirst = parties;
+        lined = LINES == null ? null : LINES.made(this, parties);
+        if (lined != null) {
+            return;
+        }
         synchronized (TRACED) {
             if (TRACED.isEmpty()) {
                 prepare();
@@ -102,12 +112,12 @@ public class TracedPhaser extends Phaser {
     @Override
     public int awaitAdvanceInterruptibly(int phase, long timeout, TimeUnit unit)
             throws InterruptedException, TimeoutException {
-        Log log = begun(Kind.AWAIT, phase);
+        Begun begun = begun(Kind.AWAIT, phase);
         long answer = THREW;
         try {
             return (int) (answer = super.awaitAdvanceInterruptibly(phase, timeout, unit));
         } finally {
-            over(log, answer);
+            begun.over(answer);
         }
     }
 
@@ -116,19 +126,27 @@ public class TracedPhaser extends Phaser {
     }
 
     private <E extends Exception> int logged(Kind kind, int value, Real<E> real) throws E {
-        Log log = begun(kind, value);
+        Begun begun = begun(kind, value);
         long answer = THREW;
         try {
             return (int) (answer = real.call());
         } finally {
-            over(log, answer);
+            begun.over(answer);
         }
     }
 
-    /** What the thread logs to, if anything. The value is a phase, negative once the phaser is terminated, or parties. */
-    private Log begun(Kind kind, int value) {
+    /** A call that was logged when it began, if at all, and is to be when it is over. */
+    private interface Begun {
+        void over(long answer);
+    }
+
+    /** Logs that a call begins. The value is a phase, negative once the phaser is terminated, or parties. */
+    private Begun begun(Kind kind, int value) {
         if (isFull || value < 0) {
-            return null;
+            return answer -> { };
+        }
+        if (lined != null) {
+            return lined.begun(kind, value);
         }
         Log log = own.get();
         if (log == null) {
@@ -136,17 +154,11 @@ public class TracedPhaser extends Phaser {
             own.set(log);
             logs.add(log);
         }
-        return log.add(kind, value) ? log : null;
-    }
-
-    private static void over(Log log, long answer) {
-        if (log != null) {
-            log.add(Kind.END, answer);
-        }
+        return log.add(kind, value) ? log : answer -> { };
     }
 
     /** What a thread did: pairs of a ticket with a kind, and a value. The thread alone adds to it. */
-    private final class Log {
+    private final class Log implements Begun {
         final Thread thread = Thread.currentThread();
         final AtomicInteger length = new AtomicInteger();
         volatile int dead = NEVER; // the thread was seen dead before this ticket was drawn
@@ -160,6 +172,11 @@ public class TracedPhaser extends Phaser {
                 alive.removeIf(other -> other.dead != NEVER);
                 alive.add(this);
             }
+        }
+
+        @Override
+        public void over(long answer) {
+            add(Kind.END, answer);
         }
 
         boolean add(Kind kind, long value) {
@@ -535,6 +552,414 @@ public class TracedPhaser extends Phaser {
         }
     }
 
+    /**
+     * The log line by line. An entry is put into a ring by ticket: an arrival before its call, and what a call answered
+     * after it. A thread of its own empties the ring in order, and tells the entries as events. If the ring is full the
+     * program waits for the reader; if the reader is gone it goes on without a log.
+     */
+    private static final class Lines {
+        static final int SLOTS = 65_536;
+        static final int PIECE = 4_096; // bytes that a pipe takes at once: so a line is never cut
+        static final int PATIENCE = 10_000; // milliseconds
+        static final Cleaner CLEANER = Cleaner.create();
+
+        final OutputStream out;
+        final StringBuilder text = new StringBuilder("{\"version\":2}\n");
+        final AtomicReferenceArray<Entry> slots = new AtomicReferenceArray<>(SLOTS);
+        final AtomicLong drawn = new AtomicLong();
+        final AtomicLong phasers = new AtomicLong();
+        final Set<Parties> there = new LinkedHashSet<>(); // the writer's, as the next is
+        long written; // lines, which their tickets count
+        volatile long told; // how many slots were emptied
+        volatile boolean isOn = true;
+        volatile boolean isEnding;
+        volatile boolean saysWho;
+
+        Lines(OutputStream out) {
+            this.out = out;
+            Thread writer = new Thread(this::write, "TracedPhaser");
+            writer.setDaemon(true);
+            writer.start();
+        }
+
+        /** The log, if the name asks for one by lines. One that can't be written is off. */
+        static Lines asked() {
+            boolean isNumber = NAME.matches("fd:[0-9]+");
+            if (!isNumber && !NAME.endsWith(".jsonl") && !isPipe()) {
+                return null;
+            }
+            OutputStream out = OutputStream.nullOutputStream();
+            IOException failed = null;
+            try {
+                out = NAME.equals("fd:1") ? new FileOutputStream(FileDescriptor.out)
+                    : isNumber ? new FileOutputStream("/dev/fd/" + NAME.substring(3), true) : new FileOutputStream(NAME);
+            } catch (IOException fault) {
+                failed = fault;
+            }
+            Lines lines = new Lines(out);
+            if (failed != null) {
+                lines.isOn = false;
+                say(NAME, "the log can't be written: " + failed.getMessage());
+            }
+            Runtime.getRuntime().addShutdownHook(new Thread(lines::end));
+            sayLater(() -> lines.saysWho = true);
+            return lines;
+        }
+
+        static boolean isPipe() {
+            try {
+                return ((int) Files.getAttribute(Paths.get(NAME), "unix:mode") & 0170000) == 0010000;
+            } catch (IOException | RuntimeException none) {
+                return false;
+            }
+        }
+
+        Parties made(TracedPhaser phaser, int number) {
+            Parties parties = new Parties(this);
+            parties.draw(new Entry(parties, Kind.REGISTER, number, null));
+            CLEANER.register(phaser, () -> parties.draw(new Entry(parties, Kind.CLOSE, 0, null)));
+            return parties;
+        }
+
+        void draw(Entry entry) {
+            if (isOn) {
+                long ticket = drawn.getAndIncrement();
+                if (ticket - told < SLOTS || hasRoom(ticket)) {
+                    slots.set((int) (ticket % SLOTS), entry);
+                }
+            }
+        }
+
+        /** Waits until the ring has room for the ticket. An interrupt is kept for the program. */
+        boolean hasRoom(long ticket) {
+            boolean isInterrupted = false;
+            while (isOn && ticket - told >= SLOTS) {
+                isInterrupted |= !sleeps(1);
+            }
+            if (isInterrupted) {
+                Thread.currentThread().interrupt();
+            }
+            return isOn;
+        }
+
+        static boolean sleeps(int milliseconds) {
+            try {
+                Thread.sleep(milliseconds);
+                return true;
+            } catch (InterruptedException fault) {
+                return false;
+            }
+        }
+
+        /** What the writer does: it empties the ring each some milliseconds, until the end of the program, or of the log. */
+        void write() {
+            String why = null;
+            long end = Long.MAX_VALUE; // what was drawn when the program ended
+            int pause = 1;
+            int open = 0; // milliseconds for which a slot that was drawn wasn't filled
+            try {
+                while (isOn && why == null && told < end) {
+                    end = isEnding ? Math.min(end, drawn.get()) : end;
+                    boolean asksWho = saysWho;
+                    long before = drawn.get();
+                    boolean wrote = empty();
+                    pause = wrote ? 1 : Math.min(2 * pause, 16);
+                    open = wrote || before <= told ? 0 : open + pause;
+                    why = open > PATIENCE ? "a thread was stopped while it logged" : null;
+                    if (asksWho && Math.min(before, end) <= told) {
+                        saysWho = false;
+                        there.forEach(Parties::sayWho);
+                    }
+                    if (told < end) {
+                        sleeps(pause);
+                    }
+                }
+                out.close();
+            } catch (IOException fault) {
+                why = "Broken pipe".equals(fault.getMessage()) ? "its reader is gone" : fault.getMessage();
+            } catch (RuntimeException | Error fault) {
+                why = fault.toString();
+            }
+            isOn = false;
+            say(NAME, why == null ? null : "the log ends: " + why);
+        }
+
+        /** Writes what stands in the ring, up to the first slot that isn't filled. Whether it was anything. */
+        boolean empty() throws IOException {
+            long first = told;
+            long next = first;
+            Entry entry;
+            while ((entry = slots.get((int) (next % SLOTS))) != null) {
+                slots.set((int) (next % SLOTS), null);
+                entry.parties.tell(entry);
+                next++;
+                if (next % 1024 == 0) {
+                    told = next;
+                }
+            }
+            flush();
+            told = next;
+            return next != first;
+        }
+
+        void line(long phaser, String event) throws IOException {
+            String line = "[" + ++written + ",\"p\"," + phaser + "," + event + "]\n";
+            if (text.length() + line.length() > PIECE) {
+                flush();
+            }
+            text.append(line);
+        }
+
+        void flush() throws IOException {
+            if (text.length() > 0) {
+                out.write(text.toString().getBytes(StandardCharsets.US_ASCII));
+                text.setLength(0);
+            }
+        }
+
+        /** Has all written that was drawn, unless the reader takes nothing for a long time. */
+        void end() {
+            saysWho = true;
+            isEnding = true;
+            long before = told;
+            for (int waits = 0; isOn && waits < PATIENCE; waits++) {
+                sleeps(1);
+                waits = told == before ? waits : 0;
+                before = told;
+            }
+        }
+    }
+
+    private static final class Entry implements Begun {
+        final Parties parties;
+        final Kind kind;
+        final int value; // a phase; of a registration how many parties
+        final Entry of; // of an end the arrival
+        final Thread thread = Thread.currentThread();
+        int phase; // of a registration
+        Party party; // as which it arrived
+
+        Entry(Parties parties, Kind kind, int value, Entry of) {
+            this.parties = parties;
+            this.kind = kind;
+            this.value = value;
+            this.of = of;
+        }
+
+        /** Of a registration or a wait alone something is told when it is over: that it is. */
+        @Override
+        public void over(long answer) {
+            int number = (int) answer & Integer.MAX_VALUE; // that of a phase; without the sign that it is terminated
+            if (answer == THREW) {
+                return;
+            }
+            if (kind == Kind.REGISTER && answer >= 0) {
+                phase = number;
+                parties.lines.draw(this);
+            } else if (kind == Kind.NEXT && Party.apart(number, value) > 0) {
+                parties.lines.draw(new Entry(parties, Kind.END, value, this));
+            } else if (kind == Kind.AWAIT && Party.apart(number, value) > 0) {
+                parties.lines.draw(this);
+            }
+        }
+    }
+
+    /** A task of a log by lines. Numbers of phases begin again after the greatest. */
+    private static final class Party {
+        final long number;
+        int arrives; // in this phase next
+        int passes; // this phase next
+        boolean isAhead; // the line of its next arrival is there already
+        boolean waits;
+        boolean isHere = true;
+        Thread owner; // that came as it last
+
+        Party(long number, int phase) {
+            this.number = number;
+            this.arrives = phase;
+            this.passes = phase;
+        }
+
+        /** It signals this phase next. */
+        int signals() {
+            return isAhead ? after(arrives) : arrives;
+        }
+
+        static int apart(int later, int earlier) {
+            return later - earlier << 1 >> 1;
+        }
+
+        static int after(int phase) {
+            return phase + 1 & Integer.MAX_VALUE;
+        }
+    }
+
+    /** The parties of a phaser as its lines tell them. The writer alone uses them. */
+    private static final class Parties {
+        final Lines lines;
+        final long phaser;
+        final List<Party> here = new ArrayList<>();
+        long tasks;
+        boolean isTold = true;
+
+        Parties(Lines lines) {
+            this.lines = lines;
+            this.phaser = lines.phasers.getAndIncrement();
+        }
+
+        void draw(Entry entry) {
+            lines.draw(entry);
+        }
+
+        Begun begun(Kind kind, int value) {
+            Entry entry = new Entry(this, kind, value, null);
+            if (kind == Kind.NEXT || kind == Kind.ARRIVE || kind == Kind.LEAVE) {
+                lines.draw(entry);
+            }
+            return entry;
+        }
+
+        void tell(Entry entry) throws IOException {
+            if (entry.kind == Kind.CLOSE) {
+                close();
+            } else if (!isTold) {
+                return;
+            } else if (entry.kind == Kind.REGISTER) {
+                lines.there.add(this);
+                for (int count = 0; count < entry.value && isTold; count++) {
+                    register(entry.phase);
+                }
+            } else if (entry.kind == Kind.AWAIT) {
+                watch(entry.value, entry.thread);
+            } else if (entry.kind == Kind.END) {
+                passUpTo(entry.value, entry.of.party);
+            } else {
+                arrive(entry);
+            }
+        }
+
+        void line(String what, Party party, String more) throws IOException {
+            lines.line(phaser, "\"" + what + "\"," + party.number + more);
+        }
+
+        /** By the party that has signalled least. If all have signalled this phase, so has the child: it gets no line of its own. */
+        void register(int phase) throws IOException {
+            if (here.size() == MOST_AT_ONCE) {
+                giveUp("more than 256 parties at once");
+                return;
+            }
+            Party child = new Party(++tasks, phase);
+            if (here.isEmpty()) {
+                line("make", child, ",\"SIG_WAIT\",[],null");
+            } else {
+                Party parent = Collections.min(here, Comparator.comparingInt(party -> Party.apart(party.signals(), phase)));
+                passUpTo(phase - 1, parent);
+                line("reg", parent, "," + child.number + ",\"SIG_WAIT\"");
+                child.isAhead = parent.signals() != phase;
+            }
+            here.add(child);
+        }
+
+        /** The thread's own party arrives, else one that no thread came as, else another's: each that still has to. */
+        void arrive(Entry entry) throws IOException {
+            Party chosen = null;
+            for (Party party : here) {
+                if (party.arrives == entry.value && (chosen == null || misfit(party, entry) < misfit(chosen, entry))) {
+                    chosen = party;
+                }
+            }
+            if (here.isEmpty()) {
+                return; // the call throws
+            }
+            if (chosen == null) {
+                watch(entry.value - 1, null); // the phase before is over: who hasn't arrived there is named by this
+                giveUp(entry.thread.getName() + " arrived in phase " + entry.value + ", where it had no party");
+                return;
+            }
+            passUpTo(entry.value - 1, chosen);
+            if (!chosen.isAhead) {
+                line("sig", chosen, "");
+            }
+            chosen.isAhead = false;
+            chosen.arrives = Party.after(entry.value);
+            chosen.owner = entry.thread;
+            chosen.waits = entry.kind == Kind.NEXT;
+            entry.party = chosen;
+            if (entry.kind == Kind.LEAVE) {
+                drop(chosen);
+                here.remove(chosen);
+            }
+        }
+
+        static int misfit(Party party, Entry entry) {
+            return party.owner == entry.thread ? 0 : party.owner == null ? 1 : 2;
+        }
+
+        void passUpTo(int phase, Party party) throws IOException {
+            while (party != null && party.isHere && Party.apart(phase, party.passes) >= 0) {
+                line("pass", party, "");
+                party.passes = Party.after(party.passes);
+                party.waits = false;
+            }
+        }
+
+        /** A phase was over. If it wasn't the thread's own party that waited, a task that only waits comes, passes and goes. */
+        void watch(int phase, Thread thread) throws IOException {
+            for (Party party : here) {
+                if (party.owner == thread && party.arrives == Party.after(phase)) {
+                    passUpTo(phase, party);
+                    return;
+                }
+            }
+            Party last = here.stream().min(Comparator.comparingInt(party -> Party.apart(party.passes, phase))).orElse(null);
+            if (last != null && Party.apart(phase, last.passes) >= 0 && here.size() < MOST_AT_ONCE) {
+                Party watcher = new Party(++tasks, last.passes);
+                line("reg", last, "," + watcher.number + ",\"WAIT\"");
+                passUpTo(phase, watcher);
+                drop(watcher);
+            }
+        }
+
+        void drop(Party party) throws IOException {
+            line("drop", party, "");
+            party.isHere = false;
+        }
+
+        /** The phaser is gone. */
+        void close() throws IOException {
+            for (Party party : here) {
+                drop(party);
+            }
+            here.clear();
+            lines.there.remove(this);
+        }
+
+        void giveUp(String why) {
+            isTold = false;
+            here.clear();
+            say(NAME, "the log of phaser " + phaser + " ends, since it can't tell this: " + why);
+        }
+
+        /** Says who waits in which phase, and who is missing there; nothing if nobody is. */
+        void sayWho() {
+            TreeSet<String> waiting = new TreeSet<>();
+            TreeSet<String> missing = new TreeSet<>();
+            Party last = here.isEmpty() ? null : Collections.min(here, (one, other) -> Party.apart(one.arrives, other.arrives));
+            for (Party party : here) {
+                String name = party.owner == null ? "a party that no thread came as" : party.owner.getName();
+                if (party.arrives == last.arrives) {
+                    missing.add(name);
+                } else if (party.waits) {
+                    waiting.add(name);
+                }
+            }
+            if (!waiting.isEmpty()) {
+                say(NAME, "phaser " + phaser + ": in phase " + last.arrives + " " + String.join(", ", waiting) + " wait"
+                    + (waiting.size() == 1 ? "s; " : "; ") + String.join(", ", missing) + " didn't arrive");
+            }
+        }
+    }
+
     private static void say(String name, String what) {
         if (what != null) {
             System.err.println("TracedPhaser: " + name + ": " + what);
@@ -562,12 +987,21 @@ public class TracedPhaser extends Phaser {
         }
         try {
             Runtime.getRuntime().addShutdownHook(new Thread(TracedPhaser::writeAll));
+        } catch (IllegalStateException fault) {
+            say(NAME, "it isn't written: " + fault);
+        }
+        sayLater(TracedPhaser::writeAll);
+    }
+
+    /** Has this done after the seconds of PHASER_TRACE_AFTER. */
+    private static void sayLater(Runnable say) {
+        try {
             if (AFTER != null) {
                 long milliseconds = (long) (1000 * Double.parseDouble(AFTER));
                 Thread watch = new Thread(() -> {
                     try {
                         Thread.sleep(milliseconds);
-                        writeAll();
+                        say.run();
                     } catch (InterruptedException fault) {
                         say(NAME, "nothing is written after " + AFTER + " seconds: " + fault);
                     }
@@ -575,8 +1009,8 @@ public class TracedPhaser extends Phaser {
                 watch.setDaemon(true);
                 watch.start();
             }
-        } catch (IllegalStateException | NumberFormatException fault) {
-            say(NAME, "it isn't written, or not after the seconds of PHASER_TRACE_AFTER: " + fault);
+        } catch (NumberFormatException fault) {
+            say(NAME, "nothing is written after the seconds of PHASER_TRACE_AFTER: " + fault);
         }
     }
 

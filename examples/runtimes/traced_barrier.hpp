@@ -1,8 +1,8 @@
 /* A std::barrier of C++20 that leaves a trace of its run: write traced_barrier for std::barrier. The trace is written when
    the barrier is destroyed, and else as traced_barrier.h has it, which has to stand beside this file.
 
-   A party is a task: one that only arrives is a SIG task, each other one a SIG_WAIT task. What a completion function does
-   isn't in the trace. */
+   A party is a task: one that only arrives is a SIG task, each other one a SIG_WAIT task. In a log by lines, where nobody
+   knows what is still to come, all are SIG_WAIT tasks. What a completion function does isn't in the trace. */
 #ifndef TRACED_BARRIER_HPP
 #define TRACED_BARRIER_HPP
 
@@ -25,8 +25,8 @@ class traced_barrier {
     class arrival_token {
         friend traced_barrier;
         typename real_barrier::arrival_token real;
-        uint32_t arrival;
-        arrival_token(typename real_barrier::arrival_token &&token, uint32_t at) : real(std::move(token)), arrival(at) {}
+        uint64_t arrival;
+        arrival_token(typename real_barrier::arrival_token &&token, uint64_t at) : real(std::move(token)), arrival(at) {}
     };
 
     static constexpr std::ptrdiff_t max() noexcept { return real_barrier::max(); }
@@ -43,20 +43,20 @@ class traced_barrier {
     ~traced_barrier() { traced_close(log); }
 
     [[nodiscard]] arrival_token arrive(std::ptrdiff_t count = 1) {
-        uint32_t arrival = 0;
+        uint64_t arrival = 0;
         for (std::ptrdiff_t at = 0; at < count; at++)
             arrival = traced_draw(log, TRACED_SIGNAL, traced_who(), 0);
         return arrival_token(real.arrive(count), arrival);
     }
 
     void wait(arrival_token &&token) const {
-        uint32_t arrival = token.arrival;
+        uint64_t arrival = token.arrival;
         real.wait(std::move(token.real));
         traced_draw(log, TRACED_PASS, arrival, 0);
     }
 
     void arrive_and_wait() {
-        uint32_t arrival = traced_draw(log, TRACED_ARRIVE, traced_who(), 1);
+        uint64_t arrival = traced_draw(log, TRACED_ARRIVE, traced_who(), 1);
         real.arrive_and_wait();
         traced_draw(log, TRACED_PASS, arrival, -1);
     }
