@@ -9,7 +9,10 @@ HELP = TOP / "tools/help.txt"  # what the built program prints on --help, and af
 
 # By command, its words and what it does.
 COMMANDS = {
-    "run": ("FILE [--workers N] [--trace OUT] [--certain]", "runs a program on threads, and prints its report"),
+    "run": (
+        "FILE [--workers N] [--trace OUT] [--certain] [--live] [--progress]",
+        "runs a program on threads, and prints its report",
+    ),
     "schedule": ("FILE [--picks LIST] [--trace OUT]", "runs a program without threads, the same each time"),
     "replay": ("FILE [--upgrade OUT]", "replays a trace, and prints its report"),
     "certify": ("FILE", "says what each run of a program comes to, where one run tells it"),
@@ -27,8 +30,11 @@ VALUES = {
     "stages": (1, 1, 15, "K is a number of 1 to 15"),
     "items": (1, 0, 100, "the items are a number of 0 to 100"),
     "workers": (1, 1, 16, "the workers are a number of 1 to 16"),
-    "every": (1, 1, 18446744073709551615, "N is a number of 1 to 18446744073709551615"),
+    "every": (1, 1, 18446744073709551615, "N is a number of 1 to 18446744073709551615, or one with an s after it"),
 }
+# Flags of run that don't go with the words beside them, and what is said of them.
+LIVE = "--live keeps no events: leave --trace and --certain out"
+PROGRESS = "--progress goes with --live"
 UNBUILT = """\
 phaser_run isn't built from these sources yet, and this help doesn't build it. Once built it prints this:
 
@@ -143,9 +149,18 @@ def look_at_values(command, values):
         if option not in values or option not in VALUES:
             continue
         most, least, greatest, wanted = VALUES[option]
-        pieces = values[option].split(",")
+        value = values[option].removesuffix("s") if option == "every" else values[option]
+        pieces = value.split(",")
         if len(pieces) > most or not all(is_number(it, least, greatest) for it in pieces):
             raise NoJob("error: %s\n" % wanted)
+
+
+def look_at_flags(values):
+    """Stops at a flag of run that doesn't go with the other words."""
+    if "live" in values and ("trace" in values or "certain" in values):
+        raise NoJob("error: %s\n" % LIVE)
+    if "progress" in values and "live" not in values:
+        raise NoJob("error: %s\n" % PROGRESS)
 
 
 def is_text(word):
@@ -163,6 +178,7 @@ def job_of(words):
     command, place, values = read_words(words)
     look_for_all(command, place, values)
     look_at_values(command, values)
+    look_at_flags(values)
     return place, values
 
 
