@@ -1,38 +1,13 @@
 //! Readers that fail, and the line of a failure.
 use crate::asserted::{equal, equal_at, holds_at};
+use crate::fails_once::FailsOnce;
 use job_ends::{Failure, ReadAll, Reads, Status, bytes_of, put_text, read_all, write_text};
 use phase_modes::Refusal;
 use std::io;
-use std::io::{Error, ErrorKind, Read, Write};
+use std::io::Write;
 use std::test::Fail;
 
 const INPUT: &[u8] = b"{\"calls\":[]}";
-
-/// A reader that gives a byte of the text a call. The call of one number fails, and those after it
-/// would go on.
-#[derive(Drop)]
-struct FailsOnce<'a> {
-    text: &'a [u8],
-    fails_at: usize,
-    calls: usize,
-}
-
-impl Read for FailsOnce<'_> {
-    fn read(&mut self, buf: &mut [u8]) -> io::Result<usize> {
-        self.calls = self.calls.saturating_add(1);
-        if self.calls == self.fails_at {
-            return Err(Error::from(ErrorKind::Interrupted));
-        }
-        match (self.text, buf.first_mut()) {
-            ([byte, rest @ ..], Some(first)) => {
-                *first = *byte;
-                self.text = rest;
-                Ok(1)
-            }
-            _ => Ok(0),
-        }
-    }
-}
 
 /// A writer that takes all that it is given, and counts its calls.
 #[derive(Drop)]

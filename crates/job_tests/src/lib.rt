@@ -15,6 +15,8 @@ mod entries;
 #[cfg(test)]
 mod events;
 #[cfg(test)]
+mod fails_once;
+#[cfg(test)]
 mod json_words;
 #[cfg(test)]
 mod judged_logs;

@@ -5,6 +5,7 @@ ghost use Rattle.live_tables.specs.Counted.{IfShutRefused, IsSpawnRefused};
 
 use crate::finish_slot::FinishSlot;
 use crate::free_slots::{FreeSlots, SlotCounts};
+use crate::must_be::must_be;
 use crossbeam_utils::CachePadded;
 use finish_core::ShutAnswer;
 use phase_modes::Refusal;
@@ -23,18 +24,6 @@ pub struct LiveFinishes<T> {
     cells: Vec<CachePadded<Mutex<FinishSlot<T>>>>,
     free: CachePadded<Mutex<FreeSlots>>,
     ghost all: { vec_len cells ≡ slots },
-}
-
-/// It is so: else this waits for ever.
-fn must_be<R: Wait>(rt: &R, so: bool)
-    ensures { so ≡ true }
-{
-    for _ in rt.forever() {
-        if so {
-            return;
-        }
-    }
-    unreachable!()
 }
 
 /// So many slots. In the first is an open finish, which task 0 owns; the others are free.
@@ -153,15 +142,9 @@ impl<T> LiveFinishes<T> {
         }
     }
 
-    /// How many slots are free now: all of them once each finish that was opened is shut.
-    pub fn free<R: Wait>(&self, rt: &R) -> usize
-        ensures few { result ≤ self.now.slots }
-    {
-        self.counts(rt).free
-    }
-
-    /// How many slots are free now, how many finishes were opened (`taken`; finish 0 is one of them), and
-    /// how many of them are shut (`given_back`).
+    /// How many slots are free now (all of them once each finish that was opened is shut), how many
+    /// finishes were opened (`taken`; finish 0 is one of them), and how many of them are shut
+    /// (`given_back`).
     pub fn counts<R: Wait>(&self, rt: &R) -> SlotCounts
         ensures slots { result.slots ≡ self.now.slots }
         ensures counted { result.free + result.taken ≡ self.now.slots + result.given_back }

@@ -10,6 +10,7 @@ mod finish_slot;
 mod finishes;
 mod free_slots;
 mod front;
+mod must_be;
 mod noted;
 mod phasers;
 mod resident;

@@ -14,8 +14,9 @@ ghost use Rattle.live_tables.specs.Slots.{told_of, IsNumbered, without_value};
 
 use crate::free_slots::{FreeSlots, SlotCounts};
 use crate::front::{SlotFront, SlotLogs};
+use crate::must_be::must_be;
 use crate::noted::SlotNoted;
-use crate::slot::{At, Slot, must_be};
+use crate::slot::{At, Slot};
 use crate::vacant::Vacant;
 use crossbeam_utils::CachePadded;
 use long_locks::{LongCell, Out, PassAnswer, SignalAnswer};
@@ -327,15 +328,8 @@ impl<T, J: SlotLogs> LivePhasers<T, J> {
         phaser.single_done(me, out, task)
     }
 
-    /// How many slots are free now: all of them once each phaser was left by all its tasks.
-    pub fn free<R: Wait>(&self, rt: &R) -> usize
-        ensures few { result ≤ self.now.slots }
-    {
-        self.counts(rt).free
-    }
-
-    /// How many slots are free now, how many phasers there ever were (`taken`), and how many of them are
-    /// gone (`given_back`).
+    /// How many slots are free now (all of them once each phaser was left by all its tasks), how many
+    /// phasers there ever were (`taken`), and how many of them are gone (`given_back`).
     pub fn counts<R: Wait>(&self, rt: &R) -> SlotCounts
         ensures slots { result.slots ≡ self.now.slots }
         ensures within { result.given_back ≤ result.taken }

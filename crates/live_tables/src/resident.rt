@@ -13,10 +13,13 @@ ghost use Rattle.long_locks.specs.Told.{IsSignalAnswer, IsPassAnswer, IfPassed, 
 ghost use Rattle.live_tables.specs.Slots.{told_of, past_of, AreLegal, IsNumbered};
 
 use crate::front::{SlotFront, SlotLogs, note};
-use crate::noted::{SlotNoted, done_event, look_event, pass_event, register_event, signal_event};
-use crate::slot::must_be;
+use crate::must_be::must_be;
+use crate::noted::SlotNoted;
 use crate::vacant::Vacant;
-use long_locks::{LongCell, Out, PassAnswer, SignalAnswer};
+use long_locks::{
+    LongCell, Out, PassAnswer, SignalAnswer, done_event, look_event, pass_event, register_event,
+    signal_event,
+};
 use phase_model::LongLook;
 use phase_modes::{Mode, Refusal};
 use phaser_core::{LongTask, Phase};

@@ -9,6 +9,7 @@ ghost use Rattle.long_locks.specs.Told.{story_of};
 ghost use Rattle.live_tables.specs.Slots.{told_of, without_value};
 
 use crate::front::{SlotFront, SlotLogs};
+use crate::must_be::must_be;
 use crate::resident::Resident;
 use crate::vacant::Vacant;
 use long_locks::{LongCell, Out};
@@ -31,19 +32,6 @@ pub(crate) enum Slot<T, J: SlotLogs> {
     Taken(Resident<T, J>),
     /// While a phaser comes or goes; and for good once 2^64 of them were there.
     Between,
-}
-
-/// It is so: else this waits for ever.
-#[inline(always)]
-pub(crate) fn must_be<R: Wait>(rt: &R, so: bool)
-    ensures { so ≡ true }
-{
-    for _ in rt.forever() {
-        if so {
-            return;
-        }
-    }
-    unreachable!()
 }
 
 impl<T, J: SlotLogs> Slot<T, J> {

@@ -108,13 +108,13 @@ fn open_and_shut<R: Abort + Wait>(
     alloc: Global,
     finishes: &LiveFinishes<u32>,
 ) -> Result<(), Refusal> {
-    equal(rt, finishes.free(rt), 1);
+    equal(rt, finishes.counts(rt).free, 1);
     equal(rt, finishes.open(rt, 7), Ok(1));
-    equal(rt, finishes.free(rt), 0);
+    equal(rt, finishes.counts(rt).free, 0);
     equal(rt, finishes.spawned(rt, 1), Ok(()));
     equal(rt, end(rt, alloc, finishes, 1)?, (Ok(()), None));
     equal(rt, shut(rt, finishes, 1, 100), Shutting::Done(100));
-    equal(rt, finishes.free(rt), 1);
+    equal(rt, finishes.counts(rt).free, 1);
     equal(rt, shut(rt, finishes, 0, 101), Shutting::Done(101));
     Ok(())
 }
@@ -200,7 +200,7 @@ fn ask_for_none<R: Abort + Wait>(
 fn no_finish_is_there(rt: HostRuntime) -> Result<(), Fail> {
     let finishes = table_of(rt.alloc(), 2)?;
     ask_for_none(&rt, rt.alloc(), &finishes)?;
-    equal(&rt, finishes.free(&rt), 1);
+    equal(&rt, finishes.counts(&rt).free, 1);
     Ok(())
 }
 
@@ -219,9 +219,9 @@ fn wait_for_two<R: Abort + Wait>(
     equal(rt, shut(rt, finishes, 1, 101), AGAIN);
     equal(rt, end(rt, alloc, finishes, 1)?, (Ok(()), None));
     equal(rt, end(rt, alloc, finishes, 1)?, (Ok(()), Some(100)));
-    equal(rt, finishes.free(rt), 0);
+    equal(rt, finishes.counts(rt).free, 0);
     equal(rt, shut(rt, finishes, 1, 100), Shutting::Done(100));
-    equal(rt, finishes.free(rt), 1);
+    equal(rt, finishes.counts(rt).free, 1);
     Ok(())
 }
 
@@ -336,6 +336,6 @@ fn end_apart<R: Abort + Threads + Wait + Sync>(
 fn two_threads_end(rt: HostRuntime) -> Result<(), Fail> {
     let finishes = table_of(rt.alloc(), 1)?;
     end_apart(&rt, rt.alloc(), &finishes);
-    equal(&rt, finishes.free(&rt), 1);
+    equal(&rt, finishes.counts(&rt).free, 1);
     Ok(())
 }

@@ -177,10 +177,10 @@ fn calls<J: SlotLogs, R: Wait + Abort>(
     requires empty { All (λ w. w.items ≡ []) logs.items }
 {
     let phasers = table::<J>(alloc, logs)?;
-    equal(rt, phasers.free(rt), 2);
+    equal(rt, phasers.counts(rt).free, 2);
     let mut phaser = Seen::open(rt, alloc, &phasers, Mode::Single)?;
     equal(rt, phaser.at.number, 0);
-    equal(rt, phasers.free(rt), 1);
+    equal(rt, phasers.counts(rt).free, 1);
     equal(rt, phaser.register(rt, 0, Mode::Single), Ok(1));
     equal(rt, phaser.send(rt, 0, 3), Ok(()));
     equal(rt, phaser.send(rt, 1, 4), Ok(()));
@@ -208,7 +208,7 @@ fn calls<J: SlotLogs, R: Wait + Abort>(
     equal(rt, phaser.look(rt, 1), Ok(Look::Value(7)));
     equal(rt, phaser.leave(rt, alloc, 0), Ok(false));
     equal(rt, phaser.leave(rt, alloc, 0), Err(Refusal::NotRegistered));
-    equal(rt, phasers.free(rt), 1);
+    equal(rt, phasers.counts(rt).free, 1);
     equal(rt, phaser.leave(rt, alloc, 1), Ok(true));
     let counts = phasers.counts(rt);
     equal(rt, (counts.slots, counts.free), (2, 2));
@@ -250,7 +250,7 @@ fn comes_again<J: SlotLogs, R: Wait + Abort>(
         equal(rt, phaser.look(rt, 0), Ok(Look::Value(i128::from(number))));
         equal(rt, phaser.leave(rt, alloc, 0), Ok(true));
     }
-    equal(rt, phasers.free(rt), 1);
+    equal(rt, phasers.counts(rt).free, 1);
     Ok(())
 }
 
@@ -294,7 +294,7 @@ fn is_gone<J: SlotLogs, R: Wait + Abort>(
     let mut second = Seen::open(rt, alloc, &phasers, Mode::Single)?;
     equal(rt, first.send(rt, 0, 1), Err(nobody));
     equal(rt, second.send(rt, 0, 1), Ok(()));
-    equal(rt, phasers.free(rt), 0);
+    equal(rt, phasers.counts(rt).free, 0);
     Ok(())
 }
 

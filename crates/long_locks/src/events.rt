@@ -33,7 +33,7 @@ pub(crate) fn make_event(mode: Mode, answer: Result<LongTask, Refusal>) -> Optio
 
 /// That of a `register`.
 #[inline(always)]
-pub(crate) fn register_event(
+pub fn register_event(
     parent: LongTask,
     mode: Mode,
     answer: Result<LongTask, Refusal>,
@@ -48,7 +48,7 @@ pub(crate) fn register_event(
 
 /// That of a `signal`.
 #[inline(always)]
-pub(crate) fn signal_event<T>(
+pub fn signal_event<T>(
     task: LongTask,
     number: Option<u32>,
     answer: &SignalAnswer<T>,
@@ -63,7 +63,7 @@ pub(crate) fn signal_event<T>(
 
 /// That of a `pass`.
 #[inline(always)]
-pub(crate) fn pass_event<T>(task: LongTask, answer: &PassAnswer<T, Phase>) -> Option<LongEvent>
+pub fn pass_event<T>(task: LongTask, answer: &PassAnswer<T, Phase>) -> Option<LongEvent>
     ensures { result ≡ pass_event task answer.now }
 {
     match answer {
@@ -75,7 +75,7 @@ pub(crate) fn pass_event<T>(task: LongTask, answer: &PassAnswer<T, Phase>) -> Op
 
 /// That of a `look`.
 #[inline(always)]
-pub(crate) fn look_event(
+pub fn look_event(
     task: LongTask,
     accumulator: u8,
     answer: Result<LongLook, Refusal>,
@@ -90,7 +90,7 @@ pub(crate) fn look_event(
 
 /// That of a call which is just done or refused.
 #[inline(always)]
-pub(crate) fn done_event(event: LongEvent, answer: Result<(), Refusal>) -> Option<LongEvent>
+pub fn done_event(event: LongEvent, answer: Result<(), Refusal>) -> Option<LongEvent>
     ensures { result ≡ done_event event answer }
 {
     match answer {

@@ -31,6 +31,7 @@ pub use cell::LongCell;
 pub use course::Then;
 pub use crew::{Crew, Worker};
 pub use entry::with_long_phaser;
+pub use events::{done_event, look_event, pass_event, register_event, signal_event};
 pub use front::{Front, Naming};
 pub use lock::LongLock;
 pub use phaser_core::{Out, Parked, ParkedCall, PassAnswer, SignalAnswer};

@@ -6,8 +6,8 @@
 //! one of its own it asks for no lock. If its own has none it looks for another worker's, yields,
 //! and after some looks sleeps until somebody puts one or closes the queue. It steals the first of a
 //! worker that takes its own slowly: items that are done in a microsecond aren't worth the
-//! way. A put wakes one sleeper if nobody looks, and who has found one wakes the next, so that as
-//! many come as find work. Closing wakes all. Each worker has a `Seat`, which goes with its thread.
+//! way. A put wakes one sleeper if nobody looks, and the worker that finds a task wakes the next, so
+//! that as many come as find work. Closing wakes all. Each worker has a `Seat`, which goes with its thread.
 //!
 //! # A caller
 //!

@@ -7,7 +7,7 @@
 //! calls a sleeper in its place, so that as many come as find work.
 //!
 //! A looker steals only from a worker that has taken nothing of its own between two looks, some
-//! microseconds apart. Who takes items faster than that is done with them before they are worth
+//! microseconds apart. A worker that takes items faster is done with them before they are worth
 //! their way to another processor, where two workers would wait for each other at one lock.
 //!
 //! No wake-up is lost. What is claimed: while an item is held whose put has ended, and somebody
@@ -17,9 +17,10 @@
 //! - If the put reads that there are no sleepers, then whoever sleeps later has lain down after that.
 //!   A worker that has lain down searches all deques once more before it sleeps, whatever the pace
 //!   of their owners. So it finds the item, unless another took it.
-//! - If the put reads that there are lookers, one of them is the first that leaves none behind. If it
-//!   leaves by lying down, it searches after that, as above. If it has found an item, it reads the
-//!   word after it has left, as a put does, and calls a sleeper if there are any and no looker.
+//! - If the put reads that there are lookers, one of them or a later one is the first that leaves none
+//!   behind, if any ever does. If it leaves by lying down, it searches after that, as above. If it has
+//!   found an item, it reads the word after it has left, as a put does, and calls a sleeper if there
+//!   are any and no looker.
 //! - If the put reads that there are sleepers and no looker, it calls one.
 //!
 //! Whoever calls reads the word again, under the lock. If all still sleep it counts one of them as
@@ -156,8 +157,8 @@ impl<T> RunQueue<T> {
         seat.put(item)
     }
 
-    /// Wakes one for so many items that were put quietly, if all others that are idle sleep. It
-    /// wakes the next when it has found one of them.
+    /// Wakes one worker for so many items that were put quietly, if all that are idle sleep. It wakes
+    /// the next when it has found one of them.
     pub fn wake<R: Wait>(&self, rt: &R, puts: u64) {
         if puts > 0 {
             self.idle.wake(rt);

@@ -1,5 +1,6 @@
 //! Readers and writers that fail, and input that is too long.
 use crate::asserted::{equal, equal_at};
+use crate::fails_once::FailsOnce;
 use job_ends::{Ending, Failure, Reads, Status};
 use phase_modes::Refusal;
 use std::alloc::Global;
@@ -55,32 +56,6 @@ impl Write for FailsAfter {
 
     fn flush(&mut self) -> io::Result<()> {
         Ok(())
-    }
-}
-
-/// A reader that gives a byte of the text a call. The call of one number fails, and those after it
-/// would go on.
-#[derive(Drop)]
-struct FailsOnce<'a> {
-    text: &'a [u8],
-    fails_at: usize,
-    calls: usize,
-}
-
-impl Read for FailsOnce<'_> {
-    fn read(&mut self, buf: &mut [u8]) -> io::Result<usize> {
-        self.calls = self.calls.saturating_add(1);
-        if self.calls == self.fails_at {
-            return Err(Error::from(ErrorKind::Interrupted));
-        }
-        match (self.text, buf.first_mut()) {
-            ([byte, rest @ ..], Some(first)) => {
-                *first = *byte;
-                self.text = rest;
-                Ok(1)
-            }
-            _ => Ok(0),
-        }
     }
 }
 

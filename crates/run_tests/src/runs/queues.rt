@@ -230,11 +230,14 @@ fn sleep_or_close<R: Wait>(
     queue.take(rt, &mut seat).is_none()
 }
 
-// So many rows, of so many items each.
+// So many rows of so many items each, the giver's pause before each of them by so many microseconds longer
+// than before the last, from none on. If each takes one, a taker that has one of a row takes no second.
 #[derive(Clone, Copy)]
 struct Rows {
     count: u32,
     length: u32,
+    step: u64,
+    each_takes_one: bool,
 }
 
 #[test]
@@ -242,6 +245,8 @@ fn each_put_is_taken_by_another(rt: HostRuntime) -> Result<(), Refusal> {
     let rows = Rows {
         count: 200,
         length: 1,
+        step: 0,
+        each_takes_one: false,
     };
     assert!(rt; rows_are_taken(&rt, rt.alloc(), rows)?);
     Ok(())
@@ -252,13 +257,42 @@ fn a_row_of_puts_is_taken_by_others(rt: HostRuntime) -> Result<(), Refusal> {
     let rows = Rows {
         count: 50,
         length: 4,
+        step: 0,
+        each_takes_one: false,
     };
     assert!(rt; rows_are_taken(&rt, rt.alloc(), rows)?);
     Ok(())
 }
 
-// Whether each of 200 items, given in these rows by one of four workers, is taken by another.
-fn rows_are_taken<R: Threads + Wait + Sync>(
+// Whoever looks sleeps after some 150 microseconds, so these pauses end while the takers look, lie
+// down, and begin to sleep. A row whose put wakes less than three in all would be waited for without
+// end.
+#[test]
+fn no_wake_is_lost_around_lying_down(rt: HostRuntime) -> Result<(), Refusal> {
+    let rows = Rows {
+        count: 500,
+        length: 3,
+        step: 2,
+        each_takes_one: true,
+    };
+    assert!(rt; rows_are_taken(&rt, rt.alloc(), rows)?);
+    Ok(())
+}
+
+#[test]
+fn no_wake_is_lost_in_deep_sleep(rt: HostRuntime) -> Result<(), Refusal> {
+    let rows = Rows {
+        count: 60,
+        length: 3,
+        step: 100,
+        each_takes_one: true,
+    };
+    assert!(rt; rows_are_taken(&rt, rt.alloc(), rows)?);
+    Ok(())
+}
+
+// Whether each item of these rows, given by one of four workers, is taken by another.
+fn rows_are_taken<R: Threads + Wait + Clock + Sync>(
     rt: &R,
     alloc: Global,
     rows: Rows,
@@ -274,17 +308,18 @@ fn rows_are_taken<R: Threads + Wait + Sync>(
             if turns.fetch_add(1, Ordering::SeqCst) == 0 {
                 give(rt, queue_in, &taken, rows, seat)
             } else {
-                take_all(rt, queue_in, &taken, seat)
+                take_all(rt, queue_in, &taken, rows, seat)
             }
         },
     )?;
-    Ok(done.iter().all(|&none| none) && taken.load(Ordering::SeqCst) == 200)
+    let all = u64::from(rows.count).wrapping_mul(u64::from(rows.length));
+    Ok(done.iter().all(|&none| none) && taken.load(Ordering::SeqCst) == all)
 }
 
 // Gives these rows to the others, each only once the one before was taken, so that mostly the others
 // sleep, and closes the queue. It takes none itself: an item whose put wakes nobody would never be
 // taken. Whether nothing is left then.
-fn give<R: Wait>(
+fn give<R: Wait + Clock>(
     rt: &R,
     queue: &RunQueue<u32>,
     taken: &AtomicU64,
@@ -292,7 +327,9 @@ fn give<R: Wait>(
     mut seat: Seat<u32>,
 ) -> bool {
     let mut given = 0u64;
-    for _ in 0..rows.count {
+    for row in 0..rows.count {
+        let pause = u64::from(row).wrapping_mul(rows.step);
+        thread::sleep(rt, Duration::from_micros(pause));
         put_row(rt, queue, rows.length, &mut seat);
         given = given.saturating_add(u64::from(rows.length));
         wait_for(rt, taken, given);
@@ -321,115 +358,28 @@ fn wait_for<R: Wait>(rt: &R, taken: &AtomicU64, wanted: u64) {
     }
 }
 
-// Takes until the queue is closed. Whether nothing is left then.
+// Takes until the queue is closed, and if each takes one waits after each item until its row is taken.
+// Whether nothing is left then.
 fn take_all<R: Wait>(
     rt: &R,
     queue: &RunQueue<u32>,
     taken: &AtomicU64,
+    rows: Rows,
     mut seat: Seat<u32>,
 ) -> bool {
-    for _ in rt.forever() {
-        if queue.take(rt, &mut seat).is_none() {
-            break;
-        }
-        taken.fetch_add(1, Ordering::SeqCst);
-    }
-    queue.take(rt, &mut seat).is_none()
-}
-
-// Pauses of a giver: so many after another, of so many microseconds more each, from none on.
-#[derive(Clone, Copy)]
-struct Pauses {
-    count: u32,
-    step: u64,
-}
-
-// Whoever looks sleeps after some 150 microseconds, so these end while the takers look, lie down,
-// and begin to sleep.
-#[test]
-fn no_wake_is_lost_around_lying_down(rt: HostRuntime) -> Result<(), Refusal> {
-    let pauses = Pauses {
-        count: 500,
-        step: 2,
-    };
-    assert!(rt; are_all_woken(&rt, rt.alloc(), pauses)?);
-    Ok(())
-}
-
-#[test]
-fn no_wake_is_lost_in_deep_sleep(rt: HostRuntime) -> Result<(), Refusal> {
-    let pauses = Pauses {
-        count: 60,
-        step: 100,
-    };
-    assert!(rt; are_all_woken(&rt, rt.alloc(), pauses)?);
-    Ok(())
-}
-
-// Whether three takers each take one of every row of three, given after these pauses. A taker that
-// has one takes no second one of its row, so a row whose put wakes less than three in all would be
-// waited for without end.
-fn are_all_woken<R: Threads + Wait + Clock + Sync>(
-    rt: &R,
-    alloc: Global,
-    pauses: Pauses,
-) -> Result<bool, Refusal> {
-    let (queue, seats) = RunQueue::new(alloc, 4, 4)?;
-    let turns = AtomicU64::new(0);
-    let taken = AtomicU64::new(0);
-    let queue_in = &queue;
-    let done = thread::map_vec(
-        rt,
-        seats,
-        &|seat| {
-            if turns.fetch_add(1, Ordering::SeqCst) == 0 {
-                give_after_pauses(rt, queue_in, &taken, pauses, seat)
-            } else {
-                take_one_of_each_row(rt, queue_in, &taken, seat)
-            }
-        },
-    )?;
-    Ok(
-        done.iter().all(|&none| none)
-            && taken.load(Ordering::SeqCst) == u64::from(pauses.count).wrapping_mul(3),
-    )
-}
-
-// Gives a row of three after each of the pauses, each only once the one before was taken. It takes
-// none itself. Whether nothing is left then.
-fn give_after_pauses<R: Wait + Clock>(
-    rt: &R,
-    queue: &RunQueue<u32>,
-    taken: &AtomicU64,
-    pauses: Pauses,
-    mut seat: Seat<u32>,
-) -> bool {
-    let mut given = 0u64;
-    for row in 0..pauses.count {
-        let pause = u64::from(row).wrapping_mul(pauses.step);
-        thread::sleep(rt, Duration::from_micros(pause));
-        put_row(rt, queue, 3, &mut seat);
-        given = given.saturating_add(3);
-        wait_for(rt, taken, given);
-    }
-    queue.close(rt);
-    queue.take(rt, &mut seat).is_none()
-}
-
-// Takes until the queue is closed, and after each item waits until its row is taken. Whether nothing
-// is left then.
-fn take_one_of_each_row<R: Wait>(
-    rt: &R,
-    queue: &RunQueue<u32>,
-    taken: &AtomicU64,
-    mut seat: Seat<u32>,
-) -> bool {
+    let length = u64::from(rows.length).max(1);
     for _ in rt.forever() {
         if queue.take(rt, &mut seat).is_none() {
             break;
         }
         let before = taken.fetch_add(1, Ordering::SeqCst);
-        wait_for(rt, taken, (before / 3).wrapping_add(1).wrapping_mul(3));
+        if rows.each_takes_one {
+            wait_for(
+                rt,
+                taken,
+                (before / length).wrapping_add(1).wrapping_mul(length),
+            );
+        }
     }
     queue.take(rt, &mut seat).is_none()
 }
