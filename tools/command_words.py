@@ -17,8 +17,14 @@ COMMANDS = {
     "replay": ("FILE [--upgrade OUT]", "replays a trace, and prints its report"),
     "certify": ("FILE", "says what each run of a program comes to, where one run tells it"),
     "judge": ("FILE [--every N]", "judges the events of a log line by line"),
-    "stencil": ("--first LIST --steps S [--workers N]", "runs a stencil on threads, and prints its cells"),
-    "pipeline": ("--stages K --items N [--workers N]", "runs a pipeline on threads, and prints its items"),
+    "stencil": (
+        "--first LIST --steps S [--workers N] [--live] [--progress]",
+        "runs a stencil on threads, and prints its cells",
+    ),
+    "pipeline": (
+        "--stages K --items N [--workers N] [--live] [--progress]",
+        "runs a pipeline on threads, and prints its items",
+    ),
     "events": ("FILE", "answers the calls of an events file"),
 }
 FLAG = re.compile(r"\[--(\w+)\]")  # an option that has no value
@@ -32,7 +38,12 @@ VALUES = {
     "workers": (1, 1, 16, "the workers are a number of 1 to 16"),
     "every": (1, 1, 18446744073709551615, "N is a number of 1 to 18446744073709551615, or one with an s after it"),
 }
-# Flags of run that don't go with the words beside them, and what is said of them.
+# The same of a kernel that keeps no events.
+LIVE_VALUES = {
+    "steps": (1, 0, 4294967295, "S is a number of 0 to 4294967295"),
+    "items": (1, 0, 2000000000, "the items are a number of 0 to 2000000000"),
+}
+# Flags that don't go with the words beside them, and what is said of them.
 LIVE = "--live keeps no events: leave --trace and --certain out"
 PROGRESS = "--progress goes with --live"
 UNBUILT = """\
@@ -145,10 +156,11 @@ def is_number(text, least, greatest):
 
 def look_at_values(command, values):
     """Stops at the first value that is out of its range."""
+    of = LIVE_VALUES if "live" in values else VALUES
     for option in re.findall(r"--(\w+)", COMMANDS[command][0]):
         if option not in values or option not in VALUES:
             continue
-        most, least, greatest, wanted = VALUES[option]
+        most, least, greatest, wanted = of.get(option, VALUES[option])
         value = values[option].removesuffix("s") if option == "every" else values[option]
         pieces = value.split(",")
         if len(pieces) > most or not all(is_number(it, least, greatest) for it in pieces):
@@ -156,7 +168,7 @@ def look_at_values(command, values):
 
 
 def look_at_flags(values):
-    """Stops at a flag of run that doesn't go with the other words."""
+    """Stops at a flag that doesn't go with the other words."""
     if "live" in values and ("trace" in values or "certain" in values):
         raise NoJob("error: %s\n" % LIVE)
     if "progress" in values and "live" not in values:

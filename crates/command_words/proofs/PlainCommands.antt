@@ -14,8 +14,8 @@ name_of (run file workers out certain live progress) = codes "run"
 name_of (replay file out) = codes "replay"
 name_of (certify file) = codes "certify"
 name_of (judge file every) = codes "judge"
-name_of (stencil first steps workers) = codes "stencil"
-name_of (pipeline k items workers) = codes "pipeline"
+name_of (stencil first steps workers live progress) = codes "stencil"
+name_of (pipeline k items workers live progress) = codes "pipeline"
 
 -- an option with its value, where it has one, and then the rest
 abbrev pub with_option : Text → Option Text → List Item → List Item
@@ -27,6 +27,10 @@ abbrev pub with_flag : Text → Bool → List Item → List Item
 with_flag name true rest = named name ∷ rest
 with_flag name false rest = rest
 
+-- `--live` and `--progress`
+abbrev pub flags_of : Bool → Bool → List Item
+flags_of live progress = with_flag (codes "--live") live (with_flag (codes "--progress") progress [])
+
 -- the words after its name
 abbrev pub items_of : Asked → List Item
 items_of (events file) = given file ∷ []
@@ -35,18 +39,16 @@ items_of (schedule file list out) =
 items_of (run file workers out certain live progress) =
     given file
     ∷ with_option (codes "--workers") workers
-    (with_option (codes "--trace") out
-    (with_flag (codes "--certain") certain
-    (with_flag (codes "--live") live (with_flag (codes "--progress") progress []))))
+    (with_option (codes "--trace") out (with_flag (codes "--certain") certain (flags_of live progress)))
 items_of (replay file out) = given file ∷ with_option (codes "--upgrade") out []
 items_of (certify file) = given file ∷ []
 items_of (judge file every) = given file ∷ with_option (codes "--every") every []
-items_of (stencil first steps workers) =
+items_of (stencil first steps workers live progress) =
     named (codes "--first") ∷ given first ∷ named (codes "--steps") ∷ given steps
-    ∷ with_option (codes "--workers") workers []
-items_of (pipeline k items workers) =
+    ∷ with_option (codes "--workers") workers (flags_of live progress)
+items_of (pipeline k items workers live progress) =
     named (codes "--stages") ∷ given k ∷ named (codes "--items") ∷ given items
-    ∷ with_option (codes "--workers") workers []
+    ∷ with_option (codes "--workers") workers (flags_of live progress)
 
 -- the program's walk meets it
 pub command_of : (asked : Asked) → IsCommand (name_of asked)
@@ -57,8 +59,8 @@ command_of (run file workers out certain live progress) = record { walks = refl;
 command_of (replay file out) = record { walks = refl; faults = refl; asks = λ words. refl }
 command_of (certify file) = record { walks = refl; faults = refl; asks = λ words. refl }
 command_of (judge file every) = record { walks = refl; faults = refl; asks = λ words. refl }
-command_of (stencil first steps workers) = record { walks = refl; faults = refl; asks = λ words. refl }
-command_of (pipeline k items workers) = record { walks = refl; faults = refl; asks = λ words. refl }
+command_of (stencil first steps workers live progress) = record { walks = refl; faults = refl; asks = λ words. refl }
+command_of (pipeline k items workers live progress) = record { walks = refl; faults = refl; asks = λ words. refl }
 
 -- the items are its plain words, and its shape reads them as what they say
 pub record IsRead (asked : Asked) : Type 0 where
@@ -108,6 +110,30 @@ run_read file (Some workers) (Some out) false true false = record { said = λ p.
 run_read file (Some workers) (Some out) false false true = record { said = λ p. refl; read = refl }
 run_read file (Some workers) (Some out) false false false = record { said = λ p. refl; read = refl }
 
+stencil_read : (first steps : Text) (workers : Option Text) (live progress : Bool)
+    → IsRead (stencil first steps workers live progress)
+unfolding clap_on_literals
+stencil_read first steps None true true = record { said = λ p. refl; read = refl }
+stencil_read first steps None true false = record { said = λ p. refl; read = refl }
+stencil_read first steps None false true = record { said = λ p. refl; read = refl }
+stencil_read first steps None false false = record { said = λ p. refl; read = refl }
+stencil_read first steps (Some workers) true true = record { said = λ p. refl; read = refl }
+stencil_read first steps (Some workers) true false = record { said = λ p. refl; read = refl }
+stencil_read first steps (Some workers) false true = record { said = λ p. refl; read = refl }
+stencil_read first steps (Some workers) false false = record { said = λ p. refl; read = refl }
+
+pipeline_read : (k items : Text) (workers : Option Text) (live progress : Bool)
+    → IsRead (pipeline k items workers live progress)
+unfolding clap_on_literals
+pipeline_read k items None true true = record { said = λ p. refl; read = refl }
+pipeline_read k items None true false = record { said = λ p. refl; read = refl }
+pipeline_read k items None false true = record { said = λ p. refl; read = refl }
+pipeline_read k items None false false = record { said = λ p. refl; read = refl }
+pipeline_read k items (Some workers) true true = record { said = λ p. refl; read = refl }
+pipeline_read k items (Some workers) true false = record { said = λ p. refl; read = refl }
+pipeline_read k items (Some workers) false true = record { said = λ p. refl; read = refl }
+pipeline_read k items (Some workers) false false = record { said = λ p. refl; read = refl }
+
 pub as_said : (asked : Asked) → IsRead asked
 unfolding clap_on_literals
 as_said (events file) = record { said = λ p. refl; read = refl }
@@ -118,7 +144,5 @@ as_said (replay file (Some out)) = record { said = λ p. refl; read = refl }
 as_said (certify file) = record { said = λ p. refl; read = refl }
 as_said (judge file None) = record { said = λ p. refl; read = refl }
 as_said (judge file (Some every)) = record { said = λ p. refl; read = refl }
-as_said (stencil first steps None) = record { said = λ p. refl; read = refl }
-as_said (stencil first steps (Some workers)) = record { said = λ p. refl; read = refl }
-as_said (pipeline k items None) = record { said = λ p. refl; read = refl }
-as_said (pipeline k items (Some workers)) = record { said = λ p. refl; read = refl }
+as_said (stencil first steps workers live progress) = stencil_read first steps workers live progress
+as_said (pipeline k items workers live progress) = pipeline_read k items workers live progress

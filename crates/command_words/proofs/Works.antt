@@ -1,7 +1,7 @@
 -- The work that words name.
 use Rattle.std.proofs.Common.{◌≡◌, ℕ, List, option_map, Option, Some, None, Result, Ok, Err, IfOk, IfErr, MatchResult, refl, sym, ap, ◌∙◌, inl, inr}
 use Rattle.std.specs.Prelude.{option_and_then}
-use Rattle.command_words.specs.CommandLine.{Asked, IsNoJobFor, Work, certify, earlier, events, first_bad, judge, pipeline, pipeline_of, replay, run, run_of, schedule, stencil, stencil_of, unless, work_for, work_of}
+use Rattle.command_words.specs.CommandLine.{Asked, IsNoJobFor, Work, certify, earlier, events, first_bad, judge, kernel_of, pipeline, replay, run, run_of, schedule, stencil, unless, work_for, work_of}
 use Rattle.command_words.specs.declared.command_line.Job.{Job}
 use Rattle.command_words.specs.declared.command_line.NoJob.{NoJob}
 use Rattle.command_words.specs.declared.command_line.NoJob.TheVariants.{BadValue, Memory}
@@ -18,19 +18,15 @@ none_of : {X Y : Type 0} (f : X → Y) (v u : Value) (o : Option X) → unless v
 none_of f v u None e = refl
 none_of f v u (Some x) e = cc
 
-none_of_cells : (p q r v : Value) (a : Option (List ℕ)) (b c : Option ℕ)
-    → earlier (unless p a) (earlier (unless q b) (unless r c)) ≡ Some v → stencil_of a b c ≡ None
-none_of_cells p q r v None b c e = refl
-none_of_cells p q r v (Some x) None c e = refl
-none_of_cells p q r v (Some x) (Some y) None e = refl
-none_of_cells p q r v (Some x) (Some y) (Some z) e = cc
-
-none_of_stages : (p q r v : Value) (a b c : Option ℕ)
-    → earlier (unless p a) (earlier (unless q b) (unless r c)) ≡ Some v → pipeline_of a b c ≡ None
-none_of_stages p q r v None b c e = refl
-none_of_stages p q r v (Some x) None c e = refl
-none_of_stages p q r v (Some x) (Some y) None e = refl
-none_of_stages p q r v (Some x) (Some y) (Some z) e = cc
+module _ {A : Type 0} (p q r v : Value) (work : A → ℕ → ℕ → Work) where
+  none_of_kernel : (flag : Option Value) (a : Option A) (b c : Option ℕ)
+      → earlier (unless p a) (earlier (unless q b) (earlier (unless r c) flag)) ≡ Some v
+      → kernel_of flag a b c work ≡ None
+  none_of_kernel (Some f) a b c e = refl
+  none_of_kernel None None b c e = refl
+  none_of_kernel None (Some x) None c e = refl
+  none_of_kernel None (Some x) (Some y) None e = refl
+  none_of_kernel None (Some x) (Some y) (Some z) e = cc
 
 -- a run without workers, or with a bad flag, is none
 none_of_run : (v u : Value) (flag : Option Value) (workers : Option ℕ) (work : ℕ → Work)
@@ -47,8 +43,8 @@ bad_works (run file workers trace certain live progress) v e = none_of_run _ v _
 bad_works (replay file upgrade) v e = cc
 bad_works (certify file) v e = cc
 bad_works (judge file every) v e = none_of _ _ v _ e
-bad_works (stencil first steps workers) v e = none_of_cells _ _ _ v _ _ _ e
-bad_works (pipeline k items workers) v e = none_of_stages _ _ _ v _ _ _ e
+bad_works (stencil first steps workers live progress) v e = none_of_kernel _ _ _ v _ _ _ _ _ e
+bad_works (pipeline k items workers live progress) v e = none_of_kernel _ _ _ v _ _ _ _ _ e
 
 -- the job of what they ask for is that work
 pub named_as : (o : Option Asked) (asked : Asked) (work : Work) (r : Result Job NoJob) → o ≡ Some asked

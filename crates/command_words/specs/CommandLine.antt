@@ -7,7 +7,7 @@ use Rattle.clap.specs.declared.builder.action.ArgAction.TheVariants.{SetTrue}
 use Rattle.clap.specs.Words.{App, Row, Rule, Text, fault_of, first_of, new_app, new_rule, subcommand_of, with_rule, with_subcommand}
 use Rattle.job_ends.specs.declared.failure.Status.{Status}
 use Rattle.job_ends.specs.declared.failure.Status.TheVariants as statuses
-use Rattle.command_words.specs.Lists.{amount_of, every_in, first_in, listed_in, number_within, workers_in}
+use Rattle.command_words.specs.Lists.{amount_of, every_in, first_in, items_in, listed_in, most_items, most_steps, number_within, steps_in, workers_in}
 use Rattle.command_words.specs.declared.words.Words.{Words}
 use Rattle.command_words.specs.declared.words.Words.TheVariants as words
 use Rattle.command_words.specs.declared.command_line.Job.{Job}
@@ -16,7 +16,7 @@ use Rattle.command_words.specs.declared.command_line.NoJob.{NoJob}
 use Rattle.command_words.specs.declared.command_line.NoJob.TheVariants.{Arguments, Missing, BadValue, Memory}
 use Rattle.command_words.specs.declared.command_line.Every.{Every as Often}
 use Rattle.command_words.specs.declared.command_line.Value.{Value}
-use Rattle.command_words.specs.declared.command_line.Value.TheVariants.{Picks, First, Steps, Stages, Items, Workers, Every, Live, Progress}
+use Rattle.command_words.specs.declared.command_line.Value.TheVariants.{Picks, First, Steps, LiveSteps, Stages, Items, LiveItems, Workers, Every, Live, Progress}
 
 -- ---- the commands
 
@@ -70,17 +70,23 @@ certify_app = with_rule (new_app (codes "certify")) file_rule
 abbrev pub judge_app : App
 judge_app = with_rule (with_rule (new_app (codes "judge")) file_rule) (option_rule (codes "every"))
 
--- `stencil --first LIST --steps S [--workers N]`
+-- `NAME .. [--workers N] [--live] [--progress]`
+abbrev pub with_workers : App → App
+with_workers app =
+    with_rule (with_rule (with_rule app (option_rule (codes "workers"))) (flag_rule (codes "live")))
+    (flag_rule (codes "progress"))
+
+-- `stencil --first LIST --steps S [--workers N] [--live] [--progress]`
 abbrev pub stencil_app : App
 stencil_app =
-    with_rule (with_rule (with_rule (new_app (codes "stencil")) (needed_rule (codes "first")))
-    (needed_rule (codes "steps"))) (option_rule (codes "workers"))
+    with_workers (with_rule (with_rule (new_app (codes "stencil")) (needed_rule (codes "first")))
+    (needed_rule (codes "steps")))
 
--- `pipeline --stages K --items N [--workers N]`
+-- `pipeline --stages K --items N [--workers N] [--live] [--progress]`
 abbrev pub pipeline_app : App
 pipeline_app =
-    with_rule (with_rule (with_rule (new_app (codes "pipeline")) (needed_rule (codes "stages")))
-    (needed_rule (codes "items"))) (option_rule (codes "workers"))
+    with_workers (with_rule (with_rule (new_app (codes "pipeline")) (needed_rule (codes "stages")))
+    (needed_rule (codes "items")))
 
 -- the program, which has a version, has to be given a subcommand, and has no subcommand `help`
 abbrev pub bare_app : App
@@ -116,8 +122,10 @@ pub data Asked : Type 0 where
   replay : Text → Option Text → Asked
   certify : Text → Asked
   judge : Text → Option Text → Asked
-  stencil : Text → Text → Option Text → Asked
-  pipeline : Text → Text → Option Text → Asked
+  -- LIST, S, the workers, and whether the flags `--live` and `--progress` stand there
+  stencil : Text → Text → Option Text → Bool → Bool → Asked
+  -- K, the items, the workers, and the same of these flags
+  pipeline : Text → Text → Option Text → Bool → Bool → Asked
 
 -- a command with its words, of which lists and numbers are what they spell
 pub data Work : Type 0 where
@@ -135,8 +143,12 @@ pub data Work : Type 0 where
   judges : Text → Option Often → Work
   -- the first values, the steps, the workers
   cells : List ℕ → ℕ → ℕ → Work
+  -- the same, and whether the run says how fast it goes; no events of it are kept
+  live_cells : List ℕ → ℕ → ℕ → Bool → Work
   -- the stages, the items, the workers
   stages : ℕ → ℕ → ℕ → Work
+  -- the same, and whether the run says how fast it goes; no events of it are kept
+  live_stages : ℕ → ℕ → ℕ → Bool → Work
 
 -- the program FILE, with the words that needn't be there
 abbrev pub to_schedule : List Row → Text → Asked
@@ -173,13 +185,20 @@ abbrev pub of_both : (Text → Text → Option Text → Asked) → Option Text �
 of_both kernel (Some a) (Some b) workers = Some (kernel a b workers)
 of_both kernel _ _ workers = None
 
+-- a kernel, with the flags that stand there
+abbrev pub flagged :
+    (Text → Text → Option Text → Bool → Bool → Asked) → List Row → Text → Text → Option Text → Asked
+flagged kernel rows a b workers =
+    kernel a b workers (has_flag (codes "live") rows) (has_flag (codes "progress") rows)
+
 abbrev pub stencil_among : List Row → Option Asked
 stencil_among rows =
-    of_both stencil (first_of (codes "first") rows) (first_of (codes "steps") rows) (first_of (codes "workers") rows)
+    of_both (flagged stencil rows) (first_of (codes "first") rows) (first_of (codes "steps") rows)
+    (first_of (codes "workers") rows)
 
 abbrev pub pipeline_among : List Row → Option Asked
 pipeline_among rows =
-    of_both pipeline (first_of (codes "stages") rows) (first_of (codes "items") rows)
+    of_both (flagged pipeline rows) (first_of (codes "stages") rows) (first_of (codes "items") rows)
     (first_of (codes "workers") rows)
 
 -- what the subcommand of this name is asked for
@@ -195,16 +214,6 @@ asked_of arguments = option_and_then asked_among (subcommand_of program_app argu
 -- the same of arguments that are a command's and no more: no step of their reading is at fault
 unfoldable pub asked_in : List Text → Option Asked
 asked_in arguments = if is_empty (fault_of program_app arguments) then asked_of arguments else None
-
--- the stencil of these values, if each is one
-abbrev pub stencil_of : Option (List ℕ) → Option ℕ → Option ℕ → Option Work
-stencil_of (Some first) (Some steps) (Some workers) = Some (cells first steps workers)
-stencil_of _ _ _ = None
-
--- the pipeline of these values, if each is one
-abbrev pub pipeline_of : Option ℕ → Option ℕ → Option ℕ → Option Work
-pipeline_of (Some k) (Some items) (Some workers) = Some (stages k items workers)
-pipeline_of _ _ _ = None
 
 -- a run whose events aren't kept has no trace, and isn't told by a certificate; of another no progress is said
 abbrev pub bad_flag : Option Text → Bool → Bool → Bool → Option Value
@@ -224,6 +233,20 @@ abbrev pub run_of : Option Value → Option ℕ → (ℕ → Work) → Option Wo
 run_of None (Some n) work = Some (work n)
 run_of _ _ work = None
 
+-- the kernel of these values, if each is one and no flag is bad
+abbrev pub kernel_of : {A : Type 0} → Option Value → Option A → Option ℕ → Option ℕ → (A → ℕ → ℕ → Work) → Option Work
+kernel_of None (Some a) (Some b) (Some workers) work = Some (work a b workers)
+kernel_of _ _ _ _ work = None
+
+-- whose events are kept or not
+abbrev pub stencil_work : Bool → Bool → List ℕ → ℕ → ℕ → Work
+stencil_work true progress first steps workers = live_cells first steps workers progress
+stencil_work false progress first steps workers = cells first steps workers
+
+abbrev pub pipeline_work : Bool → Bool → ℕ → ℕ → ℕ → Work
+pipeline_work true progress k items workers = live_stages k items workers progress
+pipeline_work false progress k items workers = stages k items workers
+
 -- the work that is asked for; a bad list, number or flag asks for none
 abbrev pub work_for : Asked → Option Work
 work_for (events file) = Some (answers file)
@@ -234,10 +257,12 @@ work_for (run file workers trace certain live progress) =
 work_for (replay file upgrade) = Some (replays file upgrade)
 work_for (certify file) = Some (certifies file)
 work_for (judge file every) = option_map (λ n. judges file n) (every_in every)
-work_for (stencil first steps workers) =
-    stencil_of (first_in first) (number_within 0 100 steps) (workers_in workers)
-work_for (pipeline k items workers) =
-    pipeline_of (number_within 1 15 k) (number_within 0 100 items) (workers_in workers)
+work_for (stencil first steps workers live progress) =
+    kernel_of (bad_flag None false live progress) (first_in first) (steps_in live steps) (workers_in workers)
+    (stencil_work live progress)
+work_for (pipeline k items workers live progress) =
+    kernel_of (bad_flag None false live progress) (number_within 1 15 k) (items_in live items) (workers_in workers)
+    (pipeline_work live progress)
 
 -- the value is named if it is none
 abbrev pub unless : {X : Type 0} → Value → Option X → Option Value
@@ -248,6 +273,13 @@ abbrev pub earlier : Option Value → Option Value → Option Value
 earlier (Some v) o = Some v
 earlier None o = o
 
+-- what the steps and the items are to be, by whether events are kept
+abbrev pub steps_value : Bool → Value
+steps_value live = if live then LiveSteps else Steps
+
+abbrev pub items_value : Bool → Value
+items_value live = if live then LiveItems else Items
+
 -- the first of its values that is none, or a flag of its that is bad
 abbrev pub first_bad : Asked → Option Value
 first_bad (events file) = None
@@ -257,12 +289,14 @@ first_bad (run file workers trace certain live progress) =
 first_bad (replay file upgrade) = None
 first_bad (certify file) = None
 first_bad (judge file every) = unless Every (every_in every)
-first_bad (stencil first steps workers) =
+first_bad (stencil first steps workers live progress) =
     earlier (unless First (first_in first))
-    (earlier (unless Steps (number_within 0 100 steps)) (unless Workers (workers_in workers)))
-first_bad (pipeline k items workers) =
+    (earlier (unless (steps_value live) (steps_in live steps))
+    (earlier (unless Workers (workers_in workers)) (bad_flag None false live progress)))
+first_bad (pipeline k items workers live progress) =
     earlier (unless Stages (number_within 1 15 k))
-    (earlier (unless Items (number_within 0 100 items)) (unless Workers (workers_in workers)))
+    (earlier (unless (items_value live) (items_in live items))
+    (earlier (unless Workers (workers_in workers)) (bad_flag None false live progress)))
 
 -- its numbers are within what is allowed
 abbrev pub IsInRange : Work → Type 0
@@ -274,9 +308,13 @@ IsInRange (replays file upgrade) = ⊤
 IsInRange (certifies file) = ⊤
 IsInRange (judges file every) = IfSome every (λ e. 0 < amount_of e)
 IsInRange (cells first steps workers) =
-    (length first ≤ 16) × (steps ≤ 100) × (0 < workers) × (workers ≤ 16)
+    (length first ≤ 16) × (steps ≤ most_steps false) × (0 < workers) × (workers ≤ 16)
+IsInRange (live_cells first steps workers progress) =
+    (length first ≤ 16) × (steps ≤ most_steps true) × (0 < workers) × (workers ≤ 16)
 IsInRange (stages k items workers) =
-    (0 < k) × (k ≤ 15) × (items ≤ 100) × (0 < workers) × (workers ≤ 16)
+    (0 < k) × (k ≤ 15) × (items ≤ most_items false) × (0 < workers) × (workers ≤ 16)
+IsInRange (live_stages k items workers progress) =
+    (0 < k) × (k ≤ 15) × (items ≤ most_items true) × (0 < workers) × (workers ≤ 16)
 
 -- FILE of a work
 abbrev pub file_of : Work → Option Text
@@ -288,7 +326,9 @@ file_of (replays file upgrade) = Some file
 file_of (certifies file) = Some file
 file_of (judges file every) = Some file
 file_of (cells first steps workers) = None
+file_of (live_cells first steps workers progress) = None
 file_of (stages k items workers) = None
+file_of (live_stages k items workers progress) = None
 
 -- the work that the arguments name
 abbrev pub work_in : List Text → Option Work
@@ -305,9 +345,10 @@ asked_by (words.Run file workers trace certain live progress) =
 asked_by (words.Replay file upgrade) = replay file.now (option_map (λ t. t.now) upgrade)
 asked_by (words.Certify file) = certify file.now
 asked_by (words.Judge file every) = judge file.now (option_map (λ t. t.now) every)
-asked_by (words.Stencil first steps workers) =
-    stencil first.now steps.now (option_map (λ t. t.now) workers)
-asked_by (words.Pipeline k items workers) = pipeline k.now items.now (option_map (λ t. t.now) workers)
+asked_by (words.Stencil first steps workers live progress) =
+    stencil first.now steps.now (option_map (λ t. t.now) workers) live progress
+asked_by (words.Pipeline k items workers live progress) =
+    pipeline k.now items.now (option_map (λ t. t.now) workers) live progress
 
 abbrev pub work_of : Job → Work
 work_of (jobs.Events file) = answers file.now
@@ -318,7 +359,9 @@ work_of (jobs.Replay file upgrade) = replays file.now (option_map (λ t. t.now) 
 work_of (jobs.Certify file) = certifies file.now
 work_of (jobs.Judge file every) = judges file.now every
 work_of (jobs.Stencil first steps workers) = cells first.items steps workers
+work_of (jobs.LiveStencil first steps workers progress) = live_cells first.items steps workers progress
 work_of (jobs.Pipeline k items workers) = stages k items workers
+work_of (jobs.LivePipeline k items workers progress) = live_stages k items workers progress
 
 -- a word is `-`, or does not begin with a hyphen
 abbrev pub is_plain : Text → Bool
@@ -337,8 +380,10 @@ abbrev pub value_text : Value → List ℕ
 value_text Picks = codes "LIST is 1 to 10,000 numbers of 0 to 4294967295 with commas between them"
 value_text First = codes "LIST is 1 to 16 numbers of 0 to 1000000 with commas between them"
 value_text Steps = codes "S is a number of 0 to 100"
+value_text LiveSteps = codes "S is a number of 0 to 4294967295"
 value_text Stages = codes "K is a number of 1 to 15"
 value_text Items = codes "the items are a number of 0 to 100"
+value_text LiveItems = codes "the items are a number of 0 to 2000000000"
 value_text Workers = codes "the workers are a number of 1 to 16"
 value_text Every = codes "N is a number of 1 to 18446744073709551615, or one with an s after it"
 value_text Live = codes "--live keeps no events: leave --trace and --certain out"
@@ -380,12 +425,14 @@ plain_words program (replay file out) =
 plain_words program (certify file) = program ∷ codes "certify" ∷ file ∷ []
 plain_words program (judge file every) =
     program ∷ codes "judge" ∷ file ∷ option_words (codes "--every") every
-plain_words program (stencil first steps workers) =
+plain_words program (stencil first steps workers live progress) =
     program ∷ codes "stencil" ∷ codes "--first" ∷ first ∷ codes "--steps" ∷ steps
-    ∷ option_words (codes "--workers") workers
-plain_words program (pipeline k items workers) =
+    ∷ (option_words (codes "--workers") workers
+    ++ (flag_words (codes "--live") live ++ flag_words (codes "--progress") progress))
+plain_words program (pipeline k items workers live progress) =
     program ∷ codes "pipeline" ∷ codes "--stages" ∷ k ∷ codes "--items" ∷ items
-    ∷ option_words (codes "--workers") workers
+    ∷ (option_words (codes "--workers") workers
+    ++ (flag_words (codes "--live") live ++ flag_words (codes "--progress") progress))
 
 -- no word is taken for an option
 abbrev pub is_plainly_asked : Asked → Bool
@@ -397,7 +444,7 @@ is_plainly_asked (run file workers out certain live progress) =
 is_plainly_asked (replay file out) = is_plain file && option_map_or is_plain out true
 is_plainly_asked (certify file) = is_plain file
 is_plainly_asked (judge file every) = is_plain file && option_map_or is_plain every true
-is_plainly_asked (stencil first steps workers) =
+is_plainly_asked (stencil first steps workers live progress) =
     is_plain first && (is_plain steps && option_map_or is_plain workers true)
-is_plainly_asked (pipeline k items workers) =
+is_plainly_asked (pipeline k items workers live progress) =
     is_plain k && (is_plain items && option_map_or is_plain workers true)

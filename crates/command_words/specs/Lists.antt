@@ -86,6 +86,22 @@ listed_in (Some text) = picks_in text
 abbrev pub first_in : List ℕ → Option (List ℕ)
 first_in text = list_in MOST_CELLS GREATEST_CELL text
 
+-- how many steps a stencil goes at most, whose events aren't kept or are
+abbrev pub most_steps : Bool → ℕ
+most_steps live = if live then 4294967295 else 100
+
+-- its steps
+abbrev pub steps_in : Bool → List ℕ → Option ℕ
+steps_in live text = number_within 0 (most_steps live) text
+
+-- how many items go through a pipeline at most, whose events aren't kept or are
+abbrev pub most_items : Bool → ℕ
+most_items live = if live then 2000000000 else 100
+
+-- its items
+abbrev pub items_in : Bool → List ℕ → Option ℕ
+items_in live text = number_within 0 (most_items live) text
+
 -- how many workers: two, if that isn't given
 abbrev pub workers_in : Option (List ℕ) → Option ℕ
 workers_in None = Some 2

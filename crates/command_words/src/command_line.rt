@@ -2,7 +2,7 @@
 ghost use Rattle.std.specs.Prelude.{◌≡◌, ℕ, List, Some, None, map, option_map, true, IfErr, IfOk, MatchResult};
 ghost use Rattle.command_words.specs.CommandLine.{Asked, IsInRange, IsNoJobFor, Work, asked_by, asked_in, bad_flag, file_of, first_bad, is_plainly_asked, no_job_status, pipeline, plain_words, run, stencil, value_text, work_for, work_in, work_of};
 
-use crate::lists::{every_of, first_of, picks_of, value_of, workers_of};
+use crate::lists::{every_of, first_of, items_of, picks_of, stages_of, steps_of, workers_of};
 use crate::words::{Words, words_of};
 use job_ends::Status;
 use std::alloc::{AllocError, Global};
@@ -66,11 +66,25 @@ pub enum Job<'a> {
         steps: u32,
         workers: u32,
     },
+    /// The same, and keeps no events; says how fast it goes, if `progress` is wanted.
+    LiveStencil {
+        first: Vec<u32>,
+        steps: u32,
+        workers: u32,
+        progress: bool,
+    },
     /// Runs the pipeline of so many stages over so many items.
     Pipeline {
         stages: u32,
         items: u32,
         workers: u32,
+    },
+    /// The same, and keeps no events; says how fast it goes, if `progress` is wanted.
+    LivePipeline {
+        stages: u32,
+        items: u32,
+        workers: u32,
+        progress: bool,
     },
 }
 
@@ -87,13 +101,16 @@ impl<'a> Job<'a> {
             | Job::Replay { file, .. }
             | Job::Certify { file }
             | Job::Judge { file, .. } => Some(file),
-            Job::Stencil { .. } | Job::Pipeline { .. } => None,
+            Job::Stencil { .. }
+            | Job::LiveStencil { .. }
+            | Job::Pipeline { .. }
+            | Job::LivePipeline { .. } => None,
         }
     }
 }
 
-/// A value that is to be a number in a range, or a list of such numbers; or a flag of `run` that is to
-/// stand beside some words, and not beside others.
+/// A value that is to be a number in a range, or a list of such numbers; or a flag that is to stand beside
+/// some words, and not beside others.
 #[derive(Clone, Copy, Debug, PartialEq, Eq)]
 pub enum Value {
     /// LIST of a schedule.
@@ -101,8 +118,12 @@ pub enum Value {
     /// LIST of a stencil.
     First,
     Steps,
+    /// S of a stencil that keeps no events.
+    LiveSteps,
     Stages,
     Items,
+    /// The items of a pipeline that keeps no events.
+    LiveItems,
     Workers,
     /// N of a judge.
     Every,
@@ -123,8 +144,10 @@ impl Value {
             }
             Value::First => "LIST is 1 to 16 numbers of 0 to 1000000 with commas between them",
             Value::Steps => "S is a number of 0 to 100",
+            Value::LiveSteps => "S is a number of 0 to 4294967295",
             Value::Stages => "K is a number of 1 to 15",
             Value::Items => "the items are a number of 0 to 100",
+            Value::LiveItems => "the items are a number of 0 to 2000000000",
             Value::Workers => "the workers are a number of 1 to 16",
             Value::Every => "N is a number of 1 to 18446744073709551615, or one with an s after it",
             Value::Live => "--live keeps no events: leave --trace and --certain out",
@@ -185,7 +208,7 @@ impl From<AllocError> for NoJob {
     }
 }
 
-/// The flag of a run that doesn't go with its other words, if one doesn't.
+/// The flag that doesn't go with the other words, if one doesn't.
 fn bad_flag(trace: Option<&str>, certain: bool, live: bool, progress: bool) -> Option<Value>
     ensures { result ≡ bad_flag (option_map (λ t. t.now) trace.entry) certain live progress }
 {
@@ -239,20 +262,35 @@ fn stencil_for<'a>(
     first: &'a str,
     steps: &'a str,
     workers: Option<&'a str>,
+    live: bool,
+    progress: bool,
 ) -> Result<Job<'a>, NoJob>
-    ensures work { IfOk result (λ job. work_for (stencil first.now steps.now (option_map (λ t. t.now) workers.entry))
-        ≡ Some (work_of job)) }
+    ensures work { IfOk result (λ job. work_for (stencil first.now steps.now (option_map (λ t. t.now) workers.entry)
+        live progress) ≡ Some (work_of job)) }
     ensures range { IfOk result (λ job. IsInRange (work_of job)) }
-    ensures none { IfErr result (IsNoJobFor (stencil first.now steps.now (option_map (λ t. t.now) workers.entry))) }
+    ensures none { IfErr result (IsNoJobFor (stencil first.now steps.now (option_map (λ t. t.now) workers.entry)
+        live progress)) }
 {
     let first = first_of(alloc, first)?;
-    let steps = value_of(Value::Steps, 0..=100, steps)?;
+    let steps = steps_of(steps, live)?;
     let workers = workers_of(workers)?;
-    Ok(Job::Stencil {
-        first,
-        steps,
-        workers,
-    })
+    if let Some(flag) = bad_flag(None, false, live, progress) {
+        return Err(NoJob::BadValue(flag));
+    }
+    if live {
+        Ok(Job::LiveStencil {
+            first,
+            steps,
+            workers,
+            progress,
+        })
+    } else {
+        Ok(Job::Stencil {
+            first,
+            steps,
+            workers,
+        })
+    }
 }
 
 /// The pipeline of these words.
@@ -260,20 +298,35 @@ fn pipeline_for<'a>(
     stages: &'a str,
     items: &'a str,
     workers: Option<&'a str>,
+    live: bool,
+    progress: bool,
 ) -> Result<Job<'a>, NoJob>
-    ensures work { IfOk result (λ job. work_for (pipeline stages.now items.now (option_map (λ t. t.now) workers.entry))
-        ≡ Some (work_of job)) }
+    ensures work { IfOk result (λ job. work_for (pipeline stages.now items.now (option_map (λ t. t.now) workers.entry)
+        live progress) ≡ Some (work_of job)) }
     ensures range { IfOk result (λ job. IsInRange (work_of job)) }
-    ensures none { IfErr result (IsNoJobFor (pipeline stages.now items.now (option_map (λ t. t.now) workers.entry))) }
+    ensures none { IfErr result (IsNoJobFor (pipeline stages.now items.now (option_map (λ t. t.now) workers.entry)
+        live progress)) }
 {
-    let stages = value_of(Value::Stages, 1..=15, stages)?;
-    let items = value_of(Value::Items, 0..=100, items)?;
+    let stages = stages_of(stages)?;
+    let items = items_of(items, live)?;
     let workers = workers_of(workers)?;
-    Ok(Job::Pipeline {
-        stages,
-        items,
-        workers,
-    })
+    if let Some(flag) = bad_flag(None, false, live, progress) {
+        return Err(NoJob::BadValue(flag));
+    }
+    if live {
+        Ok(Job::LivePipeline {
+            stages,
+            items,
+            workers,
+            progress,
+        })
+    } else {
+        Ok(Job::Pipeline {
+            stages,
+            items,
+            workers,
+        })
+    }
 }
 
 /// The job of a command with its words.
@@ -306,12 +359,16 @@ fn job_for<'a>(alloc: Global, words: Words<'a>) -> Result<Job<'a>, NoJob>
             first,
             steps,
             workers,
-        } => stencil_for(alloc, first, steps, workers),
+            live,
+            progress,
+        } => stencil_for(alloc, first, steps, workers, live, progress),
         Words::Pipeline {
             stages,
             items,
             workers,
-        } => pipeline_for(stages, items, workers),
+            live,
+            progress,
+        } => pipeline_for(stages, items, workers, live, progress),
     }
 }
 

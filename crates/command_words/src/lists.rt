@@ -3,8 +3,8 @@ ghost use Rattle.std.specs.Prelude.{◌≡◌, ◌<◌, ◌≤◌, length, Some,
 ghost use Rattle.std.specs.Char.{is_ascii_digit};
 ghost use Rattle.std.specs.List.{list_all};
 ghost use Rattle.std.specs.Range.{range_inclusive_start, range_inclusive_end};
-ghost use Rattle.command_words.specs.CommandLine.{IsOfValue};
-ghost use Rattle.command_words.specs.Lists.{count_in, every_in, first_in, amount_of, before_s, each_in, list_in, listed_in, number_of_bits, number_within, workers_in};
+ghost use Rattle.command_words.specs.CommandLine.{IsOfValue, items_value, steps_value};
+ghost use Rattle.command_words.specs.Lists.{count_in, every_in, first_in, amount_of, before_s, each_in, items_in, list_in, listed_in, most_items, most_steps, number_of_bits, number_within, steps_in, workers_in};
 
 use crate::command_line::{Every, NoJob, Value};
 use std::alloc::Global;
@@ -114,6 +114,62 @@ pub(crate) fn value_of(name: Value, range: RangeInclusive<u32>, text: &str) -> R
         Some(number) => Ok(number),
         None => Err(NoJob::BadValue(name)),
     }
+}
+
+/// What the steps are to be.
+fn steps_value(live: bool) -> Value
+    ensures { result ≡ steps_value live }
+{
+    if live { Value::LiveSteps } else { Value::Steps }
+}
+
+/// How many steps a stencil goes at most: if its events aren't kept, any number of 32 bits.
+fn most_steps(live: bool) -> u32
+    ensures { result ≡ most_steps live }
+{
+    if live { 4_294_967_295 } else { 100 }
+}
+
+/// How many steps a stencil goes.
+pub(crate) fn steps_of(text: &str, live: bool) -> Result<u32, NoJob>
+    ensures steps { IfOk result (λ n. steps_in live text.now ≡ Some n) }
+    ensures within { IfOk result (λ n. n ≤ most_steps live) }
+    ensures none { IfErr result (IsOfValue (steps_value live) (steps_in live text.now)) }
+{
+    value_of(steps_value(live), 0..=most_steps(live), text)
+}
+
+/// How many stages a pipeline has.
+pub(crate) fn stages_of(text: &str) -> Result<u32, NoJob>
+    ensures stages { IfOk result (λ n. number_within 1 15 text.now ≡ Some n) }
+    ensures within { IfOk result (λ n. (0 < n) × (n ≤ 15)) }
+    ensures none { IfErr result (IsOfValue Value.Stages (number_within 1 15 text.now)) }
+{
+    value_of(Value::Stages, 1..=15, text)
+}
+
+/// What the items are to be.
+fn items_value(live: bool) -> Value
+    ensures { result ≡ items_value live }
+{
+    if live { Value::LiveItems } else { Value::Items }
+}
+
+/// How many items go through a pipeline at most: if its events aren't kept, as many as leave each item
+/// small enough for a message.
+fn most_items(live: bool) -> u32
+    ensures { result ≡ most_items live }
+{
+    if live { 2_000_000_000 } else { 100 }
+}
+
+/// How many items go through a pipeline.
+pub(crate) fn items_of(text: &str, live: bool) -> Result<u32, NoJob>
+    ensures items { IfOk result (λ n. items_in live text.now ≡ Some n) }
+    ensures within { IfOk result (λ n. n ≤ most_items live) }
+    ensures none { IfErr result (IsOfValue (items_value live) (items_in live text.now)) }
+{
+    value_of(items_value(live), 0..=most_items(live), text)
 }
 
 /// How many workers: two, if that isn't given.

@@ -2,7 +2,7 @@
 ghost use Rattle.std.specs.Prelude.{◌≡◌, ◌≢◌, List, Some, map, false, option_map, codes, IfErr, IfOk, MatchResult};
 ghost use Rattle.clap.specs.Words.{app_of, found_of, kind_of, new_app, rows_of, rule_of, with_rule, with_subcommand};
 ghost use Rattle.clap.specs.declared.builder.command.Command.TheViews.{out-Command as fields_of};
-ghost use Rattle.command_words.specs.CommandLine.{Asked, asked_among, asked_by, asked_in, bare_app, certify_app, events_app, file_rule, filed_among, filed_app, flag_rule, has_flag, judge_app, needed_rule, option_rule, pipeline_among, pipeline_app, program_app, replay_app, run_app, running_app, schedule_app, stencil_among, stencil_app, traced_app};
+ghost use Rattle.command_words.specs.CommandLine.{Asked, asked_among, asked_by, asked_in, bare_app, certify_app, events_app, file_rule, filed_among, filed_app, flag_rule, has_flag, judge_app, needed_rule, option_rule, pipeline_among, pipeline_app, program_app, replay_app, run_app, running_app, schedule_app, stencil_among, stencil_app, traced_app, with_workers};
 
 use crate::command_line::{NoJob, Value};
 use clap::error::ErrorKind;
@@ -43,11 +43,15 @@ pub(crate) enum Words<'a> {
         first: &'a str,
         steps: &'a str,
         workers: Option<&'a str>,
+        live: bool,
+        progress: bool,
     },
     Pipeline {
         stages: &'a str,
         items: &'a str,
         workers: Option<&'a str>,
+        live: bool,
+        progress: bool,
     },
 }
 
@@ -118,7 +122,11 @@ const CERTAIN_HELP: &str =
 const LIVE_HELP: &str =
     "Keeps no events: any number of tasks and phases, no trace, and the counts alone are printed";
 
-/// What `run --help` says of the flag `--progress`.
+/// What the kernels' help says of the flag `--live`.
+const LIVE_KERNEL_HELP: &str =
+    "Keeps no events: as many as 4,294,967,295 steps, or 2,000,000,000 items";
+
+/// What the help says of the flag `--progress`.
 const PROGRESS_HELP: &str = "Says once a second on standard error how fast it goes";
 
 /// What the options `--trace` say of OUT.
@@ -134,6 +142,7 @@ Each cell is a task with a phaser of its own, and looks at those of its neighbou
 becomes a quarter, rounded down, of twice itself and its neighbours; outside the row a cell is 0.
 Lines: cells and the values after the last step, totals. If a task is refused, as for want of history,
 the run is refused: refused NUMBER NAME.
+With --live nothing is replayed. Lines: cells, tasks T ended E refused R, phasers P, finishes F, totals.
 Exit status: 0 done, 1 refused, 2 bad words or this help, 3 a read or a write failed.";
 
 /// What `pipeline --help` says of the kernel and of the lines.
@@ -141,7 +150,14 @@ const PIPELINE_HELP: &str = "\
 Items 1, 2, 3 and so on go through stages, each a task that adds its own number, 1 to K.
 Lines: items and the values after the last stage, totals. If a task is refused, the run is refused:
 refused NUMBER NAME.
+With --live nothing is replayed. Lines: items, tasks T ended E refused R, phasers P, finishes F, totals.
 Exit status: 0 done, 1 refused, 2 bad words or this help, 3 a read or a write failed.";
+
+/// What the option `--steps` says of S.
+const STEPS_HELP: &str = "How many steps: 0 to 100, or more with --live";
+
+/// What the option `--items` says of N.
+const ITEMS_HELP: &str = "How many items: 0 to 100, or more with --live";
 
 /// What `replay --help` says of the file and of the lines.
 const REPLAY_HELP: &str = "\
@@ -383,15 +399,37 @@ fn steps_command<'a>(alloc: Global) -> Result<Command<'a>, AllocError>
             "The first values of the cells: 1 to 16 numbers of 0 to 1,000,000 with commas between",
         ),
     )?;
-    command.arg(needed(alloc, "steps", "S", "How many steps: 0 to 100"))
+    command.arg(needed(alloc, "steps", "S", STEPS_HELP))
 }
 
-/// `stencil --first LIST --steps S [--workers N]`.
+/// A kernel's command, with `[--workers N] [--live]`.
+fn live_kernel_command<'a>(alloc: Global, command: Command<'a>) -> Result<Command<'a>, AllocError>
+    requires local { (fields_of command).has_globals ≡ false }
+    ensures app { IfOk result (λ c. app_of c ≡ with_rule (with_rule (app_of command.entry)
+        (option_rule (codes "workers"))) (flag_rule (codes "live"))) }
+    ensures local { IfOk result (λ c. (fields_of c).has_globals ≡ false) }
+{
+    let live = flag(alloc, "live", LIVE_KERNEL_HELP);
+    command.arg(workers_argument(alloc))?.arg(live)
+}
+
+/// A kernel's command, with `[--workers N] [--live] [--progress]`.
+fn worked_command<'a>(alloc: Global, command: Command<'a>) -> Result<Command<'a>, AllocError>
+    requires local { (fields_of command).has_globals ≡ false }
+    ensures app { IfOk result (λ c. app_of c ≡ with_workers (app_of command.entry)) }
+    ensures local { IfOk result (λ c. (fields_of c).has_globals ≡ false) }
+{
+    let progress = flag(alloc, "progress", PROGRESS_HELP);
+    live_kernel_command(alloc, command)?.arg(progress)
+}
+
+/// `stencil --first LIST --steps S [--workers N] [--live] [--progress]`.
 fn stencil_command<'a>(alloc: Global) -> Result<Command<'a>, AllocError>
     ensures app { IfOk result (λ c. app_of c ≡ stencil_app) }
     ensures local { IfOk result (λ c. (fields_of c).has_globals ≡ false) }
 {
-    steps_command(alloc)?.arg(workers_argument(alloc))
+    let command = steps_command(alloc)?;
+    worked_command(alloc, command)
 }
 
 /// `pipeline --stages K --items N`.
@@ -407,15 +445,16 @@ fn items_command<'a>(alloc: Global) -> Result<Command<'a>, AllocError>
         PIPELINE_HELP,
         needed(alloc, "stages", "K", "How many stages: 1 to 15"),
     )?;
-    command.arg(needed(alloc, "items", "N", "How many items: 0 to 100"))
+    command.arg(needed(alloc, "items", "N", ITEMS_HELP))
 }
 
-/// `pipeline --stages K --items N [--workers N]`.
+/// `pipeline --stages K --items N [--workers N] [--live] [--progress]`.
 fn pipeline_command<'a>(alloc: Global) -> Result<Command<'a>, AllocError>
     ensures app { IfOk result (λ c. app_of c ≡ pipeline_app) }
     ensures local { IfOk result (λ c. (fields_of c).has_globals ≡ false) }
 {
-    items_command(alloc)?.arg(workers_argument(alloc))
+    let command = items_command(alloc)?;
+    worked_command(alloc, command)
 }
 
 /// `replay FILE [--upgrade OUT]`.
@@ -594,6 +633,8 @@ fn stencil_among<'a>(found: &ArgMatches<'a>) -> Option<Words<'a>>
         first,
         steps,
         workers: found.get_str("workers"),
+        live: has_flag(found, "live"),
+        progress: has_flag(found, "progress"),
     })
 }
 
@@ -607,6 +648,8 @@ fn pipeline_among<'a>(found: &ArgMatches<'a>) -> Option<Words<'a>>
         stages,
         items,
         workers: found.get_str("workers"),
+        live: has_flag(found, "live"),
+        progress: has_flag(found, "progress"),
     })
 }
 

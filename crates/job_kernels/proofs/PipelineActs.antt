@@ -28,7 +28,7 @@ use Rattle.world_model.proofs.SpawnUnderWay.{names_fresh}
 use Rattle.trace_walk.specs.Follows.{drawn}
 use Rattle.job_kernels.specs.declared.pipeline_body.PipelineBody.{PipelineBody}
 use Rattle.job_kernels.specs.PipelineLines.{items_at}
-use Rattle.job_kernels.specs.PipelineTasks.{root_task, pipeline_next}
+use Rattle.job_kernels.specs.PipelineTasks.{most_items, root_task, pipeline_next}
 use Rattle.job_kernels.proofs.SentSums.{step_sends_nothing}
 use Rattle.job_kernels.proofs.Endings.{not_ending}
 use Rattle.job_kernels.proofs.Goes.{tried_as, GoesSmoothly}
@@ -128,7 +128,7 @@ module _ (l : Limits) (stages items : ℕ) (w : List WorldEvent) (st : Standing 
 
   -- ---- where the pipeline stands after it
 
-  module _ (few_items : items ≤ 100) (few_stages : stages ≤ 15) where
+  module _ (few_items : items ≤ most_items) (few_stages : stages ≤ 15) where
     after_act : (t : ℕ) (a : Tried) → is_accepted l w (event_by t a) ≡ true → is_idle t w ≡ true
         → SeesOf w t a → Act t a → Standing stages items (event_by t a ∷ w)
     after_act t a ok idle sees (Act.makes n z e root) =
@@ -173,7 +173,7 @@ module _ (l : Limits) (stages items : ℕ) (w : List WorldEvent) (st : Standing 
 
 -- ---- each history
 
-module _ (l : Limits) (stages items : ℕ) (few_items : items ≤ 100) (few_stages : stages ≤ 15) where
+module _ (l : Limits) (stages items : ℕ) (few_items : items ≤ most_items) (few_stages : stages ≤ 15) where
   abbrev pub Smooth : List WorldEvent → Type 0
   Smooth w = GoesSmoothly pipeline_next (root_task stages items) l w
 

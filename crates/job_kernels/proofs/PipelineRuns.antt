@@ -1,6 +1,7 @@
 -- The tasks of a pipeline go by it.
 use Rattle.std.proofs.Common.{ℕ, zero, suc, pos, ◌+◌, ◌*◌, ◌≡◌, ◌≤◌, ◌<◌, Bool, true, false, List, [], ◌∷◌, ◌++◌, map, flat_map, Option, Some, None, refl, sym, ap, subst, arith, ℤ}
 use Rattle.std.specs.List.{range_with_len}
+use Rattle.std.proofs.Math.Nat.{min-eq_left}
 use Rattle.std.proofs.lemmas.Bool.{le-leb, lt-leb, lt-ltb, le-ltb}
 use Rattle.phase_modes.specs.declared.reg.Mode.TheVariants.{SigWait}
 use Rattle.phase_model.specs.declared.op.Look.{Look}
@@ -15,7 +16,7 @@ use Rattle.job_kernels.specs.declared.pipeline_body.Role.TheVariants as kinds
 use Rattle.job_kernels.specs.declared.pipeline_body.PipelineBody.{PipelineBody}
 use Rattle.job_kernels.specs.Pipeline.{pipeline_item}
 use Rattle.job_kernels.specs.Tasks.{Does, Line, GoesBy}
-use Rattle.job_kernels.specs.PipelineTasks.{greatest, stage_turns, spawn, pipeline_next, root_task}
+use Rattle.job_kernels.specs.PipelineTasks.{greatest, most_items, stage_turns, spawn, pipeline_next, root_task}
 use Rattle.job_kernels.specs.PipelineLines.{number_at, shown, items_at, sending, source_lines, sink_lines, stage_lines, SourceGoesBy, StageGoesBy, SinkGoesBy, making, spawning}
 
 abbrev pub Goes : Does PipelineBody → List (Line PipelineBody) → Type 0
@@ -44,13 +45,13 @@ pub items_in_order : (k p : ℕ) → items_at k (k + p) ≡ Value (pos (pipeline
 items_in_order k p = ap (shown k) (number_from k p)
 
 -- an item stays small
-item_at_most : (k i : ℕ) → i ≤ 100 → k ≤ 15 → pipeline_item k i ≤ i + 15 * k
+item_at_most : (k i : ℕ) → i ≤ most_items → k ≤ 15 → pipeline_item k i ≤ i + 15 * k
 item_at_most zero i h few = omega arith
 item_at_most (suc k) i h few =
     let before : pipeline_item k i ≤ i + 15 * k = item_at_most k i h (omega arith) in
     omega (arith, before)
 
-pub item_small : (k i : ℕ) → i ≤ 100 → k ≤ 15 → pipeline_item k i ≤ greatest
+pub item_small : (k i : ℕ) → i ≤ most_items → k ≤ 15 → pipeline_item k i ≤ greatest
 item_small k i h few = omega (arith, item_at_most k i h few)
 
 -- ---- the source
@@ -64,27 +65,28 @@ source items sent sends = record {
   });
 }
 
-pub source_sends : (heard : Answer) (items sent : ℕ) → sent < items →
+pub source_sends : (heard : Answer) (items sent : ℕ) → items ≤ most_items → sent < items →
     pipeline_next heard (source items sent true) ≡ (Send 0 0 (pos (sent + 1)), source items (sent + 1) false)
-source_sends heard items sent h = rw (lt-ltb sent items h) refl
+source_sends heard items sent few h =
+    let small : sent + 1 ≤ greatest = omega (arith, few, h) in rw (lt-ltb sent items h, min-eq_left small) refl
 
 source_ends : (heard : Answer) (items : ℕ) → (pipeline_next heard (source items items true)).0 ≡ End
 source_ends heard items = rw (le-ltb items items (omega arith)) refl
 
-source_goes : (items c p : ℕ) (heard : Answer) → p + c ≡ items →
+source_goes : (items c p : ℕ) (heard : Answer) → items ≤ most_items → p + c ≡ items →
     Goes (pipeline_next heard (source items p true)) (flat_map (source_lines items_at) (range_with_len p c))
-source_goes items zero p heard e =
+source_goes items zero p heard few e =
     let P : ℕ → Type 0 = λ u. (pipeline_next heard (source items u true)).0 ≡ End in
     let same : items ≡ p = omega (arith, e) in
     subst P same (source_ends heard items)
-source_goes items (suc c) p heard e =
+source_goes items (suc c) p heard few e =
     let lines : List (Line PipelineBody) = flat_map (source_lines items_at) (range_with_len (p + 1) c) in
     let P : Does PipelineBody → Type 0 = λ d. Goes d (source_lines items_at p ++ lines) in
-    subst P (sym (source_sends heard items p (omega (arith, e))))
-    (refl, (refl, source_goes items c (p + 1) Done (omega (arith, e))))
+    subst P (sym (source_sends heard items p few (omega (arith, e))))
+    (refl, (refl, source_goes items c (p + 1) Done few (omega (arith, e))))
 
-pub source_goes_by_pipeline : (items : ℕ) → SourceGoesBy items_at items
-source_goes_by_pipeline items = source_goes items items 0 Started (omega arith)
+pub source_goes_by_pipeline : (items : ℕ) → items ≤ most_items → SourceGoesBy items_at items
+source_goes_by_pipeline items few = source_goes items items 0 Started few (omega arith)
 
 -- ---- a stage
 
@@ -110,7 +112,7 @@ pub stage_hears : (k turns x : ℕ) → x ≤ greatest →
 stage_hears k turns x h = rw (le-leb x greatest h) refl
 
 heard_goes : (o : Option ℕ) (k turns : ℕ) (lines : List (Line PipelineBody)) →
-    ((i : ℕ) → o ≡ Some i → i ≤ 100) → k < 15 → ((m : Moment) → Goes (stage_does k turns m) lines) →
+    ((i : ℕ) → o ≡ Some i → i ≤ most_items) → k < 15 → ((m : Moment) → Goes (stage_does k turns m) lines) →
     Goes (pipeline_next (Saw (shown k o)) (stage k turns Hears)) (sending (k + 1) (shown (suc k) o) ++ lines)
 heard_goes None k turns lines few small rest = rest Hears
 heard_goes (Some i) k turns lines few small rest =
@@ -119,10 +121,10 @@ heard_goes (Some i) k turns lines few small rest =
     subst P (sym (stage_hears k turns x (item_small k i (few i refl) (omega arith)))) (refl, rest Turns)
 
 -- which items may stand in a phase
-pub few_items : (k p c i : ℕ) → p + suc c ≤ 100 + k → number_at k p ≡ Some i → i ≤ 100
+pub few_items : (k p c i : ℕ) → p + suc c ≤ most_items + k → number_at k p ≡ Some i → i ≤ most_items
 few_items k p c i h e = omega (arith, number_counts k p i e)
 
-stage_goes : (k c p : ℕ) (m : Moment) → p + c ≤ 100 + k → k < 15 →
+stage_goes : (k c p : ℕ) (m : Moment) → p + c ≤ most_items + k → k < 15 →
     Goes (stage_does k c m) (flat_map (stage_lines items_at k) (range_with_len p c))
 stage_goes k zero p m few small = refl
 stage_goes k (suc c) p m few small = (
@@ -134,7 +136,7 @@ stage_goes k (suc c) p m few small = (
   ),
 )
 
-pub stages_go_by_pipeline : (items k : ℕ) → items ≤ 100 → k < 15 → StageGoesBy items_at items k
+pub stages_go_by_pipeline : (items k : ℕ) → items ≤ most_items → k < 15 → StageGoesBy items_at items k
 stages_go_by_pipeline items k few small = (refl, stage_goes k (items + k) 0 Turns (omega (arith, few)) small)
 
 -- ---- the sink

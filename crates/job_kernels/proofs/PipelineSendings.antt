@@ -11,7 +11,7 @@ use Rattle.job_kernels.specs.declared.pipeline_body.Moment.TheVariants.{Turns, H
 use Rattle.job_kernels.specs.declared.pipeline_body.PipelineBody.{PipelineBody}
 use Rattle.job_kernels.specs.Pipeline.{pipeline_item}
 use Rattle.job_kernels.specs.Tasks.{Does, Line}
-use Rattle.job_kernels.specs.PipelineTasks.{pipeline_next}
+use Rattle.job_kernels.specs.PipelineTasks.{most_items, pipeline_next}
 use Rattle.job_kernels.specs.PipelineLines.{number_at, shown, items_at, sending, source_lines, stage_lines, SourceGoesBy, StageGoesBy}
 use Rattle.job_kernels.proofs.PipelineRuns.{Goes, source, source_sends, stage, stage_does, stage_hears, item_small, few_items}
 
@@ -30,26 +30,26 @@ source_sent items p (Value v) lines goes =
     let value : v ≡ pos (p + 1) = cc goes.0 in
     record { sends = ap Value value; goes = goes.1.1 }
 
-source_step : (items : ℕ) (sent : ℕ → ℕ → Look ℤ) (c p : ℕ) (heard : Answer) → p + suc c ≡ items →
+source_step : (items : ℕ) (sent : ℕ → ℕ → Look ℤ) (c p : ℕ) (heard : Answer) → items ≤ most_items → p + suc c ≡ items →
     Goes (pipeline_next heard (source items p true)) (flat_map (source_lines sent) (range_with_len p (suc c))) →
     SourceSent items p (sent 0 p) (flat_map (source_lines sent) (range_with_len (p + 1) c))
-source_step items sent c p heard e goes =
+source_step items sent c p heard few e goes =
     let lines : List (Line PipelineBody) = flat_map (source_lines sent) (range_with_len (p + 1) c) in
     let P : Does PipelineBody → Type 0 = λ does. Goes does (source_lines sent p ++ lines) in
-    source_sent items p (sent 0 p) lines (subst P (source_sends heard items p (omega (arith, e))) goes)
+    source_sent items p (sent 0 p) lines (subst P (source_sends heard items p few (omega (arith, e))) goes)
 
-source_sends_items : (items : ℕ) (sent : ℕ → ℕ → Look ℤ) (c p : ℕ) (heard : Answer) → p + c ≡ items →
+source_sends_items : (items : ℕ) (sent : ℕ → ℕ → Look ℤ) (c p : ℕ) (heard : Answer) → items ≤ most_items → p + c ≡ items →
     Goes (pipeline_next heard (source items p true)) (flat_map (source_lines sent) (range_with_len p c)) →
     (d : ℕ) → d < c → sent 0 (p + d) ≡ items_at 0 (p + d)
-source_sends_items items sent zero p heard e goes d lt = absurd (omega arith)
-source_sends_items items sent (suc c) p heard e goes zero lt =
+source_sends_items items sent zero p heard few e goes d lt = absurd (omega arith)
+source_sends_items items sent (suc c) p heard few e goes zero lt =
     let P : ℕ → Type 0 = λ q. sent 0 q ≡ items_at 0 q in
     let same : p ≡ p + 0 = omega arith in
-    subst P same (source_step items sent c p heard e goes).sends
-source_sends_items items sent (suc c) p heard e goes (suc d) lt =
+    subst P same (source_step items sent c p heard few e goes).sends
+source_sends_items items sent (suc c) p heard few e goes (suc d) lt =
     let P : ℕ → Type 0 = λ q. sent 0 q ≡ items_at 0 q in
     let same : p + 1 + d ≡ p + suc d = omega arith in
-    subst P same (source_sends_items items sent c (p + 1) Done (omega (arith, e)) (source_step items sent c p heard e goes).goes d (omega (arith, lt)))
+    subst P same (source_sends_items items sent c (p + 1) Done few (omega (arith, e)) (source_step items sent c p heard few e goes).goes d (omega (arith, lt)))
 
 -- ---- a stage
 
@@ -72,7 +72,7 @@ no_turn k zero ph m v lines goes = cc goes.0
 no_turn k (suc c) ph m v lines goes = cc goes.0
 
 stage_sent : (sent : ℕ → ℕ → Look ℤ) (k c p : ℕ) (o : Option ℕ) (x : Look ℤ) →
-    ((i : ℕ) → o ≡ Some i → i ≤ 100) → k < 15 →
+    ((i : ℕ) → o ≡ Some i → i ≤ most_items) → k < 15 →
     Goes (pipeline_next (Saw (shown k o)) (stage k c Hears)) (sending (k + 1) x ++ later sent k p c) →
     StageSent k c o x (later sent k p c)
 stage_sent sent k c p None Nothing few small goes = record { sends = refl; moment = Hears; goes = goes }
@@ -91,7 +91,7 @@ stage_sent sent k c p (Some i) (Value v) few small goes =
     let value : v ≡ pos (x + (k + 1)) = cc heard.0 in
     record { sends = ap Value value; moment = Turns; goes = heard.1 }
 
-stage_step : (sent : ℕ → ℕ → Look ℤ) (k c p : ℕ) (m : Moment) → p + suc c ≤ 100 + k → k < 15 →
+stage_step : (sent : ℕ → ℕ → Look ℤ) (k c p : ℕ) (m : Moment) → p + suc c ≤ most_items + k → k < 15 →
     sent k p ≡ items_at k p → Goes (stage_does k (suc c) m) (later sent k p (suc c)) →
     StageSent k c (number_at k p) (sent (suc k) (suc p)) (later sent k (p + 1) c)
 stage_step sent k c p m few small seen goes =
@@ -100,7 +100,7 @@ stage_step sent k c p m few small seen goes =
     stage_sent sent k c (p + 1) (number_at k p) (sent (suc k) (suc p)) (λ i e. few_items k p c i few e) small
     (subst P seen goes.1.1)
 
-stage_sends_items : (sent : ℕ → ℕ → Look ℤ) (k c p : ℕ) (m : Moment) → p + c ≤ 100 + k → k < 15 →
+stage_sends_items : (sent : ℕ → ℕ → Look ℤ) (k c p : ℕ) (m : Moment) → p + c ≤ most_items + k → k < 15 →
     ((q : ℕ) → q < p + c → sent k q ≡ items_at k q) → Goes (stage_does k c m) (later sent k p c) →
     (d : ℕ) → d < c → sent (suc k) (suc (p + d)) ≡ items_at (suc k) (suc (p + d))
 stage_sends_items sent k zero p m few small seen goes d lt = absurd (omega arith)
@@ -118,13 +118,13 @@ stage_sends_items sent k (suc c) p m few small seen goes (suc d) lt =
 
 -- ---- all of them
 
-pub tasks_send_pipeline : (items stages : ℕ) (sent : ℕ → ℕ → Look ℤ) → items ≤ 100 → stages ≤ 15 →
+pub tasks_send_pipeline : (items stages : ℕ) (sent : ℕ → ℕ → Look ℤ) → items ≤ most_items → stages ≤ 15 →
     SourceGoesBy sent items → ((k : ℕ) → k < stages → StageGoesBy sent items k) →
     (k p : ℕ) → k ≤ stages → p < items + k → sent k p ≡ items_at k p
 tasks_send_pipeline items stages sent few small begun all zero p le lt =
     let P : ℕ → Type 0 = λ q. sent 0 q ≡ items_at 0 q in
     let same : 0 + p ≡ p = omega arith in
-    subst P same (source_sends_items items sent items 0 Started (omega arith) begun p (omega (arith, lt)))
+    subst P same (source_sends_items items sent items 0 Started few (omega arith) begun p (omega (arith, lt)))
 tasks_send_pipeline items stages sent few small begun all (suc k) zero le lt = (all k (omega arith)).0
 tasks_send_pipeline items stages sent few small begun all (suc k) (suc p) le lt =
     let P : ℕ → Type 0 = λ q. sent (suc k) (suc q) ≡ items_at (suc k) (suc q) in

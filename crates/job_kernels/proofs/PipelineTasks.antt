@@ -9,7 +9,7 @@ use Rattle.job_script.specs.declared.act.Answer.TheVariants.{Started, Done, Saw}
 use Rattle.job_kernels.specs.declared.pipeline_body.PipelineBody.{PipelineBody}
 use Rattle.job_kernels.specs.Results.{value_seen}
 use Rattle.job_kernels.specs.Tasks.{Does, Line, GoesBy}
-use Rattle.job_kernels.specs.PipelineTasks.{source_task, stage_task, sink_task, pipeline_next}
+use Rattle.job_kernels.specs.PipelineTasks.{most_items, source_task, stage_task, sink_task, pipeline_next}
 use Rattle.job_kernels.specs.PipelineLines.{items_at, sending, source_lines, stage_lines, sink_lines}
 use Rattle.job_kernels.proofs.PipelineRuns.{source_goes_by_pipeline, stages_go_by_pipeline, sink_sees_all}
 use Rattle.job_kernels.proofs.Numbers.{le_next, le_self, lt_next_le, next_on, next_on_le, none_below_zero, part_le, without_zero, zero_least, zero_plus}
@@ -244,12 +244,12 @@ none_at_first stages j (suc p) lt = absurd (no_more p lt)
     no_more : (p : ℕ) → suc p < 0 + 1 → ⊥
     no_more p h = omega arith
 
-pub task_starts : (stages items i : ℕ) → items ≤ 100 → stages ≤ 15 → i ≤ stages + 1 → Starts stages items i
+pub task_starts : (stages items i : ℕ) → items ≤ most_items → stages ≤ 15 → i ≤ stages + 1 → Starts stages items i
 task_starts stages items zero few small le =
     record {
       done = 0;
       at = source_at stages items 0 items (pipeline_next Started (source_task items)) (zero_plus items)
-          (source_goes_by_pipeline items);
+          (source_goes_by_pipeline items few);
       most = zero_least (items + 0);
       none = λ p lt. absurd (none_below_zero p lt);
     }

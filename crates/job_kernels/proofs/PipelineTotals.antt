@@ -24,7 +24,7 @@ use Rattle.job_kernels.specs.declared.pipeline_body.Role.TheVariants as kinds
 use Rattle.job_kernels.specs.declared.pipeline_body.PipelineBody.{PipelineBody}
 use Rattle.job_kernels.specs.Pipeline.{pipeline, pipeline_item}
 use Rattle.job_kernels.specs.PipelineLines.{items_at}
-use Rattle.job_kernels.specs.PipelineTasks.{root_next, root_task, spawn, pipeline_next}
+use Rattle.job_kernels.specs.PipelineTasks.{most_items, root_next, root_task, spawn, pipeline_next}
 use Rattle.job_kernels.specs.Results.{value_seen}
 use Rattle.job_kernels.specs.Tasks.{Does}
 use Rattle.trace_walk.specs.Whole.{IsWhole}
@@ -130,7 +130,7 @@ stage_pairs g stages j c lt = rw (lt-ltb j stages lt) refl
 sink_pairs : (g : ℕ → Mode → ℕ) (stages j c : ℕ) → stages ≤ j → of_pairs g c (pairs_of stages (suc j)) ≡ g c Wait + 0
 sink_pairs g stages j c le = rw (le-ltb j stages le) refl
 
-module _ (l : Limits) (stages items : ℕ) (few_items : items ≤ 100) (few_stages : stages ≤ 15)
+module _ (l : Limits) (stages items : ℕ) (few_items : items ≤ most_items) (few_stages : stages ≤ 15)
     (w : List WorldEvent)
     (whole : IsWhole pipeline_next (root_task stages items) l w) where
   -- ---- what holds of the run

@@ -23,7 +23,7 @@ use Rattle.world_model.proofs.PairsAsked.{some_registered}
 use Rattle.job_kernels.specs.Pipeline.{pipeline_item, pipeline}
 use Rattle.job_kernels.specs.Results.{value_seen, values_of, items_of}
 use Rattle.job_kernels.specs.PipelineLines.{number_at, items_at}
-use Rattle.job_kernels.specs.PipelineTasks.{root_task, pipeline_next}
+use Rattle.job_kernels.specs.PipelineTasks.{most_items, root_task, pipeline_next}
 use Rattle.job_kernels.proofs.PipelineRuns.{items_in_order}
 use Rattle.trace_walk.specs.Whole.{IsWhole}
 use Rattle.job_kernels.proofs.Numbers.{le_both_ways, le_self, le_without_one, lt_zero_plus, no_next_le_zero, none_below_zero, zero_least, zero_plus}
@@ -46,7 +46,7 @@ pub record Holds (stages items : ℕ) (w : List WorldEvent) : Type 0 where
   pub saw : LooksSaw w
   pub stands : Standing stages items w
 
-module _ (l : Limits) (stages items : ℕ) (few_items : items ≤ 100) (few_stages : stages ≤ 15) where
+module _ (l : Limits) (stages items : ℕ) (few_items : items ≤ most_items) (few_stages : stages ≤ 15) where
   abbrev Goes : List WorldEvent → Type 0
   Goes w = GoesSmoothly pipeline_next (root_task stages items) l w
 
@@ -198,7 +198,7 @@ least_kept Nothing = refl
 
 -- ---- the whole run
 
-module _ (l : Limits) (stages items : ℕ) (few_items : items ≤ 100) (few_stages : stages ≤ 15)
+module _ (l : Limits) (stages items : ℕ) (few_items : items ≤ most_items) (few_stages : stages ≤ 15)
     (w : List WorldEvent)
     (whole : IsWhole pipeline_next (root_task stages items) l w) where
   k : is_legal_world l w ≡ true

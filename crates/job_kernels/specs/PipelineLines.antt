@@ -10,7 +10,7 @@ use Rattle.job_script.specs.declared.act.Answer.TheVariants.{Started, Done, Made
 use Rattle.job_kernels.specs.declared.pipeline_body.PipelineBody.{PipelineBody}
 use Rattle.job_kernels.specs.Pipeline.{pipeline_item}
 use Rattle.job_kernels.specs.Tasks.{Line, GoesBy}
-use Rattle.job_kernels.specs.PipelineTasks.{source_task, stage_task, sink_task, root_task, spawn, pipeline_next}
+use Rattle.job_kernels.specs.PipelineTasks.{most_items, source_task, stage_task, sink_task, root_task, spawn, pipeline_next}
 
 -- ---- what stands where
 
@@ -72,12 +72,12 @@ SinkGoesBy sent items stages =
 
 -- a law: the source sends the items
 abbrev pub SourceGoesByPipeline : Type 0
-SourceGoesByPipeline = (items : ℕ) → SourceGoesBy items_at items
+SourceGoesByPipeline = (items : ℕ) → items ≤ most_items → SourceGoesBy items_at items
 
 -- a law: as long as a stage sees the items as they are behind the stages before it, it sends them as they
 -- are behind one stage more
 abbrev pub StagesGoByPipeline : Type 0
-StagesGoByPipeline = (items k : ℕ) → items ≤ 100 → k < 15 → StageGoesBy items_at items k
+StagesGoByPipeline = (items k : ℕ) → items ≤ most_items → k < 15 → StageGoesBy items_at items k
 
 -- a law: the sink looks at each phase behind the last stage, until the last item has come
 abbrev pub SinkSeesAll : Type 0
@@ -86,7 +86,7 @@ SinkSeesAll = (items stages : ℕ) (sent : ℕ → ℕ → Look ℤ) → SinkGoe
 -- a law: whatever the source and the stages send, if each stage sees what was sent to the phaser before it
 -- for the phase that has ended, they send the items of the pipeline
 abbrev pub TasksSendPipeline : Type 0
-TasksSendPipeline = (items stages : ℕ) (sent : ℕ → ℕ → Look ℤ) → items ≤ 100 → stages ≤ 15 →
+TasksSendPipeline = (items stages : ℕ) (sent : ℕ → ℕ → Look ℤ) → items ≤ most_items → stages ≤ 15 →
     SourceGoesBy sent items → ((k : ℕ) → k < stages → StageGoesBy sent items k) →
     (k p : ℕ) → k ≤ stages → p < items + k → sent k p ≡ items_at k p
 

@@ -1,5 +1,5 @@
 -- The pipeline as tasks: what each does next, and what it is after that.
-use Rattle.std.specs.Prelude.{ℕ, zero, suc, pos, ◌+◌, nat_le, nat_lt, if◌then◌else◌, true, false, [], ◌∷◌, Option, Some, None}
+use Rattle.std.specs.Prelude.{ℕ, zero, suc, pos, ◌+◌, min, nat_le, Bool, nat_lt, if◌then◌else◌, true, false, [], ◌∷◌, Option, Some, None}
 use Rattle.phase_modes.specs.declared.reg.Mode.TheVariants.{Sig, SigWait, Wait}
 use Rattle.phase_model.specs.declared.op.Op.TheVariants.{Least}
 use Rattle.job_script.specs.declared.act.Act.{Act}
@@ -16,9 +16,13 @@ use Rattle.job_kernels.specs.declared.pipeline_body.Role.TheVariants as kinds
 use Rattle.job_kernels.specs.declared.pipeline_body.PipelineBody.{PipelineBody}
 use Rattle.job_kernels.specs.Tasks.{seen_in, pair_on, Does}
 
--- the most that an item becomes
+-- how many items there are at most
+abbrev pub most_items : ℕ
+most_items = 2000000000
+
+-- the most that an item becomes: with the number of a stage added it fits a message
 abbrev pub greatest : ℕ
-greatest = 1000000
+greatest = 2000001000
 
 -- ---- the source: it sends each item, and ends a turn after each
 
@@ -26,7 +30,7 @@ greatest = 1000000
 abbrev pub source_sends : Source → Act PipelineBody × Source
 source_sends s =
     if nat_lt s.sent s.items then
-    (Send 0 0 (pos (s.sent + 1)), record s { sent = s.sent + 1; sends = false })
+    (Send 0 0 (pos (min (s.sent + 1) greatest)), record s { sent = s.sent + 1; sends = false })
     else (End, s)
 
 abbrev pub source_next : Source → Act PipelineBody × Source
@@ -104,6 +108,10 @@ abbrev pub root_task : ℕ → ℕ → PipelineBody
 root_task stages items =
     record { role = kinds.Root (record { stages = stages; items = items; made = 0; spawned = 0 }) }
 
+abbrev pub is_sink_role : roles.Role → Bool
+is_sink_role (kinds.Sink s) = true
+is_sink_role _ = false
+
 -- ---- all four
 
 abbrev pub role_next : Answer → roles.Role → Act PipelineBody × roles.Role
@@ -115,3 +123,7 @@ role_next heard (kinds.Sink s) = ((sink_next s).0, kinds.Sink (sink_next s).1)
 -- what a task of the pipeline does next, if it hears this, and what it is after that
 abbrev pub pipeline_next : Answer → PipelineBody → Does PipelineBody
 pipeline_next heard b = ((role_next heard b.role).0, record { role = (role_next heard b.role).1 })
+
+-- whether it is the sink
+abbrev pub is_sink : PipelineBody → Bool
+is_sink b = is_sink_role b.role

@@ -1,5 +1,5 @@
 -- The stencil as tasks: what each does next, and what it is after that.
-use Rattle.std.specs.Prelude.{ℕ, zero, suc, pos, ◌+◌, ◌-◌, min, nat_lt, if◌then◌else◌, List, [], ◌∷◌, ◌++◌, length, map, replicate, slice_index, None}
+use Rattle.std.specs.Prelude.{ℕ, zero, suc, pos, ◌+◌, ◌-◌, min, nat_lt, if◌then◌else◌, List, [], ◌∷◌, ◌++◌, length, map, replicate, slice_index, Option, None, Some}
 use Rattle.phase_modes.specs.declared.reg.Mode.TheVariants.{SigWait, Wait}
 use Rattle.phase_modes.specs.declared.phased.Pair.{Pair}
 use Rattle.phase_model.specs.declared.op.Op.TheVariants.{Sum}
@@ -13,6 +13,7 @@ use Rattle.job_kernels.specs.declared.stencil_body.Moment.TheVariants.{Sends, Tu
 use Rattle.job_kernels.specs.declared.stencil_body.Role as roles
 use Rattle.job_kernels.specs.declared.stencil_body.Role.TheVariants as kinds
 use Rattle.job_kernels.specs.declared.stencil_body.StencilBody.{StencilBody}
+use Rattle.job_kernels.specs.declared.stencil_body.StencilCell.{StencilCell}
 use Rattle.job_kernels.specs.Stencil.{weighed}
 use Rattle.job_kernels.specs.Tasks.{value_of, pair_on, Does}
 
@@ -112,6 +113,14 @@ root_task first steps = record {
     spawned = 0;
   });
 }
+
+-- the cell of a task, as it is by now; none of the root
+abbrev pub cell_in : roles.Role → Option StencilCell
+cell_in (kinds.Root r) = None
+cell_in (kinds.Cell c) = Some (record { place = c.place; value = c.value })
+
+abbrev pub cell_held : StencilBody → Option StencilCell
+cell_held b = cell_in b.role
 
 -- ---- both
 

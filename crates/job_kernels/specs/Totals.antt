@@ -61,6 +61,6 @@ pipeline_totals stages items = record {
 -- a whole run has these totals
 abbrev pub RunsTotalPipeline : Type 0
 RunsTotalPipeline = (l : Limits) (stages items : ℕ) (w : List WorldEvent)
-    → stages ≤ 15 → items ≤ 100
+    → stages ≤ 15 → items ≤ piping.most_items
     → IsWhole piping.pipeline_next (piping.root_task stages items) l w
     → (report_of l w).totals ≡ pipeline_totals stages items

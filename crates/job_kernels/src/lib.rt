@@ -27,7 +27,7 @@ pub use pipeline_body::PipelineBody;
 pub use refused::{lowest_refused, refusal_of};
 pub use results::{cells_of, items_of};
 pub use stencil::stencil_plain;
-pub use stencil_body::StencilBody;
+pub use stencil_body::{StencilBody, StencilCell};
 pub use whole_runs::{
     pipeline_runs_come_to_it, pipeline_runs_total_it, stencil_looks_see_cells,
     stencil_runs_come_to_it, stencil_runs_total_it, stencil_values_are_cells,

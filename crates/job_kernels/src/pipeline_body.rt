@@ -1,7 +1,7 @@
 //! The pipeline as tasks: a source, the stages, and a sink, each with a phaser between it and the
 //! next.
 ghost use Rattle.std.specs.Prelude.{◌≡◌, ◌≤◌, ◌<◌, ◌+◌, Some, Ok, IfErr};
-ghost use Rattle.job_kernels.specs.PipelineTasks.{source_next, stage_turns, stage_sends, stage_at, stage_next, sink_turns, sink_next, spawn_source, spawn_stage, spawn_sink, spawn, root_next, root_task, pipeline_next};
+ghost use Rattle.job_kernels.specs.PipelineTasks.{is_sink, source_next, stage_turns, stage_sends, stage_at, stage_next, sink_turns, sink_next, spawn_source, spawn_stage, spawn_sink, spawn, root_next, root_task, pipeline_next};
 
 use crate::heard::{operator, pair, seen_in};
 use crate::pipeline::PipelineSize;
@@ -11,15 +11,15 @@ use phase_modes::{Mode, Phased, Refusal};
 use tasks_in_flight::Body;
 use trace_walk::Goes;
 
-/// The greatest value of an item.
-const GREATEST: u32 = 1_000_000;
+/// The greatest value of an item: with the number of a stage added it fits a message.
+const GREATEST: u32 = 2_000_001_000;
 
 /// The root: it makes a phaser before the first stage and one behind each, then spawns the source,
 /// the stages and the sink, and ends.
 #[derive(Clone, Copy)]
 struct Root {
     stages: u8,
-    items: u8,
+    items: u32,
     made: u32,
     spawned: u32,
 }
@@ -27,7 +27,7 @@ struct Root {
 /// The source: it sends each item, and ends a turn after each.
 #[derive(Clone, Copy)]
 struct Source {
-    items: u8,
+    items: u32,
     sent: u32,
     sends: bool,
 }
@@ -47,7 +47,7 @@ enum Moment {
 #[derive(Clone, Copy)]
 struct Stage {
     before: u8,
-    turns: u32,
+    turns: u64,
     moment: Moment,
 }
 
@@ -55,7 +55,7 @@ struct Stage {
 #[derive(Clone, Copy)]
 struct Sink {
     phaser: u32,
-    turns: u32,
+    turns: u64,
     looks: bool,
 }
 
@@ -126,7 +126,7 @@ impl Root {
         let phaser = u32::from(before);
         let stage = Stage {
             before,
-            turns: u32::from(self.items) + phaser,
+            turns: u64::from(self.items) + u64::from(before),
             moment: Moment::Turns,
         };
         let mut phasers = Phased::none();
@@ -141,7 +141,7 @@ impl Root {
         let phaser = u32::from(self.stages);
         let sink = Sink {
             phaser,
-            turns: u32::from(self.items) + phaser,
+            turns: u64::from(self.items) + u64::from(self.stages),
             looks: false,
         };
         let mut phasers = Phased::none();
@@ -167,12 +167,12 @@ impl Source {
             self.sends = true;
             return Act::Next;
         }
-        if self.sent >= u32::from(self.items) {
+        if self.sent >= self.items {
             return Act::End;
         }
         self.sent += 1;
         self.sends = false;
-        Act::Send(0, 0, self.sent as i32)
+        Act::Send(0, 0, self.sent.min(GREATEST) as i32)
     }
 }
 
@@ -216,7 +216,7 @@ impl Stage {
 
     /// It sends this item on, with its number added.
     fn send(&mut self, item: u32) -> Act<PipelineBody>
-        requires { item ≤ 1000000 }
+        requires { item ≤ GREATEST }
         ensures does { result ≡ (stage_sends (Some item) self.old).0 }
         ensures is { self.new ≡ (stage_sends (Some item) self.old).1 }
     {
@@ -250,16 +250,25 @@ impl PipelineBody {
     /// The root of a pipeline of this size.
     pub fn root(size: PipelineSize) -> PipelineBody
         requires stages { size.stages ≤ 15 }
-        requires items { size.items ≤ 100 }
         ensures { result ≡ root_task size.stages size.items }
     {
         PipelineBody {
             role: Role::Root(Root {
                 stages: size.stages as u8,
-                items: size.items as u8,
+                items: size.items,
                 made: 0,
                 spawned: 0,
             }),
+        }
+    }
+
+    /// Whether this is the sink, which sees the items behind the last stage.
+    pub fn is_sink(&self) -> bool
+        ensures { result ≡ is_sink self.now }
+    {
+        match self.role {
+            Role::Sink(_) => true,
+            _ => false,
         }
     }
 }

@@ -1,7 +1,7 @@
 //! The stencil as tasks: one for each cell, which has a phaser of its own and looks at those of its
 //! neighbours.
 ghost use Rattle.std.specs.Prelude.{◌≡◌, ◌≤◌, ◌<◌, length, Ok, IfErr};
-ghost use Rattle.job_kernels.specs.StencilTasks.{right_of, left_of, sends, turns, looks_left, looks_right, weighs, cell_next, cell_task, phasers_of, root_next, root_task, stencil_next};
+ghost use Rattle.job_kernels.specs.StencilTasks.{cell_held, right_of, left_of, sends, turns, looks_left, looks_right, weighs, cell_next, cell_task, phasers_of, root_next, root_task, stencil_next};
 
 use crate::heard::{operator, pair, value_of};
 use crate::stencil::{cell_at, weighed};
@@ -209,6 +209,25 @@ impl StencilBody {
                 made: 0,
                 spawned: 0,
             }),
+        }
+    }
+}
+
+/// A cell of the row.
+#[derive(Clone, Copy, Debug, PartialEq, Eq)]
+pub struct StencilCell {
+    pub place: u32,
+    pub value: u32,
+}
+
+impl StencilBody {
+    /// The cell of its task, as it is by now; none of the root.
+    pub fn cell(&self) -> Option<StencilCell>
+        ensures { result ≡ cell_held self.now }
+    {
+        match self.role {
+            Role::Cell(Cell { place, value, .. }) => Some(StencilCell { place, value }),
+            Role::Root(_) => None,
         }
     }
 }

@@ -25,7 +25,10 @@ use job_ends::{Failure, Reads, Status, bytes_of, write_text};
 use job_kernels::PipelineSize;
 use judge_job::{Every, judge_from};
 use phase_modes::Refusal;
-use run_jobs::{Silent, Workers, certain_on, certify_on, live_on, pipeline_on, run_on, stencil_on};
+use run_jobs::{
+    Silent, Workers, certain_on, certify_on, live_on, live_pipeline_on, live_stencil_on,
+    pipeline_on, run_on, stencil_on,
+};
 use std::alloc::{AllocError, Global};
 use std::env;
 use std::fs::File;
@@ -178,6 +181,15 @@ fn do_on<H: Threads + Wait + Sync, R: Read>(
             steps,
             workers,
         } => stencil(rt, on_threads(threads, *workers), first, *steps),
+        Job::LiveStencil {
+            first,
+            steps,
+            workers,
+            progress,
+        } => {
+            let workers = on_threads(threads, *workers);
+            live_stencil(rt, workers, first, *steps, *progress)
+        }
         Job::Pipeline {
             stages,
             items,
@@ -188,6 +200,18 @@ fn do_on<H: Threads + Wait + Sync, R: Read>(
                 items: *items,
             };
             pipeline(rt, on_threads(threads, *workers), size)
+        }
+        Job::LivePipeline {
+            stages,
+            items,
+            workers,
+            progress,
+        } => {
+            let size = PipelineSize {
+                stages: *stages,
+                items: *items,
+            };
+            live_pipeline(rt, on_threads(threads, *workers), size, *progress)
         }
     }
 }
@@ -408,6 +432,50 @@ fn stencil<H: Threads + Wait + Sync>(
 {
     let (alloc, mut out, mut faults) = (rt.alloc(), rt.stdout(), rt.stderr());
     stencil_on(workers, alloc, first, steps, &mut out, &mut faults)
+}
+
+/// Runs the stencil, keeps no events, and prints its cells and the counts on standard output. If
+/// `progress` is wanted, how fast the run goes is said on standard error.
+fn live_stencil<H: Threads + Wait + Sync>(
+    rt: &HostRuntime,
+    workers: Workers<'_, H>,
+    first: &[u32],
+    steps: u32,
+    progress: bool,
+) -> Status
+    requires few { length first.now ≤ 16 }
+    requires workers { (0 < workers.number) × (workers.number ≤ 16) }
+    ensures usage { result ≢ Status.Usage }
+{
+    let (alloc, mut out, mut faults) = (rt.alloc(), rt.stdout(), rt.stderr());
+    if progress {
+        let speed = Speed::new(rt);
+        live_stencil_on(workers, alloc, first, steps, &speed, &mut out, &mut faults)
+    } else {
+        live_stencil_on(workers, alloc, first, steps, &Silent, &mut out, &mut faults)
+    }
+}
+
+/// Runs the pipeline, keeps no events, and prints its items and the counts on standard output. If
+/// `progress` is wanted, how fast the run goes is said on standard error.
+fn live_pipeline<H: Threads + Wait + Sync>(
+    rt: &HostRuntime,
+    workers: Workers<'_, H>,
+    size: PipelineSize,
+    progress: bool,
+) -> Status
+    requires stages { size.stages ≤ 15 }
+    requires items { size.items ≤ 2000000000 }
+    requires workers { (0 < workers.number) × (workers.number ≤ 16) }
+    ensures usage { result ≢ Status.Usage }
+{
+    let (alloc, mut out, mut faults) = (rt.alloc(), rt.stdout(), rt.stderr());
+    if progress {
+        let speed = Speed::new(rt);
+        live_pipeline_on(workers, alloc, size, &speed, &mut out, &mut faults)
+    } else {
+        live_pipeline_on(workers, alloc, size, &Silent, &mut out, &mut faults)
+    }
 }
 
 /// Runs the pipeline, and prints its items on standard output.

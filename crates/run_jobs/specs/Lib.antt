@@ -4,4 +4,5 @@ pub mod Certificate
 pub mod KernelsWorked
 pub mod Printed
 pub mod Worked
+pub mod LiveKernels
 pub mod Living

@@ -6,8 +6,10 @@ mod asking;
 mod certain;
 mod certifying;
 mod ending;
+mod live_kernels;
 mod living;
 mod printing;
+mod row;
 mod running;
 mod working;
 
@@ -15,6 +17,7 @@ pub use asking::run_program;
 pub use certain::{certain_bytes, certain_on};
 pub use certifying::{certificate_of, certify_bytes, certify_on};
 pub use ending::NoCertificate;
+pub use live_kernels::{live_pipeline_on, live_stencil_on};
 pub use live_rt::Pulses;
 pub use living::{Progress, Silent, live_bytes, live_on};
 pub use phased_rt::Workers;

@@ -1,15 +1,18 @@
-//! Runs a program's text by workers without a store, and prints what can be known of such a run.
-ghost use Rattle.std.specs.Prelude.{◌≡◌, ◌≢◌, ◌<◌, ◌≤◌, Ok, OnOk, IfOk, IfErr};
+//! Runs tasks by workers without a store, and prints what can be known of such a run of a program's text.
+ghost use Rattle.std.specs.Prelude.{◌≡◌, ◌≢◌, ◌<◌, ◌≤◌, None, Ok, OnOk, IfOk, IfErr};
 ghost use Rattle.std.specs.Io.KnownBytes.{Appends, Keeps};
 ghost use Rattle.std.specs.String.{string_bytes};
 ghost use Rattle.job_script.specs.Program.{Program as Programs};
 ghost use Rattle.job_ends.specs.Ends.{status_of, ReportsStatus};
 ghost use Rattle.text_jobs.specs.Texts.{program_spelled};
+ghost use Rattle.live_rt.specs.Gone.{AreAllGone};
+ghost use Rattle.tasks_in_flight.specs.Refused.{IsRunRefused};
 ghost use Rattle.run_jobs.specs.Living.{RunsLive, live_text};
 ghost use Rattle.run_jobs.specs.Worked.{IsOfRun};
 
+use crate::row::{Leaves, Row};
 use job_ends::{Failure, Status, put_text};
-use job_script::{Act, Answer, ScriptBody};
+use job_script::{Act, Answer};
 use live_rt::{Body, Counts, Ends, OpenGate, Pulses, Room, run_live};
 use phase_model::Bound;
 use phase_modes::Refusal;
@@ -18,23 +21,25 @@ use std::alloc::Global;
 use std::fmt;
 use std::io::Write;
 use std::sync::Wait;
+use std::sync::atomic::{AtomicU8, Ordering};
 use std::thread::Threads;
 use text_jobs::program_of;
 
-/// The bound of a phaser that the program makes without one: a signaller that is so many phases ahead of a
+/// The bound of a phaser that is made without one: a signaller that is so many phases ahead of a
 /// waiter has to wait.
 const FAR: u32 = 65_536;
 
-/// How many phasers and finishes a program may have at once.
+/// How many phasers and finishes there may be at once.
 const ROOM: Room = Room {
     phasers: 4_096,
     finishes: 4_096,
 };
 
-/// A body of the program, whose phasers all have a bound.
+/// A body whose phasers all have a bound, and the row in which it leaves its values.
 #[derive(Drop)]
-struct Bounded<'p> {
-    body: ScriptBody<'p>,
+struct Bounded<'r, B> {
+    body: B,
+    row: &'r Row,
 }
 
 /// The bound, or the greatest if there is none.
@@ -46,10 +51,10 @@ fn some_bound(bound: Option<Bound>) -> Option<Bound> {
 }
 
 /// The same act, by which each phaser has a bound.
-fn with_bounds<'p>(act: Act<ScriptBody<'p>>) -> Act<Bounded<'p>> {
+fn with_bounds<'r, B: Body>(act: Act<B>, row: &'r Row) -> Act<Bounded<'r, B>> {
     match act {
-        Act::Async(body, pairs) => Act::Async(Bounded { body }, pairs),
-        Act::AsyncAll(body) => Act::AsyncAll(Bounded { body }),
+        Act::Async(body, pairs) => Act::Async(Bounded { body, row }, pairs),
+        Act::AsyncAll(body) => Act::AsyncAll(Bounded { body, row }),
         Act::OpenFinish => Act::OpenFinish,
         Act::ShutFinish => Act::ShutFinish,
         Act::New(mode, ops, bound) => Act::New(mode, ops, some_bound(bound)),
@@ -63,16 +68,18 @@ fn with_bounds<'p>(act: Act<ScriptBody<'p>>) -> Act<Bounded<'p>> {
     }
 }
 
-impl<'p> Body for Bounded<'p> {
-    fn step(&mut self, answer: Answer) -> Result<Act<Bounded<'p>>, Refusal> {
+impl<'r, B: Leaves> Body for Bounded<'r, B> {
+    fn step(&mut self, answer: Answer) -> Result<Act<Bounded<'r, B>>, Refusal> {
+        self.body.hears(answer, self.row);
         match self.body.step(answer) {
-            Ok(act) => Ok(with_bounds(act)),
+            Ok(act) => Ok(with_bounds(act, self.row)),
             Err(refusal) => Err(refusal),
         }
     }
 
-    /// A script's statement does nothing.
-    fn single(&mut self, _number: u32) {}
+    fn single(&mut self, number: u32) {
+        self.body.single(number);
+    }
 }
 
 /// Is told how far a run is, while it goes on.
@@ -89,18 +96,85 @@ impl Progress for Silent {
     fn beat(&self, _pulses: &Pulses) {}
 }
 
-/// Whoever is told of a program's tasks.
+/// Whoever is told of the tasks.
 #[derive(Drop)]
 struct Told<'a, P> {
     progress: &'a P,
+    /// The number of what a task was refused, the root aside: of the first of which was heard. 0 if none was.
+    refused: AtomicU8,
 }
 
-impl<'a, 'p, P: Progress> Ends<Bounded<'p>> for Told<'a, P> {
-    fn ended(&self, _body: Bounded<'p>, _refused: Option<Refusal>) {}
+impl<'a, 'r, B: Leaves, P: Progress> Ends<Bounded<'r, B>> for Told<'a, P> {
+    fn ended(&self, body: Bounded<'r, B>, refused: Option<Refusal>) {
+        body.body.ends(body.row);
+        if let Some(refusal) = refused {
+            let number = refusal.number();
+            let _first = self
+                .refused
+                .compare_exchange(0, number, Ordering::SeqCst, Ordering::SeqCst);
+        }
+    }
 
     fn beat(&self, pulses: &Pulses) {
         self.progress.beat(pulses);
     }
+}
+
+/// What is known of a run that is over.
+#[derive(Drop)]
+pub(crate) struct Lived {
+    pub(crate) counts: Counts,
+    /// What a task was refused, if one ended by that: the root, or else the first of which was heard.
+    pub(crate) refused: Option<Refusal>,
+}
+
+/// What a task was refused, by how many were refused something, what the root was, and the number of
+/// what was heard of first. A number that is none is taken for a run that can't be told.
+fn first_refusal(tasks: u64, root: Option<Refusal>, heard: u8) -> Option<Refusal>
+    ensures none { result ≡ None → tasks ≡ 0 }
+    ensures some { tasks ≡ 0 → result ≡ None }
+{
+    if tasks == 0 {
+        return None;
+    }
+    match root.or(Refusal::of_number(heard)) {
+        Some(refusal) => Some(refusal),
+        None => Some(Refusal::NotExplained(0)),
+    }
+}
+
+/// Runs the root, and all that comes of it, by these workers without a store. Values are left in the row.
+pub(crate) fn live_run<B: Leaves + Send, R: Threads + Wait + Sync, P: Progress + Sync>(
+    workers: Workers<'_, R>,
+    alloc: Global,
+    root: B,
+    row: &Row,
+    progress: &P,
+) -> Result<Lived, Refusal>
+    requires { (0 < workers.number) × (workers.number ≤ 16) }
+    ensures nobody { IfOk result (λ l. AreAllGone l.counts) }
+    ensures all { IfOk result (λ l. l.refused ≡ None → l.counts.refused ≡ 0) }
+    ensures refused { IfErr result (λ e. IsRunRefused e) }
+{
+    let told = Told {
+        progress,
+        refused: AtomicU8::new(0),
+    };
+    let root = Bounded { body: root, row };
+    let ended = run_live(
+        workers.rt,
+        alloc,
+        root,
+        ROOM,
+        workers.number,
+        &told,
+        &OpenGate,
+    )?;
+    let heard = told.refused.load(Ordering::SeqCst);
+    Ok(Lived {
+        counts: ended.counts,
+        refused: first_refusal(ended.counts.refused, ended.refused, heard),
+    })
 }
 
 /// The lines of a run without a store: how many tasks, phasers and finishes there were, and the totals.
@@ -131,7 +205,7 @@ impl fmt::Display for Lines {
 }
 
 /// The lines of a run of these counts.
-fn lines_of(alloc: Global, counts: Counts) -> Result<String, Refusal>
+pub(crate) fn lines_of(alloc: Global, counts: Counts) -> Result<String, Refusal>
     ensures lines { IfOk result (λ text. string_bytes text ≡ live_text counts) }
     ensures memory { IfErr result (λ e. e ≡ Refusal.Memory) }
 {
@@ -157,20 +231,9 @@ pub fn live_bytes<R: Threads + Wait + Sync, W: Write, P: Progress + Sync>(
     ensures failure { IfErr result (IsOfRun input.now) }
 {
     let program = program_of(alloc, input)?;
-    let root = Bounded {
-        body: program.root(),
-    };
-    let told = Told { progress };
-    let ended = run_live(
-        workers.rt,
-        alloc,
-        root,
-        ROOM,
-        workers.number,
-        &told,
-        &OpenGate,
-    )?;
-    let lines = lines_of(alloc, ended.counts)?;
+    let row = Row::new(alloc, 0)?;
+    let lived = live_run(workers, alloc, program.root(), &row, progress)?;
+    let lines = lines_of(alloc, lived.counts)?;
     put_text(out, lines.as_str())?;
     Ok(())
 }

@@ -26,7 +26,7 @@ pub enum Kernel {
 
 impl Kernel {
     /// The word before the values.
-    fn word(self) -> &'static str
+    pub(crate) fn word(self) -> &'static str
         ensures { result.now ≡ word_of self }
     {
         match self {
@@ -48,7 +48,7 @@ impl Kernel {
 }
 
 /// Adds a text.
-fn push_text(text: &mut String, more: &str) -> Result<(), Refusal>
+pub(crate) fn push_text(text: &mut String, more: &str) -> Result<(), Refusal>
     ensures text { OnOk result (string_bytes text.new ≡ string_bytes text.old ++ more.now) }
     ensures memory { IfErr result (λ e. e ≡ Refusal.Memory) }
 {
@@ -70,7 +70,7 @@ fn push_value(alloc: Global, text: &mut String, value: i64) -> Result<(), Refusa
 }
 
 /// Adds the values, each after a blank.
-fn push_values(alloc: Global, text: &mut String, values: &[i64]) -> Result<(), Refusal>
+pub(crate) fn push_values(alloc: Global, text: &mut String, values: &[i64]) -> Result<(), Refusal>
     ensures text { OnOk result (string_bytes text.new ≡ string_bytes text.old ++ flat_map value_text values.now) }
     ensures memory { IfErr result (λ e. e ≡ Refusal.Memory) }
 {
