@@ -414,6 +414,59 @@ fn kernel_words(rt: HostRuntime) {
     );
 }
 
+#[test]
+fn live_kernel_words(rt: HostRuntime) {
+    let cells = [
+        "phaser_run",
+        "stencil",
+        "--first=7",
+        "--live",
+        "--steps",
+        "4294967295",
+    ];
+    match job_of(rt.alloc(), &cells) {
+        Ok(
+            Job::LiveStencil {
+                first,
+                steps,
+                workers,
+                progress,
+            },
+        ) => {
+            equal(&rt, first.as_slice(), &[7]);
+            equal(&rt, steps, 4_294_967_295);
+            equal(&rt, workers, 2);
+            equal(&rt, progress, false);
+        }
+        _ => panic!(&rt; "no stencil without events"),
+    }
+    let items = [
+        "phaser_run",
+        "pipeline",
+        "--progress",
+        "--items=2000000000",
+        "--stages=15",
+        "--live",
+        "--workers=16",
+    ];
+    match job_of(rt.alloc(), &items) {
+        Ok(
+            Job::LivePipeline {
+                stages,
+                items,
+                workers,
+                progress,
+            },
+        ) => {
+            equal(&rt, stages, 15);
+            equal(&rt, items, 2_000_000_000);
+            equal(&rt, workers, 16);
+            equal(&rt, progress, true);
+        }
+        _ => panic!(&rt; "no pipeline without events"),
+    }
+}
+
 /// How many picks LIST spells; none if it is no list.
 fn length(alloc: Global, list: &str) -> Result<Option<usize>, Fail> {
     let option = format!(in alloc; "--picks={list}")?;

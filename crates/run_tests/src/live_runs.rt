@@ -1,10 +1,12 @@
-//! Runs without a store: a pipeline, a server, and a program.
+//! Runs without a store: a pipeline, a server, a program, and both kernels.
 ghost use Rattle.std.specs.Prelude.{◌<◌, ◌≤◌};
 
+use job_ends::Status;
+use job_kernels::PipelineSize;
 use live_rt::{Act, Answer, Body, Counts, Ends, OpenGate, Room, Unheard, run_live};
 use phase_model::{Bound, Look, Op, Ops};
 use phase_modes::{Mode, Pair, Phased, Refusal};
-use run_jobs::{Silent, Workers, live_on};
+use run_jobs::{Silent, Workers, live_on, live_pipeline_on, live_stencil_on};
 use std::alloc::Global;
 use std::process::Abort;
 use std::sync::Wait;
@@ -223,4 +225,48 @@ fn a_program(rt: HostRuntime) {
     let wanted = "tasks 3 ended 3 refused 0\nphasers 1\nfinishes 1\n\
         totals registered 3 signals 4 passes 4 drops 3 sends 4 up 33 down 0\n";
     assert!(&rt; out.as_slice() == wanted.as_bytes(), "other lines");
+}
+
+// As in `kernels/on_workers.rt`, where 8 4 0 becomes 3 3 1 in two steps: beside the root there is a task for
+// each cell, with a phaser of its own.
+#[test]
+fn a_stencil(rt: HostRuntime) {
+    let wanted = "cells 3 3 1\ntasks 4 ended 4 refused 0\nphasers 3\nfinishes 1\n\
+        totals registered 10 signals 6 passes 14 drops 10 sends 9 up 29 down 0\n";
+    for number in [1, 2, 4] {
+        let mut out = Vec::new(rt.alloc());
+        let mut faults = Vec::new(rt.alloc());
+        let workers = Workers { rt: &rt, number };
+        let status = live_stencil_on(
+            workers,
+            rt.alloc(),
+            &[8, 4, 0],
+            2,
+            &Silent,
+            &mut out,
+            &mut faults,
+        );
+        equal(&rt, status, Status::Done);
+        assert!(&rt; out.as_slice() == wanted.as_bytes(), "other lines");
+    }
+}
+
+// The worked example `pipeline_two_stages`: beside the root there are a source, two stages and a sink, and a
+// phaser between each two of them.
+#[test]
+fn items_through_stages(rt: HostRuntime) {
+    let wanted = "items 4 5 6\ntasks 5 ended 5 refused 0\nphasers 3\nfinishes 1\n\
+        totals registered 9 signals 10 passes 22 drops 9 sends 9 up 30 down 0\n";
+    let size = PipelineSize {
+        stages: 2,
+        items: 3,
+    };
+    for number in [1, 2, 4] {
+        let mut out = Vec::new(rt.alloc());
+        let mut faults = Vec::new(rt.alloc());
+        let workers = Workers { rt: &rt, number };
+        let status = live_pipeline_on(workers, rt.alloc(), size, &Silent, &mut out, &mut faults);
+        equal(&rt, status, Status::Done);
+        assert!(&rt; out.as_slice() == wanted.as_bytes(), "other lines");
+    }
 }

@@ -340,6 +340,86 @@ fn bad_kernels(rt: HostRuntime) -> Result<(), Fail> {
 }
 
 #[test]
+fn bad_live_kernels(rt: HostRuntime) -> Result<(), Fail> {
+    const PROGRESS: &str = "error: --progress goes with --live\n";
+    const ROWS: [Row; 7] = [
+        (
+            &[
+                "phaser_run",
+                "stencil",
+                "--first=1",
+                "--steps=4294967296",
+                "--live",
+            ],
+            "error: S is a number of 0 to 4294967295\n",
+        ),
+        (
+            &[
+                "phaser_run",
+                "pipeline",
+                "--stages=1",
+                "--items=2000000001",
+                "--live",
+            ],
+            "error: the items are a number of 0 to 2000000000\n",
+        ),
+        (
+            &[
+                "phaser_run",
+                "stencil",
+                "--first=1",
+                "--steps=1",
+                "--progress",
+            ],
+            PROGRESS,
+        ),
+        (
+            &[
+                "phaser_run",
+                "pipeline",
+                "--stages=1",
+                "--items=1",
+                "--progress",
+            ],
+            PROGRESS,
+        ),
+        // Of several faults the first is named: first the values, and then a flag.
+        (
+            &[
+                "phaser_run",
+                "stencil",
+                "--first=1",
+                "--steps=101",
+                "--progress",
+            ],
+            "error: S is a number of 0 to 100\n",
+        ),
+        (
+            &[
+                "phaser_run",
+                "pipeline",
+                "--stages=1",
+                "--items=1",
+                "--workers=0",
+                "--progress",
+            ],
+            "error: the workers are a number of 1 to 16\n",
+        ),
+        (
+            &[
+                "phaser_run",
+                "stencil",
+                "--first=1",
+                "--steps=1",
+                "--live=yes",
+            ],
+            "unexpected value 'yes'",
+        ),
+    ];
+    all_bad(&rt, rt.alloc(), ROWS.as_slice())
+}
+
+#[test]
 fn help(rt: HostRuntime) -> Result<(), Fail> {
     const ROWS: [Row; 12] = [
         (&["phaser_run", "--help"], "Exit status: 0 done"),
