@@ -1,5 +1,5 @@
 -- What is printed of a whole run of a kernel.
-use Rattle.std.proofs.Common.{ℕ, ℤ, ◌≡◌, ◌≤◌, None, List, ◌++◌, length, Ok, ap, ◌∙◌}
+use Rattle.std.proofs.Common.{ℕ, ℤ, ◌≡◌, ◌≤◌, None, List, ◌++◌, length, Ok, ap, arith, ◌∙◌}
 use Rattle.std.specs.Prelude.{codes, flat_map}
 use Rattle.world_model.specs.declared.report.TotalsLine.{TotalsLine}
 use Rattle.world_model.specs.Report.{Report}
@@ -39,9 +39,10 @@ pub pipeline_printed : (stages items : ℕ) (r : Report) → stages ≤ 15 → i
     → kernel_text (Pipeline stages) r ≡ pipeline_text stages items
 pipeline_printed stages items r few_stages few_items run none =
     let whole = reported piping.pipeline_next (piping.root_task stages items) r run none in
+    let small : items ≤ piping.most_items = omega (arith, few_items) in
     ap (λ vs. text (codes "items") r.totals vs)
     (ap (λ x. items_of stages x) whole.is
-    ∙ runs_come_to_pipeline default_limits stages items whole.history few_stages few_items whole.whole)
+    ∙ runs_come_to_pipeline default_limits stages items whole.history few_stages small whole.whole)
     ∙ ap (λ totals. values_text (codes "items") (pipeline stages items) totals)
     (ap (λ (x : Report). x.totals) whole.is
-    ∙ runs_total_pipeline default_limits stages items whole.history few_stages few_items whole.whole)
+    ∙ runs_total_pipeline default_limits stages items whole.history few_stages small whole.whole)
