@@ -1,7 +1,5 @@
 //! How a task's act is begun, and made if it is one event.
-ghost use Rattle.std.specs.Prelude.{◌≡◌};
-
-use crate::driver::Crew;
+use crate::driver::Team;
 use crate::ended::Ends;
 use crate::shared::{Worker, one_more};
 use crate::task::{Item, Task};
@@ -11,23 +9,10 @@ use phase_model::Terms;
 use phase_modes::{FinishNumber, Mode, Phased, Refusal, TaskNumber};
 use std::sync::Wait;
 use task_standing::Plan;
-use tasks_in_flight::{Body, Gate};
+use tasks_in_flight::{Body, Gate, answer_to, begun_by};
 use world_model::{Begun, Tried};
 
-/// What begins by this act, if it goes on by a plan and spawns nobody.
-fn begun_by<B: Drop>(act: &Act<B>) -> Option<Begun> {
-    match act {
-        Act::ShutFinish => Some(Begun::Shut),
-        Act::Signal => Some(Begun::Signal),
-        Act::Wait => Some(Begun::Wait),
-        Act::Next => Some(Begun::Next),
-        Act::NextSingle(number) => Some(Begun::NextSingle(*number)),
-        Act::End => Some(Begun::End),
-        _ => None,
-    }
-}
-
-impl<'a, B: Body, J: SlotLogs, E: Ends<B>, G: Gate> Crew<'a, B, J, E, G> {
+impl<'a, B: Body, J: SlotLogs, E: Ends<B>, G: Gate> Team<'a, B, J, E, G> {
     /// Whether the task may make the act, as far as it knows itself; if it may not, it comes to
     /// its end.
     fn may_try(&self, task: &mut Task<B, J>, tried: &Tried) -> bool {
@@ -101,14 +86,14 @@ impl<'a, B: Body, J: SlotLogs, E: Ends<B>, G: Gate> Crew<'a, B, J, E, G> {
     }
 
     /// Begins an act that goes on by a plan, if it isn't refused. Once it has ended the
-    /// body hears of it, if it hears anything more.
-    fn enter(&self, task: &mut Task<B, J>, begun: Begun) {
-        let plan = Plan::of(&begun);
-        let answer = answer_to(&begun);
-        if self.may_try(task, &Tried::Begun(begun)) {
-            task.standing.begin(plan);
-            task.answer = answer;
+    /// body hears of it, if it hears anything more. Whether it has begun.
+    fn begin(&self, task: &mut Task<B, J>, begun: Begun) -> bool {
+        let may = self.may_try(task, &Tried::Begun(begun));
+        if may {
+            task.standing.begin(Plan::of(&begun));
+            task.answer = answer_to(&begun);
         }
+        may
     }
 
     /// Begins to spawn a child. The child's memory is taken before the act is looked at.
@@ -119,11 +104,7 @@ impl<'a, B: Body, J: SlotLogs, E: Ends<B>, G: Gate> Crew<'a, B, J, E, G> {
         let Ok(child) = Task::new(self.shared.alloc, its, body, home) else {
             return item.task.give_up(Refusal::Memory);
         };
-        let begun = Begun::Async(number, pairs);
-        let plan = Plan::of(&begun);
-        if self.may_try(&mut item.task, &Tried::Begun(begun)) {
-            item.task.standing.begin(plan);
-            item.task.answer = Some(job_script::Answer::Spawned(number));
+        if self.begin(&mut item.task, Begun::Async(number, pairs)) {
             item.unborn = Some(child);
         }
     }
@@ -151,10 +132,12 @@ impl<'a, B: Body, J: SlotLogs, E: Ends<B>, G: Gate> Crew<'a, B, J, E, G> {
                 self.send(rt, worker, &mut item.task, phaser, accumulator, value)
             }
             Act::Look(phaser, accumulator) => self.look(rt, &mut item.task, phaser, accumulator),
-            other => match begun_by(&other) {
-                Some(begun) => self.enter(&mut item.task, begun),
-                None => return Err(Refusal::NotNow),
-            },
+            other => {
+                let Some(begun) = begun_by(&other) else {
+                    return Err(Refusal::NotNow);
+                };
+                let _begun = self.begin(&mut item.task, begun);
+            }
         }
         Ok(())
     }
@@ -180,14 +163,5 @@ impl<'a, B: Body, J: SlotLogs, E: Ends<B>, G: Gate> Crew<'a, B, J, E, G> {
                 Ok(())
             }
         }
-    }
-}
-
-/// What the body hears once this act has ended: after its task's end nothing.
-fn answer_to(begun: &Begun) -> Option<job_script::Answer> {
-    match begun {
-        Begun::Async(child, _) => Some(job_script::Answer::Spawned(*child)),
-        Begun::End => None,
-        _ => Some(job_script::Answer::Done),
     }
 }

@@ -1,11 +1,11 @@
 //! The calls on phasers and finishes behind their locks, for the tasks that hold them. Those whom a call
 //! wakes are given to the queue before it answers.
-ghost use Rattle.std.specs.Prelude.{◌≡◌, ◌<◌, [], true, IfOk};
+ghost use Rattle.std.specs.Prelude.{◌≡◌, ◌<◌, IfOk, length, slice_index_or};
 
 use crate::shared::{Shared, Worker, one_more};
 use crate::task::{Item, Place, Task};
 use job_script::Answer;
-use live_tables::{At, SlotLogs};
+use live_tables::SlotLogs;
 use phase_model::{LongLook, Look, Terms};
 use phase_modes::{Mode, Pair, Refusal};
 use phaser_core::{PassAnswer, Phase, SignalAnswer};
@@ -27,11 +27,16 @@ fn narrow(look: LongLook) -> Result<Look, Refusal>
 }
 
 impl<B: Body, J: SlotLogs> Shared<B, J> {
-    /// Whether the table has that slot.
-    fn is_slot(&self, at: At) -> bool
-        ensures { result ≡ true → at.slot < self.now.phasers.slots }
+    /// The place of this phaser among those that the task holds, whose slot the table has. `NotRegistered` if
+    /// there is none.
+    fn held(&self, task: &Task<B, J>, phaser: u32) -> Result<usize, Refusal>
+        ensures place { IfOk result (λ i. i < length task.now.places.items) }
+        ensures slot { IfOk result (λ i. (d : _) → (slice_index_or task.now.places.items i d).at.slot < self.now.phasers.slots) }
     {
-        (at.slot as usize) < self.phasers.slots
+        match task.place(phaser) {
+            Some(i) if (task.places[i].at.slot as usize) < self.phasers.slots => Ok(i),
+            _ => Err(Refusal::NotRegistered),
+        }
     }
 
     /// The body hears of the phaser that was made. `NotNow` if it would have no bound.
@@ -56,14 +61,9 @@ impl<B: Body, J: SlotLogs> Shared<B, J> {
         item: &mut Item<B, J>,
         pair: Pair,
     ) -> Result<(), Refusal> {
-        let Some(i) = item.task.place(pair.phaser) else {
-            return Err(Refusal::NotRegistered);
-        };
+        let i = self.held(&item.task, pair.phaser)?;
         let place = &mut item.task.places[i];
         let at = place.at;
-        if !self.is_slot(at) {
-            return Err(Refusal::NotRegistered);
-        }
         let child = self
             .phasers
             .register(rt, at, &mut place.seen, place.me, pair.mode)?;
@@ -80,13 +80,8 @@ impl<B: Body, J: SlotLogs> Shared<B, J> {
         accumulator: u8,
         value: i32,
     ) -> Result<(), Refusal> {
-        let Some(i) = task.place(phaser) else {
-            return Err(Refusal::NotRegistered);
-        };
+        let i = self.held(task, phaser)?;
         let place = &mut task.places[i];
-        if !self.is_slot(place.at) {
-            return Err(Refusal::NotRegistered);
-        }
         self.phasers.send(rt, place.at, &mut place.seen, place.me, accumulator, value)?;
         task.standing.note_act();
         task.answer = Some(Answer::Done);
@@ -101,13 +96,8 @@ impl<B: Body, J: SlotLogs> Shared<B, J> {
         phaser: u32,
         accumulator: u8,
     ) -> Result<(), Refusal> {
-        let Some(i) = task.place(phaser) else {
-            return Err(Refusal::NotRegistered);
-        };
+        let i = self.held(task, phaser)?;
         let place = &mut task.places[i];
-        if !self.is_slot(place.at) {
-            return Err(Refusal::NotRegistered);
-        }
         let seen = self
             .phasers
             .look(rt, place.at, &mut place.seen, place.me, accumulator)?;
@@ -127,25 +117,18 @@ impl<B: Body, J: SlotLogs> Shared<B, J> {
         proposed: Option<u32>,
     ) -> Result<SignalAnswer<Item<B, J>>, Refusal> {
         let mut item = item;
-        let Some(i) = item.task.place(phaser) else {
-            return Ok(SignalAnswer::Refused(item, Refusal::NotRegistered));
+        let i = match self.held(&item.task, phaser) {
+            Ok(i) => i,
+            Err(refusal) => return Ok(SignalAnswer::Refused(item, refusal)),
         };
         let place = &mut item.task.places[i];
         let (at, me) = (place.at, place.me);
         let mut seen = place.seen.again();
-        if !self.is_slot(at) {
-            return Ok(SignalAnswer::Refused(item, Refusal::NotRegistered));
-        }
-        let Worker {
-            seat,
-            out,
-            kept,
-            ..
-        } = worker;
+        let Worker { hand, out, .. } = worker;
         let answer = self
             .phasers
             .signal(rt, at, &mut seen, out, me, proposed, item);
-        self.flush(rt, seat, kept, out)?;
+        hand.flush(rt, &self.queue, out)?;
         match answer {
             SignalAnswer::Signalled(signalled) => {
                 let mut item = signalled;
@@ -166,23 +149,16 @@ impl<B: Body, J: SlotLogs> Shared<B, J> {
         phaser: u32,
     ) -> Result<PassAnswer<Item<B, J>, Phase>, Refusal> {
         let mut item = item;
-        let Some(i) = item.task.place(phaser) else {
-            return Ok(PassAnswer::Refused(item, Refusal::NotRegistered));
+        let i = match self.held(&item.task, phaser) {
+            Ok(i) => i,
+            Err(refusal) => return Ok(PassAnswer::Refused(item, refusal)),
         };
         let place = &mut item.task.places[i];
         let (at, me) = (place.at, place.me);
         let mut seen = place.seen.again();
-        if !self.is_slot(at) {
-            return Ok(PassAnswer::Refused(item, Refusal::NotRegistered));
-        }
-        let Worker {
-            seat,
-            out,
-            kept,
-            ..
-        } = worker;
+        let Worker { hand, out, .. } = worker;
         let answer = self.phasers.pass(rt, at, &mut seen, out, me, item);
-        self.flush(rt, seat, kept, out)?;
+        hand.flush(rt, &self.queue, out)?;
         match answer {
             PassAnswer::Passed(passed, phase) => {
                 let mut item = passed;
@@ -202,22 +178,12 @@ impl<B: Body, J: SlotLogs> Shared<B, J> {
         task: &mut Task<B, J>,
         phaser: u32,
     ) -> Result<(), Refusal> {
-        let Some(i) = task.place(phaser) else {
-            return Err(Refusal::NotRegistered);
-        };
+        let i = self.held(task, phaser)?;
         let place = &mut task.places[i];
-        if !self.is_slot(place.at) {
-            return Err(Refusal::NotRegistered);
-        }
-        let Worker {
-            seat,
-            out,
-            kept,
-            ..
-        } = worker;
+        let Worker { hand, out, .. } = worker;
         self.phasers
             .single_done(rt, place.at, &mut place.seen, out, place.me)?;
-        self.flush(rt, seat, kept, out)
+        hand.flush(rt, &self.queue, out)
     }
 
     /// The task leaves the phaser, which is gone with its last task.
@@ -228,23 +194,13 @@ impl<B: Body, J: SlotLogs> Shared<B, J> {
         task: &mut Task<B, J>,
         phaser: u32,
     ) -> Result<(), Refusal> {
-        let Some(i) = task.place(phaser) else {
-            return Err(Refusal::NotRegistered);
-        };
+        let i = self.held(task, phaser)?;
         let place = &mut task.places[i];
-        if !self.is_slot(place.at) {
-            return Err(Refusal::NotRegistered);
-        }
-        let Worker {
-            seat,
-            out,
-            kept,
-            ..
-        } = worker;
+        let Worker { hand, out, .. } = worker;
         let _gone = self
             .phasers
             .leave(rt, place.at, &mut place.seen, out, place.me)?;
-        self.flush(rt, seat, kept, out)?;
+        hand.flush(rt, &self.queue, out)?;
         one_more(&mut worker.sums.totals.drops);
         task.left(phaser);
         Ok(())
@@ -257,14 +213,9 @@ impl<B: Body, J: SlotLogs> Shared<B, J> {
         worker: &mut Worker<B, J>,
         finish: u32,
     ) -> Result<(), Refusal> {
-        let Worker {
-            seat,
-            out,
-            kept,
-            ..
-        } = worker;
+        let Worker { hand, out, .. } = worker;
         let ended = self.finishes.ended(rt, finish, out);
-        self.flush(rt, seat, kept, out)?;
+        hand.flush(rt, &self.queue, out)?;
         ended
     }
 }

@@ -1,18 +1,14 @@
 //! How a worker drives a task, event by event.
-ghost use Rattle.std.specs.Prelude.{◌≡◌, IfOk, IfErr};
-ghost use Rattle.tasks_in_flight.specs.Refused.{IsRunRefused};
-
 use crate::ended::Ends;
 use crate::shared::{RootLeft, Shared, Worker, one_more};
 use crate::task::{Item, Task};
-use crate::threads::Work;
 use finish_core::ShutAnswer;
 use live_tables::SlotLogs;
 use phase_modes::{Pair, Refusal};
 use phaser_core::{PassAnswer, SignalAnswer};
 use std::sync::Wait;
 use task_standing::Due;
-use tasks_in_flight::{Body, Gate};
+use tasks_in_flight::{Body, Crew, Gate, told};
 
 /// How many steps and events of a task a worker makes before it takes another, if there is one. A
 /// task that parks or ends makes fewer. So the queue is asked once for many events, and whoever
@@ -24,21 +20,10 @@ type Next<B, J> = Option<Item<B, J>>;
 
 /// What all workers share, who hears of the tasks' ends, and the gate round each step.
 #[derive(Drop)]
-pub(crate) struct Crew<'a, B: Body, J: SlotLogs, E: Ends<B>, G: Gate> {
+pub(crate) struct Team<'a, B: Body, J: SlotLogs, E: Ends<B>, G: Gate> {
     pub(crate) shared: &'a Shared<B, J>,
     pub(crate) ends: &'a E,
     pub(crate) gate: &'a G,
-}
-
-/// What is answered if a call on a phaser or a finish was refused that no act under way can be
-/// refused. Memory may be wanting anywhere.
-fn told(refusal: Refusal) -> Refusal
-    ensures { IsRunRefused result }
-{
-    match refusal {
-        Refusal::Memory => Refusal::Memory,
-        _ => Refusal::NotExplained(0),
-    }
 }
 
 /// The task gives up by this refusal.
@@ -48,7 +33,7 @@ fn gives_up<B: Body, J: SlotLogs>(item: Item<B, J>, refusal: Refusal) -> Next<B,
     Some(item)
 }
 
-impl<'a, B: Body, J: SlotLogs, E: Ends<B>, G: Gate> Crew<'a, B, J, E, G> {
+impl<'a, B: Body, J: SlotLogs, E: Ends<B>, G: Gate> Team<'a, B, J, E, G> {
     /// A task that is parked signals again once it is woken: its signal is still due.
     fn signal<R: Wait>(
         &self,
@@ -135,7 +120,7 @@ impl<'a, B: Body, J: SlotLogs, E: Ends<B>, G: Gate> Crew<'a, B, J, E, G> {
         self.shared.finishes.spawned(rt, finish)?;
         one_more(&mut worker.sums.spawned);
         task.standing.note_birth();
-        self.shared.give(rt, worker, Item::of(born))?;
+        worker.hand.give(rt, &self.shared.queue, Item::of(born))?;
         Ok(Some(Item::of(task)))
     }
 
@@ -265,17 +250,17 @@ impl<'a, B: Body, J: SlotLogs, E: Ends<B>, G: Gate> Crew<'a, B, J, E, G> {
                 None => return Ok(()),
             }
         }
-        self.shared.give(rt, worker, driven)
+        worker.hand.give(rt, &self.shared.queue, driven)
     }
 }
 
-impl<'a, B: Body, J: SlotLogs, E: Ends<B>, G: Gate> Work<Worker<B, J>> for Crew<'a, B, J, E, G> {
+impl<'a, B: Body, J: SlotLogs, E: Ends<B>, G: Gate> Crew<Worker<B, J>> for Team<'a, B, J, E, G> {
     /// Takes tasks and drives them, until the queue is closed. If something is amiss, the queue
     /// is closed first, so that nobody waits at it for ever.
     fn work<R: Wait>(&self, rt: &R, worker: Worker<B, J>) -> Result<Worker<B, J>, Refusal> {
         let mut worker = worker;
         for _ in rt.forever() {
-            let Some(item) = self.shared.next(rt, &mut worker) else {
+            let Some(item) = worker.hand.next(rt, &self.shared.queue) else {
                 return Ok(worker);
             };
             if let Err(refusal) = self.drive(rt, &mut worker, item) {

@@ -4,12 +4,12 @@ ghost use Rattle.tasks_in_flight.specs.Refused.{IsRunRefused};
 ghost use Rattle.live_rt.specs.Rooms.{has_room};
 ghost use Rattle.live_rt.specs.Gone.{AreAllGone};
 
-use crate::driver::Crew;
+use crate::driver::Team;
 use crate::ended::{Counts, Ended, Ends};
 use crate::pulses::Pulses;
 use crate::room::Room;
 use crate::shared::{Shared, no_limits};
-use crate::staff::{Left, put_root, staff_of, work_all};
+use crate::staff::{Left, staff_of, work_all};
 use crate::task::{Item, Task};
 use crossbeam_utils::CachePadded;
 use live_tables::{LiveFinishes, LivePhasers, SlotLogs, SlotNoted, new_slot_logs};
@@ -20,7 +20,7 @@ use std::sync::Wait;
 use std::sync::atomic::AtomicU64;
 use std::thread::Threads;
 use task_queue::RunQueue;
-use tasks_in_flight::{Body, Gate};
+use tasks_in_flight::{Body, Gate, put_root};
 use told_history::Whole;
 
 /// How many tasks fit into each worker's deque before it grows.
@@ -115,12 +115,12 @@ fn run_in<
         pulses: Pulses::new(alloc, setup.workers)?,
         children: CachePadded::new(AtomicU64::new(0)),
     };
-    let crew = Crew {
+    let team = Team {
         shared: &shared,
         ends: setup.ends,
         gate: setup.gate,
     };
-    let left = work_all(rt, &crew, staff)?;
+    let left = work_all(rt, &team, staff)?;
     ended_of(rt, &shared, left)
 }
 

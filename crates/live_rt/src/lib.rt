@@ -34,7 +34,6 @@ mod room;
 mod shared;
 mod staff;
 mod task;
-mod threads;
 
 pub use ended::{Counts, Ended, Ends, Unheard};
 pub use entry::run_live;

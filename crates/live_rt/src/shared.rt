@@ -8,11 +8,9 @@ use live_tables::{LiveFinishes, LivePhasers, SlotLogs};
 use phase_modes::{Limits, Refusal};
 use phaser_core::Out;
 use std::alloc::Global;
-use std::collections::VecDeque;
-use std::sync::Wait;
 use std::sync::atomic::{AtomicU64, Ordering};
-use task_queue::{RunQueue, Seat};
-use tasks_in_flight::Body;
+use task_queue::RunQueue;
+use tasks_in_flight::{Body, Hand};
 use world_model::TotalsLine;
 
 /// How many numbers there are for tasks but the root, whose number is 0. Those alive at once have numbers
@@ -132,10 +130,8 @@ pub(crate) struct RootLeft<B> {
 #[derive(Drop)]
 pub(crate) struct Worker<B: Body, J: SlotLogs> {
     pub(crate) number: u32,
-    pub(crate) seat: Seat<Item<B, J>>,
+    pub(crate) hand: Hand<Item<B, J>>,
     pub(crate) out: Out<Item<B, J>>,
-    /// Tasks that the queue had no memory for.
-    pub(crate) kept: VecDeque<Item<B, J>>,
     pub(crate) sums: Sums,
     /// What the root leaves, once it has ended.
     pub(crate) root: Option<RootLeft<B>>,
@@ -147,66 +143,5 @@ impl<B: Body, J: SlotLogs> Shared<B, J> {
     pub(crate) fn child_number(&self) -> u32 {
         let drawn = self.children.fetch_add(1, Ordering::Relaxed);
         (drawn % MOST_NUMBERS) as u32 + 1
-    }
-
-    /// The next task to be run: one that the queue had no memory for, or one of the queue. None once
-    /// the queue is closed and empty.
-    pub(crate) fn next<R: Wait>(&self, rt: &R, worker: &mut Worker<B, J>) -> Option<Item<B, J>> {
-        if let Some(item) = worker.kept.pop_front() {
-            return Some(item);
-        }
-        self.queue.take(rt, &mut worker.seat)
-    }
-
-    /// Gives a task to the queue, or keeps it if the queue has no memory for it; how many were
-    /// given. Nobody is woken for it yet.
-    fn put(
-        &self,
-        seat: &mut Seat<Item<B, J>>,
-        kept: &mut VecDeque<Item<B, J>>,
-        item: Item<B, J>,
-    ) -> Result<u64, Refusal> {
-        match self.queue.put_quietly(seat, item) {
-            Ok(()) => Ok(1),
-            Err(item) => match kept.push_back(item) {
-                Ok(()) => Ok(0),
-                Err(_) => Err(Refusal::Memory),
-            },
-        }
-    }
-
-    /// Gives a task to the queue.
-    pub(crate) fn give<R: Wait>(
-        &self,
-        rt: &R,
-        worker: &mut Worker<B, J>,
-        item: Item<B, J>,
-    ) -> Result<(), Refusal> {
-        let Worker { seat, kept, .. } = worker;
-        let put = self.put(seat, kept, item)?;
-        self.queue.wake(rt, put);
-        Ok(())
-    }
-
-    /// Gives all whom a call woke to the queue, which wakes workers for them at once.
-    pub(crate) fn flush<R: Wait>(
-        &self,
-        rt: &R,
-        seat: &mut Seat<Item<B, J>>,
-        kept: &mut VecDeque<Item<B, J>>,
-        out: &mut Out<Item<B, J>>,
-    ) -> Result<(), Refusal>
-        ensures out { out.new ≡ [] }
-    {
-        let mut given = Ok(());
-        let mut puts = 0u64;
-        while let Some(item) = out.take() {
-            match self.put(seat, kept, item) {
-                Ok(put) => puts = puts.saturating_add(put),
-                Err(refusal) => given = Err(refusal),
-            }
-        }
-        self.queue.wake(rt, puts);
-        given
     }
 }

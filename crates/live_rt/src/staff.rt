@@ -1,12 +1,11 @@
 //! The workers of a run, from the seats that they are given to what they hand back.
-ghost use Rattle.std.specs.Prelude.{◌≡◌, ◌<◌, All, IfOk, IfErr, vec_len};
+ghost use Rattle.std.specs.Prelude.{◌≡◌, All, IfErr};
 ghost use Rattle.tasks_in_flight.specs.Refused.{IsRunRefused};
 
-use crate::driver::Crew;
+use crate::driver::Team;
 use crate::ended::Ends;
 use crate::shared::{RootLeft, Sums, Worker};
 use crate::task::Item;
-use crate::threads::in_threads;
 use live_tables::SlotLogs;
 use phase_modes::Refusal;
 use phaser_core::Out;
@@ -14,8 +13,8 @@ use std::alloc::Global;
 use std::collections::VecDeque;
 use std::sync::Wait;
 use std::thread::Threads;
-use task_queue::{RunQueue, Seat};
-use tasks_in_flight::{Body, Gate};
+use task_queue::Seat;
+use tasks_in_flight::{Body, Gate, Hand, in_threads};
 
 /// What the workers hand back: what they counted, and what the root leaves.
 #[derive(Drop)]
@@ -36,31 +35,17 @@ pub(crate) fn staff_of<B: Body, J: SlotLogs>(
     for seat in seats {
         staff.push(Worker {
             number,
-            seat,
+            hand: Hand {
+                seat,
+                kept: VecDeque::new(alloc),
+            },
             out: Out::new(alloc)?,
-            kept: VecDeque::new(alloc),
             sums: Sums::none(),
             root: None,
         })?;
         number = number.saturating_add(1);
     }
     Ok(staff)
-}
-
-/// Puts the root into the queue, from the first seat.
-pub(crate) fn put_root<B: Body, J: SlotLogs, R: Wait>(
-    rt: &R,
-    queue: &RunQueue<Item<B, J>>,
-    seats: &mut Vec<Seat<Item<B, J>>>,
-    root: Item<B, J>,
-) -> Result<(), Refusal>
-    requires some { 0 < vec_len seats.old }
-    ensures memory { IfErr result (λ e. e ≡ Refusal.Memory) }
-{
-    match queue.put(rt, &mut seats[0], root) {
-        Ok(()) => Ok(()),
-        Err(_) => Err(Refusal::Memory),
-    }
 }
 
 /// Takes in what one worker hands back. Tasks that it still has are dropped.
@@ -96,9 +81,9 @@ pub(crate) fn work_all<
     E: Ends<B> + Sync,
     G: Gate + Sync,
     R: Threads + Wait + Sync,
->(rt: &R, crew: &Crew<'_, B, J, E, G>, staff: Vec<Worker<B, J>>) -> Result<Left<B>, Refusal>
+>(rt: &R, team: &Team<'_, B, J, E, G>, staff: Vec<Worker<B, J>>) -> Result<Left<B>, Refusal>
     ensures refused { IfErr result (λ e. IsRunRefused e) }
 {
-    let done = in_threads(rt, crew, staff)?;
+    let done = in_threads(rt, team, staff)?;
     left_of(done)
 }

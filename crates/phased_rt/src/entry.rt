@@ -10,7 +10,7 @@ ghost use Rattle.task_remains.specs.Remaining.{AreRemains};
 ghost use Rattle.tasks_in_flight.specs.Said.{IsSaid, AreSaid, IsSaidOf};
 ghost use Rattle.tasks_in_flight.specs.inner.Ready.{Tells};
 
-use crate::staff::{put_root, run_staff, staff_of};
+use crate::staff::{run_staff, staff_of};
 use phase_modes::{FinishNumber, Limits, Refusal, TaskNumber};
 use phaser_cell::Tickets;
 use scope_locks::FinishTable;
@@ -24,7 +24,7 @@ use table_receipts::{Fronts, Logs, Named, Noted, PhaserLogs, ReceiptTable, new_l
 use task_queue::RunQueue;
 use task_remains::Remains;
 use task_worker::{Numbers, Shared, Worker};
-use tasks_in_flight::{Body, Gate, Item, RunNaming, Supposing, Task, TaskLeft};
+use tasks_in_flight::{Body, Gate, Item, RunNaming, Supposing, Task, TaskLeft, put_root};
 use told_history::Whole;
 
 /// What a run's ledgers and logs are to be named by.
@@ -105,7 +105,7 @@ fn manned<K: RunNaming, B: Body, R: Wait>(
     requires some { (0 < workers) × (workers ≤ 16) }
     requires shares { vec_len shares ≡ workers }
     ensures workers { IfOk result (λ r. (r.0.workers ≡ workers) × (vec_len r.1 ≡ workers)) }
-    ensures together { IfOk result (λ r. AreTogether (map (λ w. w.seat) r.1.items)) }
+    ensures together { IfOk result (λ r. AreTogether (map (λ w. w.hand.seat) r.1.items)) }
     ensures memory { IfErr result (λ e. e ≡ Refusal.Memory) }
 {
     let (queue, mut seats) = RunQueue::new(alloc, workers, limits.tasks as usize)?;

@@ -29,7 +29,6 @@
 
 mod asked;
 mod asking;
-mod crew;
 mod entry;
 mod laws;
 mod question;

@@ -8,7 +8,6 @@ ghost use Rattle.tasks_in_flight.specs.Refused.{IsRunRefused};
 ghost use Rattle.task_remains.specs.Remaining.{AreRemains};
 ghost use Rattle.tasks_in_flight.specs.Said.{IsSaid, AreSaid};
 
-use crate::crew::in_threads;
 use crate::team::Team;
 use phase_modes::{Limits, Refusal};
 use phaser_cell::Out;
@@ -20,7 +19,7 @@ use std::thread::Threads;
 use task_queue::{RunQueue, Seat};
 use task_remains::{Remains, gathered};
 use task_worker::{Shared, Worker};
-use tasks_in_flight::{Body, Gate, Item, RootLeft, RunNaming};
+use tasks_in_flight::{Body, Gate, Hand, Item, RootLeft, RunNaming, in_threads};
 
 /// What the workers hand back: their seats and shares, and what the root leaves.
 #[derive(Drop)]
@@ -38,7 +37,7 @@ fn seated<B: Body, K: RunNaming>(
     shares: Vec<Shares<K>>,
 ) -> Result<Vec<Worker<B, K>>, Refusal>
     requires { vec_len shares ≡ vec_len seats }
-    ensures staff { IfOk result (λ v. map (λ w. w.seat) v.items ≡ seats.items) }
+    ensures staff { IfOk result (λ v. map (λ w. w.hand.seat) v.items ≡ seats.items) }
     ensures number { IfOk result (λ v. vec_len v ≡ vec_len seats) }
     ensures memory { IfErr result (λ e. e ≡ Refusal.Memory) }
 {
@@ -49,12 +48,15 @@ fn seated<B: Body, K: RunNaming>(
         let Some(mine) = shares.pop() else {
             unreachable!()
         };
+        let hand = Hand {
+            seat,
+            kept: VecDeque::with_capacity(alloc, limits.tasks as usize)?,
+        };
         staff.push(Worker {
             number,
-            seat,
+            hand,
             shares: mine,
             out: Out::new(alloc)?,
-            kept: VecDeque::with_capacity(alloc, limits.tasks as usize)?,
             root: None,
         })?;
         number = number.saturating_add(1);
@@ -71,7 +73,7 @@ pub(crate) fn staff_of<B: Body, K: RunNaming>(
 ) -> Result<Vec<Worker<B, K>>, Refusal>
     requires number { vec_len shares ≡ vec_len seats }
     requires together { AreTogether seats.items }
-    ensures together { IfOk result (λ v. AreTogether (map (λ w. w.seat) v.items)) }
+    ensures together { IfOk result (λ v. AreTogether (map (λ w. w.hand.seat) v.items)) }
     ensures number { IfOk result (λ v. vec_len v ≡ vec_len seats) }
     ensures memory { IfErr result (λ e. e ≡ Refusal.Memory) }
 {
@@ -83,17 +85,17 @@ fn take_back<B: Body, K: RunNaming>(
     left: &mut Left<B, K>,
     worker: Worker<B, K>,
 ) -> Result<(), Refusal>
-    ensures seats { OnOk result (left.new.seats.items ≡ left.old.seats.items ++ worker.seat ∷ []) }
+    ensures seats { OnOk result (left.new.hand.seats.items ≡ left.old.seats.items ++ worker.hand.seat ∷ []) }
     ensures shares { OnOk result (vec_len left.new.shares ≡ vec_len left.old.shares + 1) }
     ensures memory { IfErr result (λ e. e ≡ Refusal.Memory) }
 {
     let Worker {
-        seat,
+        hand,
         shares,
         root,
         ..
     } = worker;
-    left.seats.push(seat)?;
+    left.seats.push(hand.seat)?;
     left.shares.push(shares)?;
     if let Some(root) = root {
         left.root = Some(root);
@@ -107,7 +109,7 @@ fn left_of<B: Body, K: RunNaming>(
     done: Vec<Result<Worker<B, K>, Refusal>>,
 ) -> Result<Left<B, K>, Refusal>
     requires { All (λ r. IfErr r (λ e. IsRunRefused e)) done.items }
-    ensures seats { IfOk result (λ l. AreSeatsIn (λ w. w.seat) done.items l.seats.items) }
+    ensures seats { IfOk result (λ l. AreSeatsIn (λ w. w.hand.seat) done.items l.seats.items) }
     ensures shares { IfOk result (λ l. vec_len l.shares ≡ vec_len done) }
     ensures refused { IfErr result (λ e. IsRunRefused e) }
 {
@@ -120,25 +122,6 @@ fn left_of<B: Body, K: RunNaming>(
         take_back(&mut left, worker?)?;
     }
     Ok(left)
-}
-
-/// Puts the root into the queue, from the first seat.
-pub(crate) fn put_root<B: Body, K: RunNaming, R: Wait>(
-    rt: &R,
-    queue: &RunQueue<Item<B, K>>,
-    seats: &mut Vec<Seat<Item<B, K>>>,
-    root: Item<B, K>,
-) -> Result<(), Refusal>
-    requires some { 0 < vec_len seats.old }
-    requires together { AreTogether seats.old.items }
-    ensures number { vec_len seats.new ≡ vec_len seats.old }
-    ensures together { AreTogether seats.new.items }
-    ensures memory { IfErr result (λ e. e ≡ Refusal.Memory) }
-{
-    match queue.put(rt, &mut seats[0], root) {
-        Ok(()) => Ok(()),
-        Err(_) => Err(Refusal::Memory),
-    }
 }
 
 /// Sees that no task is left in the queue: each that was put was taken as often. `NotExplained`
@@ -166,7 +149,7 @@ fn work_all<K: RunNaming + SharedLedgers, B: Body + Send, G: Gate + Sync, R: Thr
     staff: Vec<Worker<B, K>>,
     gate: &G,
 ) -> Result<Left<B, K>, Refusal>
-    ensures seats { IfOk result (λ l. AreBack (map (λ w. w.seat) staff.items) l.seats.items) }
+    ensures seats { IfOk result (λ l. AreBack (map (λ w. w.hand.seat) staff.items) l.seats.items) }
     ensures shares { IfOk result (λ l. vec_len l.shares ≡ vec_len staff) }
     ensures refused { IfErr result (λ e. IsRunRefused e) }
 {
@@ -227,7 +210,7 @@ pub(crate) fn run_staff<
     requires finishes { shared.finishes.finishes ≡ shared.limits.finishes }
     requires workers { AreAllParts (vec_len staff) K.EventsByWorker.parts K.UpByWorker.parts K.DownByWorker.parts }
     requires seats { vec_len staff ≡ shared.queue.workers }
-    requires together { AreTogether (map (λ w. w.seat) staff.items) }
+    requires together { AreTogether (map (λ w. w.hand.seat) staff.items) }
     requires books { AreAllParts shared.limits.phasers K.EventsByPhaser.parts K.UpByPhaser.parts K.DownByPhaser.parts }
     ensures remains { IfOk result (λ r. AreRemains shared.limits r.phasers.items r.finishes.items r.logs.items r.totals) }
     ensures says { IfOk result (λ r. K.Supposing.supposed → IsSaid B.Body.shows shared.limits r.phasers.items r.logs.items r.root) }

@@ -1,12 +1,11 @@
 //! How a task's act is begun, and made if it is one event.
-ghost use Rattle.std.specs.Prelude.{◌≡◌, ℕ, List, None, Ok, true, IfOk, IfSome, OnOk, if◌then◌else◌};
+ghost use Rattle.std.specs.Prelude.{◌≡◌, ℕ, None, Ok, true, IfOk, OnOk, if◌then◌else◌};
 ghost use Rattle.world_model.specs.declared.event.WorldEvent.{WorldEvent};
 ghost use Rattle.table_receipts.specs.Seen.{story_at};
-ghost use Rattle.task_standing.specs.declared.held.Held.{Held};
 ghost use Rattle.task_standing.specs.Noted.{noted};
 ghost use Rattle.task_queue.specs.Accounts.{IsSeatOf};
 ghost use Rattle.tasks_in_flight.specs.Heard.{nothing, make, send, look, opens, at_start, asked_by, IsSpawned};
-ghost use Rattle.tasks_in_flight.specs.inner.Ready.{HasAskedFor, HasAskedToSpawn, IsAskedFor, IsDue, seen_by};
+ghost use Rattle.tasks_in_flight.specs.inner.Ready.{HasAskedFor, HasAskedToSpawn, IsDue, seen_by};
 ghost use Rattle.task_worker.specs.inner.Driven.{HasActed, given_up, tried_by};
 ghost use Rattle.task_worker.specs.inner.Posted.{PostsAtMost};
 
@@ -16,23 +15,8 @@ use phase_model::Terms;
 use phase_modes::{FinishNumber, Mode, Phased, Refusal, TaskNumber};
 use std::sync::Wait;
 use table_receipts::Caller;
-use tasks_in_flight::{Body, Gate, Item, RunNaming, Task};
+use tasks_in_flight::{Body, Gate, Item, RunNaming, Task, begun_by};
 use world_model::{Begun, Tried};
-
-/// What begins by this act, if it goes on by a plan and spawns nobody.
-fn begun_by<B: Drop>(act: &Act<B>) -> Option<Begun>
-    ensures { IfSome result (λ b. (hs : List Held) → IsAskedFor b hs (asked_by (Ok act.now))) }
-{
-    match act {
-        Act::ShutFinish => Some(Begun::Shut),
-        Act::Signal => Some(Begun::Signal),
-        Act::Wait => Some(Begun::Wait),
-        Act::Next => Some(Begun::Next),
-        Act::NextSingle(number) => Some(Begun::NextSingle(*number)),
-        Act::End => Some(Begun::End),
-        _ => None,
-    }
-}
 
 impl<B: Body, K: RunNaming> Shared<B, K> {
     /// The task gives up what it is about, and ends.
@@ -262,7 +246,7 @@ impl<B: Body, K: RunNaming> Shared<B, K> {
         requires { IsDue None item.old.task.value.standing }
         ensures acted { OnOk result (HasActed (λ n. story_at item.old.task.value.fronts n)
             item.old.task.value.standing item.new.task.value.standing) }
-        ensures seat { IsSeatOf busy.old.seat busy.new.seat }
+        ensures seat { IsSeatOf busy.old.hand.seat busy.new.hand.seat }
         ensures posted { PostsAtMost 1 busy.old.by.mine busy.new.by.mine }
     {
         // No clause says that a task which has begun to end isn't due to be stepped.

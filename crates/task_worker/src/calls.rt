@@ -128,7 +128,7 @@ impl<B: Body, K: RunNaming> Shared<B, K> {
         requires { IsDue (Some (Phaser phaser (Sig item.task.value.standing.number proposed))) item.task.value.standing }
         ensures told { IfOk result (IsOfSignal (λ i. i.task.value.standing) item.task.value.standing
             (story_at item.task.value.fronts phaser) phaser (Sig item.task.value.standing.number proposed)) }
-        ensures seat { IsSeatOf busy.old.seat busy.new.seat }
+        ensures seat { IsSeatOf busy.old.hand.seat busy.new.hand.seat }
         ensures posted { PostsAtMost 1 busy.old.by.mine busy.new.by.mine }
     {
         let number = match self.place(phaser, Refusal::NotRegistered) {
@@ -138,12 +138,12 @@ impl<B: Body, K: RunNaming> Shared<B, K> {
         let mut item = item;
         let task = item.task.number();
         let mut me = item.task.front(number);
-        let Busy { seat, by, kept, .. } = busy;
+        let Busy { hand, by, .. } = busy;
         let answer = self
             .phasers
             .lock(by.rt, number)
             .signal(by, &mut me, task, proposed, item);
-        self.flush(by.rt, seat, kept, &mut by.out)?;
+        hand.flush(by.rt, &self.queue, &mut by.out)?;
         match answer {
             SignalAnswer::Signalled(signalled) => {
                 let mut item = signalled;
@@ -164,7 +164,7 @@ impl<B: Body, K: RunNaming> Shared<B, K> {
         requires { IsDue (Some (Phaser phaser (Pass item.task.value.standing.number))) item.task.value.standing }
         ensures told { IfOk result (IsOfPass (λ i. i.task.value.standing) item.task.value.standing
             (story_at item.task.value.fronts phaser) phaser item.task.value.standing.number) }
-        ensures seat { IsSeatOf busy.old.seat busy.new.seat }
+        ensures seat { IsSeatOf busy.old.hand.seat busy.new.hand.seat }
         ensures posted { PostsAtMost 1 busy.old.by.mine busy.new.by.mine }
     {
         let number = match self.place(phaser, Refusal::NotRegistered) {
@@ -174,12 +174,12 @@ impl<B: Body, K: RunNaming> Shared<B, K> {
         let mut item = item;
         let task = item.task.number();
         let mut me = item.task.front(number);
-        let Busy { seat, by, kept, .. } = busy;
+        let Busy { hand, by, .. } = busy;
         let answer = self
             .phasers
             .lock(by.rt, number)
             .pass(by, &mut me, task, item);
-        self.flush(by.rt, seat, kept, &mut by.out)?;
+        hand.flush(by.rt, &self.queue, &mut by.out)?;
         match answer {
             PassAnswer::Passed(passed, phase) => {
                 let mut item = passed;
@@ -196,7 +196,7 @@ impl<B: Body, K: RunNaming> Shared<B, K> {
         task: &mut Task<B, K>,
         phaser: u32,
     ) -> Result<(), Refusal>
-        ensures seat { IsSeatOf busy.old.seat busy.new.seat }
+        ensures seat { IsSeatOf busy.old.hand.seat busy.new.hand.seat }
         ensures posted { PostsAtMost 1 busy.old.by.mine busy.new.by.mine }
         ensures body { task.new.body ≡ task.old.body }
         ensures standing { task.new.standing ≡ task.old.standing }
@@ -204,11 +204,11 @@ impl<B: Body, K: RunNaming> Shared<B, K> {
         let number = self.place(phaser, Refusal::NotRegistered)?;
         let reporter = task.number();
         let mut me = task.front(number);
-        let Busy { seat, by, kept, .. } = busy;
+        let Busy { hand, by, .. } = busy;
         self.phasers
             .lock(by.rt, number)
             .single_done(by, &mut me, reporter)?;
-        self.flush(by.rt, seat, kept, &mut by.out)
+        hand.flush(by.rt, &self.queue, &mut by.out)
     }
 
     /// The task, or the child that it is spawning, leaves the phaser.
@@ -221,16 +221,16 @@ impl<B: Body, K: RunNaming> Shared<B, K> {
     ) -> Result<(), Refusal>
         ensures told { OnOk result (IsReplied (story_at task.old.fronts phaser) (Drop leaver)) }
         ensures standing { task.new.standing ≡ task.old.standing }
-        ensures seat { IsSeatOf busy.old.seat busy.new.seat }
+        ensures seat { IsSeatOf busy.old.hand.seat busy.new.hand.seat }
         ensures posted { PostsAtMost 1 busy.old.by.mine busy.new.by.mine }
     {
         let number = self.place(phaser.get(), Refusal::NotRegistered)?;
         let mut me = task.front(number);
-        let Busy { seat, by, kept, .. } = busy;
+        let Busy { hand, by, .. } = busy;
         self.phasers
             .lock(by.rt, number)
             .drop_task(by, &mut me, leaver.get())?;
-        self.flush(by.rt, seat, kept, &mut by.out)
+        hand.flush(by.rt, &self.queue, &mut by.out)
     }
 
     pub(crate) fn open_on<R: Wait>(
@@ -261,11 +261,11 @@ impl<B: Body, K: RunNaming> Shared<B, K> {
         left: TaskLeft<K>,
         finish: u32,
     ) -> Result<(), Refusal>
-        ensures seat { IsSeatOf busy.old.seat busy.new.seat }
+        ensures seat { IsSeatOf busy.old.hand.seat busy.new.hand.seat }
         ensures mine { busy.new.by.mine ≡ busy.old.by.mine }
     {
         let number = self.finishes.place(finish, Refusal::NotNow)?;
-        let Busy { seat, by, kept, .. } = busy;
+        let Busy { hand, by, .. } = busy;
         let ended = self.finishes.ended(
             by.rt,
             number,
@@ -274,7 +274,7 @@ impl<B: Body, K: RunNaming> Shared<B, K> {
             Mutex::new(left),
             &mut by.out,
         );
-        self.flush(by.rt, seat, kept, &mut by.out)?;
+        hand.flush(by.rt, &self.queue, &mut by.out)?;
         match ended {
             Ok(()) => Ok(()),
             Err(_) => Err(Refusal::NotNow),

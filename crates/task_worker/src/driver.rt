@@ -15,7 +15,7 @@ use phaser_cell::{PassAnswer, SignalAnswer};
 use scope_locks::ShutAnswer;
 use std::sync::Wait;
 use task_standing::Due;
-use tasks_in_flight::{Body, Gate, Item, RootLeft, RunNaming, Task, TaskLeft};
+use tasks_in_flight::{Body, Gate, Item, RootLeft, RunNaming, Task, TaskLeft, told};
 
 /// How many steps and events of a task a worker makes before it takes another, if there is one. A
 /// task that parks or ends makes fewer. So the queue is asked once for many events, and whoever
@@ -24,17 +24,6 @@ const STRETCH: u32 = 64;
 
 /// A task that goes on; none if it is parked or has ended.
 type Next<B, K> = Option<Item<B, K>>;
-
-/// What is answered if a call on a phaser or a finish was refused that no act under way can be
-/// refused. Memory may be wanting anywhere.
-fn told(refusal: Refusal) -> Refusal
-    ensures { IsRunRefused result }
-{
-    match refusal {
-        Refusal::Memory => Refusal::Memory,
-        _ => Refusal::NotExplained(0),
-    }
-}
 
 impl<B: Body, K: RunNaming> Shared<B, K> {
     /// The task gives up by this refusal, if its event may be refused by it.
@@ -65,7 +54,7 @@ impl<B: Body, K: RunNaming> Shared<B, K> {
         requires { IsDue (event_of item.task.value.standing.number (Due.Signal phaser number)) item.task.value.standing }
         ensures made { IfGoesOn result (λ next. GoesBy (λ n. story_at item.task.value.fronts n) (event_of item.task.value.standing.number (Due.Signal phaser number))
             item.task.value.standing next.task.value.standing) }
-        ensures seat { IsSeatOf busy.old.seat busy.new.seat }
+        ensures seat { IsSeatOf busy.old.hand.seat busy.new.hand.seat }
         ensures posted { PostsAtMost 1 busy.old.by.mine busy.new.by.mine }
     {
         match self.signal_on(busy, item, phaser, number)? {
@@ -86,7 +75,7 @@ impl<B: Body, K: RunNaming> Shared<B, K> {
         phaser: u32,
         number: u32,
     ) -> Result<Next<B, K>, Refusal>
-        ensures seat { IsSeatOf busy.old.seat busy.new.seat }
+        ensures seat { IsSeatOf busy.old.hand.seat busy.new.hand.seat }
         ensures posted { PostsAtMost 1 busy.old.by.mine busy.new.by.mine }
         ensures ran { IfGoesOn result (λ next. B.Body.ran item.task.value.body number next.task.value.body) }
         ensures standing { IfGoesOn result (λ next. next.task.value.standing ≡ item.task.value.standing) }
@@ -106,7 +95,7 @@ impl<B: Body, K: RunNaming> Shared<B, K> {
         requires { IsDue (event_of item.task.value.standing.number (Due.Pass phaser)) item.task.value.standing }
         ensures made { IfGoesOn result (λ next. GoesBy (λ n. story_at item.task.value.fronts n) (event_of item.task.value.standing.number (Due.Pass phaser))
             item.task.value.standing next.task.value.standing) }
-        ensures seat { IsSeatOf busy.old.seat busy.new.seat }
+        ensures seat { IsSeatOf busy.old.hand.seat busy.new.hand.seat }
         ensures posted { PostsAtMost 2 busy.old.by.mine busy.new.by.mine }
     {
         match self.pass_on(busy, item, phaser)? {
@@ -129,7 +118,7 @@ impl<B: Body, K: RunNaming> Shared<B, K> {
     ) -> Result<Next<B, K>, Refusal>
         ensures made { IfGoesOn result (λ next. GoesBy (λ n. story_at item.task.value.fronts n) (event_of item.task.value.standing.number (Due.Register child pair))
             item.task.value.standing next.task.value.standing) }
-        ensures seat { IsSeatOf busy.old.seat busy.new.seat }
+        ensures seat { IsSeatOf busy.old.hand.seat busy.new.hand.seat }
         ensures posted { PostsAtMost 1 busy.old.by.mine busy.new.by.mine }
     {
         let mut item = item;
@@ -156,7 +145,7 @@ impl<B: Body, K: RunNaming> Shared<B, K> {
         requires { IsDue (event_of item.task.value.standing.number (Due.Spawn child finish)) item.task.value.standing }
         ensures made { IfGoesOn result (λ next. GoesBy (λ n. story_at item.task.value.fronts n) (event_of item.task.value.standing.number (Due.Spawn child finish))
             item.task.value.standing next.task.value.standing) }
-        ensures seat { IsSeatOf busy.old.seat busy.new.seat }
+        ensures seat { IsSeatOf busy.old.hand.seat busy.new.hand.seat }
         ensures mine { busy.new.by.mine ≡ busy.old.by.mine }
     {
         let Item { task, unborn } = item;
@@ -166,7 +155,7 @@ impl<B: Body, K: RunNaming> Shared<B, K> {
         };
         self.spawn_on(busy.by.rt, child, finish)?;
         task.bore();
-        self.give(busy, Item::of(born))?;
+        busy.hand.give(busy.by.rt, &self.queue, Item::of(born))?;
         Ok(Some(Item::of(task)))
     }
 
@@ -180,7 +169,7 @@ impl<B: Body, K: RunNaming> Shared<B, K> {
         requires { IsDue (event_of item.task.value.standing.number (Due.Leave phaser)) item.task.value.standing }
         ensures made { IfGoesOn result (λ next. GoesBy (λ n. story_at item.task.value.fronts n) (event_of item.task.value.standing.number (Due.Leave phaser))
             item.task.value.standing next.task.value.standing) }
-        ensures seat { IsSeatOf busy.old.seat busy.new.seat }
+        ensures seat { IsSeatOf busy.old.hand.seat busy.new.hand.seat }
         ensures posted { PostsAtMost 1 busy.old.by.mine busy.new.by.mine }
     {
         let mut item = item;
@@ -200,7 +189,7 @@ impl<B: Body, K: RunNaming> Shared<B, K> {
     ) -> Result<Next<B, K>, Refusal>
         ensures made { IfGoesOn result (λ next. GoesBy (λ n. story_at item.task.value.fronts n) (event_of item.task.value.standing.number (Due.DropChild phaser child))
             item.task.value.standing next.task.value.standing) }
-        ensures seat { IsSeatOf busy.old.seat busy.new.seat }
+        ensures seat { IsSeatOf busy.old.hand.seat busy.new.hand.seat }
         ensures posted { PostsAtMost 1 busy.old.by.mine busy.new.by.mine }
     {
         let mut item = item;
@@ -240,7 +229,7 @@ impl<B: Body, K: RunNaming> Shared<B, K> {
         finish: u32,
     ) -> Result<Next<B, K>, Refusal>
         ensures over { IfGoesOn result (λ _. ⊥) }
-        ensures seat { IsSeatOf busy.old.seat busy.new.seat }
+        ensures seat { IsSeatOf busy.old.hand.seat busy.new.hand.seat }
         ensures mine { busy.new.by.mine ≡ busy.old.by.mine }
     {
         let Item { task, unborn: _ } = item;
@@ -258,7 +247,7 @@ impl<B: Body, K: RunNaming> Shared<B, K> {
         item: Item<B, K>,
     ) -> Result<Next<B, K>, Refusal>
         ensures over { IfGoesOn result (λ _. ⊥) }
-        ensures seat { IsSeatOf busy.old.seat busy.new.seat }
+        ensures seat { IsSeatOf busy.old.hand.seat busy.new.hand.seat }
         ensures mine { busy.new.by.mine ≡ busy.old.by.mine }
     {
         match self.shut_on(busy.by.rt, item, 0) {
@@ -294,7 +283,7 @@ impl<B: Body, K: RunNaming> Shared<B, K> {
     ) -> Result<Next<B, K>, Refusal>
         ensures goes { IfGoesOn result (λ next. HasGoneOn (λ n. story_at item.task.value.fronts n)
             (option_map (λ c. c.value.standing) item.unborn) item.task.value.standing next.task.value.standing) }
-        ensures seat { IsSeatOf busy.old.seat busy.new.seat }
+        ensures seat { IsSeatOf busy.old.hand.seat busy.new.hand.seat }
         ensures posted { PostsAtMost (most_posted (slice_get (still_of item.task.value.standing
             (option_map (λ c. c.value.standing) item.unborn)) 0)) busy.old.by.mine busy.new.by.mine }
     {
@@ -328,7 +317,7 @@ impl<B: Body, K: RunNaming> Shared<B, K> {
         busy: &mut Busy<'_, B, K, R>,
         item: Item<B, K>,
     ) -> Result<(), Refusal>
-        ensures seat { IsSeatOf busy.old.seat busy.new.seat }
+        ensures seat { IsSeatOf busy.old.hand.seat busy.new.hand.seat }
     {
         let mut driven = item;
         for _event in 0..STRETCH {
@@ -337,7 +326,7 @@ impl<B: Body, K: RunNaming> Shared<B, K> {
                 None => return Ok(()),
             }
         }
-        self.give(busy, driven)
+        busy.hand.give(busy.by.rt, &self.queue, driven)
     }
 
     /// Takes tasks and drives them, until the queue is closed. If something is amiss, the queue
@@ -348,12 +337,12 @@ impl<B: Body, K: RunNaming> Shared<B, K> {
         gate: &G,
         worker: Worker<B, K>,
     ) -> Result<Worker<B, K>, Refusal>
-        ensures seat { IfOk result (λ w. IsSeatOf worker.seat w.seat) }
+        ensures seat { IfOk result (λ w. IsSeatOf worker.hand.seat w.hand.seat) }
         ensures refused { IfErr result (λ e. IsRunRefused e) }
     {
         let mut busy = Busy::of(rt, &self.tickets, worker);
         for _ in rt.forever() {
-            let Some(item) = self.next(&mut busy) else {
+            let Some(item) = busy.hand.next(rt, &self.queue) else {
                 return Ok(busy.into_worker());
             };
             if let Err(refusal) = self.drive(gate, &mut busy, item) {

@@ -1,7 +1,6 @@
 //! What the workers share, and what each has for itself.
 ghost use Rattle.std.specs.Prelude.{◌≡◌, ◌<◌, [], IfOk};
 ghost use Rattle.tasks_in_flight.specs.inner.Ready.{Tells};
-ghost use Rattle.task_queue.specs.Accounts.{IsSeatOf};
 
 use crossbeam_utils::CachePadded;
 use phase_modes::{Limits, Refusal};
@@ -9,12 +8,11 @@ use phaser_cell::{Out, Tickets};
 use scope_locks::FinishTable;
 use share_book::Shares;
 use std::alloc::Global;
-use std::collections::VecDeque;
 use std::sync::atomic::{AtomicU64, Ordering};
 use std::sync::{Mutex, Wait};
 use table_receipts::{Caller, ReceiptTable};
-use task_queue::{RunQueue, Seat};
-use tasks_in_flight::{Body, Item, RootLeft, RunNaming, TaskLeft};
+use task_queue::RunQueue;
+use tasks_in_flight::{Body, Hand, Item, RootLeft, RunNaming, TaskLeft};
 
 /// The next numbers of phasers, tasks and finishes, each drawn from a word of its own.
 #[derive(Drop)]
@@ -72,11 +70,9 @@ pub struct Shared<B: Body, K: RunNaming> {
 #[derive(Drop)]
 pub struct Worker<B: Body, K: RunNaming> {
     pub number: u32,
-    pub seat: Seat<Item<B, K>>,
+    pub hand: Hand<Item<B, K>>,
     pub shares: Shares<K>,
     pub out: Out<Item<B, K>>,
-    /// Tasks that the queue had no memory for.
-    pub kept: VecDeque<Item<B, K>>,
     /// What the root leaves, once it has ended.
     pub root: Option<RootLeft<B, K>>,
     ghost empty: { out ≡ [] },
@@ -86,9 +82,8 @@ pub struct Worker<B: Body, K: RunNaming> {
 #[derive(Drop)]
 pub(crate) struct Busy<'a, B: Body, K: RunNaming, R: Wait> {
     pub(crate) number: u32,
-    pub(crate) seat: Seat<Item<B, K>>,
+    pub(crate) hand: Hand<Item<B, K>>,
     pub(crate) by: Caller<'a, Item<B, K>, K, R>,
-    pub(crate) kept: VecDeque<Item<B, K>>,
     pub(crate) root: Option<RootLeft<B, K>>,
     ghost empty: { by.out ≡ [] },
 }
@@ -96,14 +91,13 @@ pub(crate) struct Busy<'a, B: Body, K: RunNaming, R: Wait> {
 impl<'a, B: Body, K: RunNaming, R: Wait> Busy<'a, B, K, R> {
     /// The worker begins to work.
     pub(crate) fn of(rt: &'a R, tickets: &'a Tickets, worker: Worker<B, K>) -> Busy<'a, B, K, R>
-        ensures { result.seat ≡ worker.seat }
+        ensures { result.hand ≡ worker.hand }
     {
         let Worker {
             number,
-            seat,
+            hand,
             shares,
             out,
-            kept,
             root,
         } = worker;
         let by = Caller {
@@ -114,31 +108,28 @@ impl<'a, B: Body, K: RunNaming, R: Wait> Busy<'a, B, K, R> {
         };
         Busy {
             number,
-            seat,
+            hand,
             by,
-            kept,
             root,
         }
     }
 
     /// It has ended its work.
     pub(crate) fn into_worker(self) -> Worker<B, K>
-        ensures { result.seat ≡ self.entry.seat }
+        ensures { result.hand ≡ self.entry.hand }
     {
         let Busy {
             number,
-            seat,
+            hand,
             by,
-            kept,
             root,
         } = self;
         let Caller { mine, out, .. } = by;
         Worker {
             number,
-            seat,
+            hand,
             shares: mine,
             out,
-            kept,
             root,
         }
     }
@@ -151,74 +142,5 @@ impl<B: Body, K: RunNaming> Shared<B, K> {
         ensures same { IfOk result (λ n. n ≡ phaser) }
     {
         self.phasers.place(phaser, refusal)
-    }
-
-    /// The next task to be run: one that the queue had no memory for, or one of the queue. None once
-    /// the queue is closed and empty.
-    pub(crate) fn next<R: Wait>(&self, busy: &mut Busy<'_, B, K, R>) -> Option<Item<B, K>>
-        ensures seat { IsSeatOf busy.old.seat busy.new.seat }
-        ensures mine { busy.new.by.mine ≡ busy.old.by.mine }
-    {
-        if let Some(item) = busy.kept.pop_front() {
-            return Some(item);
-        }
-        self.queue.take(busy.by.rt, &mut busy.seat)
-    }
-
-    /// Gives a task to the queue, or keeps it if the queue has no memory for it; how many were
-    /// given. Nobody is woken for it yet.
-    fn put(
-        &self,
-        seat: &mut Seat<Item<B, K>>,
-        kept: &mut VecDeque<Item<B, K>>,
-        item: Item<B, K>,
-    ) -> Result<u64, Refusal>
-        ensures seat { IsSeatOf seat.old seat.new }
-    {
-        match self.queue.put_quietly(seat, item) {
-            Ok(()) => Ok(1),
-            Err(item) => match kept.push_back(item) {
-                Ok(()) => Ok(0),
-                Err(_) => Err(Refusal::Memory),
-            },
-        }
-    }
-
-    /// Gives a task to the queue.
-    pub(crate) fn give<R: Wait>(
-        &self,
-        busy: &mut Busy<'_, B, K, R>,
-        item: Item<B, K>,
-    ) -> Result<(), Refusal>
-        ensures seat { IsSeatOf busy.old.seat busy.new.seat }
-        ensures mine { busy.new.by.mine ≡ busy.old.by.mine }
-    {
-        let Busy { seat, by, kept, .. } = busy;
-        let put = self.put(seat, kept, item)?;
-        self.queue.wake(by.rt, put);
-        Ok(())
-    }
-
-    /// Gives all whom a call woke to the queue, which wakes workers for them at once.
-    pub(crate) fn flush<R: Wait>(
-        &self,
-        rt: &R,
-        seat: &mut Seat<Item<B, K>>,
-        kept: &mut VecDeque<Item<B, K>>,
-        out: &mut Out<Item<B, K>>,
-    ) -> Result<(), Refusal>
-        ensures seat { IsSeatOf seat.old seat.new }
-        ensures out { out.new ≡ [] }
-    {
-        let mut given = Ok(());
-        let mut puts = 0u64;
-        while let Some(item) = out.take() {
-            match self.put(seat, kept, item) {
-                Ok(put) => puts = puts.saturating_add(put),
-                Err(refusal) => given = Err(refusal),
-            }
-        }
-        self.queue.wake(rt, puts);
-        given
     }
 }

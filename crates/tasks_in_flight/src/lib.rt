@@ -1,18 +1,27 @@
 //! Tasks in flight: the bodies that they run, what they know and have seen, and what they note of
-//! themselves. Nothing here takes a lock or starts a thread: `task_worker` drives these tasks,
-//! and what runs a body by itself (`goes_by`, the kernels) needs no more than this.
+//! themselves. `task_worker` drives these tasks, and what runs a body by itself (`goes_by`, the kernels)
+//! needs no more than this.
+//!
+//! Both runtimes, with a store and without, have their workers from here too: the threads (`Crew`), and how
+//! a worker takes and gives tasks (`Hand`). Nothing here takes a phaser's lock.
 //!
 //! A task keeps, of its body, that what the body says stays true of what the task has seen: so a body
 //! that is stepped with an answer to another act, or not at all, is refused here.
 #![tactic(auto)]
 
+mod begun;
 mod body;
+mod crew;
 mod diary;
+mod hand;
 mod moves;
 mod naming;
 mod task;
 
+pub use begun::{answer_to, begun_by};
 pub use body::{Body, Gate, OpenGate};
+pub use crew::{Crew, in_threads, told};
 pub use diary::Diary;
+pub use hand::{Hand, put_root};
 pub use naming::{RunNaming, Supposing};
 pub use task::{Item, RootLeft, Task, TaskLeft};

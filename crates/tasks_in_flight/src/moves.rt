@@ -14,8 +14,9 @@ ghost use Rattle.task_standing.specs.Noted.{plan_of};
 ghost use Rattle.task_standing.specs.Standing.{acted, begun, inner_of, marked, passed_by, registered_by, shut_by};
 ghost use Rattle.tasks_in_flight.specs.Heard.{make, send, look, opens, HasMade, HasSent, IsOwn};
 ghost use Rattle.tasks_in_flight.specs.Noted.{IsNoted};
-ghost use Rattle.tasks_in_flight.specs.inner.Ready.{HasAskedFor, HasJustDone, HasJustPassed, IsDue, answer_of, is_of_each, seen_by};
+ghost use Rattle.tasks_in_flight.specs.inner.Ready.{HasAskedFor, HasJustDone, HasJustPassed, IsDue, is_of_each, seen_by};
 
+use crate::begun::answer_to;
 use crate::body::Body;
 use crate::naming::RunNaming;
 use crate::task::Task;
@@ -27,17 +28,6 @@ use table_receipts::Front;
 use task_standing::{Held, Plan};
 use trace_model::TracedEvent;
 use world_model::{Begun, Tried};
-
-/// What the body hears once this act has ended: after its task's end nothing.
-fn answer_to(begun: &Begun) -> Option<Answer>
-    ensures { result ≡ answer_of begun.now }
-{
-    match begun {
-        Begun::Async(child, _) => Some(Answer::Spawned(*child)),
-        Begun::End => None,
-        _ => Some(Answer::Done),
-    }
-}
 
 impl<B: Body, K: RunNaming> Task<B, K> {
     /// It made this phaser, of which its body hears.

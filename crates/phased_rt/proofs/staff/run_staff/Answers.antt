@@ -4,4 +4,4 @@ use Rattle.phased_rt.proofs.staff.run_staff.Goals as goal
 
 pub gather_all-requires-clause-together : goal.gather_all-requires-clause-together
 gather_all-requires-clause-together g c =
-    together_back (map (λ w. w.seat) c.args.staff.items) c.in_ok-left.left.seats.items c.in_ok-left.ensures.seats c.requires.together
+    together_back (map (λ w. w.hand.seat) c.args.staff.items) c.in_ok-left.left.seats.items c.in_ok-left.ensures.seats c.requires.together

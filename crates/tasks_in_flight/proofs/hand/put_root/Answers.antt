@@ -2,7 +2,7 @@ use Rattle.std.proofs.Common.{subst, arith}
 use Rattle.task_queue.specs.Accounts.{IsSeatOf}
 use Rattle.task_queue.proofs.Ordering.{together_set}
 use Rattle.task_queue.proofs.Taking.{seat_after_put}
-use Rattle.phased_rt.proofs.staff.put_root.Goals as goal
+use Rattle.tasks_in_flight.proofs.hand.put_root.Goals as goal
 
 pub returns-clause-together : goal.returns-clause-together
 returns-clause-together g c =
