@@ -85,7 +85,7 @@ fn take_back<B: Body, K: RunNaming>(
     left: &mut Left<B, K>,
     worker: Worker<B, K>,
 ) -> Result<(), Refusal>
-    ensures seats { OnOk result (left.new.hand.seats.items ≡ left.old.seats.items ++ worker.hand.seat ∷ []) }
+    ensures seats { OnOk result (left.new.seats.items ≡ left.old.seats.items ++ worker.hand.seat ∷ []) }
     ensures shares { OnOk result (vec_len left.new.shares ≡ vec_len left.old.shares + 1) }
     ensures memory { IfErr result (λ e. e ≡ Refusal.Memory) }
 {
