@@ -342,7 +342,7 @@ impl<B: Body, K: RunNaming> Shared<B, K> {
     {
         let mut busy = Busy::of(rt, &self.tickets, worker);
         for _ in rt.forever() {
-            let Some(item) = busy.hand.next(rt, &self.queue) else {
+            let Some(item) = self.next(&mut busy) else {
                 return Ok(busy.into_worker());
             };
             if let Err(refusal) = self.drive(gate, &mut busy, item) {

@@ -1,6 +1,7 @@
 //! What the workers share, and what each has for itself.
 ghost use Rattle.std.specs.Prelude.{◌≡◌, ◌<◌, [], IfOk};
 ghost use Rattle.tasks_in_flight.specs.inner.Ready.{Tells};
+ghost use Rattle.task_queue.specs.Accounts.{IsSeatOf};
 
 use crossbeam_utils::CachePadded;
 use phase_modes::{Limits, Refusal};
@@ -142,5 +143,12 @@ impl<B: Body, K: RunNaming> Shared<B, K> {
         ensures same { IfOk result (λ n. n ≡ phaser) }
     {
         self.phasers.place(phaser, refusal)
+    }
+
+    /// The next task to be run. None once the queue is closed and empty.
+    pub(crate) fn next<R: Wait>(&self, busy: &mut Busy<'_, B, K, R>) -> Option<Item<B, K>>
+        ensures seat { IsSeatOf busy.old.hand.seat busy.new.hand.seat }
+    {
+        busy.hand.next(busy.by.rt, &self.queue)
     }
 }
