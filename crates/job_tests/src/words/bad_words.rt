@@ -340,9 +340,8 @@ fn bad_kernels(rt: HostRuntime) -> Result<(), Fail> {
 }
 
 #[test]
-fn bad_live_kernels(rt: HostRuntime) -> Result<(), Fail> {
-    const PROGRESS: &str = "error: --progress goes with --live\n";
-    const ROWS: [Row; 7] = [
+fn bad_values_of_live_kernels(rt: HostRuntime) -> Result<(), Fail> {
+    const ROWS: [Row; 2] = [
         (
             &[
                 "phaser_run",
@@ -363,6 +362,14 @@ fn bad_live_kernels(rt: HostRuntime) -> Result<(), Fail> {
             ],
             "error: the items are a number of 0 to 2000000000\n",
         ),
+    ];
+    all_bad(&rt, rt.alloc(), ROWS.as_slice())
+}
+
+#[test]
+fn bad_flags_of_kernels(rt: HostRuntime) -> Result<(), Fail> {
+    const PROGRESS: &str = "error: --progress goes with --live\n";
+    const ROWS: [Row; 5] = [
         (
             &[
                 "phaser_run",
