@@ -7,6 +7,7 @@ use Rattle.phase_modes.specs.declared.phased.Pair.{Pair}
 use Rattle.phase_modes.specs.declared.reg.Mode.{Mode}
 use Rattle.phase_model.specs.declared.history.Event.{Event}
 use Rattle.phase_model.specs.declared.history.Event.TheVariants.{Pass}
+use Rattle.phase_model.specs.declared.terms.Terms.{Terms}
 use Rattle.phase_model.specs.Rules.{Story}
 use Rattle.world_model.specs.declared.event.Begun.TheVariants as begun
 use Rattle.trace_model.specs.declared.event.TracedEvent.{TracedEvent}
@@ -15,7 +16,7 @@ use Rattle.job_script.specs.declared.act.Answer.{Answer}
 use Rattle.job_script.specs.declared.act.Answer.TheVariants.{Started, Done, Made, Spawned, Saw}
 use Rattle.task_standing.specs.declared.held.Held.{Held}
 use Rattle.task_standing.specs.Standing.{pair_of}
-use Rattle.tasks_in_flight.specs.Heard.{Asked, Seen, HasPassed, HoldsMore, IsAnswerTo, IsHeard, pairs_for}
+use Rattle.tasks_in_flight.specs.Heard.{Asked, Seen, SeesMoreOf, HasPassed, HoldsMore, HoldsNot, IsAnswerTo, IsHeard, made_by, pairs_for}
 use Rattle.tasks_in_flight.specs.Heard as heard
 use Rattle.own_body.specs.declared.counts.Counts.{Counts}
 use Rattle.own_body.specs.Turns.{none as uncounted, passes, spawns, is_pass, is_spawn, HoldsFirst, TakesNone, AreCounted}
@@ -36,6 +37,50 @@ one_more {X} test x xs is =
     ap (λ (b : Bool). length (cond b (x ∷ filter test xs) (filter test xs))) is in
     omega (arith, one)
 
+-- ---- a phaser that is made
+
+-- who hears of a phaser that was made hears that it made it
+pub made_is : (answer : Answer) (n : ℕ) → made_by answer ≡ Some n → answer ≡ Made n
+made_is (Made k) n is = ap (λ (m : ℕ). Made m) (same_Some _ _ is)
+made_is Started n is = absurd (cc is)
+made_is Done n is = absurd (cc is)
+made_is (Spawned c) n is = absurd (cc is)
+made_is (Saw x) n is = absurd (cc is)
+
+-- and asked for it
+pub asked_to_make : (task n : ℕ) (asked : Asked) (seen now : Seen) → IsAnswerTo task asked (Made n) seen now
+    → (m : Mode) × (terms : Terms) × (asked ≡ heard.make m terms)
+asked_to_make task n (heard.make m terms) seen now is = (m, terms, refl)
+asked_to_make task n heard.nothing seen now is = absurd is.0
+asked_to_make task n (heard.send k a v) seen now is = absurd is.0
+asked_to_make task n (heard.look k a) seen now is = absurd is.0
+asked_to_make task n heard.signal seen now is = absurd is.0
+asked_to_make task n heard.wait seen now is = absurd is.0
+asked_to_make task n (heard.next x) seen now is = absurd is.0
+asked_to_make task n (heard.spawn to) seen now is = absurd is.0
+asked_to_make task n heard.opens seen now is = absurd is.0
+asked_to_make task n heard.shuts seen now is = absurd is.0
+asked_to_make task n heard.ends seen now is = absurd is.0
+
+-- and holds none of its number
+not_held : (task n : ℕ) (asked : Asked) (seen now : Seen) → IsAnswerTo task asked (Made n) seen now → HoldsNot n seen
+not_held task n asked seen now is =
+    let asks = asked_to_make task n asked seen now is in
+    let to_make : IsAnswerTo task (heard.make asks.0 asks.1) (Made n) seen now =
+    subst (λ (a : Asked). IsAnswerTo task a (Made n) seen now) asks.2 is in
+    to_make.0.2
+
+-- who holds phaser 0 sees no less of it
+held_goes_on : (task : ℕ) (asked : Asked) (answer : Answer) (seen now : Seen) → HoldsFirst seen → IsHeard task asked answer seen now
+    → SeesMoreOf 0 seen now
+held_goes_on task asked answer seen now holds is =
+    elim (is.0.0 0) [
+      | inl made ↦
+          absurd (not_held task 0 asked seen now (subst (λ (a : Answer). IsAnswerTo task asked a seen now) (made_is answer 0 made) is.1)
+          holds.0 holds.1 holds.2 holds.3)
+      | inr more ↦ more
+    ]
+
 -- ---- turns
 
 -- a task that passed has passed once more than it had seen
@@ -52,21 +97,41 @@ passed_again task seen now passed =
 
 -- who asked for its next phase, and held phaser 0, has passed there
 passes_first : (task : ℕ) (asked : Asked) (answer : Answer) (seen now : Seen) → asked ≡ heard.next None → HoldsFirst seen
-    → IsAnswerTo task asked answer seen now → HasPassed task (seen.stories 0) (now.stories 0)
+    → IsAnswerTo task asked answer seen now → HasPassed (now.own 0) (seen.stories 0) (now.stories 0)
 passes_first task asked answer seen now turns holds is =
     let to_next : IsAnswerTo task (heard.next None) answer seen now = subst (λ (a : Asked). IsAnswerTo task a answer seen now) turns is in
-    subst (λ (n : ℕ). HasPassed task (seen.stories n) (now.stories n)) holds.3 (to_next.1.2 holds.0 holds.1 holds.2)
+    subst (λ (n : ℕ). HasPassed (now.own n) (seen.stories n) (now.stories n)) holds.3 (to_next.1.2 holds.0 holds.1 holds.2)
 
-pub turns_on : (task turns new : ℕ) (one : Bool) (asked : Asked) (answer : Answer) (seen now : Seen) → (one ≡ true → asked ≡ heard.next None)
-    → (one ≡ true → HoldsFirst seen) → (one ≡ false → new ≡ turns) → new ≤ turns + 1 → turns ≤ passes task (seen.stories 0).past
-    → IsHeard task asked answer seen now → new ≤ passes task (now.stories 0).past
-turns_on task turns new one asked answer seen now next holds same more right is =
-    elim (cases_Bool one) [
-      | inl is_one ↦
-          omega (arith, more, right, passed_again task (seen.stories 0) (now.stories 0) (passes_first task asked answer seen now (next is_one) (holds is_one) is.1))
-      | inr none ↦
-          let goes = is.0.0 0 in
-          omega (arith, same none, right, no_fewer (λ e. is_pass task e) goes.1.0 (seen.stories 0).past (now.stories 0).past goes.1.1)
+-- it has passed phaser 0 no less often than it counts, also with what is heard; before it holds that no turn is counted
+pub turns_on : (task turns new : ℕ) (held one : Bool) (asked : Asked) (answer : Answer) (seen now : Seen)
+    → (one ≡ true → asked ≡ heard.next None) → (held ≡ true → HoldsFirst seen) → (held ≡ false → turns ≡ 0)
+    → (held ≡ false → one ≡ false) → (one ≡ false → new ≡ turns) → new ≤ turns + 1
+    → turns ≤ passes (seen.own 0) (seen.stories 0).past
+    → IsHeard task asked answer seen now → new ≤ passes (now.own 0) (now.stories 0).past
+turns_on task turns new held one asked answer seen now next holds uncounted_yet unheld same more right is =
+    elim (cases_Bool held) [
+      | inr not ↦ omega (arith, same (unheld not), uncounted_yet not)
+      | inl is_held ↦
+          let sees = held_goes_on task asked answer seen now (holds is_held) is in
+          let goes = sees.0 in
+          let known : turns ≤ passes (now.own 0) (seen.stories 0).past =
+          subst (λ (own : ℕ). turns ≤ passes own (seen.stories 0).past) (sym sees.1) right in
+          elim (cases_Bool one) [
+            | inl is_one ↦
+                omega (
+                  arith,
+                  more,
+                  known,
+                  passed_again (now.own 0) (seen.stories 0) (now.stories 0) (passes_first task asked answer seen now (next is_one) (holds is_held) is.1),
+                )
+            | inr none ↦
+                omega (
+                  arith,
+                  same none,
+                  known,
+                  no_fewer (λ e. is_pass (now.own 0) e) goes.1.0 (seen.stories 0).past (now.stories 0).past goes.1.1,
+                )
+          ]
     ]
 
 -- ---- children
@@ -213,7 +278,7 @@ made_first task asked answer seen now first is =
 -- ---- before its first act
 
 none_counted : (task : ℕ) (seen : Seen) → AreCounted task uncounted seen
-none_counted task seen = (omega arith, omega arith, λ held. absurd (true≢false (sym held)))
+none_counted task seen = (omega arith, omega arith, (λ held. absurd (true≢false (sym held))), λ unheld. refl)
 
 pub counted_at_first : (task : ℕ) (c : Counts) (seen : Seen) → c ≡ uncounted → AreCounted task c seen
 counted_at_first task c seen is = subst (λ (d : Counts). AreCounted task d seen) (sym is) (none_counted task seen)

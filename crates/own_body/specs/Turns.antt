@@ -41,10 +41,11 @@ TakesNone _ = Unit {0}
 abbrev pub none : Counts
 none = record { holds = false; turns = 0; children = 0 }
 
--- the counts are right of what the task has seen: it has passed phaser 0 no less often, and spawned no fewer children; and it
--- holds phaser 0 if that is noted
+-- the counts are right of what the task has seen: it has passed phaser 0 no less often, and spawned no fewer children; it
+-- holds phaser 0 if that is noted, and until then no turn is counted
 abbrev pub AreCounted : ℕ → Counts → Seen → Type 0
 AreCounted task c seen =
-    (c.turns ≤ passes task (seen.stories 0).past)
+    (c.turns ≤ passes (seen.own 0) (seen.stories 0).past)
     × (c.children ≤ spawns task seen.log)
     × (c.holds ≡ true → HoldsFirst seen)
+    × (c.holds ≡ false → c.turns ≡ 0)

@@ -1,7 +1,8 @@
 //! Tasks that add up: what each does, and what it says of the sum that it saw, its turns and its children.
 ghost use Rattle.std.specs.Prelude.{◌≡◌, ◌≤◌, ℕ, true, map, None, Ok, IfOk};
+ghost use Rattle.phase_model.specs.declared.terms.Terms.{Terms};
 ghost use Rattle.trace_model.specs.Projections.{log, projection};
-ghost use Rattle.tasks_in_flight.specs.Heard.{Asked, Seen, look, next, ends, asked_by, IsSpawned, IsAnswerTo, IsHeard};
+ghost use Rattle.tasks_in_flight.specs.Heard.{Asked, Seen, make, look, next, ends, asked_by, IsSpawned, IsAnswerTo, IsHeard};
 ghost use Rattle.phased_rt.specs.Says.{story_in, HasEnded};
 ghost use Rattle.own_body.specs.Sums.{IsSeen, IsSum, HasSeenSum};
 ghost use Rattle.own_body.specs.Turns.{none, passes, spawns, TakesNone, AreCounted};
@@ -41,20 +42,27 @@ pub struct Adder {
 impl Body for Adder {
     ghost use Rattle.own_body.specs.Sums.{IsSeen, HasLookedOnce};
     ghost use Rattle.own_body.specs.declared.adder.Next.{Next};
-    ghost use Rattle.own_body.specs.declared.adder.Next.TheVariants.{Looks, Hears};
+    ghost use Rattle.own_body.specs.declared.adder.Next.TheVariants.{Makes, Looks, Hears};
     ghost use Rattle.own_body.specs.Turns.{TakesNone, AreCounted};
     ghost use Rattle.std.specs.Prelude.{◌≡◌, true, None};
-    ghost use Rattle.tasks_in_flight.specs.Heard.{look, next, ends};
+    ghost use Rattle.phase_modes.specs.declared.reg.Mode.{Mode};
+    ghost use Rattle.phase_model.specs.declared.op.Look.TheVariants.{Nothing};
+    ghost use Rattle.phase_model.specs.declared.terms.Terms.{Terms};
+    ghost use Rattle.tasks_in_flight.specs.Heard.{make, look, next, ends};
 
-    /// Its task saw on phaser 0 what it saw. If it is about to hear, it has asked for a look there. If it
-    /// asks for its end, its task has looked. Its counts are right. If it is about to look, it has asked
-    /// for its next phase. Once it has made phaser 0, no act of its takes that from its task.
-    ghost shows = { λ b task asked seen. IsSeen task (seen.stories 0) b.saw
+    /// Its task saw on phaser 0 what it saw, under the number by which that phaser knows it. If it is about
+    /// to hear, it has asked for a look there. If it asks for its end, its task has looked. Its counts are
+    /// right. If it is about to look, it has asked for its next phase. Once it has made phaser 0, no act of
+    /// its takes that from its task. If it is about to make a phaser, or has asked for one, it has seen no
+    /// sum: until the phaser is made, 0 may be the number of another.
+    ghost shows = { λ b task asked seen. IsSeen (seen.own 0) (seen.stories 0) b.saw
         × (b.next ≡ Hears → asked ≡ look 0 0)
-        × (asked ≡ ends → HasLookedOnce task (seen.stories 0))
+        × (asked ≡ ends → HasLookedOnce (seen.own 0) (seen.stories 0))
         × AreCounted task b.counts seen
         × (b.next ≡ Looks → asked ≡ next None)
-        × (b.counts.holds ≡ true → TakesNone asked) };
+        × (b.counts.holds ≡ true → TakesNone asked)
+        × (b.next ≡ Makes → b.saw ≡ Nothing)
+        × ((mode : Mode) (terms : Terms) → asked ≡ make mode terms → b.saw ≡ Nothing) };
 
     fn step(&mut self, answer: Answer) -> Result<Act<Adder>, Refusal> {
         self.count(answer);
@@ -90,8 +98,9 @@ impl Adder {
         ensures next { self.new.next ≡ self.old.next }
         ensures counts { self.new.counts ≡ self.old.counts }
         ensures saw { (task : ℕ) (asked : Asked) (seen now : Seen) → (self.old.next ≡ Next.Hears → asked ≡ look 0 0)
-            → IsAnswerTo task asked answer seen now → IsSeen task (now.stories 0) self.old.saw
-            → IsSeen task (now.stories 0) self.new.saw }
+            → IsAnswerTo task asked answer seen now → IsSeen (now.own 0) (now.stories 0) self.old.saw
+            → IsSeen (now.own 0) (now.stories 0) self.new.saw }
+        ensures same { self.old.next ≡ Next.Makes → self.new.saw ≡ self.old.saw }
     {
         if let (Next::Hears, Answer::Saw(saw)) = (self.next, answer) {
             self.saw = saw;
@@ -109,6 +118,8 @@ impl Adder {
         ensures turns { self.new.next ≡ Next.Looks → asked_by (Ok result) ≡ next None }
         ensures looks { self.new.next ≡ Next.Hears → asked_by (Ok result) ≡ look 0 0 }
         ensures end { asked_by (Ok result) ≡ ends → self.old.next ≡ Next.Hears }
+        ensures made { self.new.next ≡ Next.Makes → ⊥ }
+        ensures makes { (mode : Mode) (terms : Terms) → asked_by (Ok result) ≡ make mode terms → self.old.next ≡ Next.Makes }
         ensures child { (child : Adder) → IsSpawned child (Ok result) → (child.saw ≡ Look.Nothing) × (child.next ≡ Next.Sends) × (child.counts ≡ none) }
     {
         match self.next {
@@ -143,6 +154,7 @@ impl Adder {
     /// It spawns a task for its number, on the phaser that it made.
     fn spawn(&mut self) -> Act<Adder>
         ensures end { asked_by (Ok result) ≡ ends → ⊥ }
+        ensures makes { (mode : Mode) (terms : Terms) → asked_by (Ok result) ≡ make mode terms → ⊥ }
         ensures takes { TakesNone (asked_by (Ok result)) }
         ensures saw { self.new.saw ≡ self.old.saw }
         ensures counts { self.new.counts ≡ self.old.counts }
@@ -163,6 +175,7 @@ impl Adder {
     /// It sends its number.
     fn send(&mut self) -> Act<Adder>
         ensures end { asked_by (Ok result) ≡ ends → ⊥ }
+        ensures makes { (mode : Mode) (terms : Terms) → asked_by (Ok result) ≡ make mode terms → ⊥ }
         ensures takes { TakesNone (asked_by (Ok result)) }
         ensures saw { self.new.saw ≡ self.old.saw }
         ensures counts { self.new.counts ≡ self.old.counts }

@@ -102,10 +102,10 @@ begins_any [] more all none = refl
 begins_any (x ∷ noted) more all none = absurd (cc none)
 
 -- what it had noted, with which its part begins, begins what the trace has of it
-seen_in_trace : (Holds : Seen → Type 0) (own all : List Entry) (stories : ℕ → Story) → (own ≡ []) ⊎ (all ≡ own)
-    → IsSeenBy Holds own stories → IsSeenBy Holds all stories
-seen_in_trace Holds own all stories (inr same) seen = subst (λ (es : List Entry). IsSeenBy Holds es stories) (sym same) seen
-seen_in_trace Holds own all stories (inl none) seen = (
+seen_in_trace : (task : ℕ) (Holds : Seen → Type 0) (own all : List Entry) (stories : ℕ → Story) → (own ≡ []) ⊎ (all ≡ own)
+    → IsSeenBy task Holds own stories → IsSeenBy task Holds all stories
+seen_in_trace task Holds own all stories (inr same) seen = subst (λ (es : List Entry). IsSeenBy task Holds es stories) (sym same) seen
+seen_in_trace task Holds own all stories (inl none) seen = (
   seen.0,
   seen.1,
   map (λ (e : Entry). e.1) all,
@@ -120,10 +120,10 @@ pub says_of_trace : {B : Type 0} (Shows : Saying B) (l : Limits) (parts logs : L
     → IsSaid Shows l parts logs root → SaysOfTrace Shows l es root
 says_of_trace {B} Shows l parts logs owners es root traced many left own said =
     let noted = own_traced es 0 owners logs said.2.0 said.2.1 left own said.2.2 said.2.3 in
-    shown_of_trace (λ (b : B) s. IsSeenBy (λ seen. IsSaidOfRoot Shows b seen) (projection (log 0) es) s) l parts es said.0 traced many said.1 root
+    shown_of_trace (λ (b : B) s. IsSeenBy 0 (λ seen. IsSaidOfRoot Shows b seen) (projection (log 0) es) s) l parts es said.0 traced many said.1 root
     (∥∥₁_map said.2.4 (λ s. (
       s.0,
-      seen_in_trace (λ seen. IsSaidOfRoot Shows root seen) said.2.1 (projection (log 0) es) s.0 noted s.1,
+      seen_in_trace 0 (λ seen. IsSaidOfRoot Shows root seen) said.2.1 (projection (log 0) es) s.0 noted s.1,
       s.2,
     )))
 
@@ -160,11 +160,11 @@ pub each_of_trace : {B : Type 0} (Shows : Saying B) (l : Limits) (parts logs : L
 each_of_trace {B} Shows l parts logs owners es traced many left own none said t ended =
     elim (part_or_none Is es t owners logs left own said.2) [
       | inl is ↦
-          shown_of_trace (λ u s. IsSeenBy (IsSaidOf Shows u) (projection (log t) es) s) l parts es said.0 traced many said.1 t (is.0 t is.1 ended)
+          shown_of_trace (λ u s. IsSeenBy u (IsSaidOf Shows u) (projection (log t) es) s) l parts es said.0 traced many said.1 t (is.0 t is.1 ended)
       | inr others ↦ absurd (true≢false (sym ended ∙ ap has_end (none t others)))
     ]
   where
     Is : List Entry → Type 0
     Is p =
         (task : ℕ) → AreOf (log task) p → has_end p ≡ true
-        → ∥ HasShown (λ u s. IsSeenBy (IsSaidOf Shows u) p s) (length parts) said.0 task ∥₁
+        → ∥ HasShown (λ u s. IsSeenBy u (IsSaidOf Shows u) p s) (length parts) said.0 task ∥₁

@@ -18,7 +18,7 @@ story_in l es n =
 -- the trace tells, and what it had noted begins its log there
 abbrev pub SaysOfTrace : {B : Type 0} → Saying B → Limits → List Entry → B → Type 0
 SaysOfTrace Shows l es root =
-    ∥ HasShown (λ b s. IsSeenBy (λ seen. IsSaidOfRoot Shows b seen) (projection (log 0) es) s) l.phasers (λ n. story_in l es n) root ∥₁
+    ∥ HasShown (λ b s. IsSeenBy 0 (λ seen. IsSaidOfRoot Shows b seen) (projection (log 0) es) s) l.phasers (λ n. story_in l es n) root ∥₁
 
 -- in the trace this task has begun to end
 abbrev pub HasEnded : ℕ → List Entry → Type 0
@@ -29,4 +29,4 @@ HasEnded task es = has_end (projection (log task) es) ≡ true
 abbrev pub SaysOfEach : {B : Type 0} → Saying B → Limits → List Entry → Type 0
 SaysOfEach Shows l es =
     (task : ℕ) → HasEnded task es
-    → ∥ HasShown (λ t s. IsSeenBy (IsSaidOf Shows t) (projection (log t) es) s) l.phasers (λ n. story_in l es n) task ∥₁
+    → ∥ HasShown (λ t s. IsSeenBy t (IsSaidOf Shows t) (projection (log t) es) s) l.phasers (λ n. story_in l es n) task ∥₁

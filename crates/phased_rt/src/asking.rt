@@ -40,8 +40,8 @@ pub fn run_and_ask<B: Body + Send, G: Gate + Sync, Q: Question + Sync, R: Thread
     ensures left { IfOk result (λ r. IsLeftByAll r.0.trace.events) }
     ensures told { IfOk result (λ r. IsToldBy limits r.0.trace.events r.0.totals) }
     ensures totals { IfOk result (λ r. AreTotals limits r.0.trace.events r.0.world.totals r.0.totals) }
-    ensures says { IfOk result (λ r. ((stories : ℕ → Story) → B.shows root 0 nothing (at_start stories)) → SaysOfTrace B.shows limits r.0.trace.events r.0.root) }
-    ensures each { IfOk result (λ r. ((stories : ℕ → Story) → B.shows root 0 nothing (at_start stories)) → SaysOfEach B.shows limits r.0.trace.events) }
+    ensures says { IfOk result (λ r. ((stories : ℕ → Story) → B.shows root 0 nothing (at_start (λ n. 0) stories)) → SaysOfTrace B.shows limits r.0.trace.events r.0.root) }
+    ensures each { IfOk result (λ r. ((stories : ℕ → Story) → B.shows root 0 nothing (at_start (λ n. 0) stories)) → SaysOfEach B.shows limits r.0.trace.events) }
     ensures answered { IfOk result (λ r. Q.answers question.now r.0.trace r.1) }
     ensures refused { IfErr result (λ e. IsRunRefused e) }
 {

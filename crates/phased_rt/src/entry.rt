@@ -43,7 +43,7 @@ fn root_of<K: RunNaming, B: Body, R: Wait>(
     root: B,
 ) -> Result<Item<B, K>, Refusal>
     requires all { phasers.now.phasers ≡ K.Logs.limits.phasers }
-    requires root { K.Supposing.supposed → (stories : ℕ → Story) → B.Body.shows root 0 nothing (at_start stories) }
+    requires root { K.Supposing.supposed → (stories : ℕ → Story) → B.Body.shows root 0 nothing (at_start (λ n. 0) stories) }
     ensures memory { IfErr result (λ e. e ≡ Refusal.Memory) }
 {
     let fronts = Fronts::of(alloc, rt, phasers)?;
@@ -134,7 +134,7 @@ fn run_in<K: RunNaming + SharedLedgers, B: Body + Send, G: Gate + Sync, R: Threa
     requires logs { (i : ℕ) → IfSome (slice_get unnamed.logs.items i) (λ w. w.name ≡ K.Logs.logs i) }
     requires empty { All (λ w. w.items ≡ []) unnamed.logs.items }
     requires each { vec_len unnamed.logs ≡ limits.phasers }
-    requires root { K.Supposing.supposed → (stories : ℕ → Story) → B.Body.shows root 0 nothing (at_start stories) }
+    requires root { K.Supposing.supposed → (stories : ℕ → Story) → B.Body.shows root 0 nothing (at_start (λ n. 0) stories) }
     requires tells { ∥ Tells B.Body.shows K.Supposing.told ∥₁ }
     ensures remains { IfOk result (λ r. AreRemains limits r.phasers.items r.finishes.items r.logs.items r.totals) }
     ensures says { IfOk result (λ r. K.Supposing.supposed → IsSaid B.Body.shows limits r.phasers.items r.logs.items r.root) }
@@ -191,7 +191,7 @@ fn run_over<
     requires logs { (i : ℕ) → IfSome (slice_get unnamed.logs.items i) (λ w. w.name ≡ L.Logs.logs i) }
     requires empty { All (λ w. w.items ≡ []) unnamed.logs.items }
     requires each { vec_len unnamed.logs ≡ limits.phasers }
-    requires root { L.Supposing.supposed → (stories : ℕ → Story) → B.Body.shows root 0 nothing (at_start stories) }
+    requires root { L.Supposing.supposed → (stories : ℕ → Story) → B.Body.shows root 0 nothing (at_start (λ n. 0) stories) }
     requires tells { ∥ Tells B.Body.shows L.Supposing.told ∥₁ }
     ensures remains { IfOk result (λ r. AreRemains limits r.phasers.items r.finishes.items r.logs.items r.totals) }
     ensures says { IfOk result (λ r. L.Supposing.supposed → IsSaid B.Body.shows limits r.phasers.items r.logs.items r.root) }
@@ -223,8 +223,8 @@ pub fn run_tasks<B: Body + Send, G: Gate + Sync, R: Threads + Wait + Sync>(
     requires limits { limits_fit limits ≡ true }
     requires workers { (0 < workers) × (workers ≤ 16) }
     ensures remains { IfOk result (λ r. AreRemains limits r.phasers.items r.finishes.items r.logs.items r.totals) }
-    ensures says { IfOk result (λ r. ((stories : ℕ → Story) → B.shows root 0 nothing (at_start stories)) → IsSaid B.shows limits r.phasers.items r.logs.items r.root) }
-    ensures each { IfOk result (λ r. ((stories : ℕ → Story) → B.shows root 0 nothing (at_start stories)) → AreSaid (IsSaidOf B.shows) limits r.phasers.items r.logs.items) }
+    ensures says { IfOk result (λ r. ((stories : ℕ → Story) → B.shows root 0 nothing (at_start (λ n. 0) stories)) → IsSaid B.shows limits r.phasers.items r.logs.items r.root) }
+    ensures each { IfOk result (λ r. ((stories : ℕ → Story) → B.shows root 0 nothing (at_start (λ n. 0) stories)) → AreSaid (IsSaidOf B.shows) limits r.phasers.items r.logs.items) }
     ensures refused { IfErr result (λ e. IsRunRefused e) }
 {
     let logs = new_logs(alloc, limits.phasers)?;

@@ -44,8 +44,8 @@ pub fn run<B: Body + Send, G: Gate + Sync, R: Threads + Wait + Sync>(
     ensures left { IfOk result (λ r. IsLeftByAll r.trace.events) }
     ensures told { IfOk result (λ r. IsToldBy limits r.trace.events r.totals) }
     ensures totals { IfOk result (λ r. AreTotals limits r.trace.events r.world.totals r.totals) }
-    ensures says { IfOk result (λ r. ((stories : ℕ → Story) → B.shows root 0 nothing (at_start stories)) → SaysOfTrace B.shows limits r.trace.events r.root) }
-    ensures each { IfOk result (λ r. ((stories : ℕ → Story) → B.shows root 0 nothing (at_start stories)) → SaysOfEach B.shows limits r.trace.events) }
+    ensures says { IfOk result (λ r. ((stories : ℕ → Story) → B.shows root 0 nothing (at_start (λ n. 0) stories)) → SaysOfTrace B.shows limits r.trace.events r.root) }
+    ensures each { IfOk result (λ r. ((stories : ℕ → Story) → B.shows root 0 nothing (at_start (λ n. 0) stories)) → SaysOfEach B.shows limits r.trace.events) }
     ensures refused { IfErr result (λ e. IsRunRefused e) }
 {
     let remains = run_tasks(rt, alloc, root, limits, workers, gate)?;

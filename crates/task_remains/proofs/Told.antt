@@ -18,26 +18,30 @@ use Rattle.tasks_in_flight.specs.Heard.{Seen}
 use Rattle.tasks_in_flight.specs.Said.{AreSaid, IsSeenBy, has_end}
 use Rattle.task_remains.specs.inner.Logs.{IsToldIn}
 use Rattle.tasks_in_flight.specs.inner.Ready.{IsTold, seen_at_end}
+use Rattle.tasks_in_flight.proofs.OnTheWay.{sees_of}
+use Rattle.tasks_in_flight.proofs.Saying.{own_now}
 use Rattle.task_remains.proofs.Gathering.{one_owner}
 
 module _ {P : Type 0} (Told : ℕ → Seen → Type 0) where
   -- what is told of what this log's task has seen is told of what begins the phasers' logs, and its own
   pub told_in_logs : (logs fronts : List Sight) (own : TaskLog) (task : ℕ) (part : List Entry) → length logs ≡ length fronts
       → ((n : ℕ) → n < length fronts → GoesOn (story_at fronts n) (story_at logs n)) → AreOf (log task) part → part ≡ own.entries
-      → (has_end part ≡ true → ∥ (P → IsTold Told task (seen_at_end fronts own)) ∥₁) → IsToldIn P Told logs part
+      → (has_end part ≡ true → ∥ (P → IsTold Told task (seen_at_end task fronts own)) ∥₁) → IsToldIn P Told logs part
   told_in_logs logs fronts own task part many begin its_own all told = λ t its ended.
       let same : t ≡ task = one_owner t task part its its_own ended in
       ∥∥₁_map (told ended) (λ f p.
-      let s = f p in (
+      let s = f p in
+      let now = seen_at_end task fronts own in (
         s.0.stories,
         (
           s.0.holding,
           s.0.log,
           s.2.1.0,
-          subst (λ (u : ℕ). Told u s.0) (sym same) s.1,
+          subst (λ (u : ℕ). Told u (record { own = λ n. u; stories = s.0.stories; holding = s.0.holding; log = s.0.log })) (sym same)
+              (own_now (Told task) s.0 now s.2 s.1),
           ap (λ (es : List Entry). map (λ (e : Entry). e.1) es) all ∙ s.2.1.1,
         ),
-        λ n lt. goes_far (s.0.stories n) (story_at fronts n) (story_at logs n) (s.2.0 n) (begin n (omega (arith, lt, many))),
+        λ n lt. goes_far (s.0.stories n) (story_at fronts n) (story_at logs n) (sees_of s.0 now n s.2).0 (begin n (omega (arith, lt, many))),
       ))
 
   -- and so it is told of the stories that the parts tell
@@ -51,6 +55,6 @@ module _ {P : Type 0} (Told : ℕ → Seen → Type 0) where
         (λ n lt. (told_at_each names parts logs logged n lt, limits n (within n lt))),
         All-weaker (IsToldIn P Told logs)
             (λ part. (task : ℕ) → AreOf (log task) part → has_end part ≡ true
-            → ∥ HasShown (λ t s. IsSeenBy (Told t) part s) (length parts) stories task ∥₁)
+            → ∥ HasShown (λ t s. IsSeenBy t (Told t) part s) (length parts) stories task ∥₁)
             (λ part is task own ended. ∥∥₁_map (is task own ended) (λ f. let s = f p in (s.0, s.1, λ n lt. s.2 n (within n lt)))) of_tasks told,
       )

@@ -170,7 +170,7 @@ impl<B: Body, K: RunNaming> Shared<B, K> {
     /// Begins to spawn a child. The child's memory is taken before the act is looked at.
     fn spawn(&self, item: &mut Item<B, K>, body: B, pairs: Phased) -> Result<(), Refusal>
         requires says { ∥ (K.Supposing.supposed → HasAskedToSpawn B.Body.shows item.old.task.value.body item.old.task.value.log.task pairs (seen_by item.old.task.value.fronts item.old.task.value.standing item.old.task.value.log.log)) ∥₁ }
-        requires child { (its : ℕ) → ∥ (K.Supposing.supposed → B.Body.shows body its nothing (at_start (λ n. story_at item.old.task.value.fronts n))) ∥₁ }
+        requires child { (its : ℕ) → ∥ (K.Supposing.supposed → (own : ℕ → ℕ) → B.Body.shows body its nothing (at_start own (λ n. story_at item.old.task.value.fronts n))) ∥₁ }
         ensures acted { OnOk result (HasActed (λ n. story_at item.old.task.value.fronts n)
             item.old.task.value.standing item.new.task.value.standing) }
     {
@@ -220,7 +220,7 @@ impl<B: Body, K: RunNaming> Shared<B, K> {
     ) -> Result<(), Refusal>
         requires says { ∥ (K.Supposing.supposed → B.Body.shows item.old.task.value.body item.old.task.value.log.task (asked_by (Ok act)) (seen_by item.old.task.value.fronts item.old.task.value.standing item.old.task.value.log.log)) ∥₁ }
         requires child { (child : B) (its : ℕ) → IsSpawned child (Ok act)
-            → ∥ (K.Supposing.supposed → B.Body.shows child its nothing (at_start (λ n. story_at item.old.task.value.fronts n))) ∥₁ }
+            → ∥ (K.Supposing.supposed → (own : ℕ → ℕ) → B.Body.shows child its nothing (at_start own (λ n. story_at item.old.task.value.fronts n))) ∥₁ }
         ensures acted { OnOk result (HasActed (λ n. story_at item.old.task.value.fronts n)
             item.old.task.value.standing item.new.task.value.standing) }
         ensures out { by.new.out ≡ by.old.out }

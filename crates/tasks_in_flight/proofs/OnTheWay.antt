@@ -1,7 +1,7 @@
 -- How far an act has come, from one event of its task to the next, until its body hears of it.
 use Rattle.std.proofs.Common.{ℕ, zero, suc, ◌+◌, ◌≡◌, ◌⊎◌, ◌==◌, ◌<◌, ◌≤◌, Bool, true, false, if◌then◌else◌, inl, inr, List, [], ◌∷◌, ◌++◌, Option, Some, None, refl, sym, ap, subst, ◌∙◌, arith, map, filter, drop, append-nil}
-use Rattle.std.specs.Prelude.{ℤ, min, option_map, slice_get}
-use Rattle.std.proofs.lemmas.Bool.{cases_lt, eqb-true, true≢false}
+use Rattle.std.specs.Prelude.{ℤ, find, is_some, min, option_map, slice_get}
+use Rattle.std.proofs.lemmas.Bool.{cases_lt, eq-eqb, eqb-true, true≢false}
 use Rattle.std.proofs.lemmas.List.{append_assoc}
 use Rattle.std.proofs.lemmas.Option.{slice_get-map, same_Some}
 use Rattle.phase_model.specs.declared.history.Event.{Event}
@@ -27,19 +27,46 @@ use Rattle.task_standing.specs.declared.plan.Plan.TheVariants.{Idle, Signalling,
 use Rattle.task_standing.specs.Known.{Known}
 use Rattle.task_standing.specs.Noted.{plan_of}
 use Rattle.task_standing.specs.Standing.{owes, pair_of, marked, passed_by, registered_by, shut_by}
-use Rattle.tasks_in_flight.specs.Heard.{Asked, Seen, SeesMore, HasDone, HasPassed, HasPassedAll, HasSignalledAll, HoldsTheSame, IsOwn, IsOwnOfEach, IsToldOf, IsCarriedOut, IsAnswerTo}
+use Rattle.tasks_in_flight.specs.Heard.{Asked, Seen, SeesMoreOf, SeesMoreBut, HasDone, HasPassed, HasPassedAll, HasSignalledAll, HoldsTheSame, IsOwn, IsOwnOfEach, IsToldOf, IsCarriedOut, IsAnswerTo}
 use Rattle.tasks_in_flight.specs.Heard as heard
-use Rattle.tasks_in_flight.specs.inner.Ready.{HasJustDone, HasJustPassed, IsSignalling, IsTurning, IsAsFar, IsAskedFor, IsPending, IsDue, answer_of, is_of_each}
+use Rattle.tasks_in_flight.specs.inner.Ready.{SeesMore, HasJustDone, HasJustPassed, IsSignalling, IsTurning, IsAsFar, IsAskedFor, IsPending, IsDue, answer_of, is_of_each}
 use Rattle.tasks_in_flight.proofs.FirstDue.{OwesNone, StandsAt, IsNextPass, IsOver, signals_with, passes_next, spawns_at_birth, birth_lives, shuts_at_leaving, idle_lives, is_over}
 
 -- ---- seeing more
 
 pub sees_itself : (now : Seen) → SeesMore now now
-sees_itself now = ((λ n. goes_itself (now.stories n)), ([], sym (append-nil now.log)))
+sees_itself now = ((λ n. inr (goes_itself (now.stories n), refl)), ([], sym (append-nil now.log)))
 
-pub sees_far : (seen now new : Seen) → SeesMore seen now → SeesMore now new → SeesMore seen new
-sees_far seen now new one two = (
-  (λ n. goes_far (seen.stories n) (now.stories n) (new.stories n) (one.0 n) (two.0 n)),
+-- where none was made, no less was seen of any
+pub sees_of : (seen now : Seen) (n : ℕ) → SeesMore seen now → SeesMoreOf n seen now
+sees_of seen now n sees = elim (sees.0 n) [
+  | inl made ↦ absurd (cc made)
+  | inr there ↦ there
+]
+
+pub sees_but : (made : Option ℕ) (seen now : Seen) → SeesMore seen now → SeesMoreBut made seen now
+sees_but made seen now sees = ((λ n. inr (sees_of seen now n sees)), sees.1)
+
+-- where what was made is heard of
+pub sees_as : (made hears : Option ℕ) (seen now : Seen) → ((n : ℕ) → made ≡ Some n → hears ≡ Some n)
+    → SeesMoreBut made seen now → SeesMoreBut hears seen now
+sees_as made hears seen now fits sees = (
+  (λ n. elim (sees.0 n) [
+    | inl is ↦ inl (fits n is)
+    | inr there ↦ inr there
+  ]),
+  sees.1,
+)
+
+pub sees_far : (made : Option ℕ) (seen now new : Seen) → SeesMoreBut made seen now → SeesMore now new → SeesMoreBut made seen new
+sees_far made seen now new one two = (
+  (λ n. elim (one.0 n) [
+    | inl is ↦ inl is
+    | inr first ↦ (let next = sees_of now new n two in inr (
+      goes_far (seen.stories n) (now.stories n) (new.stories n) first.0 next.0,
+      next.1 ∙ first.1,
+    ))
+  ]),
   (
     one.1.0 ++ two.1.0,
     two.1.1 ∙ (ap (λ l. l ++ two.1.0) one.1.1 ∙ append_assoc seen.log one.1.0 two.1.0),
@@ -65,29 +92,30 @@ still_passed task seen now new goes passed = (
 )
 
 -- where of one phaser more was seen, up to the task's own newest event, each phaser's is its own as before
-own_again : (task k : ℕ) (seen now new : ℕ → Story) → HasSeenMore k now new → IsOwn task (new k).past
-    → IsOwnOfEach task seen now → IsOwnOfEach task seen new
-own_again task k seen now new more own is = λ n. by_number n (n == k) refl
+own_again : (k : ℕ) (seen now : Seen) (new : ℕ → Story) → HasSeenMore k now.stories new → IsOwn (now.own k) (new k).past
+    → IsOwnOfEach seen now
+    → IsOwnOfEach seen (record { own = now.own; stories = new; holding = now.holding; log = now.log })
+own_again k seen now new more own is = λ n. by_number n (n == k) refl
   where
-    by_number : (n : ℕ) (b : Bool) → n == k ≡ b → (new n ≡ seen n) ⊎ IsOwn task (new n).past
-    by_number n true same = inr (subst (λ (j : ℕ). IsOwn task (new j).past) (sym (eqb-true n k same)) own)
+    by_number : (n : ℕ) (b : Bool) → n == k ≡ b → (new n ≡ seen.stories n) ⊎ IsOwn (now.own n) (new n).past
+    by_number n true same = inr (subst (λ (j : ℕ). IsOwn (now.own j) (new j).past) (sym (eqb-true n k same)) own)
     by_number n false other =
-        subst (λ (s : Story). (s ≡ seen n) ⊎ IsOwn task s.past) (sym (more.1 n other)) (is n)
+        subst (λ (s : Story). (s ≡ seen.stories n) ⊎ IsOwn (now.own n) s.past) (sym (more.1 n other)) (is n)
 
 -- ---- of one phaser more was seen
 
-module _ (task k : ℕ) (seen now : Seen) (new : ℕ → Story) (more : HasSeenMore k now.stories new) (own : IsOwn task (new k).past) where
+module _ (task k : ℕ) (seen now : Seen) (new : ℕ → Story) (more : HasSeenMore k now.stories new) (own : IsOwn (now.own k) (new k).past) where
   abbrev later : Seen
-  later = record { stories = new; holding = now.holding; log = now.log }
+  later = record { own = now.own; stories = new; holding = now.holding; log = now.log }
 
   told_more : (asked : Asked) (answer : Answer) → is_of_each (Some answer) ≡ true
       → IsToldOf task asked answer seen now → IsToldOf task asked answer seen later
-  told_more heard.signal Done each is = (is.0, own_again task k seen.stories now.stories new more own is.1)
-  told_more heard.wait Done each is = (is.0, own_again task k seen.stories now.stories new more own is.1)
-  told_more (heard.next x) Done each is = (is.0, own_again task k seen.stories now.stories new more own is.1)
-  told_more (heard.spawn to) (Spawned c) each is = (is.0, is.1, own_again task k seen.stories now.stories new more own is.2)
+  told_more heard.signal Done each is = (is.0, own_again k seen now new more own is.1)
+  told_more heard.wait Done each is = (is.0, own_again k seen now new more own is.1)
+  told_more (heard.next x) Done each is = (is.0, own_again k seen now new more own is.1)
+  told_more (heard.spawn to) (Spawned c) each is = (is.0, is.1, own_again k seen now new more own is.2)
   told_more (heard.send n a v) Done each is =
-      (still_done (events.Send task a v) (seen.stories n) (now.stories n) (new n) (more.0 n) is.0, is.1)
+      (still_done (events.Send (now.own n) a v) (seen.stories n) (now.stories n) (new n) (more.0 n) is.0, is.1)
   told_more heard.opens Done each is = is
   told_more heard.shuts Done each is = is
   told_more heard.nothing Done each is = absurd is
@@ -109,21 +137,23 @@ module _ (task k : ℕ) (seen now : Seen) (new : ℕ → Story) (more : HasSeenM
   told_more asked (Made n) each is = absurd (true≢false (sym each))
   told_more asked (Saw x) each is = absurd (true≢false (sym each))
 
-  signalling_more : (x : Option ℕ) → IsSignalling task x seen now → IsSignalling task x seen later
+  signalling_more : (x : Option ℕ) → IsSignalling x seen now → IsSignalling x seen later
   signalling_more x is = λ i h h' at there owed. elim (is i h h' at there owed) [
     | inl still ↦ inl still
-    | inr done ↦ inr (still_done (events.Sig task x) (seen.stories h.phaser) (now.stories h.phaser) (new h.phaser) (more.0 h.phaser) done)
+    | inr done ↦ inr (still_done (events.Sig (now.own h.phaser) x) (seen.stories h.phaser) (now.stories h.phaser) (new h.phaser)
+        (more.0 h.phaser) done)
   ]
 
-  signalled_more : (x : Option ℕ) → HasSignalledAll task x seen now → HasSignalledAll task x seen later
+  signalled_more : (x : Option ℕ) → HasSignalledAll x seen now → HasSignalledAll x seen later
   signalled_more x is = λ i h at owed.
-      still_done (events.Sig task x) (seen.stories h.phaser) (now.stories h.phaser) (new h.phaser) (more.0 h.phaser) (is i h at owed)
+      still_done (events.Sig (now.own h.phaser) x) (seen.stories h.phaser) (now.stories h.phaser) (new h.phaser) (more.0 h.phaser)
+      (is i h at owed)
 
-  turning_more : (many : ℕ) → IsTurning task many seen now → IsTurning task many seen later
+  turning_more : (many : ℕ) → IsTurning many seen now → IsTurning many seen later
   turning_more many is = λ i h lt at.
-      still_passed task (seen.stories h.phaser) (now.stories h.phaser) (new h.phaser) (more.0 h.phaser) (is i h lt at)
+      still_passed (now.own h.phaser) (seen.stories h.phaser) (now.stories h.phaser) (new h.phaser) (more.0 h.phaser) (is i h lt at)
 
-  far_more : (p : Plan) (asked : Asked) → IsAsFar task p asked seen now → IsAsFar task p asked seen later
+  far_more : (p : Plan) (asked : Asked) → IsAsFar p asked seen now → IsAsFar p asked seen later
   far_more p heard.signal is = (is.0, is.1, signalling_more None is.2)
   far_more p heard.wait is = (is.0, is.1, is.2, turning_more is.0 is.3)
   far_more p (heard.next x) (inl is) = inl (is.0, is.1, signalling_more x is.2)
@@ -201,6 +231,20 @@ before_end (x ∷ hs) zero i h none at = absurd (cc none)
 before_end (x ∷ hs) (suc k) zero h none at = omega arith
 before_end (x ∷ hs) (suc k) (suc i) h none at = omega (arith, before_end hs k i h none at)
 
+-- a phaser that isn't found isn't held
+pub none_held : (hs : List Held) (n : ℕ) → is_some (find (λ h. h.phaser == n) hs) ≡ false → (i : ℕ) (h : Held) → slice_get hs i ≡ Some h
+    → h.phaser ≡ n → ⊥
+none_held [] n none i h at is = cc at
+none_held (x ∷ hs) n none zero h at is =
+    let here = eq-eqb x.phaser n (ap (λ (y : Held). y.phaser) (same_Some _ _ at) ∙ is) in
+    true≢false (ap (λ (b : Bool). is_some (if b then Some x else find (λ h. h.phaser == n) hs)) (sym here) ∙ none)
+none_held (x ∷ hs) n none (suc i) h at is = none_held hs n (rest (x.phaser == n) refl) i h at is
+  where
+    rest : (b : Bool) → (x.phaser == n) ≡ b → is_some (find (λ h. h.phaser == n) hs) ≡ false
+    rest true here =
+        absurd (true≢false (ap (λ (b : Bool). is_some (if b then Some x else find (λ h. h.phaser == n) hs)) (sym here) ∙ none))
+    rest false other = sym (ap (λ (b : Bool). is_some (if b then Some x else find (λ h. h.phaser == n) hs)) other) ∙ none
+
 -- the same phaser has one number
 phaser_of : (hs : List Held) (i : ℕ) (h g : Held) → slice_get hs i ≡ Some h → slice_get hs i ≡ Some g → h.phaser ≡ g.phaser
 phaser_of hs i h g one two = ap (λ x. x.phaser) (same_Some _ _ (sym one ∙ two))
@@ -235,13 +279,20 @@ pass_own task now new just = subst (λ (h : List Event). IsOwn task h) (sym just
 
 -- ---- from event to event
 
-module _ (task : ℕ) (seen : Seen) (k : Known) (stories : ℕ → Story) (log : List TracedEvent)
-    (goes : (n : ℕ) → GoesOn (seen.stories n) (stories n)) where
+module _ (task : ℕ) (made : Option ℕ) (seen : Seen) (k : Known) (own : ℕ → ℕ) (stories : ℕ → Story) (log : List TracedEvent) where
   abbrev now : Seen
-  now = record { stories = stories; holding = k.holding; log = log }
+  now = record { own = own; stories = stories; holding = k.holding; log = log }
+
+  -- of a phaser that it has just made the body hears that it made it, so of one of which it hears otherwise it saw no less
+  goes_if_done : (n : ℕ) (answer : Answer) → ((m : ℕ) → made ≡ Some m → Some answer ≡ Some (Made m)) → SeesMoreBut made seen now
+      → answer ≡ Done → GoesOn (seen.stories n) (stories n)
+  goes_if_done n answer fits sees done = elim (sees.0 n) [
+    | inl is ↦ absurd (cc (sym (fits n is) ∙ ap (λ a. Some a) done))
+    | inr there ↦ there.0
+  ]
 
   -- it has signalled everywhere once it owes no signal
-  all_signalled : (x : Option ℕ) → HoldsTheSame seen now → OwesNone k.holding → IsSignalling task x seen now → HasSignalledAll task x seen now
+  all_signalled : (x : Option ℕ) → HoldsTheSame seen now → OwesNone k.holding → IsSignalling x seen now → HasSignalledAll x seen now
   all_signalled x same none is = λ i h at owed.
       let there = held_now seen.holding k.holding i h same at in
       elim (is i h there.0 at there.1 owed) [
@@ -250,18 +301,18 @@ module _ (task : ℕ) (seen : Seen) (k : Known) (stories : ℕ → Story) (log :
       ]
 
   -- and has passed everywhere once nothing stands past the place to which it has come
-  all_passed : (many : ℕ) → HoldsTheSame seen now → drop many k.holding ≡ [] → IsTurning task many seen now → HasPassedAll task seen now
+  all_passed : (many : ℕ) → HoldsTheSame seen now → drop many k.holding ≡ [] → IsTurning many seen now → HasPassedAll seen now
   all_passed many same none is = λ i h at.
       let there = held_now seen.holding k.holding i h same at in
       is i h (before_end k.holding many i there.0 none there.1) at
 
-  none_passed : HoldsTheSame seen now → k.holding ≡ [] → HasPassedAll task seen now
+  none_passed : HoldsTheSame seen now → k.holding ≡ [] → HasPassedAll seen now
   none_passed same none = λ i h at.
       let there = held_now seen.holding k.holding i h same at in
       absurd (cc (sym there.1 ∙ ap (λ hs. slice_get hs i) none))
 
   -- once nothing is left to make, what it hears is an answer
-  carried_out : (asked : Asked) → IsDue None k → IsAsFar task k.plan asked seen now → IsCarriedOut task asked seen now
+  carried_out : (asked : Asked) → IsDue None k → IsAsFar k.plan asked seen now → IsCarriedOut asked seen now
   carried_out heard.signal due is =
       let over = subst (λ (p : Plan). IsOver k.holding p) is.0 (is_over k due) in
       (is.1, all_signalled None is.1 over is.2)
@@ -291,38 +342,40 @@ module _ (task : ℕ) (seen : Seen) (k : Known) (stories : ℕ → Story) (log :
   -- ---- it signals
 
   module _ (n : ℕ) (x : Option ℕ) (new : ℕ → Story) (more : HasSeenMore n stories new)
-      (just : HasJustDone (events.Sig task x) (stories n) (new n)) where
+      (just : HasJustDone (events.Sig (own n) x) (stories n) (new n)) where
     abbrev signalled : Seen
-    signalled = record { stories = new; holding = map (marked n true) k.holding; log = log }
+    signalled = record { own = own; stories = new; holding = map (marked n true) k.holding; log = log }
 
-    own_then : IsOwnOfEach task seen.stories stories → IsOwnOfEach task seen.stories new
-    own_then is = own_again task n seen.stories stories new more (signal_own task x (stories n) (new n) just) is
+    own_then : IsOwnOfEach seen now → IsOwnOfEach seen signalled
+    own_then is = own_again n seen now new more (signal_own (own n) x (stories n) (new n) just) is
 
     holds_then : HoldsTheSame seen now → HoldsTheSame seen signalled
     holds_then same = mark_keeps n true k.holding ∙ same
 
     -- where it signals a phaser it owes there no more
-    one_less : HoldsTheSame seen now → IsSignalling task x seen now → IsSignalling task x seen signalled
-    one_less same is = λ i h h' at there owed. by_place i h h' at owed (slice_get k.holding i) refl (sym (slice_get-map (marked n true) k.holding i) ∙ there)
+    one_less : GoesOn (seen.stories n) (stories n) → HoldsTheSame seen now → IsSignalling x seen now → IsSignalling x seen signalled
+    one_less goes same is = λ i h h' at there owed.
+        by_place i h h' at owed (slice_get k.holding i) refl (sym (slice_get-map (marked n true) k.holding i) ∙ there)
       where
         by_number : (i : ℕ) (h g h' : Held) → slice_get seen.holding i ≡ Some h → slice_get k.holding i ≡ Some g → owes h ≡ true
             → marked n true g ≡ h' → (b : Bool) → (g.phaser == n) ≡ b
-            → (owes h' ≡ true) ⊎ HasDone (events.Sig task x) (seen.stories h.phaser) (new h.phaser)
+            → (owes h' ≡ true) ⊎ HasDone (events.Sig (own h.phaser) x) (seen.stories h.phaser) (new h.phaser)
         by_number i h g h' at before owed marks true here =
             let first = held_then seen.holding k.holding i g same before in
-            let own : h.phaser ≡ n = phaser_of seen.holding i h first.0 at first.1 ∙ (first.2 ∙ eqb-true g.phaser n here) in
-            inr (subst (λ (m : ℕ). HasDone (events.Sig task x) (seen.stories m) (new m)) (sym own)
-            (done_now (events.Sig task x) (seen.stories n) (stories n) (new n) (goes n) just))
+            let number : h.phaser ≡ n = phaser_of seen.holding i h first.0 at first.1 ∙ (first.2 ∙ eqb-true g.phaser n here) in
+            inr (subst (λ (m : ℕ). HasDone (events.Sig (own m) x) (seen.stories m) (new m)) (sym number)
+            (done_now (events.Sig (own n) x) (seen.stories n) (stories n) (new n) goes just))
         by_number i h g h' at before owed marks false other =
             let stays : g ≡ h' = sym (ap (λ (b : Bool). if b then record g { ahead = true } else g) other) ∙ marks in
             elim (is i h g at before owed) [
               | inl still ↦ inl (sym (ap (λ (y : Held). owes y) stays) ∙ still)
-              | inr done ↦ inr (still_done (events.Sig task x) (seen.stories h.phaser) (stories h.phaser) (new h.phaser) (more.0 h.phaser) done)
+              | inr done ↦ inr (still_done (events.Sig (own h.phaser) x) (seen.stories h.phaser) (stories h.phaser) (new h.phaser)
+                  (more.0 h.phaser) done)
             ]
 
         by_place : (i : ℕ) (h h' : Held) → slice_get seen.holding i ≡ Some h → owes h ≡ true → (o : Option Held) → slice_get k.holding i ≡ o
             → option_map (marked n true) (slice_get k.holding i) ≡ Some h'
-            → (owes h' ≡ true) ⊎ HasDone (events.Sig task x) (seen.stories h.phaser) (new h.phaser)
+            → (owes h' ≡ true) ⊎ HasDone (events.Sig (own h.phaser) x) (seen.stories h.phaser) (new h.phaser)
         by_place i h h' at owed (Some g) before marks =
             by_number i h g h' at before owed
             (same_Some _ _ (sym (ap (λ o. option_map (marked n true) o) before) ∙ marks)) (g.phaser == n) refl
@@ -330,116 +383,122 @@ module _ (task : ℕ) (seen : Seen) (k : Known) (stories : ℕ → Story) (log :
             absurd (cc (sym (ap (λ o. option_map (marked n true) o) before) ∙ marks))
 
     signals_on : (turns : Bool) → k.plan ≡ Signalling x turns → (asked : Asked) (answer : Answer)
-        → IsToldOf task asked answer seen now → IsAsFar task k.plan asked seen now
-        → IsToldOf task asked answer seen signalled × IsAsFar task k.plan asked seen signalled
-    signals_on turns with_it heard.signal Done told is =
+        → (answer ≡ Done → GoesOn (seen.stories n) (stories n))
+        → IsToldOf task asked answer seen now → IsAsFar k.plan asked seen now
+        → IsToldOf task asked answer seen signalled × IsAsFar k.plan asked seen signalled
+    signals_on turns with_it heard.signal Done goes told is =
         let number : x ≡ None = cc (sym with_it ∙ is.0) in (
           (told.0, own_then told.1),
           (
             is.0,
             holds_then is.1,
-            subst (λ (y : Option ℕ). IsSignalling task y seen signalled) number
-                (one_less is.1 (subst (λ (y : Option ℕ). IsSignalling task y seen now) (sym number) is.2)),
+            subst (λ (y : Option ℕ). IsSignalling y seen signalled) number
+                (one_less (goes refl) is.1 (subst (λ (y : Option ℕ). IsSignalling y seen now) (sym number) is.2)),
           ),
         )
-    signals_on turns with_it (heard.next y) Done told (inl is) =
+    signals_on turns with_it (heard.next y) Done goes told (inl is) =
         let number : x ≡ y = cc (sym with_it ∙ is.0) in (
           (told.0, own_then told.1),
           inl (
             is.0,
             holds_then is.1,
-            subst (λ (z : Option ℕ). IsSignalling task z seen signalled) number
-                (one_less is.1 (subst (λ (z : Option ℕ). IsSignalling task z seen now) (sym number) is.2)),
+            subst (λ (z : Option ℕ). IsSignalling z seen signalled) number
+                (one_less (goes refl) is.1 (subst (λ (z : Option ℕ). IsSignalling z seen now) (sym number) is.2)),
           ),
         )
-    signals_on turns with_it (heard.next y) Done told (inr is) = absurd (cc (sym with_it ∙ is.1))
-    signals_on turns with_it heard.wait answer told is = absurd (cc (sym with_it ∙ is.1))
-    signals_on turns with_it (heard.spawn to) answer told (inl is) = absurd (cc (sym with_it ∙ is))
-    signals_on turns with_it (heard.spawn to) answer told (inr is) = absurd (cc (sym with_it ∙ is.3))
-    signals_on turns with_it heard.shuts answer told (inl is) = absurd (cc (sym with_it ∙ is))
-    signals_on turns with_it heard.shuts answer told (inr is) = absurd (cc (sym with_it ∙ is))
-    signals_on turns with_it heard.ends answer told is = absurd is
-    signals_on turns with_it heard.nothing answer told is = absurd (cc (sym with_it ∙ is))
-    signals_on turns with_it (heard.make m terms) answer told is = absurd (cc (sym with_it ∙ is))
-    signals_on turns with_it (heard.send m a v) answer told is = absurd (cc (sym with_it ∙ is))
-    signals_on turns with_it (heard.look m a) answer told is = absurd (cc (sym with_it ∙ is))
-    signals_on turns with_it heard.opens answer told is = absurd (cc (sym with_it ∙ is))
-    signals_on turns with_it heard.signal Started told is = absurd told
-    signals_on turns with_it heard.signal (Made m) told is = absurd told
-    signals_on turns with_it heard.signal (Spawned c) told is = absurd told
-    signals_on turns with_it heard.signal (Saw y) told is = absurd told
-    signals_on turns with_it (heard.next y) Started told is = absurd told
-    signals_on turns with_it (heard.next y) (Made m) told is = absurd told
-    signals_on turns with_it (heard.next y) (Spawned c) told is = absurd told
-    signals_on turns with_it (heard.next y) (Saw z) told is = absurd told
+    signals_on turns with_it (heard.next y) Done goes told (inr is) = absurd (cc (sym with_it ∙ is.1))
+    signals_on turns with_it heard.wait answer goes told is = absurd (cc (sym with_it ∙ is.1))
+    signals_on turns with_it (heard.spawn to) answer goes told (inl is) = absurd (cc (sym with_it ∙ is))
+    signals_on turns with_it (heard.spawn to) answer goes told (inr is) = absurd (cc (sym with_it ∙ is.3))
+    signals_on turns with_it heard.shuts answer goes told (inl is) = absurd (cc (sym with_it ∙ is))
+    signals_on turns with_it heard.shuts answer goes told (inr is) = absurd (cc (sym with_it ∙ is))
+    signals_on turns with_it heard.ends answer goes told is = absurd is
+    signals_on turns with_it heard.nothing answer goes told is = absurd (cc (sym with_it ∙ is))
+    signals_on turns with_it (heard.make m terms) answer goes told is = absurd (cc (sym with_it ∙ is))
+    signals_on turns with_it (heard.send m a v) answer goes told is = absurd (cc (sym with_it ∙ is))
+    signals_on turns with_it (heard.look m a) answer goes told is = absurd (cc (sym with_it ∙ is))
+    signals_on turns with_it heard.opens answer goes told is = absurd (cc (sym with_it ∙ is))
+    signals_on turns with_it heard.signal Started goes told is = absurd told
+    signals_on turns with_it heard.signal (Made m) goes told is = absurd told
+    signals_on turns with_it heard.signal (Spawned c) goes told is = absurd told
+    signals_on turns with_it heard.signal (Saw y) goes told is = absurd told
+    signals_on turns with_it (heard.next y) Started goes told is = absurd told
+    signals_on turns with_it (heard.next y) (Made m) goes told is = absurd told
+    signals_on turns with_it (heard.next y) (Spawned c) goes told is = absurd told
+    signals_on turns with_it (heard.next y) (Saw z) goes told is = absurd told
 
-    pub pending_signalled : (asked : Asked) (answer : Option Answer) → IsDue (Some (Phaser n (Sig k.number x))) k
+    pub pending_signalled : (asked : Asked) (answer : Option Answer)
+        → ((m : ℕ) → made ≡ Some m → answer ≡ Some (Made m)) → SeesMoreBut made seen now
+        → IsDue (Some (Phaser n (Sig k.number x))) k
         → IsPending task k.plan asked answer seen now → IsPending task k.plan asked answer seen signalled
-    pending_signalled asked (Some answer) due is = λ lives.
+    pending_signalled asked (Some answer) fits sees due is = λ lives.
         let with_it = signals_with k n x due lives in
         let it = is lives in
-        signals_on with_it.0 with_it.1 asked answer it.0 it.1
-    pending_signalled asked None due is = tt
+        signals_on with_it.0 with_it.1 asked answer (goes_if_done n answer fits sees) it.0 it.1
+    pending_signalled asked None fits sees due is = tt
 
   -- ---- it passes
 
-  module _ (n : ℕ) (new : ℕ → Story) (more : HasSeenMore n stories new) (just : HasJustPassed task (stories n) (new n)) where
+  module _ (n : ℕ) (new : ℕ → Story) (more : HasSeenMore n stories new) (just : HasJustPassed (own n) (stories n) (new n)) where
     abbrev turned : Seen
-    turned = record { stories = new; holding = map (marked n false) k.holding; log = log }
+    turned = record { own = own; stories = new; holding = map (marked n false) k.holding; log = log }
 
-    own_turned : IsOwnOfEach task seen.stories stories → IsOwnOfEach task seen.stories new
-    own_turned is = own_again task n seen.stories stories new more (pass_own task (stories n) (new n) just) is
+    own_turned : IsOwnOfEach seen now → IsOwnOfEach seen turned
+    own_turned is = own_again n seen now new more (pass_own (own n) (stories n) (new n) just) is
 
     holds_turned : HoldsTheSame seen now → HoldsTheSame seen turned
     holds_turned same = mark_keeps n false k.holding ∙ same
 
-    signalled_turned : (x : Option ℕ) → HasSignalledAll task x seen now → HasSignalledAll task x seen turned
+    signalled_turned : (x : Option ℕ) → HasSignalledAll x seen now → HasSignalledAll x seen turned
     signalled_turned x is = λ i h at owed.
-        still_done (events.Sig task x) (seen.stories h.phaser) (stories h.phaser) (new h.phaser) (more.0 h.phaser) (is i h at owed)
+        still_done (events.Sig (own h.phaser) x) (seen.stories h.phaser) (stories h.phaser) (new h.phaser) (more.0 h.phaser)
+        (is i h at owed)
 
     -- at the place to which it had come it has passed now
-    here_passed : (i : ℕ) → HoldsTheSame seen now → StandsAt n i k.holding → (h : Held) → slice_get seen.holding i ≡ Some h
-        → HasPassed task (seen.stories h.phaser) (new h.phaser)
-    here_passed i same stands h at =
+    here_passed : (i : ℕ) → GoesOn (seen.stories n) (stories n) → HoldsTheSame seen now → StandsAt n i k.holding
+        → (h : Held) → slice_get seen.holding i ≡ Some h
+        → HasPassed (own h.phaser) (seen.stories h.phaser) (new h.phaser)
+    here_passed i goes same stands h at =
         let first = held_then seen.holding k.holding i stands.0 same stands.1 in
-        let own : h.phaser ≡ n = phaser_of seen.holding i h first.0 at first.1 ∙ (first.2 ∙ stands.2) in
-        subst (λ (m : ℕ). HasPassed task (seen.stories m) (new m)) (sym own)
-        (passed_now task (seen.stories n) (stories n) (new n) (goes n) just)
+        let number : h.phaser ≡ n = phaser_of seen.holding i h first.0 at first.1 ∙ (first.2 ∙ stands.2) in
+        subst (λ (m : ℕ). HasPassed (own m) (seen.stories m) (new m)) (sym number)
+        (passed_now (own n) (seen.stories n) (stories n) (new n) goes just)
 
-    one_more : (i : ℕ) → HoldsTheSame seen now → StandsAt n i k.holding → IsTurning task i seen now
-        → IsTurning task (min (i + 1) 4294967295) seen turned
-    one_more i same stands is = λ j h lt at. by_place j h lt at (cases_lt j i)
+    one_more : (i : ℕ) → GoesOn (seen.stories n) (stories n) → HoldsTheSame seen now → StandsAt n i k.holding → IsTurning i seen now
+        → IsTurning (min (i + 1) 4294967295) seen turned
+    one_more i goes same stands is = λ j h lt at. by_place j h lt at (cases_lt j i)
       where
         by_place : (j : ℕ) (h : Held) → j < min (i + 1) 4294967295 → slice_get seen.holding j ≡ Some h → (j < i) ⊎ (i ≤ j)
-            → HasPassed task (seen.stories h.phaser) (new h.phaser)
+            → HasPassed (own h.phaser) (seen.stories h.phaser) (new h.phaser)
         by_place j h lt at (inl before) =
-            still_passed task (seen.stories h.phaser) (stories h.phaser) (new h.phaser) (more.0 h.phaser) (is j h before at)
+            still_passed (own h.phaser) (seen.stories h.phaser) (stories h.phaser) (new h.phaser) (more.0 h.phaser) (is j h before at)
         by_place j h lt at (inr from) =
             let least : j < i + 1 = is_least (i + 1) 4294967295 j lt in
             let there : j ≡ i = omega (arith, least, from) in
-            here_passed i same stands h (sym (ap (λ m. slice_get seen.holding m) there) ∙ at)
+            here_passed i goes same stands h (sym (ap (λ m. slice_get seen.holding m) there) ∙ at)
 
-    first_of_turn : HoldsTheSame seen now → StandsAt n 0 k.holding → IsTurning task 1 seen turned
-    first_of_turn same stands = λ j h lt at.
+    first_of_turn : GoesOn (seen.stories n) (stories n) → HoldsTheSame seen now → StandsAt n 0 k.holding → IsTurning 1 seen turned
+    first_of_turn goes same stands = λ j h lt at.
         let there : j ≡ 0 = omega (arith, lt) in
-        here_passed 0 same stands h (sym (ap (λ m. slice_get seen.holding m) there) ∙ at)
+        here_passed 0 goes same stands h (sym (ap (λ m. slice_get seen.holding m) there) ∙ at)
 
-    passes_on : IsNextPass n k k.plan → (asked : Asked) (answer : Answer) → IsToldOf task asked answer seen now
-        → IsAsFar task k.plan asked seen now
-        → IsToldOf task asked answer seen turned × IsAsFar task (passed_by k.plan) asked seen turned
-    passes_on (inl first) (heard.next x) Done told (inl is) = (
+    passes_on : IsNextPass n k k.plan → (asked : Asked) (answer : Answer) → (answer ≡ Done → GoesOn (seen.stories n) (stories n))
+        → IsToldOf task asked answer seen now
+        → IsAsFar k.plan asked seen now
+        → IsToldOf task asked answer seen turned × IsAsFar (passed_by k.plan) asked seen turned
+    passes_on (inl first) (heard.next x) Done goes told (inl is) = (
       (told.0, own_turned told.1),
       inr (
         1,
         ap (λ p. passed_by p) is.0,
         holds_turned is.1,
         signalled_turned x (all_signalled x is.1 first.2 is.2),
-        first_of_turn is.1 first.3,
+        first_of_turn (goes refl) is.1 first.3,
       ),
     )
-    passes_on (inl first) (heard.next x) Done told (inr is) = absurd (cc (sym first.1 ∙ is.1))
-    passes_on (inr later) (heard.next x) Done told (inl is) = absurd (cc (sym later.1 ∙ is.0))
-    passes_on (inr later) (heard.next x) Done told (inr is) =
+    passes_on (inl first) (heard.next x) Done goes told (inr is) = absurd (cc (sym first.1 ∙ is.1))
+    passes_on (inr later) (heard.next x) Done goes told (inl is) = absurd (cc (sym later.1 ∙ is.0))
+    passes_on (inr later) (heard.next x) Done goes told (inr is) =
         let place : later.0 ≡ is.0 = cc (sym later.1 ∙ is.1) in
         let stands = subst (λ (i : ℕ). StandsAt n i k.holding) place later.2 in (
           (told.0, own_turned told.1),
@@ -448,60 +507,62 @@ module _ (task : ℕ) (seen : Seen) (k : Known) (stories : ℕ → Story) (log :
             ap (λ p. passed_by p) is.1,
             holds_turned is.2,
             signalled_turned x is.3,
-            one_more is.0 is.2 stands is.4,
+            one_more is.0 (goes refl) is.2 stands is.4,
           ),
         )
-    passes_on (inl first) heard.wait Done told is = absurd (cc (sym first.1 ∙ is.1))
-    passes_on (inr later) heard.wait Done told is =
+    passes_on (inl first) heard.wait Done goes told is = absurd (cc (sym first.1 ∙ is.1))
+    passes_on (inr later) heard.wait Done goes told is =
         let place : later.0 ≡ is.0 = cc (sym later.1 ∙ is.1) in
         let stands = subst (λ (i : ℕ). StandsAt n i k.holding) place later.2 in (
           (told.0, own_turned told.1),
-          (min (is.0 + 1) 4294967295, ap (λ p. passed_by p) is.1, holds_turned is.2, one_more is.0 is.2 stands is.3),
+          (min (is.0 + 1) 4294967295, ap (λ p. passed_by p) is.1, holds_turned is.2, one_more is.0 (goes refl) is.2 stands is.3),
         )
-    passes_on (inl first) heard.signal answer told is = absurd (cc (sym first.1 ∙ is.0))
-    passes_on (inr later) heard.signal answer told is = absurd (cc (sym later.1 ∙ is.0))
-    passes_on (inl first) (heard.spawn to) answer told (inl is) = absurd (cc (sym first.1 ∙ is))
-    passes_on (inl first) (heard.spawn to) answer told (inr is) = absurd (cc (sym first.1 ∙ is.3))
-    passes_on (inr later) (heard.spawn to) answer told (inl is) = absurd (cc (sym later.1 ∙ is))
-    passes_on (inr later) (heard.spawn to) answer told (inr is) = absurd (cc (sym later.1 ∙ is.3))
-    passes_on (inl first) heard.shuts answer told (inl is) = absurd (cc (sym first.1 ∙ is))
-    passes_on (inl first) heard.shuts answer told (inr is) = absurd (cc (sym first.1 ∙ is))
-    passes_on (inr later) heard.shuts answer told (inl is) = absurd (cc (sym later.1 ∙ is))
-    passes_on (inr later) heard.shuts answer told (inr is) = absurd (cc (sym later.1 ∙ is))
-    passes_on np heard.ends answer told is = absurd is
-    passes_on (inl first) heard.nothing answer told is = absurd (cc (sym first.1 ∙ is))
-    passes_on (inr later) heard.nothing answer told is = absurd (cc (sym later.1 ∙ is))
-    passes_on (inl first) (heard.make m terms) answer told is = absurd (cc (sym first.1 ∙ is))
-    passes_on (inr later) (heard.make m terms) answer told is = absurd (cc (sym later.1 ∙ is))
-    passes_on (inl first) (heard.send m a v) answer told is = absurd (cc (sym first.1 ∙ is))
-    passes_on (inr later) (heard.send m a v) answer told is = absurd (cc (sym later.1 ∙ is))
-    passes_on (inl first) (heard.look m a) answer told is = absurd (cc (sym first.1 ∙ is))
-    passes_on (inr later) (heard.look m a) answer told is = absurd (cc (sym later.1 ∙ is))
-    passes_on (inl first) heard.opens answer told is = absurd (cc (sym first.1 ∙ is))
-    passes_on (inr later) heard.opens answer told is = absurd (cc (sym later.1 ∙ is))
-    passes_on np (heard.next x) Started told is = absurd told
-    passes_on np (heard.next x) (Made m) told is = absurd told
-    passes_on np (heard.next x) (Spawned c) told is = absurd told
-    passes_on np (heard.next x) (Saw y) told is = absurd told
-    passes_on np heard.wait Started told is = absurd told
-    passes_on np heard.wait (Made m) told is = absurd told
-    passes_on np heard.wait (Spawned c) told is = absurd told
-    passes_on np heard.wait (Saw y) told is = absurd told
+    passes_on (inl first) heard.signal answer goes told is = absurd (cc (sym first.1 ∙ is.0))
+    passes_on (inr later) heard.signal answer goes told is = absurd (cc (sym later.1 ∙ is.0))
+    passes_on (inl first) (heard.spawn to) answer goes told (inl is) = absurd (cc (sym first.1 ∙ is))
+    passes_on (inl first) (heard.spawn to) answer goes told (inr is) = absurd (cc (sym first.1 ∙ is.3))
+    passes_on (inr later) (heard.spawn to) answer goes told (inl is) = absurd (cc (sym later.1 ∙ is))
+    passes_on (inr later) (heard.spawn to) answer goes told (inr is) = absurd (cc (sym later.1 ∙ is.3))
+    passes_on (inl first) heard.shuts answer goes told (inl is) = absurd (cc (sym first.1 ∙ is))
+    passes_on (inl first) heard.shuts answer goes told (inr is) = absurd (cc (sym first.1 ∙ is))
+    passes_on (inr later) heard.shuts answer goes told (inl is) = absurd (cc (sym later.1 ∙ is))
+    passes_on (inr later) heard.shuts answer goes told (inr is) = absurd (cc (sym later.1 ∙ is))
+    passes_on np heard.ends answer goes told is = absurd is
+    passes_on (inl first) heard.nothing answer goes told is = absurd (cc (sym first.1 ∙ is))
+    passes_on (inr later) heard.nothing answer goes told is = absurd (cc (sym later.1 ∙ is))
+    passes_on (inl first) (heard.make m terms) answer goes told is = absurd (cc (sym first.1 ∙ is))
+    passes_on (inr later) (heard.make m terms) answer goes told is = absurd (cc (sym later.1 ∙ is))
+    passes_on (inl first) (heard.send m a v) answer goes told is = absurd (cc (sym first.1 ∙ is))
+    passes_on (inr later) (heard.send m a v) answer goes told is = absurd (cc (sym later.1 ∙ is))
+    passes_on (inl first) (heard.look m a) answer goes told is = absurd (cc (sym first.1 ∙ is))
+    passes_on (inr later) (heard.look m a) answer goes told is = absurd (cc (sym later.1 ∙ is))
+    passes_on (inl first) heard.opens answer goes told is = absurd (cc (sym first.1 ∙ is))
+    passes_on (inr later) heard.opens answer goes told is = absurd (cc (sym later.1 ∙ is))
+    passes_on np (heard.next x) Started goes told is = absurd told
+    passes_on np (heard.next x) (Made m) goes told is = absurd told
+    passes_on np (heard.next x) (Spawned c) goes told is = absurd told
+    passes_on np (heard.next x) (Saw y) goes told is = absurd told
+    passes_on np heard.wait Started goes told is = absurd told
+    passes_on np heard.wait (Made m) goes told is = absurd told
+    passes_on np heard.wait (Spawned c) goes told is = absurd told
+    passes_on np heard.wait (Saw y) goes told is = absurd told
 
-    pub pending_passed : (asked : Asked) (answer : Option Answer) → IsDue (Some (Phaser n (Pass k.number))) k
+    pub pending_passed : (asked : Asked) (answer : Option Answer)
+        → ((m : ℕ) → made ≡ Some m → answer ≡ Some (Made m)) → SeesMoreBut made seen now
+        → IsDue (Some (Phaser n (Pass k.number))) k
         → IsPending task k.plan asked answer seen now → IsPending task (passed_by k.plan) asked answer seen turned
-    pending_passed asked (Some answer) due is = λ lives.
+    pending_passed asked (Some answer) fits sees due is = λ lives.
         let lived = λ (e : k.plan ≡ Ending). lives (ap (λ p. passed_by p) e) in
         let it = is lived in
-        passes_on (passes_next k n due lived) asked answer it.0 it.1
-    pending_passed asked None due is = tt
+        passes_on (passes_next k n due lived) asked answer (goes_if_done n answer fits sees) it.0 it.1
+    pending_passed asked None fits sees due is = tt
 
   -- ---- it leaves a phaser
 
   leaves_on : k.plan ≡ Shutting → (holding : List Held) (asked : Asked) (answer : Answer) → IsToldOf task asked answer seen now
-      → IsAsFar task k.plan asked seen now
-      → IsToldOf task asked answer seen (record { stories = stories; holding = holding; log = log })
-      × IsAsFar task k.plan asked seen (record { stories = stories; holding = holding; log = log })
+      → IsAsFar k.plan asked seen now
+      → IsToldOf task asked answer seen (record { own = own; stories = stories; holding = holding; log = log })
+      × IsAsFar k.plan asked seen (record { own = own; stories = stories; holding = holding; log = log })
   leaves_on with_it holding heard.shuts Done told is = (told, is)
   leaves_on with_it holding heard.shuts Started told is = absurd told
   leaves_on with_it holding heard.shuts (Made m) told is = absurd told
@@ -522,7 +583,7 @@ module _ (task : ℕ) (seen : Seen) (k : Known) (stories : ℕ → Story) (log :
 
   pub pending_left : (n : ℕ) (holding : List Held) (asked : Asked) (answer : Option Answer) → IsDue (Some (Phaser n (Drop k.number))) k
       → IsPending task k.plan asked answer seen now
-      → IsPending task k.plan asked answer seen (record { stories = stories; holding = holding; log = log })
+      → IsPending task k.plan asked answer seen (record { own = own; stories = stories; holding = holding; log = log })
   pending_left n holding asked (Some answer) due is = λ lives.
       let it = is lives in
       leaves_on (shuts_at_leaving k n k.number due lives) holding asked answer it.0 it.1
@@ -531,7 +592,7 @@ module _ (task : ℕ) (seen : Seen) (k : Known) (stories : ℕ → Story) (log :
 -- ---- where the plan alone changes
 
 module _ (task : ℕ) (seen now : Seen) where
-  registers_on : (p : Plan) (asked : Asked) → IsAsFar task p asked seen now → IsAsFar task (registered_by p) asked seen now
+  registers_on : (p : Plan) (asked : Asked) → IsAsFar p asked seen now → IsAsFar (registered_by p) asked seen now
   registers_on p heard.signal is = (ap (λ q. registered_by q) is.0, is.1, is.2)
   registers_on p heard.wait is = (is.0, ap (λ q. registered_by q) is.1, is.2, is.3)
   registers_on p (heard.next x) (inl is) = inl (ap (λ q. registered_by q) is.0, is.1, is.2)
@@ -553,7 +614,7 @@ module _ (task : ℕ) (seen now : Seen) where
       let it = is (λ e. lives (ap (λ q. registered_by q) e)) in (it.0, registers_on p asked it.1)
   pending_registered p asked None is = tt
 
-  shuts_on : (p : Plan) (asked : Asked) → IsAsFar task p asked seen now → IsAsFar task (shut_by p) asked seen now
+  shuts_on : (p : Plan) (asked : Asked) → IsAsFar p asked seen now → IsAsFar (shut_by p) asked seen now
   shuts_on p heard.signal is = (ap (λ q. shut_by q) is.0, is.1, is.2)
   shuts_on p heard.wait is = (is.0, ap (λ q. shut_by q) is.1, is.2, is.3)
   shuts_on p (heard.next x) (inl is) = inl (ap (λ q. shut_by q) is.0, is.1, is.2)
@@ -575,8 +636,8 @@ module _ (task : ℕ) (seen now : Seen) where
       let it = is (λ e. lives (ap (λ q. shut_by q) e)) in (it.0, shuts_on p asked it.1)
   pending_shut p asked None is = tt
 
-  bears_on : (c : ℕ) (ps : List Pair) (made : ℕ) (p : Plan) → p ≡ Spawning c ps made → (asked : Asked) → IsAsFar task p asked seen now
-      → IsAsFar task Idle asked seen now
+  bears_on : (c : ℕ) (ps : List Pair) (made : ℕ) (p : Plan) → p ≡ Spawning c ps made → (asked : Asked) → IsAsFar p asked seen now
+      → IsAsFar Idle asked seen now
   bears_on c ps made p with_it heard.signal is = absurd (cc (sym with_it ∙ is.0))
   bears_on c ps made p with_it heard.wait is = absurd (cc (sym with_it ∙ is.1))
   bears_on c ps made p with_it (heard.next x) (inl is) = absurd (cc (sym with_it ∙ is.0))
@@ -622,31 +683,37 @@ pending_at_end task seen now asked None = tt
 
 -- ---- an act is begun
 
-same_owes : (task : ℕ) (x : Option ℕ) (now new : Seen) → new.holding ≡ now.holding → IsSignalling task x now new
-same_owes task x now new same = λ i h h' at there owed.
+same_owes : (x : Option ℕ) (now new : Seen) → new.holding ≡ now.holding → IsSignalling x now new
+same_owes x now new same = λ i h h' at there owed.
     inl (ap (λ (y : Held). owes y) (same_Some _ _ (sym there ∙ (ap (λ hs. slice_get hs i) same ∙ at))) ∙ owed)
 
-module _ (task : ℕ) (k : Known) (stories : ℕ → Story) (log : List TracedEvent) where
-  abbrev asks : Seen
-  asks = record { stories = stories; holding = k.holding; log = log }
-
+module _ (task : ℕ) (asks : Seen) where
   abbrev begins : Begun → Seen
-  begins b = record { stories = stories; holding = k.holding; log = log ++ Begin task b ∷ [] }
+  begins b = record { own = asks.own; stories = asks.stories; holding = asks.holding; log = asks.log ++ Begin task b ∷ [] }
 
-  pub pending_begun : (b : Begun) (asked : Asked) → IsAskedFor b k.holding asked
+  pub pending_begun_of : (b : Begun) (asked : Asked) → IsAskedFor b asks.holding asked
       → IsPending task (plan_of b) asked (answer_of b) asks (begins b)
-  pending_begun begun.Signal heard.signal is = λ lives. ((refl, λ n. inl refl), (refl, refl, same_owes task None asks (begins begun.Signal) refl))
-  pending_begun begun.Wait heard.wait is = λ lives. ((refl, λ n. inl refl), (0, refl, refl, λ i h lt at. absurd (omega (arith, lt))))
-  pending_begun begun.Next (heard.next None) is = λ lives.
-      ((refl, λ n. inl refl), inl (refl, refl, same_owes task None asks (begins begun.Next) refl))
-  pending_begun (begun.NextSingle n) (heard.next (Some m)) is = λ lives. (
-    (ap (λ i. log ++ Begin task (begun.NextSingle i) ∷ []) is, λ n. inl refl),
-    inl (ap (λ i. Signalling (Some i) true) is, refl, same_owes task (Some m) asks (begins (begun.NextSingle n)) refl),
+  pending_begun_of begun.Signal heard.signal is = λ lives. ((refl, λ n. inl refl), (refl, refl, same_owes None asks (begins begun.Signal) refl))
+  pending_begun_of begun.Wait heard.wait is = λ lives. ((refl, λ n. inl refl), (0, refl, refl, λ i h lt at. absurd (omega (arith, lt))))
+  pending_begun_of begun.Next (heard.next None) is = λ lives.
+      ((refl, λ n. inl refl), inl (refl, refl, same_owes None asks (begins begun.Next) refl))
+  pending_begun_of (begun.NextSingle n) (heard.next (Some m)) is = λ lives. (
+    (ap (λ i. asks.log ++ Begin task (begun.NextSingle i) ∷ []) is, λ n. inl refl),
+    inl (ap (λ i. Signalling (Some i) true) is, refl, same_owes (Some m) asks (begins (begun.NextSingle n)) refl),
   )
-  pending_begun (begun.Async c ps) (heard.spawn to) is = λ lives. (
-    (ap (λ qs. log ++ Begin task (begun.Async c qs) ∷ []) is, refl, λ n. inl refl),
+  pending_begun_of (begun.Async c ps) (heard.spawn to) is = λ lives. (
+    (ap (λ qs. asks.log ++ Begin task (begun.Async c qs) ∷ []) is, refl, λ n. inl refl),
     inr (c, ps, 0, refl),
   )
-  pending_begun begun.Shut heard.shuts is = λ lives. (refl, inr refl)
-  pending_begun begun.End heard.ends is = tt
-  pending_begun b asked is = absurd is
+  pending_begun_of begun.Shut heard.shuts is = λ lives. (refl, inr refl)
+  pending_begun_of begun.End heard.ends is = tt
+  pending_begun_of b asked is = absurd is
+
+module _ (task : ℕ) (k : Known) (own : ℕ → ℕ) (stories : ℕ → Story) (log : List TracedEvent) where
+  abbrev knows : Seen
+  knows = record { own = own; stories = stories; holding = k.holding; log = log }
+
+  pub pending_begun : (b : Begun) (asked : Asked) → IsAskedFor b k.holding asked
+      → IsPending task (plan_of b) asked (answer_of b) knows
+      (record { own = own; stories = stories; holding = k.holding; log = log ++ Begin task b ∷ [] })
+  pending_begun b asked is = pending_begun_of task knows b asked is

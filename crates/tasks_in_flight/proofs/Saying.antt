@@ -1,8 +1,9 @@
 -- What a body in flight says, from its task's start to the run's end.
-use Rattle.std.proofs.Common.{ℕ, ◌≡◌, ◌<◌, List, length, Option, Some, Result, Ok, Err, refl, sym, ap, subst, ◌∙◌, arith, [], ◌∷◌, ◌++◌, map, append-nil}
+use Rattle.std.proofs.Common.{ℕ, ◌≡◌, ◌<◌, List, length, Option, Some, None, Result, Ok, Err, inr, refl, sym, ap, subst, ◌∙◌, arith, [], ◌∷◌, ◌++◌, map, append-nil}
 use Rattle.std.specs.Prelude.{slice_get}
 use Rattle.std.proofs.lemmas.List.{map-append}
 use Rattle.std.proofs.Math.Logic.{∥∥₁_map, ∥∥₁_map₂}
+use Rattle.std.proofs.Math.Path.{fun_ext}
 use Rattle.phase_modes.specs.declared.limits.Limits.{Limits}
 use Rattle.phase_modes.specs.declared.phased.Pair.{Pair}
 use Rattle.phase_modes.specs.declared.refusal.Refusal.{Refusal}
@@ -28,11 +29,11 @@ use Rattle.task_standing.specs.declared.plan.Plan.TheVariants.{Idle, Signalling,
 use Rattle.task_standing.specs.Known.{Known}
 use Rattle.task_standing.specs.Noted.{plan_of}
 use Rattle.task_standing.specs.Standing.{begun}
-use Rattle.tasks_in_flight.specs.Heard.{Asked, Seen, SeesMore, nothing, spawn, at_start, ends, IsHeard, IsAnswerTo}
+use Rattle.tasks_in_flight.specs.Heard.{Asked, Seen, SeesMoreBut, nothing, spawn, at_start, ends, made_by, IsHeard, IsAnswerTo}
 use Rattle.tasks_in_flight.specs.Noted.{IsNoted}
-use Rattle.tasks_in_flight.specs.Said.{Saying, IsSaid}
-use Rattle.tasks_in_flight.specs.inner.Ready.{Says, IsPending, IsReady, IsAskedFor, HasAskedFor, HasAskedToSpawn, HasSaid, answer_of, Tells, IsTold, seen_by, seen_at_end}
-use Rattle.tasks_in_flight.proofs.OnTheWay.{pending_begun, pending_newborn, sees_itself, sees_far}
+use Rattle.tasks_in_flight.specs.Said.{Saying, IsSaid, IsSaidOfRoot}
+use Rattle.tasks_in_flight.specs.inner.Ready.{SeesMore, Says, IsPending, IsReady, IsAskedFor, HasAskedFor, HasAskedToSpawn, HasSaid, answer_of, Tells, IsTold, seen_by, seen_at_end}
+use Rattle.tasks_in_flight.proofs.OnTheWay.{pending_begun_of, pending_newborn, sees_itself, sees_of, sees_as, sees_far}
 
 -- a log that was added to, or refused to be, has no fewer entries
 pub log_grows : (entry : Entry) (old new : TaskLog) (result : Result (Unit {0}) Refusal) → IsNoted entry old new result
@@ -55,23 +56,53 @@ log_has entry old new is = ap (λ (l : TaskLog). map (λ (e : Entry). e.1) l.ent
 
 -- with more seen of phasers alone, and with a longer log alone
 pub more_stories : (now : Seen) (new : ℕ → Story) (holding : List Held) → ((n : ℕ) → GoesOn (now.stories n) (new n))
-    → SeesMore now (record { stories = new; holding = holding; log = now.log })
-more_stories now new holding goes = (goes, ([], sym (append-nil now.log)))
+    → SeesMore now (record { own = now.own; stories = new; holding = holding; log = now.log })
+more_stories now new holding goes = ((λ n. inr (goes n, refl)), ([], sym (append-nil now.log)))
 
 pub more_noted : (fronts : List Sight) (k k' : Known) (entry : Entry) (old new : TaskLog) (result : Result (Unit {0}) Refusal)
-    → IsNoted entry old new result → SeesMore (seen_by fronts k old) (seen_by fronts k' new)
-more_noted fronts k k' entry old new result is = ((λ n. goes_itself (story_at fronts n)), log_grows entry old new result is)
+    → k'.number ≡ k.number → IsNoted entry old new result → SeesMore (seen_by fronts k old) (seen_by fronts k' new)
+more_noted fronts k k' entry old new result number is =
+    ((λ n. inr (goes_itself (story_at fronts n), number)), log_grows entry old new result is)
+
+-- what is said of what was seen once is said of it under the numbers that the task has now
+pub own_now : (Q : Seen → Type 0) (seen now : Seen) → SeesMore seen now → Q seen
+    → Q (record { own = now.own; stories = seen.stories; holding = seen.holding; log = seen.log })
+own_now Q seen now sees is =
+    subst (λ (own : ℕ → ℕ). Q (record { own = own; stories = seen.stories; holding = seen.holding; log = seen.log }))
+    (fun_ext (λ n. sym (sees_of seen now n sees).1)) is
+
+-- an act that is begun changes no number
+pub begun_number : (p : Plan) (k : Known) → (begun p k).number ≡ k.number
+begun_number Idle k = refl
+begun_number (Signalling x turns) k = refl
+begun_number (Turning next) k = refl
+begun_number (Spawning c ps made) k = refl
+begun_number Shutting k = refl
+begun_number Ending k = refl
+
+-- what it has seen is no less where it knows something else of itself, under the same number
+sees_known : (fronts : List Sight) (k k' : Known) (own : TaskLog) → k'.number ≡ k.number
+    → SeesMore (seen_by fronts k own) (seen_by fronts k' own)
+sees_known fronts k k' own number =
+    ((λ n. inr (goes_itself (story_at fronts n), number)), ([], sym (append-nil (map (λ (e : Entry). e.1) own.entries))))
+
+-- what it has seen in the end is no less, under its number
+pub sees_end : (fronts : List Sight) (k : Known) (own : TaskLog) (task : ℕ) → task ≡ k.number
+    → SeesMore (seen_by fronts k own) (seen_at_end task fronts own)
+sees_end fronts k own task number =
+    ((λ n. inr (goes_itself (story_at fronts n), number)), ([], sym (append-nil (map (λ (e : Entry). e.1) own.entries))))
 
 module _ {B : Type 0} {P : Type 0} (Shows : Saying B) where
   -- before its first act it has asked for nothing, and hears that it starts
-  pub ready_at_first : (b : B) (task : ℕ) (now : Seen) → now.log ≡ []
-      → ∥ (P → Says Shows b task nothing (at_start now.stories)) ∥₁ → ∥ (P → IsReady Shows b task Idle (Some Started) now) ∥₁
-  ready_at_first b task now blank says =
+  pub ready_at_first : (made : Option ℕ) (b : B) (task : ℕ) (now : Seen) → now.log ≡ []
+      → ∥ (P → Says Shows b task nothing (at_start now.own now.stories)) ∥₁
+      → ∥ (P → IsReady Shows made b task Idle (Some Started) now) ∥₁
+  ready_at_first made b task now blank says =
       ∥∥₁_map says (λ f p. let s = f p in record {
         asked = nothing;
         seen = s.0;
         says = s.1;
-        more = (s.2.0, ([], blank_log s.0 s.2.1));
+        more = ((λ n. inr (sees_of s.0 (at_start now.own now.stories) n s.2)), ([], blank_log s.0 s.2.1));
         pending = λ lives. (started s.0 s.2.1, refl);
       })
     where
@@ -86,30 +117,40 @@ module _ {B : Type 0} {P : Type 0} (Shows : Saying B) where
       blank_log seen more = started seen more ∙ sym (append-nil seen.log)
 
   -- it asked for this just now, and no less is seen since, and it hears this of it
-  pub ready_since : (b : B) (task : ℕ) (p : Plan) (asked : Asked) (answer : Option Answer) (now new : Seen) → SeesMore now new
-      → IsPending task p asked answer now new → ∥ (P → Shows b task asked now) ∥₁ → ∥ (P → IsReady Shows b task p answer new) ∥₁
-  ready_since b task p asked answer now new goes is shows =
+  pub ready_since : (made : Option ℕ) (b : B) (task : ℕ) (p : Plan) (asked : Asked) (answer : Option Answer) (now new : Seen)
+      → SeesMoreBut made now new → IsPending task p asked answer now new
+      → ∥ (P → Shows b task asked now) ∥₁ → ∥ (P → IsReady Shows made b task p answer new) ∥₁
+  ready_since made b task p asked answer now new goes is shows =
       ∥∥₁_map shows (λ f q. record { asked = asked; seen = now; says = f q; more = goes; pending = is })
 
   -- the same of an act that is begun, which is noted and nothing else
-  pub ready_begun : (b : B) (task : ℕ) (act : Begun) (fronts : List Sight) (k : Known) (own own' : TaskLog)
-      → map (λ (e : Entry). e.1) own'.entries ≡ map (λ (e : Entry). e.1) own.entries ++ Begin task act ∷ []
-      → ∥ (P → HasAskedFor Shows b task act (seen_by fronts k own)) ∥₁
-      → ∥ (P → IsReady Shows b task (begun (plan_of act) k).plan (answer_of act) (seen_by fronts (begun (plan_of act) k) own')) ∥₁
-  ready_begun b task act fronts k own own' longer asks =
-      with_plan (plan_of act)
-      (subst (λ (l : List TracedEvent). ∥ (P → IsReady Shows b task (plan_of act) (answer_of act) (record { stories = λ n. story_at fronts n; holding = k.holding; log = l })) ∥₁)
-      (sym longer)
+  pub ready_begun_of : (made : Option ℕ) (b : B) (task : ℕ) (act : Begun) (now new : Seen)
+      → new ≡ record { own = now.own; stories = now.stories; holding = now.holding; log = now.log ++ Begin task act ∷ [] }
+      → ∥ (P → HasAskedFor Shows b task act now) ∥₁ → ∥ (P → IsReady Shows made b task (plan_of act) (answer_of act) new) ∥₁
+  ready_begun_of made b task act now new longer asks =
+      subst (λ (v : Seen). ∥ (P → IsReady Shows made b task (plan_of act) (answer_of act) v) ∥₁) (sym longer)
       (∥∥₁_map asks (λ f q. let a = f q in record {
         asked = a.0;
-        seen = seen_by fronts k own;
+        seen = now;
         says = a.2;
-        more = ((λ n. goes_itself (story_at fronts n)), (Begin task act ∷ [], refl));
-        pending = pending_begun task k (λ n. story_at fronts n) (map (λ (e : Entry). e.1) own.entries) act a.0 a.1;
-      })))
+        more = ((λ n. inr (goes_itself (now.stories n), refl)), (Begin task act ∷ [], refl));
+        pending = pending_begun_of task now act a.0 a.1;
+      }))
+
+  pub ready_begun : (made : Option ℕ) (b : B) (task : ℕ) (act : Begun) (fronts : List Sight) (k : Known) (own own' : TaskLog)
+      → map (λ (e : Entry). e.1) own'.entries ≡ map (λ (e : Entry). e.1) own.entries ++ Begin task act ∷ []
+      → ∥ (P → HasAskedFor Shows b task act (seen_by fronts k own)) ∥₁
+      → ∥ (P → IsReady Shows made b task (begun (plan_of act) k).plan (answer_of act) (seen_by fronts (begun (plan_of act) k) own')) ∥₁
+  ready_begun made b task act fronts k own own' longer asks =
+      with_plan (plan_of act)
+      (ready_begun_of made b task act (seen_by fronts k own) (seen_by fronts k own')
+      (ap (λ (l : List TracedEvent). noted l) longer) asks)
     where
-      with_plan : (p : Plan) → ∥ (P → IsReady Shows b task p (answer_of act) (seen_by fronts k own')) ∥₁
-          → ∥ (P → IsReady Shows b task (begun p k).plan (answer_of act) (seen_by fronts (begun p k) own')) ∥₁
+      noted : List TracedEvent → Seen
+      noted l = record { own = λ n. k.number; stories = λ n. story_at fronts n; holding = k.holding; log = l }
+
+      with_plan : (p : Plan) → ∥ (P → IsReady Shows made b task p (answer_of act) (seen_by fronts k own')) ∥₁
+          → ∥ (P → IsReady Shows made b task (begun p k).plan (answer_of act) (seen_by fronts (begun p k) own')) ∥₁
       with_plan Idle ready = ready
       with_plan (Signalling x turns) ready = ready
       with_plan (Turning next) ready = ready
@@ -118,49 +159,58 @@ module _ {B : Type 0} {P : Type 0} (Shows : Saying B) where
       with_plan Ending ready = ready
 
   -- from one event to the next
-  pub ready_moves : (b : B) (task : ℕ) (p p' : Plan) (answer : Option Answer) (now new : Seen) → SeesMore now new
-      → ((asked : Asked) (seen : Seen) → SeesMore seen now → IsPending task p asked answer seen now → IsPending task p' asked answer seen new)
-      → ∥ (P → IsReady Shows b task p answer now) ∥₁ → ∥ (P → IsReady Shows b task p' answer new) ∥₁
-  ready_moves b task p p' answer now new goes is ready =
+  pub ready_moves : (made : Option ℕ) (b : B) (task : ℕ) (p p' : Plan) (answer : Option Answer) (now new : Seen) → SeesMore now new
+      → ((asked : Asked) (seen : Seen) → SeesMoreBut made seen now → IsPending task p asked answer seen now
+      → IsPending task p' asked answer seen new)
+      → ∥ (P → IsReady Shows made b task p answer now) ∥₁ → ∥ (P → IsReady Shows made b task p' answer new) ∥₁
+  ready_moves made b task p p' answer now new goes is ready =
       ∥∥₁_map ready (λ f q. let r = f q in record {
         asked = r.asked;
         seen = r.seen;
         says = r.says;
-        more = sees_far r.seen now new r.more goes;
+        more = sees_far made r.seen now new r.more goes;
         pending = is r.asked r.seen r.more r.pending;
       })
 
   -- it is so where the task knows the same of itself
-  pub ready_at : (b : B) (task : ℕ) (answer : Option Answer) (fronts : List Sight) (k k' : Known) (own : TaskLog) → k' ≡ k
-      → ∥ (P → IsReady Shows b task k.plan answer (seen_by fronts k own)) ∥₁
-      → ∥ (P → IsReady Shows b task k'.plan answer (seen_by fronts k' own)) ∥₁
-  ready_at b task answer fronts k k' own same ready =
-      subst (λ (x : Known). ∥ (P → IsReady Shows b task x.plan answer (seen_by fronts x own)) ∥₁) (sym same) ready
+  pub ready_at : (made : Option ℕ) (b : B) (task : ℕ) (answer : Option Answer) (fronts : List Sight) (k k' : Known) (own : TaskLog) → k' ≡ k
+      → ∥ (P → IsReady Shows made b task k.plan answer (seen_by fronts k own)) ∥₁
+      → ∥ (P → IsReady Shows made b task k'.plan answer (seen_by fronts k' own)) ∥₁
+  ready_at made b task answer fronts k k' own same ready =
+      subst (λ (x : Known). ∥ (P → IsReady Shows made b task x.plan answer (seen_by fronts x own)) ∥₁) (sym same) ready
 
   -- a task that was never born may be handed phasers, and taken off them
-  pub ready_newborn : (b : B) (task : ℕ) (answer : Option Answer) (fronts : List Sight) (k k' : Known) (own : TaskLog) → k'.plan ≡ k.plan
-      → ∥ answer ≡ Some Started ∥₁
-      → ∥ (P → IsReady Shows b task k.plan answer (seen_by fronts k own)) ∥₁
-      → ∥ (P → IsReady Shows b task k'.plan answer (seen_by fronts k' own)) ∥₁
-  ready_newborn b task answer fronts k k' own same newborn ready =
-      subst (λ (p : Plan). ∥ (P → IsReady Shows b task p answer (seen_by fronts k' own)) ∥₁) (sym same)
-      (∥∥₁_map₂ newborn ready (λ is f q. let r = f q in record {
+  pub ready_newborn_of : (made : Option ℕ) (b : B) (task : ℕ) (p : Plan) (answer : Option Answer) (now new : Seen)
+      → SeesMore now new → new.log ≡ now.log → ∥ answer ≡ Some Started ∥₁
+      → ∥ (P → IsReady Shows made b task p answer now) ∥₁ → ∥ (P → IsReady Shows made b task p answer new) ∥₁
+  ready_newborn_of made b task p answer now new goes stays newborn ready =
+      ∥∥₁_map₂ newborn ready (λ is f q. let r = f q in record {
         asked = r.asked;
         seen = r.seen;
         says = r.says;
-        more = r.more;
-        pending = subst (λ (a : Option Answer). IsPending task k.plan r.asked a r.seen (seen_by fronts k' own)) (sym is)
-            (pending_newborn task r.seen (seen_by fronts k own) (seen_by fronts k' own) k.plan r.asked refl
-            (subst (λ (a : Option Answer). IsPending task k.plan r.asked a r.seen (seen_by fronts k own)) is r.pending));
-      }))
+        more = sees_far made r.seen now new r.more goes;
+        pending = subst (λ (a : Option Answer). IsPending task p r.asked a r.seen new) (sym is)
+            (pending_newborn task r.seen now new p r.asked stays
+            (subst (λ (a : Option Answer). IsPending task p r.asked a r.seen now) is r.pending));
+      })
+
+  pub ready_newborn : (made : Option ℕ) (b : B) (task : ℕ) (answer : Option Answer) (fronts : List Sight) (k k' : Known) (own : TaskLog)
+      → k'.plan ≡ k.plan → k'.number ≡ k.number → ∥ answer ≡ Some Started ∥₁
+      → ∥ (P → IsReady Shows made b task k.plan answer (seen_by fronts k own)) ∥₁
+      → ∥ (P → IsReady Shows made b task k'.plan answer (seen_by fronts k' own)) ∥₁
+  ready_newborn made b task answer fronts k k' own same number newborn ready =
+      subst (λ (p : Plan). ∥ (P → IsReady Shows made b task p answer (seen_by fronts k' own)) ∥₁) (sym same)
+      (ready_newborn_of made b task k.plan answer (seen_by fronts k own) (seen_by fronts k' own)
+      (sees_known fronts k k' own number) refl newborn ready)
 
   -- and where its number and its log stayed
-  pub ready_kept : (b : B) (task task' : ℕ) (p : Plan) (answer : Option Answer) (fronts : List Sight) (k : Known) (own own' : TaskLog)
-      → task' ≡ task → own' ≡ own → ∥ (P → IsReady Shows b task p answer (seen_by fronts k own)) ∥₁
-      → ∥ (P → IsReady Shows b task' p answer (seen_by fronts k own')) ∥₁
-  ready_kept b task task' p answer fronts k own own' number stays ready =
-      subst (λ (t : ℕ). ∥ (P → IsReady Shows b t p answer (seen_by fronts k own')) ∥₁) (sym number)
-      (subst (λ (l : TaskLog). ∥ (P → IsReady Shows b task p answer (seen_by fronts k l)) ∥₁) (sym stays) ready)
+  pub ready_kept : (made : Option ℕ) (b : B) (task task' : ℕ) (p : Plan) (answer : Option Answer) (fronts : List Sight) (k : Known)
+      (own own' : TaskLog)
+      → task' ≡ task → own' ≡ own → ∥ (P → IsReady Shows made b task p answer (seen_by fronts k own)) ∥₁
+      → ∥ (P → IsReady Shows made b task' p answer (seen_by fronts k own')) ∥₁
+  ready_kept made b task task' p answer fronts k own own' number stays ready =
+      subst (λ (t : ℕ). ∥ (P → IsReady Shows made b t p answer (seen_by fronts k own')) ∥₁) (sym number)
+      (subst (λ (l : TaskLog). ∥ (P → IsReady Shows made b task p answer (seen_by fronts k l)) ∥₁) (sym stays) ready)
 
   -- what it says, it says of what is seen where nothing has changed
   pub shows_kept : (b b' : B) (task task' : ℕ) (asked : Asked) (fronts fronts' : List Sight) (k k' : Known) (own own' : TaskLog)
@@ -196,10 +246,10 @@ module _ {B : Type 0} {P : Type 0} (Shows : Saying B) where
       subst (λ (t : ℕ). ∥ (P → Says Shows b t asked now) ∥₁) (sym number) says
 
   -- what the body is after a statement of its own says no less
-  pub ready_single : (b b' : B) (task : ℕ) (p : Plan) (answer : Option Answer) (now : Seen)
+  pub ready_single : (made : Option ℕ) (b b' : B) (task : ℕ) (p : Plan) (answer : Option Answer) (now : Seen)
       → ((task : ℕ) (asked : Asked) (seen : Seen) → Shows b task asked seen → Shows b' task asked seen)
-      → ∥ (P → IsReady Shows b task p answer now) ∥₁ → ∥ (P → IsReady Shows b' task p answer now) ∥₁
-  ready_single b b' task p answer now stays ready =
+      → ∥ (P → IsReady Shows made b task p answer now) ∥₁ → ∥ (P → IsReady Shows made b' task p answer now) ∥₁
+  ready_single made b b' task p answer now stays ready =
       ∥∥₁_map ready (λ f q. let r = f q in record {
         asked = r.asked;
         seen = r.seen;
@@ -208,21 +258,24 @@ module _ {B : Type 0} {P : Type 0} (Shows : Saying B) where
         pending = r.pending;
       })
 
-  -- what follows of a step
-  pub after_step : (Q : Type 0) (b : B) (task : ℕ) (p : Plan) (answer : Answer) (now : Seen)
-      → ((asked : Asked) (seen : Seen) → SeesMore seen now → IsPending task p asked (Some answer) seen now → IsAnswerTo task asked answer seen now)
+  -- what follows of a step, where the body hears of the phaser that was made, if there is one
+  pub after_step : (made : Option ℕ) (Q : Type 0) (b : B) (task : ℕ) (p : Plan) (answer : Answer) (now : Seen)
+      → ((n : ℕ) → made ≡ Some n → made_by answer ≡ Some n)
+      → ((asked : Asked) (seen : Seen) → SeesMoreBut made seen now → IsPending task p asked (Some answer) seen now
+      → IsAnswerTo task asked answer seen now)
       → ((asked : Asked) (seen : Seen) → Shows b task asked seen → IsHeard task asked answer seen now → Q)
-      → ∥ (P → IsReady Shows b task p (Some answer) now) ∥₁ → ∥ (P → Q) ∥₁
-  after_step Q b task p answer now hears step ready =
-      ∥∥₁_map ready (λ f q. let r = f q in step r.asked r.seen r.says (r.more, hears r.asked r.seen r.more r.pending))
+      → ∥ (P → IsReady Shows made b task p (Some answer) now) ∥₁ → ∥ (P → Q) ∥₁
+  after_step made Q b task p answer now fits hears step ready =
+      ∥∥₁_map ready (λ f q. let r = f q in step r.asked r.seen r.says
+      (sees_as made (made_by answer) r.seen now fits r.more, hears r.asked r.seen r.more r.pending))
 
   -- what it has said when it is over, where this is its number
   pub has_said : (b : B) (task number : ℕ) (p : Plan) (answer : Option Answer) (now : Seen) (held : Seen) → task ≡ number
       → SeesMore now held
-      → ∥ (P → IsReady Shows b task p answer now) ∥₁ → ∥ (P → HasSaid Shows b number held) ∥₁
+      → ∥ (P → IsReady Shows None b task p answer now) ∥₁ → ∥ (P → HasSaid Shows b number held) ∥₁
   has_said b task number p answer now held is goes ready =
       subst (λ (t : ℕ). ∥ (P → HasSaid Shows b t held) ∥₁) is
-      (∥∥₁_map ready (λ f q. let r = f q in (r.asked, (r.seen, r.says, sees_far r.seen now held r.more goes))))
+      (∥∥₁_map ready (λ f q. let r = f q in (r.asked, (r.seen, r.says, sees_far None r.seen now held r.more goes))))
 
   -- it says it of just what it has seen
   pub says_now : (b : B) (task : ℕ) (asked : Asked) (now : Seen)
@@ -233,16 +286,27 @@ module _ {B : Type 0} {P : Type 0} (Shows : Saying B) where
   pub says_more : (b : B) (task : ℕ) (asked : Asked) (now new : Seen) → SeesMore now new
       → ∥ (P → Says Shows b task asked now) ∥₁ → ∥ (P → Says Shows b task asked new) ∥₁
   says_more b task asked now new more says =
-      ∥∥₁_map says (λ f p. let s = f p in (s.0, s.1, sees_far s.0 now new s.2 more))
+      ∥∥₁_map says (λ f p. let s = f p in (s.0, s.1, sees_far None s.0 now new s.2 more))
+
+  -- and where the task knows something else of itself, under the same number
+  pub says_known : (b : B) (task : ℕ) (asked : Asked) (fronts : List Sight) (k k' : Known) (own : TaskLog) → k'.number ≡ k.number
+      → ∥ (P → Says Shows b task asked (seen_by fronts k own)) ∥₁ → ∥ (P → Says Shows b task asked (seen_by fronts k' own)) ∥₁
+  says_known b task asked fronts k k' own number says =
+      says_more b task asked (seen_by fronts k own) (seen_by fronts k' own) (sees_known fronts k k' own number) says
 
   -- and of what is seen elsewhere, if that is the same
-  pub says_seen : (b : B) (task : ℕ) (asked : Asked) (now there : Seen) → ((n : ℕ) → there.stories n ≡ now.stories n) → there.log ≡ now.log
+  pub says_seen : (b : B) (task : ℕ) (asked : Asked) (now there : Seen) → ((n : ℕ) → there.stories n ≡ now.stories n)
+      → ((n : ℕ) → there.own n ≡ now.own n) → there.log ≡ now.log
       → ∥ (P → Says Shows b task asked now) ∥₁ → ∥ (P → Says Shows b task asked there) ∥₁
-  says_seen b task asked now there same noted says =
+  says_seen b task asked now there same number noted says =
       ∥∥₁_map says (λ f p. let s = f p in (
         s.0,
         s.1,
-        ((λ n. subst (λ (v : Story). GoesOn (s.0.stories n) v) (sym (same n)) (s.2.0 n)), (s.2.1.0, noted ∙ s.2.1.1)),
+        (
+          (λ n. let there = sees_of s.0 now n s.2 in
+              inr (subst (λ (v : Story). GoesOn (s.0.stories n) v) (sym (same n)) there.0, number n ∙ there.1)),
+          (s.2.1.0, noted ∙ s.2.1.1),
+        ),
       ))
 
   -- and after a statement of its own
@@ -269,7 +333,7 @@ module _ {B : Type 0} {P : Type 0} (Shows : Saying B) where
       → ((n : ℕ) → n < length fronts → GoesOn (story_at fronts n) (story_at told n))
       → ((n : ℕ) → n < length fronts → (story_at told n).limits ≡ l)
       → slice_get logs i ≡ Some own.entries → AreOf (log 0) own.entries
-      → ∥ (P → HasSaid Shows root 0 (seen_at_end fronts own)) ∥₁ → P → IsSaid Shows l parts logs root
+      → ∥ (P → HasSaid Shows root 0 (seen_at_end 0 fronts own)) ∥₁ → P → IsSaid Shows l parts logs root
   is_said l names parts logs told fronts own i root logged many begin limits there its said p =
       let within : (n : ℕ) → n < length parts → n < length fronts = λ n lt. omega (arith, lt, many) in (
         (λ n. story_at told n),
@@ -279,10 +343,16 @@ module _ {B : Type 0} {P : Type 0} (Shows : Saying B) where
           own.entries,
           there,
           its,
-          ∥∥₁_map said (λ f. let s = f p in (
+          ∥∥₁_map said (λ f. let s = f p in let now = seen_at_end 0 fronts own in (
             s.1.0.stories,
-            (s.1.0.holding, s.1.0.log, s.1.2.1.0, (s.0, s.1.1), s.1.2.1.1),
-            λ n lt. goes_far (s.1.0.stories n) (story_at fronts n) (story_at told n) (s.1.2.0 n) (begin n (within n lt)),
+            (
+              s.1.0.holding,
+              s.1.0.log,
+              s.1.2.1.0,
+              own_now (λ (seen : Seen). IsSaidOfRoot Shows root seen) s.1.0 now s.1.2 (s.0, s.1.1),
+              s.1.2.1.1,
+            ),
+            λ n lt. goes_far (s.1.0.stories n) (story_at fronts n) (story_at told n) (sees_of s.1.0 now n s.1.2).0 (begin n (within n lt)),
           )),
         ),
       )
@@ -291,4 +361,4 @@ module _ {B : Type 0} {P : Type 0} (Shows : Saying B) where
   pub told_at_end : (Told : ℕ → Seen → Type 0) (b : B) (task : ℕ) (now held : Seen) → SeesMore now held
       → ∥ Tells Shows Told ∥₁ → ∥ (P → Says Shows b task ends now) ∥₁ → ∥ (P → IsTold Told task held) ∥₁
   told_at_end Told b task now held goes tells says =
-      ∥∥₁_map₂ tells says (λ told f p. let s = f p in (s.0, told b task s.0 s.1, sees_far s.0 now held s.2 goes))
+      ∥∥₁_map₂ tells says (λ told f p. let s = f p in (s.0, told b task s.0 s.1, sees_far None s.0 now held s.2 goes))

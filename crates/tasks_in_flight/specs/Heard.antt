@@ -26,21 +26,27 @@ use Rattle.task_standing.specs.Standing.{owes, pair_of}
 
 -- ---- what a task has seen
 
--- of each phaser the beginning of its story that the task has seen; the phasers that it holds; and what it has noted in its
--- own log, the oldest first
+-- by which number each phaser knows the task; of each phaser the beginning of its story that the task has seen; the phasers
+-- that it holds; and what it has noted in its own log, the oldest first
 pub record Seen : Type 0 where
+  pub own : ℕ → ℕ
   pub stories : ℕ → Story
   pub holding : List Held
   pub log : List TracedEvent
 
--- a task that holds and has noted nothing yet, and knows these stories
-abbrev pub at_start : (ℕ → Story) → Seen
-at_start stories = record { stories = stories; holding = []; log = [] }
+-- a task that holds and has noted nothing yet, is known by these numbers, and knows these stories
+abbrev pub at_start : (ℕ → ℕ) → (ℕ → Story) → Seen
+at_start own stories = record { own = own; stories = stories; holding = []; log = [] }
 
--- of each phaser no less was seen, and what was noted stands
-abbrev pub SeesMore : Seen → Seen → Type 0
-SeesMore seen now =
-    ((n : ℕ) → GoesOn (seen.stories n) (now.stories n)) × ((more : List TracedEvent) × (now.log ≡ seen.log ++ more))
+-- of phaser n no less was seen, under the same number
+abbrev pub SeesMoreOf : ℕ → Seen → Seen → Type 0
+SeesMoreOf n seen now = GoesOn (seen.stories n) (now.stories n) × (now.own n ≡ seen.own n)
+
+-- of each phaser no less was seen, but for one that was made since, if there is one, whose number was another's before; and
+-- what was noted stands
+abbrev pub SeesMoreBut : Option ℕ → Seen → Seen → Type 0
+SeesMoreBut made seen now =
+    ((n : ℕ) → (made ≡ Some n) ⊎ SeesMoreOf n seen now) × ((more : List TracedEvent) × (now.log ≡ seen.log ++ more))
 
 -- ---- what a body asks for
 
@@ -115,15 +121,16 @@ HasPassed task seen now =
     × (has_mode can_wait task (Pass task ∷ before) ≡ true → IsClosed (waits task before) (Pass task ∷ before))
 
 -- the task signalled each phaser that it held where it owed a signal, with this number of a single
-abbrev pub HasSignalledAll : ℕ → Option ℕ → Seen → Seen → Type 0
-HasSignalledAll task x seen now =
+abbrev pub HasSignalledAll : Option ℕ → Seen → Seen → Type 0
+HasSignalledAll x seen now =
     (i : ℕ) (h : Held) → slice_get seen.holding i ≡ Some h → owes h ≡ true
-    → HasDone (Sig task x) (seen.stories h.phaser) (now.stories h.phaser)
+    → HasDone (Sig (now.own h.phaser) x) (seen.stories h.phaser) (now.stories h.phaser)
 
 -- the task passed each phaser that it held
-abbrev pub HasPassedAll : ℕ → Seen → Seen → Type 0
-HasPassedAll task seen now =
-    (i : ℕ) (h : Held) → slice_get seen.holding i ≡ Some h → HasPassed task (seen.stories h.phaser) (now.stories h.phaser)
+abbrev pub HasPassedAll : Seen → Seen → Type 0
+HasPassedAll seen now =
+    (i : ℕ) (h : Held) → slice_get seen.holding i ≡ Some h
+    → HasPassed (now.own h.phaser) (seen.stories h.phaser) (now.stories h.phaser)
 
 -- it holds the same phasers, in the same modes
 abbrev pub HoldsTheSame : Seen → Seen → Type 0
@@ -136,6 +143,10 @@ HasBegun task b seen now = now.log ≡ seen.log ++ Begin task b ∷ []
 -- it holds what it held, and has noted nothing
 abbrev pub IsAsBefore : Seen → Seen → Type 0
 IsAsBefore seen now = (now.holding ≡ seen.holding) × (now.log ≡ seen.log)
+
+-- none of the phasers that it holds has this number
+abbrev pub HoldsNot : ℕ → Seen → Type 0
+HoldsNot n seen = (i : ℕ) (h : Held) → slice_get seen.holding i ≡ Some h → h.phaser ≡ n → ⊥
 
 -- it holds this phaser too, in this mode, in one of its finishes, and has noted nothing
 abbrev pub HoldsMore : ℕ → Mode → Seen → Seen → Type 0
@@ -152,40 +163,45 @@ IsOwn task (Pass t ∷ h) = (t ≡ task) × (has_mode can_wait t (Pass t ∷ h) 
 IsOwn task _ = ⊥
 
 -- of each phaser no more was seen, or up to the task's own newest event in it
-abbrev pub IsOwnOfEach : ℕ → (ℕ → Story) → (ℕ → Story) → Type 0
-IsOwnOfEach task seen now = (n : ℕ) → (now n ≡ seen n) ⊎ IsOwn task (now n).past
+abbrev pub IsOwnOfEach : Seen → Seen → Type 0
+IsOwnOfEach seen now = (n : ℕ) → (now.stories n ≡ seen.stories n) ⊎ IsOwn (now.own n) (now.stories n).past
 
--- So the task is told what it asked for, and nothing else is an answer to it; after its end none comes. A look saw the fold
--- of all values that were sent for the phase before the task's own, which was closed.
+-- So the task of this number is told what it asked for, and nothing else is an answer to it; after its end none comes. A
+-- phaser that it made has the number of none that it held. A look saw the fold of all values that were sent for the phase
+-- before the task's own, which was closed.
 abbrev pub IsToldOf : ℕ → Asked → Answer → Seen → Seen → Type 0
 IsToldOf task nothing Started seen now = now.log ≡ seen.log
-IsToldOf task (make m terms) (Made n) seen now = HasMade task m terms (now.stories n) × HoldsMore n m seen now
-IsToldOf task (send n a v) Done seen now = HasSent task a v (seen.stories n) (now.stories n) × IsAsBefore seen now
+IsToldOf task (make m terms) (Made n) seen now =
+    HasMade (now.own n) m terms (now.stories n) × HoldsMore n m seen now × HoldsNot n seen
+IsToldOf task (send n a v) Done seen now = HasSent (now.own n) a v (seen.stories n) (now.stories n) × IsAsBefore seen now
 IsToldOf task (look n a) (Saw x) seen now =
-    HasLooked (now.stories n).terms.ops task a (now.stories n).past x × IsAsBefore seen now
-IsToldOf task signal Done seen now = HasBegun task begun.Signal seen now × IsOwnOfEach task seen.stories now.stories
-IsToldOf task wait Done seen now = HasBegun task begun.Wait seen now × IsOwnOfEach task seen.stories now.stories
-IsToldOf task (next x) Done seen now = HasBegun task (turn_with x) seen now × IsOwnOfEach task seen.stories now.stories
+    HasLooked (now.stories n).terms.ops (now.own n) a (now.stories n).past x × IsAsBefore seen now
+IsToldOf task signal Done seen now = HasBegun task begun.Signal seen now × IsOwnOfEach seen now
+IsToldOf task wait Done seen now = HasBegun task begun.Wait seen now × IsOwnOfEach seen now
+IsToldOf task (next x) Done seen now = HasBegun task (turn_with x) seen now × IsOwnOfEach seen now
 IsToldOf task (spawn to) (Spawned c) seen now =
-    HasBegun task (begun.Async c (pairs_for to seen.holding)) seen now
-    × (now.holding ≡ seen.holding)
-    × IsOwnOfEach task seen.stories now.stories
+    HasBegun task (begun.Async c (pairs_for to seen.holding)) seen now × (now.holding ≡ seen.holding) × IsOwnOfEach seen now
 IsToldOf task opens Done seen now = IsAsBefore seen now
 IsToldOf task shuts Done seen now = HasBegun task begun.Shut seen now
 IsToldOf task _ _ seen now = ⊥
 
 -- and what it asked for has been carried out on each phaser that it held: signalled where it owed that, passed
-abbrev pub IsCarriedOut : ℕ → Asked → Seen → Seen → Type 0
-IsCarriedOut task signal seen now = HoldsTheSame seen now × HasSignalledAll task None seen now
-IsCarriedOut task wait seen now = HoldsTheSame seen now × HasPassedAll task seen now
-IsCarriedOut task (next x) seen now =
-    HoldsTheSame seen now × HasSignalledAll task x seen now × HasPassedAll task seen now
-IsCarriedOut task _ seen now = Unit {0}
+abbrev pub IsCarriedOut : Asked → Seen → Seen → Type 0
+IsCarriedOut signal seen now = HoldsTheSame seen now × HasSignalledAll None seen now
+IsCarriedOut wait seen now = HoldsTheSame seen now × HasPassedAll seen now
+IsCarriedOut (next x) seen now = HoldsTheSame seen now × HasSignalledAll x seen now × HasPassedAll seen now
+IsCarriedOut _ seen now = Unit {0}
 
 -- this is an answer to what was asked for
 abbrev pub IsAnswerTo : ℕ → Asked → Answer → Seen → Seen → Type 0
-IsAnswerTo task asked answer seen now = IsToldOf task asked answer seen now × IsCarriedOut task asked seen now
+IsAnswerTo task asked answer seen now = IsToldOf task asked answer seen now × IsCarriedOut asked seen now
 
--- the body of a task that had seen this much has seen no less now, and hears what it asked for
+-- the phaser that was made, by what is heard
+abbrev pub made_by : Answer → Option ℕ
+made_by (Made n) = Some n
+made_by _ = None
+
+-- the body of a task that had seen this much has seen no less now, but of a phaser of which it hears that it made it; and
+-- hears what it asked for
 abbrev pub IsHeard : ℕ → Asked → Answer → Seen → Seen → Type 0
-IsHeard task asked answer seen now = SeesMore seen now × IsAnswerTo task asked answer seen now
+IsHeard task asked answer seen now = SeesMoreBut (made_by answer) seen now × IsAnswerTo task asked answer seen now

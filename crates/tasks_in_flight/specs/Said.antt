@@ -15,13 +15,13 @@ use Rattle.tasks_in_flight.specs.Heard.{Asked, Seen, ends}
 abbrev pub Saying : Type 0 → Type 1
 Saying B = B → ℕ → Asked → Seen → Type 0
 
--- this holds of a task that has seen this of each phaser: of what it held then, and of what it had noted, with which its log
--- begins
-abbrev pub IsSeenBy : (Seen → Type 0) → List Entry → (ℕ → Story) → Type 0
-IsSeenBy Holds own stories =
+-- this holds of the task of this number, by which each phaser knows it, that has seen this of each phaser: of what it held
+-- then, and of what it had noted, with which its log begins
+abbrev pub IsSeenBy : ℕ → (Seen → Type 0) → List Entry → (ℕ → Story) → Type 0
+IsSeenBy task Holds own stories =
     (holding : List Held)
     × (noted more : List TracedEvent)
-    × Holds (record { stories = stories; holding = holding; log = noted })
+    × Holds (record { own = λ n. task; stories = stories; holding = holding; log = noted })
     × (map (λ e. e.1) own ≡ noted ++ more)
 
 -- whatever it asked for by its last act, the body says this of what task 0 has seen
@@ -38,7 +38,7 @@ IsSaid Shows l parts logs root =
     × (own : List Entry)
     × (slice_get logs i ≡ Some own)
     × AreOf (log 0) own
-    × ∥ HasShown (λ b s. IsSeenBy (λ seen. IsSaidOfRoot Shows b seen) own s) (length parts) stories root ∥₁)
+    × ∥ HasShown (λ b s. IsSeenBy 0 (λ seen. IsSaidOfRoot Shows b seen) own s) (length parts) stories root ∥₁)
 
 -- the event begins a task's end
 abbrev pub is_end : TracedEvent → Bool
@@ -61,4 +61,4 @@ AreSaid Told l parts logs =
     (stories : ℕ → Story)
     × ((n : ℕ) → n < length parts → IsToldAt n (stories n) parts × ((stories n).limits ≡ l))
     × All (λ own. (task : ℕ) → AreOf (log task) own → has_end own ≡ true
-    → ∥ HasShown (λ t s. IsSeenBy (Told t) own s) (length parts) stories task ∥₁) logs
+    → ∥ HasShown (λ t s. IsSeenBy t (Told t) own s) (length parts) stories task ∥₁) logs

@@ -33,8 +33,8 @@ pub trait Body: Drop {
         ensures shows { (task : ℕ) (asked : Asked) (seen now : Seen) → shows self.old task asked seen
             → IsHeard task asked answer seen now → shows self.new task (asked_by result) now }
         ensures child { (task : ℕ) (asked : Asked) (seen now : Seen) → shows self.old task asked seen
-            → IsHeard task asked answer seen now → (child : Self) (its : ℕ) → IsSpawned child result
-            → shows child its nothing (at_start now.stories) };
+            → IsHeard task asked answer seen now → (child : Self) (its : ℕ) (own : ℕ → ℕ) → IsSpawned child result
+            → shows child its nothing (at_start own now.stories) };
 
     /// Runs the statement of this number, which the task alone has claimed: of those who proposed it
     /// in a phase just one is called, once.

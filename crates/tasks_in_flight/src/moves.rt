@@ -42,6 +42,10 @@ impl<B: Body, K: RunNaming> Task<B, K> {
               ++ record { phaser = phaser; finish = inner_of self.old.standing; mode = mode; ahead = false } ∷ [];
         }) }
     {
+        // No clause says that a phaser's number isn't one of those that it holds.
+        if self.standing.held(phaser).is_some() {
+            return Err(Refusal::NotExplained(0));
+        }
         if let Err(refusal) = self.standing.note_making(phaser, mode) {
             return Err(refusal);
         }

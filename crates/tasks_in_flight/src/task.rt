@@ -31,7 +31,7 @@ pub struct Task<B: Body, K: RunNaming> {
     pub log: Diary,
     ghost own: { standing.number ≡ log.task },
     ghost all: { length fronts ≡ K.Logs.limits.phasers },
-    ghost ready: { ∥ (K.Supposing.supposed → IsReady B.Body.shows body log.task standing.plan answer (seen_by fronts standing log.log)) ∥₁ },
+    ghost ready: { ∥ (K.Supposing.supposed → IsReady B.Body.shows None body log.task standing.plan answer (seen_by fronts standing log.log)) ∥₁ },
     ghost end: { log.ended ≡ true → ∥ (K.Supposing.supposed → Says B.Body.shows body log.task ends (seen_by fronts standing log.log)) ∥₁ },
 }
 
@@ -51,7 +51,7 @@ pub struct TaskLeft<K: RunNaming> {
     pub log: Diary,
     pub fronts: Fronts<K>,
     ghost all: { length fronts ≡ K.Logs.limits.phasers },
-    ghost told: { log.ended ≡ true → ∥ (K.Supposing.supposed → IsTold K.Supposing.told log.task (seen_at_end fronts log.log)) ∥₁ },
+    ghost told: { log.ended ≡ true → ∥ (K.Supposing.supposed → IsTold K.Supposing.told log.task (seen_at_end log.task fronts log.log)) ∥₁ },
 }
 
 /// What the root leaves when the run is over: what each task does, and its body as it stands then.
@@ -60,7 +60,7 @@ pub struct RootLeft<B: Body, K: RunNaming> {
     pub left: TaskLeft<K>,
     pub body: B,
     ghost root: { left.log.task ≡ 0 },
-    ghost says: { ∥ (K.Supposing.supposed → HasSaid B.Body.shows body 0 (seen_at_end left.fronts left.log.log)) ∥₁ },
+    ghost says: { ∥ (K.Supposing.supposed → HasSaid B.Body.shows body 0 (seen_at_end 0 left.fronts left.log.log)) ∥₁ },
 }
 
 impl<B: Body, K: RunNaming> Task<B, K> {
@@ -75,7 +75,7 @@ impl<B: Body, K: RunNaming> Task<B, K> {
         fronts: Fronts<K>,
     ) -> Result<Box<Task<B, K>>, Refusal>
         requires all { length fronts ≡ K.Logs.limits.phasers }
-        requires says { ∥ (K.Supposing.supposed → Says B.Body.shows body number nothing (at_start (λ n. story_at fronts n))) ∥₁ }
+        requires says { ∥ (K.Supposing.supposed → Says B.Body.shows body number nothing (at_start (λ n. number) (λ n. story_at fronts n))) ∥₁ }
         ensures body { IfOk result (λ t. t.value.body ≡ body) }
         ensures answer { IfOk result (λ t. t.value.answer ≡ Some Answer.Started) }
         ensures fronts { IfOk result (λ t. t.value.fronts ≡ fronts) }
@@ -106,7 +106,7 @@ impl<B: Body, K: RunNaming> Task<B, K> {
         body: B,
         acts: u32,
     ) -> Result<Box<Task<B, K>>, Refusal>
-        requires says { ∥ (K.Supposing.supposed → Says B.Body.shows body number nothing (at_start (λ n. story_at self.old.fronts n))) ∥₁ }
+        requires says { ∥ (K.Supposing.supposed → Says B.Body.shows body number nothing (at_start (λ n. number) (λ n. story_at self.old.fronts n))) ∥₁ }
         ensures body { self.new.body ≡ self.old.body }
         ensures task { self.new.log.task ≡ self.old.log.task }
         ensures fronts { self.new.fronts ≡ self.old.fronts }
@@ -166,7 +166,7 @@ impl<B: Body, K: RunNaming> Task<B, K> {
         ensures standing { self.new.standing ≡ self.old.standing }
         ensures says { IfSome result (λ act. ∥ (K.Supposing.supposed → B.Body.shows self.new.body self.new.log.task (asked_by act) (seen_by self.new.fronts self.new.standing self.new.log.log)) ∥₁) }
         ensures child { IfSome result (λ act. (child : B) (its : ℕ) → IsSpawned child act
-            → ∥ (K.Supposing.supposed → B.Body.shows child its nothing (at_start (λ n. story_at self.new.fronts n))) ∥₁) }
+            → ∥ (K.Supposing.supposed → (own : ℕ → ℕ) → B.Body.shows child its nothing (at_start own (λ n. story_at self.new.fronts n))) ∥₁) }
     {
         let Some(answer) = self.answer else {
             return None;

@@ -24,7 +24,7 @@ AreAllLogs names phasers logs = IsNamed names logs × (length logs ≡ phasers)
 abbrev pub IsToldOfStart : (ℕ → Seen → Type 0) → ℕ → List Sight → List Entry → Type 0
 IsToldOfStart Told task logs part =
     (stories : ℕ → Story)
-    × IsSeenBy (Told task) part stories
+    × IsSeenBy task (Told task) part stories
     × ((n : ℕ) → n < length logs → GoesOn (stories n) (story_at logs n))
 
 -- if this is supposed, that is told of the task of this part, if the part has its end

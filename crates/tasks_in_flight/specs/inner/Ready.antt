@@ -21,26 +21,32 @@ use Rattle.task_standing.specs.declared.plan.Plan.{Plan}
 use Rattle.task_standing.specs.declared.plan.Plan.TheVariants.{Idle, Signalling, Turning, Spawning, Shutting, Ending}
 use Rattle.task_standing.specs.Known.{Known}
 use Rattle.task_standing.specs.Standing.{owes}
-use Rattle.tasks_in_flight.specs.Heard.{Asked, Seen, SeesMore, HasDone, HasPassed, HasSignalledAll, HoldsTheSame, IsToldOf, pairs_for}
+use Rattle.tasks_in_flight.specs.Heard.{Asked, Seen, SeesMoreBut, HasDone, HasPassed, HasSignalledAll, HoldsTheSame, IsToldOf, made_by, pairs_for}
 use Rattle.tasks_in_flight.specs.Heard as heard
 use Rattle.tasks_in_flight.specs.Said.{Saying}
 use Rattle.tasks_in_flight.specs.inner.Due.{still_of}
 
--- what a task has seen that has these fronts, knows this of itself and has this log
+-- what a task has seen that has these fronts, knows this of itself and has this log: each phaser knows it by its own number
 abbrev pub seen_by : List Sight → Known → TaskLog → Seen
 seen_by fronts k own = record {
+  own = λ n. k.number;
   stories = λ n. story_at fronts n;
   holding = k.holding;
   log = map (λ e. e.1) own.entries;
 }
 
--- what it has seen in the end, when it holds nothing
-abbrev pub seen_at_end : List Sight → TaskLog → Seen
-seen_at_end fronts own = record {
+-- what the task of this number has seen in the end, when it holds nothing
+abbrev pub seen_at_end : ℕ → List Sight → TaskLog → Seen
+seen_at_end task fronts own = record {
+  own = λ n. task;
   stories = λ n. story_at fronts n;
   holding = [];
   log = map (λ e. e.1) own.entries;
 }
+
+-- of each phaser no less was seen, under the same number, and what was noted stands
+abbrev pub SeesMore : Seen → Seen → Type 0
+SeesMore seen now = SeesMoreBut None seen now
 
 -- by its last act it asked for this; and it says this of what it had seen then, of which now no less is seen
 abbrev pub Says : {B : Type 0} → Saying B → B → ℕ → Asked → Seen → Type 0
@@ -71,41 +77,47 @@ answer_of begun.End = None
 answer_of _ = Some Done
 
 -- each phaser where it owed a signal it owes one still, or it has signalled there
-abbrev pub IsSignalling : ℕ → Option ℕ → Seen → Seen → Type 0
-IsSignalling task x seen now =
+abbrev pub IsSignalling : Option ℕ → Seen → Seen → Type 0
+IsSignalling x seen now =
     (i : ℕ) (h h' : Held) → slice_get seen.holding i ≡ Some h → slice_get now.holding i ≡ Some h' → owes h ≡ true
-    → (owes h' ≡ true) ⊎ HasDone (Sig task x) (seen.stories h.phaser) (now.stories h.phaser)
+    → (owes h' ≡ true) ⊎ HasDone (Sig (now.own h.phaser) x) (seen.stories h.phaser) (now.stories h.phaser)
 
 -- it has passed the first so many phasers that it held
-abbrev pub IsTurning : ℕ → ℕ → Seen → Seen → Type 0
-IsTurning task many seen now =
+abbrev pub IsTurning : ℕ → Seen → Seen → Type 0
+IsTurning many seen now =
     (i : ℕ) (h : Held) → i < many → slice_get seen.holding i ≡ Some h
-    → HasPassed task (seen.stories h.phaser) (now.stories h.phaser)
+    → HasPassed (now.own h.phaser) (seen.stories h.phaser) (now.stories h.phaser)
 
 -- how far an act has come that was asked for so and goes on by this plan
-abbrev pub IsAsFar : ℕ → Plan → Asked → Seen → Seen → Type 0
-IsAsFar task p heard.signal seen now = (p ≡ Signalling None false) × HoldsTheSame seen now × IsSignalling task None seen now
-IsAsFar task p heard.wait seen now = (k : ℕ) × (p ≡ Turning k) × HoldsTheSame seen now × IsTurning task k seen now
-IsAsFar task p (heard.next x) seen now =
-    ((p ≡ Signalling x true) × HoldsTheSame seen now × IsSignalling task x seen now)
-    ⊎ ((k : ℕ) × (p ≡ Turning k) × HoldsTheSame seen now × HasSignalledAll task x seen now × IsTurning task k seen now)
-IsAsFar task p (heard.spawn to) seen now = (p ≡ Idle) ⊎ ((c : ℕ) × (ps : List Pair) × (made : ℕ) × (p ≡ Spawning c ps made))
-IsAsFar task p heard.shuts seen now = (p ≡ Idle) ⊎ (p ≡ Shutting)
-IsAsFar task p heard.ends seen now = ⊥
-IsAsFar task p _ seen now = p ≡ Idle
+abbrev pub IsAsFar : Plan → Asked → Seen → Seen → Type 0
+IsAsFar p heard.signal seen now = (p ≡ Signalling None false) × HoldsTheSame seen now × IsSignalling None seen now
+IsAsFar p heard.wait seen now = (k : ℕ) × (p ≡ Turning k) × HoldsTheSame seen now × IsTurning k seen now
+IsAsFar p (heard.next x) seen now =
+    ((p ≡ Signalling x true) × HoldsTheSame seen now × IsSignalling x seen now)
+    ⊎ ((k : ℕ) × (p ≡ Turning k) × HoldsTheSame seen now × HasSignalledAll x seen now × IsTurning k seen now)
+IsAsFar p (heard.spawn to) seen now = (p ≡ Idle) ⊎ ((c : ℕ) × (ps : List Pair) × (made : ℕ) × (p ≡ Spawning c ps made))
+IsAsFar p heard.shuts seen now = (p ≡ Idle) ⊎ (p ≡ Shutting)
+IsAsFar p heard.ends seen now = ⊥
+IsAsFar p _ seen now = p ≡ Idle
 
 -- unless it gives up, this is about to be heard of what was asked for, if anything is, once nothing of it is left to make
 abbrev pub IsPending : ℕ → Plan → Asked → Option Answer → Seen → Seen → Type 0
 IsPending task plan asked (Some answer) seen now =
-    (plan ≡ Ending → ⊥) → IsToldOf task asked answer seen now × IsAsFar task plan asked seen now
+    (plan ≡ Ending → ⊥) → IsToldOf task asked answer seen now × IsAsFar plan asked seen now
 IsPending task plan asked None seen now = Unit {0}
 
--- by its last act it asked for something; it says this of what it had seen then; and it is about to hear this of it
-pub record IsReady {B : Type 0} (Shows : Saying B) (b : B) (task : ℕ) (plan : Plan) (answer : Option Answer) (now : Seen) : Type 0 where
+-- the phaser that was made, by what is about to be heard
+abbrev pub made_then : Option Answer → Option ℕ
+made_then (Some answer) = made_by answer
+made_then None = None
+
+-- by its last act it asked for something; it says this of what it had seen then, of which now no less is seen, but of the
+-- phaser that was made since, if there is one; and it is about to hear this of it
+pub record IsReady {B : Type 0} (Shows : Saying B) (made : Option ℕ) (b : B) (task : ℕ) (plan : Plan) (answer : Option Answer) (now : Seen) : Type 0 where
   pub asked : Asked
   pub seen : Seen
   pub says : Shows b task asked seen
-  pub more : SeesMore seen now
+  pub more : SeesMoreBut made seen now
   pub pending : IsPending task plan asked answer seen now
 
 -- what it is about to hear is of what comes phaser by phaser

@@ -1,11 +1,15 @@
 use Rattle.std.proofs.Common.{ℕ, ◌≡◌, ◌<◌, true, None, refl, sym, ap, subst, ◌∙◌, arith}
+use Rattle.std.specs.Prelude.{ℤ}
 use Rattle.std.proofs.lemmas.Bool.{true≢false}
 use Rattle.phase_modes.specs.Limits.{default_limits}
 use Rattle.phase_modes.specs.declared.limits.Limits.{Limits}
+use Rattle.phase_modes.specs.declared.reg.Mode.{Mode}
+use Rattle.phase_model.specs.declared.op.Look.{Look}
 use Rattle.phase_model.specs.declared.op.Look.TheVariants.{Nothing}
+use Rattle.phase_model.specs.declared.terms.Terms.{Terms}
 use Rattle.phase_model.specs.Rules.{Story}
 use Rattle.trace_model.proofs.Legal.{explained_legal}
-use Rattle.tasks_in_flight.specs.Heard.{nothing, look, next, ends, at_start}
+use Rattle.tasks_in_flight.specs.Heard.{nothing, make, look, next, ends, at_start}
 use Rattle.tasks_in_flight.specs.Said.{Saying}
 use Rattle.phased_rt.specs.Says.{SaysOfTrace, SaysOfEach}
 use Rattle.own_body.specs.declared.adder.Adder.{Adder}
@@ -29,33 +33,43 @@ unasked same = cc
 -- what a task says
 abbrev Says : Saying Adder
 Says b task asked seen =
-    IsSeen task (seen.stories 0) b.saw
+    IsSeen (seen.own 0) (seen.stories 0) b.saw
     × (b.next ≡ Hears → asked ≡ look 0 0)
-    × (asked ≡ ends → HasLookedOnce task (seen.stories 0))
+    × (asked ≡ ends → HasLookedOnce (seen.own 0) (seen.stories 0))
     × AreCounted task b.counts seen
     × (b.next ≡ Looks → asked ≡ next None)
     × (b.counts.holds ≡ true → TakesNone asked)
+    × (b.next ≡ Makes → b.saw ≡ Nothing)
+    × ((mode : Mode) (terms : Terms) → asked ≡ make mode terms → b.saw ≡ Nothing)
 
 some : (l : Limits) → l ≡ default_limits → 0 < l.phasers
 some l same =
     let few : 0 < 64 = omega arith in
     subst (λ (m : Limits). 0 < m.phasers) (sym same) few
 
+-- what the root saw before its first act
+abbrev unseen : Look ℤ
+unseen = Nothing
+
 -- before its first act the root has seen no sum, and counted nothing
 at_first : (counts : Counts) → counts ≡ none → (stories : ℕ → Story)
-    → IsSeen 0 (stories 0) Nothing
+    → IsSeen 0 (stories 0) unseen
     × (Makes ≡ Hears → nothing ≡ look 0 0)
     × (nothing ≡ ends → HasLookedOnce 0 (stories 0))
-    × AreCounted 0 counts (at_start stories)
+    × AreCounted 0 counts (at_start (λ n. 0) stories)
     × (Makes ≡ Looks → nothing ≡ next None)
     × (counts.holds ≡ true → TakesNone nothing)
+    × (Makes ≡ Makes → unseen ≡ Nothing)
+    × ((mode : Mode) (terms : Terms) → nothing ≡ make mode terms → unseen ≡ Nothing)
 at_first counts uncounted stories = (
   tt,
   (λ hears. absurd (apart hears)),
   (λ end. absurd (unasked end)),
-  counted_at_first 0 counts (at_start stories) uncounted,
+  counted_at_first 0 counts (at_start (λ n. 0) stories) uncounted,
   (λ looks. absurd (apart_too looks)),
-  λ held. absurd (true≢false (sym held ∙ ap (λ (x : Counts). x.holds) uncounted)),
+  (λ held. absurd (true≢false (sym held ∙ ap (λ (x : Counts). x.holds) uncounted))),
+  (λ makes. refl),
+  λ mode terms asks. refl,
 )
 
 pub returns : goal.returns

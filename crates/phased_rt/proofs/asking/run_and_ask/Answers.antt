@@ -13,7 +13,7 @@ returns-clause-says g c =
     let limits = c.args.limits in
     IfOk-weaker c.told_of.result
     (λ r. IsSaid g.B.Body.shows limits left.phasers.items left.logs.items left.root → SaysOfTrace g.B.Body.shows limits r.0.trace.events r.0.root)
-    (λ r. ((stories : ℕ → Story) → g.B.Body.shows c.args.root 0 nothing (at_start stories)) → SaysOfTrace g.B.Body.shows limits r.0.trace.events r.0.root)
+    (λ r. ((stories : ℕ → Story) → g.B.Body.shows c.args.root 0 nothing (at_start (λ n. 0) stories)) → SaysOfTrace g.B.Body.shows limits r.0.trace.events r.0.root)
     (λ r says root. says (c.in_ok-remains.ensures.says root))
     c.told_of.ensures.says
 
@@ -24,6 +24,6 @@ returns-clause-each g c =
     let limits = c.args.limits in
     IfOk-weaker c.told_of.result
     (λ r. AreSaid (IsSaidOf g.B.Body.shows) limits left.phasers.items left.logs.items → SaysOfEach g.B.Body.shows limits r.0.trace.events)
-    (λ r. ((stories : ℕ → Story) → g.B.Body.shows c.args.root 0 nothing (at_start stories)) → SaysOfEach g.B.Body.shows limits r.0.trace.events)
+    (λ r. ((stories : ℕ → Story) → g.B.Body.shows c.args.root 0 nothing (at_start (λ n. 0) stories)) → SaysOfEach g.B.Body.shows limits r.0.trace.events)
     (λ r says root. says (c.in_ok-remains.ensures.each root))
     c.told_of.ensures.each

@@ -10,7 +10,7 @@ pub new-requires-clause-says : goal.new-requires-clause-says
 new-requires-clause-says g c =
     let now : ℕ → Story = λ n. story_at c.in_ok-fronts.fronts n in
     ∣ (λ supposed. (
-      at_start now,
-      subst (λ (t : ℕ). g.B.Body.shows c.args.root t nothing (at_start now)) (sym c.of-number.ensures) (c.requires.root supposed now),
-      sees_itself (at_start now),
+      at_start (λ n. c.of-number.result) now,
+      subst (λ (t : ℕ). g.B.Body.shows c.args.root t nothing (at_start (λ n. t) now)) (sym c.of-number.ensures) (c.requires.root supposed now),
+      sees_itself (at_start (λ n. c.of-number.result) now),
     )) ∣₁

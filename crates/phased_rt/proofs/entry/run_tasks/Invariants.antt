@@ -33,6 +33,6 @@ ghosts-run_over-L-Logs g a = record { logs = λ n. name_at (λ w. w.name) a.unna
 -- the root says nothing false at its start; and a body has said at its end what is told of a task
 abbrev pub ghosts-run_over-L-Supposing : goal.ghosts-run_over-L-Supposing
 ghosts-run_over-L-Supposing g a = record {
-  supposed = (stories : ℕ → Story) → g.B.Body.shows a.root 0 nothing (at_start stories);
+  supposed = (stories : ℕ → Story) → g.B.Body.shows a.root 0 nothing (at_start (λ n. 0) stories);
   told = IsSaidOf g.B.Body.shows;
 }

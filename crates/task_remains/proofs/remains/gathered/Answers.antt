@@ -21,7 +21,7 @@ invariant_of-of_root-clause-all g c = ap (λ (xs : List Sight). length xs) c.beg
 pub invariant_of-of_root-clause-told : goal.invariant_of-of_root-clause-told
 invariant_of-of_root-clause-told g c = λ ended.
     let left = c.args.root.left in
-    subst (λ (xs : List Sight). ∥ (g.K.Supposing.supposed → IsTold g.K.Supposing.told left.log.task (seen_at_end xs left.log.log)) ∥₁) (sym c.begin.ensures.same.0)
+    subst (λ (xs : List Sight). ∥ (g.K.Supposing.supposed → IsTold g.K.Supposing.told left.log.task (seen_at_end left.log.task xs left.log.log)) ∥₁) (sym c.begin.ensures.same.0)
     (left.told ended)
 
 pub returns-clause-remains : goal.returns-clause-remains

@@ -1,4 +1,5 @@
 use Rattle.std.proofs.Common.{ap, ◌∙◌, ℕ, sym, subst}
+use Rattle.std.proofs.Math.Logic.{∥∥₁_map}
 use Rattle.table_receipts.specs.Seen.{story_at}
 use Rattle.tasks_in_flight.specs.Heard.{nothing, at_start}
 use Rattle.tasks_in_flight.specs.inner.Ready.{Says, seen_by}
@@ -12,9 +13,10 @@ use Rattle.task_worker.proofs.worker.Shared.spawn.Goals as goal
 
 pub child-requires : goal.child-requires
 child-requires g c = record {
-  says = subst (λ (t : _). ∥ (g.K.Supposing.supposed → Says g.B.Body.shows c.args.body c.of-its.result nothing (at_start (λ n. story_at t.fronts n))) ∥₁)
+  says = subst (λ (t : _). ∥ (g.K.Supposing.supposed → Says g.B.Body.shows c.args.body c.of-its.result nothing (at_start (λ n. c.of-its.result) (λ n. story_at t.fronts n))) ∥₁)
       (sym c.deref_mut.ensures.value)
-      (says_now g.B.Body.shows c.args.body c.of-its.result nothing (at_start (λ n. story_at c.args.item.now.task.value.fronts n)) (c.requires.child c.of-its.result));
+      (says_now g.B.Body.shows c.args.body c.of-its.result nothing (at_start (λ n. c.of-its.result) (λ n. story_at c.args.item.now.task.value.fronts n))
+      (∥∥₁_map (c.requires.child c.of-its.result) (λ f q. f q (λ n. c.of-its.result))));
 }
 
 pub begin-requires : goal.begin-requires

@@ -19,7 +19,7 @@ act-requires-clause-says g c =
 pub act-requires-clause-child : goal.act-requires-clause-child
 act-requires-clause-child g c =
     let new = c.next_act-act.new.self in
-    subst (λ (a : Result (Act g.row.B.Denot) Refusal). (child : g.row.B.Denot) (its : ℕ) → IsSpawned child a → ∥ (g.K.Supposing.supposed → g.B.Body.shows child its nothing (at_start (λ n. story_at new.fronts n))) ∥₁)
+    subst (λ (a : Result (Act g.row.B.Denot) Refusal). (child : g.row.B.Denot) (its : ℕ) → IsSpawned child a → ∥ (g.K.Supposing.supposed → (own : ℕ → ℕ) → g.B.Body.shows child its nothing (at_start own (λ n. story_at new.fronts n))) ∥₁)
     c.in-Ok.is c.in-Some.ensures.child
 
 pub returns-in-Ok-clause-acted : goal.returns-in-Ok-clause-acted

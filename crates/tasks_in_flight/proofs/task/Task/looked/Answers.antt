@@ -1,4 +1,4 @@
-use Rattle.std.proofs.Common.{refl, sym, subst, Some}
+use Rattle.std.proofs.Common.{ℕ, None, refl, sym, subst, Some, ap}
 use Rattle.phase_model.specs.Rules.{Story}
 use Rattle.job_script.specs.declared.act.Answer.TheVariants.{Saw}
 use Rattle.long_locks.specs.Told.{HasLooked}
@@ -7,7 +7,8 @@ use Rattle.table_receipts.proofs.Stories.{seen_more}
 use Rattle.task_standing.specs.Standing.{acted}
 use Rattle.tasks_in_flight.specs.Heard.{look, ends}
 use Rattle.tasks_in_flight.specs.inner.Ready.{seen_by}
-use Rattle.tasks_in_flight.proofs.Saying.{ready_since, ready_at, more_stories, says_more}
+use Rattle.tasks_in_flight.proofs.Saying.{ready_since, ready_at, more_stories, says_more, says_known}
+use Rattle.task_standing.specs.Known.{Known}
 use Rattle.tasks_in_flight.proofs.task.Task.looked.Goals as goal
 
 pub invariant_of-self-clause-ready : goal.invariant_of-self-clause-ready
@@ -19,9 +20,11 @@ invariant_of-self-clause-ready g c =
     let k = old.standing in
     let now = seen_by old.fronts k old.log.log in
     let asked = c.requires.asked in
-    let saw = subst (λ (s : Story). HasLooked s.terms.ops old.log.task asked.0 s.past c.args.saw) (sym c.set.ensures.here) asked.1 in
-    ready_at g.B.Body.shows old.body old.log.task (Some (Saw c.args.saw)) ys (acted k) c.note_act.new.self old.log.log c.note_act.ensures.acted
-    (ready_since g.B.Body.shows old.body old.log.task (acted k).plan (look n asked.0) (Some (Saw c.args.saw)) now (seen_by ys (acted k) old.log.log)
+    let saw =
+    subst (λ (t : ℕ). HasLooked (story_at ys n).terms.ops t asked.0 (story_at ys n).past c.args.saw) (sym old.own)
+    (subst (λ (s : Story). HasLooked s.terms.ops old.log.task asked.0 s.past c.args.saw) (sym c.set.ensures.here) asked.1) in
+    ready_at g.B.Body.shows None old.body old.log.task (Some (Saw c.args.saw)) ys (acted k) c.note_act.new.self old.log.log c.note_act.ensures.acted
+    (ready_since g.B.Body.shows None old.body old.log.task (acted k).plan (look n asked.0) (Some (Saw c.args.saw)) now (seen_by ys (acted k) old.log.log)
     (more_stories now (λ m. story_at ys m) k.holding more.0)
     (λ lives. ((saw, (refl, refl)), refl))
     asked.2)
@@ -32,5 +35,6 @@ invariant_of-self-clause-end g c = λ ended.
     let ys = c.set.new.self in
     let n = c.args.phaser in
     let more = seen_more old.fronts old.fronts ys n n (story_at old.fronts n) c.args.seen.story refl refl refl c.set.ensures.here c.set.ensures.others c.requires.more in
-    says_more g.B.Body.shows old.body old.log.task ends (seen_by old.fronts old.standing old.log.log) (seen_by ys old.standing old.log.log)
-    (more_stories (seen_by old.fronts old.standing old.log.log) (λ m. story_at ys m) old.standing.holding more.0) (old.end ended)
+    says_known g.B.Body.shows old.body old.log.task ends ys old.standing c.note_act.new.self old.log.log (ap (λ (k : Known). k.number) c.note_act.ensures.acted)
+    (says_more g.B.Body.shows old.body old.log.task ends (seen_by old.fronts old.standing old.log.log) (seen_by ys old.standing old.log.log)
+    (more_stories (seen_by old.fronts old.standing old.log.log) (λ m. story_at ys m) old.standing.holding more.0) (old.end ended))

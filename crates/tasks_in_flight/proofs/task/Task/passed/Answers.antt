@@ -1,4 +1,4 @@
-use Rattle.std.proofs.Common.{refl, sym, subst, map, false}
+use Rattle.std.proofs.Common.{ℕ, None, refl, sym, subst, map, false, ap}
 use Rattle.phase_model.specs.Rules.{Story}
 use Rattle.table_receipts.specs.Seen.{story_at}
 use Rattle.table_receipts.proofs.Stories.{seen_more}
@@ -6,7 +6,8 @@ use Rattle.task_standing.specs.Standing.{marked, passed_by}
 use Rattle.tasks_in_flight.specs.Heard.{ends}
 use Rattle.tasks_in_flight.specs.inner.Ready.{HasJustPassed, seen_by}
 use Rattle.tasks_in_flight.proofs.OnTheWay.{pending_passed}
-use Rattle.tasks_in_flight.proofs.Saying.{ready_moves, ready_at, more_stories, says_more}
+use Rattle.tasks_in_flight.proofs.Saying.{ready_moves, ready_at, more_stories, says_more, says_known}
+use Rattle.task_standing.specs.Known.{Known}
 use Rattle.tasks_in_flight.proofs.task.Task.passed.Goals as goal
 
 pub invariant_of-self-clause-ready : goal.invariant_of-self-clause-ready
@@ -18,11 +19,14 @@ invariant_of-self-clause-ready g c =
     let k = old.standing in
     let k' = record k { plan = passed_by k.plan; holding = map (marked n false) k.holding } in
     let now = seen_by old.fronts k old.log.log in
-    let just = subst (λ (s : Story). HasJustPassed old.log.task (story_at old.fronts n) s) (sym c.set.ensures.here) c.requires.own in
-    ready_at g.B.Body.shows old.body old.log.task old.answer ys k' c.note_pass.new.self old.log.log c.note_pass.ensures
-    (ready_moves g.B.Body.shows old.body old.log.task k.plan k'.plan old.answer now (seen_by ys k' old.log.log)
+    let just =
+    subst (λ (t : ℕ). HasJustPassed t (story_at old.fronts n) (story_at ys n)) (sym old.own)
+    (subst (λ (s : Story). HasJustPassed old.log.task (story_at old.fronts n) s) (sym c.set.ensures.here) c.requires.own) in
+    ready_at g.B.Body.shows None old.body old.log.task old.answer ys k' c.note_pass.new.self old.log.log c.note_pass.ensures
+    (ready_moves g.B.Body.shows None old.body old.log.task k.plan k'.plan old.answer now (seen_by ys k' old.log.log)
     (more_stories now (λ m. story_at ys m) k'.holding more.0)
-    (λ asked seen goes is. pending_passed old.log.task seen k now.stories now.log goes.0 n (λ m. story_at ys m) more just asked old.answer c.requires.due is)
+    (λ asked seen goes is. pending_passed old.log.task None seen k now.own now.stories now.log n (λ m. story_at ys m) more just asked old.answer
+    (λ m is. absurd (cc is)) goes c.requires.due is)
     old.ready)
 
 pub invariant_of-self-clause-end : goal.invariant_of-self-clause-end
@@ -31,5 +35,6 @@ invariant_of-self-clause-end g c = λ ended.
     let ys = c.set.new.self in
     let n = c.args.phaser in
     let more = seen_more old.fronts old.fronts ys n n (story_at old.fronts n) c.args.seen.story refl refl refl c.set.ensures.here c.set.ensures.others c.requires.more in
-    says_more g.B.Body.shows old.body old.log.task ends (seen_by old.fronts old.standing old.log.log) (seen_by ys old.standing old.log.log)
-    (more_stories (seen_by old.fronts old.standing old.log.log) (λ m. story_at ys m) old.standing.holding more.0) (old.end ended)
+    says_known g.B.Body.shows old.body old.log.task ends ys old.standing c.note_pass.new.self old.log.log (ap (λ (k : Known). k.number) c.note_pass.ensures)
+    (says_more g.B.Body.shows old.body old.log.task ends (seen_by old.fronts old.standing old.log.log) (seen_by ys old.standing old.log.log)
+    (more_stories (seen_by old.fronts old.standing old.log.log) (λ m. story_at ys m) old.standing.holding more.0) (old.end ended))

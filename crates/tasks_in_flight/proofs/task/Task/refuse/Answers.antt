@@ -1,11 +1,12 @@
-use Rattle.std.proofs.Common.{refl, sym, ◌∙◌}
+use Rattle.std.proofs.Common.{None, refl, sym, ◌∙◌, ap}
 use Rattle.phase_modes.specs.Refusal.{number_of}
 use Rattle.trace_model.specs.declared.event.TracedEvent.TheVariants.{Refuse}
 use Rattle.task_standing.specs.declared.plan.Plan.TheVariants.{Ending}
 use Rattle.tasks_in_flight.specs.Heard.{ends}
 use Rattle.tasks_in_flight.specs.inner.Ready.{seen_by}
 use Rattle.tasks_in_flight.proofs.OnTheWay.{pending_at_end}
-use Rattle.tasks_in_flight.proofs.Saying.{ready_moves, ready_at, ready_kept, says_kept, says_more, more_noted, log_stays}
+use Rattle.tasks_in_flight.proofs.Saying.{ready_moves, ready_at, ready_kept, says_kept, says_more, more_noted, log_stays, says_known}
+use Rattle.task_standing.specs.Known.{Known}
 use Rattle.tasks_in_flight.proofs.task.Task.refuse.Goals as goal
 
 -- where there was no room nothing has changed
@@ -18,10 +19,10 @@ invariant_of-self g c =
     record {
       own = old.own ∙ sym c.note_refused.ensures.task;
       all = old.all;
-      ready = ready_kept g.B.Body.shows old.body old.log.task own.task k.plan old.answer old.fronts k old.log.log own.log c.note_refused.ensures.task same old.ready;
+      ready = ready_kept g.B.Body.shows None old.body old.log.task own.task k.plan old.answer old.fronts k old.log.log own.log c.note_refused.ensures.task same old.ready;
       end = λ ended. says_kept g.B.Body.shows old.body old.log.task own.task ends (seen_by old.fronts k own.log) c.note_refused.ensures.task
           (says_more g.B.Body.shows old.body old.log.task ends (seen_by old.fronts k old.log.log) (seen_by old.fronts k own.log)
-          (more_noted old.fronts k k (c.args.ticket, Refuse old.log.task c.args.tried (number_of c.args.refusal)) old.log.log own.log c.note_refused.result c.note_refused.ensures.noted)
+          (more_noted old.fronts k k (c.args.ticket, Refuse old.log.task c.args.tried (number_of c.args.refusal)) old.log.log own.log c.note_refused.result refl c.note_refused.ensures.noted)
           (old.end (c.note_refused.ensures.end ended)));
     }
 
@@ -32,10 +33,10 @@ invariant_of-self-2-clause-ready g c =
     let k' = record k { plan = Ending } in
     let own = c.note_refused.new.self in
     let now = seen_by old.fronts k old.log.log in
-    ready_at g.B.Body.shows old.body own.task old.answer old.fronts k' c.give_up.new.self own.log c.give_up.ensures
-    (ready_kept g.B.Body.shows old.body old.log.task own.task Ending old.answer old.fronts k' own.log own.log c.note_refused.ensures.task refl
-    (ready_moves g.B.Body.shows old.body old.log.task k.plan Ending old.answer now (seen_by old.fronts k' own.log)
-    (more_noted old.fronts k k' (c.args.ticket, Refuse old.log.task c.args.tried (number_of c.args.refusal)) old.log.log own.log c.note_refused.result c.note_refused.ensures.noted)
+    ready_at g.B.Body.shows None old.body own.task old.answer old.fronts k' c.give_up.new.self own.log c.give_up.ensures
+    (ready_kept g.B.Body.shows None old.body old.log.task own.task Ending old.answer old.fronts k' own.log own.log c.note_refused.ensures.task refl
+    (ready_moves g.B.Body.shows None old.body old.log.task k.plan Ending old.answer now (seen_by old.fronts k' own.log)
+    (more_noted old.fronts k k' (c.args.ticket, Refuse old.log.task c.args.tried (number_of c.args.refusal)) old.log.log own.log c.note_refused.result refl c.note_refused.ensures.noted)
     (λ asked seen goes is. pending_at_end old.log.task seen (seen_by old.fronts k' own.log) asked old.answer)
     old.ready))
 
@@ -44,7 +45,8 @@ invariant_of-self-2-clause-end g c = λ ended.
     let old = c.args.self.now in
     let k = old.standing in
     let own = c.note_refused.new.self in
-    says_kept g.B.Body.shows old.body old.log.task own.task ends (seen_by old.fronts k own.log) c.note_refused.ensures.task
+    says_known g.B.Body.shows old.body own.task ends old.fronts k c.give_up.new.self own.log (ap (λ (k : Known). k.number) c.give_up.ensures)
+    (says_kept g.B.Body.shows old.body old.log.task own.task ends (seen_by old.fronts k own.log) c.note_refused.ensures.task
     (says_more g.B.Body.shows old.body old.log.task ends (seen_by old.fronts k old.log.log) (seen_by old.fronts k own.log)
-    (more_noted old.fronts k k (c.args.ticket, Refuse old.log.task c.args.tried (number_of c.args.refusal)) old.log.log own.log c.note_refused.result c.note_refused.ensures.noted)
-    (old.end (c.note_refused.ensures.end ended)))
+    (more_noted old.fronts k k (c.args.ticket, Refuse old.log.task c.args.tried (number_of c.args.refusal)) old.log.log own.log c.note_refused.result refl c.note_refused.ensures.noted)
+    (old.end (c.note_refused.ensures.end ended))))
