@@ -1,0 +1,5 @@
+pub mod About
+pub mod Begins
+pub mod Held
+pub mod Seen
+pub mod Spots

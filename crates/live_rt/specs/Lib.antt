@@ -1,2 +1,4 @@
 pub mod Rooms
 pub mod Gone
+pub mod Said
+pub mod inner

@@ -1,15 +1,22 @@
 //! The calls on phasers and finishes behind their locks, for the tasks that hold them. Those whom a call
 //! wakes are given to the queue before it answers.
-ghost use Rattle.std.specs.Prelude.{◌≡◌, ◌<◌, IfOk, length, slice_index_or};
+ghost use Rattle.std.specs.Prelude.{◌≡◌, ◌<◌, Some, IfOk};
+ghost use Rattle.phase_model.specs.declared.terms.Terms.{Terms};
+ghost use Rattle.task_standing.specs.StillToMake.{event_of};
+ghost use Rattle.tasks_in_flight.specs.Heard.{make, send, look};
+ghost use Rattle.tasks_in_flight.specs.inner.Ready.{IsDue};
+ghost use Rattle.live_rt.specs.inner.Places.{spot, in_slot};
+ghost use Rattle.live_rt.specs.inner.Says.{Asks};
 
+use crate::names::Names;
+use crate::places::Place;
 use crate::shared::{Shared, Worker, one_more};
-use crate::task::{Item, Place, Task};
-use job_script::Answer;
-use live_tables::SlotLogs;
+use crate::task::{Item, Task};
 use phase_model::{LongLook, Look, Terms};
 use phase_modes::{Mode, Pair, Refusal};
 use phaser_core::{PassAnswer, Phase, SignalAnswer};
 use std::sync::Wait;
+use task_standing::Due;
 use tasks_in_flight::Body;
 
 /// The same look by 64 bits; `HistoryFull` if they have no room for its sum, which takes 2^32 values of a
@@ -26,15 +33,19 @@ fn narrow(look: LongLook) -> Result<Look, Refusal>
     }
 }
 
-impl<B: Body, J: SlotLogs> Shared<B, J> {
-    /// The place of this phaser among those that the task holds, whose slot the table has. `NotRegistered` if
-    /// there is none.
-    fn held(&self, task: &Task<B, J>, phaser: u32) -> Result<usize, Refusal>
-        ensures place { IfOk result (λ i. i < length task.now.places.items) }
-        ensures slot { IfOk result (λ i. (d : _) → (slice_index_or task.now.places.items i d).at.slot < self.now.phasers.slots) }
+impl<B: Body, J: Names> Shared<B, J> {
+    /// A copy of the place of this phaser among those that the task holds, whose slot the table has.
+    /// `NotRegistered` if there is none.
+    fn held(&self, task: &mut Task<B, J>, phaser: u32) -> Result<Place<J>, Refusal>
+        ensures place { IfOk result (λ p. in_slot phaser task.old.places ≡ Some (spot p.at p.me p.seen.items)) }
+        ensures slot { IfOk result (λ p. (p.at.slot ≡ phaser) × (p.at.slot < self.now.phasers.slots)) }
+        ensures body { task.new.body ≡ task.old.body }
+        ensures answer { task.new.answer ≡ task.old.answer }
+        ensures standing { task.new.standing ≡ task.old.standing }
+        ensures places { task.new.places ≡ task.old.places }
     {
         match task.place(phaser) {
-            Some(i) if (task.places[i].at.slot as usize) < self.phasers.slots => Ok(i),
+            Some(place) if (place.at.slot as usize) < self.phasers.slots => Ok(place),
             _ => Err(Refusal::NotRegistered),
         }
     }
@@ -46,7 +57,9 @@ impl<B: Body, J: SlotLogs> Shared<B, J> {
         task: &mut Task<B, J>,
         mode: Mode,
         terms: &Terms,
-    ) -> Result<(), Refusal> {
+    ) -> Result<(), Refusal>
+        requires says { ∥ (J.Supposing.supposed → Asks B.Body.shows task.old.body (make mode terms.now) task.old.places task.old.standing) ∥₁ }
+    {
         let Some(bound) = terms.bound else {
             return Err(Refusal::NotNow);
         };
@@ -61,14 +74,15 @@ impl<B: Body, J: SlotLogs> Shared<B, J> {
         item: &mut Item<B, J>,
         pair: Pair,
     ) -> Result<(), Refusal> {
-        let i = self.held(&item.task, pair.phaser)?;
-        let place = &mut item.task.places[i];
-        let at = place.at;
+        let mut place = self.held(&mut item.task, pair.phaser)?;
+        let (at, me) = (place.at, place.me);
         let child = self
             .phasers
-            .register(rt, at, &mut place.seen, place.me, pair.mode)?;
+            .register(rt, at, &mut place.seen, me, pair.mode)?;
         let seen = place.seen.again();
-        item.note_registration(pair, Place::new(at, child, seen))
+        item.note_registration(pair, Place::new(at, child, seen))?;
+        item.task.registered(place);
+        Ok(())
     }
 
     /// The body hears that the value was sent.
@@ -79,12 +93,14 @@ impl<B: Body, J: SlotLogs> Shared<B, J> {
         phaser: u32,
         accumulator: u8,
         value: i32,
-    ) -> Result<(), Refusal> {
-        let i = self.held(task, phaser)?;
-        let place = &mut task.places[i];
-        self.phasers.send(rt, place.at, &mut place.seen, place.me, accumulator, value)?;
-        task.standing.note_act();
-        task.answer = Some(Answer::Done);
+    ) -> Result<(), Refusal>
+        requires says { ∥ (J.Supposing.supposed → Asks B.Body.shows task.old.body (send phaser accumulator value) task.old.places task.old.standing) ∥₁ }
+    {
+        let mut place = self.held(task, phaser)?;
+        let (at, me) = (place.at, place.me);
+        self.phasers
+            .send(rt, at, &mut place.seen, me, accumulator, value)?;
+        task.sent(place);
         Ok(())
     }
 
@@ -95,15 +111,14 @@ impl<B: Body, J: SlotLogs> Shared<B, J> {
         task: &mut Task<B, J>,
         phaser: u32,
         accumulator: u8,
-    ) -> Result<(), Refusal> {
-        let i = self.held(task, phaser)?;
-        let place = &mut task.places[i];
-        let seen = self
-            .phasers
-            .look(rt, place.at, &mut place.seen, place.me, accumulator)?;
+    ) -> Result<(), Refusal>
+        requires says { ∥ (J.Supposing.supposed → Asks B.Body.shows task.old.body (look phaser accumulator) task.old.places task.old.standing) ∥₁ }
+    {
+        let mut place = self.held(task, phaser)?;
+        let (at, me) = (place.at, place.me);
+        let seen = self.phasers.look(rt, at, &mut place.seen, me, accumulator)?;
         let seen = narrow(seen)?;
-        task.standing.note_act();
-        task.answer = Some(Answer::Saw(seen));
+        task.looked(place, seen);
         Ok(())
     }
 
@@ -115,25 +130,24 @@ impl<B: Body, J: SlotLogs> Shared<B, J> {
         item: Item<B, J>,
         phaser: u32,
         proposed: Option<u32>,
-    ) -> Result<SignalAnswer<Item<B, J>>, Refusal> {
+    ) -> Result<SignalAnswer<Item<B, J>>, Refusal>
+        requires { IsDue (event_of item.task.value.standing.number (Due.Signal phaser proposed)) item.task.value.standing }
+    {
         let mut item = item;
-        let i = match self.held(&item.task, phaser) {
-            Ok(i) => i,
+        let mut place = match self.held(&mut item.task, phaser) {
+            Ok(place) => place,
             Err(refusal) => return Ok(SignalAnswer::Refused(item, refusal)),
         };
-        let place = &mut item.task.places[i];
         let (at, me) = (place.at, place.me);
-        let mut seen = place.seen.again();
         let Worker { hand, out, .. } = worker;
         let answer = self
             .phasers
-            .signal(rt, at, &mut seen, out, me, proposed, item);
+            .signal(rt, at, &mut place.seen, out, me, proposed, item);
         hand.flush(rt, &self.queue, out)?;
         match answer {
             SignalAnswer::Signalled(signalled) => {
                 let mut item = signalled;
-                item.task.places[i].seen = seen;
-                item.task.standing.note_signal(phaser);
+                item.task.signalled(place, proposed);
                 Ok(SignalAnswer::Signalled(item))
             }
             other => Ok(other),
@@ -147,23 +161,22 @@ impl<B: Body, J: SlotLogs> Shared<B, J> {
         worker: &mut Worker<B, J>,
         item: Item<B, J>,
         phaser: u32,
-    ) -> Result<PassAnswer<Item<B, J>, Phase>, Refusal> {
+    ) -> Result<PassAnswer<Item<B, J>, Phase>, Refusal>
+        requires { IsDue (event_of item.task.value.standing.number (Due.Pass phaser)) item.task.value.standing }
+    {
         let mut item = item;
-        let i = match self.held(&item.task, phaser) {
-            Ok(i) => i,
+        let mut place = match self.held(&mut item.task, phaser) {
+            Ok(place) => place,
             Err(refusal) => return Ok(PassAnswer::Refused(item, refusal)),
         };
-        let place = &mut item.task.places[i];
         let (at, me) = (place.at, place.me);
-        let mut seen = place.seen.again();
         let Worker { hand, out, .. } = worker;
-        let answer = self.phasers.pass(rt, at, &mut seen, out, me, item);
+        let answer = self.phasers.pass(rt, at, &mut place.seen, out, me, item);
         hand.flush(rt, &self.queue, out)?;
         match answer {
             PassAnswer::Passed(passed, phase) => {
                 let mut item = passed;
-                item.task.places[i].seen = seen;
-                item.task.standing.note_pass(phaser);
+                item.task.passed(place);
                 Ok(PassAnswer::Passed(item, phase))
             }
             other => Ok(other),
@@ -177,32 +190,35 @@ impl<B: Body, J: SlotLogs> Shared<B, J> {
         worker: &mut Worker<B, J>,
         task: &mut Task<B, J>,
         phaser: u32,
-    ) -> Result<(), Refusal> {
-        let i = self.held(task, phaser)?;
-        let place = &mut task.places[i];
+    ) -> Result<(), Refusal>
+        ensures places { task.new.places ≡ task.old.places }
+    {
+        let mut place = self.held(task, phaser)?;
+        let (at, me) = (place.at, place.me);
         let Worker { hand, out, .. } = worker;
-        self.phasers
-            .single_done(rt, place.at, &mut place.seen, out, place.me)?;
+        self.phasers.single_done(rt, at, &mut place.seen, out, me)?;
         hand.flush(rt, &self.queue, out)
     }
 
-    /// The task leaves the phaser, which is gone with its last task.
+    /// The task leaves the phaser, which is gone with its last task. What it knows of itself stays.
     pub(crate) fn leave_on<R: Wait>(
         &self,
         rt: &R,
         worker: &mut Worker<B, J>,
         task: &mut Task<B, J>,
         phaser: u32,
-    ) -> Result<(), Refusal> {
-        let i = self.held(task, phaser)?;
-        let place = &mut task.places[i];
+    ) -> Result<(), Refusal>
+        ensures body { task.new.body ≡ task.old.body }
+        ensures answer { task.new.answer ≡ task.old.answer }
+        ensures standing { task.new.standing ≡ task.old.standing }
+        ensures places { task.new.places ≡ task.old.places }
+    {
+        let mut place = self.held(task, phaser)?;
+        let (at, me) = (place.at, place.me);
         let Worker { hand, out, .. } = worker;
-        let _gone = self
-            .phasers
-            .leave(rt, place.at, &mut place.seen, out, place.me)?;
+        let _gone = self.phasers.leave(rt, at, &mut place.seen, out, me)?;
         hand.flush(rt, &self.queue, out)?;
         one_more(&mut worker.sums.totals.drops);
-        task.left(phaser);
         Ok(())
     }
 

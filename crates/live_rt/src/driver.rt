@@ -1,11 +1,15 @@
 //! How a worker drives a task, event by event.
+ghost use Rattle.task_standing.specs.StillToMake.{event_of};
+ghost use Rattle.tasks_in_flight.specs.inner.Ready.{IsDue};
+
 use crate::ended::Ends;
-use crate::shared::{RootLeft, Shared, Worker, one_more};
-use crate::task::{Item, Task};
+use crate::names::Names;
+use crate::shared::{Shared, Worker, one_more};
+use crate::task::{Item, RootLeft, Task};
 use finish_core::ShutAnswer;
-use live_tables::SlotLogs;
 use phase_modes::{Pair, Refusal};
 use phaser_core::{PassAnswer, SignalAnswer};
+use std::marker::PhantomData;
 use std::sync::Wait;
 use task_standing::Due;
 use tasks_in_flight::{Body, Crew, Gate, told};
@@ -20,20 +24,20 @@ type Next<B, J> = Option<Item<B, J>>;
 
 /// What all workers share, who hears of the tasks' ends, and the gate round each step.
 #[derive(Drop)]
-pub(crate) struct Team<'a, B: Body, J: SlotLogs, E: Ends<B>, G: Gate> {
+pub(crate) struct Team<'a, B: Body, J: Names, E: Ends<B>, G: Gate> {
     pub(crate) shared: &'a Shared<B, J>,
     pub(crate) ends: &'a E,
     pub(crate) gate: &'a G,
 }
 
 /// The task gives up by this refusal.
-fn gives_up<B: Body, J: SlotLogs>(item: Item<B, J>, refusal: Refusal) -> Next<B, J> {
+fn gives_up<B: Body, J: Names>(item: Item<B, J>, refusal: Refusal) -> Next<B, J> {
     let mut item = item;
     item.task.give_up(refusal);
     Some(item)
 }
 
-impl<'a, B: Body, J: SlotLogs, E: Ends<B>, G: Gate> Team<'a, B, J, E, G> {
+impl<'a, B: Body, J: Names, E: Ends<B>, G: Gate> Team<'a, B, J, E, G> {
     /// A task that is parked signals again once it is woken: its signal is still due.
     fn signal<R: Wait>(
         &self,
@@ -42,7 +46,9 @@ impl<'a, B: Body, J: SlotLogs, E: Ends<B>, G: Gate> Team<'a, B, J, E, G> {
         item: Item<B, J>,
         phaser: u32,
         number: Option<u32>,
-    ) -> Result<Next<B, J>, Refusal> {
+    ) -> Result<Next<B, J>, Refusal>
+        requires { IsDue (event_of item.task.value.standing.number (Due.Signal phaser number)) item.task.value.standing }
+    {
         match self.shared.signal_on(rt, worker, item, phaser, number)? {
             SignalAnswer::Signalled(signalled) => {
                 one_more(&mut worker.sums.totals.signals);
@@ -63,7 +69,7 @@ impl<'a, B: Body, J: SlotLogs, E: Ends<B>, G: Gate> Team<'a, B, J, E, G> {
         number: u32,
     ) -> Result<Next<B, J>, Refusal> {
         let mut item = item;
-        item.task.body.single(number);
+        item.task.run_single(number);
         self.shared.report_on(rt, worker, &mut item.task, phaser)?;
         Ok(Some(item))
     }
@@ -74,7 +80,9 @@ impl<'a, B: Body, J: SlotLogs, E: Ends<B>, G: Gate> Team<'a, B, J, E, G> {
         worker: &mut Worker<B, J>,
         item: Item<B, J>,
         phaser: u32,
-    ) -> Result<Next<B, J>, Refusal> {
+    ) -> Result<Next<B, J>, Refusal>
+        requires { IsDue (event_of item.task.value.standing.number (Due.Pass phaser)) item.task.value.standing }
+    {
         match self.shared.pass_on(rt, worker, item, phaser)? {
             PassAnswer::Passed(passed, _) => {
                 one_more(&mut worker.sums.totals.passes);
@@ -110,8 +118,11 @@ impl<'a, B: Body, J: SlotLogs, E: Ends<B>, G: Gate> Team<'a, B, J, E, G> {
         rt: &R,
         worker: &mut Worker<B, J>,
         item: Item<B, J>,
+        child: u32,
         finish: u32,
-    ) -> Result<Next<B, J>, Refusal> {
+    ) -> Result<Next<B, J>, Refusal>
+        requires { IsDue (event_of item.task.value.standing.number (Due.Spawn child finish)) item.task.value.standing }
+    {
         let Item { task, unborn } = item;
         let mut task = task;
         let Some(born) = unborn else {
@@ -119,7 +130,7 @@ impl<'a, B: Body, J: SlotLogs, E: Ends<B>, G: Gate> Team<'a, B, J, E, G> {
         };
         self.shared.finishes.spawned(rt, finish)?;
         one_more(&mut worker.sums.spawned);
-        task.standing.note_birth();
+        task.bore();
         worker.hand.give(rt, &self.shared.queue, Item::of(born))?;
         Ok(Some(Item::of(task)))
     }
@@ -131,9 +142,12 @@ impl<'a, B: Body, J: SlotLogs, E: Ends<B>, G: Gate> Team<'a, B, J, E, G> {
         worker: &mut Worker<B, J>,
         item: Item<B, J>,
         phaser: u32,
-    ) -> Result<Next<B, J>, Refusal> {
+    ) -> Result<Next<B, J>, Refusal>
+        requires { IsDue (event_of item.task.value.standing.number (Due.Leave phaser)) item.task.value.standing }
+    {
         let mut item = item;
         self.shared.leave_on(rt, worker, &mut item.task, phaser)?;
+        item.task.left(phaser);
         Ok(Some(item))
     }
 
@@ -145,16 +159,13 @@ impl<'a, B: Body, J: SlotLogs, E: Ends<B>, G: Gate> Team<'a, B, J, E, G> {
         item: Item<B, J>,
         phaser: u32,
     ) -> Result<Next<B, J>, Refusal> {
-        let Item { task, unborn } = item;
-        let Some(child) = unborn else {
+        let mut item = item;
+        let Some(child) = &mut item.unborn else {
             return Err(Refusal::NotNow);
         };
-        let mut child = child;
-        self.shared.leave_on(rt, worker, &mut child, phaser)?;
-        Ok(Some(Item {
-            task,
-            unborn: Some(child),
-        }))
+        self.shared.leave_on(rt, worker, child, phaser)?;
+        item.note_child_gone(phaser);
+        Ok(Some(item))
     }
 
     fn shut<R: Wait>(&self, rt: &R, item: Item<B, J>, finish: u32) -> Result<Next<B, J>, Refusal> {
@@ -165,7 +176,7 @@ impl<'a, B: Body, J: SlotLogs, E: Ends<B>, G: Gate> Team<'a, B, J, E, G> {
         match self.shared.finishes.shut(rt, finish, item) {
             ShutAnswer::Done(shut) => {
                 let mut item = shut;
-                item.task.standing.note_shut();
+                item.task.shut();
                 Ok(Some(item))
             }
             ShutAnswer::Parked => Ok(None),
@@ -199,9 +210,17 @@ impl<'a, B: Body, J: SlotLogs, E: Ends<B>, G: Gate> Team<'a, B, J, E, G> {
         match self.shared.finishes.shut(rt, 0, item) {
             ShutAnswer::Done(item) => {
                 let Item { task, unborn: _ } = item;
+                // No clause says that a lock gives back who was parked there.
+                if task.standing.number() > 0 {
+                    return Err(Refusal::NotNow);
+                }
                 let Task { body, refused, .. } = Box::into_inner(task);
                 worker.sums.ended(refused);
-                worker.root = Some(RootLeft { body, refused });
+                worker.root = Some(RootLeft {
+                    body,
+                    refused,
+                    of: PhantomData,
+                });
                 self.shared.queue.close(rt);
                 Ok(None)
             }
@@ -226,7 +245,7 @@ impl<'a, B: Body, J: SlotLogs, E: Ends<B>, G: Gate> Team<'a, B, J, E, G> {
             Due::Signal(phaser, number) => self.signal(rt, worker, item, phaser, number),
             Due::Pass(phaser) => self.pass(rt, worker, item, phaser),
             Due::Register(_, pair) => Ok(self.register(rt, worker, item, pair)),
-            Due::Spawn(_, finish) => self.bear(rt, worker, item, finish),
+            Due::Spawn(child, finish) => self.bear(rt, worker, item, child, finish),
             Due::DropChild(phaser, _) => self.drop_child(rt, worker, item, phaser),
             Due::Leave(phaser) => self.leave(rt, worker, item, phaser),
             Due::Shut(finish) => self.shut(rt, item, finish),
@@ -254,7 +273,7 @@ impl<'a, B: Body, J: SlotLogs, E: Ends<B>, G: Gate> Team<'a, B, J, E, G> {
     }
 }
 
-impl<'a, B: Body, J: SlotLogs, E: Ends<B>, G: Gate> Crew<Worker<B, J>> for Team<'a, B, J, E, G> {
+impl<'a, B: Body, J: Names, E: Ends<B>, G: Gate> Crew<Worker<B, J>> for Team<'a, B, J, E, G> {
     /// Takes tasks and drives them, until the queue is closed. If something is amiss, the queue
     /// is closed first, so that nobody waits at it for ever.
     fn work<R: Wait>(&self, rt: &R, worker: Worker<B, J>) -> Result<Worker<B, J>, Refusal> {

@@ -3,9 +3,11 @@ ghost use Rattle.std.specs.Prelude.{◌≡◌, ◌<◌, ◌≤◌, ℕ, [], true
 ghost use Rattle.tasks_in_flight.specs.Refused.{IsRunRefused};
 ghost use Rattle.live_rt.specs.Rooms.{has_room};
 ghost use Rattle.live_rt.specs.Gone.{AreAllGone};
+ghost use Rattle.live_rt.specs.Said.{HasSaid, StartsWell};
 
 use crate::driver::Team;
 use crate::ended::{Counts, Ended, Ends};
+use crate::names::Names;
 use crate::pulses::Pulses;
 use crate::room::Room;
 use crate::shared::{Shared, no_limits};
@@ -20,7 +22,7 @@ use std::sync::Wait;
 use std::sync::atomic::AtomicU64;
 use std::thread::Threads;
 use task_queue::RunQueue;
-use tasks_in_flight::{Body, Gate, put_root};
+use tasks_in_flight::{Body, Gate, Supposing, put_root};
 use told_history::Whole;
 
 /// How many tasks fit into each worker's deque before it grows.
@@ -36,7 +38,8 @@ struct Setup<'a, E, G> {
 }
 
 /// The root, before its first act.
-fn root_of<B: Body, J: SlotLogs>(alloc: Global, body: B) -> Result<Item<B, J>, Refusal>
+fn root_of<B: Body, J: Names>(alloc: Global, body: B) -> Result<Item<B, J>, Refusal>
+    requires root { ∥ (J.Supposing.supposed → StartsWell B.Body.shows body) ∥₁ }
     ensures memory { IfErr result (λ e. e ≡ Refusal.Memory) }
 {
     let number = TaskNumber::of(0);
@@ -46,11 +49,12 @@ fn root_of<B: Body, J: SlotLogs>(alloc: Global, body: B) -> Result<Item<B, J>, R
 
 /// What is told of a run that is over. `NotExplained(0)` if the root has left nothing, or somebody is
 /// still there.
-fn ended_of<B: Body, J: SlotLogs, R: Wait>(
+fn ended_of<B: Body, J: Names, R: Wait>(
     rt: &R,
     shared: &Shared<B, J>,
-    left: Left<B>,
+    left: Left<B, J>,
 ) -> Result<Ended<B>, Refusal>
+    ensures says { IfOk result (λ r. ∥ (J.Supposing.supposed → HasSaid B.Body.shows r.root 0) ∥₁) }
     ensures nobody { IfOk result (λ r. AreAllGone r.counts) }
     ensures refused { IfErr result (λ e. IsRunRefused e) }
 {
@@ -83,7 +87,7 @@ fn ended_of<B: Body, J: SlotLogs, R: Wait>(
 /// The workers work, over tables whose logs have these names.
 fn run_in<
     B: Body + Send,
-    J: SlotLogs + Send + Sync,
+    J: SlotLogs + Supposing + Send + Sync,
     E: Ends<B> + Sync,
     G: Gate + Sync,
     R: Threads + Wait + Sync,
@@ -95,10 +99,12 @@ fn run_in<
     setup: Setup<'_, E, G>,
 ) -> Result<Ended<B>, Refusal>
     requires few { vec_len logs ≤ 65536 }
-    requires names { (i : ℕ) → IfSome (slice_get logs.items i) (λ w. w.name ≡ J.slots i) }
+    requires names { (i : ℕ) → IfSome (slice_get logs.items i) (λ w. w.name ≡ J.SlotLogs.slots i) }
     requires empty { All (λ w. w.items ≡ []) logs.items }
     requires finishes { 0 < setup.finishes }
     requires workers { (0 < setup.workers) × (setup.workers ≤ 16) }
+    requires root { ∥ (J.Supposing.supposed → StartsWell B.Body.shows root) ∥₁ }
+    ensures says { IfOk result (λ r. ∥ (J.Supposing.supposed → HasSaid B.Body.shows r.root 0) ∥₁) }
     ensures nobody { IfOk result (λ r. AreAllGone r.counts) }
     ensures refused { IfErr result (λ e. IsRunRefused e) }
 {
@@ -129,7 +135,9 @@ fn run_in<
 /// ends, and `gate` is called round each step of a body.
 ///
 /// Tasks, phasers and finishes come and go, and nothing is stored of them: there is no limit of tasks,
-/// phases or events, and memory is that of what is alive at once. A phaser has to have a bound
+/// phases or events, and memory is that of what is alive at once. If the root's body says nothing false
+/// before its first act, then it says nothing false in the end (`says`), of beginnings of legal
+/// histories. A phaser has to have a bound
 /// (`NotNow`), and a value that is looked at has to fit 64 bits (`HistoryFull`). A task that is refused
 /// something ends by itself, and the others go on.
 ///
@@ -147,6 +155,7 @@ pub fn run_live<B: Body + Send, E: Ends<B> + Sync, G: Gate + Sync, R: Threads + 
 ) -> Result<Ended<B>, Refusal>
     requires room { has_room room ≡ true }
     requires workers { (0 < workers) × (workers ≤ 16) }
+    ensures says { IfOk result (λ r. ∥ (StartsWell B.shows root → HasSaid B.shows r.root 0) ∥₁) }
     ensures nobody { IfOk result (λ r. AreAllGone r.counts) }
     ensures refused { IfErr result (λ e. IsRunRefused e) }
 {

@@ -1,10 +1,11 @@
 //! What the workers share, and what each has for itself.
 ghost use Rattle.std.specs.Prelude.{◌≡◌, []};
 
+use crate::names::Names;
 use crate::pulses::Pulses;
-use crate::task::Item;
+use crate::task::{Item, RootLeft};
 use crossbeam_utils::CachePadded;
-use live_tables::{LiveFinishes, LivePhasers, SlotLogs};
+use live_tables::{LiveFinishes, LivePhasers};
 use phase_modes::{Limits, Refusal};
 use phaser_core::Out;
 use std::alloc::Global;
@@ -19,7 +20,7 @@ const MOST_NUMBERS: u64 = u32::MAX as u64 - 1;
 
 /// What all workers share.
 #[derive(Drop)]
-pub(crate) struct Shared<B: Body, J: SlotLogs> {
+pub(crate) struct Shared<B: Body, J: Names> {
     pub(crate) alloc: Global,
     pub(crate) limits: Limits,
     pub(crate) phasers: LivePhasers<Item<B, J>, J>,
@@ -119,26 +120,19 @@ pub(crate) fn one_more(count: &mut u64) {
     *count = count.saturating_add(1);
 }
 
-/// What the root leaves: its body, and what it was refused if it ended by that.
-#[derive(Drop)]
-pub(crate) struct RootLeft<B> {
-    pub(crate) body: B,
-    pub(crate) refused: Option<Refusal>,
-}
-
 /// What a worker has for itself.
 #[derive(Drop)]
-pub(crate) struct Worker<B: Body, J: SlotLogs> {
+pub(crate) struct Worker<B: Body, J: Names> {
     pub(crate) number: u32,
     pub(crate) hand: Hand<Item<B, J>>,
     pub(crate) out: Out<Item<B, J>>,
     pub(crate) sums: Sums,
     /// What the root leaves, once it has ended.
-    pub(crate) root: Option<RootLeft<B>>,
+    pub(crate) root: Option<RootLeft<B, J>>,
     ghost empty: { out ≡ [] },
 }
 
-impl<B: Body, J: SlotLogs> Shared<B, J> {
+impl<B: Body, J: Names> Shared<B, J> {
     /// A number for a child: from 1 on, and again from 1 after the last.
     pub(crate) fn child_number(&self) -> u32 {
         let drawn = self.children.fetch_add(1, Ordering::Relaxed);

@@ -4,9 +4,9 @@ ghost use Rattle.tasks_in_flight.specs.Refused.{IsRunRefused};
 
 use crate::driver::Team;
 use crate::ended::Ends;
-use crate::shared::{RootLeft, Sums, Worker};
-use crate::task::Item;
-use live_tables::SlotLogs;
+use crate::names::Names;
+use crate::shared::{Sums, Worker};
+use crate::task::{Item, RootLeft};
 use phase_modes::Refusal;
 use phaser_core::Out;
 use std::alloc::Global;
@@ -18,13 +18,13 @@ use tasks_in_flight::{Body, Gate, Hand, in_threads};
 
 /// What the workers hand back: what they counted, and what the root leaves.
 #[derive(Drop)]
-pub(crate) struct Left<B> {
+pub(crate) struct Left<B: Body, J: Names> {
     pub(crate) sums: Sums,
-    pub(crate) root: Option<RootLeft<B>>,
+    pub(crate) root: Option<RootLeft<B, J>>,
 }
 
 /// A worker at each seat.
-pub(crate) fn staff_of<B: Body, J: SlotLogs>(
+pub(crate) fn staff_of<B: Body, J: Names>(
     alloc: Global,
     seats: Vec<Seat<Item<B, J>>>,
 ) -> Result<Vec<Worker<B, J>>, Refusal>
@@ -49,7 +49,7 @@ pub(crate) fn staff_of<B: Body, J: SlotLogs>(
 }
 
 /// Takes in what one worker hands back. Tasks that it still has are dropped.
-fn take_back<B: Body, J: SlotLogs>(left: &mut Left<B>, worker: Worker<B, J>) {
+fn take_back<B: Body, J: Names>(left: &mut Left<B, J>, worker: Worker<B, J>) {
     let Worker { sums, root, .. } = worker;
     left.sums = left.sums.with(sums);
     if let Some(root) = root {
@@ -58,9 +58,9 @@ fn take_back<B: Body, J: SlotLogs>(left: &mut Left<B>, worker: Worker<B, J>) {
 }
 
 /// What all workers hand back, or the first that something was amiss for.
-fn left_of<B: Body, J: SlotLogs>(
+fn left_of<B: Body, J: Names>(
     done: Vec<Result<Worker<B, J>, Refusal>>,
-) -> Result<Left<B>, Refusal>
+) -> Result<Left<B, J>, Refusal>
     requires { All (λ r. IfErr r (λ e. IsRunRefused e)) done.items }
     ensures refused { IfErr result (λ e. IsRunRefused e) }
 {
@@ -77,11 +77,11 @@ fn left_of<B: Body, J: SlotLogs>(
 /// Runs the workers until all of them are done.
 pub(crate) fn work_all<
     B: Body + Send,
-    J: SlotLogs + Send + Sync,
+    J: Names + Send + Sync,
     E: Ends<B> + Sync,
     G: Gate + Sync,
     R: Threads + Wait + Sync,
->(rt: &R, team: &Team<'_, B, J, E, G>, staff: Vec<Worker<B, J>>) -> Result<Left<B>, Refusal>
+>(rt: &R, team: &Team<'_, B, J, E, G>, staff: Vec<Worker<B, J>>) -> Result<Left<B, J>, Refusal>
     ensures refused { IfErr result (λ e. IsRunRefused e) }
 {
     let done = in_threads(rt, team, staff)?;

@@ -1,66 +1,59 @@
-//! A task in flight: its body, what it knows of itself, and where the phasers are that it holds.
-ghost use Rattle.std.specs.Prelude.{◌≡◌, ◌<◌, IfOk, IfErr, IfSome, OnOk, Some, None, length};
+//! A task in flight: its body, what it knows of itself, and what it has seen of the phasers that it holds.
+ghost use Rattle.std.specs.Prelude.{◌≡◌, [], None, Some, IfOk, IfErr, IfSome, option_map, slice_get};
+ghost use Rattle.job_script.specs.declared.act.Answer.TheVariants.{Started};
+ghost use Rattle.task_standing.specs.Standing.{fresh};
+ghost use Rattle.task_standing.specs.StillToMake.{event_of};
+ghost use Rattle.tasks_in_flight.specs.inner.Due.{still_of};
+ghost use Rattle.tasks_in_flight.specs.inner.Ready.{IsDue};
+ghost use Rattle.live_rt.specs.Said.{HasSaid};
+ghost use Rattle.told_history.specs.Stories.{GoesOn};
+ghost use Rattle.live_rt.specs.inner.Places.{spot, story_of, in_slot};
+ghost use Rattle.live_rt.specs.inner.Says.{IsAbout, IsUnborn, HasStepped};
 
-use job_script::Answer;
-use live_tables::{At, SlotFront, SlotLogs};
-use phase_modes::{FinishNumber, Mode, Pair, Refusal, TaskNumber};
-use phaser_core::LongTask;
+use crate::names::Names;
+use crate::places::{Place, Places};
+use job_script::{Act, Answer};
+use phase_modes::{FinishNumber, Pair, Refusal, TaskNumber};
 use std::alloc::Global;
-use std::marker::PhantomData;
 use task_standing::{Due, Standing};
 use tasks_in_flight::Body;
 
-/// How many phasers a task holds at once, at most.
-const MOST_HELD: usize = 16;
-
-/// Where a phaser is that a task holds, the task's number on it, and what the task has seen of its slot.
-#[derive(Drop)]
-pub(crate) struct Place<J: SlotLogs> {
-    pub(crate) at: At,
-    pub(crate) me: LongTask,
-    pub(crate) seen: SlotFront,
-    pub(crate) of: PhantomData<J>,
-    ghost named: { seen.log ≡ J.slots at.slot },
-}
-
 /// A task in flight.
 #[derive(Drop)]
-pub(crate) struct Task<B: Body, J: SlotLogs> {
+pub(crate) struct Task<B: Body, J: Names> {
     pub(crate) body: B,
     /// What the body hears before its next act; nothing until something came of its last one.
     pub(crate) answer: Option<Answer>,
     /// Which phasers it holds, by their slots, which finishes it has open, and what it is about.
     pub(crate) standing: Standing,
     /// A place for each phaser that it holds.
-    pub(crate) places: Vec<Place<J>>,
+    pub(crate) places: Places<J>,
     /// What it was refused, if it ends by that.
     pub(crate) refused: Option<Refusal>,
+    ghost about: { ∥ (J.Supposing.supposed → IsAbout B.Body.shows body answer places standing) ∥₁ },
 }
 
 /// What moves between the queue, the locks and the workers: a task, with the child that it is spawning,
 /// which nobody else knows yet.
 #[derive(Drop)]
-pub(crate) struct Item<B: Body, J: SlotLogs> {
+pub(crate) struct Item<B: Body, J: Names> {
     pub(crate) task: Box<Task<B, J>>,
     pub(crate) unborn: Option<Box<Task<B, J>>>,
+    ghost newborn: { ∥ IfSome unborn (λ c. c.value.answer ≡ Some Started) ∥₁ },
+    ghost says: { ∥ (J.Supposing.supposed → IfSome unborn (λ c.
+        IsUnborn B.Body.shows c.value.body c.value.standing.number c.value.places task.value.places)) ∥₁ },
 }
 
-impl<J: SlotLogs> Place<J> {
-    /// A phaser that the task of this number there has seen so.
-    pub(crate) fn new(at: At, me: LongTask, seen: SlotFront) -> Place<J>
-        requires { seen.log ≡ J.slots at.slot }
-        ensures { (result.at ≡ at) × (result.me ≡ me) }
-    {
-        Place {
-            at,
-            me,
-            seen,
-            of: PhantomData,
-        }
-    }
+/// What the root leaves: its body, and what it was refused if it ended by that.
+#[derive(Drop)]
+pub(crate) struct RootLeft<B: Body, J: Names> {
+    pub(crate) body: B,
+    pub(crate) refused: Option<Refusal>,
+    pub(crate) of: std::marker::PhantomData<J>,
+    ghost says: { ∥ (J.Supposing.supposed → HasSaid B.Body.shows body 0) ∥₁ },
 }
 
-impl<B: Body, J: SlotLogs> Task<B, J> {
+impl<B: Body, J: Names> Task<B, J> {
     /// A task before its first act. All memory that it needs to be run is taken here, but for the
     /// finishes that it opens; `Memory` if that is refused.
     pub(crate) fn new(
@@ -69,13 +62,18 @@ impl<B: Body, J: SlotLogs> Task<B, J> {
         body: B,
         home: FinishNumber,
     ) -> Result<Box<Task<B, J>>, Refusal>
+        requires says { ∥ (J.Supposing.supposed → IsUnborn B.Body.shows body number [] []) ∥₁ }
+        ensures body { IfOk result (λ t. t.value.body ≡ body) }
+        ensures answer { IfOk result (λ t. t.value.answer ≡ Some Answer.Started) }
+        ensures standing { IfOk result (λ t. t.value.standing ≡ fresh number home) }
+        ensures places { IfOk result (λ t. t.value.places ≡ []) }
         ensures memory { IfErr result (λ e. e ≡ Refusal.Memory) }
     {
         let task = Task {
             body,
             answer: Some(Answer::Started),
             standing: Standing::new(alloc, number, home)?,
-            places: Vec::with_capacity(alloc, MOST_HELD)?,
+            places: Places::new(alloc)?,
             refused: None,
         };
         match Box::new(alloc, task) {
@@ -84,61 +82,57 @@ impl<B: Body, J: SlotLogs> Task<B, J> {
         }
     }
 
-    /// The place of this phaser among those that it holds.
-    pub(crate) fn place(&self, phaser: u32) -> Option<usize>
-        ensures { IfSome result (λ i. i < length self.now.places.items) }
+    /// A copy of the place of this phaser, if the task holds it.
+    pub(crate) fn place(&mut self, phaser: u32) -> Option<Place<J>>
+        ensures found { option_map (λ p. spot p.at p.me p.seen.items) result ≡ in_slot phaser self.old.places }
+        ensures body { self.new.body ≡ self.old.body }
+        ensures answer { self.new.answer ≡ self.old.answer }
+        ensures standing { self.new.standing ≡ self.old.standing }
+        ensures places { self.new.places ≡ self.old.places }
     {
-        for i in 0..self.places.len() {
-            if self.places[i].at.slot == phaser {
-                return Some(i);
-            }
-        }
-        None
+        self.places.get(phaser)
     }
 
-    /// It made a phaser, of which its body hears. `Memory` or `PhasersFull` if it can hold no more.
-    pub(crate) fn made(&mut self, place: Place<J>, mode: Mode) -> Result<(), Refusal> {
-        let phaser = place.at.slot;
-        self.places.push(place)?;
-        self.standing.note_making(phaser, mode)?;
-        self.answer = Some(Answer::Made(phaser));
-        Ok(())
+    /// The body's next act, after what came of its last one; none if nothing did yet.
+    pub(crate) fn next_act(&mut self) -> Option<Result<Act<B>, Refusal>>
+        requires due { IsDue None self.old.standing }
+        ensures standing { self.new.standing ≡ self.old.standing }
+        ensures places { self.new.places ≡ self.old.places }
+        ensures stepped { IfSome result (λ act. ∥ (J.Supposing.supposed
+            → HasStepped B.Body.shows self.new.body act self.new.places self.new.standing) ∥₁) }
+    {
+        let Some(answer) = self.answer else {
+            return None;
+        };
+        self.answer = None;
+        Some(self.body.step(answer))
     }
 
-    /// It opened this finish, of which its body hears. `Memory` if there is none to know that.
-    pub(crate) fn opened(&mut self, finish: u32) -> Result<(), Refusal> {
-        self.standing.note_opening(finish)?;
-        self.answer = Some(Answer::Done);
-        Ok(())
-    }
-
-    /// It ends by this refusal.
-    pub(crate) fn give_up(&mut self, refusal: Refusal) {
-        self.refused = Some(refusal);
-        self.standing.give_up();
-    }
-
-    /// It is handed this phaser, before it is born. `PhasersFull` or `Memory` if it can hold no more.
-    fn join(&mut self, held: task_standing::Held, place: Place<J>) -> Result<(), Refusal> {
-        self.places.push(place)?;
-        self.standing.join(held)
-    }
-
-    /// It has left this phaser.
-    pub(crate) fn left(&mut self, phaser: u32) {
-        self.places.retain(|place| place.at.slot != phaser);
-        self.standing.leave(phaser);
+    /// Runs the statement that the task has claimed.
+    pub(crate) fn run_single(&mut self, number: u32)
+        ensures ran { B.Body.ran self.old.body number self.new.body }
+        ensures answer { self.new.answer ≡ self.old.answer }
+        ensures standing { self.new.standing ≡ self.old.standing }
+        ensures places { self.new.places ≡ self.old.places }
+    {
+        self.body.single(number);
     }
 }
 
-impl<B: Body, J: SlotLogs> Item<B, J> {
+impl<B: Body, J: Names> Item<B, J> {
     /// A task that is spawning nobody.
-    pub(crate) fn of(task: Box<Task<B, J>>) -> Item<B, J> {
+    pub(crate) fn of(task: Box<Task<B, J>>) -> Item<B, J>
+        ensures task { result.task ≡ task }
+        ensures unborn { result.unborn ≡ None }
+    {
         Item { task, unborn: None }
     }
 
     /// The event that comes next.
-    pub(crate) fn due(&self) -> Due {
+    pub(crate) fn due(&self) -> Due
+        ensures { event_of self.now.task.value.standing.number result
+            ≡ slice_get (still_of self.now.task.value.standing (option_map (λ c. c.value.standing) self.now.unborn)) 0 }
+    {
         match &self.unborn {
             Some(child) => self.task.standing.due_with(&child.standing),
             None => self.task.standing.due(),
@@ -146,16 +140,31 @@ impl<B: Body, J: SlotLogs> Item<B, J> {
     }
 
     /// The unborn child is registered on the phaser of this pair, where it has this place. `NotNow` if there
-    /// is no child, or the task doesn't hold that phaser; `PhasersFull` if the child holds 16 already.
-    pub(crate) fn note_registration(&mut self, pair: Pair, place: Place<J>) -> Result<(), Refusal> {
+    /// is no child, or the task doesn't hold that phaser; `PhasersFull` or `Memory` if the child can hold
+    /// no more.
+    pub(crate) fn note_registration(&mut self, pair: Pair, place: Place<J>) -> Result<(), Refusal>
+        requires further { (old : _) × (in_slot place.at.slot self.old.task.value.places ≡ Some old)
+            × GoesOn (story_of old) (story_of (spot place.at place.me place.seen.items)) }
+        ensures places { self.new.task.value.places ≡ self.old.task.value.places }
+    {
         let Some(held) = self.task.standing.held(pair.phaser) else {
             return Err(Refusal::NotNow);
         };
         let Some(child) = &mut self.unborn else {
             return Err(Refusal::NotNow);
         };
+        place.seen.is_legal();
         child.join(held.handed(pair.mode), place)?;
-        self.task.standing.note_registration();
+        self.task.note_registration();
         Ok(())
+    }
+
+    /// Notes that the unborn child has left this phaser.
+    pub(crate) fn note_child_gone(&mut self, phaser: u32)
+        ensures task { self.new.task ≡ self.old.task }
+    {
+        if let Some(child) = &mut self.unborn {
+            child.part(phaser);
+        }
     }
 }

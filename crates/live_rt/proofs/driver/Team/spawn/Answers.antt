@@ -1,0 +1,34 @@
+use Rattle.std.proofs.Common.{ap, sym, subst, ◌∙◌}
+use Rattle.std.proofs.Math.Logic.{∥∥₁_map}
+use Rattle.world_model.specs.declared.event.Begun.TheVariants.{Async}
+use Rattle.live_rt.specs.inner.Says.{AsksFor}
+use Rattle.live_rt.proofs.About.{unborn_spawned, unborn_alone, asks_to_spawn}
+use Rattle.live_rt.proofs.Begins.{unborn_new}
+use Rattle.live_rt.proofs.driver.Team.spawn.Goals as goal
+
+-- before it was handed any phaser
+pub new-requires : goal.new-requires
+new-requires g c =
+    let task = c.args.item.now.task.value in
+    let its = c.of-its.result in record {
+      says = ∥∥₁_map c.requires.says (λ f p. unborn_alone g.B.Body.shows its task.places
+          (unborn_spawned g.B.Body.shows task.body c.args.body c.args.pairs task.places task.standing its (f p)));
+    }
+
+pub begin-requires : goal.begin-requires
+begin-requires g c =
+    let task = c.args.item.now.task.value in
+    subst (λ (t : _). ∥ (g.J.Supposing.supposed → AsksFor g.B.Body.shows t.body (Async c.child_number-number.result c.args.pairs) t.places t.standing) ∥₁)
+    (sym c.deref_mut-2.ensures.value)
+    (∥∥₁_map c.requires.says (λ f p. asks_to_spawn g.B.Body.shows task.body c.args.body c.args.pairs task.places task.standing c.child_number-number.result (f p)))
+
+pub invariant_of-item-then-begin : goal.invariant_of-item-then-begin
+invariant_of-item-then-begin g c =
+    let task = c.args.item.now.task.value in
+    let child = c.in-Ok.child.value in record {
+      newborn = ∣ c.in-Ok.ensures.answer ∣₁;
+      says = ∥∥₁_map c.requires.says (λ f p. unborn_new g.B.Body.shows task.body c.args.body c.args.pairs task.places task.standing
+          c.of-its.result c.of-home.result child.body child.standing child.places c.begin.new.task.places
+          c.in-Ok.ensures.body c.in-Ok.ensures.standing c.in-Ok.ensures.places
+          (c.begin.ensures.places ∙ ap (λ t. t.places) c.deref_mut-2.ensures.value) (f p));
+    }

@@ -1,0 +1,13 @@
+use Rattle.std.proofs.Common.{sym, subst}
+use Rattle.std.proofs.Math.Logic.{∥∥₁_map}
+use Rattle.task_standing.specs.Known.{Known}
+use Rattle.live_rt.specs.inner.Says.{IsAbout}
+use Rattle.live_rt.proofs.About.{about_noted}
+use Rattle.live_rt.proofs.task.Task.note_registration.Goals as goal
+
+pub invariant_of-self : goal.invariant_of-self
+invariant_of-self g c =
+    let old = c.args.self.now in record {
+      about = subst (λ (k : Known). ∥ (g.J.Supposing.supposed → IsAbout g.B.Body.shows old.body old.answer old.places k) ∥₁) (sym c.note_registration.ensures)
+          (∥∥₁_map old.about (λ f p. about_noted g.B.Body.shows old.body old.answer old.places old.standing (f p)));
+    }
