@@ -25,10 +25,6 @@ use std::sync::atomic::{AtomicU8, Ordering};
 use std::thread::Threads;
 use text_jobs::program_of;
 
-/// The bound of a phaser that is made without one: a signaller that is so many phases ahead of a
-/// waiter has to wait.
-const FAR: u32 = 65_536;
-
 /// How many phasers and finishes there may be at once.
 const ROOM: Room = Room {
     phasers: 4_096,
@@ -42,22 +38,22 @@ struct Bounded<'r, B> {
     row: &'r Row,
 }
 
-/// The bound, or the greatest if there is none.
-fn some_bound(bound: Option<Bound>) -> Option<Bound> {
+/// The bound, or so many phases if there is none.
+fn some_bound(bound: Option<Bound>, far: u32) -> Option<Bound> {
     match bound {
         Some(bound) => Some(bound),
-        None => Bound::of(FAR),
+        None => Bound::of(far),
     }
 }
 
-/// The same act, by which each phaser has a bound.
-fn with_bounds<'r, B: Body>(act: Act<B>, row: &'r Row) -> Act<Bounded<'r, B>> {
+/// The same act, by which each phaser has a bound: so many phases if the act gives none.
+fn with_bounds<'r, B: Body>(act: Act<B>, far: u32, row: &'r Row) -> Act<Bounded<'r, B>> {
     match act {
         Act::Async(body, pairs) => Act::Async(Bounded { body, row }, pairs),
         Act::AsyncAll(body) => Act::AsyncAll(Bounded { body, row }),
         Act::OpenFinish => Act::OpenFinish,
         Act::ShutFinish => Act::ShutFinish,
-        Act::New(mode, ops, bound) => Act::New(mode, ops, some_bound(bound)),
+        Act::New(mode, ops, bound) => Act::New(mode, ops, some_bound(bound, far)),
         Act::Signal => Act::Signal,
         Act::Wait => Act::Wait,
         Act::Next => Act::Next,
@@ -72,7 +68,7 @@ impl<'r, B: Leaves> Body for Bounded<'r, B> {
     fn step(&mut self, answer: Answer) -> Result<Act<Bounded<'r, B>>, Refusal> {
         self.body.hears(answer, self.row);
         match self.body.step(answer) {
-            Ok(act) => Ok(with_bounds(act, self.row)),
+            Ok(act) => Ok(with_bounds(act, self.body.far(), self.row)),
             Err(refusal) => Err(refusal),
         }
     }

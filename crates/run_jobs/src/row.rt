@@ -59,8 +59,20 @@ impl Row {
     }
 }
 
+/// The bound of a program's phaser that is made without one.
+const FAR: u32 = 65_536;
+
+/// The bound of a stencil's phasers: no cell is ever two phases ahead of a neighbour.
+const NEAR: u32 = 4;
+
 /// A body that may leave values in a row. By default it leaves none.
 pub(crate) trait Leaves: Body {
+    /// The bound of a phaser that it makes without one: a signaller that is so many phases ahead of a
+    /// waiter has to wait. A phaser takes memory for so many phases.
+    fn far(&self) -> u32 {
+        FAR
+    }
+
     /// Its task hears this at its next step.
     fn hears(&self, _answer: Answer, _row: &Row) {}
 
@@ -71,6 +83,10 @@ pub(crate) trait Leaves: Body {
 impl<'p> Leaves for ScriptBody<'p> {}
 
 impl Leaves for StencilBody {
+    fn far(&self) -> u32 {
+        NEAR
+    }
+
     /// The cell as it is after the last step.
     fn ends(&self, row: &Row) {
         if let Some(cell) = self.cell() {
