@@ -55,7 +55,7 @@ fn free_cells<T: Drop, J: SlotLogs>(
     ensures cells { IfOk result (λ v. vec_len v ≡ vec_len logs) }
     ensures memory { IfErr result (λ e. e ≡ Refusal.Memory) }
 {
-    let mut cells = Vec::new(alloc);
+    let mut cells = Vec::with_capacity(alloc, logs.len())?;
     let mut number = 0u32;
     for log in logs {
         let slot = Slot::Free(Vacant::new(number, log));
