@@ -1,6 +1,6 @@
 -- How far an act has come, from one event of its task to the next, until its body hears of it.
 use Rattle.std.proofs.Common.{ℕ, zero, suc, ◌+◌, ◌≡◌, ◌⊎◌, ◌==◌, ◌<◌, ◌≤◌, Bool, true, false, if◌then◌else◌, inl, inr, List, [], ◌∷◌, ◌++◌, Option, Some, None, refl, sym, ap, subst, ◌∙◌, arith, map, filter, drop, append-nil}
-use Rattle.std.specs.Prelude.{ℤ, find, is_some, min, option_map, slice_get}
+use Rattle.std.specs.Prelude.{find, is_some, min, option_map, slice_get}
 use Rattle.std.proofs.lemmas.Bool.{cases_lt, eq-eqb, eqb-true, true≢false}
 use Rattle.std.proofs.lemmas.List.{append_assoc}
 use Rattle.std.proofs.lemmas.Option.{slice_get-map, same_Some}
@@ -43,20 +43,6 @@ sees_of seen now n sees = elim (sees.0 n) [
   | inl made ↦ absurd (cc made)
   | inr there ↦ there
 ]
-
-pub sees_but : (made : Option ℕ) (seen now : Seen) → SeesMore seen now → SeesMoreBut made seen now
-sees_but made seen now sees = ((λ n. inr (sees_of seen now n sees)), sees.1)
-
--- where what was made is heard of
-pub sees_as : (made hears : Option ℕ) (seen now : Seen) → ((n : ℕ) → made ≡ Some n → hears ≡ Some n)
-    → SeesMoreBut made seen now → SeesMoreBut hears seen now
-sees_as made hears seen now fits sees = (
-  (λ n. elim (sees.0 n) [
-    | inl is ↦ inl (fits n is)
-    | inr there ↦ inr there
-  ]),
-  sees.1,
-)
 
 pub sees_far : (made : Option ℕ) (seen now new : Seen) → SeesMoreBut made seen now → SeesMore now new → SeesMoreBut made seen new
 sees_far made seen now new one two = (
@@ -687,33 +673,27 @@ same_owes : (x : Option ℕ) (now new : Seen) → new.holding ≡ now.holding �
 same_owes x now new same = λ i h h' at there owed.
     inl (ap (λ (y : Held). owes y) (same_Some _ _ (sym there ∙ (ap (λ hs. slice_get hs i) same ∙ at))) ∙ owed)
 
-module _ (task : ℕ) (asks : Seen) where
-  abbrev begins : Begun → Seen
-  begins b = record { own = asks.own; stories = asks.stories; holding = asks.holding; log = asks.log ++ Begin task b ∷ [] }
-
-  pub pending_begun_of : (b : Begun) (asked : Asked) → IsAskedFor b asks.holding asked
-      → IsPending task (plan_of b) asked (answer_of b) asks (begins b)
-  pending_begun_of begun.Signal heard.signal is = λ lives. ((refl, λ n. inl refl), (refl, refl, same_owes None asks (begins begun.Signal) refl))
-  pending_begun_of begun.Wait heard.wait is = λ lives. ((refl, λ n. inl refl), (0, refl, refl, λ i h lt at. absurd (omega (arith, lt))))
-  pending_begun_of begun.Next (heard.next None) is = λ lives.
-      ((refl, λ n. inl refl), inl (refl, refl, same_owes None asks (begins begun.Next) refl))
-  pending_begun_of (begun.NextSingle n) (heard.next (Some m)) is = λ lives. (
-    (ap (λ i. asks.log ++ Begin task (begun.NextSingle i) ∷ []) is, λ n. inl refl),
-    inl (ap (λ i. Signalling (Some i) true) is, refl, same_owes (Some m) asks (begins (begun.NextSingle n)) refl),
-  )
-  pending_begun_of (begun.Async c ps) (heard.spawn to) is = λ lives. (
-    (ap (λ qs. asks.log ++ Begin task (begun.Async c qs) ∷ []) is, refl, λ n. inl refl),
-    inr (c, ps, 0, refl),
-  )
-  pending_begun_of begun.Shut heard.shuts is = λ lives. (refl, inr refl)
-  pending_begun_of begun.End heard.ends is = tt
-  pending_begun_of b asked is = absurd is
-
 module _ (task : ℕ) (k : Known) (own : ℕ → ℕ) (stories : ℕ → Story) (log : List TracedEvent) where
   abbrev knows : Seen
   knows = record { own = own; stories = stories; holding = k.holding; log = log }
 
+  abbrev begins : Begun → Seen
+  begins b = record { own = own; stories = stories; holding = k.holding; log = log ++ Begin task b ∷ [] }
+
   pub pending_begun : (b : Begun) (asked : Asked) → IsAskedFor b k.holding asked
-      → IsPending task (plan_of b) asked (answer_of b) knows
-      (record { own = own; stories = stories; holding = k.holding; log = log ++ Begin task b ∷ [] })
-  pending_begun b asked is = pending_begun_of task knows b asked is
+      → IsPending task (plan_of b) asked (answer_of b) knows (begins b)
+  pending_begun begun.Signal heard.signal is = λ lives. ((refl, λ n. inl refl), (refl, refl, same_owes None knows (begins begun.Signal) refl))
+  pending_begun begun.Wait heard.wait is = λ lives. ((refl, λ n. inl refl), (0, refl, refl, λ i h lt at. absurd (omega (arith, lt))))
+  pending_begun begun.Next (heard.next None) is = λ lives.
+      ((refl, λ n. inl refl), inl (refl, refl, same_owes None knows (begins begun.Next) refl))
+  pending_begun (begun.NextSingle n) (heard.next (Some m)) is = λ lives. (
+    (ap (λ i. log ++ Begin task (begun.NextSingle i) ∷ []) is, λ n. inl refl),
+    inl (ap (λ i. Signalling (Some i) true) is, refl, same_owes (Some m) knows (begins (begun.NextSingle n)) refl),
+  )
+  pending_begun (begun.Async c ps) (heard.spawn to) is = λ lives. (
+    (ap (λ qs. log ++ Begin task (begun.Async c qs) ∷ []) is, refl, λ n. inl refl),
+    inr (c, ps, 0, refl),
+  )
+  pending_begun begun.Shut heard.shuts is = λ lives. (refl, inr refl)
+  pending_begun begun.End heard.ends is = tt
+  pending_begun b asked is = absurd is

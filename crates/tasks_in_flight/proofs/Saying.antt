@@ -29,11 +29,11 @@ use Rattle.task_standing.specs.declared.plan.Plan.TheVariants.{Idle, Signalling,
 use Rattle.task_standing.specs.Known.{Known}
 use Rattle.task_standing.specs.Noted.{plan_of}
 use Rattle.task_standing.specs.Standing.{begun}
-use Rattle.tasks_in_flight.specs.Heard.{Asked, Seen, SeesMoreBut, nothing, spawn, at_start, ends, made_by, IsHeard, IsAnswerTo}
+use Rattle.tasks_in_flight.specs.Heard.{Asked, Seen, nothing, spawn, at_start, ends, IsHeard, IsAnswerTo}
 use Rattle.tasks_in_flight.specs.Noted.{IsNoted}
 use Rattle.tasks_in_flight.specs.Said.{Saying, IsSaid, IsSaidOfRoot}
 use Rattle.tasks_in_flight.specs.inner.Ready.{SeesMore, Says, IsPending, IsReady, IsAskedFor, HasAskedFor, HasAskedToSpawn, HasSaid, answer_of, Tells, IsTold, seen_by, seen_at_end}
-use Rattle.tasks_in_flight.proofs.OnTheWay.{pending_begun_of, pending_newborn, sees_itself, sees_of, sees_as, sees_far}
+use Rattle.tasks_in_flight.proofs.OnTheWay.{pending_begun, pending_newborn, sees_itself, sees_of, sees_far}
 
 -- a log that was added to, or refused to be, has no fewer entries
 pub log_grows : (entry : Entry) (old new : TaskLog) (result : Result (Unit {0}) Refusal) → IsNoted entry old new result
@@ -94,10 +94,10 @@ sees_end fronts k own task number =
 
 module _ {B : Type 0} {P : Type 0} (Shows : Saying B) where
   -- before its first act it has asked for nothing, and hears that it starts
-  pub ready_at_first : (made : Option ℕ) (b : B) (task : ℕ) (now : Seen) → now.log ≡ []
+  pub ready_at_first : (b : B) (task : ℕ) (now : Seen) → now.log ≡ []
       → ∥ (P → Says Shows b task nothing (at_start now.own now.stories)) ∥₁
-      → ∥ (P → IsReady Shows made b task Idle (Some Started) now) ∥₁
-  ready_at_first made b task now blank says =
+      → ∥ (P → IsReady Shows None b task Idle (Some Started) now) ∥₁
+  ready_at_first b task now blank says =
       ∥∥₁_map says (λ f p. let s = f p in record {
         asked = nothing;
         seen = s.0;
@@ -117,40 +117,34 @@ module _ {B : Type 0} {P : Type 0} (Shows : Saying B) where
       blank_log seen more = started seen more ∙ sym (append-nil seen.log)
 
   -- it asked for this just now, and no less is seen since, and it hears this of it
-  pub ready_since : (made : Option ℕ) (b : B) (task : ℕ) (p : Plan) (asked : Asked) (answer : Option Answer) (now new : Seen)
-      → SeesMoreBut made now new → IsPending task p asked answer now new
-      → ∥ (P → Shows b task asked now) ∥₁ → ∥ (P → IsReady Shows made b task p answer new) ∥₁
-  ready_since made b task p asked answer now new goes is shows =
+  pub ready_since : (b : B) (task : ℕ) (p : Plan) (asked : Asked) (answer : Option Answer) (now new : Seen)
+      → SeesMore now new → IsPending task p asked answer now new
+      → ∥ (P → Shows b task asked now) ∥₁ → ∥ (P → IsReady Shows None b task p answer new) ∥₁
+  ready_since b task p asked answer now new goes is shows =
       ∥∥₁_map shows (λ f q. record { asked = asked; seen = now; says = f q; more = goes; pending = is })
 
   -- the same of an act that is begun, which is noted and nothing else
-  pub ready_begun_of : (made : Option ℕ) (b : B) (task : ℕ) (act : Begun) (now new : Seen)
-      → new ≡ record { own = now.own; stories = now.stories; holding = now.holding; log = now.log ++ Begin task act ∷ [] }
-      → ∥ (P → HasAskedFor Shows b task act now) ∥₁ → ∥ (P → IsReady Shows made b task (plan_of act) (answer_of act) new) ∥₁
-  ready_begun_of made b task act now new longer asks =
-      subst (λ (v : Seen). ∥ (P → IsReady Shows made b task (plan_of act) (answer_of act) v) ∥₁) (sym longer)
+  pub ready_begun : (b : B) (task : ℕ) (act : Begun) (fronts : List Sight) (k : Known) (own own' : TaskLog)
+      → map (λ (e : Entry). e.1) own'.entries ≡ map (λ (e : Entry). e.1) own.entries ++ Begin task act ∷ []
+      → ∥ (P → HasAskedFor Shows b task act (seen_by fronts k own)) ∥₁
+      → ∥ (P → IsReady Shows None b task (begun (plan_of act) k).plan (answer_of act) (seen_by fronts (begun (plan_of act) k) own')) ∥₁
+  ready_begun b task act fronts k own own' longer asks =
+      let now = seen_by fronts k own in
+      with_plan (plan_of act)
+      (subst (λ (l : List TracedEvent). ∥ (P → IsReady Shows None b task (plan_of act) (answer_of act) (noted l)) ∥₁) (sym longer)
       (∥∥₁_map asks (λ f q. let a = f q in record {
         asked = a.0;
         seen = now;
         says = a.2;
         more = ((λ n. inr (goes_itself (now.stories n), refl)), (Begin task act ∷ [], refl));
-        pending = pending_begun_of task now act a.0 a.1;
-      }))
-
-  pub ready_begun : (made : Option ℕ) (b : B) (task : ℕ) (act : Begun) (fronts : List Sight) (k : Known) (own own' : TaskLog)
-      → map (λ (e : Entry). e.1) own'.entries ≡ map (λ (e : Entry). e.1) own.entries ++ Begin task act ∷ []
-      → ∥ (P → HasAskedFor Shows b task act (seen_by fronts k own)) ∥₁
-      → ∥ (P → IsReady Shows made b task (begun (plan_of act) k).plan (answer_of act) (seen_by fronts (begun (plan_of act) k) own')) ∥₁
-  ready_begun made b task act fronts k own own' longer asks =
-      with_plan (plan_of act)
-      (ready_begun_of made b task act (seen_by fronts k own) (seen_by fronts k own')
-      (ap (λ (l : List TracedEvent). noted l) longer) asks)
+        pending = pending_begun task k now.own now.stories now.log act a.0 a.1;
+      })))
     where
       noted : List TracedEvent → Seen
       noted l = record { own = λ n. k.number; stories = λ n. story_at fronts n; holding = k.holding; log = l }
 
-      with_plan : (p : Plan) → ∥ (P → IsReady Shows made b task p (answer_of act) (seen_by fronts k own')) ∥₁
-          → ∥ (P → IsReady Shows made b task (begun p k).plan (answer_of act) (seen_by fronts (begun p k) own')) ∥₁
+      with_plan : (p : Plan) → ∥ (P → IsReady Shows None b task p (answer_of act) (seen_by fronts k own')) ∥₁
+          → ∥ (P → IsReady Shows None b task (begun p k).plan (answer_of act) (seen_by fronts (begun p k) own')) ∥₁
       with_plan Idle ready = ready
       with_plan (Signalling x turns) ready = ready
       with_plan (Turning next) ready = ready
@@ -159,58 +153,52 @@ module _ {B : Type 0} {P : Type 0} (Shows : Saying B) where
       with_plan Ending ready = ready
 
   -- from one event to the next
-  pub ready_moves : (made : Option ℕ) (b : B) (task : ℕ) (p p' : Plan) (answer : Option Answer) (now new : Seen) → SeesMore now new
-      → ((asked : Asked) (seen : Seen) → SeesMoreBut made seen now → IsPending task p asked answer seen now
+  pub ready_moves : (b : B) (task : ℕ) (p p' : Plan) (answer : Option Answer) (now new : Seen) → SeesMore now new
+      → ((asked : Asked) (seen : Seen) → SeesMore seen now → IsPending task p asked answer seen now
       → IsPending task p' asked answer seen new)
-      → ∥ (P → IsReady Shows made b task p answer now) ∥₁ → ∥ (P → IsReady Shows made b task p' answer new) ∥₁
-  ready_moves made b task p p' answer now new goes is ready =
+      → ∥ (P → IsReady Shows None b task p answer now) ∥₁ → ∥ (P → IsReady Shows None b task p' answer new) ∥₁
+  ready_moves b task p p' answer now new goes is ready =
       ∥∥₁_map ready (λ f q. let r = f q in record {
         asked = r.asked;
         seen = r.seen;
         says = r.says;
-        more = sees_far made r.seen now new r.more goes;
+        more = sees_far None r.seen now new r.more goes;
         pending = is r.asked r.seen r.more r.pending;
       })
 
   -- it is so where the task knows the same of itself
-  pub ready_at : (made : Option ℕ) (b : B) (task : ℕ) (answer : Option Answer) (fronts : List Sight) (k k' : Known) (own : TaskLog) → k' ≡ k
-      → ∥ (P → IsReady Shows made b task k.plan answer (seen_by fronts k own)) ∥₁
-      → ∥ (P → IsReady Shows made b task k'.plan answer (seen_by fronts k' own)) ∥₁
-  ready_at made b task answer fronts k k' own same ready =
-      subst (λ (x : Known). ∥ (P → IsReady Shows made b task x.plan answer (seen_by fronts x own)) ∥₁) (sym same) ready
+  pub ready_at : (b : B) (task : ℕ) (answer : Option Answer) (fronts : List Sight) (k k' : Known) (own : TaskLog) → k' ≡ k
+      → ∥ (P → IsReady Shows None b task k.plan answer (seen_by fronts k own)) ∥₁
+      → ∥ (P → IsReady Shows None b task k'.plan answer (seen_by fronts k' own)) ∥₁
+  ready_at b task answer fronts k k' own same ready =
+      subst (λ (x : Known). ∥ (P → IsReady Shows None b task x.plan answer (seen_by fronts x own)) ∥₁) (sym same) ready
 
   -- a task that was never born may be handed phasers, and taken off them
-  pub ready_newborn_of : (made : Option ℕ) (b : B) (task : ℕ) (p : Plan) (answer : Option Answer) (now new : Seen)
-      → SeesMore now new → new.log ≡ now.log → ∥ answer ≡ Some Started ∥₁
-      → ∥ (P → IsReady Shows made b task p answer now) ∥₁ → ∥ (P → IsReady Shows made b task p answer new) ∥₁
-  ready_newborn_of made b task p answer now new goes stays newborn ready =
-      ∥∥₁_map₂ newborn ready (λ is f q. let r = f q in record {
+  pub ready_newborn : (b : B) (task : ℕ) (answer : Option Answer) (fronts : List Sight) (k k' : Known) (own : TaskLog)
+      → k'.plan ≡ k.plan → k'.number ≡ k.number → ∥ answer ≡ Some Started ∥₁
+      → ∥ (P → IsReady Shows None b task k.plan answer (seen_by fronts k own)) ∥₁
+      → ∥ (P → IsReady Shows None b task k'.plan answer (seen_by fronts k' own)) ∥₁
+  ready_newborn b task answer fronts k k' own same number newborn ready =
+      let now = seen_by fronts k own in
+      let new = seen_by fronts k' own in
+      subst (λ (p : Plan). ∥ (P → IsReady Shows None b task p answer new) ∥₁) (sym same)
+      (∥∥₁_map₂ newborn ready (λ is f q. let r = f q in record {
         asked = r.asked;
         seen = r.seen;
         says = r.says;
-        more = sees_far made r.seen now new r.more goes;
-        pending = subst (λ (a : Option Answer). IsPending task p r.asked a r.seen new) (sym is)
-            (pending_newborn task r.seen now new p r.asked stays
-            (subst (λ (a : Option Answer). IsPending task p r.asked a r.seen now) is r.pending));
-      })
-
-  pub ready_newborn : (made : Option ℕ) (b : B) (task : ℕ) (answer : Option Answer) (fronts : List Sight) (k k' : Known) (own : TaskLog)
-      → k'.plan ≡ k.plan → k'.number ≡ k.number → ∥ answer ≡ Some Started ∥₁
-      → ∥ (P → IsReady Shows made b task k.plan answer (seen_by fronts k own)) ∥₁
-      → ∥ (P → IsReady Shows made b task k'.plan answer (seen_by fronts k' own)) ∥₁
-  ready_newborn made b task answer fronts k k' own same number newborn ready =
-      subst (λ (p : Plan). ∥ (P → IsReady Shows made b task p answer (seen_by fronts k' own)) ∥₁) (sym same)
-      (ready_newborn_of made b task k.plan answer (seen_by fronts k own) (seen_by fronts k' own)
-      (sees_known fronts k k' own number) refl newborn ready)
+        more = sees_far None r.seen now new r.more (sees_known fronts k k' own number);
+        pending = subst (λ (a : Option Answer). IsPending task k.plan r.asked a r.seen new) (sym is)
+            (pending_newborn task r.seen now new k.plan r.asked refl
+            (subst (λ (a : Option Answer). IsPending task k.plan r.asked a r.seen now) is r.pending));
+      }))
 
   -- and where its number and its log stayed
-  pub ready_kept : (made : Option ℕ) (b : B) (task task' : ℕ) (p : Plan) (answer : Option Answer) (fronts : List Sight) (k : Known)
-      (own own' : TaskLog)
-      → task' ≡ task → own' ≡ own → ∥ (P → IsReady Shows made b task p answer (seen_by fronts k own)) ∥₁
-      → ∥ (P → IsReady Shows made b task' p answer (seen_by fronts k own')) ∥₁
-  ready_kept made b task task' p answer fronts k own own' number stays ready =
-      subst (λ (t : ℕ). ∥ (P → IsReady Shows made b t p answer (seen_by fronts k own')) ∥₁) (sym number)
-      (subst (λ (l : TaskLog). ∥ (P → IsReady Shows made b task p answer (seen_by fronts k l)) ∥₁) (sym stays) ready)
+  pub ready_kept : (b : B) (task task' : ℕ) (p : Plan) (answer : Option Answer) (fronts : List Sight) (k : Known) (own own' : TaskLog)
+      → task' ≡ task → own' ≡ own → ∥ (P → IsReady Shows None b task p answer (seen_by fronts k own)) ∥₁
+      → ∥ (P → IsReady Shows None b task' p answer (seen_by fronts k own')) ∥₁
+  ready_kept b task task' p answer fronts k own own' number stays ready =
+      subst (λ (t : ℕ). ∥ (P → IsReady Shows None b t p answer (seen_by fronts k own')) ∥₁) (sym number)
+      (subst (λ (l : TaskLog). ∥ (P → IsReady Shows None b task p answer (seen_by fronts k l)) ∥₁) (sym stays) ready)
 
   -- what it says, it says of what is seen where nothing has changed
   pub shows_kept : (b b' : B) (task task' : ℕ) (asked : Asked) (fronts fronts' : List Sight) (k k' : Known) (own own' : TaskLog)
@@ -246,10 +234,10 @@ module _ {B : Type 0} {P : Type 0} (Shows : Saying B) where
       subst (λ (t : ℕ). ∥ (P → Says Shows b t asked now) ∥₁) (sym number) says
 
   -- what the body is after a statement of its own says no less
-  pub ready_single : (made : Option ℕ) (b b' : B) (task : ℕ) (p : Plan) (answer : Option Answer) (now : Seen)
+  pub ready_single : (b b' : B) (task : ℕ) (p : Plan) (answer : Option Answer) (now : Seen)
       → ((task : ℕ) (asked : Asked) (seen : Seen) → Shows b task asked seen → Shows b' task asked seen)
-      → ∥ (P → IsReady Shows made b task p answer now) ∥₁ → ∥ (P → IsReady Shows made b' task p answer now) ∥₁
-  ready_single made b b' task p answer now stays ready =
+      → ∥ (P → IsReady Shows None b task p answer now) ∥₁ → ∥ (P → IsReady Shows None b' task p answer now) ∥₁
+  ready_single b b' task p answer now stays ready =
       ∥∥₁_map ready (λ f q. let r = f q in record {
         asked = r.asked;
         seen = r.seen;
@@ -258,16 +246,15 @@ module _ {B : Type 0} {P : Type 0} (Shows : Saying B) where
         pending = r.pending;
       })
 
-  -- what follows of a step, where the body hears of the phaser that was made, if there is one
-  pub after_step : (made : Option ℕ) (Q : Type 0) (b : B) (task : ℕ) (p : Plan) (answer : Answer) (now : Seen)
-      → ((n : ℕ) → made ≡ Some n → made_by answer ≡ Some n)
-      → ((asked : Asked) (seen : Seen) → SeesMoreBut made seen now → IsPending task p asked (Some answer) seen now
+  -- what follows of a step
+  pub after_step : (Q : Type 0) (b : B) (task : ℕ) (p : Plan) (answer : Answer) (now : Seen)
+      → ((asked : Asked) (seen : Seen) → SeesMore seen now → IsPending task p asked (Some answer) seen now
       → IsAnswerTo task asked answer seen now)
       → ((asked : Asked) (seen : Seen) → Shows b task asked seen → IsHeard task asked answer seen now → Q)
-      → ∥ (P → IsReady Shows made b task p (Some answer) now) ∥₁ → ∥ (P → Q) ∥₁
-  after_step made Q b task p answer now fits hears step ready =
+      → ∥ (P → IsReady Shows None b task p (Some answer) now) ∥₁ → ∥ (P → Q) ∥₁
+  after_step Q b task p answer now hears step ready =
       ∥∥₁_map ready (λ f q. let r = f q in step r.asked r.seen r.says
-      (sees_as made (made_by answer) r.seen now fits r.more, hears r.asked r.seen r.more r.pending))
+      (((λ n. inr (sees_of r.seen now n r.more)), r.more.1), hears r.asked r.seen r.more r.pending))
 
   -- what it has said when it is over, where this is its number
   pub has_said : (b : B) (task number : ℕ) (p : Plan) (answer : Option Answer) (now : Seen) (held : Seen) → task ≡ number

@@ -1,12 +1,11 @@
 //! A task in flight: its body, what it knows of itself, what it has seen, and what it notes.
-ghost use Rattle.std.specs.Prelude.{◌≡◌, ◌==◌, ◌<◌, ◌&&◌, if◌then◌else◌, [], ℕ, not, true, false, filter, find, is_some, None, Some, IfOk, IfErr, IfSome, OnOk, OnErr, length, option_map, slice_get};
+ghost use Rattle.std.specs.Prelude.{◌≡◌, ◌==◌, ◌<◌, ◌&&◌, if◌then◌else◌, [], ℕ, not, true, false, filter, find, is_some, None, Some, IfOk, IfErr, IfSome, OnOk, OnErr, length, option_map};
 ghost use Rattle.job_script.specs.declared.act.Answer.TheVariants.{Started};
 ghost use Rattle.table_receipts.specs.Seen.{story_at};
 ghost use Rattle.tasks_in_flight.specs.Heard.{nothing, ends, at_start, asked_by, IsSpawned};
 ghost use Rattle.task_standing.specs.Standing.{fresh, inner_of, registered_by};
-ghost use Rattle.task_standing.specs.StillToMake.{event_of};
 ghost use Rattle.tasks_in_flight.specs.Noted.{joined};
-ghost use Rattle.tasks_in_flight.specs.inner.Due.{still_of};
+ghost use Rattle.tasks_in_flight.specs.inner.Due.{IsNext};
 ghost use Rattle.tasks_in_flight.specs.inner.Ready.{Says, IsReady, HasSaid, IsTold, IsDue, seen_by, seen_at_end};
 
 use crate::body::Body;
@@ -198,8 +197,7 @@ impl<B: Body, K: RunNaming> Item<B, K> {
 
     /// The event that comes next.
     pub fn due(&self) -> Due
-        ensures { event_of self.now.task.value.standing.number result
-            ≡ slice_get (still_of self.now.task.value.standing (option_map (λ c. c.value.standing) self.now.unborn)) 0 }
+        ensures { IsNext result self.now.task.value.standing (option_map (λ c. c.value.standing) self.now.unborn) }
     {
         match &self.unborn {
             Some(child) => self.task.standing.due_with(&child.standing),

@@ -20,7 +20,7 @@ invariant_of-self g c =
     record {
       own = old.own ∙ sym c.note_begun.ensures.task;
       all = old.all;
-      ready = ready_kept g.B.Body.shows None old.body old.log.task own.task k.plan old.answer old.fronts k old.log.log own.log c.note_begun.ensures.task same old.ready;
+      ready = ready_kept g.B.Body.shows old.body old.log.task own.task k.plan old.answer old.fronts k old.log.log own.log c.note_begun.ensures.task same old.ready;
       end = λ ended. says_kept g.B.Body.shows old.body old.log.task own.task ends (seen_by old.fronts k own.log) c.note_begun.ensures.task
           (says_more g.B.Body.shows old.body old.log.task ends (seen_by old.fronts k old.log.log) (seen_by old.fronts k own.log)
           (more_noted old.fronts k k (c.args.ticket, Begin old.log.task c.args.act) old.log.log own.log c.note_begun.result refl c.note_begun.ensures.noted)
@@ -37,12 +37,12 @@ invariant_of-self-2-clause-ready g c =
     let act = c.args.act in
     let own = c.note_begun.new.self in
     let same = c.begin.ensures ∙ ap (λ (p : Plan). begun p k) c.of.ensures in
-    ready_at g.B.Body.shows None old.body own.task c.answer_to-self.result old.fronts (begun (plan_of act) k) c.begin.new.self own.log same
+    ready_at g.B.Body.shows old.body own.task c.answer_to-self.result old.fronts (begun (plan_of act) k) c.begin.new.self own.log same
     (subst (λ (a : Option Answer). ∥ (g.K.Supposing.supposed → IsReady g.B.Body.shows None old.body own.task (begun (plan_of act) k).plan a (seen_by old.fronts (begun (plan_of act) k) own.log)) ∥₁)
     (sym c.answer_to-self.ensures)
-    (ready_kept g.B.Body.shows None old.body old.log.task own.task (begun (plan_of act) k).plan (answer_of act) old.fronts (begun (plan_of act) k) own.log own.log
+    (ready_kept g.B.Body.shows old.body old.log.task own.task (begun (plan_of act) k).plan (answer_of act) old.fronts (begun (plan_of act) k) own.log own.log
     c.note_begun.ensures.task refl
-    (ready_begun g.B.Body.shows None old.body old.log.task act old.fronts k old.log.log own.log
+    (ready_begun g.B.Body.shows old.body old.log.task act old.fronts k old.log.log own.log
     (log_has (c.args.ticket, Begin old.log.task act) old.log.log own.log c.in_default.ensures.noted) c.requires.asked)))
 
 pub invariant_of-self-2-clause-end : goal.invariant_of-self-2-clause-end

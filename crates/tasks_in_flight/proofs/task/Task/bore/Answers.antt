@@ -1,4 +1,4 @@
-use Rattle.std.proofs.Common.{None, ap}
+use Rattle.std.proofs.Common.{ap}
 use Rattle.task_standing.specs.declared.plan.Plan.TheVariants.{Idle}
 use Rattle.tasks_in_flight.specs.inner.Ready.{seen_by}
 use Rattle.tasks_in_flight.proofs.OnTheWay.{pending_born, sees_itself}
@@ -14,8 +14,8 @@ invariant_of-self-clause-ready g c =
     let k' = record k { plan = Idle } in
     let now = seen_by old.fronts k old.log.log in
     let due = c.requires.due in
-    ready_at g.B.Body.shows None old.body old.log.task old.answer old.fronts k' c.note_birth.new.self old.log.log c.note_birth.ensures
-    (ready_moves g.B.Body.shows None old.body old.log.task k.plan Idle old.answer now (seen_by old.fronts k' old.log.log) (sees_itself now)
+    ready_at g.B.Body.shows old.body old.log.task old.answer old.fronts k' c.note_birth.new.self old.log.log c.note_birth.ensures
+    (ready_moves g.B.Body.shows old.body old.log.task k.plan Idle old.answer now (seen_by old.fronts k' old.log.log) (sees_itself now)
     (λ asked seen goes is. pending_born old.log.task seen now k due.0 due.1 asked old.answer due.2 is)
     old.ready)
 

@@ -1,4 +1,4 @@
-use Rattle.std.proofs.Common.{None, refl, sym, ◌∙◌, ap}
+use Rattle.std.proofs.Common.{refl, sym, ◌∙◌, ap}
 use Rattle.phase_modes.specs.Refusal.{number_of}
 use Rattle.trace_model.specs.declared.event.TracedEvent.TheVariants.{Fail}
 use Rattle.task_standing.specs.declared.plan.Plan.TheVariants.{Ending}
@@ -19,7 +19,7 @@ invariant_of-self g c =
     record {
       own = old.own ∙ sym c.note_failed.ensures.task;
       all = old.all;
-      ready = ready_kept g.B.Body.shows None old.body old.log.task own.task k.plan old.answer old.fronts k old.log.log own.log c.note_failed.ensures.task same old.ready;
+      ready = ready_kept g.B.Body.shows old.body old.log.task own.task k.plan old.answer old.fronts k old.log.log own.log c.note_failed.ensures.task same old.ready;
       end = λ ended. says_kept g.B.Body.shows old.body old.log.task own.task ends (seen_by old.fronts k own.log) c.note_failed.ensures.task
           (says_more g.B.Body.shows old.body old.log.task ends (seen_by old.fronts k old.log.log) (seen_by old.fronts k own.log)
           (more_noted old.fronts k k (c.args.ticket, Fail old.log.task (number_of c.args.refusal)) old.log.log own.log c.note_failed.result refl c.note_failed.ensures.noted)
@@ -33,9 +33,9 @@ invariant_of-self-2-clause-ready g c =
     let k' = record k { plan = Ending } in
     let own = c.note_failed.new.self in
     let now = seen_by old.fronts k old.log.log in
-    ready_at g.B.Body.shows None old.body own.task old.answer old.fronts k' c.give_up.new.self own.log c.give_up.ensures
-    (ready_kept g.B.Body.shows None old.body old.log.task own.task Ending old.answer old.fronts k' own.log own.log c.note_failed.ensures.task refl
-    (ready_moves g.B.Body.shows None old.body old.log.task k.plan Ending old.answer now (seen_by old.fronts k' own.log)
+    ready_at g.B.Body.shows old.body own.task old.answer old.fronts k' c.give_up.new.self own.log c.give_up.ensures
+    (ready_kept g.B.Body.shows old.body old.log.task own.task Ending old.answer old.fronts k' own.log own.log c.note_failed.ensures.task refl
+    (ready_moves g.B.Body.shows old.body old.log.task k.plan Ending old.answer now (seen_by old.fronts k' own.log)
     (more_noted old.fronts k k' (c.args.ticket, Fail old.log.task (number_of c.args.refusal)) old.log.log own.log c.note_failed.result refl c.note_failed.ensures.noted)
     (λ asked seen goes is. pending_at_end old.log.task seen (seen_by old.fronts k' own.log) asked old.answer)
     old.ready))

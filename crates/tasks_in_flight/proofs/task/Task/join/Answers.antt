@@ -1,4 +1,4 @@
-use Rattle.std.proofs.Common.{None, ◌≡◌, ◌∷◌, ◌++◌, [], length, refl, ◌∙◌, Result, Ok, Err, ap}
+use Rattle.std.proofs.Common.{◌≡◌, ◌∷◌, ◌++◌, [], length, refl, ◌∙◌, Result, Ok, Err, ap}
 use Rattle.std.specs.Prelude.{OnOk, OnErr}
 use Rattle.phase_modes.specs.declared.refusal.Refusal.{Refusal}
 use Rattle.task_standing.specs.Known.{Known}
@@ -19,7 +19,7 @@ invariant_of-self-clause-ready g c =
     let old = c.args.self.now in
     let same = about_same c.join.result old.standing (record old.standing { holding = old.standing.holding ++ c.args.held ∷ [] }) c.join.new.self
     (length old.standing.holding ≡ 16) refl refl c.join.ensures.joined c.join.ensures.full in
-    ready_newborn g.B.Body.shows None old.body old.log.task old.answer old.fronts old.standing c.join.new.self old.log.log
+    ready_newborn g.B.Body.shows old.body old.log.task old.answer old.fronts old.standing c.join.new.self old.log.log
     same.0 same.1 c.requires.newborn old.ready
 
 pub invariant_of-self-clause-end : goal.invariant_of-self-clause-end

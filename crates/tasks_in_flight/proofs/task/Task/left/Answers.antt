@@ -13,8 +13,8 @@ invariant_of-self-clause-ready g c =
     let n = c.args.phaser in
     let k' = record k { holding = filter (λ h. not (h.phaser == n)) k.holding } in
     let now = seen_by old.fronts k old.log.log in
-    ready_at g.B.Body.shows None old.body old.log.task old.answer old.fronts k' c.leave.new.self old.log.log c.leave.ensures
-    (ready_moves g.B.Body.shows None old.body old.log.task k.plan k.plan old.answer now (seen_by old.fronts k' old.log.log) (sees_itself now)
+    ready_at g.B.Body.shows old.body old.log.task old.answer old.fronts k' c.leave.new.self old.log.log c.leave.ensures
+    (ready_moves g.B.Body.shows old.body old.log.task k.plan k.plan old.answer now (seen_by old.fronts k' old.log.log) (sees_itself now)
     (λ asked seen goes is. pending_left old.log.task None seen k now.own now.stories now.log n k'.holding asked old.answer c.requires.due is)
     old.ready)
 

@@ -1,4 +1,4 @@
-use Rattle.std.proofs.Common.{ℕ, None, refl, sym, subst, Some, ap}
+use Rattle.std.proofs.Common.{ℕ, refl, sym, subst, Some, ap}
 use Rattle.phase_model.specs.Rules.{Story}
 use Rattle.job_script.specs.declared.act.Answer.TheVariants.{Saw}
 use Rattle.long_locks.specs.Told.{HasLooked}
@@ -23,8 +23,8 @@ invariant_of-self-clause-ready g c =
     let saw =
     subst (λ (t : ℕ). HasLooked (story_at ys n).terms.ops t asked.0 (story_at ys n).past c.args.saw) (sym old.own)
     (subst (λ (s : Story). HasLooked s.terms.ops old.log.task asked.0 s.past c.args.saw) (sym c.set.ensures.here) asked.1) in
-    ready_at g.B.Body.shows None old.body old.log.task (Some (Saw c.args.saw)) ys (acted k) c.note_act.new.self old.log.log c.note_act.ensures.acted
-    (ready_since g.B.Body.shows None old.body old.log.task (acted k).plan (look n asked.0) (Some (Saw c.args.saw)) now (seen_by ys (acted k) old.log.log)
+    ready_at g.B.Body.shows old.body old.log.task (Some (Saw c.args.saw)) ys (acted k) c.note_act.new.self old.log.log c.note_act.ensures.acted
+    (ready_since g.B.Body.shows old.body old.log.task (acted k).plan (look n asked.0) (Some (Saw c.args.saw)) now (seen_by ys (acted k) old.log.log)
     (more_stories now (λ m. story_at ys m) k.holding more.0)
     (λ lives. ((saw, (refl, refl)), refl))
     asked.2)

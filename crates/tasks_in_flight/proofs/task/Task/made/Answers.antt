@@ -1,4 +1,4 @@
-use Rattle.std.proofs.Common.{ℕ, None, refl, ap, ◌∙◌, sym, subst, Some, ◌∷◌, [], ◌++◌, false}
+use Rattle.std.proofs.Common.{ℕ, refl, ap, ◌∙◌, sym, subst, Some, ◌∷◌, [], ◌++◌, false}
 use Rattle.std.specs.Prelude.{is_some}
 use Rattle.phase_model.specs.Rules.{Story}
 use Rattle.job_script.specs.declared.act.Answer.TheVariants.{Made}
@@ -19,7 +19,7 @@ invariant_of-self g c =
     record {
       own = ap (λ (k : Known). k.number) same ∙ old.own;
       all = old.all;
-      ready = ready_at g.B.Body.shows None old.body old.log.task old.answer old.fronts old.standing c.note_making.new.self old.log.log same old.ready;
+      ready = ready_at g.B.Body.shows old.body old.log.task old.answer old.fronts old.standing c.note_making.new.self old.log.log same old.ready;
       end = λ ended. says_known g.B.Body.shows old.body old.log.task ends old.fronts old.standing c.note_making.new.self old.log.log
           (ap (λ (k : Known). k.number) same) (old.end ended);
     }
@@ -40,8 +40,8 @@ invariant_of-self-2-clause-ready g c =
       holding = k.holding ++ record { phaser = n; finish = inner_of k; mode = c.args.mode; ahead = false } ∷ [];
     } in
     let none = none_held k.holding n (ap (λ o. is_some o) (sym c.held.ensures) ∙ (sym c.is_some.ensures ∙ c.if-is_some.false)) in
-    ready_at g.B.Body.shows None old.body old.log.task (Some (Made n)) ys k' c.note_making.new.self old.log.log c.in_default.ensures.made
-    (ready_since g.B.Body.shows None old.body old.log.task k'.plan (make c.args.mode asked.0) (Some (Made n)) now (seen_by ys k' old.log.log)
+    ready_at g.B.Body.shows old.body old.log.task (Some (Made n)) ys k' c.note_making.new.self old.log.log c.in_default.ensures.made
+    (ready_since g.B.Body.shows old.body old.log.task k'.plan (make c.args.mode asked.0) (Some (Made n)) now (seen_by ys k' old.log.log)
     (more_stories now (λ m. story_at ys m) k'.holding more.0)
     (λ lives. ((made, ((inner_of k, refl), refl), none), refl))
     asked.2)

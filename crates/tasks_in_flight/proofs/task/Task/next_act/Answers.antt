@@ -13,7 +13,7 @@ returns-clause-says g c =
     let old = c.args.self.now in
     let k = old.standing in
     let now = seen_by old.fronts k old.log.log in
-    after_step g.B.Body.shows None (g.B.Body.shows c.step.new.self old.log.task (asked_by c.step.result) now) old.body old.log.task k.plan c.in-Some.answer now (λ n is. absurd (cc is))
+    after_step g.B.Body.shows (g.B.Body.shows c.step.new.self old.log.task (asked_by c.step.result) now) old.body old.log.task k.plan c.in-Some.answer now
     (λ asked seen goes is. is_answered old.log.task None seen k now.own now.stories now.log asked c.in-Some.answer c.requires.due is)
     (λ asked seen shows heard. c.step.ensures.shows old.log.task asked seen now shows heard)
     (subst (λ (a : Option Answer). ∥ (g.K.Supposing.supposed → IsReady g.B.Body.shows None old.body old.log.task k.plan a now) ∥₁) c.in-Some.is old.ready)
@@ -23,8 +23,8 @@ invariant_of-self-clause-ready g c =
     let old = c.args.self.now in
     let k = old.standing in
     let now = seen_by old.fronts k old.log.log in
-    ready_since g.B.Body.shows None c.step.new.self old.log.task k.plan (asked_by c.step.result) None now now (sees_itself now) tt
-    (after_step g.B.Body.shows None (g.B.Body.shows c.step.new.self old.log.task (asked_by c.step.result) now) old.body old.log.task k.plan c.in-Some.answer now (λ n is. absurd (cc is))
+    ready_since g.B.Body.shows c.step.new.self old.log.task k.plan (asked_by c.step.result) None now now (sees_itself now) tt
+    (after_step g.B.Body.shows (g.B.Body.shows c.step.new.self old.log.task (asked_by c.step.result) now) old.body old.log.task k.plan c.in-Some.answer now
     (λ asked seen goes is. is_answered old.log.task None seen k now.own now.stories now.log asked c.in-Some.answer c.requires.due is)
     (λ asked seen shows heard. c.step.ensures.shows old.log.task asked seen now shows heard)
     (subst (λ (a : Option Answer). ∥ (g.K.Supposing.supposed → IsReady g.B.Body.shows None old.body old.log.task k.plan a now) ∥₁) c.in-Some.is old.ready))
@@ -34,7 +34,7 @@ returns-clause-child g c = λ child its spawned.
     let old = c.args.self.now in
     let k = old.standing in
     let now = seen_by old.fronts k old.log.log in
-    after_step g.B.Body.shows None ((own : ℕ → ℕ) → g.B.Body.shows child its nothing (at_start own now.stories)) old.body old.log.task k.plan c.in-Some.answer now (λ n is. absurd (cc is))
+    after_step g.B.Body.shows ((own : ℕ → ℕ) → g.B.Body.shows child its nothing (at_start own now.stories)) old.body old.log.task k.plan c.in-Some.answer now
     (λ asked seen goes is. is_answered old.log.task None seen k now.own now.stories now.log asked c.in-Some.answer c.requires.due is)
     (λ asked seen shows heard own. c.step.ensures.child old.log.task asked seen now shows heard child its own spawned)
     (subst (λ (a : Option Answer). ∥ (g.K.Supposing.supposed → IsReady g.B.Body.shows None old.body old.log.task k.plan a now) ∥₁) c.in-Some.is old.ready)

@@ -1,4 +1,4 @@
-use Rattle.std.proofs.Common.{None, ap}
+use Rattle.std.proofs.Common.{ap}
 use Rattle.task_standing.specs.Standing.{registered_by}
 use Rattle.tasks_in_flight.specs.inner.Ready.{seen_by}
 use Rattle.tasks_in_flight.proofs.OnTheWay.{pending_registered, sees_itself}
@@ -13,8 +13,8 @@ invariant_of-self-clause-ready g c =
     let k = old.standing in
     let k' = record k { plan = registered_by k.plan } in
     let now = seen_by old.fronts k old.log.log in
-    ready_at g.B.Body.shows None old.body old.log.task old.answer old.fronts k' c.note_registration.new.self old.log.log c.note_registration.ensures
-    (ready_moves g.B.Body.shows None old.body old.log.task k.plan k'.plan old.answer now (seen_by old.fronts k' old.log.log) (sees_itself now)
+    ready_at g.B.Body.shows old.body old.log.task old.answer old.fronts k' c.note_registration.new.self old.log.log c.note_registration.ensures
+    (ready_moves g.B.Body.shows old.body old.log.task k.plan k'.plan old.answer now (seen_by old.fronts k' old.log.log) (sees_itself now)
     (λ asked seen goes is. pending_registered old.log.task seen now k.plan asked old.answer is)
     old.ready)
 

@@ -1,4 +1,4 @@
-use Rattle.std.proofs.Common.{None, refl, ap, ◌∙◌, Some, ◌∷◌}
+use Rattle.std.proofs.Common.{refl, ap, ◌∙◌, Some, ◌∷◌}
 use Rattle.job_script.specs.declared.act.Answer.TheVariants.{Done}
 use Rattle.task_standing.specs.Known.{Known}
 use Rattle.task_standing.specs.Standing.{acted}
@@ -15,7 +15,7 @@ invariant_of-self g c =
     record {
       own = ap (λ (k : Known). k.number) same ∙ old.own;
       all = old.all;
-      ready = ready_at g.B.Body.shows None old.body old.log.task old.answer old.fronts old.standing c.note_opening.new.self old.log.log same old.ready;
+      ready = ready_at g.B.Body.shows old.body old.log.task old.answer old.fronts old.standing c.note_opening.new.self old.log.log same old.ready;
       end = λ ended. says_known g.B.Body.shows old.body old.log.task ends old.fronts old.standing c.note_opening.new.self old.log.log
           (ap (λ (k : Known). k.number) same) (old.end ended);
     }
@@ -26,8 +26,8 @@ invariant_of-self-2-clause-ready g c =
     let k = old.standing in
     let now = seen_by old.fronts k old.log.log in
     let k' = record (acted k) { finishes = c.args.finish ∷ k.finishes } in
-    ready_at g.B.Body.shows None old.body old.log.task (Some Done) old.fronts k' c.note_opening.new.self old.log.log c.in_default.ensures.opened
-    (ready_since g.B.Body.shows None old.body old.log.task k'.plan opens (Some Done) now (seen_by old.fronts k' old.log.log)
+    ready_at g.B.Body.shows old.body old.log.task (Some Done) old.fronts k' c.note_opening.new.self old.log.log c.in_default.ensures.opened
+    (ready_since g.B.Body.shows old.body old.log.task k'.plan opens (Some Done) now (seen_by old.fronts k' old.log.log)
     (sees_itself now)
     (λ lives. ((refl, refl), refl))
     c.requires.asked)

@@ -1,4 +1,4 @@
-use Rattle.std.proofs.Common.{ℕ, None, refl, sym, subst, ◌∙◌}
+use Rattle.std.proofs.Common.{ℕ, refl, sym, subst, ◌∙◌}
 use Rattle.phase_model.specs.Rules.{Story}
 use Rattle.table_receipts.specs.Seen.{story_at}
 use Rattle.table_receipts.proofs.Stories.{seen_more}
@@ -16,7 +16,7 @@ invariant_of-self-clause-ready g c =
     let more = seen_more old.fronts old.fronts ys n n (story_at old.fronts n) c.args.seen.story refl refl refl c.set.ensures.here c.set.ensures.others c.requires.more in
     let k = old.standing in
     let now = seen_by old.fronts k old.log.log in
-    ready_moves g.B.Body.shows None old.body old.log.task k.plan k.plan old.answer now (seen_by ys k old.log.log)
+    ready_moves g.B.Body.shows old.body old.log.task k.plan k.plan old.answer now (seen_by ys k old.log.log)
     (more_stories now (λ m. story_at ys m) k.holding more.0)
     (λ asked seen goes is. pending_more old.log.task n seen now (λ m. story_at ys m) more
     (subst (λ (t : ℕ). IsOwn t (story_at ys n).past) (sym old.own)

@@ -1,4 +1,4 @@
-use Rattle.std.proofs.Common.{ℕ, None, refl, sym, subst, Some, ap}
+use Rattle.std.proofs.Common.{ℕ, refl, sym, subst, Some, ap}
 use Rattle.phase_model.specs.Rules.{Story}
 use Rattle.job_script.specs.declared.act.Answer.TheVariants.{Done}
 use Rattle.table_receipts.specs.Seen.{story_at}
@@ -22,8 +22,8 @@ invariant_of-self-clause-ready g c =
     let sent =
     subst (λ (t : ℕ). HasSent t asked.0 asked.1 (story_at old.fronts n) (story_at ys n)) (sym old.own)
     (subst (λ (s : Story). HasSent old.log.task asked.0 asked.1 (story_at old.fronts n) s) (sym c.set.ensures.here) asked.2) in
-    ready_at g.B.Body.shows None old.body old.log.task (Some Done) ys (acted k) c.note_act.new.self old.log.log c.note_act.ensures.acted
-    (ready_since g.B.Body.shows None old.body old.log.task (acted k).plan (send n asked.0 asked.1) (Some Done) now (seen_by ys (acted k) old.log.log)
+    ready_at g.B.Body.shows old.body old.log.task (Some Done) ys (acted k) c.note_act.new.self old.log.log c.note_act.ensures.acted
+    (ready_since g.B.Body.shows old.body old.log.task (acted k).plan (send n asked.0 asked.1) (Some Done) now (seen_by ys (acted k) old.log.log)
     (more_stories now (λ m. story_at ys m) k.holding more.0)
     (λ lives. ((sent, (refl, refl)), refl))
     asked.3)

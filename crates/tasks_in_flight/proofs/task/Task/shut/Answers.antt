@@ -1,4 +1,4 @@
-use Rattle.std.proofs.Common.{None, drop, ap}
+use Rattle.std.proofs.Common.{drop, ap}
 use Rattle.task_standing.specs.Standing.{shut_by}
 use Rattle.tasks_in_flight.specs.inner.Ready.{seen_by}
 use Rattle.tasks_in_flight.proofs.OnTheWay.{pending_shut, sees_itself}
@@ -13,8 +13,8 @@ invariant_of-self-clause-ready g c =
     let k = old.standing in
     let k' = record k { plan = shut_by k.plan; finishes = drop 1 k.finishes } in
     let now = seen_by old.fronts k old.log.log in
-    ready_at g.B.Body.shows None old.body old.log.task old.answer old.fronts k' c.note_shut.new.self old.log.log c.note_shut.ensures
-    (ready_moves g.B.Body.shows None old.body old.log.task k.plan k'.plan old.answer now (seen_by old.fronts k' old.log.log) (sees_itself now)
+    ready_at g.B.Body.shows old.body old.log.task old.answer old.fronts k' c.note_shut.new.self old.log.log c.note_shut.ensures
+    (ready_moves g.B.Body.shows old.body old.log.task k.plan k'.plan old.answer now (seen_by old.fronts k' old.log.log) (sees_itself now)
     (λ asked seen goes is. pending_shut old.log.task seen now k.plan asked old.answer is)
     old.ready)
 

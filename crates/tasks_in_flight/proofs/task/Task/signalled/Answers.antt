@@ -24,8 +24,8 @@ invariant_of-self-clause-ready g c =
     let just =
     subst (λ (t : ℕ). HasJustDone (Sig t x) (story_at old.fronts n) (story_at ys n)) (sym old.own)
     (subst (λ (s : Story). HasJustDone (Sig old.log.task x) (story_at old.fronts n) s) (sym c.set.ensures.here) c.requires.own) in
-    ready_at g.B.Body.shows None old.body old.log.task old.answer ys k' c.note_signal.new.self old.log.log c.note_signal.ensures
-    (ready_moves g.B.Body.shows None old.body old.log.task k.plan k.plan old.answer now (seen_by ys k' old.log.log)
+    ready_at g.B.Body.shows old.body old.log.task old.answer ys k' c.note_signal.new.self old.log.log c.note_signal.ensures
+    (ready_moves g.B.Body.shows old.body old.log.task k.plan k.plan old.answer now (seen_by ys k' old.log.log)
     (more_stories now (λ m. story_at ys m) k'.holding more.0)
     (λ asked seen goes is. pending_signalled old.log.task None seen k now.own now.stories now.log n x (λ m. story_at ys m) more just asked old.answer
     (λ m is. absurd (cc is)) goes c.requires.due is)
