@@ -1,4 +1,5 @@
 pub mod About
+pub mod AtTheEnd
 pub mod Begins
 pub mod Held
 pub mod Seen

@@ -36,6 +36,16 @@ pub some_map : {X : Type 0} (P Q : X → Type 0) (o : Option X) → ((x : X) →
 some_map P Q (Some x) f is = f x is
 some_map P Q None f is = tt
 
+pub both : {X : Type 0} (P Q : X → Type 0) (o : Option X) → IfSome o P → IfSome o Q → IfSome o (λ x. P x × Q x)
+both P Q (Some x) is as_well = (is, as_well)
+both P Q None is as_well = tt
+
+-- where there is one, both are so of it
+pub of_both : {X : Type 0} (P Q : X → Type 0) (S : Type 0) (o : Option X) → IfSome o (λ x. ∥ P x ∥₁ × ∥ (S → Q x) ∥₁)
+    → ∥ IfSome o P ∥₁ × ∥ (S → IfSome o Q) ∥₁
+of_both P Q S (Some x) is = is
+of_both P Q S None is = (∣ tt ∣₁, ∣ (λ _. tt) ∣₁)
+
 pub some_at : {X : Type 0} (P : X → Type 0) (o : Option X) (x : X) → o ≡ Some x → IfSome o P → P x
 some_at P o x there is = subst (λ v. IfSome v P) there is
 

@@ -1,6 +1,8 @@
 //! How a worker drives a task, event by event.
+ghost use Rattle.std.specs.Prelude.{None};
 ghost use Rattle.task_standing.specs.StillToMake.{event_of};
 ghost use Rattle.tasks_in_flight.specs.inner.Ready.{IsDue};
+ghost use Rattle.live_rt.specs.Said.{Tells};
 
 use crate::ended::Ends;
 use crate::names::Names;
@@ -12,7 +14,7 @@ use phaser_core::{PassAnswer, SignalAnswer};
 use std::marker::PhantomData;
 use std::sync::Wait;
 use task_standing::Due;
-use tasks_in_flight::{Body, Crew, Gate, told};
+use tasks_in_flight::{Body, Crew, Gate, step, told};
 
 /// How many steps and events of a task a worker makes before it takes another, if there is one. A
 /// task that parks or ends makes fewer. So the queue is asked once for many events, and whoever
@@ -24,10 +26,12 @@ type Next<B, J> = Option<Item<B, J>>;
 
 /// What all workers share, who hears of the tasks' ends, and the gate round each step.
 #[derive(Drop)]
-pub(crate) struct Team<'a, B: Body, J: Names, E: Ends<B>, G: Gate> {
+pub(crate) struct Team<'a, B: Body, J: Names, E: Ends<B>, G: Gate, R: Wait> {
+    pub(crate) rt: &'a R,
     pub(crate) shared: &'a Shared<B, J>,
     pub(crate) ends: &'a E,
     pub(crate) gate: &'a G,
+    ghost tells: { ∥ Tells J.Supposing.supposed B.Body.shows E.Ends.told ∥₁ },
 }
 
 /// The task gives up by this refusal.
@@ -37,11 +41,38 @@ fn gives_up<B: Body, J: Names>(item: Item<B, J>, refusal: Refusal) -> Next<B, J>
     Some(item)
 }
 
-impl<'a, B: Body, J: Names, E: Ends<B>, G: Gate> Team<'a, B, J, E, G> {
-    /// A task that is parked signals again once it is woken: its signal is still due.
-    fn signal<R: Wait>(
+impl<'a, B: Body, J: Names, E: Ends<B>, G: Gate, R: Wait> Team<'a, B, J, E, G, R> {
+    /// Runs the statement that the task has claimed, and reports it done. The pass comes again.
+    fn run_single(
         &self,
-        rt: &R,
+        worker: &mut Worker<B, J>,
+        item: Item<B, J>,
+        phaser: u32,
+        number: u32,
+    ) -> Result<Next<B, J>, Refusal> {
+        let mut item = item;
+        item.task.run_single(number);
+        self.shared
+            .report_on(self.rt, worker, &mut item.task, phaser)?;
+        Ok(Some(item))
+    }
+
+    /// Asks the body for its next act, and begins it, or makes it.
+    fn step(&self, worker: &mut Worker<B, J>, item: Item<B, J>) -> Result<Next<B, J>, Refusal>
+        requires { IsDue None item.task.value.standing }
+    {
+        let mut item = item;
+        // No clause says that a task which spawns a child isn't due to be stepped.
+        if item.unborn.is_some() {
+            return Err(Refusal::NotNow);
+        }
+        item.unborn = step(self, worker, &mut item.task)?;
+        Ok(Some(item))
+    }
+
+    /// A task that is parked signals again once it is woken: its signal is still due.
+    fn signal(
+        &self,
         worker: &mut Worker<B, J>,
         item: Item<B, J>,
         phaser: u32,
@@ -49,7 +80,10 @@ impl<'a, B: Body, J: Names, E: Ends<B>, G: Gate> Team<'a, B, J, E, G> {
     ) -> Result<Next<B, J>, Refusal>
         requires { IsDue (event_of item.task.value.standing.number (Due.Signal phaser number)) item.task.value.standing }
     {
-        match self.shared.signal_on(rt, worker, item, phaser, number)? {
+        match self
+            .shared
+            .signal_on(self.rt, worker, item, phaser, number)?
+        {
             SignalAnswer::Signalled(signalled) => {
                 one_more(&mut worker.sums.totals.signals);
                 Ok(Some(signalled))
@@ -59,63 +93,45 @@ impl<'a, B: Body, J: Names, E: Ends<B>, G: Gate> Team<'a, B, J, E, G> {
         }
     }
 
-    /// Runs the statement that the task has claimed, and reports it done. The pass comes again.
-    fn run_single<R: Wait>(
+    fn pass(
         &self,
-        rt: &R,
-        worker: &mut Worker<B, J>,
-        item: Item<B, J>,
-        phaser: u32,
-        number: u32,
-    ) -> Result<Next<B, J>, Refusal> {
-        let mut item = item;
-        item.task.run_single(number);
-        self.shared.report_on(rt, worker, &mut item.task, phaser)?;
-        Ok(Some(item))
-    }
-
-    fn pass<R: Wait>(
-        &self,
-        rt: &R,
         worker: &mut Worker<B, J>,
         item: Item<B, J>,
         phaser: u32,
     ) -> Result<Next<B, J>, Refusal>
         requires { IsDue (event_of item.task.value.standing.number (Due.Pass phaser)) item.task.value.standing }
     {
-        match self.shared.pass_on(rt, worker, item, phaser)? {
+        match self.shared.pass_on(self.rt, worker, item, phaser)? {
             PassAnswer::Passed(passed, _) => {
                 one_more(&mut worker.sums.totals.passes);
                 Ok(Some(passed))
             }
-            PassAnswer::Claimed(item, number) => self.run_single(rt, worker, item, phaser, number),
+            PassAnswer::Claimed(item, number) => self.run_single(worker, item, phaser, number),
             PassAnswer::Parked => Ok(None),
             PassAnswer::Refused(item, refusal) => Ok(gives_up(item, refusal)),
         }
     }
 
     /// The unborn child is registered for the next pair.
-    fn register<R: Wait>(
+    fn register(
         &self,
-        rt: &R,
         worker: &mut Worker<B, J>,
         item: Item<B, J>,
         pair: Pair,
-    ) -> Next<B, J> {
+    ) -> Result<Next<B, J>, Refusal> {
         let mut item = item;
-        match self.shared.register_on(rt, &mut item, pair) {
+        match self.shared.register_on(self.rt, &mut item, pair) {
             Ok(()) => {
                 one_more(&mut worker.sums.totals.registered);
-                Some(item)
+                Ok(Some(item))
             }
-            Err(refusal) => gives_up(item, refusal),
+            Err(refusal) => Ok(gives_up(item, refusal)),
         }
     }
 
     /// The child is born, and any worker may run it.
-    fn bear<R: Wait>(
+    fn bear(
         &self,
-        rt: &R,
         worker: &mut Worker<B, J>,
         item: Item<B, J>,
         child: u32,
@@ -128,33 +144,18 @@ impl<'a, B: Body, J: Names, E: Ends<B>, G: Gate> Team<'a, B, J, E, G> {
         let Some(born) = unborn else {
             return Err(Refusal::NotNow);
         };
-        self.shared.finishes.spawned(rt, finish)?;
+        self.shared.finishes.spawned(self.rt, finish)?;
         one_more(&mut worker.sums.spawned);
         task.bore();
-        worker.hand.give(rt, &self.shared.queue, Item::of(born))?;
+        worker
+            .hand
+            .give(self.rt, &self.shared.queue, Item::of(born))?;
         Ok(Some(Item::of(task)))
     }
 
-    /// The task leaves a phaser.
-    fn leave<R: Wait>(
-        &self,
-        rt: &R,
-        worker: &mut Worker<B, J>,
-        item: Item<B, J>,
-        phaser: u32,
-    ) -> Result<Next<B, J>, Refusal>
-        requires { IsDue (event_of item.task.value.standing.number (Due.Leave phaser)) item.task.value.standing }
-    {
-        let mut item = item;
-        self.shared.leave_on(rt, worker, &mut item.task, phaser)?;
-        item.task.left(phaser);
-        Ok(Some(item))
-    }
-
     /// The unborn child is taken off a phaser.
-    fn drop_child<R: Wait>(
+    fn drop_child(
         &self,
-        rt: &R,
         worker: &mut Worker<B, J>,
         item: Item<B, J>,
         phaser: u32,
@@ -163,17 +164,33 @@ impl<'a, B: Body, J: Names, E: Ends<B>, G: Gate> Team<'a, B, J, E, G> {
         let Some(child) = &mut item.unborn else {
             return Err(Refusal::NotNow);
         };
-        self.shared.leave_on(rt, worker, child, phaser)?;
+        self.shared.leave_on(self.rt, worker, child, phaser)?;
         item.note_child_gone(phaser);
         Ok(Some(item))
     }
 
-    fn shut<R: Wait>(&self, rt: &R, item: Item<B, J>, finish: u32) -> Result<Next<B, J>, Refusal> {
+    /// The task leaves a phaser.
+    fn leave(
+        &self,
+        worker: &mut Worker<B, J>,
+        item: Item<B, J>,
+        phaser: u32,
+    ) -> Result<Next<B, J>, Refusal>
+        requires { IsDue (event_of item.task.value.standing.number (Due.Leave phaser)) item.task.value.standing }
+    {
+        let mut item = item;
+        self.shared
+            .leave_on(self.rt, worker, &mut item.task, phaser)?;
+        item.task.left(phaser);
+        Ok(Some(item))
+    }
+
+    fn shut(&self, item: Item<B, J>, finish: u32) -> Result<Next<B, J>, Refusal> {
         // No clause says that finish 0 is shut by the root's end alone.
         if finish == 0 {
             return Err(Refusal::NotNow);
         }
-        match self.shared.finishes.shut(rt, finish, item) {
+        match self.shared.finishes.shut(self.rt, finish, item) {
             ShutAnswer::Done(shut) => {
                 let mut item = shut;
                 item.task.shut();
@@ -185,32 +202,35 @@ impl<'a, B: Body, J: Names, E: Ends<B>, G: Gate> Team<'a, B, J, E, G> {
     }
 
     /// The task ends, of which is heard first, and then its finish knows.
-    fn end<R: Wait>(
+    fn end(
         &self,
-        rt: &R,
         worker: &mut Worker<B, J>,
         item: Item<B, J>,
         finish: u32,
     ) -> Result<Next<B, J>, Refusal> {
         let Item { task, unborn: _ } = item;
-        let Task { body, refused, .. } = Box::into_inner(task);
+        let Task {
+            body,
+            ends,
+            refused,
+            ..
+        } = Box::into_inner(task);
+        // No clause says that a task which ends was asked to, if it was refused nothing.
+        if !ends && refused.is_none() {
+            return Err(Refusal::NotNow);
+        }
         worker.sums.ended(refused);
         self.ends.ended(body, refused);
-        self.shared.end_on(rt, worker, finish)?;
+        self.shared.end_on(self.rt, worker, finish)?;
         Ok(None)
     }
 
     /// The root shuts finish 0: the run is over, and what the root leaves is its worker's.
-    fn close<R: Wait>(
-        &self,
-        rt: &R,
-        worker: &mut Worker<B, J>,
-        item: Item<B, J>,
-    ) -> Result<Next<B, J>, Refusal> {
-        match self.shared.finishes.shut(rt, 0, item) {
+    fn close(&self, worker: &mut Worker<B, J>, item: Item<B, J>) -> Result<Next<B, J>, Refusal> {
+        match self.shared.finishes.shut(self.rt, 0, item) {
             ShutAnswer::Done(item) => {
                 let Item { task, unborn: _ } = item;
-                // No clause says that a lock gives back who was parked there.
+                // No clause says that a lock gives back the task that was parked there.
                 if task.standing.number() > 0 {
                     return Err(Refusal::NotNow);
                 }
@@ -221,7 +241,7 @@ impl<'a, B: Body, J: Names, E: Ends<B>, G: Gate> Team<'a, B, J, E, G> {
                     refused,
                     of: PhantomData,
                 });
-                self.shared.queue.close(rt);
+                self.shared.queue.close(self.rt);
                 Ok(None)
             }
             ShutAnswer::Parked => Ok(None),
@@ -230,59 +250,46 @@ impl<'a, B: Body, J: Names, E: Ends<B>, G: Gate> Team<'a, B, J, E, G> {
     }
 
     /// Makes the event that comes next, or asks the body for an act.
-    fn go_on<R: Wait>(
-        &self,
-        rt: &R,
-        worker: &mut Worker<B, J>,
-        item: Item<B, J>,
-    ) -> Result<Next<B, J>, Refusal> {
-        let mut item = item;
+    fn go_on(&self, worker: &mut Worker<B, J>, item: Item<B, J>) -> Result<Next<B, J>, Refusal> {
         match item.due() {
-            Due::Step => {
-                self.step(rt, worker, &mut item)?;
-                Ok(Some(item))
-            }
-            Due::Signal(phaser, number) => self.signal(rt, worker, item, phaser, number),
-            Due::Pass(phaser) => self.pass(rt, worker, item, phaser),
-            Due::Register(_, pair) => Ok(self.register(rt, worker, item, pair)),
-            Due::Spawn(child, finish) => self.bear(rt, worker, item, child, finish),
-            Due::DropChild(phaser, _) => self.drop_child(rt, worker, item, phaser),
-            Due::Leave(phaser) => self.leave(rt, worker, item, phaser),
-            Due::Shut(finish) => self.shut(rt, item, finish),
-            Due::End(finish) => self.end(rt, worker, item, finish),
-            Due::Close => self.close(rt, worker, item),
+            Due::Step => self.step(worker, item),
+            Due::Signal(phaser, number) => self.signal(worker, item, phaser, number),
+            Due::Pass(phaser) => self.pass(worker, item, phaser),
+            Due::Register(_, pair) => self.register(worker, item, pair),
+            Due::Spawn(child, finish) => self.bear(worker, item, child, finish),
+            Due::DropChild(phaser, _) => self.drop_child(worker, item, phaser),
+            Due::Leave(phaser) => self.leave(worker, item, phaser),
+            Due::Shut(finish) => self.shut(item, finish),
+            Due::End(finish) => self.end(worker, item, finish),
+            Due::Close => self.close(worker, item),
         }
     }
 
     /// Drives the task until it parks or ends, or for as long as a stretch is; then it waits in the
     /// queue for its next one.
-    fn drive<R: Wait>(
-        &self,
-        rt: &R,
-        worker: &mut Worker<B, J>,
-        item: Item<B, J>,
-    ) -> Result<(), Refusal> {
+    fn drive(&self, worker: &mut Worker<B, J>, item: Item<B, J>) -> Result<(), Refusal> {
         let mut driven = item;
         for _event in 0..STRETCH {
-            match self.go_on(rt, worker, driven)? {
+            match self.go_on(worker, driven)? {
                 Some(item) => driven = item,
                 None => return Ok(()),
             }
         }
-        worker.hand.give(rt, &self.shared.queue, driven)
+        worker.hand.give(self.rt, &self.shared.queue, driven)
     }
 }
 
-impl<'a, B: Body, J: Names, E: Ends<B>, G: Gate> Crew<Worker<B, J>> for Team<'a, B, J, E, G> {
+impl<'a, B: Body, J: Names, E: Ends<B>, G: Gate, R: Wait> Crew<Worker<B, J>>
+    for Team<'a, B, J, E, G, R> {
     /// Takes tasks and drives them, until the queue is closed. If something is amiss, the queue
     /// is closed first, so that nobody waits at it for ever.
-    fn work<R: Wait>(&self, rt: &R, worker: Worker<B, J>) -> Result<Worker<B, J>, Refusal> {
+    fn work<X: Wait>(&self, rt: &X, worker: Worker<B, J>) -> Result<Worker<B, J>, Refusal> {
         let mut worker = worker;
         for _ in rt.forever() {
             let Some(item) = worker.hand.next(rt, &self.shared.queue) else {
                 return Ok(worker);
             };
-            if let Err(refusal) = self.drive(rt, &mut worker, item) {
+            if let Err(refusal) = self.drive(&mut worker, item) {
                 self.shared.queue.close(rt);
                 return Err(told(refusal));
             }

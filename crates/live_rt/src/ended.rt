@@ -49,8 +49,15 @@ impl Counts {
 /// that. It is called by the worker before the task's finish knows, while no lock is held: whoever
 /// has shut a finish knows that all its tasks were heard of.
 pub trait Ends<B: Body> {
+    ghost use Rattle.std.specs.Prelude.{◌≡◌, None};
+
+    /// What is told of a body that has asked for its task's end. By default nothing. What follows from what
+    /// the body says then can be told: `run_live` asks for that (`tells`).
+    ghost told: { B → Type 0 } = { λ _. Unit {0} };
+
     /// The task of this body has ended.
-    fn ended(&self, body: B, refused: Option<Refusal>);
+    fn ended(&self, body: B, refused: Option<Refusal>)
+        requires told { refused ≡ None → ∥ told body ∥₁ };
 
     /// A worker has driven a task for a stretch, of at most 64 events. Here a run can show how far it
     /// is. Does nothing if it isn't written.

@@ -3,7 +3,7 @@ ghost use Rattle.std.specs.Prelude.{◌≡◌, ◌<◌, ◌≤◌, ℕ, [], true
 ghost use Rattle.tasks_in_flight.specs.Refused.{IsRunRefused};
 ghost use Rattle.live_rt.specs.Rooms.{has_room};
 ghost use Rattle.live_rt.specs.Gone.{AreAllGone};
-ghost use Rattle.live_rt.specs.Said.{HasSaid, StartsWell};
+ghost use Rattle.live_rt.specs.Said.{HasSaid, StartsWell, Tells};
 
 use crate::driver::Team;
 use crate::ended::{Counts, Ended, Ends};
@@ -104,6 +104,7 @@ fn run_in<
     requires finishes { 0 < setup.finishes }
     requires workers { (0 < setup.workers) × (setup.workers ≤ 16) }
     requires root { ∥ (J.Supposing.supposed → StartsWell B.Body.shows root) ∥₁ }
+    requires tells { ∥ Tells J.Supposing.supposed B.Body.shows E.Ends.told ∥₁ }
     ensures says { IfOk result (λ r. ∥ (J.Supposing.supposed → HasSaid B.Body.shows r.root 0) ∥₁) }
     ensures nobody { IfOk result (λ r. AreAllGone r.counts) }
     ensures refused { IfErr result (λ e. IsRunRefused e) }
@@ -122,11 +123,12 @@ fn run_in<
         children: CachePadded::new(AtomicU64::new(0)),
     };
     let team = Team {
+        rt,
         shared: &shared,
         ends: setup.ends,
         gate: setup.gate,
     };
-    let left = work_all(rt, &team, staff)?;
+    let left = work_all(&team, staff)?;
     ended_of(rt, &shared, left)
 }
 
@@ -137,9 +139,10 @@ fn run_in<
 /// Tasks, phasers and finishes come and go, and nothing is stored of them: there is no limit of tasks,
 /// phases or events, and memory is that of what is alive at once. If the root's body says nothing false
 /// before its first act, then it says nothing false in the end (`says`), of beginnings of legal
-/// histories. A phaser has to have a bound
-/// (`NotNow`), and a value that is looked at has to fit 64 bits (`HistoryFull`). A task that is refused
-/// something ends by itself, and the others go on.
+/// histories. Nor does any other that has asked for its task's end: what follows from what it says then
+/// is told to `ends` (`tells`). A phaser has to have a bound (`NotNow`), and a value that is looked at
+/// has to fit 64 bits (`HistoryFull`). A task that is refused something ends by itself, and the others
+/// go on.
 ///
 /// `Memory` if the tables, the workers or the queue get none; a task that gets none for a child, a
 /// phaser, a finish or a step ends by that alone. `NotExplained(0)` if a lock or the queue answered
@@ -155,6 +158,7 @@ pub fn run_live<B: Body + Send, E: Ends<B> + Sync, G: Gate + Sync, R: Threads + 
 ) -> Result<Ended<B>, Refusal>
     requires room { has_room room ≡ true }
     requires workers { (0 < workers) × (workers ≤ 16) }
+    requires tells { Tells (StartsWell B.shows root) B.shows E.told }
     ensures says { IfOk result (λ r. ∥ (StartsWell B.shows root → HasSaid B.shows r.root 0) ∥₁) }
     ensures nobody { IfOk result (λ r. AreAllGone r.counts) }
     ensures refused { IfErr result (λ e. IsRunRefused e) }

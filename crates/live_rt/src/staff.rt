@@ -81,9 +81,9 @@ pub(crate) fn work_all<
     E: Ends<B> + Sync,
     G: Gate + Sync,
     R: Threads + Wait + Sync,
->(rt: &R, team: &Team<'_, B, J, E, G>, staff: Vec<Worker<B, J>>) -> Result<Left<B, J>, Refusal>
+>(team: &Team<'_, B, J, E, G, R>, staff: Vec<Worker<B, J>>) -> Result<Left<B, J>, Refusal>
     ensures refused { IfErr result (λ e. IsRunRefused e) }
 {
-    let done = in_threads(rt, team, staff)?;
+    let done = in_threads(team.rt, team, staff)?;
     left_of(done)
 }

@@ -1,11 +1,10 @@
 //! A task in flight: its body, what it knows of itself, and what it has seen of the phasers that it holds.
-ghost use Rattle.std.specs.Prelude.{◌≡◌, [], None, Some, IfOk, IfErr, IfSome, option_map, slice_get};
+ghost use Rattle.std.specs.Prelude.{◌≡◌, [], true, None, Some, IfOk, IfErr, IfSome, option_map};
 ghost use Rattle.job_script.specs.declared.act.Answer.TheVariants.{Started};
 ghost use Rattle.task_standing.specs.Standing.{fresh};
-ghost use Rattle.task_standing.specs.StillToMake.{event_of};
-ghost use Rattle.tasks_in_flight.specs.inner.Due.{still_of};
+ghost use Rattle.tasks_in_flight.specs.inner.Due.{IsNext};
 ghost use Rattle.tasks_in_flight.specs.inner.Ready.{IsDue};
-ghost use Rattle.live_rt.specs.Said.{HasSaid};
+ghost use Rattle.live_rt.specs.Said.{HasAskedForEnd, HasSaid};
 ghost use Rattle.told_history.specs.Stories.{GoesOn};
 ghost use Rattle.live_rt.specs.inner.Places.{spot, story_of, in_slot};
 ghost use Rattle.live_rt.specs.inner.Says.{IsAbout, IsUnborn, HasStepped};
@@ -15,6 +14,7 @@ use crate::places::{Place, Places};
 use job_script::{Act, Answer};
 use phase_modes::{FinishNumber, Pair, Refusal, TaskNumber};
 use std::alloc::Global;
+use std::marker::PhantomData;
 use task_standing::{Due, Standing};
 use tasks_in_flight::Body;
 
@@ -28,8 +28,11 @@ pub(crate) struct Task<B: Body, J: Names> {
     pub(crate) standing: Standing,
     /// A place for each phaser that it holds.
     pub(crate) places: Places<J>,
+    /// Whether its body has asked for its end: then it gives no act more.
+    pub(crate) ends: bool,
     /// What it was refused, if it ends by that.
     pub(crate) refused: Option<Refusal>,
+    ghost end: { ends ≡ true → ∥ (J.Supposing.supposed → HasAskedForEnd B.Body.shows body) ∥₁ },
     ghost about: { ∥ (J.Supposing.supposed → IsAbout B.Body.shows body answer places standing) ∥₁ },
 }
 
@@ -49,7 +52,7 @@ pub(crate) struct Item<B: Body, J: Names> {
 pub(crate) struct RootLeft<B: Body, J: Names> {
     pub(crate) body: B,
     pub(crate) refused: Option<Refusal>,
-    pub(crate) of: std::marker::PhantomData<J>,
+    pub(crate) of: PhantomData<J>,
     ghost says: { ∥ (J.Supposing.supposed → HasSaid B.Body.shows body 0) ∥₁ },
 }
 
@@ -74,6 +77,7 @@ impl<B: Body, J: Names> Task<B, J> {
             answer: Some(Answer::Started),
             standing: Standing::new(alloc, number, home)?,
             places: Places::new(alloc)?,
+            ends: false,
             refused: None,
         };
         match Box::new(alloc, task) {
@@ -93,7 +97,7 @@ impl<B: Body, J: Names> Task<B, J> {
         self.places.get(phaser)
     }
 
-    /// The body's next act, after what came of its last one; none if nothing did yet.
+    /// The body's next act, after what came of its last one; none if nothing did yet, or nothing will.
     pub(crate) fn next_act(&mut self) -> Option<Result<Act<B>, Refusal>>
         requires due { IsDue None self.old.standing }
         ensures standing { self.new.standing ≡ self.old.standing }
@@ -101,6 +105,10 @@ impl<B: Body, J: Names> Task<B, J> {
         ensures stepped { IfSome result (λ act. ∥ (J.Supposing.supposed
             → HasStepped B.Body.shows self.new.body act self.new.places self.new.standing) ∥₁) }
     {
+        // No clause says that a task whose body has asked for its end isn't due to be stepped.
+        if self.ends {
+            return None;
+        }
         let Some(answer) = self.answer else {
             return None;
         };
@@ -130,8 +138,7 @@ impl<B: Body, J: Names> Item<B, J> {
 
     /// The event that comes next.
     pub(crate) fn due(&self) -> Due
-        ensures { event_of self.now.task.value.standing.number result
-            ≡ slice_get (still_of self.now.task.value.standing (option_map (λ c. c.value.standing) self.now.unborn)) 0 }
+        ensures { IsNext result self.now.task.value.standing (option_map (λ c. c.value.standing) self.now.unborn) }
     {
         match &self.unborn {
             Some(child) => self.task.standing.due_with(&child.standing),

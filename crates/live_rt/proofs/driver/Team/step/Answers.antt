@@ -1,11 +1,15 @@
-use Rattle.std.proofs.Common.{Result, subst}
-use Rattle.phase_modes.specs.declared.refusal.Refusal.{Refusal}
-use Rattle.job_script.specs.declared.act.Act.{Act}
-use Rattle.live_rt.specs.inner.Says.{HasStepped}
+use Rattle.std.proofs.Common.{◌≡◌, Some}
+use Rattle.job_script.specs.declared.act.Answer.TheVariants.{Started}
+use Rattle.live_rt.specs.inner.Says.{IsUnborn}
+use Rattle.live_rt.proofs.Seen.{of_both}
 use Rattle.live_rt.proofs.driver.Team.step.Goals as goal
 
-pub act-requires-clause-says : goal.act-requires-clause-says
-act-requires-clause-says g c =
-    let new = c.next_act-act.new.self in
-    subst (λ (a : Result (Act g.row.B.Denot) Refusal). ∥ (g.J.Supposing.supposed → HasStepped g.B.Body.shows new.body a new.places new.standing) ∥₁)
-    c.in-Ok.is c.in-Some.ensures.stepped
+-- it bears what its act has spawned, if it has
+pub invariant_of-item-2 : goal.invariant_of-item-2
+invariant_of-item-2 g c =
+    let new = c.step.new.task in
+    let is = of_both (λ x. x.value.answer ≡ Some Started) (λ x. IsUnborn g.B.Body.shows x.value.body x.value.standing.number x.value.places new.places)
+    g.J.Supposing.supposed c.in_ok-item.field-0 c.in_ok-item.ensures.bears in record {
+      newborn = is.0;
+      says = is.1;
+    }

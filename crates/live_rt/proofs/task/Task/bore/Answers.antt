@@ -9,6 +9,7 @@ pub invariant_of-self : goal.invariant_of-self
 invariant_of-self g c =
     let old = c.args.self.now in
     let due = c.requires.due in record {
+      end = old.end;
       about = subst (λ (k : Known). ∥ (g.J.Supposing.supposed → IsAbout g.B.Body.shows old.body old.answer old.places k) ∥₁) (sym c.note_birth.ensures)
           (∥∥₁_map old.about (λ f p. about_born g.B.Body.shows old.body old.answer old.places old.standing due.0 due.1 due.2 (f p)));
     }

@@ -8,6 +8,7 @@ use Rattle.live_rt.proofs.task.Task.give_up.Goals as goal
 pub invariant_of-self : goal.invariant_of-self
 invariant_of-self g c =
     let old = c.args.self.now in record {
+      end = old.end;
       about = subst (λ (k : Known). ∥ (g.J.Supposing.supposed → IsAbout g.B.Body.shows old.body old.answer old.places k) ∥₁) (sym c.give_up.ensures)
           (∥∥₁_map old.about (λ f p. about_at_end g.B.Body.shows old.body old.answer old.places old.standing (f p)));
     }

@@ -20,6 +20,7 @@ whichever (Err e) old joined new P number plan done full = (ap (λ (k : Known). 
 pub invariant_of-self : goal.invariant_of-self
 invariant_of-self g c =
     let old = c.args.self.now in record {
+      end = old.end;
       about = subst (λ (ps : List Spot). ∥ (g.J.Supposing.supposed → IsAbout g.B.Body.shows old.body old.answer ps old.standing) ∥₁) (sym c.in_err-add.ensures.refused) old.about;
     }
 
@@ -32,6 +33,7 @@ invariant_of-self-2 g c =
     ∥∥₁_map₂ c.requires.unborn old.about (λ u f q. (u q, f q)) in
     let same = whichever c.join.result old.standing (record old.standing { holding = old.standing.holding ++ c.args.held ∷ [] }) c.join.new.self
     (length old.standing.holding ≡ 16) refl refl c.join.ensures.joined c.join.ensures.full in record {
+      end = old.end;
       about = ∥∥₁_map₂ c.requires.newborn both (λ is f q. let now = f q in
           subst (λ (a : Option Answer). IsAbout g.B.Body.shows old.body a c.add.new.self c.join.new.self) (sym is)
           (about_joined g.B.Body.shows old.body old.places old.standing c.join.new.self p c.add.new.self (c.is_legal.ensures.legal c.args.place.at.number)

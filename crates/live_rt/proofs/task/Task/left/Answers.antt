@@ -9,12 +9,12 @@ use Rattle.live_rt.proofs.task.Task.left.Goals as goal
 pub invariant_of-self : goal.invariant_of-self
 invariant_of-self g c =
     let old = c.args.self.now in record {
+      end = old.end;
       about = subst (λ (k : Known). ∥ (g.J.Supposing.supposed → IsAbout g.B.Body.shows old.body old.answer c.remove.new.self k) ∥₁) (sym c.leave.ensures)
           (∥∥₁_map old.about (λ f p. about_left g.B.Body.shows old.body old.answer old.places c.remove.new.self old.standing c.args.phaser
           c.remove.ensures.gone c.remove.ensures.others c.requires.due (f p)));
     }
 
-pub returns : goal.returns
-returns g c = record {
-  goes = fewer_gone_on c.args.phaser c.args.self.now.places c.remove.new.self c.remove.ensures.gone c.remove.ensures.others;
-}
+pub returns-clause-goes : goal.returns-clause-goes
+returns-clause-goes g c =
+    fewer_gone_on c.args.phaser c.args.self.now.places c.remove.new.self c.remove.ensures.gone c.remove.ensures.others

@@ -15,6 +15,7 @@ invariant_of-self g c =
     let put : IsPut p old.places c.set.new.self = record { here = c.set.ensures.here; others = c.set.ensures.others } in
     let legal = c.is_legal.ensures.legal c.args.place.at.number in
     let asked = c.requires.asked in record {
+      end = old.end;
       about = subst (λ (k : Known). ∥ (g.J.Supposing.supposed → IsAbout g.B.Body.shows old.body (Some (Saw c.args.saw)) c.set.new.self k) ∥₁) (sym c.note_act.ensures.acted)
           (∥∥₁_map asked.2 (λ f q. about_looked g.B.Body.shows old.body old.places c.set.new.self old.standing p asked.0 c.args.saw put
           c.requires.further legal asked.1 (f q)));

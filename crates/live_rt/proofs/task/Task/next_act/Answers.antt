@@ -1,4 +1,4 @@
-use Rattle.std.proofs.Common.{Option, subst}
+use Rattle.std.proofs.Common.{Option, subst, sym, ◌∙◌}
 use Rattle.std.proofs.Math.Logic.{∥∥₁_map}
 use Rattle.job_script.specs.declared.act.Answer.{Answer}
 use Rattle.tasks_in_flight.specs.Heard.{asked_by}
@@ -16,6 +16,7 @@ returns-clause-stepped g c =
 pub invariant_of-self : goal.invariant_of-self
 invariant_of-self g c =
     let old = c.args.self.now in record {
+      end = λ is. absurd (cc (sym c.if-self.false ∙ is));
       about = ∥∥₁_map (subst (λ (a : Option Answer). ∥ (g.J.Supposing.supposed → IsAbout g.B.Body.shows old.body a old.places old.standing) ∥₁) c.in-Some.is old.about)
           (λ f p. about_asking g.B.Body.shows c.step.new.self (asked_by c.step.result) old.places old.standing
           (has_stepped g.B.Body.shows old.body c.step.new.self c.step.result c.in-Some.answer old.places old.standing c.requires.due

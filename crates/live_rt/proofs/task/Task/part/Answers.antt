@@ -9,6 +9,7 @@ use Rattle.live_rt.proofs.task.Task.part.Goals as goal
 pub invariant_of-self : goal.invariant_of-self
 invariant_of-self g c =
     let old = c.args.self.now in record {
+      end = old.end;
       about = ∥∥₁_map₂ c.requires.newborn old.about (λ is f p.
           subst (λ (a : Option Answer). IsAbout g.B.Body.shows old.body a c.remove.new.self c.leave.new.self) (sym is)
           (about_parted g.B.Body.shows old.body old.places c.remove.new.self old.standing c.leave.new.self c.args.phaser

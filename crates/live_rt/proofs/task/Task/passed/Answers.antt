@@ -14,14 +14,14 @@ invariant_of-self g c =
     let put : IsPut p old.places c.set.new.self = record { here = c.set.ensures.here; others = c.set.ensures.others } in
     let legal = c.is_legal.ensures.legal c.args.place.at.number in
     let own = c.requires.own in record {
+      end = old.end;
       about = subst (λ (k : Known). ∥ (g.J.Supposing.supposed → IsAbout g.B.Body.shows old.body old.answer c.set.new.self k) ∥₁) (sym c.note_pass.ensures)
           (∥∥₁_map old.about (λ f q. about_passed g.B.Body.shows old.body old.answer old.places c.set.new.self old.standing p own.0 put
           c.requires.further legal own.1 own.2 c.requires.due (f q)));
     }
 
-pub returns : goal.returns
-returns g c =
+pub returns-clause-goes : goal.returns-clause-goes
+returns-clause-goes g c =
     let old = c.args.self.now in
-    let p = spot c.args.place.at c.args.place.me c.args.place.seen.items in record {
-      goes = gone_on p old.places c.set.new.self (record { here = c.set.ensures.here; others = c.set.ensures.others }) c.requires.further;
-    }
+    let p = spot c.args.place.at c.args.place.me c.args.place.seen.items in
+    gone_on p old.places c.set.new.self (record { here = c.set.ensures.here; others = c.set.ensures.others }) c.requires.further

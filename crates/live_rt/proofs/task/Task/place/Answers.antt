@@ -6,5 +6,6 @@ use Rattle.live_rt.proofs.task.Task.place.Goals as goal
 pub invariant_of-self : goal.invariant_of-self
 invariant_of-self g c =
     let old = c.args.self.now in record {
+      end = old.end;
       about = subst (λ (ps : List Spot). ∥ (g.J.Supposing.supposed → IsAbout g.B.Body.shows old.body old.answer ps old.standing) ∥₁) (sym c.get.ensures.same) old.about;
     }

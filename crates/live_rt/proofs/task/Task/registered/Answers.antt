@@ -12,6 +12,7 @@ invariant_of-self g c =
     let put : IsPut p old.places c.set.new.self = record { here = c.set.ensures.here; others = c.set.ensures.others } in
     let legal = c.is_legal.ensures.legal c.args.place.at.number in
     record {
+      end = old.end;
       about = ∥∥₁_map old.about (λ f q. about_registered g.B.Body.shows old.body old.answer old.places c.set.new.self old.standing p put
           c.requires.further legal c.requires.own (sym c.hears_of_each.ensures ∙ c.if-hears_of_each.true) (f q));
     }

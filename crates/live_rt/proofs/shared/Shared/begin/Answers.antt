@@ -1,6 +1,6 @@
 use Rattle.std.proofs.Math.Logic.{∥∥₁_map}
 use Rattle.live_rt.proofs.Begins.{asks_for_kept}
-use Rattle.live_rt.proofs.driver.Team.begin.Goals as goal
+use Rattle.live_rt.proofs.shared.Shared.begin.Goals as goal
 
 pub begin-requires : goal.begin-requires
 begin-requires g c =
