@@ -57,13 +57,6 @@ goes_by {T} r known seen child k d named first is =
     let same : event_of k.number named ≡ slice_get (still_of k child) 0 = sym (ap (λ (y : Due). event_of k.number y) is) ∙ first in
     subst (λ (e : Option WorldEvent). IfGoesOn r (λ (x : T). GoesBy seen e k (known x))) same
 
--- the same of an act, where no event was due
-pub acts_first : (seen : ℕ → Story) (child : Option Known) (k k' : Known) (d : Due) → event_of k.number d ≡ slice_get (still_of k child) 0
-    → d ≡ due.Step → HasActed seen k k' → HasGoneOn seen child k k'
-acts_first seen child k k' d first is =
-    let same : event_of k.number due.Step ≡ slice_get (still_of k child) 0 = sym (ap (λ (y : Due). event_of k.number y) is) ∙ first in
-    subst (λ (e : Option WorldEvent). GoesBy seen e k k') same
-
 -- who doesn't go on
 pub goes_nowhere : {T : Type 0} (r : Result (Option T) Refusal) (Q : T → Type 0) → IfGoesOn r (λ x. ⊥) → IfGoesOn r Q
 goes_nowhere r Q = goes_as r (λ x. ⊥) Q (λ x no. absurd no)
@@ -108,12 +101,6 @@ acts_since fs gs mid k k' fronts same acted =
 pub if_ok : (P Q : Type 0) → (P → Q) → (r : Result (Unit {0}) Refusal) → OnOk r P → OnOk r Q
 if_ok P Q implied (Ok u) is = implied is
 if_ok P Q implied (Err e) is = tt
-
--- the same of what it comes to where it is answered Ok
-pub acts_as : (fs gs : List Sight) (mid k k' : Known) → gs ≡ fs → mid ≡ k → (r : Result (Unit {0}) Refusal)
-    → OnOk r (HasActed (λ n. story_at gs n) mid k') → OnOk r (HasActed (λ n. story_at fs n) k k')
-acts_as fs gs mid k k' fronts same =
-    if_ok (HasActed (λ n. story_at gs n) mid k') (HasActed (λ n. story_at fs n) k k') (acts_since fs gs mid k k' fronts same)
 
 pub gave_up : (seen : ℕ → Story) (mid k k' : Known) → mid ≡ k → (r : Result (Unit {0}) Refusal) → OnOk r (k' ≡ given_up mid)
     → OnOk r (HasActed seen k k')

@@ -3,15 +3,15 @@ use Rattle.tasks_in_flight.specs.Heard.{make}
 use Rattle.tasks_in_flight.specs.inner.Ready.{seen_by}
 use Rattle.table_receipts.specs.Seen.{story_at}
 use Rattle.task_worker.proofs.Driven.{not_tried}
-use Rattle.task_worker.proofs.worker.Shared.make.Goals as goal
+use Rattle.task_worker.proofs.acts.TeamActsTaskBusy.make.Goals as goal
 
 pub make_on-requires : goal.make_on-requires
 make_on-requires g c = record {
-  says = subst (λ (t : _). ∥ (g.K.Supposing.supposed → g.B.Body.shows t.body t.log.task (make c.args.mode c.args.terms.now) (seen_by t.fronts t.standing t.log.log)) ∥₁)
-      (sym (c.in_ok-may_try.ensures.same c.if-not-branch.false)) c.requires.says;
+  says = subst (λ (t : _). ∥ (g.K.Supposing.supposed → g.B.Body.shows t.body t.log.task (make c.args.mode (record { ops = c.args.ops; bound = c.args.bound })) (seen_by t.fronts t.standing t.log.log)) ∥₁)
+      (sym (c.in_ok-may_try.ensures.same c.if-not-branch.false)) c.requires.0;
 }
 
-pub returns-then-not-branch-clause-acted : goal.returns-then-not-branch-clause-acted
-returns-then-not-branch-clause-acted g c =
+pub returns-then-not-branch-clause-acts : goal.returns-then-not-branch-clause-acts
+returns-then-not-branch-clause-acts g c =
     let task = c.args.task.now in
     not_tried (λ n. story_at task.fronts n) c.in_ok-may_try.field-0 task.standing c.may_try.new.task.standing c.if-not-branch.true c.in_ok-may_try.ensures.standing

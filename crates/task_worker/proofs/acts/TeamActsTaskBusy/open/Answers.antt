@@ -10,7 +10,7 @@ use Rattle.task_standing.specs.Known.{Known}
 use Rattle.task_standing.specs.Noted.{noted}
 use Rattle.task_worker.specs.inner.Driven.{HasActed, tried_by}
 use Rattle.task_worker.proofs.Driven.{if_ok, not_tried, gave_up}
-use Rattle.task_worker.proofs.worker.Shared.open.Goals as goal
+use Rattle.task_worker.proofs.acts.TeamActsTaskBusy.open.Goals as goal
 
 pub opened-requires : goal.opened-requires
 opened-requires g c =
@@ -21,29 +21,25 @@ opened-requires g c =
       asked = subst (λ (t : _). ∥ (g.K.Supposing.supposed → g.B.Body.shows t.body t.log.task opens (seen_by t.fronts t.standing t.log.log)) ∥₁)
           (sym (c.in_ok-may_try.ensures.same c.if-not-branch.false))
           (shows_kept g.B.Body.shows old.body mid.body old.log.task mid.log.task opens old.fronts mid.fronts old.standing mid.standing old.log.log mid.log.log
-          kept.body kept.task kept.fronts kept.standing (ap (λ d. d.log) kept.log) c.requires);
+          kept.body kept.task kept.fronts kept.standing (ap (λ d. d.log) kept.log) c.requires.0);
     }
 
-pub returns-then-is_err : goal.returns-then-is_err
-returns-then-is_err g c =
+pub returns-then-is_err-clause-acts : goal.returns-then-is_err-clause-acts
+returns-then-is_err-clause-acts g c =
     let task = c.args.task.now in
-    record {
-      acted = gave_up (λ n. story_at task.fronts n) c.reserve_opening.new.self.standing task.standing c.fail.new.task.standing c.reserve_opening.ensures.standing c.fail.result c.fail.ensures;
-    }
+    gave_up (λ n. story_at task.fronts n) c.reserve_opening.new.self.standing task.standing c.fail.new.task.standing c.reserve_opening.ensures.standing c.fail.result c.fail.ensures
 
-pub returns-then-not-branch : goal.returns-then-not-branch
-returns-then-not-branch g c =
+pub returns-then-not-branch-clause-acts : goal.returns-then-not-branch-clause-acts
+returns-then-not-branch-clause-acts g c =
     let task = c.args.task.now in
     let seen : ℕ → Story = λ n. story_at task.fronts n in
     let mid = c.reserve_opening.new.self.standing in
     let new = c.may_try.new.task.standing in
-    record {
-      acted = subst (λ (k : Known). HasActed seen k new) c.reserve_opening.ensures.standing
-          (not_tried seen c.in_ok-may_try.field-0 mid new c.if-not-branch.true c.in_ok-may_try.ensures.standing);
-    }
+    subst (λ (k : Known). HasActed seen k new) c.reserve_opening.ensures.standing
+    (not_tried seen c.in_ok-may_try.field-0 mid new c.if-not-branch.true c.in_ok-may_try.ensures.standing)
 
-pub returns : goal.returns
-returns g c =
+pub returns-clause-acts : goal.returns-clause-acts
+returns-clause-acts g c =
     let k = c.args.task.now.standing in
     let seen : ℕ → Story = λ n. story_at c.args.task.now.fronts n in
     let e = Finish c.finish-finish.result (Opened k.number) in
@@ -52,7 +48,5 @@ returns g c =
     let same =
     c.in_ok-may_try.ensures.standing
     ∙ (ap (λ (b : Bool). tried_by b c.reserve_opening.new.self.standing) c.if-not-branch.false ∙ c.reserve_opening.ensures.standing) in
-    record {
-      acted = if_ok (new ≡ noted e mid) (HasActed seen k new) (λ is. (e, refl, tt, is ∙ ap (λ (x : Known). noted e x) same))
-          c.opened.result c.opened.ensures.opened;
-    }
+    if_ok (new ≡ noted e mid) (HasActed seen k new) (λ is. (e, refl, tt, is ∙ ap (λ (x : Known). noted e x) same))
+    c.opened.result c.opened.ensures.opened
