@@ -1,5 +1,5 @@
 //! What a run leaves, and who hears of its tasks' ends.
-ghost use Rattle.std.specs.Prelude.{◌≡◌, true};
+ghost use Rattle.std.specs.Prelude.{◌≡◌, ◌↔◌, true};
 ghost use Rattle.live_rt.specs.Gone.{AreAllGone};
 
 use crate::pulses::Pulses;
@@ -39,7 +39,7 @@ pub struct Counts {
 impl Counts {
     /// Whether nobody is left: each task has ended, each phaser is gone, and each finish is shut.
     pub fn are_all_gone(self) -> bool
-        ensures { result ≡ true → AreAllGone self }
+        ensures { (result ≡ true) ↔ AreAllGone self }
     {
         self.ended == self.tasks && self.gone == self.phasers && self.shut == self.finishes
     }
