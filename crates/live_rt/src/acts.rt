@@ -1,6 +1,9 @@
 //! What a worker makes of the acts that a task's body gives.
-ghost use Rattle.std.specs.Prelude.{◌≡◌, true, Some, IfSome};
+ghost use Rattle.std.specs.Prelude.{◌≡◌, Some, IfSome, if◌then◌else◌};
 ghost use Rattle.job_script.specs.declared.act.Answer.TheVariants.{Started};
+ghost use Rattle.world_model.specs.declared.event.WorldEvent.{WorldEvent};
+ghost use Rattle.task_standing.specs.Noted.{noted};
+ghost use Rattle.tasks_in_flight.specs.inner.GoingOn.{HasActed, any_step, given_up, tried_by};
 ghost use Rattle.live_rt.specs.inner.Says.{AsksFor, AsksToSpawn, IsUnborn, HasStepped};
 
 use crate::driver::Team;
@@ -21,7 +24,7 @@ impl<B: Body, J: Names> Shared<B, J> {
     fn may_try(&self, task: &mut Task<B, J>, tried: &Tried) -> bool
         ensures body { task.new.body ≡ task.old.body }
         ensures places { task.new.places ≡ task.old.places }
-        ensures standing { result ≡ true → task.new.standing ≡ task.old.standing }
+        ensures standing { task.new.standing ≡ tried_by result task.old.standing }
     {
         match task.standing.may_make(self.limits, tried) {
             Ok(()) => true,
@@ -34,20 +37,29 @@ impl<B: Body, J: Names> Shared<B, J> {
 
     /// Begins an act that goes on by a plan, if it isn't refused. Once it has ended the
     /// body hears of it, if it hears anything more. Whether it has begun.
-    fn begin(&self, task: &mut Task<B, J>, begun: Begun) -> bool
-        requires { ∥ (J.Supposing.supposed → AsksFor B.Body.shows task.old.body begun task.old.places task.old.standing) ∥₁ }
+    fn begin(&self, task: &mut Task<B, J>, begun: &Begun) -> bool
+        requires { ∥ (J.Supposing.supposed → AsksFor B.Body.shows task.old.body begun.now task.old.places task.old.standing) ∥₁ }
         ensures places { task.new.places ≡ task.old.places }
+        ensures begun { task.new.standing
+            ≡ if result then noted (WorldEvent.Begin task.old.standing.number begun.now) task.old.standing
+            else given_up task.old.standing }
     {
-        let may = self.may_try(task, &Tried::Begun(begun));
-        if may {
-            task.begin(&begun);
+        match task.standing.may_begin(self.limits, begun) {
+            Ok(()) => {
+                task.begin(begun);
+                true
+            }
+            Err(refusal) => {
+                task.give_up(refusal);
+                false
+            }
         }
-        may
     }
 
     /// Begins to spawn a child. The child's memory is taken before the act is looked at.
     fn spawn(&self, task: &mut Task<B, J>, body: B, pairs: Phased) -> Option<Box<Task<B, J>>>
         requires says { ∥ (J.Supposing.supposed → AsksToSpawn B.Body.shows task.old.body body pairs task.old.places task.old.standing) ∥₁ }
+        ensures acted { HasActed any_step task.old.standing task.new.standing }
         ensures newborn { IfSome result (λ c. ∥ c.value.answer ≡ Some Started ∥₁) }
         ensures says { IfSome result (λ c. ∥ (J.Supposing.supposed
             → IsUnborn B.Body.shows c.value.body c.value.standing.number c.value.places task.new.places) ∥₁) }
@@ -59,7 +71,7 @@ impl<B: Body, J: Names> Shared<B, J> {
             task.give_up(Refusal::Memory);
             return None;
         };
-        if self.begin(task, Begun::Async(number, pairs)) {
+        if self.begin(task, &Begun::Async(number, pairs)) {
             Some(child)
         } else {
             None
@@ -70,18 +82,23 @@ impl<B: Body, J: Names> Shared<B, J> {
 impl<'a, B: Body, J: Names, E: Ends<B>, G: Gate, R: Wait> Acts<B, Task<B, J>, Worker<B, J>>
     for Team<'a, B, J, E, G, R> {
     ghost use Rattle.std.specs.Prelude.{Ok, None};
+    ghost use Rattle.std.proofs.Common.{subst};
     ghost use Rattle.tasks_in_flight.specs.inner.Ready.{IsDue};
 
     ghost idle = { λ t. IsDue None t.standing };
 
     ghost asks = { λ act t. ∥ (J.Supposing.supposed → HasStepped B.Body.shows t.body (Ok act) t.places t.standing) ∥₁ };
 
+    ghost gives = { λ old given. given.standing ≡ old.standing };
+
+    ghost acts = { λ old new. HasActed any_step old.standing new.standing };
+
     ghost bears = { λ t child. ∥ child.answer ≡ Some Started ∥₁
         × ∥ (J.Supposing.supposed → IsUnborn B.Body.shows child.body child.standing.number child.places t.places) ∥₁ };
 
     ghost notes_nothing = { λ w. tt };
 
-    ghost acts_since = { λ old given new is acted. tt };
+    ghost acts_since = { λ old given new same acted. subst (λ k. HasActed any_step k new.standing) same acted };
 
     fn next_act(
         &self,
@@ -193,8 +210,9 @@ impl<'a, B: Body, J: Names, E: Ends<B>, G: Gate, R: Wait> Acts<B, Task<B, J>, Wo
         phaser: u32,
         accumulator: u8,
     ) -> Result<(), Refusal> {
-        if let Err(refusal) = self.shared.look_on(self.rt, task, phaser, accumulator) {
-            task.give_up(refusal);
+        match self.shared.look_on(self.rt, task, phaser, accumulator) {
+            Ok(()) => {}
+            Err(refusal) => task.give_up(refusal),
         }
         Ok(())
     }
@@ -208,7 +226,7 @@ impl<'a, B: Body, J: Names, E: Ends<B>, G: Gate, R: Wait> Acts<B, Task<B, J>, Wo
         let Some(begun) = begun_by(act) else {
             return Err(Refusal::NotNow);
         };
-        let _begun = self.shared.begin(task, begun);
+        let _begun = self.shared.begin(task, &begun);
         Ok(())
     }
 }

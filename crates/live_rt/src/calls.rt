@@ -1,9 +1,12 @@
 //! The calls on phasers and finishes behind their locks, for the tasks that hold them. Those whom a call
 //! wakes are given to the queue before it answers.
-ghost use Rattle.std.specs.Prelude.{◌≡◌, ◌<◌, Some, IfOk};
+ghost use Rattle.std.specs.Prelude.{◌≡◌, ◌<◌, Some, IfOk, OnOk, OnErr};
 ghost use Rattle.phase_model.specs.declared.terms.Terms.{Terms};
+ghost use Rattle.world_model.specs.declared.event.Step.TheVariants.{Sig};
+ghost use Rattle.task_standing.specs.Standing.{acted, registered_by};
 ghost use Rattle.task_standing.specs.StillToMake.{event_of};
 ghost use Rattle.tasks_in_flight.specs.Heard.{make, send, look};
+ghost use Rattle.tasks_in_flight.specs.inner.GoingOn.{HasActed, IsOfSignal, IsOfPass, any_step};
 ghost use Rattle.tasks_in_flight.specs.inner.Ready.{IsDue};
 ghost use Rattle.live_rt.specs.inner.Places.{spot, in_slot};
 ghost use Rattle.live_rt.specs.inner.Says.{Asks};
@@ -59,6 +62,8 @@ impl<B: Body, J: Names> Shared<B, J> {
         terms: &Terms,
     ) -> Result<(), Refusal>
         requires says { ∥ (J.Supposing.supposed → Asks B.Body.shows task.old.body (make mode terms.now) task.old.places task.old.standing) ∥₁ }
+        ensures acted { OnOk result (HasActed any_step task.old.standing task.new.standing) }
+        ensures refused { OnErr result (task.new.standing ≡ task.old.standing) }
     {
         let Some(bound) = terms.bound else {
             return Err(Refusal::NotNow);
@@ -73,7 +78,11 @@ impl<B: Body, J: Names> Shared<B, J> {
         rt: &R,
         item: &mut Item<B, J>,
         pair: Pair,
-    ) -> Result<(), Refusal> {
+    ) -> Result<(), Refusal>
+        ensures registered { OnOk result (item.new.task.value.standing
+            ≡ record item.old.task.value.standing { plan = registered_by item.old.task.value.standing.plan }) }
+        ensures refused { OnErr result (item.new.task.value.standing ≡ item.old.task.value.standing) }
+    {
         let mut place = self.held(&mut item.task, pair.phaser)?;
         let (at, me) = (place.at, place.me);
         let child = self
@@ -95,6 +104,8 @@ impl<B: Body, J: Names> Shared<B, J> {
         value: i32,
     ) -> Result<(), Refusal>
         requires says { ∥ (J.Supposing.supposed → Asks B.Body.shows task.old.body (send phaser accumulator value) task.old.places task.old.standing) ∥₁ }
+        ensures acted { OnOk result (task.new.standing ≡ acted task.old.standing) }
+        ensures refused { OnErr result (task.new.standing ≡ task.old.standing) }
     {
         let mut place = self.held(task, phaser)?;
         let (at, me) = (place.at, place.me);
@@ -113,6 +124,8 @@ impl<B: Body, J: Names> Shared<B, J> {
         accumulator: u8,
     ) -> Result<(), Refusal>
         requires says { ∥ (J.Supposing.supposed → Asks B.Body.shows task.old.body (look phaser accumulator) task.old.places task.old.standing) ∥₁ }
+        ensures acted { OnOk result (task.new.standing ≡ acted task.old.standing) }
+        ensures refused { OnErr result (task.new.standing ≡ task.old.standing) }
     {
         let mut place = self.held(task, phaser)?;
         let (at, me) = (place.at, place.me);
@@ -132,6 +145,8 @@ impl<B: Body, J: Names> Shared<B, J> {
         proposed: Option<u32>,
     ) -> Result<SignalAnswer<Item<B, J>>, Refusal>
         requires { IsDue (event_of item.task.value.standing.number (Due.Signal phaser proposed)) item.task.value.standing }
+        ensures told { IfOk result (IsOfSignal (λ i. i.task.value.standing) item.task.value.standing
+            any_step phaser (Sig item.task.value.standing.number proposed)) }
     {
         let mut item = item;
         let mut place = match self.held(&mut item.task, phaser) {
@@ -163,6 +178,8 @@ impl<B: Body, J: Names> Shared<B, J> {
         phaser: u32,
     ) -> Result<PassAnswer<Item<B, J>, Phase>, Refusal>
         requires { IsDue (event_of item.task.value.standing.number (Due.Pass phaser)) item.task.value.standing }
+        ensures told { IfOk result (IsOfPass (λ i. i.task.value.standing) item.task.value.standing
+            any_step phaser item.task.value.standing.number) }
     {
         let mut item = item;
         let mut place = match self.held(&mut item.task, phaser) {
@@ -192,6 +209,7 @@ impl<B: Body, J: Names> Shared<B, J> {
         phaser: u32,
     ) -> Result<(), Refusal>
         ensures places { task.new.places ≡ task.old.places }
+        ensures standing { task.new.standing ≡ task.old.standing }
     {
         let mut place = self.held(task, phaser)?;
         let (at, me) = (place.at, place.me);

@@ -1,6 +1,7 @@
 //! How a worker drives a task, event by event.
-ghost use Rattle.std.specs.Prelude.{None};
+ghost use Rattle.std.specs.Prelude.{◌≡◌, None, IfSome, option_map};
 ghost use Rattle.task_standing.specs.StillToMake.{event_of};
+ghost use Rattle.tasks_in_flight.specs.inner.GoingOn.{GoesBy, HasGoneOn, IfGoesOn, any_step, given_up};
 ghost use Rattle.tasks_in_flight.specs.inner.Ready.{IsDue};
 ghost use Rattle.live_rt.specs.Said.{Tells};
 
@@ -35,7 +36,9 @@ pub(crate) struct Team<'a, B: Body, J: Names, E: Ends<B>, G: Gate, R: Wait> {
 }
 
 /// The task gives up by this refusal.
-fn gives_up<B: Body, J: Names>(item: Item<B, J>, refusal: Refusal) -> Next<B, J> {
+fn gives_up<B: Body, J: Names>(item: Item<B, J>, refusal: Refusal) -> Next<B, J>
+    ensures { IfSome result (λ next. next.task.value.standing ≡ given_up item.task.value.standing) }
+{
     let mut item = item;
     item.task.give_up(refusal);
     Some(item)
@@ -49,7 +52,9 @@ impl<'a, B: Body, J: Names, E: Ends<B>, G: Gate, R: Wait> Team<'a, B, J, E, G, R
         item: Item<B, J>,
         phaser: u32,
         number: u32,
-    ) -> Result<Next<B, J>, Refusal> {
+    ) -> Result<Next<B, J>, Refusal>
+        ensures standing { IfGoesOn result (λ next. next.task.value.standing ≡ item.task.value.standing) }
+    {
         let mut item = item;
         item.task.run_single(number);
         self.shared
@@ -60,6 +65,7 @@ impl<'a, B: Body, J: Names, E: Ends<B>, G: Gate, R: Wait> Team<'a, B, J, E, G, R
     /// Asks the body for its next act, and begins it, or makes it.
     fn step(&self, worker: &mut Worker<B, J>, item: Item<B, J>) -> Result<Next<B, J>, Refusal>
         requires { IsDue None item.task.value.standing }
+        ensures made { IfGoesOn result (λ next. GoesBy any_step Due.Step item.task.value.standing next.task.value.standing) }
     {
         let mut item = item;
         // No clause says that a task which spawns a child isn't due to be stepped.
@@ -79,6 +85,7 @@ impl<'a, B: Body, J: Names, E: Ends<B>, G: Gate, R: Wait> Team<'a, B, J, E, G, R
         number: Option<u32>,
     ) -> Result<Next<B, J>, Refusal>
         requires { IsDue (event_of item.task.value.standing.number (Due.Signal phaser number)) item.task.value.standing }
+        ensures made { IfGoesOn result (λ next. GoesBy any_step (Due.Signal phaser number) item.task.value.standing next.task.value.standing) }
     {
         match self
             .shared
@@ -100,6 +107,7 @@ impl<'a, B: Body, J: Names, E: Ends<B>, G: Gate, R: Wait> Team<'a, B, J, E, G, R
         phaser: u32,
     ) -> Result<Next<B, J>, Refusal>
         requires { IsDue (event_of item.task.value.standing.number (Due.Pass phaser)) item.task.value.standing }
+        ensures made { IfGoesOn result (λ next. GoesBy any_step (Due.Pass phaser) item.task.value.standing next.task.value.standing) }
     {
         match self.shared.pass_on(self.rt, worker, item, phaser)? {
             PassAnswer::Passed(passed, _) => {
@@ -117,8 +125,11 @@ impl<'a, B: Body, J: Names, E: Ends<B>, G: Gate, R: Wait> Team<'a, B, J, E, G, R
         &self,
         worker: &mut Worker<B, J>,
         item: Item<B, J>,
+        _child: u32,
         pair: Pair,
-    ) -> Result<Next<B, J>, Refusal> {
+    ) -> Result<Next<B, J>, Refusal>
+        ensures made { IfGoesOn result (λ next. GoesBy any_step (Due.Register _child pair) item.task.value.standing next.task.value.standing) }
+    {
         let mut item = item;
         match self.shared.register_on(self.rt, &mut item, pair) {
             Ok(()) => {
@@ -138,6 +149,7 @@ impl<'a, B: Body, J: Names, E: Ends<B>, G: Gate, R: Wait> Team<'a, B, J, E, G, R
         finish: u32,
     ) -> Result<Next<B, J>, Refusal>
         requires { IsDue (event_of item.task.value.standing.number (Due.Spawn child finish)) item.task.value.standing }
+        ensures made { IfGoesOn result (λ next. GoesBy any_step (Due.Spawn child finish) item.task.value.standing next.task.value.standing) }
     {
         let Item { task, unborn } = item;
         let mut task = task;
@@ -159,12 +171,15 @@ impl<'a, B: Body, J: Names, E: Ends<B>, G: Gate, R: Wait> Team<'a, B, J, E, G, R
         worker: &mut Worker<B, J>,
         item: Item<B, J>,
         phaser: u32,
-    ) -> Result<Next<B, J>, Refusal> {
+        _child: u32,
+    ) -> Result<Next<B, J>, Refusal>
+        ensures made { IfGoesOn result (λ next. GoesBy any_step (Due.DropChild phaser _child) item.task.value.standing next.task.value.standing) }
+    {
         let mut item = item;
-        let Some(child) = &mut item.unborn else {
+        let Some(unborn) = &mut item.unborn else {
             return Err(Refusal::NotNow);
         };
-        self.shared.leave_on(self.rt, worker, child, phaser)?;
+        self.shared.leave_on(self.rt, worker, unborn, phaser)?;
         item.note_child_gone(phaser);
         Ok(Some(item))
     }
@@ -177,6 +192,7 @@ impl<'a, B: Body, J: Names, E: Ends<B>, G: Gate, R: Wait> Team<'a, B, J, E, G, R
         phaser: u32,
     ) -> Result<Next<B, J>, Refusal>
         requires { IsDue (event_of item.task.value.standing.number (Due.Leave phaser)) item.task.value.standing }
+        ensures made { IfGoesOn result (λ next. GoesBy any_step (Due.Leave phaser) item.task.value.standing next.task.value.standing) }
     {
         let mut item = item;
         self.shared
@@ -185,7 +201,9 @@ impl<'a, B: Body, J: Names, E: Ends<B>, G: Gate, R: Wait> Team<'a, B, J, E, G, R
         Ok(Some(item))
     }
 
-    fn shut(&self, item: Item<B, J>, finish: u32) -> Result<Next<B, J>, Refusal> {
+    fn shut(&self, item: Item<B, J>, finish: u32) -> Result<Next<B, J>, Refusal>
+        ensures made { IfGoesOn result (λ next. GoesBy any_step (Due.Shut finish) item.task.value.standing next.task.value.standing) }
+    {
         // No clause says that finish 0 is shut by the root's end alone.
         if finish == 0 {
             return Err(Refusal::NotNow);
@@ -207,7 +225,9 @@ impl<'a, B: Body, J: Names, E: Ends<B>, G: Gate, R: Wait> Team<'a, B, J, E, G, R
         worker: &mut Worker<B, J>,
         item: Item<B, J>,
         finish: u32,
-    ) -> Result<Next<B, J>, Refusal> {
+    ) -> Result<Next<B, J>, Refusal>
+        ensures over { IfGoesOn result (λ _. ⊥) }
+    {
         let Item { task, unborn: _ } = item;
         let Task {
             body,
@@ -226,7 +246,9 @@ impl<'a, B: Body, J: Names, E: Ends<B>, G: Gate, R: Wait> Team<'a, B, J, E, G, R
     }
 
     /// The root shuts finish 0: the run is over, and what the root leaves is its worker's.
-    fn close(&self, worker: &mut Worker<B, J>, item: Item<B, J>) -> Result<Next<B, J>, Refusal> {
+    fn close(&self, worker: &mut Worker<B, J>, item: Item<B, J>) -> Result<Next<B, J>, Refusal>
+        ensures over { IfGoesOn result (λ _. ⊥) }
+    {
         match self.shared.finishes.shut(self.rt, 0, item) {
             ShutAnswer::Done(item) => {
                 let Item { task, unborn: _ } = item;
@@ -250,14 +272,17 @@ impl<'a, B: Body, J: Names, E: Ends<B>, G: Gate, R: Wait> Team<'a, B, J, E, G, R
     }
 
     /// Makes the event that comes next, or asks the body for an act.
-    fn go_on(&self, worker: &mut Worker<B, J>, item: Item<B, J>) -> Result<Next<B, J>, Refusal> {
+    fn go_on(&self, worker: &mut Worker<B, J>, item: Item<B, J>) -> Result<Next<B, J>, Refusal>
+        ensures goes { IfGoesOn result (λ next. HasGoneOn any_step (option_map (λ c. c.value.standing) item.unborn)
+            item.task.value.standing next.task.value.standing) }
+    {
         match item.due() {
             Due::Step => self.step(worker, item),
             Due::Signal(phaser, number) => self.signal(worker, item, phaser, number),
             Due::Pass(phaser) => self.pass(worker, item, phaser),
-            Due::Register(_, pair) => self.register(worker, item, pair),
+            Due::Register(child, pair) => self.register(worker, item, child, pair),
             Due::Spawn(child, finish) => self.bear(worker, item, child, finish),
-            Due::DropChild(phaser, _) => self.drop_child(worker, item, phaser),
+            Due::DropChild(phaser, child) => self.drop_child(worker, item, phaser, child),
             Due::Leave(phaser) => self.leave(worker, item, phaser),
             Due::Shut(finish) => self.shut(item, finish),
             Due::End(finish) => self.end(worker, item, finish),

@@ -1,6 +1,6 @@
 //! What becomes of a task in flight by the events that it makes: each changes what it knows of itself, what
 //! it has seen, and what its body is about to hear.
-ghost use Rattle.std.specs.Prelude.{◌≡◌, ◌==◌, ◌⊎◌, ℕ, ℤ, [], ◌∷◌, ◌++◌, drop, false, true, not, filter, map, Some, None, IfErr, OnOk};
+ghost use Rattle.std.specs.Prelude.{◌≡◌, ◌==◌, ◌⊎◌, ℕ, ℤ, [], ◌∷◌, ◌++◌, drop, false, true, not, filter, map, Some, None, IfErr, OnOk, OnErr};
 ghost use Rattle.finish_core.specs.declared.event.FinishEvent.TheVariants.{Spawned};
 ghost use Rattle.phase_model.specs.declared.history.Event.TheVariants.{Sig};
 ghost use Rattle.phase_model.specs.declared.terms.Terms.{Terms};
@@ -43,6 +43,7 @@ impl<B: Body, J: Names> Task<B, J> {
               ++ record { phaser = place.at.slot; finish = inner_of self.old.standing; mode = mode; ahead = false } ∷ [];
         }) }
         ensures answer { OnOk result (self.new.answer ≡ Some (Answer.Made place.at.slot)) }
+        ensures stays { OnErr result (self.new.standing ≡ self.old.standing) }
     {
         let phaser = place.at.slot;
         // No clause says that a slot which is free isn't that of a phaser that the task holds.

@@ -1,7 +1,7 @@
 //! A task in flight: its body, what it knows of itself, and what it has seen of the phasers that it holds.
-ghost use Rattle.std.specs.Prelude.{◌≡◌, [], true, None, Some, IfOk, IfErr, IfSome, option_map};
+ghost use Rattle.std.specs.Prelude.{◌≡◌, [], true, None, Some, IfOk, IfErr, IfSome, OnOk, OnErr, option_map};
 ghost use Rattle.job_script.specs.declared.act.Answer.TheVariants.{Started};
-ghost use Rattle.task_standing.specs.Standing.{fresh};
+ghost use Rattle.task_standing.specs.Standing.{fresh, registered_by};
 ghost use Rattle.tasks_in_flight.specs.inner.Due.{IsNext};
 ghost use Rattle.tasks_in_flight.specs.inner.Ready.{IsDue};
 ghost use Rattle.live_rt.specs.Said.{HasAskedForEnd, HasSaid};
@@ -153,6 +153,9 @@ impl<B: Body, J: Names> Item<B, J> {
         requires further { (old : _) × (in_slot place.at.slot self.old.task.value.places ≡ Some old)
             × GoesOn (story_of old) (story_of (spot place.at place.me place.seen.items)) }
         ensures places { self.new.task.value.places ≡ self.old.task.value.places }
+        ensures registered { OnOk result (self.new.task.value.standing
+            ≡ record self.old.task.value.standing { plan = registered_by self.old.task.value.standing.plan }) }
+        ensures refused { OnErr result (self.new.task.value.standing ≡ self.old.task.value.standing) }
     {
         let Some(held) = self.task.standing.held(pair.phaser) else {
             return Err(Refusal::NotNow);

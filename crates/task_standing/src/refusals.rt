@@ -101,8 +101,8 @@ impl Standing {
         refused_if(self.is_ahead(), Refusal::AlreadySignalled)
     }
 
-    /// What the act is refused by.
-    fn may_begin(&self, limits: Limits, begun: &Begun) -> Result<(), Refusal>
+    /// What the act is refused by, if it goes on by a plan, however many acts were begun.
+    pub fn may_begin(&self, limits: Limits, begun: &Begun) -> Result<(), Refusal>
         ensures { result ≡ free_unless (first_refusal (begin_conditions limits (facts self.now) begun.now)) }
     {
         match begun {

@@ -22,8 +22,11 @@ use Rattle.long_locks.specs.Told.{IsSignalAnswer, IsPassAnswer}
 use Rattle.world_model.specs.declared.event.Step.TheVariants as steps
 use Rattle.told_history.specs.Stories.{GoesOn, IsAnswered, IsMade}
 use Rattle.told_history.proofs.Goes.{answered_goes}
+use Rattle.table_receipts.specs.Logs.{Sight}
+use Rattle.table_receipts.specs.Seen.{story_at}
 use Rattle.task_standing.specs.Known.{Known}
-use Rattle.task_worker.specs.inner.Driven.{IsReplied, IsOfPass}
+use Rattle.tasks_in_flight.specs.inner.GoingOn.{IsOfPass}
+use Rattle.task_worker.specs.inner.Driven.{IsReplied, Replies}
 
 done_is : (e : Event) (o : Option Refusal) (w r : Bool) → Ok tt ≡ done_result (decided o w r e) → decided o w r e ≡ done e
 done_is e (Some x) w r is = absurd (cc is)
@@ -161,12 +164,12 @@ pub pass_goes : {T : Type 0} (x : T) (a : PassAnswer T ℕ) (before now : Story)
 pass_goes x a before now t told = answered_goes (λ h r. IsPassAnswer x (pass_result h r) a) (calls.Pass t) before now told
 
 -- what a pass that has passed no phase says of the item that it was given
-pub pass_is_of : {T : Type 0} (a : PassAnswer T ℕ) (known : T → Known) (k : Known) (x : T) (before now seen : Story) (n t : ℕ)
+pub pass_is_of : {T : Type 0} (a : PassAnswer T ℕ) (known : T → Known) (k : Known) (x : T) (before now : Story) (fronts : List Sight) (n t : ℕ)
     → ((y : T) (p : ℕ) → a ≡ Passed y p → ⊥)
-    → known x ≡ k → before ≡ seen → IsBack x a → IsAnswered (λ h r. IsPassAnswer x (pass_result h r) a) (calls.Pass t) before now
-    → IsOfPass known k seen n t a
-pass_is_of (Passed y p) known k x before now seen n t never same there back told = absurd (never y p refl)
-pass_is_of (Claimed y m) known k x before now seen n t never same there back told =
+    → known x ≡ k → before ≡ story_at fronts n → IsBack x a → IsAnswered (λ h r. IsPassAnswer x (pass_result h r) a) (calls.Pass t) before now
+    → IsOfPass known k (Replies fronts) n t a
+pass_is_of (Passed y p) known k x before now fronts n t never same there back told = absurd (never y p refl)
+pass_is_of (Claimed y m) known k x before now fronts n t never same there back told =
     (ap known back ∙ same, subst (λ (s : Story). IsReplied s (steps.Claim t)) there (claim_replied x y m before now t told))
-pass_is_of Parked known k x before now seen n t never same there back told = tt
-pass_is_of (Refused y r) known k x before now seen n t never same there back told = ap known back ∙ same
+pass_is_of Parked known k x before now fronts n t never same there back told = tt
+pass_is_of (Refused y r) known k x before now fronts n t never same there back told = ap known back ∙ same

@@ -7,7 +7,8 @@ ghost use Rattle.task_standing.specs.Noted.{noted};
 ghost use Rattle.task_queue.specs.Accounts.{IsSeatOf};
 ghost use Rattle.tasks_in_flight.specs.Heard.{nothing, at_start};
 ghost use Rattle.tasks_in_flight.specs.inner.Ready.{HasAskedFor, HasAskedToSpawn, IsDue, seen_by};
-ghost use Rattle.task_worker.specs.inner.Driven.{HasActed, given_up, tried_by};
+ghost use Rattle.tasks_in_flight.specs.inner.GoingOn.{HasActed, given_up, tried_by};
+ghost use Rattle.task_worker.specs.inner.Driven.{Replies};
 ghost use Rattle.task_worker.specs.inner.Posted.{PostsAtMost};
 
 use crate::worker::{Busy, Shared};
@@ -79,7 +80,7 @@ impl<B: Body, K: RunNaming> Shared<B, K> {
     ) -> Result<Option<Box<Task<B, K>>>, Refusal>
         requires says { ∥ (K.Supposing.supposed → HasAskedToSpawn B.Body.shows task.old.body task.old.log.task pairs (seen_by task.old.fronts task.old.standing task.old.log.log)) ∥₁ }
         requires child { (its : ℕ) → ∥ (K.Supposing.supposed → (own : ℕ → ℕ) → B.Body.shows body its nothing (at_start own (λ n. story_at task.old.fronts n))) ∥₁ }
-        ensures acted { OnOk result (HasActed (λ n. story_at task.old.fronts n) task.old.standing task.new.standing) }
+        ensures acted { OnOk result (HasActed (Replies task.old.fronts) task.old.standing task.new.standing) }
         ensures newborn { IfOk result (λ child. IfSome child (λ c. ∥ c.value.answer ≡ Some Started ∥₁)) }
     {
         let number = self.numbers.task();
@@ -100,7 +101,7 @@ impl<B: Body, K: RunNaming> Shared<B, K> {
         item: &mut Item<B, K>,
     ) -> Result<(), Refusal>
         requires { IsDue None item.old.task.value.standing }
-        ensures acted { OnOk result (HasActed (λ n. story_at item.old.task.value.fronts n)
+        ensures acted { OnOk result (HasActed (Replies item.old.task.value.fronts)
             item.old.task.value.standing item.new.task.value.standing) }
         ensures seat { IsSeatOf busy.old.hand.seat busy.new.hand.seat }
         ensures posted { PostsAtMost 1 busy.old.by.mine busy.new.by.mine }
@@ -126,7 +127,7 @@ impl<'a, 'b, B: Body, K: RunNaming, G: Gate, R: Wait> Acts<B, Task<B, K>, Busy<'
 
     ghost gives = { λ old given. (given.fronts ≡ old.fronts) × (given.standing ≡ old.standing) };
 
-    ghost acts = { λ old new. HasActed (λ n. story_at old.fronts n) old.standing new.standing };
+    ghost acts = { λ old new. HasActed (Replies old.fronts) old.standing new.standing };
 
     ghost bears = { λ _ child. ∥ child.answer ≡ Some Started ∥₁ };
 
@@ -134,8 +135,8 @@ impl<'a, 'b, B: Body, K: RunNaming, G: Gate, R: Wait> Acts<B, Task<B, K>, Busy<'
 
     ghost notes_nothing = { Prim.search rules };
 
-    ghost acts_since = { λ old given new same acted. subst (λ k. HasActed (λ n. story_at old.fronts n) k new.standing) same.1
-        (subst (λ fronts. HasActed (λ n. story_at fronts n) given.standing new.standing) same.0 acted) };
+    ghost acts_since = { λ old given new same acted. subst (λ k. HasActed (Replies old.fronts) k new.standing) same.1
+        (subst (λ fronts. HasActed (Replies fronts) given.standing new.standing) same.0 acted) };
 
     fn next_act(
         &self,

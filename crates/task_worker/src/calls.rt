@@ -4,11 +4,11 @@ ghost use Rattle.std.specs.Prelude.{◌≡◌, Some, IfOk, OnOk, OnErr};
 ghost use Rattle.world_model.specs.declared.event.Step.TheVariants.{Reg, Sig, Pass, Drop};
 ghost use Rattle.world_model.specs.declared.event.WorldEvent.TheVariants.{Phaser};
 ghost use Rattle.finish_core.specs.Shutting.{IsBackFromShut};
-ghost use Rattle.table_receipts.specs.Seen.{story_at};
 ghost use Rattle.task_queue.specs.Accounts.{IsSeatOf};
 ghost use Rattle.tasks_in_flight.specs.Heard.{make, send, look};
 ghost use Rattle.tasks_in_flight.specs.inner.Ready.{IsDue, seen_by};
-ghost use Rattle.task_worker.specs.inner.Driven.{HasActed, IsReplied, IsOfSignal, IsOfPass};
+ghost use Rattle.tasks_in_flight.specs.inner.GoingOn.{HasActed, IsOfSignal, IsOfPass};
+ghost use Rattle.task_worker.specs.inner.Driven.{Replies};
 ghost use Rattle.task_worker.specs.inner.Posted.{PostsAtMost};
 
 use crate::worker::{Busy, Shared};
@@ -31,7 +31,7 @@ impl<B: Body, K: RunNaming> Shared<B, K> {
         terms: &Terms,
     ) -> Result<(), Refusal>
         requires says { ∥ (K.Supposing.supposed → B.Body.shows task.old.body task.old.log.task (make mode terms.now) (seen_by task.old.fronts task.old.standing task.old.log.log)) ∥₁ }
-        ensures acted { OnOk result (HasActed (λ n. story_at task.old.fronts n) task.old.standing task.new.standing) }
+        ensures acted { OnOk result (HasActed (Replies task.old.fronts) task.old.standing task.new.standing) }
         ensures out { by.new.out ≡ by.old.out }
         ensures posted { PostsAtMost 1 by.old.mine by.new.mine }
     {
@@ -51,7 +51,7 @@ impl<B: Body, K: RunNaming> Shared<B, K> {
         child: u32,
         pair: Pair,
     ) -> Result<(), Refusal>
-        ensures told { OnOk result (IsReplied (story_at task.old.fronts pair.phaser)
+        ensures told { OnOk result (Replies task.old.fronts pair.phaser
             (Reg task.old.standing.number child pair.mode)) }
         ensures standing { task.new.standing ≡ task.old.standing }
         ensures out { by.new.out ≡ by.old.out }
@@ -77,7 +77,7 @@ impl<B: Body, K: RunNaming> Shared<B, K> {
         value: i32,
     ) -> Result<(), Refusal>
         requires says { ∥ (K.Supposing.supposed → B.Body.shows task.old.body task.old.log.task (send phaser accumulator value) (seen_by task.old.fronts task.old.standing task.old.log.log)) ∥₁ }
-        ensures acted { OnOk result (HasActed (λ n. story_at task.old.fronts n) task.old.standing task.new.standing) }
+        ensures acted { OnOk result (HasActed (Replies task.old.fronts) task.old.standing task.new.standing) }
         ensures refused { OnErr result (task.new.standing ≡ task.old.standing) }
         ensures out { by.new.out ≡ by.old.out }
         ensures posted { PostsAtMost 1 by.old.mine by.new.mine }
@@ -101,7 +101,7 @@ impl<B: Body, K: RunNaming> Shared<B, K> {
         accumulator: u8,
     ) -> Result<(), Refusal>
         requires says { ∥ (K.Supposing.supposed → B.Body.shows task.old.body task.old.log.task (look phaser accumulator) (seen_by task.old.fronts task.old.standing task.old.log.log)) ∥₁ }
-        ensures acted { OnOk result (HasActed (λ n. story_at task.old.fronts n) task.old.standing task.new.standing) }
+        ensures acted { OnOk result (HasActed (Replies task.old.fronts) task.old.standing task.new.standing) }
         ensures refused { OnErr result (task.new.standing ≡ task.old.standing) }
         ensures out { by.new.out ≡ by.old.out }
         ensures posted { PostsAtMost 1 by.old.mine by.new.mine }
@@ -127,7 +127,7 @@ impl<B: Body, K: RunNaming> Shared<B, K> {
     ) -> Result<SignalAnswer<Item<B, K>>, Refusal>
         requires { IsDue (Some (Phaser phaser (Sig item.task.value.standing.number proposed))) item.task.value.standing }
         ensures told { IfOk result (IsOfSignal (λ i. i.task.value.standing) item.task.value.standing
-            (story_at item.task.value.fronts phaser) phaser (Sig item.task.value.standing.number proposed)) }
+            (Replies item.task.value.fronts) phaser (Sig item.task.value.standing.number proposed)) }
         ensures seat { IsSeatOf busy.old.hand.seat busy.new.hand.seat }
         ensures posted { PostsAtMost 1 busy.old.by.mine busy.new.by.mine }
     {
@@ -163,7 +163,7 @@ impl<B: Body, K: RunNaming> Shared<B, K> {
     ) -> Result<PassAnswer<Item<B, K>>, Refusal>
         requires { IsDue (Some (Phaser phaser (Pass item.task.value.standing.number))) item.task.value.standing }
         ensures told { IfOk result (IsOfPass (λ i. i.task.value.standing) item.task.value.standing
-            (story_at item.task.value.fronts phaser) phaser item.task.value.standing.number) }
+            (Replies item.task.value.fronts) phaser item.task.value.standing.number) }
         ensures seat { IsSeatOf busy.old.hand.seat busy.new.hand.seat }
         ensures posted { PostsAtMost 1 busy.old.by.mine busy.new.by.mine }
     {
@@ -219,7 +219,7 @@ impl<B: Body, K: RunNaming> Shared<B, K> {
         phaser: PhaserNumber,
         leaver: TaskNumber,
     ) -> Result<(), Refusal>
-        ensures told { OnOk result (IsReplied (story_at task.old.fronts phaser) (Drop leaver)) }
+        ensures told { OnOk result (Replies task.old.fronts phaser (Drop leaver)) }
         ensures standing { task.new.standing ≡ task.old.standing }
         ensures seat { IsSeatOf busy.old.hand.seat busy.new.hand.seat }
         ensures posted { PostsAtMost 1 busy.old.by.mine busy.new.by.mine }

@@ -1,8 +1,8 @@
 //! How a worker drives a task, event by event.
 ghost use Rattle.std.specs.Prelude.{◌≡◌, IfOk, IfErr, option_map, slice_get};
-ghost use Rattle.table_receipts.specs.Seen.{story_at};
 ghost use Rattle.tasks_in_flight.specs.Refused.{IsRunRefused};
-ghost use Rattle.task_worker.specs.inner.Driven.{IfGoesOn, GoesBy, HasGoneOn, given_up};
+ghost use Rattle.tasks_in_flight.specs.inner.GoingOn.{IfGoesOn, GoesBy, HasGoneOn, given_up};
+ghost use Rattle.task_worker.specs.inner.Driven.{Replies};
 ghost use Rattle.task_worker.specs.inner.Posted.{PostsAtMost, most_posted};
 ghost use Rattle.task_queue.specs.Accounts.{IsSeatOf};
 ghost use Rattle.task_standing.specs.StillToMake.{event_of};
@@ -52,7 +52,7 @@ impl<B: Body, K: RunNaming> Shared<B, K> {
         number: Option<u32>,
     ) -> Result<Next<B, K>, Refusal>
         requires { IsDue (event_of item.task.value.standing.number (Due.Signal phaser number)) item.task.value.standing }
-        ensures made { IfGoesOn result (λ next. GoesBy (λ n. story_at item.task.value.fronts n) (event_of item.task.value.standing.number (Due.Signal phaser number))
+        ensures made { IfGoesOn result (λ next. GoesBy (Replies item.task.value.fronts) (Due.Signal phaser number)
             item.task.value.standing next.task.value.standing) }
         ensures seat { IsSeatOf busy.old.hand.seat busy.new.hand.seat }
         ensures posted { PostsAtMost 1 busy.old.by.mine busy.new.by.mine }
@@ -93,7 +93,7 @@ impl<B: Body, K: RunNaming> Shared<B, K> {
         phaser: u32,
     ) -> Result<Next<B, K>, Refusal>
         requires { IsDue (event_of item.task.value.standing.number (Due.Pass phaser)) item.task.value.standing }
-        ensures made { IfGoesOn result (λ next. GoesBy (λ n. story_at item.task.value.fronts n) (event_of item.task.value.standing.number (Due.Pass phaser))
+        ensures made { IfGoesOn result (λ next. GoesBy (Replies item.task.value.fronts) (Due.Pass phaser)
             item.task.value.standing next.task.value.standing) }
         ensures seat { IsSeatOf busy.old.hand.seat busy.new.hand.seat }
         ensures posted { PostsAtMost 2 busy.old.by.mine busy.new.by.mine }
@@ -116,7 +116,7 @@ impl<B: Body, K: RunNaming> Shared<B, K> {
         child: u32,
         pair: Pair,
     ) -> Result<Next<B, K>, Refusal>
-        ensures made { IfGoesOn result (λ next. GoesBy (λ n. story_at item.task.value.fronts n) (event_of item.task.value.standing.number (Due.Register child pair))
+        ensures made { IfGoesOn result (λ next. GoesBy (Replies item.task.value.fronts) (Due.Register child pair)
             item.task.value.standing next.task.value.standing) }
         ensures seat { IsSeatOf busy.old.hand.seat busy.new.hand.seat }
         ensures posted { PostsAtMost 1 busy.old.by.mine busy.new.by.mine }
@@ -143,7 +143,7 @@ impl<B: Body, K: RunNaming> Shared<B, K> {
         finish: FinishNumber,
     ) -> Result<Next<B, K>, Refusal>
         requires { IsDue (event_of item.task.value.standing.number (Due.Spawn child finish)) item.task.value.standing }
-        ensures made { IfGoesOn result (λ next. GoesBy (λ n. story_at item.task.value.fronts n) (event_of item.task.value.standing.number (Due.Spawn child finish))
+        ensures made { IfGoesOn result (λ next. GoesBy (Replies item.task.value.fronts) (Due.Spawn child finish)
             item.task.value.standing next.task.value.standing) }
         ensures seat { IsSeatOf busy.old.hand.seat busy.new.hand.seat }
         ensures mine { busy.new.by.mine ≡ busy.old.by.mine }
@@ -167,7 +167,7 @@ impl<B: Body, K: RunNaming> Shared<B, K> {
         phaser: u32,
     ) -> Result<Next<B, K>, Refusal>
         requires { IsDue (event_of item.task.value.standing.number (Due.Leave phaser)) item.task.value.standing }
-        ensures made { IfGoesOn result (λ next. GoesBy (λ n. story_at item.task.value.fronts n) (event_of item.task.value.standing.number (Due.Leave phaser))
+        ensures made { IfGoesOn result (λ next. GoesBy (Replies item.task.value.fronts) (Due.Leave phaser)
             item.task.value.standing next.task.value.standing) }
         ensures seat { IsSeatOf busy.old.hand.seat busy.new.hand.seat }
         ensures posted { PostsAtMost 1 busy.old.by.mine busy.new.by.mine }
@@ -187,26 +187,22 @@ impl<B: Body, K: RunNaming> Shared<B, K> {
         phaser: PhaserNumber,
         child: TaskNumber,
     ) -> Result<Next<B, K>, Refusal>
-        ensures made { IfGoesOn result (λ next. GoesBy (λ n. story_at item.task.value.fronts n) (event_of item.task.value.standing.number (Due.DropChild phaser child))
+        ensures made { IfGoesOn result (λ next. GoesBy (Replies item.task.value.fronts) (Due.DropChild phaser child)
             item.task.value.standing next.task.value.standing) }
         ensures seat { IsSeatOf busy.old.hand.seat busy.new.hand.seat }
         ensures posted { PostsAtMost 1 busy.old.by.mine busy.new.by.mine }
     {
         let mut item = item;
-        // No clause says that a child has a number of its own.
-        if child.get() == item.task.number() {
-            return Err(Refusal::NotNow);
-        }
         self.drop_on(busy, &mut item.task, phaser, child)?;
         item.note_child_gone(phaser.get());
         Ok(Some(item))
     }
 
     fn shut<R: Wait>(&self, rt: &R, item: Item<B, K>, finish: u32) -> Result<Next<B, K>, Refusal>
-        ensures made { IfGoesOn result (λ next. GoesBy (λ n. story_at item.task.value.fronts n) (event_of item.task.value.standing.number (Due.Shut finish))
+        ensures made { IfGoesOn result (λ next. GoesBy (Replies item.task.value.fronts) (Due.Shut finish)
             item.task.value.standing next.task.value.standing) }
     {
-        // Nor that finish 0 is shut by the root's end alone.
+        // No clause says that finish 0 is shut by the root's end alone.
         if finish == 0 {
             return Err(Refusal::NotNow);
         }
@@ -281,7 +277,7 @@ impl<B: Body, K: RunNaming> Shared<B, K> {
         busy: &mut Busy<'_, B, K, R>,
         item: Item<B, K>,
     ) -> Result<Next<B, K>, Refusal>
-        ensures goes { IfGoesOn result (λ next. HasGoneOn (λ n. story_at item.task.value.fronts n)
+        ensures goes { IfGoesOn result (λ next. HasGoneOn (Replies item.task.value.fronts)
             (option_map (λ c. c.value.standing) item.unborn) item.task.value.standing next.task.value.standing) }
         ensures seat { IsSeatOf busy.old.hand.seat busy.new.hand.seat }
         ensures posted { PostsAtMost (most_posted (slice_get (still_of item.task.value.standing

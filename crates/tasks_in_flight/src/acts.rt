@@ -17,11 +17,11 @@ pub trait Acts<B: Body, T, W> {
     /// The body asked for this act, of which nothing has come yet.
     ghost asks: { Act B → T → Type 0 };
 
-    /// The task has given an act, and done nothing else. By default anything.
-    ghost gives: { T → T → Type 0 } = { λ _ _. Unit {0} };
+    /// The task has given an act, and done nothing else.
+    ghost gives: { T → T → Type 0 };
 
-    /// The task has acted. By default anyhow.
-    ghost acts: { T → T → Type 0 } = { λ _ _. Unit {0} };
+    /// The task has acted.
+    ghost acts: { T → T → Type 0 };
 
     /// The task may bear this child. By default any.
     ghost bears: { T → T → Type 0 } = { λ _ _. Unit {0} };
@@ -117,8 +117,9 @@ pub trait Acts<B: Body, T, W> {
     ghost acts_since: { (old given new : T) → gives old given → acts given new → acts old new };
 }
 
-/// Begins the act that the body gave, or makes it. The child that it spawns by it, if it does.
-fn act<B: Body, T: Drop, W, A: Acts<B, T, W>>(
+/// Begins to spawn the child that the body gave by this act: the child, unless that is refused. `NotNow` if
+/// it gave none.
+fn spawn<B: Body, T: Drop, W, A: Acts<B, T, W>>(
     acts: &A,
     worker: &mut W,
     task: &mut T,
@@ -130,15 +131,34 @@ fn act<B: Body, T: Drop, W, A: Acts<B, T, W>>(
     ensures notes { A.notes worker.old worker.new }
 {
     match act {
-        Act::Async(body, pairs) => return acts.spawn(worker, task, body, pairs),
-        Act::AsyncAll(body) => return acts.spawn_on_all(worker, task, body),
+        Act::Async(body, pairs) => acts.spawn(worker, task, body, pairs),
+        Act::AsyncAll(body) => acts.spawn_on_all(worker, task, body),
+        _ => Err(Refusal::NotNow),
+    }
+}
+
+/// Begins the act that the body gave, or makes it. The child that it spawns by it, if it does. An act is
+/// large, so one that spawns nobody isn't moved.
+fn act<B: Body, T: Drop, W, A: Acts<B, T, W>>(
+    acts: &A,
+    worker: &mut W,
+    task: &mut T,
+    act: Act<B>,
+) -> Result<Option<Box<T>>, Refusal>
+    requires { A.asks act task.old }
+    ensures acts { OnOk result (A.acts task.old task.new) }
+    ensures bears { IfOk result (λ child. IfSome child (λ c. A.bears task.new c.value)) }
+    ensures notes { A.notes worker.old worker.new }
+{
+    match &act {
+        Act::Async(_, _) | Act::AsyncAll(_) => return spawn(acts, worker, task, act),
         Act::OpenFinish => acts.open(worker, task)?,
-        Act::New(mode, ops, bound) => acts.make(worker, task, mode, ops, bound)?,
+        Act::New(mode, ops, bound) => acts.make(worker, task, *mode, *ops, *bound)?,
         Act::Send(phaser, accumulator, value) => {
-            acts.send(worker, task, phaser, accumulator, value)?
+            acts.send(worker, task, *phaser, *accumulator, *value)?
         }
-        Act::Look(phaser, accumulator) => acts.look(worker, task, phaser, accumulator)?,
-        other => acts.begin(worker, task, &other)?,
+        Act::Look(phaser, accumulator) => acts.look(worker, task, *phaser, *accumulator)?,
+        begun => acts.begin(worker, task, begun)?,
     }
     Ok(None)
 }

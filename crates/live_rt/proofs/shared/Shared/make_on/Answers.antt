@@ -1,7 +1,12 @@
-use Rattle.std.proofs.Common.{ℕ, ap, subst, sym, ◌∙◌}
+use Rattle.std.proofs.Common.{ℕ, ◌≡◌, refl, ap, subst, sym, ◌∙◌}
 use Rattle.tasks_in_flight.specs.Heard.{HasMade}
 use Rattle.live_tables.specs.declared.slot.At.{At}
 use Rattle.live_tables.specs.Slots.{SlotSight, told_of}
+use Rattle.world_model.specs.declared.event.Step.TheVariants as steps
+use Rattle.world_model.specs.declared.event.WorldEvent.TheVariants.{Phaser}
+use Rattle.task_standing.specs.Noted.{noted}
+use Rattle.tasks_in_flight.specs.inner.GoingOn.{HasActed, any_step}
+use Rattle.tasks_in_flight.proofs.GoingOn.{if_ok}
 use Rattle.live_rt.proofs.shared.Shared.make_on.Goals as goal
 
 pub made-requires : goal.made-requires
@@ -20,3 +25,10 @@ made-requires g c =
         c.requires.says,
       );
     }
+
+pub returns-clause-acted : goal.returns-clause-acted
+returns-clause-acted g c =
+    let old = c.args.task.now.standing in
+    let new = c.made.new.self.standing in
+    let e = Phaser c.new.result.at.slot (steps.Make old.number c.args.mode c.args.terms.now) in
+    if_ok (new ≡ noted e old) (HasActed any_step old new) (λ is. (e, refl, tt, is)) c.made.result c.made.ensures.made

@@ -1,8 +1,8 @@
 use Rattle.std.proofs.Common.{Ok}
 use Rattle.std.proofs.Math.Logic.{∥∥₁_map}
-use Rattle.table_receipts.specs.Seen.{story_at}
 use Rattle.tasks_in_flight.specs.Heard.{asked_by}
-use Rattle.task_worker.proofs.Driven.{begins}
+use Rattle.tasks_in_flight.proofs.GoingOn.{begins}
+use Rattle.task_worker.specs.inner.Driven.{Replies}
 use Rattle.task_worker.proofs.acts.TeamActsTaskBusy.begin.Goals as goal
 
 pub begin-requires : goal.begin-requires
@@ -12,4 +12,4 @@ begin-requires g c =
 pub returns-clause-acts : goal.returns-clause-acts
 returns-clause-acts g c =
     let task = c.args.task.now in
-    begins (λ n. story_at task.fronts n) c.in-Some.begun c.in_ok-_begun._begun task.standing c.begin.new.task.standing c.in_ok-_begun.ensures.begun
+    begins (Replies task.fronts) c.in-Some.begun c.in_ok-_begun._begun task.standing c.begin.new.task.standing c.in_ok-_begun.ensures.begun

@@ -1,9 +1,10 @@
 use Rattle.std.proofs.Common.{Bool, sym, ap, subst, ◌∙◌}
 use Rattle.tasks_in_flight.specs.Heard.{look}
 use Rattle.tasks_in_flight.specs.inner.Ready.{seen_by}
-use Rattle.table_receipts.specs.Seen.{story_at}
-use Rattle.task_worker.specs.inner.Driven.{tried_by}
-use Rattle.task_worker.proofs.Driven.{not_tried, acts_since, gave_up}
+use Rattle.tasks_in_flight.specs.inner.GoingOn.{tried_by}
+use Rattle.task_worker.specs.inner.Driven.{Replies}
+use Rattle.tasks_in_flight.proofs.GoingOn.{not_tried, gave_up}
+use Rattle.task_worker.proofs.Driven.{acts_since}
 use Rattle.task_worker.proofs.acts.TeamActsTaskBusy.look.Goals as goal
 
 pub look_on-requires : goal.look_on-requires
@@ -15,7 +16,7 @@ look_on-requires g c = record {
 pub returns-then-not-branch-clause-acts : goal.returns-then-not-branch-clause-acts
 returns-then-not-branch-clause-acts g c =
     let task = c.args.task.now in
-    not_tried (λ n. story_at task.fronts n) c.in_ok-may_try.field-0 task.standing c.may_try.new.task.standing c.if-not-branch.true c.in_ok-may_try.ensures.standing
+    not_tried (Replies task.fronts) c.in_ok-may_try.field-0 task.standing c.may_try.new.task.standing c.if-not-branch.true c.in_ok-may_try.ensures.standing
 
 pub returns-in-Ok-clause-acts : goal.returns-in-Ok-clause-acts
 returns-in-Ok-clause-acts g c =
@@ -27,6 +28,6 @@ returns-in-Ok-clause-acts g c =
 pub returns-in-Err-clause-acts : goal.returns-in-Err-clause-acts
 returns-in-Err-clause-acts g c =
     let old = c.args.task.now in
-    gave_up (λ n. story_at old.fronts n) c.look_on.new.task.standing old.standing c.refuse.new.task.standing
+    gave_up (Replies old.fronts) c.look_on.new.task.standing old.standing c.refuse.new.task.standing
     (c.in-Err.ensures.refused ∙ (c.in_ok-may_try.ensures.standing ∙ ap (λ (b : Bool). tried_by b old.standing) c.if-not-branch.false))
     c.refuse.result c.refuse.ensures

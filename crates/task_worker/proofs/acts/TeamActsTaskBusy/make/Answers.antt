@@ -1,8 +1,8 @@
 use Rattle.std.proofs.Common.{sym, subst}
 use Rattle.tasks_in_flight.specs.Heard.{make}
 use Rattle.tasks_in_flight.specs.inner.Ready.{seen_by}
-use Rattle.table_receipts.specs.Seen.{story_at}
-use Rattle.task_worker.proofs.Driven.{not_tried}
+use Rattle.tasks_in_flight.proofs.GoingOn.{not_tried}
+use Rattle.task_worker.specs.inner.Driven.{Replies}
 use Rattle.task_worker.proofs.acts.TeamActsTaskBusy.make.Goals as goal
 
 pub make_on-requires : goal.make_on-requires
@@ -14,4 +14,4 @@ make_on-requires g c = record {
 pub returns-then-not-branch-clause-acts : goal.returns-then-not-branch-clause-acts
 returns-then-not-branch-clause-acts g c =
     let task = c.args.task.now in
-    not_tried (λ n. story_at task.fronts n) c.in_ok-may_try.field-0 task.standing c.may_try.new.task.standing c.if-not-branch.true c.in_ok-may_try.ensures.standing
+    not_tried (Replies task.fronts) c.in_ok-may_try.field-0 task.standing c.may_try.new.task.standing c.if-not-branch.true c.in_ok-may_try.ensures.standing

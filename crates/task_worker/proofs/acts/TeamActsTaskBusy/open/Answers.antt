@@ -2,14 +2,13 @@ use Rattle.std.proofs.Common.{◌≡◌, ℕ, Bool, refl, sym, ap, subst, ◌∙
 use Rattle.tasks_in_flight.specs.Heard.{opens}
 use Rattle.tasks_in_flight.specs.inner.Ready.{seen_by}
 use Rattle.tasks_in_flight.proofs.Saying.{shows_kept}
-use Rattle.phase_model.specs.Rules.{Story}
 use Rattle.finish_core.specs.declared.event.FinishEvent.TheVariants.{Opened}
 use Rattle.world_model.specs.declared.event.WorldEvent.TheVariants.{Finish}
-use Rattle.table_receipts.specs.Seen.{story_at}
 use Rattle.task_standing.specs.Known.{Known}
 use Rattle.task_standing.specs.Noted.{noted}
-use Rattle.task_worker.specs.inner.Driven.{HasActed, tried_by}
-use Rattle.task_worker.proofs.Driven.{if_ok, not_tried, gave_up}
+use Rattle.tasks_in_flight.specs.inner.GoingOn.{HasActed, tried_by}
+use Rattle.task_worker.specs.inner.Driven.{Replies}
+use Rattle.tasks_in_flight.proofs.GoingOn.{if_ok, not_tried, gave_up}
 use Rattle.task_worker.proofs.acts.TeamActsTaskBusy.open.Goals as goal
 
 pub opened-requires : goal.opened-requires
@@ -27,12 +26,12 @@ opened-requires g c =
 pub returns-then-is_err-clause-acts : goal.returns-then-is_err-clause-acts
 returns-then-is_err-clause-acts g c =
     let task = c.args.task.now in
-    gave_up (λ n. story_at task.fronts n) c.reserve_opening.new.self.standing task.standing c.fail.new.task.standing c.reserve_opening.ensures.standing c.fail.result c.fail.ensures
+    gave_up (Replies task.fronts) c.reserve_opening.new.self.standing task.standing c.fail.new.task.standing c.reserve_opening.ensures.standing c.fail.result c.fail.ensures
 
 pub returns-then-not-branch-clause-acts : goal.returns-then-not-branch-clause-acts
 returns-then-not-branch-clause-acts g c =
     let task = c.args.task.now in
-    let seen : ℕ → Story = λ n. story_at task.fronts n in
+    let seen = Replies task.fronts in
     let mid = c.reserve_opening.new.self.standing in
     let new = c.may_try.new.task.standing in
     subst (λ (k : Known). HasActed seen k new) c.reserve_opening.ensures.standing
@@ -41,7 +40,7 @@ returns-then-not-branch-clause-acts g c =
 pub returns-clause-acts : goal.returns-clause-acts
 returns-clause-acts g c =
     let k = c.args.task.now.standing in
-    let seen : ℕ → Story = λ n. story_at c.args.task.now.fronts n in
+    let seen = Replies c.args.task.now.fronts in
     let e = Finish c.finish-finish.result (Opened k.number) in
     let mid = c.may_try.new.task.standing in
     let new = c.opened.new.self.standing in

@@ -6,7 +6,6 @@ use Rattle.task_standing.specs.Known.{Known}
 use Rattle.task_standing.specs.Noted.{noted}
 use Rattle.tasks_in_flight.specs.inner.Ready.{IsDue}
 use Rattle.task_worker.specs.inner.Driven.{IsReplied}
-use Rattle.task_worker.proofs.Driven.{leaves}
 use Rattle.task_worker.proofs.worker.Shared.leave.Goals as goal
 
 pub left-requires : goal.left-requires
@@ -22,11 +21,11 @@ returns-clause-made g c =
     let n = c.args.phaser in
     let first = c.deref_mut.ensures.value in
     let leaver : c.of-leaver.result ≡ task.standing.number =
-    c.of-leaver.ensures ∙ (c.number.ensures.standing ∙ ap (λ t. t.standing.number) c.deref.ensures) in
-    leaves (λ m. story_at task.fronts m) n task.standing c.left.new.self.standing
-    (subst (λ (u : ℕ). IsReplied (story_at task.fronts n) (steps.Drop u)) leaver
-    (subst (λ (m : ℕ). IsReplied (story_at task.fronts m) (steps.Drop c.of-leaver.result)) c.of.ensures
-    (subst (λ (t : _). IsReplied (story_at t.fronts c.of.result) (steps.Drop c.of-leaver.result)) first c.in_ok-drop_on.ensures.told)))
-    (c.left.ensures
-    ∙ ap (λ (k : Known). noted (Phaser n (steps.Drop task.standing.number)) k)
-    (ap (λ t. t.standing) c.deref_mut-2.ensures.value ∙ (c.in_ok-drop_on.ensures.standing ∙ ap (λ t. t.standing) first)))
+    c.of-leaver.ensures ∙ (c.number.ensures.standing ∙ ap (λ t. t.standing.number) c.deref.ensures) in (
+      subst (λ (u : ℕ). IsReplied (story_at task.fronts n) (steps.Drop u)) leaver
+          (subst (λ (m : ℕ). IsReplied (story_at task.fronts m) (steps.Drop c.of-leaver.result)) c.of.ensures
+          (subst (λ (t : _). IsReplied (story_at t.fronts c.of.result) (steps.Drop c.of-leaver.result)) first c.in_ok-drop_on.ensures.told)),
+      c.left.ensures
+          ∙ ap (λ (k : Known). noted (Phaser n (steps.Drop task.standing.number)) k)
+          (ap (λ t. t.standing) c.deref_mut-2.ensures.value ∙ (c.in_ok-drop_on.ensures.standing ∙ ap (λ t. t.standing) first)),
+    )

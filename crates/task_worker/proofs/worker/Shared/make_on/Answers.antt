@@ -11,8 +11,9 @@ use Rattle.world_model.specs.declared.event.WorldEvent.TheVariants.{Phaser}
 use Rattle.world_model.specs.declared.event.Step.TheVariants as steps
 use Rattle.task_standing.specs.Known.{Known}
 use Rattle.task_standing.specs.Noted.{noted}
-use Rattle.task_worker.specs.inner.Driven.{IsReplied, HasActed}
-use Rattle.task_worker.proofs.Driven.{if_ok}
+use Rattle.tasks_in_flight.specs.inner.GoingOn.{HasActed}
+use Rattle.task_worker.specs.inner.Driven.{IsReplied, Replies}
+use Rattle.tasks_in_flight.proofs.GoingOn.{if_ok}
 use Rattle.task_worker.proofs.Replied.{make_replied}
 use Rattle.task_worker.proofs.worker.Shared.make_on.Goals as goal
 
@@ -61,7 +62,7 @@ returns-clause-acted g c =
     let e = Phaser n (steps.Make old.standing.number m terms) in
     let mid = c.front-me.new.self.standing in
     let new = c.made.new.self.standing in
-    if_ok (new ≡ noted (Phaser n (steps.Make old.standing.number m terms)) mid) (HasActed (λ k. story_at old.fronts k) old.standing new)
+    if_ok (new ≡ noted (Phaser n (steps.Make old.standing.number m terms)) mid) (HasActed (Replies old.fronts) old.standing new)
     (λ is. (
       e,
       refl,

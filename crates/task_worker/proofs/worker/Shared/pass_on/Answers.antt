@@ -9,7 +9,8 @@ use Rattle.world_model.specs.declared.event.Step.TheVariants as steps
 use Rattle.world_model.specs.declared.event.WorldEvent.TheVariants.{Phaser}
 use Rattle.task_standing.specs.Known.{Known}
 use Rattle.task_standing.specs.Noted.{noted}
-use Rattle.task_worker.specs.inner.Driven.{IsReplied, IsOfPass}
+use Rattle.tasks_in_flight.specs.inner.GoingOn.{IsOfPass}
+use Rattle.task_worker.specs.inner.Driven.{IsReplied, Replies}
 use Rattle.task_worker.proofs.Replied.{pass_goes, pass_replied, pass_is_of}
 use Rattle.task_worker.proofs.worker.Shared.pass_on.Goals as goal
 
@@ -86,6 +87,6 @@ returns-in_default-clause-told g c =
     let own : t ≡ task.standing.number = c.number-task.ensures.standing ∙ ap (λ x. x.standing.number) c.deref.ensures in
     let there : c.front-me.result.story ≡ story_at task.fronts n =
     c.front-me.ensures.story ∙ (ap (λ x. story_at x.fronts c.in-Ok.number) first ∙ ap (λ (m : ℕ). story_at task.fronts m) c.in-Ok.ensures.same) in
-    subst (λ (u : ℕ). IsOfPass (λ i. i.task.value.standing) task.standing (story_at task.fronts n) n u c.pass-answer.result) own
-    (pass_is_of c.pass-answer.result (λ i. i.task.value.standing) task.standing _ c.front-me.result.story c.pass-answer.new.me.story (story_at task.fronts n) n t c.in_default.not-Passed
+    subst (λ (u : ℕ). IsOfPass (λ i. i.task.value.standing) task.standing (Replies task.fronts) n u c.pass-answer.result) own
+    (pass_is_of c.pass-answer.result (λ i. i.task.value.standing) task.standing _ c.front-me.result.story c.pass-answer.new.me.story task.fronts n t c.in_default.not-Passed
     (c.front-me.ensures.standing ∙ ap (λ x. x.standing) first) there c.pass-answer.ensures.item c.pass-answer.ensures.told)

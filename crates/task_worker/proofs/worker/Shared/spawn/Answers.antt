@@ -4,11 +4,11 @@ use Rattle.table_receipts.specs.Seen.{story_at}
 use Rattle.tasks_in_flight.specs.Heard.{nothing, at_start}
 use Rattle.tasks_in_flight.specs.inner.Ready.{seen_by}
 use Rattle.tasks_in_flight.proofs.Saying.{says_now, asks_kept, asks_to_spawn}
-use Rattle.phase_model.specs.Rules.{Story}
 use Rattle.world_model.specs.declared.event.Begun.TheVariants.{Async}
 use Rattle.task_standing.specs.Known.{Known}
-use Rattle.task_worker.specs.inner.Driven.{HasActed, given_up}
-use Rattle.task_worker.proofs.Driven.{acts_no_more, begins}
+use Rattle.tasks_in_flight.specs.inner.GoingOn.{HasActed, given_up}
+use Rattle.task_worker.specs.inner.Driven.{Replies}
+use Rattle.tasks_in_flight.proofs.GoingOn.{acts_no_more, begins}
 use Rattle.task_worker.proofs.worker.Shared.spawn.Goals as goal
 
 pub child-requires : goal.child-requires
@@ -29,12 +29,12 @@ begin-requires g c =
 pub returns-in_default-clause-acted : goal.returns-in_default-clause-acted
 returns-in_default-clause-acted g c =
     let old = c.args.task.now in
-    acts_no_more (λ n. story_at old.fronts n) old.standing c.fail.new.task.standing
+    acts_no_more (Replies old.fronts) old.standing c.fail.new.task.standing
     (c.in_ok-fail.ensures ∙ ap given_up c.child.ensures.standing)
 
 pub returns-clause-acted : goal.returns-clause-acted
 returns-clause-acted g c =
     let old = c.args.task.now in
-    let seen : ℕ → Story = λ n. story_at old.fronts n in
+    let seen = Replies old.fronts in
     subst (λ (k : Known). HasActed seen k c.begin.new.task.standing) c.child.ensures.standing
     (begins seen (Async c.task-number.result c.args.pairs) c.in_ok-has_begun.has_begun c.child.new.self.standing c.begin.new.task.standing c.in_ok-has_begun.ensures.begun)
