@@ -100,6 +100,7 @@ impl<'a, B: Body, J: Names, E: Ends<B>, G: Gate, R: Wait> Acts<B, Task<B, J>, Wo
 
     ghost acts_since = { λ old given new same acted. subst (λ k. HasActed any_step k new.standing) same acted };
 
+    #[inline(never)]
     fn next_act(
         &self,
         worker: &Worker<B, J>,

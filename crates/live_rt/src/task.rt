@@ -98,6 +98,7 @@ impl<B: Body, J: Names> Task<B, J> {
     }
 
     /// The body's next act, after what came of its last one; none if nothing did yet, or nothing will.
+    #[inline(never)]
     pub(crate) fn next_act(&mut self) -> Option<Result<Act<B>, Refusal>>
         requires due { IsDue None self.old.standing }
         ensures standing { self.new.standing ≡ self.old.standing }

@@ -13,7 +13,7 @@ ghost use Rattle.run_jobs.specs.Worked.{IsOfRun};
 use crate::row::{Leaves, Row};
 use job_ends::{Failure, Status, put_text};
 use job_script::{Act, Answer};
-use live_rt::{Body, Counts, Ends, OpenGate, Pulses, Room, run_live};
+use live_rt::{Body, Counts, Ends, OpenGate, Pulses, run_live};
 use phase_model::Bound;
 use phase_modes::Refusal;
 use phased_rt::Workers;
@@ -24,12 +24,6 @@ use std::sync::Wait;
 use std::sync::atomic::{AtomicU8, Ordering};
 use std::thread::Threads;
 use text_jobs::program_of;
-
-/// How many phasers and finishes there may be at once.
-const ROOM: Room = Room {
-    phasers: 4_096,
-    finishes: 4_096,
-};
 
 /// A body whose phasers all have a bound, and the row in which it leaves its values.
 #[derive(Drop)]
@@ -156,12 +150,13 @@ pub(crate) fn live_run<B: Leaves + Send, R: Threads + Wait + Sync, P: Progress +
         progress,
         refused: AtomicU8::new(0),
     };
+    let room = root.room();
     let root = Bounded { body: root, row };
     let ended = run_live(
         workers.rt,
         alloc,
         root,
-        ROOM,
+        room,
         workers.number,
         &told,
         &OpenGate,

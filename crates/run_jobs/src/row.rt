@@ -1,9 +1,10 @@
 //! The values that the tasks of a run without a store leave.
-ghost use Rattle.std.specs.Prelude.{◌≡◌, length, vec_len, IfOk, IfErr};
+ghost use Rattle.std.specs.Prelude.{◌≡◌, true, length, vec_len, IfOk, IfErr};
+ghost use Rattle.live_rt.specs.Rooms.{has_room};
 
 use job_kernels::{PipelineBody, StencilBody};
 use job_script::{Answer, ScriptBody};
-use live_rt::Body;
+use live_rt::{Body, Room};
 use phase_model::Look;
 use phase_modes::Refusal;
 use std::alloc::Global;
@@ -65,6 +66,18 @@ const FAR: u32 = 65_536;
 /// The bound of a stencil's phasers: no cell is ever two phases ahead of a neighbour.
 const NEAR: u32 = 4;
 
+/// A program's room: as many finishes as a run may have in all, and 16 times as many phasers.
+const MANY: Room = Room {
+    phasers: 1_024,
+    finishes: 1_024,
+};
+
+/// A kernel's room: it makes a phaser for each cell or stage, and opens no finish.
+const FEW: Room = Room {
+    phasers: 64,
+    finishes: 1,
+};
+
 /// A body that may leave values in a row. By default it leaves none.
 pub(crate) trait Leaves: Body {
     /// The bound of a phaser that it makes without one: a signaller that is so many phases ahead of a
@@ -73,6 +86,10 @@ pub(crate) trait Leaves: Body {
         FAR
     }
 
+    /// How much may be alive at once in its run.
+    fn room(&self) -> Room
+        ensures { has_room result ≡ true };
+
     /// Its task hears this at its next step.
     fn hears(&self, _answer: Answer, _row: &Row) {}
 
@@ -80,11 +97,19 @@ pub(crate) trait Leaves: Body {
     fn ends(&self, _row: &Row) {}
 }
 
-impl<'p> Leaves for ScriptBody<'p> {}
+impl<'p> Leaves for ScriptBody<'p> {
+    fn room(&self) -> Room {
+        MANY
+    }
+}
 
 impl Leaves for StencilBody {
     fn far(&self) -> u32 {
         NEAR
+    }
+
+    fn room(&self) -> Room {
+        FEW
     }
 
     /// The cell as it is after the last step.
@@ -96,6 +121,10 @@ impl Leaves for StencilBody {
 }
 
 impl Leaves for PipelineBody {
+    fn room(&self) -> Room {
+        FEW
+    }
+
     /// The sink leaves each item that it sees, in their order.
     fn hears(&self, answer: Answer, row: &Row) {
         if !self.is_sink() {
