@@ -100,6 +100,7 @@ impl<'a, B: Body, J: Names, E: Ends<B>, G: Gate, R: Wait> Acts<B, Task<B, J>, Wo
 
     ghost acts_since = { λ old given new same acted. subst (λ k. HasActed any_step k new.standing) same acted };
 
+    /// Inlined, what the body gives would be copied field by field.
     #[inline(never)]
     fn next_act(
         &self,
@@ -131,19 +132,15 @@ impl<'a, B: Body, J: Names, E: Ends<B>, G: Gate, R: Wait> Acts<B, Task<B, J>, Wo
         _worker: &mut Worker<B, J>,
         task: &mut Task<B, J>,
         body: B,
-        pairs: Phased,
+        pairs: Option<Phased>,
     ) -> Result<Option<Box<Task<B, J>>>, Refusal> {
-        Ok(self.shared.spawn(task, body, pairs))
-    }
-
-    fn spawn_on_all(
-        &self,
-        _worker: &mut Worker<B, J>,
-        task: &mut Task<B, J>,
-        body: B,
-    ) -> Result<Option<Box<Task<B, J>>>, Refusal> {
-        let pairs = task.standing.pairs();
-        Ok(self.shared.spawn(task, body, pairs))
+        match pairs {
+            Some(pairs) => Ok(self.shared.spawn(task, body, pairs)),
+            None => {
+                let pairs = task.standing.pairs();
+                Ok(self.shared.spawn(task, body, pairs))
+            }
+        }
     }
 
     /// The memory that the task needs to know the finish is taken before.

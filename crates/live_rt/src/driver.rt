@@ -120,7 +120,7 @@ impl<'a, B: Body, J: Names, E: Ends<B>, G: Gate, R: Wait> Team<'a, B, J, E, G, R
         }
     }
 
-    /// The unborn child is registered for the next pair.
+    /// The unborn child is registered for the next pair. Its number is for the clause alone.
     fn register(
         &self,
         worker: &mut Worker<B, J>,
@@ -165,7 +165,7 @@ impl<'a, B: Body, J: Names, E: Ends<B>, G: Gate, R: Wait> Team<'a, B, J, E, G, R
         Ok(Some(Item::of(task)))
     }
 
-    /// The unborn child is taken off a phaser.
+    /// The unborn child is taken off a phaser. Its number is for the clause alone.
     fn drop_child(
         &self,
         worker: &mut Worker<B, J>,

@@ -1,6 +1,6 @@
 //! What becomes of a task in flight by the events that it makes: each changes what it knows of itself, what
 //! it has seen, and what its body is about to hear.
-ghost use Rattle.std.specs.Prelude.{◌≡◌, ◌==◌, ◌⊎◌, ℕ, ℤ, [], ◌∷◌, ◌++◌, drop, false, true, not, filter, map, Some, None, IfErr, OnOk, OnErr};
+ghost use Rattle.std.specs.Prelude.{◌≡◌, ◌↔◌, ◌==◌, ◌⊎◌, ℕ, ℤ, [], ◌∷◌, ◌++◌, drop, false, true, not, filter, map, Some, None, IfErr, OnOk, OnErr};
 ghost use Rattle.finish_core.specs.declared.event.FinishEvent.TheVariants.{Spawned};
 ghost use Rattle.phase_model.specs.declared.history.Event.TheVariants.{Sig};
 ghost use Rattle.phase_model.specs.declared.terms.Terms.{Terms};
@@ -27,7 +27,7 @@ use world_model::Begun;
 
 /// Whether by this act a task comes to its end.
 fn is_end(act: &Begun) -> bool
-    ensures { result ≡ true → act.now ≡ Begun.End }
+    ensures { (result ≡ true) ↔ (act.now ≡ Begun.End) }
 {
     matches!(act, Begun::End)
 }

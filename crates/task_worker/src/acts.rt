@@ -171,19 +171,15 @@ impl<'a, 'b, B: Body, K: RunNaming, G: Gate, R: Wait> Acts<B, Task<B, K>, Busy<'
         _worker: &mut Busy<'b, B, K, R>,
         task: &mut Task<B, K>,
         body: B,
-        pairs: Phased,
+        pairs: Option<Phased>,
     ) -> Result<Option<Box<Task<B, K>>>, Refusal> {
-        self.shared.spawn(task, body, pairs)
-    }
-
-    fn spawn_on_all(
-        &self,
-        _worker: &mut Busy<'b, B, K, R>,
-        task: &mut Task<B, K>,
-        body: B,
-    ) -> Result<Option<Box<Task<B, K>>>, Refusal> {
-        let pairs = task.standing.pairs();
-        self.shared.spawn(task, body, pairs)
+        match pairs {
+            Some(pairs) => self.shared.spawn(task, body, pairs),
+            None => {
+                let pairs = task.standing.pairs();
+                self.shared.spawn(task, body, pairs)
+            }
+        }
     }
 
     /// The memory that the task needs to know the finish is taken before.

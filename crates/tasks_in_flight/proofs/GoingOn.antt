@@ -22,7 +22,7 @@ goes_as (Ok (Some x)) P Q implied is = implied x is
 goes_as (Ok None) P Q implied is = tt
 goes_as (Err e) P Q implied is = tt
 
--- who gives up has made no event
+-- a task that gives up has made no event
 pub gives_up : {T : Type 0} (r : Result (Option T) Refusal) (known : T → Known) (Made : ℕ → Step → Type 0) (e : WorldEvent) (mid k : Known)
     → mid ≡ k → IfGoesOn r (λ x. known x ≡ given_up mid) → IfGoesOn r (λ x. HasTried Made e k (known x))
 gives_up r known Made e mid k same =
@@ -34,7 +34,7 @@ pub gives_up_turn : {T : Type 0} (r : Result (Option T) Refusal) (known : T → 
 gives_up_turn r known Made n mid k same =
     goes_as r (λ x. known x ≡ given_up mid) (λ x. GoesBy Made (due.Pass n) k (known x)) (λ x is. inl (inr (is ∙ ap given_up same)))
 
--- who has claimed a single has noted nothing
+-- one that has claimed a single has noted nothing
 pub claims : {T : Type 0} (r : Result (Option T) Refusal) (known : T → Known) (Made : ℕ → Step → Type 0) (n : ℕ) (mid k : Known)
     → mid ≡ k → Made n (Claim k.number) → IfGoesOn r (λ x. known x ≡ mid)
     → IfGoesOn r (λ x. GoesBy Made (due.Pass n) k (known x))
@@ -45,7 +45,7 @@ claims r known Made n mid k same claimed =
 pub due_now : (k : Known) (child : Option Known) (d named : Due) → IsNext d k child → d ≡ named → IsDue (event_of k.number named) k
 due_now k child d named first is = (child, sym first ∙ ap (λ (y : Due). event_of k.number y) is)
 
--- who goes on by what was due goes on by what comes next
+-- a task that goes on by what was due goes on by what comes next
 pub goes_by : {T : Type 0} (r : Result (Option T) Refusal) (known : T → Known) (Made : ℕ → Step → Type 0) (child : Option Known) (k : Known)
     (d named : Due) → IsNext d k child → d ≡ named
     → IfGoesOn r (λ x. GoesBy Made named k (known x)) → IfGoesOn r (λ x. HasGoneOn Made child k (known x))
@@ -53,7 +53,7 @@ goes_by r known Made child k d named first is =
     goes_as r (λ x. GoesBy Made named k (known x)) (λ x. HasGoneOn Made child k (known x))
     (λ x goes. (d, first, subst (λ (y : Due). GoesBy Made y k (known x)) (sym is) goes))
 
--- who doesn't go on
+-- nothing is to show of a task that doesn't go on
 pub goes_nowhere : {T : Type 0} (r : Result (Option T) Refusal) (Q : T → Type 0) → IfGoesOn r (λ x. ⊥) → IfGoesOn r Q
 goes_nowhere r Q = goes_as r (λ x. ⊥) Q (λ x no. absurd no)
 
@@ -67,7 +67,7 @@ pub begins : (Made : ℕ → Step → Type 0) (b : Begun) (has_begun : Bool) (k 
 begins Made b true k k' is = (Begin k.number b, refl, tt, is)
 begins Made b false k k' is = acts_no_more Made k k' is
 
--- who may not try an act comes to its end
+-- a task that may not try an act comes to its end
 pub not_tried : (Made : ℕ → Step → Type 0) (may : Bool) (k k' : Known) → may ≡ false → k' ≡ tried_by may k → HasActed Made k k'
 not_tried Made may k k' not_so is = acts_no_more Made k k' (is ∙ ap (λ (b : Bool). tried_by b k) not_so)
 

@@ -1,5 +1,5 @@
 //! How a task's act is begun, and made if it is one event, in a run of either kind.
-ghost use Rattle.std.specs.Prelude.{IfOk, IfSome, OnOk};
+ghost use Rattle.std.specs.Prelude.{IfOk, IfSome, MatchOption, OnOk};
 
 use crate::body::Body;
 use job_script::Act;
@@ -40,22 +40,16 @@ pub trait Acts<B: Body, T, W> {
         ensures acts { OnOk result (acts task.old task.new) }
         ensures notes { notes worker.old worker.new };
 
-    /// It begins to spawn a child, to be registered for these pairs: the child, unless that is refused.
+    /// It begins to spawn a child, to be registered for these pairs, or else on all that the task holds: the
+    /// child, unless that is refused.
     fn spawn(
         &self,
         worker: &mut W,
         task: &mut T,
         body: B,
-        pairs: Phased,
+        pairs: Option<Phased>,
     ) -> Result<Option<Box<T>>, Refusal>
-        requires { asks (Act.Async body pairs) task.old }
-        ensures acts { OnOk result (acts task.old task.new) }
-        ensures bears { IfOk result (λ child. IfSome child (λ c. bears task.new c.value)) }
-        ensures notes { notes worker.old worker.new };
-
-    /// The same on all that the task holds.
-    fn spawn_on_all(&self, worker: &mut W, task: &mut T, body: B) -> Result<Option<Box<T>>, Refusal>
-        requires { asks (Act.AsyncAll body) task.old }
+        requires { MatchOption pairs (asks (Act.AsyncAll body) task.old) (λ ps. asks (Act.Async body ps) task.old) }
         ensures acts { OnOk result (acts task.old task.new) }
         ensures bears { IfOk result (λ child. IfSome child (λ c. bears task.new c.value)) }
         ensures notes { notes worker.old worker.new };
@@ -131,8 +125,8 @@ fn spawn<B: Body, T: Drop, W, A: Acts<B, T, W>>(
     ensures notes { A.notes worker.old worker.new }
 {
     match act {
-        Act::Async(body, pairs) => acts.spawn(worker, task, body, pairs),
-        Act::AsyncAll(body) => acts.spawn_on_all(worker, task, body),
+        Act::Async(body, pairs) => acts.spawn(worker, task, body, Some(pairs)),
+        Act::AsyncAll(body) => acts.spawn(worker, task, body, None),
         _ => Err(Refusal::NotNow),
     }
 }

@@ -16,7 +16,7 @@ invariant_of-self g c =
     let old = c.args.self.now in
     let k = old.standing in record {
       end = λ is. ∥∥₁_map c.requires.asked (λ f p. asked_for_end g.B.Body.shows old.body old.places k
-          (subst (λ (b : Begun). AsksFor g.B.Body.shows old.body b old.places k) (c.is_end-self.ensures is) (f p)));
+          (subst (λ (b : Begun). AsksFor g.B.Body.shows old.body b old.places k) (c.is_end-self.ensures.0 is) (f p)));
       about = subst (λ (x : Known). ∥ (g.J.Supposing.supposed → IsAbout g.B.Body.shows old.body c.answer_to-self.result old.places x) ∥₁)
           (sym (c.begin.ensures ∙ ap (λ (p : Plan). begun p k) c.of.ensures))
           (subst (λ (a : Option Answer). ∥ (g.J.Supposing.supposed → IsAbout g.B.Body.shows old.body a old.places (begun (plan_of c.args.act.now) k)) ∥₁) (sym c.answer_to-self.ensures)
