@@ -1,6 +1,6 @@
 -- How a task goes on that a worker drives: it notes the event that was due, and nothing else. Of each step on a phaser, by the
 -- phaser's number, `Made` says what is known of it.
-use Rattle.std.specs.Prelude.{ℕ, ◌≡◌, ◌==◌, ◌⊎◌, Bool, true, false, Option, Some, None, Result, IfOk, IfSome}
+use Rattle.std.specs.Prelude.{ℕ, ◌≡◌, ◌==◌, ◌⊎◌, Bool, true, false, Option, Result, IfOk, IfSome}
 use Rattle.phase_modes.specs.declared.refusal.Refusal.{Refusal}
 use Rattle.phaser_core.specs.declared.answer.SignalAnswer.{SignalAnswer}
 use Rattle.phaser_core.specs.declared.answer.SignalAnswer.TheVariants.{Signalled, Parked as Held, Refused as NoSignal}
