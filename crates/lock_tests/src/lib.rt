@@ -1,5 +1,5 @@
-//! Tests of `share_book`, `scope_locks`, `long_locks`, `table_receipts`, `live_tables` and the numbers
-//! with types of `phase_modes`, which call what these export.
+//! Tests of `share_book`, `scope_locks`, `long_locks`, `level_phaser`, `table_receipts`, `live_tables` and
+//! the numbers with types of `phase_modes`, which call what these export.
 //!
 //! A library of tests alone: if they stood in the crates themselves, these would be proved once
 //! more with each change of a test.
@@ -11,6 +11,8 @@ mod asserted;
 mod books;
 #[cfg(test)]
 mod finishes;
+#[cfg(test)]
+mod level_tasks;
 #[cfg(test)]
 mod live_finishes;
 #[cfg(test)]

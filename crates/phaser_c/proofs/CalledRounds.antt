@@ -28,11 +28,11 @@ use Rattle.long_locks.specs.declared.course.Course.TheVariants.{Over, Waits}
 use Rattle.long_locks.specs.Courses.{story_after, pass_course, signal_course, answer_of}
 use Rattle.long_locks.specs.Turns.{Standing, standing, to_pass, turn_of, turns, queue_after, gone_after, IsTurned}
 use Rattle.long_locks.specs.Calls.{to_go_on, Called, called_once, called_on, called, answer_to, standing_after}
-use Rattle.phaser_c.specs.Rounds.{Round, round}
-use Rattle.phaser_c.specs.RoundLaws.{is_among, AreApart}
+use Rattle.level_phaser.specs.Rounds.{Round, round}
+use Rattle.level_phaser.specs.RoundLaws.{is_among, AreApart}
 use Rattle.phaser_c.specs.RoundCalls.{next_answer, after_next, AreParked, EndsIn, all_passed, RoundIsCalls}
-use Rattle.phaser_c.proofs.Level.{first_in}
-use Rattle.phaser_c.proofs.LevelRounds.{Stands, has_gone, without_second, other_goes, pass_goes, last_goes, sent_come, signals_come, after_both, level_round_is}
+use Rattle.level_phaser.proofs.LevelTasks.{first_in}
+use Rattle.level_phaser.proofs.LevelRounds.{Stands, has_gone, without_second, other_goes, pass_goes, last_goes, sent_come, signals_come, after_both, level_round_is}
 
 -- a pass by what it is answered
 once_is : (s : Story) (u : ℕ) (r : Reply) → reply s (pass u) ≡ r

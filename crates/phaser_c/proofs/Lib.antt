@@ -4,9 +4,6 @@ mod HandleWalks
 mod Handles
 mod Held
 mod Judgements
-mod Level
-mod LevelRounds
-mod Looks
 mod NoMemory
 mod Parts
 mod Refusals

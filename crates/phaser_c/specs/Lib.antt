@@ -10,7 +10,6 @@ pub mod History
 pub mod Judged
 pub mod JudgedGiven
 pub mod RoundCalls
-pub mod RoundLaws
 pub mod Rounds
 pub mod Told
 pub mod Waiting

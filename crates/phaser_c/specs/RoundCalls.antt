@@ -11,8 +11,8 @@ use Rattle.long_locks.specs.declared.answer.AskAnswer.{AskAnswer}
 use Rattle.long_locks.specs.declared.answer.AskAnswer.TheVariants.{Ended as HasEnded, Parked as IsParked}
 use Rattle.long_locks.specs.Turns.{Standing, standing, IsTurned}
 use Rattle.long_locks.specs.Calls.{to_go_on, called, answer_to, standing_after}
-use Rattle.phaser_c.specs.Rounds.{round_calls, round}
-use Rattle.phaser_c.specs.RoundLaws.{StandLevel, is_send_of, HasRoomFor}
+use Rattle.level_phaser.specs.Rounds.{round_calls, round}
+use Rattle.level_phaser.specs.RoundLaws.{StandLevel, is_send_of, HasRoomFor}
 
 -- what t is answered to its own `next`
 abbrev pub next_answer : ℕ → Standing → AskAnswer

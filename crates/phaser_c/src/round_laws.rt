@@ -1,17 +1,6 @@
-//! What holds of every round of tasks that stand level. Each function does nothing: its contract is
-//! the law, and the check proves it.
-ghost use Rattle.phaser_c.specs.RoundLaws.{LevelRound, LevelLooks};
+//! That a round is the calls of its tasks. The function does nothing: its contract is the law, and
+//! the check proves it.
 ghost use Rattle.phaser_c.specs.RoundCalls.{RoundIsCalls};
-
-/// No call of a round of level tasks is answered otherwise than in a round.
-pub fn level_round()
-    ensures { LevelRound }
-{}
-
-/// Tasks that stand in one phase see the same in each accumulator.
-pub fn level_looks()
-    ensures { LevelLooks }
-{}
 
 /// A round ends as the single calls of its tasks do.
 pub fn round_is_calls()

@@ -2,12 +2,13 @@
 ghost use Rattle.std.specs.Prelude.{◌≡◌, true};
 ghost use Rattle.phaser_c.specs.Answers.{number_of_answer};
 ghost use Rattle.phaser_c.specs.Waiting.{told_at, IsHeldAfter};
-ghost use Rattle.phaser_c.specs.Rounds.{round_of, is_level, are_level, level_of, answer_of_level, level_told, round_at, answer_of_course, answer_of_round, made_told, IsRound};
+ghost use Rattle.level_phaser.specs.Rounds.{round_of, is_level, are_level};
+ghost use Rattle.phaser_c.specs.Rounds.{level_of, answer_of_level, level_told, round_at, answer_of_course, answer_of_round, made_told, IsRound};
 
 use crate::answer::ExportAnswer;
-use crate::round::{GivenSend, RoundCourse, make_round};
 use crate::waiting::Waiting;
 use crate::waiting_handle::WaitingHandle;
+use level_phaser::{GivenSend, RoundCourse, make_round};
 use long_locks::LongCell;
 use phase_modes::{LongReg, Mode, Refusal};
 use phaser_core::{LongPhaser, LongTask, Phase};
@@ -72,16 +73,14 @@ impl Waiting {
     }
 }
 
-impl RoundCourse {
-    /// What is answered to a round that went so.
-    fn answer(self) -> ExportAnswer
-        ensures { result ≡ answer_of_course self }
-    {
-        if self.is_whole {
-            ExportAnswer::Done
-        } else {
-            ExportAnswer::Refused(Refusal::NotNow)
-        }
+/// What is answered to a round that went so.
+fn answer_to(course: RoundCourse) -> ExportAnswer
+    ensures { result ≡ answer_of_course course }
+{
+    if course.is_whole {
+        ExportAnswer::Done
+    } else {
+        ExportAnswer::Refused(Refusal::NotNow)
     }
 }
 
@@ -135,5 +134,5 @@ pub extern "C" fn phaser_c_waiting_round(
     let course = waiting.round(sends, tasks, phase);
     phaser.put(alloc, waiting);
     *made = course.made as usize;
-    course.answer().number()
+    answer_to(course).number()
 }

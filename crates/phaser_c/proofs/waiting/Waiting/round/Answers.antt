@@ -1,7 +1,8 @@
 use Rattle.std.proofs.Common.{◌≡◌, [], map, ap, ◌∙◌, arith}
 use Rattle.std.proofs.lemmas.List.{nil_from_length}
-use Rattle.phaser_c.specs.Rounds.{Round, send_of, round_calls}
-use Rattle.phaser_c.proofs.Rounds.{calls_limits, settled_alone}
+use Rattle.level_phaser.specs.Rounds.{Round, send_of, round_calls}
+use Rattle.level_phaser.proofs.Rounds.{calls_limits}
+use Rattle.phaser_c.proofs.Rounds.{settled_alone}
 use Rattle.phaser_c.proofs.waiting.Waiting.round.Goals as goal
 
 -- src/waiting_rounds.rt

@@ -1,0 +1,42 @@
+use Rattle.std.proofs.Common.{refl, sym, ◌∙◌, w32}
+use Rattle.std.proofs.lemmas.Int.{to_z-of_z}
+use Rattle.phase_model.specs.declared.call.Call.TheVariants.{Send as send}
+use Rattle.phase_model.specs.Replies.{reply}
+use Rattle.level_phaser.proofs.Answered.{refused_kept}
+use Rattle.level_phaser.proofs.Sends.{sent_level, kept_level}
+use Rattle.level_phaser.proofs.phaser.LevelPhaserLevelState.send.Goals as goal
+
+pub returns-in-Ok-clause-sent : goal.returns-in-Ok-clause-sent
+returns-in-Ok-clause-sent c =
+    let round = to_z-of_z w32 c.args.value c.ranges.value in
+    let k = sent_level c.args.phase c.args.task c.args.accumulator c.args.value c.args.self.now.tasks.items
+    c.args.self.now.phaser.story _ c.requires.ready.1
+    (rw round at c.send-outcome.ensures.history) (sym (rw round at c.in-Ok.ensures.reply)) in
+    (k.newest, refl, k.sender, k.others)
+
+pub returns-in-Ok-clause-ready : goal.returns-in-Ok-clause-ready
+returns-in-Ok-clause-ready c =
+    let k = sent_level c.args.phase c.args.task c.args.accumulator _ c.args.self.now.tasks.items
+    c.args.self.now.phaser.story _ c.requires.ready.1
+    c.send-outcome.ensures.history (sym c.in-Ok.ensures.reply) in
+    (c.history.ensures.legal, k.stand)
+
+pub returns-in-Err-clause-refused : goal.returns-in-Err-clause-refused
+returns-in-Err-clause-refused c =
+    let round = to_z-of_z w32 c.args.value c.ranges.value in
+    let s = c.args.self.now.phaser.story in
+    let why = sym (rw round at c.in-Err.ensures.reply) in
+    let k = kept_level c.args.phase c.args.self.now.tasks.items s _ c.requires.ready.1
+    ((rw round at c.send-outcome.ensures.history)
+    ∙ refused_kept s (reply s (send c.args.task c.args.accumulator c.args.value)) _ why) in
+    ((k.longer, refl, λ u live. k.all u tt live), why)
+
+pub returns-in-Err-clause-ready : goal.returns-in-Err-clause-ready
+returns-in-Err-clause-ready c =
+    let round = to_z-of_z w32 c.args.value c.ranges.value in
+    let s = c.args.self.now.phaser.story in
+    let why = sym (rw round at c.in-Err.ensures.reply) in
+    let k = kept_level c.args.phase c.args.self.now.tasks.items s _ c.requires.ready.1
+    ((rw round at c.send-outcome.ensures.history)
+    ∙ refused_kept s (reply s (send c.args.task c.args.accumulator c.args.value)) _ why) in
+    (c.history.ensures.legal, k.stand)

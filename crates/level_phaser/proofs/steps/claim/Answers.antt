@@ -1,0 +1,14 @@
+use Rattle.std.proofs.Common.{◌<◌, ℕ, refl, sym, subst, arith}
+use Rattle.level_phaser.proofs.Keeps.{claims}
+use Rattle.level_phaser.proofs.steps.claim.Goals as goal
+
+pub compare_exchange-requires : goal.compare_exchange-requires
+compare_exchange-requires g c =
+    let L = g.S.LevelState in
+    let not0 = c.if-missing-eq0.false in
+    let less = c.if-missing-ge-BUSY.false in (
+      c.requires.table.0,
+      subst (λ (n : ℕ). 0 < n) (sym c.requires.table.1.0) (omega arith),
+      claims L.events L.registered L.count L.newest L.ready _ _ _ _ _ (omega arith) less refl
+          c.requires.stands.0 c.requires.stands.1,
+    )

@@ -1,0 +1,44 @@
+-- What a task knows once its call has returned.
+use Rattle.std.specs.Prelude.{◌≡◌, ℕ, ◌+◌, Bool, true, false, List, [], ◌∷◌}
+use Rattle.told_history.specs.Tails.{IsTail}
+use Rattle.phase_model.specs.declared.history.Event.{Event}
+use Rattle.phase_model.specs.declared.call.Call.{Call}
+use Rattle.phase_model.specs.Replies.{Reply}
+use Rattle.level_phaser.specs.declared.view.SeatedTask.{SeatedTask}
+use Rattle.level_phaser.specs.declared.view.SeatView.{SeatView}
+use Rattle.level_phaser.specs.Deeds.{deeds_of}
+use Rattle.level_phaser.specs.Views.{gone_on, with_seen}
+
+module _ {S : Type 0} (events : S → List Event) (registered : ℕ → S → Bool) (ready : ℕ → S → Type 0) where
+  -- each of these tasks is registered, and did just what it is said to have done
+  abbrev pub AreSeated : List SeatedTask → S → Type 0
+  AreSeated [] x = Unit {0}
+  AreSeated (c ∷ cs) x = (registered c.task x ≡ true) × (deeds_of c.task (events x) ≡ c.deeds)
+      × AreSeated cs x
+
+  -- The seat's tasks stand in the next phase, with one signal more each. What it has seen now goes on from what it had
+  -- seen before. It is the history of a time at which all stood level in that phase, and its tasks had done in it
+  -- just what their calls did.
+  abbrev pub GoneOn : SeatView S → SeatView S → Type 0
+  GoneOn v w =
+      (x : S) × (w ≡ gone_on v (events x)) × IsTail v.seen (events x) × ready (v.phase + 1) x
+      × AreSeated w.tasks x
+
+  -- one event more ends a history that goes on from what was seen before: so much is seen now, and nothing else changed
+  abbrev pub HasSent : Event → SeatView S → SeatView S → Type 0
+  HasSent e v w = (x : S) × IsTail v.seen (events x) × (w ≡ with_seen v (e ∷ events x))
+
+  -- at some time after what was seen before, and before what is seen now, the task wasn't registered any more
+  abbrev pub HasLeft : ℕ → SeatView S → SeatView S → Type 0
+  HasLeft task v w =
+      (w.tasks ≡ []) × (x : S) × IsTail v.seen (events x) × (registered task x ≡ false)
+      × IsTail (events x) w.seen
+
+-- the call was answered so by the phaser, with a history that goes on from what was seen
+abbrev pub IsReplied : {S : Type 0} → (S → List Event) → (S → Call → Reply) → (Reply → Type 0) → Call → SeatView S
+    → Type 0
+IsReplied {S} events replies Is call v = (x : S) × IsTail v.seen (events x) × Is (replies x call)
+
+-- the history goes on from what was seen, and has no room for a round
+abbrev pub HasNoRoom : {S : Type 0} → (S → List Event) → (S → Type 0) → SeatView S → Type 0
+HasNoRoom {S} events full v = (x : S) × IsTail v.seen (events x) × full x

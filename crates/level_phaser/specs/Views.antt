@@ -1,0 +1,66 @@
+-- What a seat knows, and how it changes.
+use Rattle.std.specs.Prelude.{ℕ, ◌+◌, List, [], ◌∷◌}
+use Rattle.phase_model.specs.declared.history.Event.{Event}
+use Rattle.level_phaser.specs.declared.view.Deeds.{Deeds}
+use Rattle.level_phaser.specs.declared.view.SeatedTask.{SeatedTask}
+use Rattle.level_phaser.specs.declared.view.Role.{Role}
+use Rattle.level_phaser.specs.declared.view.Role.TheVariants.{Stands, Gone}
+use Rattle.level_phaser.specs.declared.view.SeatView.{SeatView}
+use Rattle.level_phaser.specs.Deeds.{deeds, deeds_of, with_signal}
+
+-- this task did this itself
+abbrev pub seated : ℕ → Deeds → SeatedTask
+seated task done = record { task = task; deeds = done }
+
+-- one signal more of each
+abbrev pub signalled : List SeatedTask → List SeatedTask
+signalled [] = []
+signalled (c ∷ cs) = seated c.task (with_signal c.deeds) ∷ signalled cs
+
+-- each with what it did by this history
+abbrev pub known_by : List Event → List SeatedTask → List SeatedTask
+known_by h [] = []
+known_by h (c ∷ cs) = seated c.task (deeds_of c.task h) ∷ known_by h cs
+
+module _ {S : Type 0} where
+  abbrev pub view_of : List SeatedTask → ℕ → Role S → List Event → ℕ → SeatView S
+  view_of tasks phase role seen heard = record {
+    tasks = tasks;
+    phase = phase;
+    role = role;
+    seen = seen;
+    heard = heard;
+  }
+
+  -- the first task, which hasn't come
+  abbrev pub first_view : ℕ → SeatView S
+  first_view task = view_of (seated task (deeds 0 []) ∷ []) 0 Stands [] 0
+
+  -- the same seat in another role
+  abbrev pub with_role : SeatView S → Role S → SeatView S
+  with_role v role = view_of v.tasks v.phase role v.seen v.heard
+
+  -- it stands, and has seen all of this history
+  abbrev pub with_seen : SeatView S → List Event → SeatView S
+  with_seen v seen = view_of (known_by seen v.tasks) v.phase Stands seen v.heard
+
+  -- its task has left in this history
+  abbrev pub without_tasks : SeatView S → Role S → List Event → SeatView S
+  without_tasks v role seen = view_of [] v.phase role seen v.heard
+
+  -- a seat of no task is done
+  abbrev pub role_after : List SeatedTask → Role S
+  role_after [] = Gone
+  role_after (c ∷ cs) = Stands
+
+  -- the same tasks in the next phase, each with one signal more, and this history seen
+  abbrev pub gone_on : SeatView S → List Event → SeatView S
+  gone_on v seen = view_of (signalled v.tasks) (v.phase + 1) (role_after v.tasks) seen v.heard
+
+  -- what a task tells others: it has come so far
+  abbrev pub note_of : SeatView S → SeatView S
+  note_of v = view_of [] v.phase Gone v.seen 0
+
+  -- it has read the note
+  abbrev pub told : SeatView S → SeatView S → SeatView S
+  told v note = view_of v.tasks v.phase v.role v.seen note.phase

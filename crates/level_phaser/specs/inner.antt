@@ -1,0 +1,5 @@
+-- What only the code's own values need: no public contract cites it.
+pub mod Board
+pub mod Plays
+pub mod Steps
+pub mod Stories

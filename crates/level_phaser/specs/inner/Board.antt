@@ -1,0 +1,103 @@
+-- The rule of the table: what holds between any two steps, whichever threads make them.
+-- Word 0 counts the tasks that haven't come in the phase in which all stand, and is greater by `busy` while
+-- somebody holds what is shared. Word 16 is the number of rounds whose tasks may go on.
+use Rattle.std.specs.Prelude.{◌≡◌, ◌⊎◌, ℕ, ◌+◌, ◌<◌, ◌≤◌, ◌==◌, if◌then◌else◌, Bool, true, List, [], ◌∷◌, length, slice_index}
+use mathlib.Core.Option.{Option, some, none}
+use lib.ListN.{get_elem?}
+use Rattle.atomic_table.specs.Table.{State}
+use Rattle.told_history.specs.Tails.{IsTail}
+use Rattle.phase_model.specs.declared.history.Event.{Event}
+use Rattle.level_phaser.specs.declared.view.SeatedTask.{SeatedTask}
+use Rattle.level_phaser.specs.declared.view.Role.{Role}
+use Rattle.level_phaser.specs.declared.view.Role.TheVariants.{Stands, Came, Last, Holder, Gone}
+use Rattle.level_phaser.specs.declared.view.SeatView.{SeatView}
+use Rattle.level_phaser.specs.Deeds.{deeds_of}
+use Rattle.level_phaser.specs.Views.{signalled, view_of}
+
+-- while somebody holds what is shared, word 0 is greater by this
+abbrev pub busy : ℕ
+busy = 4611686018427387904
+
+-- f of each, added up
+abbrev pub total : {A : Type 0} → (A → ℕ) → List A → ℕ
+total f [] = 0
+total f (x ∷ xs) = f x + total f xs
+
+module _ {S : Type 0} where
+  -- of other tasks
+  abbrev pub with_tasks : SeatView S → List SeatedTask → SeatView S
+  with_tasks v tasks = view_of tasks v.phase v.role v.seen v.heard
+
+  -- a note that was read
+  abbrev pub spent : SeatView S
+  spent = view_of [] 0 Gone [] 0
+
+  -- how many tasks a seat has
+  abbrev pub parts_of : SeatView S → ℕ
+  parts_of v = length v.tasks
+
+  -- how many of its tasks are to come in this phase: those that haven't, and those that came in the one before
+  abbrev pub missing_in : Role S → ℕ → ℕ → ℕ → ℕ
+  missing_in Stands parts at phase = parts
+  missing_in Came parts at phase = if at == phase then 0 else parts
+  missing_in (Last x) parts at phase = 0
+  missing_in (Holder x) parts at phase = parts
+  missing_in Gone parts at phase = 0
+
+  -- the same of a view
+  abbrev pub missing : ℕ → SeatView S → ℕ
+  missing phase v = missing_in v.role (length v.tasks) v.phase phase
+
+  module _ (events : S → List Event) (registered : ℕ → S → Bool) (count : S → ℕ) (ready : ℕ → S → Type 0)
+    where
+      -- each task is registered and is of this seat, and did just this
+      abbrev pub Each : (ℕ → ℕ) → S → ℕ → List SeatedTask → Type 0
+      Each seat value i [] = Unit {0}
+      Each seat value i (c ∷ cs) =
+          (registered c.task value ≡ true)
+          × (seat c.task ≡ i)
+          × (deeds_of c.task (events value) ≡ c.deeds)
+          × Each seat value i cs
+
+      -- a seat in this role fits the phase, the word, the value and who holds it: its tasks stand, or came in this
+      -- phase, or came in the one before and don't know yet that its round is over
+      abbrev pub FitsIn : (ℕ → ℕ) → Role S → List SeatedTask → ℕ → ℕ → ℕ → S → ℕ → ℕ → Type 0
+      FitsIn seat Stands tasks at phase word value holder i =
+          (0 < length tasks) × (at ≡ phase) × Each seat value i tasks
+      FitsIn seat Came tasks at phase word value holder i =
+          (0 < length tasks)
+          × (((at ≡ phase) × Each seat value i tasks)
+          ⊎ ((at + 1 ≡ phase) × Each seat value i (signalled tasks)))
+      FitsIn seat (Last x) tasks at phase word value holder i =
+          (at ≡ phase) × (word ≡ 0) × (x ≡ value) × (i ≡ holder) × Each seat value i tasks
+      FitsIn seat (Holder x) tasks at phase word value holder i =
+          (at ≡ phase) × (busy ≤ word) × (x ≡ value) × (i ≡ holder) × Each seat value i tasks
+      FitsIn seat Gone tasks at phase word value holder i = (at ≤ phase) × (tasks ≡ [])
+
+      -- what a seat has seen begins the history, and what it has heard of was reached
+      abbrev pub Fits : (ℕ → ℕ) → ℕ → ℕ → S → ℕ → ℕ → SeatView S → Type 0
+      Fits seat phase word value holder i v =
+          (IsTail v.seen (events value) × (v.heard ≤ phase))
+          × FitsIn seat v.role v.tasks v.phase phase word value holder i
+
+      -- the value is at home, or all have come, or somebody holds it
+      abbrev pub Homes : ℕ → S → List (Option S) → Type 0
+      Homes word value homes =
+          ((homes ≡ some value ∷ []) × (word < busy)) ⊎ ((homes ≡ none ∷ []) × ((word ≡ 0) ⊎ (busy ≤ word)))
+
+      -- there are a phase and a value that all seats fit, and the words are as above
+      pub record IsLevel (s : State S (SeatView S)) : Type 0 where
+        pub phase : ℕ
+        pub value : S
+        pub holder : ℕ
+        pub seat : ℕ → ℕ
+        pub held : Bool
+        pub wide : length s.words ≡ 32
+        pub parts : total parts_of s.views ≡ count value
+        pub small : count value < 4294967296
+        pub word : slice_index s.words 0 ≡ total (missing phase) s.views + (if held then busy else 0)
+        pub over : slice_index s.words 16 ≤ phase
+        pub home : Homes (slice_index s.words 0) value s.homes
+        pub each : (i : ℕ) (v : SeatView S) → get_elem? s.views i ≡ some v
+            → Fits seat phase (slice_index s.words 0) value holder i v
+        pub stands : ready phase value

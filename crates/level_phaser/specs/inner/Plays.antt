@@ -1,0 +1,94 @@
+-- What each step on the table tells the thread that makes it.
+use Rattle.std.specs.Prelude.{◌≡◌, ◌≢◌, ℕ, ◌+◌, ◌<◌, ◌≤◌, Bool, List, [], ◌∷◌}
+use Rattle.atomic_table.specs.Table.{Me, Step}
+use Rattle.told_history.specs.Tails.{IsTail}
+use Rattle.phase_model.specs.declared.history.Event.{Event}
+use Rattle.level_phaser.specs.declared.view.SeatView.{SeatView}
+use Rattle.level_phaser.specs.declared.view.Role.TheVariants.{Stands, Came, Last, Holder, Gone}
+use Rattle.level_phaser.specs.Deeds.{deeds}
+use Rattle.level_phaser.specs.Views.{seated, signalled, view_of, with_role, with_seen, without_tasks, gone_on}
+use Rattle.level_phaser.specs.inner.Board.{busy}
+use Rattle.level_phaser.specs.Seen.{AreSeated, GoneOn}
+
+-- a seat's view, and what it holds
+abbrev M : Type 0 → Type 0
+M S = Me S (SeatView S)
+
+module _ {S : Type 0} (events : S → List Event) (registered : ℕ → S → Bool) (ready : ℕ → S → Type 0) where
+  -- the seat holds what is shared; its tasks are registered, and did just what it knows
+  abbrev pub Claimed : M S → M S → Type 0
+  Claimed m m' =
+      (x : S)
+      × (m' ≡ (with_role m.0 (Holder x), (0, x) ∷ []))
+      × ready m.0.phase x
+      × AreSeated events registered ready m.0.tasks x
+      × IsTail m.0.seen (events x)
+
+-- the seat came last in this phase, and has what is shared
+abbrev pub IsLast : {S : Type 0} → (S → List Event) → (ℕ → S → Type 0) → ℕ → M S → Type 0
+IsLast {S} events ready phase m =
+    (x : S)
+    × (m.0.role ≡ Last x)
+    × (m.1 ≡ (0, x) ∷ [])
+    × (m.0.phase ≡ phase)
+    × ready phase x
+    × IsTail m.0.seen (events x)
+
+module _ {S : Type 0} (events : S → List Event) (registered : ℕ → S → Bool) (newest : S → ℕ)
+    (ready : ℕ → S → Type 0) where
+  -- who comes last has what is shared
+  abbrev pub came : Step S → M S → ℕ → M S → Type 0
+  came st m n m' =
+      (n ≡ 1
+      → (x : S) × (m' ≡ (with_role m.0 (Last x), (0, x) ∷ [])) × ready m.0.phase x
+      × IsTail m.0.seen (events x))
+      × (n ≢ 1 → m' ≡ (with_role m.0 Came, []))
+
+  -- the round of the seat's phase is over if the word has risen above that
+  abbrev pub looked : Step S → M S → ℕ → M S → Type 0
+  looked st m n m' =
+      (m.0.phase < n → GoneOn events registered ready m.0 m'.0 × (m'.1 ≡ m.1)) × (n ≤ m.0.phase → m' ≡ m)
+
+  -- the last has made the round, and given back what is shared
+  abbrev pub ended : Step S → M S → ℕ → M S → Type 0
+  ended st m n m' =
+      (y : S) → m.1 ≡ (0, y) ∷ []
+      → (m' ≡ (gone_on m.0 (events y), [])) × AreSeated events registered ready (signalled m.0.tasks) y
+
+  -- if the word was as expected the seat holds what is shared
+  abbrev pub claimed : Step S → M S → ℕ → M S → Type 0
+  claimed st m n m' = (n ≡ st.first → Claimed events registered ready m m') × (n ≢ st.first → m' ≡ m)
+
+  -- the holder has given back what is shared
+  abbrev pub released : Step S → M S → ℕ → M S → Type 0
+  released st m n m' = m' ≡ (with_role m.0 Stands, [])
+
+  -- the same, and it has seen all of the history
+  abbrev pub shown : Step S → M S → ℕ → M S → Type 0
+  shown st m n m' = (y : S) → m.1 ≡ (0, y) ∷ [] → m' ≡ (with_seen m.0 (events y), [])
+
+  -- the holder has given back what is shared, with a task more
+  abbrev pub joined : Step S → M S → ℕ → M S → Type 0
+  joined st m n m' =
+      (y : S) → m.1 ≡ (0, y) ∷ []
+      → m' ≡ (
+        view_of (seated (newest y) (deeds m.0.phase []) ∷ m.0.tasks) m.0.phase Stands m.0.seen
+            m.0.heard,
+        [],
+      )
+
+  -- the holder's task has left: if nobody was missing but that one, the holder is the last; else it has given back
+  -- what is shared
+  abbrev pub left : Step S → M S → ℕ → M S → Type 0
+  left st m n m' =
+      (y : S) → m.1 ≡ (0, y) ∷ []
+      → (n ≡ busy + 1 → m' ≡ (without_tasks m.0 (Last y) (events y), (0, y) ∷ []))
+      × (n ≢ busy + 1 → m' ≡ (without_tasks m.0 Gone (events y), []))
+
+  -- no phase that was heard of lies beyond that of a task which hasn't come
+  abbrev pub heeded : Step S → M S → ℕ → M S → Type 0
+  heeded st m n m' = (m' ≡ m) × (m.0.role ≡ Stands → m.0.heard ≤ m.0.phase)
+
+  -- nothing changes but the word
+  abbrev pub raised : Step S → M S → ℕ → M S → Type 0
+  raised st m n m' = m' ≡ m

@@ -1,0 +1,96 @@
+//! What each step on the table tells.
+ghost use Rattle.level_phaser.specs.inner.Plays.{came, looked, ended, claimed, joined, left, raised, released, heeded, shown};
+ghost use Rattle.level_phaser.specs.inner.Steps.{first_of, others_of};
+ghost use Rattle.level_phaser.specs.Views.{note_of, told};
+ghost use Rattle.level_phaser.specs.inner.Board.{spent};
+
+use crate::state::LevelState;
+use crate::view::SeatView;
+use atomic_table::{Join as Merge, Play, Split};
+
+pub(crate) struct Come;
+
+impl<S: LevelState> Play<S, SeatView<S>> for Come {
+    ghost then = { came S.events S.registered S.newest S.ready };
+}
+
+pub(crate) struct Look;
+
+impl<S: LevelState> Play<S, SeatView<S>> for Look {
+    ghost then = { looked S.events S.registered S.newest S.ready };
+}
+
+pub(crate) struct End;
+
+impl<S: LevelState> Play<S, SeatView<S>> for End {
+    ghost then = { ended S.events S.registered S.newest S.ready };
+}
+
+pub(crate) struct Claim;
+
+impl<S: LevelState> Play<S, SeatView<S>> for Claim {
+    ghost then = { claimed S.events S.registered S.newest S.ready };
+}
+
+pub(crate) struct Release;
+
+impl<S: LevelState> Play<S, SeatView<S>> for Release {
+    ghost then = { released S.events S.registered S.newest S.ready };
+}
+
+pub(crate) struct Show;
+
+impl<S: LevelState> Play<S, SeatView<S>> for Show {
+    ghost then = { shown S.events S.registered S.newest S.ready };
+}
+
+pub(crate) struct Join;
+
+impl<S: LevelState> Play<S, SeatView<S>> for Join {
+    ghost then = { joined S.events S.registered S.newest S.ready };
+}
+
+pub(crate) struct Leave;
+
+impl<S: LevelState> Play<S, SeatView<S>> for Leave {
+    ghost then = { left S.events S.registered S.newest S.ready };
+}
+
+pub(crate) struct Raise;
+
+impl<S: LevelState> Play<S, SeatView<S>> for Raise {
+    ghost then = { raised S.events S.registered S.newest S.ready };
+}
+
+/// The first of a seat's tasks gets a seat of its own.
+pub(crate) struct Cut;
+
+impl<S: LevelState> Split<SeatView<S>> for Cut {
+    ghost left = { others_of };
+
+    ghost right = { first_of };
+}
+
+/// A seat tells how far it has come.
+pub(crate) struct Note;
+
+impl<S: LevelState> Split<SeatView<S>> for Note {
+    ghost left = { λ v. v };
+
+    ghost right = { note_of };
+}
+
+/// Another hears it.
+pub(crate) struct Hear;
+
+impl<S: LevelState> Merge<SeatView<S>> for Hear {
+    ghost both = { told };
+
+    ghost spent = { spent };
+}
+
+pub(crate) struct Heed;
+
+impl<S: LevelState> Play<S, SeatView<S>> for Heed {
+    ghost then = { heeded S.events S.registered S.newest S.ready };
+}

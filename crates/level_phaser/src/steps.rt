@@ -1,0 +1,291 @@
+//! The calls of a task.
+ghost use Rattle.std.specs.Prelude.{◌≡◌, ◌≢◌, ◌+◌, ◌^◌, ◌<◌, ◌≤◌, [], ◌∷◌, ◌⊎◌, IfOk, true, IsTrue, IsFalse, MatchBool, MatchOption, MatchResult, IfSome, Err};
+ghost use Rattle.std.specs.Arc.{arc_value};
+ghost use Rattle.told_history.specs.Tails.{IsTail};
+ghost use Rattle.phase_model.specs.declared.call.Call.TheVariants.{Send as send, Look as look};
+ghost use Rattle.phase_model.specs.declared.history.Event.TheVariants.{Send as Sent};
+ghost use Rattle.phase_model.specs.Replies.{done_result};
+ghost use Rattle.phase_model.specs.Answers.{look_result};
+ghost use Rattle.level_phaser.specs.declared.stage.Stage.TheVariants.{Stands, Waits, Gone, Stuck};
+ghost use Rattle.level_phaser.specs.declared.view.Role.TheVariants.{Came, Stands as StandsIn};
+ghost use Rattle.level_phaser.specs.Deeds.{deeds};
+ghost use Rattle.level_phaser.specs.Views.{seated, view_of, first_view, with_role, note_of, told};
+ghost use Rattle.level_phaser.specs.Seen.{GoneOn, HasSent, HasLeft, HasNoRoom, IsReplied};
+ghost use Rattle.level_phaser.specs.inner.Plays.{Claimed, IsLast};
+ghost use Rattle.level_phaser.specs.inner.Steps.{IsSized};
+
+use crate::member::Member;
+use crate::plays::{
+    Claim, Come, Cut, End, Hear, Heed, Join, Leave, Look, Note, Raise, Release, Show,
+};
+use crate::stage::Stage;
+use crate::state::LevelState;
+use crate::view::{Level, LevelSeat, LevelTable, SeatView};
+use atomic_table::{Shared, Table};
+use phase_model::LongLook;
+use phase_modes::Refusal;
+use std::alloc::{AllocError, Global};
+use std::sync::Arc;
+
+/// The word that counts the tasks that haven't come, and that of the rounds whose tasks may go on:
+/// each in a line of memory of its own.
+const COUNT: usize = 0;
+
+const OVER: usize = 16;
+
+const WORDS: usize = 32;
+
+/// It is added to the count while somebody holds what is shared.
+const BUSY: u64 = 1 << 62;
+
+/// Holds what is shared, unless others do, or all have come.
+fn claim<S: LevelState>(
+    shared: &Shared<S, SeatView<S>, u64, Level>,
+    seat: &mut LevelSeat<S>,
+) -> bool
+    requires table { (seat.old.table_id ≡ shared.now.table_id) × IsSized shared.now.table_id }
+    requires stands { (seat.old.me.0.role ≡ StandsIn) × (seat.old.me.1 ≡ []) }
+    ensures same { seat.new.table_id ≡ seat.old.table_id }
+    ensures claimed { IsTrue result → Claimed S.events S.registered S.ready seat.old.me seat.new.me }
+    ensures kept { IsFalse result → seat.new.me ≡ seat.old.me }
+{
+    let missing = shared.peek(COUNT);
+    if missing == 0 || missing >= BUSY {
+        return false;
+    }
+    shared.compare_exchange::<Claim>(seat, COUNT, missing, missing + BUSY) == missing
+}
+
+/// The last makes the round, and gives back what is shared. Whether it did: there may be no room.
+fn end_round<S: LevelState>(
+    shared: &Shared<S, SeatView<S>, u64, Level>,
+    seat: &mut LevelSeat<S>,
+    phase: u64,
+) -> bool
+    requires table { (seat.old.table_id ≡ shared.now.table_id) × IsSized shared.now.table_id }
+    requires small { phase + 1 < 2 ^ 64 }
+    requires last { IsLast S.events S.ready phase seat.old.me }
+    ensures same { seat.new.table_id ≡ seat.old.table_id }
+    ensures ended { IsTrue result → GoneOn S.events S.registered S.ready seat.old.me.0 seat.new.me.0
+        × (seat.new.me.1 ≡ []) }
+    ensures full { IsFalse result → HasNoRoom S.events S.full seat.old.me.0
+        × (seat.new.me.0 ≡ seat.old.me.0) }
+{
+    let value = seat.slot_mut(shared, 0);
+    if !value.make_round(phase) {
+        return false;
+    }
+    let count = value.count();
+    shared.store::<End>(seat, COUNT, count);
+    true
+}
+
+impl<S: LevelState> Member<S> {
+    /// The first task, and what all share.
+    pub fn new(alloc: Global, mut value: S) -> Result<Member<S>, AllocError>
+        requires ready { S.ready 0 value }
+        requires nobody { S.count value ≡ 0 }
+        ensures { IfOk result (λ m. (m.seat.me.0 ≡ first_view m.task) × (m.stage ≡ Stands)) }
+    {
+        let Some(task) = value.join(0) else {
+            return Err(AllocError);
+        };
+        let mut words = Vec::from_elem(alloc, 0u64, WORDS)?;
+        words[COUNT] = 1;
+        let mut slots = Vec::with_capacity(alloc, 1)?;
+        slots.push_reserved(value);
+        let Ok((table, seat)) = Table::new(alloc, words.as_slice(), slots, &task) else {
+            return Err(AllocError);
+        };
+        let board: Arc<LevelTable<S>, Global> = Arc::new(alloc, table)?;
+        Ok(Member {
+            board,
+            seat,
+            task,
+            phase: 0,
+            stage: Stage::Stands,
+        })
+    }
+
+    /// The task comes. Whether it came last: then it has made the round, and stands in the next
+    /// phase. Else it waits, and `look` says when it may go on. It is stuck if it came last, and
+    /// the history has no room for the round.
+    pub fn come(&mut self) -> bool
+        requires { (self.old.stage ≡ Stands) × (self.old.phase + 1 < 2 ^ 64) }
+        ensures same { (self.new.seat.table_id ≡ self.old.seat.table_id) × (self.new.task ≡ self.old.task) }
+        ensures outcome { MatchBool result
+            ((self.new.stage ≡ Stands) × GoneOn S.events S.registered S.ready self.old.seat.me.0
+            self.new.seat.me.0)
+            (((self.new.stage ≡ Waits) × (self.new.seat.me.0 ≡ with_role self.old.seat.me.0 Came))
+            ⊎ ((self.new.stage ≡ Stuck) × HasNoRoom S.events S.full self.old.seat.me.0)) }
+    {
+        let shared = &self.board.shared;
+        if shared.fetch_sub::<Come>(&mut self.seat, COUNT, 1) != 1 {
+            self.stage = Stage::Waits;
+            return false;
+        }
+        if !end_round(shared, &mut self.seat, self.phase) {
+            self.stage = Stage::Stuck;
+            return false;
+        }
+        self.phase += 1;
+        shared.store::<Raise>(&mut self.seat, OVER, self.phase);
+        true
+    }
+
+    /// Whether the round in which the task came is over: then it stands in the next phase. It reads
+    /// one word, and may be called again and again.
+    pub fn look(&mut self) -> bool
+        requires { (self.old.stage ≡ Waits) × (self.old.phase + 1 < 2 ^ 64) }
+        ensures same { (self.new.seat.table_id ≡ self.old.seat.table_id) × (self.new.task ≡ self.old.task) }
+        ensures outcome { MatchBool result
+            ((self.new.stage ≡ Stands) × GoneOn S.events S.registered S.ready self.old.seat.me.0
+            self.new.seat.me.0)
+            ((self.new.stage ≡ Waits) × (self.new.seat.me.0 ≡ self.old.seat.me.0)) }
+    {
+        let shared = &self.board.shared;
+        if shared.load::<Look>(&mut self.seat, OVER) <= self.phase {
+            return false;
+        }
+        self.phase += 1;
+        self.stage = Stage::Stands;
+        true
+    }
+
+    /// A new task joins, which stands where this one does. None if others hold what is shared, or
+    /// have all come: then it can be asked again. None as well if there is no room or no memory.
+    pub fn join(&mut self) -> Option<Member<S>>
+        requires { self.old.stage ≡ Stands }
+        ensures same { (self.new.seat.table_id ≡ self.old.seat.table_id) × (self.new.task ≡ self.old.task) }
+        ensures this { (self.new.seat.me.0 ≡ self.old.seat.me.0) × (self.new.stage ≡ Stands)
+            × (self.new.phase ≡ self.old.phase) }
+        ensures other { IfSome result (λ m. let old = self.old.seat.me.0 in
+            (m.seat.me.0 ≡ view_of (seated m.task (deeds self.old.phase []) ∷ []) self.old.phase StandsIn
+            old.seen old.heard)
+            × (m.task ≢ self.old.task) × (m.stage ≡ Stands) × (m.seat.table_id ≡ self.old.seat.table_id)) }
+    {
+        let board = Arc::try_clone(&self.board).ok()?;
+        let shared = &board.shared;
+        if !claim(shared, &mut self.seat) {
+            return None;
+        }
+        let Some(task) = self.seat.slot_mut(shared, 0).join(self.phase) else {
+            shared.fetch_sub::<Release>(&mut self.seat, COUNT, BUSY);
+            return None;
+        };
+        shared.fetch_sub::<Join>(&mut self.seat, COUNT, BUSY - 1);
+        let seat = shared.split_seat::<Cut>(&mut self.seat);
+        Some(Member {
+            board,
+            seat,
+            task,
+            phase: self.phase,
+            stage: Stage::Stands,
+        })
+    }
+
+    /// The task sends a value, which counts for its phase, and sees it in the history. None if
+    /// others hold what is shared: then it can be asked again. A refusal is the phaser's.
+    pub fn send(&mut self, accumulator: u8, value: i32) -> Option<Result<(), Refusal>>
+        requires { self.old.stage ≡ Stands }
+        ensures same { (self.new.seat.table_id ≡ self.old.seat.table_id) × (self.new.task ≡ self.old.task)
+            × (self.new.phase ≡ self.old.phase) }
+        ensures stage { self.new.stage ≡ Stands }
+        ensures sent { MatchOption result
+            (self.new.seat.me.0 ≡ self.old.seat.me.0)
+            (λ r. MatchResult r
+            (λ _. HasSent S.events S.registered S.ready (Sent self.old.task accumulator value)
+            self.old.seat.me.0 self.new.seat.me.0)
+            (λ why. (self.new.seat.me.0 ≡ self.old.seat.me.0)
+            × IsReplied S.events S.replies (λ reply. done_result reply ≡ Err why)
+            (send self.old.task accumulator value) self.old.seat.me.0)) }
+    {
+        let shared = &self.board.shared;
+        if !claim(shared, &mut self.seat) {
+            return None;
+        }
+        let state = self.seat.slot_mut(shared, 0);
+        match state.send(self.task, accumulator, value, self.phase) {
+            Ok(()) => {
+                shared.fetch_sub::<Show>(&mut self.seat, COUNT, BUSY);
+                Some(Ok(()))
+            }
+            Err(why) => {
+                shared.fetch_sub::<Release>(&mut self.seat, COUNT, BUSY);
+                Some(Err(why))
+            }
+        }
+    }
+
+    /// What an accumulator holds of the values that were sent for the phase before. None if others
+    /// hold what is shared: then it can be asked again. A refusal is the phaser's.
+    pub fn look_at(&mut self, accumulator: u8) -> Option<Result<LongLook, Refusal>>
+        requires { self.old.stage ≡ Stands }
+        ensures same { (self.new.seat.table_id ≡ self.old.seat.table_id) × (self.new.task ≡ self.old.task)
+            × (self.new.phase ≡ self.old.phase) }
+        ensures kept { (self.new.stage ≡ Stands) × (self.new.seat.me.0 ≡ self.old.seat.me.0) }
+        ensures seen { IfSome result (λ r. IsReplied S.events S.replies (λ reply. r ≡ look_result reply)
+            (look self.old.task accumulator) self.old.seat.me.0) }
+    {
+        let shared = &self.board.shared;
+        if !claim(shared, &mut self.seat) {
+            return None;
+        }
+        let state = self.seat.slot_mut(shared, 0);
+        let seen = state.look(self.task, accumulator, self.phase);
+        shared.fetch_sub::<Release>(&mut self.seat, COUNT, BUSY);
+        Some(seen)
+    }
+
+    /// The task leaves. Whether it did: it doesn't if others hold what is shared; then it can be
+    /// asked again. If nobody else was missing it makes the round of those who have come. It is
+    /// stuck if the history has no room for that.
+    pub fn leave(&mut self) -> bool
+        requires { (self.old.stage ≡ Stands) × (self.old.phase + 1 < 2 ^ 64) }
+        ensures same { (self.new.seat.table_id ≡ self.old.seat.table_id) × (self.new.task ≡ self.old.task) }
+        ensures outcome { MatchBool result
+            (HasLeft S.events S.registered S.ready self.old.task self.old.seat.me.0 self.new.seat.me.0
+            × ((self.new.stage ≡ Gone)
+            ⊎ ((self.new.stage ≡ Stuck) × HasNoRoom S.events S.full self.old.seat.me.0)))
+            ((self.new.stage ≡ Stands) × (self.new.seat.me.0 ≡ self.old.seat.me.0)) }
+    {
+        let shared = &self.board.shared;
+        if !claim(shared, &mut self.seat) {
+            return false;
+        }
+        if !self.seat.slot_mut(shared, 0).leave(self.task, self.phase) {
+            shared.fetch_sub::<Release>(&mut self.seat, COUNT, BUSY);
+            return false;
+        }
+        self.stage = Stage::Gone;
+        if shared.fetch_sub::<Leave>(&mut self.seat, COUNT, BUSY + 1) != BUSY + 1 {
+            return true;
+        }
+        if !end_round(shared, &mut self.seat, self.phase) {
+            self.stage = Stage::Stuck;
+            return true;
+        }
+        self.phase += 1;
+        shared.fetch_max::<Raise>(&mut self.seat, OVER, self.phase);
+        true
+    }
+
+    /// While this task hasn't come, the other stands and waits in no later phase. It does nothing
+    /// but let the one thread that has both know so.
+    pub fn hear(&mut self, other: &mut Member<S>)
+        requires { (self.old.stage ≡ Stands) × (other.old.stage ≢ Stuck)
+            × (other.old.seat.table_id ≡ self.old.seat.table_id) }
+        ensures level { other.old.phase ≤ self.old.phase }
+        ensures this { (self.new.stage ≡ self.old.stage) × (self.new.task ≡ self.old.task)
+            × (self.new.phase ≡ self.old.phase) × (self.new.seat.table_id ≡ self.old.seat.table_id)
+            × (self.new.seat.me.0 ≡ told self.old.seat.me.0 (note_of other.old.seat.me.0)) }
+        ensures other { (other.new.stage ≡ other.old.stage) × (other.new.task ≡ other.old.task)
+            × (other.new.phase ≡ other.old.phase) × (other.new.seat.table_id ≡ other.old.seat.table_id)
+            × (other.new.seat.me.0 ≡ other.old.seat.me.0) }
+    {
+        let shared = &self.board.shared;
+        let note = shared.split_seat::<Note>(&mut other.seat);
+        shared.join_seat::<Hear>(&mut self.seat, note);
+        shared.load::<Heed>(&mut self.seat, COUNT);
+    }
+}

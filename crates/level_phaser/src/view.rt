@@ -1,0 +1,58 @@
+//! What the thread of a task knows, and the rule over what all threads know and what they share.
+use crate::state::LevelState;
+use atomic_table::{Seat, Table, TableRule};
+use phase_model::Event;
+use std::alloc::Global;
+use std::collections::LinkedList;
+
+/// What a task did itself: so many signals, and these sends.
+pub struct Deeds {
+    pub signals: u64,
+    pub sends: LinkedList<Event>,
+}
+
+/// A task that a seat stands for.
+pub struct SeatedTask {
+    pub task: u64,
+    pub deeds: Deeds,
+}
+
+/// Where a seat's tasks stand: they haven't come in their phase; they have; they came last, and
+/// have what is shared; they haven't come, and hold what is shared out of turn; there is none any
+/// more.
+pub enum Role<S> {
+    Stands,
+    Came,
+    Last(S),
+    Holder(S),
+    Gone,
+}
+
+/// What a seat knows: its tasks, their phase and role, and the beginning of the history that it has
+/// seen. Only contracts speak of it: no value of it is made.
+pub struct SeatView<S> {
+    pub tasks: LinkedList<SeatedTask>,
+    pub phase: u64,
+    pub role: Role<S>,
+    pub seen: LinkedList<Event>,
+    /// A phase that was reached, as others told it.
+    pub heard: u64,
+}
+
+/// The rule.
+pub struct Level;
+
+impl<S: LevelState> TableRule<S, SeatView<S>, u64> for Level {
+    ghost use Rattle.level_phaser.specs.Views.{first_view};
+    ghost use Rattle.level_phaser.specs.inner.Board.{IsLevel};
+
+    ghost holds = { λ _. IsLevel S.events S.registered S.count S.ready };
+
+    ghost first = { first_view };
+}
+
+/// The table that the tasks share.
+pub type LevelTable<S> = Table<S, SeatView<S>, u64, Level, Global>;
+
+/// A token of no bytes, with which a thread makes its steps on the table.
+pub type LevelSeat<S> = Seat<S, SeatView<S>>;
