@@ -1,6 +1,6 @@
 //! Logs that were worked out by hand, judged by the job.
 use job_ends::Status;
-use judge_job::{Every, judge_from};
+use judge_job::{Every, Writes, judge_from};
 use std::alloc::Global;
 use std::cell::Cell;
 use std::io;
@@ -69,7 +69,15 @@ fn judges_by(
     let mut written: Vec<u8> = Vec::new(alloc);
     let mut told: Vec<u8> = Vec::new(alloc);
     let (every, clock) = told_by;
-    let ended = judge_from(alloc, &mut reader, &mut written, &mut told, every, clock);
+    let ended = judge_from(
+        alloc,
+        &mut reader,
+        &mut Writes::none(),
+        &mut written,
+        &mut told,
+        every,
+        clock,
+    );
     assert_eq!(rt; ended, status);
     assert_eq!(rt; written.as_slice(), out.as_bytes());
     assert_eq!(rt; told.as_slice(), faults.as_bytes());
@@ -189,7 +197,7 @@ fn what_is_no_event(rt: HostRuntime) {
         "[6,\"p\",0,\"send\",1,256,0]",
         "[6,\"p\",1,\"make\",1,\"SIG_WAIT\",[\"sum\",\"sum\",\"sum\",\"sum\",\"sum\"],null]",
         "[-6,\"p\",0,\"sig\",1]",
-        "",
+        " .",
     ] {
         after_making(&rt, rt.alloc(), line, faults);
     }
@@ -200,7 +208,6 @@ fn headers(rt: HostRuntime) {
     let faults = "refused 24 BadText at 1\nline 1: this isn't the header {\"version\":2}\n";
     for log in [
         "",
-        "\n",
         "{\"version\":1}\n",
         "{\"version\":2,\"a\":1}\n",
         "[1,\"t\",0]\n",
@@ -227,21 +234,82 @@ fn headers(rt: HostRuntime) {
     );
 }
 
-#[test]
-fn long_lines(rt: HostRuntime) {
-    let mut log: Vec<u8> = Vec::new(rt.alloc());
-    let mut out: Vec<u8> = Vec::new(rt.alloc());
-    let mut told: Vec<u8> = Vec::new(rt.alloc());
-    assert!(rt; log.extend_from_slice(b"{\"version\":2}\n").is_ok());
-    for _ in 0..70_000 {
+/// Judging this head of a log, and then a line of so many blanks, ends so, and tells this.
+fn with_blanks(
+    rt: &impl Abort,
+    alloc: Global,
+    head: &[u8],
+    blanks: usize,
+    status: Status,
+    faults: &str,
+) {
+    let mut log: Vec<u8> = Vec::new(alloc);
+    let mut out: Vec<u8> = Vec::new(alloc);
+    let mut told: Vec<u8> = Vec::new(alloc);
+    assert!(rt; log.extend_from_slice(head).is_ok());
+    for _ in 0..blanks {
         assert!(rt; log.push(b' ').is_ok());
     }
+    assert!(rt; log.push(b'\n').is_ok());
     let mut reader = log.as_slice();
     let clock = Steps::of(Some(1));
-    let ended = judge_from(rt.alloc(), &mut reader, &mut out, &mut told, None, &clock);
-    assert_eq!(rt; ended, Status::Refused);
-    let faults = "refused 24 BadText at 2\nline 2: this line has more than 65,536 bytes\n";
+    let ended = judge_from(
+        alloc,
+        &mut reader,
+        &mut Writes::none(),
+        &mut out,
+        &mut told,
+        None,
+        &clock,
+    );
+    assert_eq!(rt; ended, status);
     assert_eq!(rt; told.as_slice(), faults.as_bytes());
+}
+
+const LONG_1: &str = "refused 24 BadText at 1\nline 1: this line has more than 65,536 bytes\n";
+
+const LONG_2: &str = "refused 24 BadText at 2\nline 2: this line has more than 65,536 bytes\n";
+
+#[test]
+fn long_lines(rt: HostRuntime) {
+    // Reads of 65,536 bytes meet the newline of a line of up to 131,071 in their second piece.
+    for (head, blanks, status, faults) in [
+        (HEADER, 65_536, Status::Done, ""),
+        (HEADER, 65_537, Status::Refused, LONG_2),
+        (HEADER, 70_000, Status::Refused, LONG_2),
+        (HEADER, 140_000, Status::Refused, LONG_2),
+        ("", 65_537, Status::Refused, LONG_1),
+        ("", 140_000, Status::Refused, LONG_1),
+    ] {
+        with_blanks(&rt, rt.alloc(), head.as_bytes(), blanks, status, faults);
+    }
+}
+
+const HEADER: &str = "{\"version\":2}\n";
+
+/// Blank lines are counted, and nothing else: the event that can't happen stands in line 8.
+const BLANKS: &str = "
+ \t\r
+{\"version\":2}
+
+[1,\"p\",0,\"make\",1,\"SIG\",[],2]
+ \r
+\t
+[2,\"p\",0,\"sig\",2]
+";
+
+#[test]
+fn blank_lines(rt: HostRuntime) {
+    judges(
+        &rt,
+        rt.alloc(),
+        BLANKS,
+        Some(Every::Events(1)),
+        Status::Refused,
+        ONE,
+        "events 1\nphasers made 1 there 1\ntotals registered 1 signals 0 passes 0 drops 0 sends 0\n\
+         refused 25 NotExplained at 8\nline 8: task 2 isn't registered on phaser 0\n",
+    );
 }
 
 /// The log of these events, each without its ticket and the word for a phaser.
@@ -262,7 +330,15 @@ fn refuses(rt: &impl Abort, alloc: Global, events: &[&str], why: &str) -> Result
     let mut out: Vec<u8> = Vec::new(alloc);
     let mut told: Vec<u8> = Vec::new(alloc);
     let clock = Steps::of(None);
-    let ended = judge_from(alloc, &mut reader, &mut out, &mut told, None, &clock);
+    let ended = judge_from(
+        alloc,
+        &mut reader,
+        &mut Writes::none(),
+        &mut out,
+        &mut told,
+        None,
+        &clock,
+    );
     assert_eq!(rt; ended, Status::Refused);
     let line = events.len() + 1;
     let wanted = format!(in alloc; "refused 25 NotExplained at {line}\nline {line}: {why}\n")?;
@@ -370,7 +446,15 @@ fn beside(rt: &impl Abort, alloc: Global, last: u64, tasks: &str) -> Result<(), 
     let mut out: Vec<u8> = Vec::new(alloc);
     let mut told: Vec<u8> = Vec::new(alloc);
     let clock = Steps::of(None);
-    let ended = judge_from(alloc, &mut reader, &mut out, &mut told, None, &clock);
+    let ended = judge_from(
+        alloc,
+        &mut reader,
+        &mut Writes::none(),
+        &mut out,
+        &mut told,
+        None,
+        &clock,
+    );
     assert_eq!(rt; ended, Status::Refused);
     let wanted = format!(in alloc; ": tasks {tasks} haven't signalled it\n")?;
     assert!(rt; told.ends_with(wanted.as_str().as_bytes()));
@@ -431,7 +515,15 @@ fn told_early(rt: &impl Abort, alloc: Global, at: u32, wanted: &str) -> Result<(
     };
     let clock = Steps::of(None);
     let every = Some(Every::Events(1));
-    let ended = judge_from(alloc, &mut reader, &mut out, &mut told, every, &clock);
+    let ended = judge_from(
+        alloc,
+        &mut reader,
+        &mut Writes::none(),
+        &mut out,
+        &mut told,
+        every,
+        &clock,
+    );
     assert_eq!(rt; ended, Status::Refused);
     assert_eq!(rt; out.as_slice(), THREE.as_bytes());
     assert_eq!(rt; told.bytes.as_slice(), wanted.as_bytes());
@@ -456,8 +548,7 @@ fn reports_before_a_refusal(rt: HostRuntime) -> Result<(), Fail> {
         (9, [ONE, TWO, THREE, refused, AGAIN]),
         (0, ["", TWO, THREE, refused, AGAIN]),
         (2, [ONE, TWO, "", refused, AGAIN]),
-        (3, [ONE, TWO, THREE, "", AGAIN]),
-        (4, [ONE, TWO, THREE, refused, ""]),
+        (3, [ONE, TWO, THREE, "", ""]),
     ] {
         let mut wanted = String::new(rt.alloc());
         for part in parts {

@@ -5,3 +5,4 @@ pub mod Following
 pub mod Legal
 pub mod Reporting
 pub mod Pieces
+pub mod Texts

@@ -1,21 +1,34 @@
--- What a judge and the last ticket say of what was judged.
-use Rattle.std.specs.Prelude.{◌≡◌, ◌⊎◌, ◌++◌, ℕ, List, codes, decimal, Result, Err}
-use Rattle.phase_modes.specs.declared.refusal.Refusal.{Refusal}
+-- What a judge and the last ticket say of what was judged, and what is reported of it.
+use Rattle.std.specs.Prelude.{◌≡◌, ◌⊎◌, ◌++◌, ℕ, List, codes, decimal, Result}
 use Rattle.phase_modes.specs.declared.refusal.Refusal.TheVariants.{Memory}
 use Rattle.job_ends.specs.declared.failure.Failure.{Failure}
-use Rattle.job_ends.specs.declared.failure.Failure.TheVariants.{Refused, Write}
+use Rattle.job_ends.specs.declared.failure.Failure.TheVariants.{Refused as refused, Write}
+use Rattle.phaser_judge.specs.declared.event.NamedEvent.{NamedEvent}
+use Rattle.phaser_judge.specs.declared.owing.Owing.{Owing}
+use Rattle.phaser_judge.specs.declared.refused.Refused.TheVariants.{HadToWait}
 use Rattle.phaser_judge.specs.declared.totals.Totals.{Totals}
+use Rattle.phaser_judge.specs.Courses.{totals_of, AreThere}
+use Rattle.phaser_judge.specs.Owing.{IsOwingTo}
+use Rattle.phaser_judge.specs.Standings.{standing}
 use Rattle.judge_job.specs.declared.judging.Judging.{Judging}
 use Rattle.judge_job.specs.declared.report.Report.{Report}
-use Rattle.judge_job.specs.Logs.{Judged}
+use Rattle.judge_job.specs.declared.stop.Reason.TheVariants.{Event}
+use Rattle.judge_job.specs.declared.stop.Stop.{Stop}
+use Rattle.judge_job.specs.declared.stop.Stop.TheVariants.{Line, Failed}
+use Rattle.judge_job.specs.Logs.{Judged, Refusing, refusing}
 
 -- what was judged
 abbrev pub judged_of : Judging → Judged
 judged_of j = record { events = j.judge.events; last = j.last }
 
--- want of memory, or the refusal of the line
-abbrev pub IsOfLine : Result Judged Refusal → Failure → Type 0
-IsOfLine verdict f = (f ≡ Refused Memory) ⊎ ((r : Refusal) × (f ≡ Refused r) × (verdict ≡ Err r))
+-- judging stopped at a line that isn't accepted after what was judged, or for want of memory
+abbrev pub IsOfLine : Result Judged Refusing → Judged → Stop → Type 0
+IsOfLine verdict j (Line n why) = verdict ≡ refusing n j why
+IsOfLine verdict j (Failed f) = f ≡ refused Memory
+
+-- if judging stopped at an event that had to wait, it waited for these tasks
+abbrev pub IsOwed : Judged → Stop → Owing → Type 0
+IsOwed j s o = (n : ℕ) (e : NamedEvent) → s ≡ Line n (Event e HadToWait) → IsOwingTo (standing e.phaser j.events) e.event o
 
 -- what is reported of these totals, if so many phasers are there
 abbrev pub report_of : Totals → ℕ → Report
@@ -50,6 +63,11 @@ turns_text r =
 abbrev pub text_of : Report → List ℕ
 text_of r = (phasers_text r ++ registrations_text r) ++ turns_text r
 
+-- what is reported of these events: their counts, and how many phasers are there
+pub record IsReportOf (events : List NamedEvent) (r : Report) : Type 0 where
+  pub counts : r ≡ report_of (totals_of events) r.there
+  pub there : AreThere (λ p. standing p events) r.there
+
 -- writing a report fails by a write, or for want of memory
 abbrev pub IsOfReport : Failure → Type 0
-IsOfReport f = (f ≡ Write) ⊎ (f ≡ Refused Memory)
+IsOfReport f = (f ≡ Write) ⊎ (f ≡ refused Memory)

@@ -1,13 +1,11 @@
 //! The lines of the report, and when they are told while judging goes on.
-ghost use Rattle.std.specs.Prelude.{◌≡◌, ℕ, None, false, take, OnOk, IfErr};
+ghost use Rattle.std.specs.Prelude.{◌≡◌, true};
 ghost use Rattle.std.specs.Fmt.{WritesOnOk};
-ghost use Rattle.std.specs.Io.KnownBytes.{Appends};
-ghost use Rattle.judge_job.specs.Standing.{phasers_text, registrations_text, report_of, text_of, turns_text, IsOfReport};
-ghost use Rattle.judge_job.specs.Endings.{Tells};
+ghost use Rattle.judge_job.specs.Standing.{phasers_text, registrations_text, report_of, turns_text};
+ghost use Rattle.judge_job.specs.Endings.{IsDue, TellsAfter};
 
 use crate::judging::Judging;
-use job_ends::{Failure, put_text, write_text};
-use phase_modes::Refusal;
+use crate::writes::Writes;
 use phaser_judge::Totals;
 use std::alloc::Global;
 use std::fmt;
@@ -88,21 +86,6 @@ fn write_turns<W: fmt::Write>(f: &mut fmt::Formatter<W>, report: &Report) -> fmt
     )
 }
 
-/// Writes the lines of the report. Nothing is written before they are there.
-pub(crate) fn put_report<W: Write>(
-    alloc: Global,
-    report: &Report,
-    out: &mut W,
-) -> Result<(), Failure>
-    ensures done { OnOk result (Appends (W.contents out.old) (W.contents out.new) (text_of report.now)) }
-    ensures failure { IfErr result IsOfReport }
-{
-    match report.to_string(alloc) {
-        Ok(text) => put_text(out, text.as_str()),
-        Err(_) => Err(Failure::Refused(Refusal::Memory)),
-    }
-}
-
 /// After what the report is told each time while judging goes on. A number of 0 is taken as 1.
 #[derive(Clone, Copy, Debug, PartialEq, Eq)]
 pub enum Every {
@@ -112,13 +95,12 @@ pub enum Every {
     Seconds(u64),
 }
 
-/// When the report is told while judging goes on, and what there was since the last time.
+/// When the report is told while judging goes on.
 #[derive(Drop)]
 pub(crate) struct Telling<'a, C> {
     alloc: Global,
     clock: &'a C,
     pub(crate) every: Option<Every>,
-    events: u64,
     /// When it was told, at first when judging began; none if the clock couldn't be read.
     last: Option<Instant>,
 }
@@ -136,21 +118,8 @@ impl<'a, C: Clock> Telling<'a, C> {
             alloc,
             clock,
             every,
-            events: 0,
             last,
         }
-    }
-
-    /// Counts an event. Whether so many have come.
-    fn have_come(&mut self, events: u64) -> bool
-        ensures { self.new.every ≡ self.old.every }
-    {
-        self.events = self.events.saturating_add(1);
-        if self.events < events {
-            return false;
-        }
-        self.events = 0;
-        true
     }
 
     /// Whether so many seconds have gone by. If the clock can't be read, they haven't.
@@ -166,34 +135,26 @@ impl<'a, C: Clock> Telling<'a, C> {
         is_due
     }
 
-    /// Whether the report is told after this event.
-    fn is_due(&mut self) -> bool
+    /// Whether the report is told after the event with which so many were counted.
+    fn is_due(&mut self, count: u64) -> bool
         ensures every { self.new.every ≡ self.old.every }
-        ensures quiet { self.old.every ≡ None → result ≡ false }
+        ensures due { IsDue self.old.every count result }
     {
         match self.every {
             None => false,
-            Some(Every::Events(events)) => self.have_come(events),
+            Some(Every::Events(events)) => count % events.max(1) == 0,
             Some(Every::Seconds(seconds)) => self.have_gone_by(seconds),
         }
     }
 
     /// After an event. If the report can't be written, judging goes on without it.
-    pub(crate) fn event<F: Write>(&mut self, judging: &Judging, faults: &mut F)
+    pub(crate) fn event<F: Write>(&mut self, judging: &Judging, writes: &mut Writes, faults: &mut F)
         ensures every { self.new.every ≡ self.old.every }
-        ensures told { Tells self.old.every (F.contents faults.old) (F.contents faults.new) }
+        ensures told { TellsAfter self.old.every writes.new judging.now.judge.events (F.contents faults.old) (F.contents faults.new) }
+        ensures whole { writes.new ≡ true → writes.old ≡ true }
     {
-        if self.is_due() {
-            tell(self.alloc, &judging.report(), faults);
+        if self.is_due(judging.events()) {
+            let _ = writes.report(self.alloc, &judging.report(), faults);
         }
-    }
-}
-
-/// Tells a report, if there is memory for it.
-fn tell<F: Write>(alloc: Global, report: &Report, faults: &mut F)
-    ensures { (n : ℕ) × Appends (F.contents faults.old) (F.contents faults.new) (take n (text_of report.now)) }
-{
-    if let Ok(text) = report.to_string(alloc) {
-        write_text(faults, text.as_str());
     }
 }

@@ -1,22 +1,25 @@
-//! Why judging stopped, in plain words.
-ghost use Rattle.std.specs.Prelude.{◌≡◌, ◌≤◌};
-ghost use Rattle.job_ends.specs.declared.failure.Failure.TheVariants as failures;
-ghost use Rattle.phase_modes.specs.declared.refusal.Refusal.TheVariants as refusals;
+//! Why judging stopped, and in plain words why a line isn't accepted.
+ghost use Rattle.std.specs.Prelude.{◌≡◌, ◌<◌, ◌++◌, codes, decimal, length, flat_map};
+ghost use Rattle.std.specs.Fmt.{WritesOnOk};
+ghost use Rattle.judge_job.specs.Endings.{failure_of, refusal_at};
+ghost use Rattle.judge_job.specs.Words.{before_last, child_of, closing_text, event_text, last_text, list_text, next_text, open_text, reason_text, refusal_words, seen_text, task_of, tasks_text, wait_text};
 
 use job_ends::Failure;
-use phase_model::Look;
+use phase_model::{LongLook, Look};
 use phase_modes::Refusal;
 use phaser_judge::{Named, NamedEvent, Owing, Refused};
 use std::fmt;
 
 /// Why judging stopped before the end of the log.
 #[derive(Clone, Copy, Debug, PartialEq, Eq)]
-pub(crate) struct Stop {
-    pub(crate) failure: Failure,
-    pub(crate) reason: Reason,
+pub(crate) enum Stop {
+    /// The line of this number isn't accepted, for this reason.
+    Line(u64, Reason),
+    /// A read or a write failed, or there is no memory.
+    Failed(Failure),
 }
 
-/// What was wrong with a line.
+/// Why a line isn't accepted.
 #[derive(Clone, Copy, Debug, PartialEq, Eq)]
 pub(crate) enum Reason {
     /// It isn't the header.
@@ -29,59 +32,24 @@ pub(crate) enum Reason {
     Ticket(u64),
     /// This event can't happen there, for this reason.
     Event(NamedEvent, Refused),
-    /// There is no memory, or a read failed.
-    Outside,
 }
 
-impl Stop {
-    /// There is no memory.
-    pub(crate) fn memory() -> Stop
-        ensures { result.failure ≡ failures.Refused refusals.Memory }
+impl Reason {
+    /// The refusal of the line of this number.
+    pub(crate) fn refusal(&self, place: u64) -> Refusal
+        ensures { result ≡ refusal_at place self.now }
     {
-        Stop::of_taking(Failure::Refused(Refusal::Memory))
-    }
-
-    /// A line can't be taken.
-    pub(crate) fn of_taking(failure: Failure) -> Stop
-        ensures { result.failure ≡ failure }
-    {
-        Stop {
-            failure,
-            reason: Reason::Outside,
-        }
-    }
-
-    /// The line of this number is of no form.
-    pub(crate) fn bad_text(place: u64, reason: Reason) -> Stop
-        ensures { result.failure ≡ failures.Refused (refusals.BadText place) }
-    {
-        Stop {
-            failure: Failure::Refused(Refusal::BadText(place)),
-            reason,
-        }
-    }
-
-    /// The event of the line of this number can't happen there.
-    pub(crate) fn not_explained(place: u64, reason: Reason) -> Stop
-        ensures { result.failure ≡ failures.Refused (refusals.NotExplained place) }
-    {
-        Stop {
-            failure: Failure::Refused(Refusal::NotExplained(place)),
-            reason,
-        }
-    }
-
-    /// The number of the line that is refused.
-    fn place(&self) -> u64 {
-        match self.failure {
-            Failure::Refused(Refusal::BadText(place) | Refusal::NotExplained(place)) => place,
-            _ => 0,
+        match self {
+            Reason::NoHeader | Reason::NoEvent | Reason::TooLong => Refusal::BadText(place),
+            Reason::Ticket(_) | Reason::Event(..) => Refusal::NotExplained(place),
         }
     }
 }
 
 /// The acting task.
-fn task_of(event: &Named) -> u64 {
+fn task_of(event: &Named) -> u64
+    ensures { result ≡ task_of event.now }
+{
     match *event {
         Named::Make(task, ..)
         | Named::Reg(task, ..)
@@ -96,7 +64,9 @@ fn task_of(event: &Named) -> u64 {
 }
 
 /// The child that an event registers; of other events the acting task.
-fn child_of(event: &Named) -> u64 {
+fn child_of(event: &Named) -> u64
+    ensures { result ≡ child_of event.now }
+{
     match *event {
         Named::Reg(_, child, _) => child,
         _ => task_of(event),
@@ -104,7 +74,9 @@ fn child_of(event: &Named) -> u64 {
 }
 
 /// What the phaser's refusal of a call means.
-fn words_of(refusal: Refusal) -> &'static str {
+fn words_of(refusal: Refusal) -> &'static str
+    ensures { result.now ≡ refusal_words refusal }
+{
     match refusal {
         Refusal::NotRegistered => "it isn't registered there",
         Refusal::NoSignal => "its mode can't signal",
@@ -118,78 +90,88 @@ fn words_of(refusal: Refusal) -> &'static str {
         Refusal::NoPhaseYet => "it has ended no turn there yet",
         Refusal::MoreThanParent => "the child's mode isn't within its own",
         Refusal::RegisteredTwice => "the child is registered there already",
+        Refusal::RegsFull => "the phaser has its most tasks, 256",
         Refusal::NotNow => "this isn't the moment for it",
         _ => "the phaser refuses it",
     }
 }
 
-/// How many tasks are named at most, if there are too many to name all.
-const MOST_NAMED: usize = 8;
-
-/// How many of so many tasks are named.
-fn named_of(tasks: usize) -> usize
-    ensures { result ≤ tasks }
+/// How many of so many tasks stand before the last word of their list.
+fn before_last(tasks: usize) -> usize
+    ensures { result ≡ before_last tasks }
 {
-    if tasks <= MOST_NAMED + 1 {
-        tasks
+    if tasks > 9 {
+        8
+    } else if tasks > 0 {
+        tasks - 1
     } else {
-        MOST_NAMED
+        0
     }
 }
 
-/// What stands before the task of this place, if so many are left.
-fn joint(place: usize, left: usize) -> &'static str {
-    if place == 0 {
-        ""
-    } else if left == 1 {
-        " and"
-    } else {
-        ","
-    }
-}
-
-/// Tasks by their numbers, as `task 3` or `tasks 1, 2 and 3`; of more than nine the first eight.
-fn write_tasks<W: fmt::Write>(f: &mut fmt::Formatter<W>, tasks: &[u64]) -> fmt::Result {
-    let named = named_of(tasks.len());
-    let word = if tasks.len() == 1 { "task" } else { "tasks" };
-    write!(f, "{word}")?;
-    for place in 0..named {
-        let (joint, task) = (joint(place, tasks.len() - place), tasks[place]);
-        write!(f, "{joint} {task}")?;
-    }
-    if named < tasks.len() {
-        let more = tasks.len() - named;
-        write!(f, " and {more} more")?;
+/// The tasks between the first and the last word of their list.
+fn write_next<W: fmt::Write>(f: &mut fmt::Formatter<W>, tasks: &[u64]) -> fmt::Result
+    ensures { WritesOnOk W.write_str_gives f.old result (flat_map next_text tasks.now) f.new }
+{
+    for task in tasks {
+        write!(f, ", {task}")?;
     }
     Ok(())
 }
 
-/// For whom a pass or a claim had to wait.
-fn write_open<W: fmt::Write>(f: &mut fmt::Formatter<W>, phaser: u64, owing: &Owing) -> fmt::Result {
-    let tasks = owing.tasks.as_slice();
-    let have = if tasks.len() == 1 {
-        "hasn't"
-    } else {
-        "haven't"
-    };
-    write!(f, "phase {} of phaser {phaser} isn't closed: ", owing.phase)?;
-    write_tasks(f, tasks)?;
-    write!(f, " {have} signalled it")
+/// The last word of a list: the last task, or how many more there are.
+fn write_last<W: fmt::Write>(f: &mut fmt::Formatter<W>, tasks: &[u64]) -> fmt::Result
+    requires { 0 < length tasks.now }
+    ensures { WritesOnOk W.write_str_gives f.old result (last_text tasks.now) f.new }
+{
+    if tasks.len() <= 9 {
+        return write!(f, " and {}", tasks[tasks.len() - 1]);
+    }
+    write!(f, " and {} more", tasks.len() - 8)
 }
 
-/// Why the event had to wait.
-fn write_wait<W: fmt::Write>(
-    f: &mut fmt::Formatter<W>,
-    event: &NamedEvent,
-    owing: &Owing,
-) -> fmt::Result {
-    let (phaser, task) = (event.phaser, task_of(&event.event));
-    if let Named::Sig(..) = event.event {
-        return write!(
-            f,
-            "task {task} had to wait: the bound of phaser {phaser} holds its signal back"
-        );
+/// Several tasks by their numbers, as `tasks 1, 2 and 3`; of more than nine the first eight.
+fn write_list<W: fmt::Write>(f: &mut fmt::Formatter<W>, tasks: &[u64]) -> fmt::Result
+    requires { 1 < length tasks.now }
+    ensures { WritesOnOk W.write_str_gives f.old result (list_text tasks.now) f.new }
+{
+    let before = before_last(tasks.len());
+    write!(f, "tasks {}", tasks[0])?;
+    write_next(f, &tasks[1..before])?;
+    write_last(f, tasks)
+}
+
+/// Tasks that haven't signalled.
+fn write_tasks<W: fmt::Write>(f: &mut fmt::Formatter<W>, tasks: &[u64]) -> fmt::Result
+    requires { 0 < length tasks.now }
+    ensures { WritesOnOk W.write_str_gives f.old result (tasks_text tasks.now) f.new }
+{
+    if tasks.len() == 1 {
+        return write!(f, "task {} hasn't", tasks[0]);
     }
+    write_list(f, tasks)?;
+    write!(f, " haven't")
+}
+
+/// For which tasks a pass or a claim had to wait.
+fn write_open<W: fmt::Write>(f: &mut fmt::Formatter<W>, phaser: u64, owing: &Owing) -> fmt::Result
+    requires { 0 < length owing.now.tasks.items }
+    ensures { WritesOnOk W.write_str_gives f.old result (open_text phaser owing.now) f.new }
+{
+    write!(f, "phase {} of phaser {phaser} isn't closed: ", owing.phase)?;
+    write_tasks(f, owing.tasks.as_slice())?;
+    write!(f, " signalled it")
+}
+
+/// Why a pass or a claim had to wait.
+fn write_closing<W: fmt::Write>(
+    f: &mut fmt::Formatter<W>,
+    phaser: u64,
+    task: u64,
+    owing: &Owing,
+) -> fmt::Result
+    ensures { WritesOnOk W.write_str_gives f.old result (closing_text phaser task owing.now) f.new }
+{
     if !owing.tasks.is_empty() {
         return write_open(f, phaser, owing);
     }
@@ -199,14 +181,54 @@ fn write_wait<W: fmt::Write>(
     )
 }
 
+/// Why the event had to wait.
+fn write_wait<W: fmt::Write>(
+    f: &mut fmt::Formatter<W>,
+    phaser: u64,
+    event: &Named,
+    owing: &Owing,
+) -> fmt::Result
+    ensures { WritesOnOk W.write_str_gives f.old result (wait_text phaser event.now owing.now) f.new }
+{
+    match event {
+        Named::Sig(task, _) => write!(
+            f,
+            "task {task} had to wait: the bound of phaser {phaser} holds its signal back"
+        ),
+        _ => write_closing(f, phaser, task_of(event), owing),
+    }
+}
+
+/// What a look would have seen.
+fn write_seen<W: fmt::Write>(f: &mut fmt::Formatter<W>, seen: LongLook) -> fmt::Result
+    ensures { WritesOnOk W.write_str_gives f.old result (seen_text seen) f.new }
+{
+    match seen {
+        Look::Value(value) => write!(f, "the value {value}"),
+        Look::Nothing => write!(f, "nothing, null"),
+    }
+}
+
+/// What a look of the task would have seen.
+fn write_saw<W: fmt::Write>(f: &mut fmt::Formatter<W>, task: u64, seen: LongLook) -> fmt::Result
+    ensures { WritesOnOk W.write_str_gives f.old result
+        ((codes "task " ++ decimal task ++ codes " would have seen ") ++ seen_text seen) f.new }
+{
+    write!(f, "task {task} would have seen ")?;
+    write_seen(f, seen)
+}
+
 /// Why the event can't happen.
 fn write_event<W: fmt::Write>(
     f: &mut fmt::Formatter<W>,
-    event: &NamedEvent,
+    phaser: u64,
+    event: &Named,
     refused: Refused,
     owing: &Owing,
-) -> fmt::Result {
-    let (phaser, task) = (event.phaser, task_of(&event.event));
+) -> fmt::Result
+    ensures { WritesOnOk W.write_str_gives f.old result (event_text phaser event.now refused owing.now) f.new }
+{
+    let task = task_of(event);
     match refused {
         Refused::NotMade => write!(
             f,
@@ -215,28 +237,31 @@ fn write_event<W: fmt::Write>(
         Refused::MadeAlready => write!(f, "phaser {phaser} is made already"),
         Refused::NotRegistered => write!(f, "task {task} isn't registered on phaser {phaser}"),
         Refused::RegisteredAlready => {
-            let child = child_of(&event.event);
+            let child = child_of(event);
             write!(f, "task {child} is registered on phaser {phaser} already")
         }
         Refused::Rule(refusal) => {
             let words = words_of(refusal);
             write!(f, "task {task} can't do this on phaser {phaser}: {words}")
         }
-        Refused::HadToWait => write_wait(f, event, owing),
+        Refused::HadToWait => write_wait(f, phaser, event, owing),
         Refused::ClaimsInstead => write!(f, "task {task} had a single to claim, and couldn't pass"),
         Refused::PassesInstead => write!(f, "task {task} had no single to claim"),
-        Refused::SawOther(Look::Value(value)) => {
-            write!(f, "task {task} would have seen the value {value}")
-        }
-        Refused::SawOther(Look::Nothing) => write!(f, "task {task} would have seen nothing, null"),
+        Refused::SawOther(seen) => write_saw(f, task, seen),
         Refused::Memory => write!(f, "there is no memory for it"),
         Refused::Over => write!(f, "an event before it was refused"),
     }
 }
 
-/// What was wrong with a line.
-fn write_reason<W: fmt::Write>(f: &mut fmt::Formatter<W>, why: &Why<'_>) -> fmt::Result {
-    match &why.stop.reason {
+/// Why a line isn't accepted.
+fn write_reason<W: fmt::Write>(
+    f: &mut fmt::Formatter<W>,
+    reason: &Reason,
+    owing: &Owing,
+) -> fmt::Result
+    ensures { WritesOnOk W.write_str_gives f.old result (reason_text reason.now owing.now) f.new }
+{
+    match reason {
         Reason::NoHeader => write!(f, "this isn't the header {{\"version\":2}}"),
         Reason::NoEvent => write!(
             f,
@@ -249,25 +274,29 @@ fn write_reason<W: fmt::Write>(f: &mut fmt::Formatter<W>, why: &Why<'_>) -> fmt:
                 "ticket {ticket} isn't greater than that of the line before"
             )
         }
-        Reason::Event(event, refused) => write_event(f, event, *refused, why.owing),
-        Reason::Outside => write!(f, "there is no memory for more"),
+        Reason::Event(event, refused) => {
+            write_event(f, event.phaser, &event.event, *refused, owing)
+        }
     }
 }
 
-/// Why judging stopped, and for whom the event that was refused had to wait, if it did.
+/// Why the line of this number isn't accepted, and for which tasks its event had to wait, if it did.
 #[derive(Clone, Copy)]
 pub(crate) struct Why<'a> {
-    pub(crate) stop: &'a Stop,
+    pub(crate) place: u64,
+    pub(crate) reason: &'a Reason,
     pub(crate) owing: &'a Owing,
 }
 
 impl fmt::Display for Why<'_> {
+    ghost use Rattle.std.specs.Prelude.{Some};
+    ghost use Rattle.judge_job.specs.Words.{why_text};
+
+    ghost output = { λ w. Some (why_text w.place w.reason.now w.owing.now) };
+
     fn fmt<W: fmt::Write>(&self, f: &mut fmt::Formatter<W>) -> fmt::Result {
-        if let Reason::Outside = self.stop.reason {
-            return write!(f, "there is no memory for more\n");
-        }
-        write!(f, "line {}: ", self.stop.place())?;
-        write_reason(f, self)?;
+        write!(f, "line {}: ", self.place)?;
+        write_reason(f, self.reason, self.owing)?;
         write!(f, "\n")
     }
 }

@@ -1,5 +1,5 @@
 -- A list of events, judged from its oldest on.
-use Rattle.std.proofs.Common.{◌≡◌, ◌≢◌, ℕ, ◌+◌, ◌<◌, ◌≤◌, arith, true, false, List, [], ◌∷◌, ◌++◌, length, reverse, take, drop, get_or, ap, sym, subst, ◌∙◌}
+use Rattle.std.proofs.Common.{◌≡◌, ◌≢◌, ℕ, ◌+◌, ◌<◌, ◌≤◌, arith, true, false, List, [], ◌∷◌, ◌++◌, length, reverse, take, drop, get_or, Err, ap, sym, subst, ◌∙◌, append_assoc}
 use Rattle.std.proofs.lemmas.List.{reverse-append, take_more, take-append-drop}
 use Rattle.std.proofs.lemmas.Bool.{and_parts, and_from, false≢true}
 use Rattle.phaser_judge.specs.declared.event.NamedEvent.{NamedEvent}
@@ -8,6 +8,7 @@ use Rattle.phaser_judge.specs.declared.refused.Refused.{Refused}
 use Rattle.phaser_judge.specs.declared.refused.Refused.TheVariants.{Memory}
 use Rattle.phaser_judge.specs.Courses.{Course}
 use Rattle.phaser_judge.specs.Standings.{standing, may_come}
+use Rattle.phaser_judge.specs.Reasons.{verdict_at, IsFirstRefused}
 use Rattle.phaser_judge.specs.Renaming.{all_come, AreLegal}
 use Rattle.phaser_judge.proofs.Lives.{came_before, legal_come, come_legal}
 
@@ -55,3 +56,23 @@ pub all_legal : (xs : List NamedEvent) (i : ℕ) → length xs ≤ i → all_com
 all_legal xs i all came =
     let whole : take i xs ≡ xs = grind (arith, common_steps) in
     come_legal (reverse xs) (subst (λ ys. all_come (reverse ys) ≡ true) whole came)
+
+-- what a judge says of the first event that it refuses
+pub first_refused : (xs : List NamedEvent) (i : ℕ) (e : NamedEvent) (j : Course) (r : Refused) → i < length xs
+    → e ≡ get_or xs i e → j ≡ record { events = reverse (take i xs); over = false }
+    → all_come (reverse (take i xs)) ≡ true
+    → (j.over ≡ false → r ≢ Memory → AreLegal (e ∷ j.events) → ⊥)
+    → (j.over ≡ false → r ≢ Memory → verdict_at (standing e.phaser j.events) e.event ≡ Err r)
+    → r ≢ Memory → IsFirstRefused xs r
+first_refused xs i e j r within is accepted came illegal reason apart =
+    let on : j.over ≡ false = ap (λ (k : Course). k.over) accepted in record {
+      before = take i xs;
+      event = e;
+      rest = drop (i + 1) xs;
+      split = sym (take-append-drop (i + 1) xs) ∙ ap (λ ys. ys ++ drop (i + 1) xs) (take_more xs i e within)
+          ∙ append_assoc (take i xs) (get_or xs i e ∷ []) (drop (i + 1) xs)
+          ∙ ap (λ x. take i xs ++ x ∷ drop (i + 1) xs) (sym is);
+      legal = come_legal (reverse (take i xs)) came;
+      illegal = subst (λ (k : Course). AreLegal (e ∷ k.events) → ⊥) accepted (illegal on apart);
+      refused = subst (λ (k : Course). verdict_at (standing e.phaser k.events) e.event ≡ Err r) accepted (reason on apart);
+    }

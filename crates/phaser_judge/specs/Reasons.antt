@@ -1,5 +1,5 @@
 -- Why an event is refused: what the phaser replies to the call that would make it.
-use Rattle.std.specs.Prelude.{ℕ, if◌then◌else◌, List, Option, Some, None, Result, Ok, Err, ℤ}
+use Rattle.std.specs.Prelude.{ℕ, ◌≡◌, if◌then◌else◌, List, ◌∷◌, ◌++◌, reverse, Option, Some, None, Result, Ok, Err, ℤ}
 use Rattle.phase_modes.specs.declared.refusal.Refusal.{Refusal}
 use Rattle.phase_model.specs.declared.op.Look.{Look}
 use Rattle.phase_model.specs.declared.answer.Signalling.{Signalling}
@@ -18,7 +18,9 @@ use Rattle.phaser_judge.specs.declared.event.Named.{Named}
 use Rattle.phaser_judge.specs.declared.event.Named.TheVariants as named
 use Rattle.phaser_judge.specs.declared.refused.Refused.{Refused}
 use Rattle.phaser_judge.specs.declared.refused.Refused.TheVariants.{Rule, HadToWait, ClaimsInstead, PassesInstead, SawOther, NotMade}
-use Rattle.phaser_judge.specs.Standings.{Standing, renamed_event}
+use Rattle.phaser_judge.specs.declared.event.NamedEvent.{NamedEvent}
+use Rattle.phaser_judge.specs.Standings.{Standing, standing, renamed_event}
+use Rattle.phaser_judge.specs.Renaming.{AreLegal}
 
 -- the call that makes an event, if it is answered so
 abbrev pub call_of : Event → Call
@@ -92,3 +94,13 @@ abbrev pub verdict_at : Option Standing → Named → Result (Unit {0}) Refused
 verdict_at None (named.Make t m ops b) = Ok tt
 verdict_at None _ = Err NotMade
 verdict_at (Some s) e = verdict s e
+
+-- the first of these events that can't happen after those before it, the oldest first, is refused for this reason
+pub record IsFirstRefused (events : List NamedEvent) (why : Refused) : Type 0 where
+  pub before : List NamedEvent
+  pub event : NamedEvent
+  pub rest : List NamedEvent
+  pub split : events ≡ before ++ event ∷ rest
+  pub legal : AreLegal (reverse before)
+  pub illegal : AreLegal (event ∷ reverse before) → ⊥
+  pub refused : verdict_at (standing event.phaser (reverse before)) event.event ≡ Err why

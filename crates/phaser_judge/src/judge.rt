@@ -138,9 +138,8 @@ impl Judge {
 
     /// How many phasers are there.
     pub fn phasers(&self) -> usize
-        ensures { self.now.over ≡ false → AreThere (λ p. standing p self.now.events) result }
+        ensures { AreThere (λ p. standing p self.now.events) result }
     {
-        let _ = self.over;
         self.phasers.len()
     }
 }

@@ -1,5 +1,5 @@
 //! The phasers that are there.
-ghost use Rattle.std.specs.Prelude.{◌≡◌, ◌≢◌, ℕ, Err, Some, None, true, false, IfOk, IfErr, IfSome, OnOk};
+ghost use Rattle.std.specs.Prelude.{◌≡◌, ◌≢◌, ℕ, Err, Some, None, true, false, is_some, IfOk, IfErr, IfSome, OnOk};
 ghost use Rattle.std.specs.Option.{option_map, option_map_or};
 ghost use Rattle.phase_modes.specs.Lists.{is_empty};
 ghost use Rattle.phaser_judge.specs.declared.event.Named.TheVariants as named;
@@ -70,6 +70,7 @@ impl Phasers {
         ensures gone { IfOk result (λ gone. option_map_or (λ s. is_empty s.names) (at self.new.phasers phaser) false ≡ gone) }
         ensures others { (q : ℕ) → q ≢ phaser → at self.new.phasers q ≡ at self.old.phasers q }
         ensures reason { IfErr result (λ r. r ≢ Refused.Memory → verdict_at (at self.old.phasers phaser) event.now ≡ Err r) }
+        ensures there { IfErr result (λ _. is_some (at self.new.phasers phaser) ≡ is_some (at self.old.phasers phaser)) }
         ensures memory { result ≡ Err Refused.Memory → at self.new.phasers phaser ≡ at self.old.phasers phaser }
         ensures waited { result ≡ Err Refused.HadToWait → at self.new.phasers phaser ≡ at self.old.phasers phaser }
     {
@@ -90,6 +91,7 @@ impl Phasers {
         ensures own { IfOk result (λ _. at self.new.phasers phaser ≡ stands_after (at self.old.phasers phaser) event.now) }
         ensures others { (q : ℕ) → q ≢ phaser → at self.new.phasers q ≡ at self.old.phasers q }
         ensures reason { IfErr result (λ r. r ≢ Refused.Memory → verdict_at (at self.old.phasers phaser) event.now ≡ Err r) }
+        ensures there { IfErr result (λ _. is_some (at self.new.phasers phaser) ≡ is_some (at self.old.phasers phaser)) }
         ensures memory { result ≡ Err Refused.Memory → at self.new.phasers phaser ≡ at self.old.phasers phaser }
         ensures waited { result ≡ Err Refused.HadToWait → at self.new.phasers phaser ≡ at self.old.phasers phaser }
     {
@@ -106,6 +108,7 @@ impl Phasers {
         ensures own { IfOk result (λ _. at self.new.phasers phaser ≡ stands_after (at self.old.phasers phaser) event.now) }
         ensures others { (q : ℕ) → q ≢ phaser → at self.new.phasers q ≡ at self.old.phasers q }
         ensures reason { IfErr result (λ r. r ≢ Refused.Memory → verdict_at (at self.old.phasers phaser) event.now ≡ Err r) }
+        ensures there { IfErr result (λ _. is_some (at self.new.phasers phaser) ≡ is_some (at self.old.phasers phaser)) }
         ensures memory { result ≡ Err Refused.Memory → at self.new.phasers phaser ≡ at self.old.phasers phaser }
         ensures waited { result ≡ Err Refused.HadToWait → at self.new.phasers phaser ≡ at self.old.phasers phaser }
     {
@@ -144,6 +147,7 @@ impl Phasers {
         ensures own { IfOk result (λ _. at self.new.phasers phaser ≡ stands_after (at self.old.phasers phaser) event.now) }
         ensures others { (q : ℕ) → q ≢ phaser → at self.new.phasers q ≡ at self.old.phasers q }
         ensures reason { IfErr result (λ r. r ≢ Refused.Memory → verdict_at (at self.old.phasers phaser) event.now ≡ Err r) }
+        ensures there { IfErr result (λ _. is_some (at self.new.phasers phaser) ≡ is_some (at self.old.phasers phaser)) }
         ensures memory { result ≡ Err Refused.Memory → at self.new.phasers phaser ≡ at self.old.phasers phaser }
         ensures owing { result ≡ Err Refused.HadToWait → IsOwingTo (at self.old.phasers phaser) event.now owing.new }
     {

@@ -23,7 +23,7 @@ use crate::upgrade_file::Upgraded;
 use command_words::{Job, NoJob, job_of};
 use job_ends::{Failure, Reads, Status, bytes_of, write_text};
 use job_kernels::PipelineSize;
-use judge_job::{Every, judge_from};
+use judge_job::{Every, Writes, judge_from};
 use phase_modes::Refusal;
 use run_jobs::{
     Silent, Workers, certain_on, certify_on, live_on, live_pipeline_on, live_stencil_on,
@@ -416,7 +416,16 @@ fn judge<R: Read>(rt: &HostRuntime, every: Option<Every>, reader: &mut R) -> Sta
     ensures usage { result ≢ Status.Usage }
 {
     let (mut out, mut faults) = (rt.stdout(), rt.stderr());
-    judge_from(rt.alloc(), reader, &mut out, &mut faults, every, rt)
+    let mut writes = Writes::none();
+    judge_from(
+        rt.alloc(),
+        reader,
+        &mut writes,
+        &mut out,
+        &mut faults,
+        every,
+        rt,
+    )
 }
 
 /// Runs the stencil, and prints its cells on standard output.

@@ -1,5 +1,5 @@
 -- Where each step of the code leaves what it keeps.
-use Rattle.std.specs.Prelude.{ℕ, ◌≡◌, Bool, true, false, List, Option, Result, Ok, Err}
+use Rattle.std.specs.Prelude.{ℕ, ◌≡◌, Bool, true, false, List, Option, is_some, Result, Ok, Err}
 use Rattle.std.specs.Ordering.{nat_cmp}
 use Rattle.std.specs.BTreeMap.{BTreeMap, get}
 use Rattle.phase_model.specs.declared.history.Event.{Event}
@@ -49,5 +49,6 @@ at m p = get nat_cmp m p
 -- what the judge keeps is what these events tell
 pub record IsKept (phasers : BTreeMap ℕ Standing) (counts : Totals) (over : Bool) (events : List NamedEvent) : Type 0 where
   pub standings : over ≡ false → (p : ℕ) → at phasers p ≡ standing p events
+  pub there : (p : ℕ) → is_some (at phasers p) ≡ is_some (standing p events)
   pub totals : counts ≡ totals_of events
   pub come : all_come events ≡ true

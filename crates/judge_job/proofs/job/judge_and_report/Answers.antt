@@ -1,37 +1,49 @@
-use Rattle.std.proofs.Common.{inl, inr, refl, sym, subst}
-use Rattle.std.specs.Io.KnownBytes.{Appends}
-use Rattle.judge_job.specs.Logs.{judged_log}
-use Rattle.judge_job.specs.Standing.{text_of}
-use Rattle.judge_job.specs.Endings.{IsOfLog, Tells}
+use Rattle.std.proofs.Common.{◌≡◌, Ok, IfSome, rules}
+use Rattle.judge_job.specs.declared.stop.Stop.TheVariants.{Failed}
+use Rattle.judge_job.specs.Standing.{judged_of}
+use Rattle.judge_job.specs.Endings.{head_from}
+use Rattle.judge_job.proofs.Following.{all_begun, why_stopped}
 use Rattle.judge_job.proofs.Legal.{accepted}
-use Rattle.judge_job.proofs.Reporting.{as_log, first_of}
+use Rattle.judge_job.proofs.Reporting.{front_on, never, of_report, tells_on}
 use Rattle.judge_job.proofs.job.judge_and_report.Goals as goal
 
 pub returns-in-Ok-clause-done : goal.returns-in-Ok-clause-done
-returns-in-Ok-clause-done g c = λ done.
-    let old = g.W.Write.contents c.args.out.now in
-    let new = g.W.Write.contents c.finish.new.out in
-    let says = subst (λ r. Appends old new (text_of r)) c.report-report.ensures.totals (c.finish.ensures.done done) in
-    accepted (Appends old new) _ _ c.report-report.result.there c.in-Ok.ensures.done
-    (c.report-report.ensures.there c.in-Ok.ensures.over) says
+returns-in-Ok-clause-done g c =
+    let j = judged_of c.judge_log.new.judging in
+    let is : IfSome (g.B.Read.remaining c.args.reader.now) (λ xs. head_from 1 xs ≡ Ok j) = search rules in
+    λ _. record {
+      judged = j;
+      accepted = accepted _ j is;
+      counts = (c.report.result, c.report.ensures, c.in-Ok.ensures.done);
+      tells = tells_on c.args.every c.judge_log.new.writes c.report-2.new.self c.report-2.ensures.before _ _ _ c.judge_log.ensures.told;
+    }
 
-pub returns-in-Ok-clause-told : goal.returns-in-Ok-clause-told
-returns-in-Ok-clause-told g c = λ done.
-    subst (λ f. Tells c.args.every (g.F.Write.contents c.args.faults.now) (g.F.Write.contents f)) (sym (c.finish.ensures.quiet done))
-    c.in-Ok.ensures.told
-
-pub returns-in-Ok-clause-stopped : goal.returns-in-Ok-clause-stopped
-returns-in-Ok-clause-stopped g c = λ fails. record {
-  between = g.F.Write.contents c.judge_log.new.faults;
-  tells = c.in-Ok.ensures.told;
-  reports = as_log (g.B.Read.remaining c.args.reader.now) _ _ _ (c.finish.ensures.reported fails);
-}
+pub returns-in-Err-clause-stopped : goal.returns-in-Err-clause-stopped
+returns-in-Err-clause-stopped g c =
+    let j = judged_of c.judge_log.new.judging in
+    let t = c.stopped.ensures.stops in
+    λ _. record {
+      judged = j;
+      stop = t.0;
+      status = t.2.status;
+      why = why_stopped _ j c.in-Err.stop t.0 c.in-Err.ensures.stop t.1;
+      told = g.F.Write.contents c.judge_log.new.faults;
+      tells = tells_on c.args.every c.judge_log.new.writes c.stopped.new.writes c.stopped.ensures.whole _ _ _ c.judge_log.ensures.told;
+      says = t.2.says;
+      counts = t.2.counts;
+    }
 
 pub returns-clause-stopped : goal.returns-clause-stopped
-unfolding judged_log
-returns-clause-stopped g c = λ fails. record {
-  between = g.F.Write.contents c.judge_log.new.faults;
-  tells = c.in-Err.ensures.told;
-  reports = first_of (IsOfLog (g.B.Read.remaining c.args.reader.now)) c.in-Err.stop.failure c.stopped.result _ _
-      (inl c.in-Err.ensures.stop) (inl (inl (inr refl))) c.stopped.ensures.reported;
-}
+returns-clause-stopped g c =
+    let j = judged_of c.judge_log.new.judging in
+    let is : IfSome (g.B.Read.remaining c.args.reader.now) (λ xs. head_from 1 xs ≡ Ok j) = search rules in
+    λ _. record {
+      judged = j;
+      stop = Failed c.in-Err-report.failure;
+      status = c.say.ensures.status;
+      why = (of_report c.in-Err-report.failure c.in-Err-report.ensures.failure, all_begun _ j is);
+      told = g.F.Write.contents c.judge_log.new.faults;
+      tells = tells_on c.args.every c.judge_log.new.writes c.report-2.new.self c.report-2.ensures.before _ _ _ c.judge_log.ensures.told;
+      says = c.say.ensures.says;
+      counts = (c.report.result, c.report.ensures, front_on c.report-2.new.self _ _ _ _ (never _) c.report-2.ensures.front);
+    }

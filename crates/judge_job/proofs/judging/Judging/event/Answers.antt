@@ -1,13 +1,23 @@
-use Rattle.std.proofs.Common.{◌≡◌, ◌≢◌, false, rules, refl, inr}
-use Rattle.phase_modes.specs.declared.refusal.Refusal.TheVariants.{NotExplained}
+use Rattle.std.proofs.Common.{◌≡◌, ◌≢◌, Err, false, rules, refl, ap}
 use Rattle.phaser_judge.specs.declared.refused.Refused.TheVariants.{Memory}
 use Rattle.phaser_judge.specs.Standings.{standing, may_come}
+use Rattle.phaser_judge.specs.Reasons.{verdict_at}
+use Rattle.judge_job.specs.Standing.{judged_of}
+use Rattle.judge_job.proofs.Reporting.{owed_of}
 use Rattle.judge_job.proofs.judging.Judging.event.Goals as goal
 
 -- src/judging.rt
 pub returns-in-Err : goal.returns-in-Err
 returns-in-Err c =
     let other : c.in-Err.refused ≢ Memory = search rules in
-    let may : may_come (standing c.args.event.now.phaser c.args.self.now.judge.events) c.args.event.now.event ≡ false =
-    c.in-Err.ensures.refused c.requires other in
-    record { judged = inr (NotExplained c.args.place, c.not_explained.ensures, rw may refl); over = tt }
+    let e = c.args.event.now in
+    let may : may_come (standing e.phaser c.args.self.now.judge.events) e.event ≡ false = c.in-Err.ensures.refused c.requires other in
+    let said : verdict_at (standing e.phaser c.args.self.now.judge.events) e.event ≡ Err c.in-Err.refused =
+    c.in-Err.ensures.reason c.requires other in record {
+      judged = tt;
+      stop = rw (may, said) refl;
+      owed = owed_of (judged_of c.args.self.now) c.args.place e c.in-Err.refused _ (λ waited. c.in-Err.ensures.owing c.requires (ap Err waited));
+      kept = rw (c.in-Err.ensures.ended other) refl;
+      over = tt;
+      added = tt;
+    }
