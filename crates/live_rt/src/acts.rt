@@ -64,7 +64,7 @@ impl<B: Body, J: Names> Shared<B, J> {
         ensures says { IfSome result (λ c. ∥ (J.Supposing.supposed
             → IsUnborn B.Body.shows c.value.body c.value.standing.number c.value.places task.new.places) ∥₁) }
     {
-        let number = self.child_number();
+        let number = self.child_number(task.standing.number());
         let home = FinishNumber::of(task.standing.inner());
         let its = TaskNumber::of(number);
         let Ok(child) = Task::new(self.alloc, its, body, home) else {

@@ -208,6 +208,7 @@ impl<B: Body, J: Names> Shared<B, J> {
         task: &mut Task<B, J>,
         phaser: u32,
     ) -> Result<(), Refusal>
+        ensures body { task.new.body ≡ task.old.body }
         ensures places { task.new.places ≡ task.old.places }
         ensures standing { task.new.standing ≡ task.old.standing }
     {

@@ -53,6 +53,7 @@ impl<'a, B: Body, J: Names, E: Ends<B>, G: Gate, R: Wait> Team<'a, B, J, E, G, R
         phaser: u32,
         number: u32,
     ) -> Result<Next<B, J>, Refusal>
+        ensures ran { IfGoesOn result (λ next. B.Body.ran item.task.value.body number next.task.value.body) }
         ensures standing { IfGoesOn result (λ next. next.task.value.standing ≡ item.task.value.standing) }
     {
         let mut item = item;
@@ -165,17 +166,21 @@ impl<'a, B: Body, J: Names, E: Ends<B>, G: Gate, R: Wait> Team<'a, B, J, E, G, R
         Ok(Some(Item::of(task)))
     }
 
-    /// The unborn child is taken off a phaser. Its number is for the clause alone.
+    /// The unborn child is taken off a phaser.
     fn drop_child(
         &self,
         worker: &mut Worker<B, J>,
         item: Item<B, J>,
         phaser: u32,
-        _child: u32,
+        child: u32,
     ) -> Result<Next<B, J>, Refusal>
-        ensures made { IfGoesOn result (λ next. GoesBy any_step (Due.DropChild phaser _child) item.task.value.standing next.task.value.standing) }
+        ensures made { IfGoesOn result (λ next. GoesBy any_step (Due.DropChild phaser child) item.task.value.standing next.task.value.standing) }
     {
         let mut item = item;
+        // No clause says that a child has another number than its parent.
+        if child == item.task.standing.number() {
+            return Err(Refusal::NotNow);
+        }
         let Some(unborn) = &mut item.unborn else {
             return Err(Refusal::NotNow);
         };

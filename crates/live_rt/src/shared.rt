@@ -14,8 +14,9 @@ use task_queue::RunQueue;
 use tasks_in_flight::{Body, Hand};
 use world_model::TotalsLine;
 
-/// How many numbers there are for tasks but the root, whose number is 0. Those alive at once have numbers
-/// of their own up to that many; what a phaser knows a task by has 64 bits.
+/// How many numbers there are for tasks but the root, whose number is 0. After so many children a
+/// number comes again, and two tasks may have it at once, but never a child and its parent. What a
+/// phaser knows a task by has 64 bits.
 const MOST_NUMBERS: u64 = u32::MAX as u64 - 1;
 
 /// What all workers share.
@@ -133,9 +134,18 @@ pub(crate) struct Worker<B: Body, J: Names> {
 }
 
 impl<B: Body, J: Names> Shared<B, J> {
-    /// A number for a child: from 1 on, and again from 1 after the last.
-    pub(crate) fn child_number(&self) -> u32 {
+    /// The next number: from 1 on, and again from 1 after the last.
+    fn next_number(&self) -> u32 {
         let drawn = self.children.fetch_add(1, Ordering::Relaxed);
         (drawn % MOST_NUMBERS) as u32 + 1
+    }
+
+    /// A number for a child of the task of this number, and another than that.
+    pub(crate) fn child_number(&self, parent: u32) -> u32 {
+        let drawn = self.next_number();
+        if drawn == parent {
+            return self.next_number();
+        }
+        drawn
     }
 }

@@ -189,6 +189,11 @@ impl<T> RunQueue<T> {
         self.idle.close(rt);
     }
 
+    /// Whether it is closed. Once it is, it stays so.
+    pub fn is_closed(&self) -> bool {
+        self.idle.is_closed()
+    }
+
     // Shows the lookers, if there are any, that this worker has taken an item of its own.
     fn show_pace(&self, seat: &Seat<T>) {
         if self.idle.is_looked_for() {

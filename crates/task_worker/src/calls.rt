@@ -41,6 +41,7 @@ impl<B: Body, K: RunNaming> Shared<B, K> {
         self.phasers
             .lock(by.rt, number)
             .make(by, &mut me, maker, mode, terms)?;
+        me.is_legal();
         task.made(phaser, mode, me)
     }
 
@@ -63,6 +64,7 @@ impl<B: Body, K: RunNaming> Shared<B, K> {
         self.phasers
             .lock(by.rt, number)
             .register(by, &mut me, parent, child, pair.mode)?;
+        me.is_legal();
         task.registered(pair.phaser, me);
         Ok(())
     }
@@ -88,6 +90,7 @@ impl<B: Body, K: RunNaming> Shared<B, K> {
         self.phasers
             .lock(by.rt, number)
             .send(by, &mut me, sender, accumulator, value)?;
+        me.is_legal();
         task.sent(phaser, me);
         Ok(())
     }
@@ -113,6 +116,7 @@ impl<B: Body, K: RunNaming> Shared<B, K> {
             .phasers
             .lock(by.rt, number)
             .look(by, &mut me, reader, accumulator)?;
+        me.is_legal();
         task.looked(phaser, me, seen);
         Ok(())
     }
@@ -143,6 +147,7 @@ impl<B: Body, K: RunNaming> Shared<B, K> {
             .phasers
             .lock(by.rt, number)
             .signal(by, &mut me, task, proposed, item);
+        me.is_legal();
         hand.flush(by.rt, &self.queue, &mut by.out)?;
         match answer {
             SignalAnswer::Signalled(signalled) => {
@@ -179,6 +184,7 @@ impl<B: Body, K: RunNaming> Shared<B, K> {
             .phasers
             .lock(by.rt, number)
             .pass(by, &mut me, task, item);
+        me.is_legal();
         hand.flush(by.rt, &self.queue, &mut by.out)?;
         match answer {
             PassAnswer::Passed(passed, phase) => {
@@ -230,6 +236,7 @@ impl<B: Body, K: RunNaming> Shared<B, K> {
         self.phasers
             .lock(by.rt, number)
             .drop_task(by, &mut me, leaver.get())?;
+        me.is_legal();
         hand.flush(by.rt, &self.queue, &mut by.out)
     }
 

@@ -193,6 +193,10 @@ impl<B: Body, K: RunNaming> Shared<B, K> {
         ensures posted { PostsAtMost 1 busy.old.by.mine busy.new.by.mine }
     {
         let mut item = item;
+        // No clause says that a child has a number of its own.
+        if child.get() == item.task.number() {
+            return Err(Refusal::NotNow);
+        }
         self.drop_on(busy, &mut item.task, phaser, child)?;
         item.note_child_gone(phaser.get());
         Ok(Some(item))
@@ -202,7 +206,7 @@ impl<B: Body, K: RunNaming> Shared<B, K> {
         ensures made { IfGoesOn result (λ next. GoesBy (Replies item.task.value.fronts) (Due.Shut finish)
             item.task.value.standing next.task.value.standing) }
     {
-        // No clause says that finish 0 is shut by the root's end alone.
+        // Nor that finish 0 is shut by the root's end alone.
         if finish == 0 {
             return Err(Refusal::NotNow);
         }

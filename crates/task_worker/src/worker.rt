@@ -145,7 +145,7 @@ impl<B: Body, K: RunNaming> Shared<B, K> {
         self.phasers.place(phaser, refusal)
     }
 
-    /// The next task to be run. None once the queue is closed and empty.
+    /// The next task to be run. None once the queue is closed.
     pub(crate) fn next<R: Wait>(&self, busy: &mut Busy<'_, B, K, R>) -> Option<Item<B, K>>
         ensures seat { IsSeatOf busy.old.hand.seat busy.new.hand.seat }
     {

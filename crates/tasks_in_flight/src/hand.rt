@@ -18,10 +18,14 @@ pub struct Hand<T> {
 
 impl<T: Drop> Hand<T> {
     /// The next task to be run: one that the queue had no memory for, or one of the queue. None once
-    /// the queue is closed and empty.
+    /// the queue is closed, whatever there is: at the end of a run no task is left, and a run that
+    /// can't go on is given up with its tasks.
     pub fn next<R: Wait>(&mut self, rt: &R, queue: &RunQueue<T>) -> Option<T>
         ensures seat { IsSeatOf self.old.seat self.new.seat }
     {
+        if queue.is_closed() {
+            return None;
+        }
         if let Some(item) = self.kept.pop_front() {
             return Some(item);
         }

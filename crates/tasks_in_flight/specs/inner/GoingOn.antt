@@ -65,14 +65,15 @@ IsOfAct t _ = ⊥
 abbrev pub HasActed : (ℕ → Step → Type 0) → Known → Known → Type 0
 HasActed Made k k' = (e : WorldEvent) × IsOfAct k.number e × IsMade Made e × (k' ≡ noted e k)
 
--- what comes of what was due, if the task goes on: after its end, and after the shut of finish 0, it doesn't
+-- what comes of what was due, if the task goes on: after its end, and after the shut of finish 0, it doesn't. What is taken off
+-- a phaser in place of a child isn't the task itself: if the task leaves, it notes that
 abbrev pub GoesBy : (ℕ → Step → Type 0) → Due → Known → Known → Type 0
 GoesBy Made due.Step k k' = HasActed Made k k'
 GoesBy Made (due.Signal n x) k k' = HasTried Made (Phaser n (Sig k.number x)) k k'
 GoesBy Made (due.Pass n) k k' = HasTried Made (Phaser n (Pass k.number)) k k' ⊎ HasClaimed Made n k k'
 GoesBy Made (due.Register c p) k k' = HasTried Made (Phaser p.phaser (Reg k.number c p.mode)) k k'
 GoesBy Made (due.Spawn c f) k k' = HasNoted Made (Finish f (Spawned c)) k k'
-GoesBy Made (due.DropChild n c) k k' = Made n (Drop c) × (k' ≡ k)
+GoesBy Made (due.DropChild n c) k k' = ((c == k.number) ≡ false) × Made n (Drop c) × (k' ≡ k)
 GoesBy Made (due.Leave n) k k' = HasNoted Made (Phaser n (Drop k.number)) k k'
 GoesBy Made (due.Shut f) k k' = ((f == 0) ≡ false) × HasNoted Made (Finish f Shut) k k'
 GoesBy Made (due.End f) k k' = ⊥

@@ -29,5 +29,5 @@ returns-clause-told g c =
     c.front-me.ensures.story ∙ ap (λ (m : ℕ). story_at fronts m) (c.in_ok-number.ensures.same ∙ c.get.ensures) in
     on_ok (IsReplied (story_at fronts n) (steps.Drop c.args.leaver))
     (subst (λ (u : ℕ). IsReplied (story_at fronts n) (steps.Drop u)) c.get-2.ensures
-    (subst (λ (s : Story). IsReplied s (steps.Drop t)) there (drop_replied before now t told)))
+    (subst (λ (s : Story). IsReplied s (steps.Drop t)) there (drop_replied before now t told c.is_legal.ensures.legal)))
     c.flush.result

@@ -60,7 +60,8 @@ returns-clause-acted g c =
       e,
       refl,
       subst (λ (u : ℕ). IsReplied (story_at old.fronts n) (steps.Look u a)) c.number-reader.ensures.standing
-          (subst (λ (s : Story). IsReplied s (steps.Look t a)) there (look_replied c.in_ok-seen.seen before now t a c.in_ok-seen.ensures.told)),
+          (subst (λ (s : Story). IsReplied s (steps.Look t a)) there (look_replied c.in_ok-seen.seen before now t a c.in_ok-seen.ensures.told
+          c.is_legal.ensures.legal)),
       c.looked.ensures.acted ∙ ap (λ (k : Known). noted e k) c.front-me.ensures.standing,
     )
 

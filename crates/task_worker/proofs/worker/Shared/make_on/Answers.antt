@@ -67,7 +67,7 @@ returns-clause-acted g c =
       e,
       refl,
       subst (λ (u : ℕ). IsReplied (story_at old.fronts n) (steps.Make u m terms)) c.number-maker.ensures.standing
-          (subst (λ (s : Story). IsReplied s (steps.Make t m terms)) there (make_replied before now t m terms told)),
+          (subst (λ (s : Story). IsReplied s (steps.Make t m terms)) there (make_replied before now t m terms told c.is_legal.ensures.legal)),
       is ∙ ap (λ (k : Known). noted e k) c.front-me.ensures.standing,
     ))
     c.made.result c.made.ensures.made

@@ -75,7 +75,7 @@ returns-in-Passed-clause-told g c =
       subst (λ (u : ℕ). IsReplied (story_at task.fronts n) (steps.Pass u)) own
           (subst (λ (s : Story). IsReplied s (steps.Pass t)) before
           (pass_replied _ c.in-Passed.passed c.in-Passed.phase c.front-me.result.story c.pass-answer.new.me.story t
-          (rw c.in-Passed.is at c.pass-answer.ensures.told))),
+          (rw c.in-Passed.is at c.pass-answer.ensures.told) c.is_legal.ensures.legal)),
     )
 
 pub returns-in_default-clause-told : goal.returns-in_default-clause-told
@@ -89,4 +89,4 @@ returns-in_default-clause-told g c =
     c.front-me.ensures.story ∙ (ap (λ x. story_at x.fronts c.in-Ok.number) first ∙ ap (λ (m : ℕ). story_at task.fronts m) c.in-Ok.ensures.same) in
     subst (λ (u : ℕ). IsOfPass (λ i. i.task.value.standing) task.standing (Replies task.fronts) n u c.pass-answer.result) own
     (pass_is_of c.pass-answer.result (λ i. i.task.value.standing) task.standing _ c.front-me.result.story c.pass-answer.new.me.story task.fronts n t c.in_default.not-Passed
-    (c.front-me.ensures.standing ∙ ap (λ x. x.standing) first) there c.pass-answer.ensures.item c.pass-answer.ensures.told)
+    (c.front-me.ensures.standing ∙ ap (λ x. x.standing) first) there c.pass-answer.ensures.item c.pass-answer.ensures.told c.is_legal.ensures.legal)

@@ -45,4 +45,4 @@ returns-clause-told g c =
     c.front-me.ensures.story ∙ ap (λ (n : ℕ). story_at fronts n) c.in_ok-number.ensures.same in
     subst (λ (t : ℕ). IsReplied (story_at fronts p.phaser) (steps.Reg t c.args.child p.mode)) c.number-parent.ensures.standing
     (subst (λ (s : Story). IsReplied s (steps.Reg parent c.args.child p.mode)) there
-    (registration_replied c.front-me.result.story c.register.new.me.story parent c.args.child p.mode told))
+    (registration_replied c.front-me.result.story c.register.new.me.story parent c.args.child p.mode told c.is_legal.ensures.legal))

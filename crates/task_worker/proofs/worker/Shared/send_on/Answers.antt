@@ -76,6 +76,6 @@ returns-clause-acted g c =
       e,
       refl,
       subst (λ (u : ℕ). IsReplied (story_at old.fronts n) (steps.Send u a v)) c.number-sender.ensures.standing
-          (subst (λ (s : Story). IsReplied s (steps.Send t a v)) there (send_replied before now t a v told)),
+          (subst (λ (s : Story). IsReplied s (steps.Send t a v)) there (send_replied before now t a v told c.is_legal.ensures.legal)),
       c.sent.ensures.acted ∙ ap (λ (k : Known). noted e k) c.front-me.ensures.standing,
     )

@@ -74,5 +74,5 @@ returns-in-Signalled-clause-told g c =
       subst (λ (u : ℕ). IsReplied (story_at task.fronts n) (steps.Sig u c.args.proposed)) own
           (subst (λ (s : Story). IsReplied s (steps.Sig t c.args.proposed)) before
           (signal_replied _ c.in-Signalled.signalled c.front-me.result.story c.signal-answer.new.me.story t c.args.proposed
-          (rw c.in-Signalled.is at c.signal-answer.ensures.told))),
+          (rw c.in-Signalled.is at c.signal-answer.ensures.told) c.is_legal.ensures.legal)),
     )
